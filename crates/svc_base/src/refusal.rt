@@ -1,0 +1,92 @@
+ghost use Rattle.std.specs.Prelude.{◌≡◌};
+ghost use Rattle.svc_base.specs.Refusals.{number_of};
+
+use crate::ids::WordAddr;
+
+/// Why a value could not be opened.
+#[derive(Clone, Copy, Debug, PartialEq, Eq)]
+pub enum OpenError {
+    /// The allocator refused memory.
+    Memory,
+}
+
+impl OpenError {
+    /// The number by which the program tells of this error.
+    pub fn number(self) -> u8
+        ensures { result ≡ 1 }
+    {
+        match self {
+            OpenError::Memory => 1,
+        }
+    }
+}
+
+/// Why an event was refused. A refused event changes nothing.
+#[derive(Clone, Copy, Debug, PartialEq, Eq)]
+pub enum Refusal {
+    /// The named unit is not one of the machine's.
+    NoSuchUnit,
+    /// The unit has a task already.
+    Busy,
+    /// The unit has no task.
+    Idle,
+    /// The burst is not of the unit's task as it stands: its epoch or its start core is another.
+    Stale,
+    /// The burst looked at text that the machine's image has not.
+    ForeignText,
+    /// A task is active, and the guess is not an entry.
+    NotEntry,
+    /// A committed task ended the run.
+    Stopped,
+    /// The unit's task has ended.
+    Done,
+    /// The asked word has no valid line in the unit's cache, and its set is full. The address is that
+    /// of the line to replace: the least of the set's committed lines, or of all its lines where none is
+    /// committed.
+    SetFull(WordAddr),
+    /// The unit has no valid line of the word.
+    NotResident,
+    /// The line is uncommitted, and the unit is not the head's.
+    Pinned,
+    /// The head has not ended.
+    HeadNotDone,
+    /// No task is active.
+    NoTask,
+    /// The unit's task is the head.
+    IsHead,
+    /// As many events were accepted as the configuration allows.
+    HistoryFull,
+    /// All epochs were given.
+    EpochsSpent,
+    /// The burst has no turn and asks for nothing.
+    EmptyBurst,
+}
+
+impl Refusal {
+    /// The number by which scripts and reports name this refusal, 1 to 17. Where several refusals
+    /// apply to an event, the one of the lowest number is answered.
+    #[tactic(auto, unfolding(crate::specs::Refusals::number_of))]
+    pub fn number(self) -> u8
+        ensures { result ≡ number_of self }
+    {
+        match self {
+            Refusal::NoSuchUnit => 1,
+            Refusal::Busy => 2,
+            Refusal::Idle => 3,
+            Refusal::Stale => 4,
+            Refusal::ForeignText => 5,
+            Refusal::NotEntry => 6,
+            Refusal::Stopped => 7,
+            Refusal::Done => 8,
+            Refusal::SetFull(_) => 9,
+            Refusal::NotResident => 10,
+            Refusal::Pinned => 11,
+            Refusal::HeadNotDone => 12,
+            Refusal::NoTask => 13,
+            Refusal::IsHead => 14,
+            Refusal::HistoryFull => 15,
+            Refusal::EpochsSpent => 16,
+            Refusal::EmptyBurst => 17,
+        }
+    }
+}
