@@ -7,6 +7,7 @@ use crate::instr::{
     Comparison, ImmediateOperation, ImmediateShift, Instr, LoadKind, Long, Operation, Register,
     ShiftAmount, Short, StoreKind,
 };
+use crate::opcode;
 
 #[tactic(auto, unfolding(crate::specs::Meaning::register), using(crate::proofs::Same::same_register))]
 fn lowest_register(bits: u32) -> Register
@@ -137,54 +138,54 @@ fn instr_at(f: Fields) -> Option<Instr>
     ensures { result ≡ instr_of f }
 {
     match f.opcode {
-        0b0110111 => Some(Instr::Lui {
+        opcode::LUI => Some(Instr::Lui {
             rd: f.rd,
             imm: u_immediate(f),
         }),
-        0b0010111 => Some(Instr::Auipc {
+        opcode::AUIPC => Some(Instr::Auipc {
             rd: f.rd,
             imm: u_immediate(f),
         }),
-        0b1101111 => Some(Instr::Jal {
+        opcode::JAL => Some(Instr::Jal {
             rd: f.rd,
             imm: j_immediate(f),
         }),
-        0b1100111 if f.funct3 == 0 => Some(Instr::Jalr {
+        opcode::JALR if f.funct3 == 0 => Some(Instr::Jalr {
             rd: f.rd,
             rs1: f.rs1,
             imm: i_immediate(f),
         }),
-        0b1100011 => Some(Instr::Branch {
+        opcode::BRANCH => Some(Instr::Branch {
             test: Comparison::at(f.funct3)?,
             rs1: f.rs1,
             rs2: f.rs2,
             imm: b_immediate(f),
         }),
-        0b0000011 => Some(Instr::Load {
+        opcode::LOAD => Some(Instr::Load {
             kind: LoadKind::at(f.funct3)?,
             rd: f.rd,
             rs1: f.rs1,
             imm: i_immediate(f),
         }),
-        0b0100011 => Some(Instr::Store {
+        opcode::STORE => Some(Instr::Store {
             kind: StoreKind::at(f.funct3)?,
             rs1: f.rs1,
             rs2: f.rs2,
             imm: s_immediate(f),
         }),
-        0b0010011 => immediate(f, ImmediateOperation::at(f.funct3)),
-        0b0110011 => Some(Instr::Op {
+        opcode::OP_IMM => immediate(f, ImmediateOperation::at(f.funct3)),
+        opcode::OP => Some(Instr::Op {
             op: Operation::at(f.funct3, f.funct7)?,
             rd: f.rd,
             rs1: f.rs1,
             rs2: f.rs2,
         }),
-        0b0001111 if f.funct3 == 0 => Some(Instr::Fence {
+        opcode::MISC_MEM if f.funct3 == 0 => Some(Instr::Fence {
             rd: f.rd,
             rs1: f.rs1,
             imm: i_immediate(f),
         }),
-        0b1110011 => system(f),
+        opcode::SYSTEM => system(f),
         _ => None,
     }
 }
