@@ -1,5 +1,5 @@
 -- The word of each instruction has 32 bits.
-use Rattle.std.proofs.Common.{ℕ, ◌^◌, ◌<◌, lit<}
+use Rattle.std.proofs.Common.{◌^◌, ◌<◌, lit<}
 use Rattle.svc_rv32i.specs.declared.instr.Instr.{Instr}
 use Rattle.svc_rv32i.specs.declared.instr.Instr.TheVariants as i
 use Rattle.svc_rv32i.specs.Words.{word_of, comparison_funct3, load_funct3, store_funct3, immediate_funct3, shift_funct3, shift_funct7, operation_funct3, operation_funct7}

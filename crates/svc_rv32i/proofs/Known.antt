@@ -1,6 +1,5 @@
 -- The fields of an instruction's word give that instruction.
-use Rattle.std.proofs.Common.{◌≡◌, ℕ, ◌+◌, ◌*◌, ◌^◌, ◌<◌, lit<, Option, Some, None, refl, ap, sym, ◌∙◌, subst, arith}
-use Rattle.std.specs.Prelude.{option_map, ◌==◌, ◌&&◌, ◌↔◌}
+use Rattle.std.proofs.Common.{◌≡◌, lit<, Some, refl, ◌∙◌}
 use Rattle.svc_rv32i.specs.declared.fields.Fields.{Fields}
 use Rattle.svc_rv32i.specs.declared.instr.Comparison.{Comparison}
 use Rattle.svc_rv32i.specs.declared.instr.LoadKind.{LoadKind}

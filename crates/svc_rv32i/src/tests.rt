@@ -10,9 +10,24 @@ fn short(imm: Short) -> i32 {
     if bits < 2048 { bits } else { bits - 4096 }
 }
 
-fn long(imm: Long) -> i32 {
+/// In bytes; the offset's bit 0 is always clear.
+fn branch_offset(imm: Short) -> i32 {
     let bits = imm.bits as i32;
-    if bits < 524288 { bits } else { bits - 1048576 }
+    if bits < 2048 {
+        2 * bits
+    } else {
+        2 * bits - 8192
+    }
+}
+
+/// In bytes; the offset's bit 0 is always clear.
+fn jump_offset(imm: Long) -> i32 {
+    let bits = imm.bits as i32;
+    if bits < 524288 {
+        2 * bits
+    } else {
+        2 * bits - 2097152
+    }
 }
 
 fn branch_mnemonic(test: Comparison) -> &'static str {
@@ -91,14 +106,17 @@ fn line(instr: Instr) -> Line {
     match instr {
         Instr::Lui { rd, imm } => ("lui", [rd.number as i32, imm.bits as i32, 0]),
         Instr::Auipc { rd, imm } => ("auipc", [rd.number as i32, imm.bits as i32, 0]),
-        Instr::Jal { rd, imm } => ("jal", [rd.number as i32, 2 * long(imm), 0]),
+        Instr::Jal { rd, imm } => ("jal", [rd.number as i32, jump_offset(imm), 0]),
         Instr::Jalr { rd, rs1, imm } => ("jalr", addressed(rd, imm, rs1)),
         Instr::Branch {
             test,
             rs1,
             rs2,
             imm,
-        } => (branch_mnemonic(test), operands(rs1, rs2, 2 * short(imm))),
+        } => (
+            branch_mnemonic(test),
+            operands(rs1, rs2, branch_offset(imm)),
+        ),
         Instr::Load { kind, rd, rs1, imm } => (load_mnemonic(kind), addressed(rd, imm, rs1)),
         Instr::Store {
             kind,
@@ -163,13 +181,13 @@ const WORKED: [(u32, Option<Line>); 29] = [
     (0x0000006F, Some(("jal", [0, 0, 0]))),
 ];
 
-/// Every instruction, with immediates and registers at their edges, as GNU's assembler writes them.
+/// The computational instructions, with immediates and registers at their edges, as GNU's assembler writes them.
 ///
-/// Each line stood in a file after `.option norelax` and `.option norvc`; a branch or jump by the offset 8 was written `.+(8)`, and FENCE with a rd or rs1 as `.insn i 0x0f, 0, rd, rs1, imm`. With Debian's binutils-riscv64-unknown-elf 2.40:
+/// Each line of this table and of the next two stood in a file after `.option norelax` and `.option norvc`; a branch or jump by the offset 8 was written `.+(8)`, and FENCE with a rd or rs1 as `.insn i 0x0f, 0, rd, rs1, imm`. With Debian's binutils-riscv64-unknown-elf 2.40:
 /// `riscv64-unknown-elf-as -march=rv32i -mabi=ilp32 -mno-relax -o lines.o lines.s`,
 /// `riscv64-unknown-elf-objcopy -O binary -j .text lines.o lines.bin`, and the words are those of lines.bin.
 /// `riscv64-unknown-elf-objdump -D -b binary -m riscv:rv32 -M no-aliases,numeric lines.bin` reads the same mnemonics back, but for the two FENCE with a rd or rs1.
-const ASSEMBLED: [(u32, Line); 209] = [
+const COMPUTATIONS: [(u32, Line); 84] = [
     (0x00000837, ("lui", [16, 0, 0])),
     (0x00001DB7, ("lui", [27, 1, 0])),
     (0x7FFFF337, ("lui", [6, 524287, 0])),
@@ -182,124 +200,6 @@ const ASSEMBLED: [(u32, Line); 209] = [
     (0x80000997, ("auipc", [19, 524288, 0])),
     (0xFFFFFF17, ("auipc", [30, 1048575, 0])),
     (0x12345497, ("auipc", [9, 74565, 0])),
-    (0x00000A6F, ("jal", [20, 0, 0])),
-    (0x00200FEF, ("jal", [31, 2, 0])),
-    (0xFFFFF56F, ("jal", [10, -2, 0])),
-    (0x7FE00AEF, ("jal", [21, 2046, 0])),
-    (0x0010006F, ("jal", [0, 2048, 0])),
-    (0x801FF5EF, ("jal", [11, -2048, 0])),
-    (0x7FF00B6F, ("jal", [22, 4094, 0])),
-    (0x000010EF, ("jal", [1, 4096, 0])),
-    (0x800FF66F, ("jal", [12, -4096, 0])),
-    (0x7FFFFBEF, ("jal", [23, 1048574, 0])),
-    (0x8000016F, ("jal", [2, -1048576, 0])),
-    (0x554556EF, ("jal", [13, 349524, 0])),
-    (0xAABAAC6F, ("jal", [24, -349526, 0])),
-    (0x000701E7, ("jalr", [3, 0, 14])),
-    (0x00120CE7, ("jalr", [25, 1, 4])),
-    (0xFFFD07E7, ("jalr", [15, -1, 26])),
-    (0x7FF802E7, ("jalr", [5, 2047, 16])),
-    (0x80030DE7, ("jalr", [27, -2048, 6])),
-    (0x01C88163, ("beq", [17, 28, 2])),
-    (0xFF238FE3, ("beq", [7, 18, -2])),
-    (0x008E8F63, ("beq", [29, 8, 30])),
-    (0x03E98063, ("beq", [19, 30, 32])),
-    (0x7F448F63, ("beq", [9, 20, 2046])),
-    (0x00AF80E3, ("beq", [31, 10, 2048])),
-    (0x800A80E3, ("beq", [21, 0, -2048])),
-    (0x7F658FE3, ("beq", [11, 22, 4094])),
-    (0x80C08063, ("beq", [1, 12, -4096])),
-    (0x002B9163, ("bne", [23, 2, 2])),
-    (0xFF869FE3, ("bne", [13, 24, -2])),
-    (0x00E19F63, ("bne", [3, 14, 30])),
-    (0x024C9063, ("bne", [25, 4, 32])),
-    (0x7FA79F63, ("bne", [15, 26, 2046])),
-    (0x010290E3, ("bne", [5, 16, 2048])),
-    (0x806D90E3, ("bne", [27, 6, -2048])),
-    (0x7FC89FE3, ("bne", [17, 28, 4094])),
-    (0x81239063, ("bne", [7, 18, -4096])),
-    (0x008EC163, ("blt", [29, 8, 2])),
-    (0xFFE9CFE3, ("blt", [19, 30, -2])),
-    (0x0144CF63, ("blt", [9, 20, 30])),
-    (0x02AFC063, ("blt", [31, 10, 32])),
-    (0x7E0ACF63, ("blt", [21, 0, 2046])),
-    (0x0165C0E3, ("blt", [11, 22, 2048])),
-    (0x80C0C0E3, ("blt", [1, 12, -2048])),
-    (0x7E2BCFE3, ("blt", [23, 2, 4094])),
-    (0x8186C063, ("blt", [13, 24, -4096])),
-    (0x00E1D163, ("bge", [3, 14, 2])),
-    (0xFE4CDFE3, ("bge", [25, 4, -2])),
-    (0x01A7DF63, ("bge", [15, 26, 30])),
-    (0x0302D063, ("bge", [5, 16, 32])),
-    (0x7E6DDF63, ("bge", [27, 6, 2046])),
-    (0x01C8D0E3, ("bge", [17, 28, 2048])),
-    (0x8123D0E3, ("bge", [7, 18, -2048])),
-    (0x7E8EDFE3, ("bge", [29, 8, 4094])),
-    (0x81E9D063, ("bge", [19, 30, -4096])),
-    (0x0144E163, ("bltu", [9, 20, 2])),
-    (0xFEAFEFE3, ("bltu", [31, 10, -2])),
-    (0x000AEF63, ("bltu", [21, 0, 30])),
-    (0x0365E063, ("bltu", [11, 22, 32])),
-    (0x7EC0EF63, ("bltu", [1, 12, 2046])),
-    (0x002BE0E3, ("bltu", [23, 2, 2048])),
-    (0x8186E0E3, ("bltu", [13, 24, -2048])),
-    (0x7EE1EFE3, ("bltu", [3, 14, 4094])),
-    (0x804CE063, ("bltu", [25, 4, -4096])),
-    (0x01A7F163, ("bgeu", [15, 26, 2])),
-    (0xFF02FFE3, ("bgeu", [5, 16, -2])),
-    (0x006DFF63, ("bgeu", [27, 6, 30])),
-    (0x03C8F063, ("bgeu", [17, 28, 32])),
-    (0x7F23FF63, ("bgeu", [7, 18, 2046])),
-    (0x008EF0E3, ("bgeu", [29, 8, 2048])),
-    (0x81E9F0E3, ("bgeu", [19, 30, -2048])),
-    (0x7F44FFE3, ("bgeu", [9, 20, 4094])),
-    (0x80AFF063, ("bgeu", [31, 10, -4096])),
-    (0x00000A83, ("lb", [21, 0, 0])),
-    (0x001B0583, ("lb", [11, 1, 22])),
-    (0xFFF60083, ("lb", [1, -1, 12])),
-    (0x7FF10B83, ("lb", [23, 2047, 2])),
-    (0x800C0683, ("lb", [13, -2048, 24])),
-    (0x00071183, ("lh", [3, 0, 14])),
-    (0x00121C83, ("lh", [25, 1, 4])),
-    (0xFFFD1783, ("lh", [15, -1, 26])),
-    (0x7FF81283, ("lh", [5, 2047, 16])),
-    (0x80031D83, ("lh", [27, -2048, 6])),
-    (0x000E2883, ("lw", [17, 0, 28])),
-    (0x00192383, ("lw", [7, 1, 18])),
-    (0xFFF42E83, ("lw", [29, -1, 8])),
-    (0x7FFF2983, ("lw", [19, 2047, 30])),
-    (0x800A2483, ("lw", [9, -2048, 20])),
-    (0x00054F83, ("lbu", [31, 0, 10])),
-    (0x00104A83, ("lbu", [21, 1, 0])),
-    (0xFFFB4583, ("lbu", [11, -1, 22])),
-    (0x7FF64083, ("lbu", [1, 2047, 12])),
-    (0x80014B83, ("lbu", [23, -2048, 2])),
-    (0x000C5683, ("lhu", [13, 0, 24])),
-    (0x00175183, ("lhu", [3, 1, 14])),
-    (0xFFF25C83, ("lhu", [25, -1, 4])),
-    (0x7FFD5783, ("lhu", [15, 2047, 26])),
-    (0x80085283, ("lhu", [5, -2048, 16])),
-    (0x01B30023, ("sb", [27, 0, 6])),
-    (0x011E00A3, ("sb", [17, 1, 28])),
-    (0xFE790FA3, ("sb", [7, -1, 18])),
-    (0x7FD40FA3, ("sb", [29, 2047, 8])),
-    (0x813F0023, ("sb", [19, -2048, 30])),
-    (0x009A0FA3, ("sb", [9, 31, 20])),
-    (0x03F50023, ("sb", [31, 32, 10])),
-    (0x01501023, ("sh", [21, 0, 0])),
-    (0x00BB10A3, ("sh", [11, 1, 22])),
-    (0xFE161FA3, ("sh", [1, -1, 12])),
-    (0x7F711FA3, ("sh", [23, 2047, 2])),
-    (0x80DC1023, ("sh", [13, -2048, 24])),
-    (0x00371FA3, ("sh", [3, 31, 14])),
-    (0x03921023, ("sh", [25, 32, 4])),
-    (0x00FD2023, ("sw", [15, 0, 26])),
-    (0x005820A3, ("sw", [5, 1, 16])),
-    (0xFFB32FA3, ("sw", [27, -1, 6])),
-    (0x7F1E2FA3, ("sw", [17, 2047, 28])),
-    (0x80792023, ("sw", [7, -2048, 18])),
-    (0x01D42FA3, ("sw", [29, 31, 8])),
-    (0x033F2023, ("sw", [19, 32, 30])),
     (0x000A0493, ("addi", [9, 20, 0])),
     (0x00150F93, ("addi", [31, 10, 1])),
     (0xFFF00A93, ("addi", [21, 0, -1])),
@@ -372,6 +272,132 @@ const ASSEMBLED: [(u32, Line); 209] = [
     (0x00FFF033, ("and", [0, 31, 15])),
     (0x01007FB3, ("and", [31, 0, 16])),
     (0x004CF733, ("and", [14, 25, 4])),
+];
+
+/// Jumps and branches, made as the table above.
+const TRANSFERS: [(u32, Line); 72] = [
+    (0x00000A6F, ("jal", [20, 0, 0])),
+    (0x00200FEF, ("jal", [31, 2, 0])),
+    (0xFFFFF56F, ("jal", [10, -2, 0])),
+    (0x7FE00AEF, ("jal", [21, 2046, 0])),
+    (0x0010006F, ("jal", [0, 2048, 0])),
+    (0x801FF5EF, ("jal", [11, -2048, 0])),
+    (0x7FF00B6F, ("jal", [22, 4094, 0])),
+    (0x000010EF, ("jal", [1, 4096, 0])),
+    (0x800FF66F, ("jal", [12, -4096, 0])),
+    (0x7FFFFBEF, ("jal", [23, 1048574, 0])),
+    (0x8000016F, ("jal", [2, -1048576, 0])),
+    (0x554556EF, ("jal", [13, 349524, 0])),
+    (0xAABAAC6F, ("jal", [24, -349526, 0])),
+    (0x000701E7, ("jalr", [3, 0, 14])),
+    (0x00120CE7, ("jalr", [25, 1, 4])),
+    (0xFFFD07E7, ("jalr", [15, -1, 26])),
+    (0x7FF802E7, ("jalr", [5, 2047, 16])),
+    (0x80030DE7, ("jalr", [27, -2048, 6])),
+    (0x01C88163, ("beq", [17, 28, 2])),
+    (0xFF238FE3, ("beq", [7, 18, -2])),
+    (0x008E8F63, ("beq", [29, 8, 30])),
+    (0x03E98063, ("beq", [19, 30, 32])),
+    (0x7F448F63, ("beq", [9, 20, 2046])),
+    (0x00AF80E3, ("beq", [31, 10, 2048])),
+    (0x800A80E3, ("beq", [21, 0, -2048])),
+    (0x7F658FE3, ("beq", [11, 22, 4094])),
+    (0x80C08063, ("beq", [1, 12, -4096])),
+    (0x002B9163, ("bne", [23, 2, 2])),
+    (0xFF869FE3, ("bne", [13, 24, -2])),
+    (0x00E19F63, ("bne", [3, 14, 30])),
+    (0x024C9063, ("bne", [25, 4, 32])),
+    (0x7FA79F63, ("bne", [15, 26, 2046])),
+    (0x010290E3, ("bne", [5, 16, 2048])),
+    (0x806D90E3, ("bne", [27, 6, -2048])),
+    (0x7FC89FE3, ("bne", [17, 28, 4094])),
+    (0x81239063, ("bne", [7, 18, -4096])),
+    (0x008EC163, ("blt", [29, 8, 2])),
+    (0xFFE9CFE3, ("blt", [19, 30, -2])),
+    (0x0144CF63, ("blt", [9, 20, 30])),
+    (0x02AFC063, ("blt", [31, 10, 32])),
+    (0x7E0ACF63, ("blt", [21, 0, 2046])),
+    (0x0165C0E3, ("blt", [11, 22, 2048])),
+    (0x80C0C0E3, ("blt", [1, 12, -2048])),
+    (0x7E2BCFE3, ("blt", [23, 2, 4094])),
+    (0x8186C063, ("blt", [13, 24, -4096])),
+    (0x00E1D163, ("bge", [3, 14, 2])),
+    (0xFE4CDFE3, ("bge", [25, 4, -2])),
+    (0x01A7DF63, ("bge", [15, 26, 30])),
+    (0x0302D063, ("bge", [5, 16, 32])),
+    (0x7E6DDF63, ("bge", [27, 6, 2046])),
+    (0x01C8D0E3, ("bge", [17, 28, 2048])),
+    (0x8123D0E3, ("bge", [7, 18, -2048])),
+    (0x7E8EDFE3, ("bge", [29, 8, 4094])),
+    (0x81E9D063, ("bge", [19, 30, -4096])),
+    (0x0144E163, ("bltu", [9, 20, 2])),
+    (0xFEAFEFE3, ("bltu", [31, 10, -2])),
+    (0x000AEF63, ("bltu", [21, 0, 30])),
+    (0x0365E063, ("bltu", [11, 22, 32])),
+    (0x7EC0EF63, ("bltu", [1, 12, 2046])),
+    (0x002BE0E3, ("bltu", [23, 2, 2048])),
+    (0x8186E0E3, ("bltu", [13, 24, -2048])),
+    (0x7EE1EFE3, ("bltu", [3, 14, 4094])),
+    (0x804CE063, ("bltu", [25, 4, -4096])),
+    (0x01A7F163, ("bgeu", [15, 26, 2])),
+    (0xFF02FFE3, ("bgeu", [5, 16, -2])),
+    (0x006DFF63, ("bgeu", [27, 6, 30])),
+    (0x03C8F063, ("bgeu", [17, 28, 32])),
+    (0x7F23FF63, ("bgeu", [7, 18, 2046])),
+    (0x008EF0E3, ("bgeu", [29, 8, 2048])),
+    (0x81E9F0E3, ("bgeu", [19, 30, -2048])),
+    (0x7F44FFE3, ("bgeu", [9, 20, 4094])),
+    (0x80AFF063, ("bgeu", [31, 10, -4096])),
+];
+
+/// Loads, stores, FENCE, ECALL and EBREAK, made as the tables above; ECALL and EBREAK have one word each.
+const ACCESSES: [(u32, Line); 53] = [
+    (0x00000A83, ("lb", [21, 0, 0])),
+    (0x001B0583, ("lb", [11, 1, 22])),
+    (0xFFF60083, ("lb", [1, -1, 12])),
+    (0x7FF10B83, ("lb", [23, 2047, 2])),
+    (0x800C0683, ("lb", [13, -2048, 24])),
+    (0x00071183, ("lh", [3, 0, 14])),
+    (0x00121C83, ("lh", [25, 1, 4])),
+    (0xFFFD1783, ("lh", [15, -1, 26])),
+    (0x7FF81283, ("lh", [5, 2047, 16])),
+    (0x80031D83, ("lh", [27, -2048, 6])),
+    (0x000E2883, ("lw", [17, 0, 28])),
+    (0x00192383, ("lw", [7, 1, 18])),
+    (0xFFF42E83, ("lw", [29, -1, 8])),
+    (0x7FFF2983, ("lw", [19, 2047, 30])),
+    (0x800A2483, ("lw", [9, -2048, 20])),
+    (0x00054F83, ("lbu", [31, 0, 10])),
+    (0x00104A83, ("lbu", [21, 1, 0])),
+    (0xFFFB4583, ("lbu", [11, -1, 22])),
+    (0x7FF64083, ("lbu", [1, 2047, 12])),
+    (0x80014B83, ("lbu", [23, -2048, 2])),
+    (0x000C5683, ("lhu", [13, 0, 24])),
+    (0x00175183, ("lhu", [3, 1, 14])),
+    (0xFFF25C83, ("lhu", [25, -1, 4])),
+    (0x7FFD5783, ("lhu", [15, 2047, 26])),
+    (0x80085283, ("lhu", [5, -2048, 16])),
+    (0x01B30023, ("sb", [27, 0, 6])),
+    (0x011E00A3, ("sb", [17, 1, 28])),
+    (0xFE790FA3, ("sb", [7, -1, 18])),
+    (0x7FD40FA3, ("sb", [29, 2047, 8])),
+    (0x813F0023, ("sb", [19, -2048, 30])),
+    (0x009A0FA3, ("sb", [9, 31, 20])),
+    (0x03F50023, ("sb", [31, 32, 10])),
+    (0x01501023, ("sh", [21, 0, 0])),
+    (0x00BB10A3, ("sh", [11, 1, 22])),
+    (0xFE161FA3, ("sh", [1, -1, 12])),
+    (0x7F711FA3, ("sh", [23, 2047, 2])),
+    (0x80DC1023, ("sh", [13, -2048, 24])),
+    (0x00371FA3, ("sh", [3, 31, 14])),
+    (0x03921023, ("sh", [25, 32, 4])),
+    (0x00FD2023, ("sw", [15, 0, 26])),
+    (0x005820A3, ("sw", [5, 1, 16])),
+    (0xFFB32FA3, ("sw", [27, -1, 6])),
+    (0x7F1E2FA3, ("sw", [17, 2047, 28])),
+    (0x80792023, ("sw", [7, -2048, 18])),
+    (0x01D42FA3, ("sw", [29, 31, 8])),
+    (0x033F2023, ("sw", [19, 32, 30])),
     (0x0FF0000F, ("fence", [0, 0, 255])),
     (0x0310000F, ("fence", [0, 0, 49])),
     (0x8330000F, ("fence", [0, 0, 2099])),
@@ -508,8 +534,22 @@ fn worked_words(rt: HostRuntime) {
 }
 
 #[test]
-fn words_of_the_assembler(rt: HostRuntime) {
-    for (word, line) in &ASSEMBLED {
+fn words_of_computations(rt: HostRuntime) {
+    for (word, line) in &COMPUTATIONS {
+        agrees(&rt, *word, *line);
+    }
+}
+
+#[test]
+fn words_of_jumps_and_branches(rt: HostRuntime) {
+    for (word, line) in &TRANSFERS {
+        agrees(&rt, *word, *line);
+    }
+}
+
+#[test]
+fn words_of_memory_and_environment(rt: HostRuntime) {
+    for (word, line) in &ACCESSES {
         agrees(&rt, *word, *line);
     }
 }
