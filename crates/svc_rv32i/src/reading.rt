@@ -121,7 +121,7 @@ fn immediate(f: Fields, found: Option<ImmediateOperation>) -> Option<Instr>
             imm: i_immediate(f),
         }),
         None => {
-            let op = ImmediateShift::at(f.funct3, f.funct7)?;
+            let op = ImmediateShift::from_functs(f.funct3, f.funct7)?;
             Some(Instr::ShiftImm {
                 op,
                 rd: f.rd,
@@ -156,26 +156,26 @@ fn instr_at(f: Fields) -> Option<Instr>
             imm: i_immediate(f),
         }),
         opcode::BRANCH => Some(Instr::Branch {
-            test: Comparison::at(f.funct3)?,
+            test: Comparison::from_funct3(f.funct3)?,
             rs1: f.rs1,
             rs2: f.rs2,
             imm: b_immediate(f),
         }),
         opcode::LOAD => Some(Instr::Load {
-            kind: LoadKind::at(f.funct3)?,
+            kind: LoadKind::from_funct3(f.funct3)?,
             rd: f.rd,
             rs1: f.rs1,
             imm: i_immediate(f),
         }),
         opcode::STORE => Some(Instr::Store {
-            kind: StoreKind::at(f.funct3)?,
+            kind: StoreKind::from_funct3(f.funct3)?,
             rs1: f.rs1,
             rs2: f.rs2,
             imm: s_immediate(f),
         }),
-        opcode::OP_IMM => immediate(f, ImmediateOperation::at(f.funct3)),
+        opcode::OP_IMM => immediate(f, ImmediateOperation::from_funct3(f.funct3)),
         opcode::OP => Some(Instr::Op {
-            op: Operation::at(f.funct3, f.funct7)?,
+            op: Operation::from_functs(f.funct3, f.funct7)?,
             rd: f.rd,
             rs1: f.rs1,
             rs2: f.rs2,
