@@ -148,7 +148,7 @@ fn agrees(rt: &impl Abort, word: u32, want: Line) {
     assert_eq!(rt; encode(&instr), word);
 }
 
-/// Words that programs of this simulator's tests are made of, and words beside them that are no instruction.
+/// Words that the simulator's own test programs are made of, worked out by hand and then compared with the assembler's, and words beside them that are no instruction.
 const WORKED: [(u32, Option<Line>); 29] = [
     (0x00000073, Some(("ecall", [0, 0, 0]))),
     (0x00100073, Some(("ebreak", [0, 0, 0]))),
@@ -183,10 +183,10 @@ const WORKED: [(u32, Option<Line>); 29] = [
 
 /// The computational instructions, with immediates and registers at their edges, as GNU's assembler writes them.
 ///
-/// Each line of this table and of the next two stood in a file after `.option norelax` and `.option norvc`; a branch or jump by the offset 8 was written `.+(8)`, and FENCE with a rd or rs1 as `.insn i 0x0f, 0, rd, rs1, imm`. With Debian's binutils-riscv64-unknown-elf 2.40:
+/// Each line of this table and of the next two stood in a file after `.option norelax` and `.option norvc`; a branch or jump by the offset 8 was written `.+(8)`, and FENCE as `fence` (255), `fence rw,w` (49), `fence.tso` (2099), and with a rd and rs1 `.insn i 0x0f, 0, rd, rs1, imm`. With Debian's binutils-riscv64-unknown-elf 2.40:
 /// `riscv64-unknown-elf-as -march=rv32i -mabi=ilp32 -mno-relax -o lines.o lines.s`,
 /// `riscv64-unknown-elf-objcopy -O binary -j .text lines.o lines.bin`, and the words are those of lines.bin.
-/// `riscv64-unknown-elf-objdump -D -b binary -m riscv:rv32 -M no-aliases,numeric lines.bin` reads the same mnemonics back, but for the two FENCE with a rd or rs1.
+/// `riscv64-unknown-elf-objdump -D -b binary -m riscv:rv32 -M no-aliases,numeric lines.bin` reads the same mnemonics back, but for fence.tso, which it calls so, and the two with a rd and rs1, which it doesn't know.
 const COMPUTATIONS: [(u32, Line); 84] = [
     (0x00000837, ("lui", [16, 0, 0])),
     (0x00001DB7, ("lui", [27, 1, 0])),
