@@ -148,7 +148,7 @@ fn agrees(rt: &impl Abort, word: u32, want: Line) {
     assert_eq!(rt; encode(&instr), word);
 }
 
-/// Words that the simulator's own test programs are made of, worked out by hand and then compared with the assembler's, and words beside them that are no instruction.
+/// Words that the simulator's own test programs are made of, each as the assembler writes its line, and words beside them that are no instruction.
 const WORKED: [(u32, Option<Line>); 29] = [
     (0x00000073, Some(("ecall", [0, 0, 0]))),
     (0x00100073, Some(("ebreak", [0, 0, 0]))),
