@@ -1,1 +1,3 @@
-pub mod Marks
+pub mod Flags
+pub mod Wordwise
+pub mod Checks

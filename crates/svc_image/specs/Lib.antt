@@ -1,2 +1,4 @@
 pub mod Image
 pub mod Fields
+pub mod Format
+pub mod Reading

@@ -1,9 +1,14 @@
 //! Images: the programs that the simulator runs, and the loader of their files.
 #![tactic(auto)]
 
+mod check;
 mod error;
 mod fetched;
+mod header;
 mod image;
+mod layout;
+mod marks;
+mod words;
 
 pub use error::ImageError;
 pub use fetched::Fetched;
