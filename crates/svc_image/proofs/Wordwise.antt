@@ -1,11 +1,11 @@
 -- Words of 32 bits in bytes, and bytes of words.
-use Rattle.std.proofs.Common.{◌≡◌, ℕ, zero, suc, ◌+◌, ◌*◌, ◌/◌, ◌%◌, ◌^◌, ◌<◌, ◌≤◌, Bool, true, false, List, [], ◌∷◌, ◌++◌, length, take, drop, All, get_or, slice_index, refl, sym, ◌∙◌, ap, subst, arith}
+use Rattle.std.proofs.Common.{◌≡◌, ℕ, zero, suc, ◌+◌, ◌-◌, ◌*◌, ◌/◌, ◌%◌, ◌^◌, ◌<◌, ◌≤◌, Bool, true, false, List, [], ◌∷◌, ◌++◌, length, take, drop, All, get_or, slice_index, refl, sym, ◌∙◌, ap, subst, arith}
 use Rattle.std.proofs.lemmas.Bool.{or_from, or_left, or_right}
-use Rattle.std.proofs.lemmas.List.{append_assoc, drop-drop, drop_at, take-append-drop, length-drop, length-append, get_or-drop, ext_get_or, take_more, flat_map_more}
+use Rattle.std.proofs.lemmas.List.{append_assoc, drop-drop, drop_at, take-append-drop, length-drop, length-append, get_or-drop, ext_get_or, take_more, flat_map_more, drop-take}
 use Rattle.std.proofs.lemmas.List.Elements.{All-nil, All-cons, All-head, All-tail}
 use Rattle.std.specs.List.{flat_map, list_any}
 use Rattle.byteorder.specs.Endian.{little_bytes, little_number, IsRead}
-use Rattle.byteorder.specs.Numbers.{little_number-reads_back, little_from-lt, length-bytes_low_first}
+use Rattle.byteorder.specs.Numbers.{little_number-reads_back, little_from-lt, little_from-take, length-bytes_low_first}
 use Rattle.svc_image.specs.Format.{bytes_of_word, bytes_of_words, word_at, words_in}
 use Rattle.svc_image.specs.Image.{AreWords}
 
@@ -98,3 +98,17 @@ bytes_of_words-more words i low =
 pub word_at-rest : (bytes : List ℕ) (m n : ℕ) → word_at (drop m bytes) n ≡ word_at bytes (m + n)
 unfolding word_at
 word_at-rest bytes m n = ap (λ (xs : List ℕ). little_number 4 xs) (drop-drop n m bytes)
+
+-- the words of a part that holds just them
+words_in-take : (n m : ℕ) (bytes : List ℕ) → 4 * n ≡ m → words_in n (take m bytes) ≡ words_in n bytes
+unfolding words_in word_at
+words_in-take zero m bytes len = refl
+words_in-take (suc n) m bytes len =
+    let rest_len : 4 + 4 * n ≡ m = omega (arith, len) in
+    let first : little_number 4 (take m bytes) ≡ little_number 4 bytes = little_from-take 0 4 m bytes (omega (arith, rest_len)) in
+    let rest : drop 4 (take m bytes) ≡ take (4 * n) (drop 4 bytes) = ap (λ (k : ℕ). drop 4 (take k bytes)) (sym rest_len) ∙ drop-take 4 (4 * n) bytes in
+    let later : words_in n (drop 4 (take m bytes)) ≡ words_in n (drop 4 bytes) = ap (λ (xs : List ℕ). words_in n xs) rest ∙ words_in-take n (4 * n) (drop 4 bytes) refl in
+    λ i. first i ∷ later i
+
+pub words_in-part : (n : ℕ) (bytes : List ℕ) (place next : ℕ) → place + 4 * n ≡ next → words_in n (take (next - place) (drop place bytes)) ≡ words_in n (drop place bytes)
+words_in-part n bytes place next len = words_in-take n (next - place) (drop place bytes) (omega (arith, len))
