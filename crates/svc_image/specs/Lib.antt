@@ -2,3 +2,4 @@ pub mod Image
 pub mod Fields
 pub mod Format
 pub mod Reading
+pub mod Faults

@@ -8,8 +8,12 @@ mod header;
 mod image;
 mod layout;
 mod marks;
+pub mod samples;
 mod words;
 
 pub use error::ImageError;
 pub use fetched::Fetched;
 pub use image::Image;
+
+#[cfg(test)]
+mod tests;
