@@ -1,17 +1,16 @@
 -- Bytes without fault are the files of images, and each image's file is such bytes.
-use Rattle.std.proofs.Common.{◌≡◌, ℕ, zero, suc, ◌+◌, ◌*◌, ◌%◌, ◌^◌, ◌<◌, ◌≤◌, Bool, true, false, cond, not, ◌&&◌, List, [], ◌∷◌, ◌++◌, length, drop, All, Option, Some, None, nat_eq, nat_lt, nat_le, slice_index, slice_index_or, refl, sym, ◌∙◌, ap, subst, arith, add-one}
-use Rattle.std.proofs.lemmas.Bool.{not-false, not-true, eqb-true, eq-eqb, leb-false, lt-leb, ltb-false, ltb-true, lt-ltb, le-ltb, and_parts, and_from}
+use Rattle.std.proofs.Common.{◌≡◌, ℕ, zero, suc, ◌+◌, ◌*◌, ◌%◌, ◌<◌, ◌≤◌, true, false, not, List, [], ◌∷◌, ◌++◌, length, drop, None, nat_eq, nat_lt, slice_index, slice_index_or, refl, sym, ◌∙◌, ap, arith, add-one}
+use Rattle.std.proofs.lemmas.Bool.{not-false, eqb-true, eq-eqb, leb-false, lt-leb, ltb-false, ltb-true, lt-ltb, le-ltb, and_parts, and_from}
 use Rattle.std.proofs.lemmas.Bool.Decides.{Decides-eqb}
-use Rattle.std.proofs.lemmas.List.{append-nil, drop-drop, drop_all, length-append, get_or_default}
+use Rattle.std.proofs.lemmas.List.{append-nil, drop_all, get_or_default}
 use Rattle.std.proofs.lemmas.Slice.Eq.{starts_is}
-use Rattle.std.specs.List.{list_any, starts_with}
-use Rattle.byteorder.specs.Numbers.{little_number-reads_back}
-use Rattle.svc_image.specs.Format.{Check, magic, first_of, fault, file_of, header_checks, entry_checks, entries_checks, end_checks, bytes_of_half, bytes_of_word, bytes_of_words, half_at, word_at, words_in, version_in, entry_count_in, text_count_in, data_count_in, limit_in, start_in, registers_in, entry_in, entries_in, text_place, data_place, end_place, falls, is_misplaced}
-use Rattle.svc_image.specs.Image.{Image, IsImage, StartsWord, is_entry}
+use Rattle.std.specs.List.{starts_with}
+use Rattle.svc_image.specs.Format.{Check, magic, first_of, fault, file_of, header_checks, entry_checks, end_checks, bytes_of_half, bytes_of_word, bytes_of_words, words_in, version_in, entry_count_in, text_count_in, data_count_in, limit_in, start_in, registers_in, entry_in, entries_in, text_place, data_place, end_place, falls, is_misplaced}
+use Rattle.svc_image.specs.Image.{IsImage, StartsWord, is_entry}
 use Rattle.svc_image.specs.Reading.{image_in}
 use Rattle.svc_image.proofs.Checks.{first_of-cons, entries-each, entries-all, outside-false, inside-outside, fault-parts, fault-end, has_start, end-None}
 use Rattle.svc_image.proofs.Chunks.{half-chunk, word-chunk, words-chunk}
-use Rattle.svc_image.proofs.Wordwise.{AreBytes, bytes-drop, length-words_in, get_or-words_in, words_in-fit, length-bytes_of_words, words_in-bytes_of_words, drop-bytes_of_words, word_at-rest}
+use Rattle.svc_image.proofs.Wordwise.{AreBytes, bytes-drop, length-words_in, get_or-words_in, words_in-fit, word_at-rest}
 
 -- bytes that are the file of an image
 pub record IsSound (bytes : List ℕ) : Type 0 where
@@ -47,7 +46,7 @@ header-facts bytes d none =
       text = outside-false 65536 (text_count_in bytes) (at 7 (omega arith));
       words = outside-false 65536 (data_count_in bytes) (at 9 (omega arith));
       limit = outside-false 65536 (limit_in bytes) (at 11 (omega arith));
-      whole = ltb-false (length bytes) 148 (at 13 (omega arith))
+      whole = ltb-false (length bytes) 148 (at 13 (omega arith));
     }
 
 -- an entry as it stands among the entries
@@ -107,8 +106,8 @@ sound-from-none bytes d small none =
         text_fits = words_in-fit (text_count_in bytes) (drop (text_place bytes) bytes) (bytes-drop (text_place bytes) bytes small);
         words_some = omega (arith, data_count, header.words);
         words_few = omega (arith, data_count, header.words);
-        words_fit = words_in-fit (data_count_in bytes) (drop (data_place bytes) bytes) (bytes-drop (data_place bytes) bytes small)
-      }
+        words_fit = words_in-fit (data_count_in bytes) (drop (data_place bytes) bytes) (bytes-drop (data_place bytes) bytes small);
+      };
     }
 
 -- a header that holds an image's numbers has no fault
@@ -160,17 +159,17 @@ none-from-sound bytes sound =
       text = (omega (arith, text_count, text_some), omega (arith, text_count, text_few));
       words = (omega (arith, data_count, words_some), omega (arith, data_count, words_few));
       limit = (image.limit_low, image.limit_high);
-      whole = omega (arith, size)
+      whole = omega (arith, size);
     } in
     let placed : (k : ℕ) → k < entry_count_in bytes → StartsWord (text_count_in bytes) (entry_in bytes k) = λ k low.
-        let inside : k < length (entries_in bytes) = omega (arith, entry_count, low) in
-        let starts : StartsWord (length (words_in (text_count_in bytes) (drop (text_place bytes) bytes))) (slice_index (entries_in bytes) k) = image.entries_placed k 0 inside in
-        rw (text_count, entry-is bytes k low) at starts in
+    let inside : k < length (entries_in bytes) = omega (arith, entry_count, low) in
+    let starts : StartsWord (length (words_in (text_count_in bytes) (drop (text_place bytes) bytes))) (slice_index (entries_in bytes) k) = image.entries_placed k 0 inside in
+    rw (text_count, entry-is bytes k low) at starts in
     let rises : (k : ℕ) → k < entry_count_in bytes → (j : ℕ) → suc j ≡ k → entry_in bytes j < entry_in bytes k = λ k low j next.
-        let before : j < entry_count_in bytes = omega (arith, low, next) in
-        let up : slice_index (entries_in bytes) j < slice_index (entries_in bytes) (j + 1) = image.entries_rise j (omega (arith, entry_count, low, next)) in
-        let place : j + 1 ≡ k = omega (arith, next) in
-        rw (place, entry-is bytes j before, entry-is bytes k low) at up in
+    let before : j < entry_count_in bytes = omega (arith, low, next) in
+    let up : slice_index (entries_in bytes) j < slice_index (entries_in bytes) (j + 1) = image.entries_rise j (omega (arith, entry_count, low, next)) in
+    let place : j + 1 ≡ k = omega (arith, next) in
+    rw (place, entry-is bytes j before, entry-is bytes k low) at up in
     let entries = entries-all bytes (entry_count_in bytes) (λ k low. entry-none bytes k (omega (arith, size, low)) (rising-entry bytes k (rises k low)) (placed k low)) in
     fault-end bytes (header-none bytes header) entries ∙ end-None bytes image.start_entry size
 
@@ -188,25 +187,25 @@ file_of-image_in bytes small sound =
     let data_words : List ℕ = words_in (data_count_in bytes) (drop (data_place bytes) bytes) in
     let nothing : drop (end_place bytes) bytes ≡ [] = drop_all (end_place bytes) bytes (omega (arith, size)) in
     let words_part = sym (append-nil (bytes_of_words data_words)) ∙ ap (λ (r : List ℕ). bytes_of_words data_words ++ r) (sym nothing)
-        ∙ words-chunk (data_count_in bytes) bytes (data_place bytes) (end_place bytes) refl (omega (arith, size)) small in
+    ∙ words-chunk (data_count_in bytes) bytes (data_place bytes) (end_place bytes) refl (omega (arith, size)) small in
     let text_part = ap (λ (r : List ℕ). bytes_of_words text_words ++ r) words_part
-        ∙ words-chunk (text_count_in bytes) bytes (text_place bytes) (data_place bytes) refl (omega (arith, size)) small in
+    ∙ words-chunk (text_count_in bytes) bytes (text_place bytes) (data_place bytes) refl (omega (arith, size)) small in
     let entries_part = ap (λ (r : List ℕ). bytes_of_words entry_words ++ r) text_part
-        ∙ words-chunk (entry_count_in bytes) bytes 148 (text_place bytes) refl (omega (arith, size)) small in
+    ∙ words-chunk (entry_count_in bytes) bytes 148 (text_place bytes) refl (omega (arith, size)) small in
     let registers_part = ap (λ (r : List ℕ). bytes_of_words (registers_in bytes) ++ r) entries_part
-        ∙ words-chunk 31 bytes 24 148 refl (omega (arith, size)) small in
+    ∙ words-chunk 31 bytes 24 148 refl (omega (arith, size)) small in
     let start_part = ap (λ (r : List ℕ). bytes_of_word (start_in bytes) ++ r) registers_part ∙ word-chunk bytes 20 24 refl (omega (arith, size)) small in
     let limit_part = ap (λ (r : List ℕ). bytes_of_word (limit_in bytes) ++ r) start_part ∙ word-chunk bytes 16 20 refl (omega (arith, size)) small in
     let data_count_part = ap (λ (r : List ℕ). bytes_of_word (length data_words) ++ r) limit_part
-        ∙ ap (λ (n : ℕ). bytes_of_word n ++ drop 16 bytes) (length-words_in (data_count_in bytes) (drop (data_place bytes) bytes))
-        ∙ word-chunk bytes 12 16 refl (omega (arith, size)) small in
+    ∙ ap (λ (n : ℕ). bytes_of_word n ++ drop 16 bytes) (length-words_in (data_count_in bytes) (drop (data_place bytes) bytes))
+    ∙ word-chunk bytes 12 16 refl (omega (arith, size)) small in
     let text_count_part = ap (λ (r : List ℕ). bytes_of_word (length text_words) ++ r) data_count_part
-        ∙ ap (λ (n : ℕ). bytes_of_word n ++ drop 12 bytes) (length-words_in (text_count_in bytes) (drop (text_place bytes) bytes))
-        ∙ word-chunk bytes 8 12 refl (omega (arith, size)) small in
+    ∙ ap (λ (n : ℕ). bytes_of_word n ++ drop 12 bytes) (length-words_in (text_count_in bytes) (drop (text_place bytes) bytes))
+    ∙ word-chunk bytes 8 12 refl (omega (arith, size)) small in
     let entry_count_part = ap (λ (r : List ℕ). bytes_of_half (length entry_words) ++ r) text_count_part
-        ∙ ap (λ (n : ℕ). bytes_of_half n ++ drop 8 bytes) (length-words_in (entry_count_in bytes) (drop 148 bytes))
-        ∙ half-chunk bytes 6 8 refl (omega (arith, size)) small in
+    ∙ ap (λ (n : ℕ). bytes_of_half n ++ drop 8 bytes) (length-words_in (entry_count_in bytes) (drop 148 bytes))
+    ∙ half-chunk bytes 6 8 refl (omega (arith, size)) small in
     let version_part = ap (λ (r : List ℕ). bytes_of_half 1 ++ r) entry_count_part
-        ∙ ap (λ (n : ℕ). bytes_of_half n ++ drop 6 bytes) (sym sound.version)
-        ∙ half-chunk bytes 4 6 refl (omega (arith, size)) small in
+    ∙ ap (λ (n : ℕ). bytes_of_half n ++ drop 6 bytes) (sym sound.version)
+    ∙ half-chunk bytes 4 6 refl (omega (arith, size)) small in
     ap (λ (r : List ℕ). magic ++ r) version_part ∙ begins-magic bytes sound.begins

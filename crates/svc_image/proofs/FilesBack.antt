@@ -1,9 +1,9 @@
 -- Each image's file holds that image.
-use Rattle.std.proofs.Common.{◌≡◌, ℕ, zero, suc, ◌+◌, ◌*◌, ◌^◌, ◌<◌, ◌≤◌, true, List, [], ◌∷◌, ◌++◌, length, drop, nat_eq, refl, sym, ◌∙◌, ap, subst, arith, None}
+use Rattle.std.proofs.Common.{◌≡◌, ℕ, ◌+◌, ◌*◌, ◌^◌, ◌<◌, true, List, [], ◌++◌, length, drop, nat_eq, refl, sym, ◌∙◌, ap, subst, arith, None}
 use Rattle.std.proofs.lemmas.List.{append-nil, append_assoc, drop-drop, length-append}
 use Rattle.std.specs.List.{starts_with}
-use Rattle.byteorder.specs.Numbers.{little_number-reads_back, length-bytes_low_first}
-use Rattle.svc_image.specs.Format.{magic, fault, file_of, bytes_of_half, bytes_of_word, bytes_of_words, half_at, word_at, words_in, version_in, entry_count_in, text_count_in, data_count_in, limit_in, start_in, registers_in, entries_in, text_place, data_place, end_place}
+use Rattle.byteorder.specs.Numbers.{little_number-reads_back}
+use Rattle.svc_image.specs.Format.{magic, fault, file_of, bytes_of_half, bytes_of_word, bytes_of_words, half_at, word_at, words_in, version_in, entry_count_in, text_count_in, data_count_in, limit_in, start_in, registers_in, entries_in, text_place, data_place}
 use Rattle.svc_image.specs.Image.{Image, IsImage, AreWords, is_entry}
 use Rattle.svc_image.specs.Reading.{header_bytes, header_of, image_in}
 use Rattle.svc_image.proofs.Files.{IsSound, none-from-sound}
@@ -92,20 +92,20 @@ image_in-file_of img sound =
     let limit = limit-file img (omega (arith, sound.limit_high)) in
     let start = start-file img (start-fits img sound) in
     let registers : registers_in (file_of img) ≡ img.registers =
-        ap (λ (r : List ℕ). words_in 31 r) (drop-24 img) ∙ ap (λ (n : ℕ). words_in n (registers_bytes img)) (sym sound.registers_all)
-        ∙ words_in-bytes_of_words img.registers (entries_bytes img) sound.registers_fit in
+    ap (λ (r : List ℕ). words_in 31 r) (drop-24 img) ∙ ap (λ (n : ℕ). words_in n (registers_bytes img)) (sym sound.registers_all)
+    ∙ words_in-bytes_of_words img.registers (entries_bytes img) sound.registers_fit in
     let entries : entries_in (file_of img) ≡ img.entries =
-        ap (λ (n : ℕ). words_in n (drop 148 (file_of img))) (entry_count-file img (omega (arith, sound.entries_few)))
-        ∙ ap (λ (r : List ℕ). words_in (length img.entries) r) (drop-148 img sound)
-        ∙ words_in-bytes_of_words img.entries (text_bytes img) (entries-fit img sound) in
+    ap (λ (n : ℕ). words_in n (drop 148 (file_of img))) (entry_count-file img (omega (arith, sound.entries_few)))
+    ∙ ap (λ (r : List ℕ). words_in (length img.entries) r) (drop-148 img sound)
+    ∙ words_in-bytes_of_words img.entries (text_bytes img) (entries-fit img sound) in
     let text : words_in (text_count_in (file_of img)) (drop (text_place (file_of img)) (file_of img)) ≡ img.text =
-        ap (λ (n : ℕ). words_in n (drop (text_place (file_of img)) (file_of img))) (text_count-file img (omega (arith, sound.text_few)))
-        ∙ ap (λ (r : List ℕ). words_in (length img.text) r) (drop-text img sound)
-        ∙ words_in-bytes_of_words img.text (bytes_of_words img.words) sound.text_fits in
+    ap (λ (n : ℕ). words_in n (drop (text_place (file_of img)) (file_of img))) (text_count-file img (omega (arith, sound.text_few)))
+    ∙ ap (λ (r : List ℕ). words_in (length img.text) r) (drop-text img sound)
+    ∙ words_in-bytes_of_words img.text (bytes_of_words img.words) sound.text_fits in
     let words : words_in (data_count_in (file_of img)) (drop (data_place (file_of img)) (file_of img)) ≡ img.words =
-        ap (λ (n : ℕ). words_in n (drop (data_place (file_of img)) (file_of img))) (data_count-file img (omega (arith, sound.words_few)))
-        ∙ ap (λ (r : List ℕ). words_in (length img.words) r) (drop-data img sound ∙ sym (append-nil (bytes_of_words img.words)))
-        ∙ words_in-bytes_of_words img.words [] sound.words_fit in
+    ap (λ (n : ℕ). words_in n (drop (data_place (file_of img)) (file_of img))) (data_count-file img (omega (arith, sound.words_few)))
+    ∙ ap (λ (r : List ℕ). words_in (length img.words) r) (drop-data img sound ∙ sym (append-nil (bytes_of_words img.words)))
+    ∙ words_in-bytes_of_words img.words [] sound.words_fit in
     λ i. record { limit = limit i; start = start i; registers = registers i; entries = entries i; text = text i; words = words i }
 
 -- and has no fault
@@ -122,7 +122,7 @@ sound-file_of img sound =
       size = omega (arith, entry_count, text_count, data_count, size, registers, entries, text, sound.registers_all, length-bytes_of_words img.registers, length-bytes_of_words img.entries, length-bytes_of_words img.text, length-bytes_of_words img.words);
       begins = begins-file img;
       version = version-file img;
-      image = subst (λ (x : Image). IsImage x) (sym (image_in-file_of img sound)) sound
+      image = subst (λ (x : Image). IsImage x) (sym (image_in-file_of img sound)) sound;
     }
 
 -- the file of an image has no fault

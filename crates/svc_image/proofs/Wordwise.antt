@@ -1,7 +1,7 @@
 -- Words of 32 bits in bytes, and bytes of words.
-use Rattle.std.proofs.Common.{◌≡◌, ℕ, zero, suc, ◌+◌, ◌-◌, ◌*◌, ◌/◌, ◌%◌, ◌^◌, ◌<◌, ◌≤◌, Bool, true, false, List, [], ◌∷◌, ◌++◌, length, take, drop, All, get_or, slice_index, refl, sym, ◌∙◌, ap, subst, arith}
+use Rattle.std.proofs.Common.{◌≡◌, ℕ, zero, suc, ◌+◌, ◌-◌, ◌*◌, ◌^◌, ◌<◌, Bool, true, false, List, [], ◌∷◌, ◌++◌, length, take, drop, slice_index, refl, sym, ◌∙◌, ap, arith}
 use Rattle.std.proofs.lemmas.Bool.{or_from, or_left, or_right}
-use Rattle.std.proofs.lemmas.List.{append_assoc, drop-drop, drop_at, take-append-drop, length-drop, length-append, get_or-drop, ext_get_or, take_more, flat_map_more, drop-take}
+use Rattle.std.proofs.lemmas.List.{append_assoc, drop-drop, drop_at, length-append, get_or-drop, ext_get_or, take_more, flat_map_more, drop-take}
 use Rattle.std.proofs.lemmas.List.Elements.{All-nil, All-cons, All-head, All-tail}
 use Rattle.std.specs.List.{flat_map, list_any}
 use Rattle.byteorder.specs.Endian.{little_bytes, little_number, IsRead}
@@ -43,7 +43,7 @@ unfolding words_in
 any-words_in-none p zero bytes fails = refl
 any-words_in-none p (suc n) bytes fails =
     or_from (p (word_at bytes 0)) (list_any p (words_in n (drop 4 bytes))) (fails 0 (omega arith))
-        (any-words_in-none p n (drop 4 bytes) (λ k low. ap p (word_at-drop bytes k) ∙ fails (suc k) (omega arith)))
+    (any-words_in-none p n (drop 4 bytes) (λ k low. ap p (word_at-drop bytes k) ∙ fails (suc k) (omega arith)))
 
 -- one of the words does
 pub any-words_in-found : (p : ℕ → Bool) (n : ℕ) (bytes : List ℕ) (k : ℕ) → k < n → p (word_at bytes (4 * k)) ≡ true → list_any p (words_in n bytes) ≡ true
@@ -52,14 +52,14 @@ any-words_in-found p zero bytes k low found = absurd (omega arith)
 any-words_in-found p (suc n) bytes zero low found = or_left (p (word_at bytes 0)) (list_any p (words_in n (drop 4 bytes))) found
 any-words_in-found p (suc n) bytes (suc k) low found =
     or_right (p (word_at bytes 0)) (list_any p (words_in n (drop 4 bytes)))
-        (any-words_in-found p n (drop 4 bytes) k (omega arith) (ap p (word_at-drop bytes k) ∙ found))
+    (any-words_in-found p n (drop 4 bytes) k (omega arith) (ap p (word_at-drop bytes k) ∙ found))
 
 -- words that were read one by one are the words that stand there
 pub read-words_in : (n : ℕ) (bytes words : List ℕ) → length words ≡ n → IsRead (λ m xs. little_number m xs) 4 bytes words → words ≡ words_in n bytes
 unfolding word_at
 read-words_in n bytes words len read =
     ext_get_or 0 words (words_in n bytes) (len ∙ sym (length-words_in n bytes))
-        (λ k low. read k low ∙ sym (get_or-words_in n bytes k (omega (arith, len))))
+    (λ k low. read k low ∙ sym (get_or-words_in n bytes k (omega (arith, len))))
 
 -- words fit 32 bits
 pub words_in-fit : (n : ℕ) (bytes : List ℕ) → AreBytes bytes → AreWords (words_in n bytes)

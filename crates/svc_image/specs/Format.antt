@@ -1,5 +1,5 @@
 -- Image files, version 1: where each field stands, the bytes of an image, and the first fault of any bytes. Numbers stand lowest byte first.
-use Rattle.std.specs.Prelude.{ ℕ, zero, suc, ◌+◌, ◌*◌, ◌%◌, Bool, false, not, ◌&&◌, List, [], ◌∷◌, ◌++◌, length, drop, Option, Some, None, Result, Ok, Err, nat_eq, nat_lt, nat_le, ◌==◌, if◌then◌else◌}
+use Rattle.std.specs.Prelude.{ℕ, zero, suc, ◌+◌, ◌*◌, ◌%◌, Bool, false, not, ◌&&◌, List, [], ◌∷◌, ◌++◌, length, drop, Option, Some, None, nat_eq, nat_lt, nat_le, ◌==◌, if◌then◌else◌}
 use Rattle.std.specs.List.{flat_map, list_any, starts_with}
 use Rattle.byteorder.specs.Endian.{little_bytes, little_number}
 use Rattle.svc_image.specs.declared.error.ImageError.{ImageError}

@@ -1,6 +1,5 @@
 -- What the steps of the loader answer.
-use Rattle.std.specs.Prelude.{◌≡◌, ℕ, ◌*◌, ◌≤◌, ◌++◌, Bool, false, List, length, drop, Option, Some, None, Result, Ok, Err, slice_index_or, ◌==◌}
-use Rattle.std.specs.List.{list_any}
+use Rattle.std.specs.Prelude.{ℕ, ◌≤◌, ◌++◌, List, length, drop, Option, Some, None, Result, Ok, Err}
 use Rattle.svc_image.specs.declared.error.ImageError.{ImageError}
 use Rattle.svc_image.specs.declared.header.Header.{Header}
 use Rattle.svc_image.specs.Image.{Image}
@@ -45,5 +44,5 @@ image_in bytes =
       registers = registers_in bytes;
       entries = entries_in bytes;
       text = words_in (text_count_in bytes) (drop (text_place bytes) bytes);
-      words = words_in (data_count_in bytes) (drop (data_place bytes) bytes)
+      words = words_in (data_count_in bytes) (drop (data_place bytes) bytes);
     }

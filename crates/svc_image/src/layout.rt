@@ -11,10 +11,17 @@ pub const MOST_ENTRIES: u32 = 1024;
 pub const MOST_WORDS: u32 = 65_536;
 
 pub const VERSION_PLACE: usize = 4;
+
 pub const ENTRY_COUNT_PLACE: usize = 6;
+
 pub const TEXT_COUNT_PLACE: usize = 8;
+
 pub const DATA_COUNT_PLACE: usize = 12;
+
 pub const LIMIT_PLACE: usize = 16;
+
 pub const START_PLACE: usize = 20;
+
 pub const REGISTERS_PLACE: usize = 24;
+
 pub const ENTRIES_PLACE: usize = 148;

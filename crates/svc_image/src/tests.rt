@@ -73,18 +73,42 @@ fn each_field_is_checked(rt: HostRuntime) -> Result<(), Fail> {
     assert_eq!(rt; fault_with_word(alloc, 12, 65_537)?, 4, "too much data");
     assert_eq!(rt; fault_with_word(alloc, 16, 0)?, 4, "no turns");
     assert_eq!(rt; fault_with_word(alloc, 16, 65_537)?, 4, "too many turns");
-    assert_eq!(rt; fault_with_word(alloc, 20, 4)?, 7, "a start that is no entry");
+    assert_eq!(rt;
+        fault_with_word(alloc, 20, 4)?,
+        7,
+        "a start that is no entry"
+    );
     Ok(())
 }
 
 #[test]
 fn each_entry_is_checked(rt: HostRuntime) -> Result<(), Fail> {
     let alloc = rt.alloc();
-    assert_eq!(rt; fault_with_word(alloc, 152, 0)?, 5, "the second entry again");
-    assert_eq!(rt; fault_with_word(alloc, 152, 14)?, 6, "the second entry between words");
-    assert_eq!(rt; fault_with_word(alloc, 152, 36)?, 6, "the second entry past the text");
-    assert_eq!(rt; fault_with_word(alloc, 148, 2)?, 6, "the first entry between words");
-    assert_eq!(rt; fault_with_word(alloc, 148, 12)?, 5, "the first entry twice");
+    assert_eq!(rt;
+        fault_with_word(alloc, 152, 0)?,
+        5,
+        "the second entry again"
+    );
+    assert_eq!(rt;
+        fault_with_word(alloc, 152, 14)?,
+        6,
+        "the second entry between words"
+    );
+    assert_eq!(rt;
+        fault_with_word(alloc, 152, 36)?,
+        6,
+        "the second entry past the text"
+    );
+    assert_eq!(rt;
+        fault_with_word(alloc, 148, 2)?,
+        6,
+        "the first entry between words"
+    );
+    assert_eq!(rt;
+        fault_with_word(alloc, 148, 12)?,
+        5,
+        "the first entry twice"
+    );
     let mut falling = Vec::from_slice(alloc, &P)?;
     if falling.len() == 200 {
         LittleEndian::write_u32(&mut falling[148..], 8);

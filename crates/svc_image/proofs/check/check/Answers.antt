@@ -1,8 +1,7 @@
 use Rattle.std.proofs.Common.{◌≡◌, ◌∙◌, sym, ap, refl, ℕ, List, None, Ok}
 use Rattle.std.proofs.lemmas.Result.{err_from_is_err_and}
-use Rattle.svc_image.specs.declared.error.ImageError.{ImageError}
 use Rattle.svc_image.specs.declared.header.Header.{Header}
-use Rattle.svc_image.specs.Format.{header_checks, entries_checks, end_checks, entry_count_in, fault, first_of}
+use Rattle.svc_image.specs.Format.{header_checks, entries_checks, end_checks, entry_count_in, first_of}
 use Rattle.svc_image.specs.Reading.{checked, header_in}
 use Rattle.svc_image.proofs.Checks.{checked-Err, checked-Ok, fault-header, fault-entries, fault-end}
 use Rattle.svc_image.proofs.check.check.Goals as goal

@@ -1,6 +1,5 @@
-use Rattle.std.proofs.Common.{rules, ◌≡◌, ◌∙◌, sym, ap, arith, Option, length}
+use Rattle.std.proofs.Common.{rules, ◌∙◌, sym, ap, arith, Option}
 use Rattle.svc_image.specs.declared.error.ImageError.{ImageError}
-use Rattle.svc_image.specs.Format.{end_place}
 use Rattle.svc_image.specs.Reading.{checked}
 use Rattle.svc_image.proofs.Checks.{end-Start, end-Short, end-Trailing, end-None, header-start, header-end}
 use Rattle.svc_image.proofs.check.check_end.Goals as goal

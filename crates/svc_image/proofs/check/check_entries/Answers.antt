@@ -1,8 +1,6 @@
-use Rattle.std.proofs.Common.{◌≡◌, ◌∙◌, sym, ap, refl, arith, add-one, Option, Some}
+use Rattle.std.proofs.Common.{refl, arith, add-one}
 use Rattle.std.proofs.lemmas.Result.{err_from_is_err_and}
-use Rattle.svc_image.specs.declared.error.ImageError.{ImageError}
 use Rattle.svc_image.specs.Format.{entries_checks, entry_checks, first_of}
-use Rattle.svc_image.specs.Reading.{checked}
 use Rattle.svc_image.proofs.Checks.{checked-Err, checked-Ok, entries-first, entries-more}
 use Rattle.svc_image.proofs.check.check_entries.Goals as goal
 
@@ -22,5 +20,5 @@ loop-index-preserved c =
     let here = checked-Ok (first_of (entry_checks c.args.bytes.now c.loop-index.index)) tt _ c.in_ok-check_entry.ensures.value in
     record {
       sound = rw add-one (entries-more c.args.bytes.now c.loop-index.index c.loop-index.invariant.sound here.0);
-      whole = omega (arith, c.in_ok-check_entry.ensures.whole)
+      whole = omega (arith, c.in_ok-check_entry.ensures.whole);
     }

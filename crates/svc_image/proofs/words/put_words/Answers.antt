@@ -1,4 +1,4 @@
-use Rattle.std.proofs.Common.{◌≡◌, ◌++◌, ◌∙◌, sym, ap, List, ℕ, take, arith, slice_index}
+use Rattle.std.proofs.Common.{sym, take, slice_index}
 use Rattle.std.proofs.lemmas.List.{append-nil, append_assoc}
 use Rattle.svc_image.specs.Format.{bytes_of_word, bytes_of_words}
 use Rattle.svc_image.proofs.Wordwise.{bytes_of_words-more}
