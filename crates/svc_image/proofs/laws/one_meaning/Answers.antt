@@ -1,6 +1,5 @@
-use Rattle.std.proofs.Common.{◌≡◌, ◌∙◌, sym, ap, true}
+use Rattle.std.proofs.Common.{◌∙◌, sym, ap, true}
 use Rattle.svc_image.specs.declared.error.ImageError.TheVariants.{Short}
-use Rattle.svc_image.specs.Format.{file_of}
 use Rattle.svc_image.specs.Reading.{image_in}
 use Rattle.svc_image.proofs.Files.{sound-from-none, file_of-image_in}
 use Rattle.svc_image.proofs.FilesBack.{fault-file_of, image_in-file_of}
