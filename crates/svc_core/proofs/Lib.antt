@@ -7,3 +7,5 @@ pub mod Sequential
 pub mod Ends
 pub mod Looks
 pub mod Means
+pub mod SameCore
+pub mod OneStep

@@ -8,3 +8,5 @@ pub mod Words
 pub mod Sequence
 pub mod Bursts
 pub mod Places
+pub mod Same
+pub mod Steps

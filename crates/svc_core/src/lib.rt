@@ -8,6 +8,7 @@ mod core_state;
 mod end;
 mod laws;
 mod numbers;
+mod step;
 mod turn;
 
 pub use access::{DATA_START, Place, load_place, loaded, store_place, stored};
