@@ -2,11 +2,11 @@
 
 ghost use Rattle.std.specs.Prelude.{◌≡◌, ◌≤◌, ◌<◌, ◌+◌, true, IsTrue, ◌↔◌, is_none};
 ghost use Rattle.svc_image.specs.Image.{is_entry};
-ghost use Rattle.svc_core.specs.State.{value_of, start, ended};
-ghost use Rattle.svc_core.specs.Same.{same_end, same_words, same_state};
+ghost use Rattle.svc_core_laws.specs.State.{value_of, start, ended};
+ghost use Rattle.svc_core_laws.specs.Same.{same_end, same_words, same_state};
 
-use crate::end::End;
 use std::marker::Model;
+use svc_core_laws::End;
 use svc_image::Image;
 use svc_rv32i::Register;
 
@@ -22,7 +22,7 @@ pub struct Core {
 }
 
 impl Model for Core {
-    ghost use Rattle.svc_core.specs.State.{State, IsCore};
+    ghost use Rattle.svc_core_laws.specs.State.{State, IsCore};
 
     ghost Value = { State };
 
@@ -151,7 +151,7 @@ fn is_same_end(a: Option<End>, b: Option<End>) -> bool
     }
 }
 
-#[tactic(auto, using(crate::proofs::SameCore::words))]
+#[tactic(auto, using(svc_core_laws::proofs::SameCore::words))]
 fn are_same_words(a: &[u32; 32], b: &[u32; 32]) -> bool
     ensures { result ≡ same_words a.now b.now }
 {
