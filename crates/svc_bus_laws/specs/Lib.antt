@@ -1,0 +1,17 @@
+pub mod Search
+pub mod Versioned
+pub mod ByRows
+pub mod LineTable
+pub mod Supplier
+pub mod Walk
+pub mod Steps
+pub mod Sound
+pub mod BusLine
+pub mod BusState
+pub mod BusView
+pub mod BusSteps
+pub mod Refusals
+pub mod MapLaws
+pub mod TableLaws
+pub mod AgreementLaws
+pub mod RefusalLaws
