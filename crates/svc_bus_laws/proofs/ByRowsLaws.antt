@@ -88,12 +88,12 @@ read_by_rows m p a h = ap (λ (rs : List Row). record m { rows = rs }) (go p m.r
     or_false false false = refl
 
     head_row : (r : Row) → read_row r 0 a ≡ r
-    head_row r = row_same (read_row r 0 a) r (λ b. refl) (λ b. or_false (r.exposed b) (b == a))
+    head_row r = row_same (read_row r 0 a) r (λ b. refl) (λ b. or_false (r.exposed b) (a == b))
 
     later_row : (q : ℕ) (r : Row) → read_row r (suc q) a ≡ exposed_row a r
     later_row q r = row_same (read_row r (suc q) a) (exposed_row a r) (λ b. refl) (λ b. elim (cases_eq b a) [
       | inl e ↦ rw (e, ne_eqb (suc q) 0 (omega arith))
-      | inr ne ↦ rw (ne_eqb b a ne)
+      | inr ne ↦ rw (ne_eqb a b (λ z. ne (sym z)))
     ])
 
     go : (p : ℕ) (rows : List Row) → p < length rows → set rows p (read_row (get_or rows p fresh_row) p a) ≡ read_rows p a rows

@@ -21,3 +21,4 @@ pub mod Alike
 pub mod OpenedLaws
 pub mod LineWalks
 pub mod Rows
+pub mod OrderProofs

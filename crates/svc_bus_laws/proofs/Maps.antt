@@ -84,7 +84,7 @@ module _ (m : Versioned) (p a : ℕ) (within : p < length m.rows) where
   pub read_exposed_other : (q b : ℕ) → q ≢ p → is_exposed (map.read m p a) q b ≡ is_exposed m q b
   read_exposed_other q b ne = ap (λ (r : Row). r.exposed b) (get_or-set_other m.rows p q (read_row (row_at m p) p a) fresh_row ne)
 
-  pub read_exposed_same : (b : ℕ) → is_exposed (map.read m p a) p b ≡ (is_exposed m p b || ((b == a) && (not (p == 0) && is_none (version m p a))))
+  pub read_exposed_same : (b : ℕ) → is_exposed (map.read m p a) p b ≡ (is_exposed m p b || ((a == b) && (not (p == 0) && is_none (version m p a))))
   read_exposed_same b = ap (λ (r : Row). r.exposed b) (get_or-set_same m.rows p (read_row (row_at m p) p a) fresh_row within)
 
 -- ---- the victim
@@ -137,7 +137,7 @@ module _ (m : Versioned) (p a w : ℕ) (within : p < length m.rows) where
   write_row : (q : ℕ) → q < survivors m p a → row_at (map.write m p a w) q ≡ get_or (set m.rows p row) q fresh_row
   write_row q h = get_or-take (survivors m p a) (set m.rows p row) q fresh_row h
 
-  pub write_version_here : p < survivors m p a → (b : ℕ) → version (map.write m p a w) p b ≡ cond (b == a) (Some w) (version m p b)
+  pub write_version_here : p < survivors m p a → (b : ℕ) → version (map.write m p a w) p b ≡ cond (a == b) (Some w) (version m p b)
   write_version_here h b = ap (λ (r : Row). r.versions b) (write_row p h ∙ get_or-set_same m.rows p row fresh_row within)
 
   pub write_version_other : (q b : ℕ) → q < survivors m p a → q ≢ p → version (map.write m p a w) q b ≡ version m q b

@@ -65,7 +65,7 @@ module _ (t : LineTable) (p a : ℕ) (sound : IsSound t) (within : p < length t.
           | inr ne ↦ others q b (old q h) ne ∙ sym (exposed_is t q b (old q h)) ∙ sym (read_exposed_other (versioned t) p a room q b ne)
           | inl e ↦ rw e (elim (cases_eq b a) [
             | inl word ↦ rw word (here ∙ sym (read_exposed_same (versioned t) p a room a ∙ rw (eq-eqb a a refl, exposed_is t p a within, version_is t p a within)))
-            | inr ne ↦ words b ne ∙ sym (read_exposed_same (versioned t) p a room b ∙ rw (ne_eqb b a ne, exposed_is t p b within) (or_false _))
+            | inr ne ↦ words b ne ∙ sym (read_exposed_same (versioned t) p a room b ∙ rw (ne_eqb a b (λ z. ne (sym z)), exposed_is t p b within) (or_false _))
           ])
         ];
       }

@@ -349,7 +349,7 @@ module _ (t : LineTable) (p a w : ℕ) (sound : IsSound t) (within : p < length 
               | inr ne ↦ other_version q b i (inl ne) ∙ sym (version_is t q b j) ∙ sym (write_version_other (versioned t) p a w rows q b i ne)
               | inl e ↦ rw e (elim (cases_eq b a) [
                 | inl word ↦ rw word (write_version ∙ sym (write_version_here (versioned t) p a w rows guard.reaches a ∙ rw (eq-eqb a a refl)))
-                | inr ne ↦ other_version p b guard.reaches (inr ne) ∙ sym (version_is t p b within) ∙ sym (write_version_here (versioned t) p a w rows guard.reaches b ∙ rw (ne_eqb b a ne))
+                | inr ne ↦ other_version p b guard.reaches (inr ne) ∙ sym (version_is t p b within) ∙ sym (write_version_here (versioned t) p a w rows guard.reaches b ∙ rw (ne_eqb a b (λ z. ne (sym z))))
               ])
             ];
         exposed = λ q h b.

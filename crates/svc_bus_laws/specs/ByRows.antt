@@ -36,7 +36,7 @@ edit (suc p) f cut (x ∷ xs) = x ∷ edit p f cut xs
 
 -- a row after its task, not the head, read the word
 abbrev pub exposed_row : ℕ → Row → Row
-exposed_row a row = record row { exposed = λ b. row.exposed b || ((b == a) && is_none (row.versions b)) }
+exposed_row a row = record row { exposed = λ b. row.exposed b || ((a == b) && is_none (row.versions b)) }
 
 -- the rows after a read: the head's reads are not recorded
 abbrev pub read_rows : ℕ → ℕ → List Row → List Row

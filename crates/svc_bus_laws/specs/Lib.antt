@@ -15,3 +15,4 @@ pub mod MapLaws
 pub mod TableLaws
 pub mod AgreementLaws
 pub mod RefusalLaws
+pub mod OrderLaws

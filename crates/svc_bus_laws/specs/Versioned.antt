@@ -66,7 +66,7 @@ begin m = record m { rows = m.rows ++ fresh_row ∷ [] }
 
 -- the row after its task read the word: exposed, unless it is the head's or has a version
 abbrev pub read_row : Row → ℕ → ℕ → Row
-read_row r p a = record r { exposed = λ b. r.exposed b || ((b == a) && (not (p == 0) && is_none (r.versions a))) }
+read_row r p a = record r { exposed = λ b. r.exposed b || ((a == b) && (not (p == 0) && is_none (r.versions a))) }
 
 -- the task at a place read the word (its answer is the view)
 abbrev pub read : Versioned → ℕ → ℕ → Versioned
@@ -74,7 +74,7 @@ read m p a = record m { rows = set m.rows p (read_row (row_at m p) p a) }
 
 -- the row after its task wrote the word
 abbrev pub written_row : Row → ℕ → ℕ → Row
-written_row r a w = record r { versions = λ b. cond (b == a) (Some w) (r.versions b) }
+written_row r a w = record r { versions = λ b. cond (a == b) (Some w) (r.versions b) }
 
 -- the task at a place wrote the word, and the victim and all after it are cut
 abbrev pub write : Versioned → ℕ → ℕ → ℕ → Versioned
