@@ -118,6 +118,20 @@ overtaken = begin (commit (commit (write (read two 0 0) 1 0 9))) 0
 overtaken-read : (line overtaken 0 0 ≡ Some (29, 7)) × (answer overtaken 0 0 ≡ (9, Committed 1)) × (backing (read overtaken 0 0) ≡ 9 ∷ 0 ∷ 0 ∷ 0 ∷ [])
 overtaken-read = (refl, refl, refl)
 
+-- a read below a version that stands already is stale from the first
+abbrev passed : LineTable
+passed = read (write three 1 0 4) 0 0
+
+-- V L T
+passed-read : (answer (write three 1 0 4) 0 0 ≡ (7, Memory)) × (line passed 0 0 ≡ Some (21, 7))
+passed-read = (refl, refl)
+
+abbrev passed-again : LineTable
+passed-again = begin (commit (commit passed)) 0
+
+passed-after : (answer passed-again 0 0 ≡ (4, Committed 1)) × (committed passed-again ≡ 4 ∷ 0 ∷ 0 ∷ 0 ∷ [])
+passed-after = (refl, refl)
+
 -- ---- replacement, spill and pinned lines: one set, one way, and the words 0, 0
 
 abbrev small : LineTable
@@ -189,6 +203,13 @@ spilled = replace (commit (write (write two 0 0 1) 1 0 2)) 1 0
 
 spilled-read : (backing spilled ≡ 1 ∷ 0 ∷ 0 ∷ 0 ∷ []) × (committed spilled ≡ 1 ∷ 0 ∷ 0 ∷ 0 ∷ []) × (answer spilled 1 0 ≡ (2, Spill)) × (backing (commit (read spilled 1 0)) ≡ 2 ∷ 0 ∷ 0 ∷ 0 ∷ [])
 spilled-read = (refl, refl, refl, refl)
+
+-- a version of a task between is nearer than the head's spilled one
+abbrev nearer : LineTable
+nearer = write (replace (write three 0 0 8) 0 0) 1 0 5
+
+nearer-read : (answer (replace (write three 0 0 8) 0 0) 2 0 ≡ (8, Spill)) × (answer nearer 2 0 ≡ (5, Version 1)) × (answer nearer 0 0 ≡ (8, Spill)) × (committed nearer ≡ 7 ∷ 0 ∷ 0 ∷ 0 ∷ []) × (committed (commit nearer) ≡ 8 ∷ 0 ∷ 0 ∷ 0 ∷ []) × (backing (commit nearer) ≡ 8 ∷ 0 ∷ 0 ∷ 0 ∷ [])
+nearer-read = (refl, refl, refl, refl, refl, refl)
 
 abbrev rewritten : LineTable
 rewritten = write spilled 1 0 3
