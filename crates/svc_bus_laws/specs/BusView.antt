@@ -2,7 +2,7 @@
 use Rattle.std.specs.Prelude.{ℕ, Bool, cond, not, ◌&&◌, ◌||◌, ◌==◌, Option, Some, None, is_some, length, get_or}
 use Rattle.std.specs.Option.{option_or}
 use Rattle.svc_bus_laws.specs.Search.{least, greatest, all_below, tabulate}
-use Rattle.svc_bus_laws.specs.Versioned.{Row, Versioned}
+use Rattle.svc_bus_laws.specs.Versioned.{Row, Versioned, Victim, view, victim_answer}
 use Rattle.svc_bus_laws.specs.Supplier.{Supplier, Hit, Reuse, Version, Spill, by_committed}
 use Rattle.svc_bus_laws.specs.BusLine.{BusLine, is_active_line, is_reusable_line, is_committed_dirty_line, is_exposed_line, value_of_line, version_of_line}
 use Rattle.svc_bus_laws.specs.BusState.{BusState}
@@ -42,6 +42,13 @@ bus_map b = record {
   committed = bus_committed b;
   rows = tabulate (length b.units) (bus_row b);
 }
+
+-- what the task at a place reads, and the victim of its write
+abbrev pub bus_view : BusState → ℕ → ℕ → ℕ
+bus_view b p a = view (bus_map b) p a
+
+abbrev pub bus_victim : BusState → ℕ → ℕ → Option Victim
+bus_victim b p a = victim_answer (bus_map b) p a
 
 -- the version at a place that was found, else the spilled value, else what is committed
 abbrev pub bus_by_version : BusState → ℕ → Option ℕ → Supplier

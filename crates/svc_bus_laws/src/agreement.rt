@@ -1,14 +1,17 @@
 // A bus without numbers, and the line tables that it agrees with.
 
-ghost use Rattle.svc_bus_laws.specs.AgreementLaws.{OwnState, CommittedSeen, MapSeen, SupplierSeen, ReadAgrees, WriteAgrees, ReplaceAgrees, SquashAgrees, CommitAgrees, BeginAgrees, AlikeReads, AlikeWrites, AlikeReplacements, AlikeSquashes, AlikeCommits, AlikeBeginnings, AlikeMaps};
+ghost use Rattle.svc_bus_laws.specs.AgreementLaws.{OpenedAgrees, OwnState, CommittedSeen, MapSeen, ViewSeen, VictimSeen, SupplierSeen, ReadAgrees, WriteAgrees, ReplaceAgrees, SquashAgrees, CommitAgrees, BeginAgrees, AlikeReads, AlikeWrites, AlikeReplacements, AlikeSquashes, AlikeCommits, AlikeBeginnings, AlikeMaps};
 ghost use Rattle.svc_bus_laws.specs.OrderLaws.{OrderDirty, OrderStrict, OrderTransitive, OrderTotal, CommittedFirst, TaskOrder};
 
-/// A sound table's own state agrees with it. The committed values, the versioned map, with it each view and victim, and
+/// The opened bus agrees with the opened table, and a sound table's own state with it. The committed values, the versioned map, with it each view and victim, and
 /// the supplier of a read are seen without numbers, and are those of every table that agrees.
 pub fn state_law()
+    ensures opened { OpenedAgrees }
     ensures own { OwnState }
     ensures committed { CommittedSeen }
     ensures map { MapSeen }
+    ensures view { ViewSeen }
+    ensures victim { VictimSeen }
     ensures supplier { SupplierSeen }
 {}
 
