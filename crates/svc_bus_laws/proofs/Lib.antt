@@ -22,3 +22,4 @@ pub mod OpenedLaws
 pub mod LineWalks
 pub mod Rows
 pub mod OrderProofs
+pub mod SoundSeen

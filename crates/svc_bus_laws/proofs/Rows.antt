@@ -1,7 +1,8 @@
 -- Worked rows of the bus, by computation alone. Steps are named by unit, as callers name them.
 use Rattle.std.proofs.Common.{◌≡◌, refl, ℕ, Some, None, true, false, List, [], ◌∷◌, Option, unwrap_or}
 use Rattle.svc_bus_laws.specs.Search.{tabulate}
-use Rattle.svc_bus_laws.specs.Versioned.{Victim, view, victim_answer}
+use Rattle.svc_bus_laws.specs.Versioned.{Victim, view, victim_answer, is_exposed}
+use Rattle.svc_bus_laws.specs.Versioned as map
 use Rattle.svc_bus_laws.specs.LineTable.{LineTable, place_of, versioned, committed_value, opened}
 use Rattle.svc_bus_laws.specs.Walk.{walk_lines}
 use Rattle.svc_bus_laws.specs.Supplier.{Supplier, Hit, Reuse, Version, Spill, Committed, Memory, supplier}
@@ -205,6 +206,10 @@ struck-walk = refl
 
 struck-cut : (cut (read loaded 2 0) 0 0 ≡ Some (record { first = 1; tasks = 2 })) × (struck.units ≡ 0 ∷ []) × (lines struck 0 ≡ Some (3, 9) ∷ None ∷ None ∷ None ∷ []) × (committed struck ≡ 7 ∷ 0 ∷ 0 ∷ 0 ∷ []) × (committed (commit struck) ≡ 9 ∷ 0 ∷ 0 ∷ 0 ∷ [])
 struck-cut = (refl, refl, refl, refl, refl)
+
+-- the new head's reads are no longer recorded
+head-forgets : (is_exposed (versioned (read two 1 0)) 1 0 ≡ true) × (is_exposed (map.commit (versioned (read two 1 0))) 0 0 ≡ false)
+head-forgets = (refl, refl)
 
 -- it did not: its version hides the store
 abbrev hidden : LineTable

@@ -38,11 +38,11 @@ pub exposed_line_is : (line : Option Line) → is_exposed_line (unnumbered line)
 exposed_line_is None = refl
 exposed_line_is (Some l) = refl
 
-committed_line_is : (line : Option Line) → is_committed_dirty_line (unnumbered line) ≡ is_committed_dirty line
+pub committed_line_is : (line : Option Line) → is_committed_dirty_line (unnumbered line) ≡ is_committed_dirty line
 committed_line_is None = refl
 committed_line_is (Some l) = refl
 
-value_line_is : (line : Option Line) → value_of_line (unnumbered line) ≡ value_in line
+pub value_line_is : (line : Option Line) → value_of_line (unnumbered line) ≡ value_in line
 value_line_is None = refl
 value_line_is (Some l) = refl
 

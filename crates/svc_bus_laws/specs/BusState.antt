@@ -47,6 +47,19 @@ pub record Agrees (b : BusState) (t : LineTable) : Type 0 where
   pub commits : b.commits ≡ t.commits
   pub units : b.units ≡ t.units
 
+-- two states that differ in look-ups at most
+pub record SameBus (b c : BusState) : Type 0 where
+  pub caches : b.caches ≡ c.caches
+  pub sets : b.sets ≡ c.sets
+  pub ways : b.ways ≡ c.ways
+  pub words : b.words ≡ c.words
+  pub lines : (u a : ℕ) → b.lines u a ≡ c.lines u a
+  pub order : (a u v : ℕ) → b.is_older a u v ≡ c.is_older a u v
+  pub spill : (a : ℕ) → b.spill a ≡ c.spill a
+  pub backing : (a : ℕ) → b.backing a ≡ c.backing a
+  pub commits : b.commits ≡ c.commits
+  pub units : b.units ≡ c.units
+
 -- what callers see of a line table
 abbrev pub state_of : ℕ → LineTable → BusState
 state_of probes t = record {

@@ -9,6 +9,7 @@ pub mod Sound
 pub mod BusLine
 pub mod BusState
 pub mod BusView
+pub mod SoundState
 pub mod BusSteps
 pub mod Refusals
 pub mod MapLaws

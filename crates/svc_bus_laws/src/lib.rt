@@ -17,7 +17,7 @@ mod map;
 mod refusal;
 mod table;
 
-pub use agreement::{agreement_law, alike_law, order_law, state_law};
+pub use agreement::{agreement_law, alike_law, order_law, seen_law, state_law};
 pub use map::{rows_law, victim_law, view_law, walk_law};
 pub use refusal::{full_law, pinned_law, same_refusals_law};
 pub use table::{
