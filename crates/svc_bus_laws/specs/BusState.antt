@@ -4,19 +4,23 @@ use Rattle.svc_bus_laws.specs.LineTable.{Line, LineTable, task_in}
 use Rattle.svc_bus_laws.specs.BusLine.{BusLine}
 use Rattle.svc_bus_laws.specs.Sound.{IsSound}
 
--- a bus: how many caches, sets, ways and words it has, its lines by unit and word, the order of each word's dirty lines, the spill table, the backing memory, the number of commits, the units of the active tasks, and the look-ups of the last read or write
+-- all that callers see of a bus
 pub record BusState : Type 0 where
+  -- how many units there are, the sets and ways of each cache, and the words of the memory
   pub caches : ℕ
   pub sets : ℕ
   pub ways : ℕ
   pub words : ℕ
+  -- by unit and word
   pub lines : ℕ → ℕ → Option BusLine
   -- of a word and two units: both have a dirty line of the word, and the first unit's is older
   pub is_older : ℕ → ℕ → ℕ → Bool
   pub spill : ℕ → Option ℕ
   pub backing : ℕ → ℕ
   pub commits : ℕ
+  -- the units of the active tasks, oldest first
   pub units : List ℕ
+  -- the look-ups of the last accepted read or write
   pub probes : ℕ
 
 -- a line without its number

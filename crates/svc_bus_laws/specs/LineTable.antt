@@ -13,16 +13,23 @@ pub record Line : Type 0 where
   pub stale : Bool
   pub task : ℕ
 
--- the lines by unit and word, the head's spilled values, the backing memory, the number of commits, and the units of the active tasks, oldest first; the units are the numbers below caches, each with a cache of sets times ways places, and the memory's words are the numbers below words
+-- all that the caches, the spill table and the memory hold
 pub record LineTable : Type 0 where
+  -- the units are the numbers below caches, and each has a cache of sets times ways places
   pub caches : ℕ
   pub sets : ℕ
   pub ways : ℕ
+  -- the memory's words are the numbers below words
   pub words : ℕ
+  -- by unit and word
   pub lines : ℕ → ℕ → Option Line
+  -- the head's versions whose lines were replaced, by word
   pub spill : ℕ → Option ℕ
+  -- the memory, by word
   pub backing : ℕ → ℕ
+  -- how many tasks were committed: the head's number
   pub commits : ℕ
+  -- the units of the active tasks, oldest first
   pub units : List ℕ
 
 -- V set and C clear
