@@ -23,3 +23,4 @@ pub mod LineWalks
 pub mod Rows
 pub mod OrderProofs
 pub mod SoundSeen
+pub mod ReachedProofs

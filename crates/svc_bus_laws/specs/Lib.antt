@@ -17,3 +17,4 @@ pub mod TableLaws
 pub mod AgreementLaws
 pub mod RefusalLaws
 pub mod OrderLaws
+pub mod Reached

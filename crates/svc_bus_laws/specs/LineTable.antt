@@ -1,4 +1,5 @@
 -- The line table: every cache's lines, the spill table and the backing memory.
+-- The bits V, S, L, C and T are those of "Speculative Versioning Cache" (HPCA 1998), the efficient commit design (EC).
 use Rattle.std.specs.Prelude.{ℕ, Bool, false, cond, not, ◌&&◌, ◌||◌, ◌==◌, leb, Option, Some, None, List, [], length, get_or}
 use Rattle.std.specs.Option.{option_or}
 use Rattle.svc_bus_laws.specs.Search.{least, all_below, any_below, tabulate}

@@ -7,12 +7,17 @@ use Rattle.svc_bus_laws.specs.LineTable.{LineTable, is_active, is_committed_dirt
 use Rattle.svc_bus_laws.specs.Supplier.{supplier, supplied, is_spill}
 use Rattle.svc_bus_laws.specs.Steps.{read, write, replace, squash, squash_from, squashed, commit, begin, purge}
 use Rattle.svc_bus_laws.specs.Sound.{IsSound}
+use Rattle.svc_bus_laws.specs.Reached.{Reached}
 use Rattle.svc_bus_laws.specs.Refusals.{table_cache, is_pinned}
 
 -- an opened bus is sound, and stands for the map of its memory without tasks
 abbrev pub OpenedLaw : Type 0
 OpenedLaw = (caches sets ways : ℕ) (memory : List ℕ) → IsSound (opened caches sets ways memory)
     × (versioned (opened caches sets ways memory) ≡ record { commits = 0; committed = λ a. get_or memory a 0; rows = [] })
+
+-- every reached table is sound
+abbrev pub ReachedLaw : Type 0
+ReachedLaw = (t : LineTable) → Reached t → IsSound t
 
 -- no line lies past the memory
 abbrev pub MemoryLaw : Type 0
