@@ -181,6 +181,13 @@ emptied-read = (refl, refl, refl, refl)
 emptied-commit : (backing (commit (read emptied 1 0)) ≡ 8 ∷ 9 ∷ []) × (committed (commit (read emptied 1 0)) ≡ 8 ∷ 9 ∷ [])
 emptied-commit = (refl, refl)
 
+-- a reuse is an exposed read, also of a line that the spill filled without L
+abbrev resumed : LineTable
+resumed = begin (begin (commit (read emptied 1 0)) 0) 1
+
+resumed-reuse : (answer resumed 1 0 ≡ (8, Reuse)) × (line (read resumed 1 0) 1 0 ≡ Some (5, 8)) × (cut (read resumed 1 0) 0 0 ≡ Some (record { first = 3; tasks = 1 }))
+resumed-reuse = (refl, refl, refl)
+
 -- SetFull names a committed line before a lower one that is not
 abbrev crowded : LineTable
 crowded = write (begin (commit (write (write (begin (opened 4 1 2 (0 ∷ 0 ∷ 0 ∷ [])) 0) 0 1 5) 0 0 6)) 0) 0 0 7
