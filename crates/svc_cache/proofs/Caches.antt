@@ -1,12 +1,12 @@
 -- How a cache's map changes with its places, and that the cache stays sound.
 use Rattle.std.proofs.Common.{◌≡◌, ◌≢◌, ◌⊎◌, ◌∙◌, refl, sym, ap, subst, ℕ, zero, suc, ◌+◌, ◌*◌, ◌%◌, ◌<◌, ◌≤◌, min, Bool, true, false, Option, Some, None, List, [], ◌∷◌, length, get_or, set, take, drop, inl, inr, arith, length-set, length-drop}
-use Rattle.std.specs.Prelude.{All, IsTrue, count_ones}
+use Rattle.std.specs.Prelude.{All, IsTrue}
 use Rattle.std.proofs.lemmas.List.Elements.{All-get_or}
 use Rattle.svc_base.specs.declared.config.TheConstants.{MAX_SETS, MAX_WAYS}
 use Rattle.std.specs.Int.{is_power_of_two}
-use Rattle.std.proofs.lemmas.Bool.{both_ways, cases_eq, eqb-true}
+use Rattle.std.proofs.lemmas.Bool.{both_ways, cases_eq}
 use Rattle.std.proofs.lemmas.List.{get_or-take, get_or-drop, length-take, length-take-le}
-use Rattle.std.proofs.lemmas.Nat.{mod_below, ones_le_self, row_fits}
+use Rattle.std.proofs.lemmas.Nat.{mod_below, row_fits}
 use Rattle.std.proofs.Math.Path.{fun_ext}
 use Rattle.svc_line.specs.Bits.{Bits, committed, squashed}
 use Rattle.svc_line.specs.Line.{SeenLine, seen}
@@ -17,16 +17,13 @@ use Rattle.svc_cache.specs.Rows.{no_place, place_at, LacksBelow, IsFirstHolder, 
 use Rattle.svc_cache.specs.Sound.{IsSound, IsSoundRow}
 use Rattle.svc_cache.specs.Changes.{HasChangedBits, IsChangedBelow}
 use Rattle.svc_cache.proofs.Founds.{CanTake, can_take-own, can_take-empty, found-lacks, found-here, found-put, sound-put, found-taken, sound-taken, holds_nothing, with_same, with_other}
+use Rattle.svc_cache.proofs.Powers.{power_positive}
 use Rattle.svc_cache.proofs.Rowing.{same_row, other_row}
 use Rattle.svc_cache.proofs.Changing.{IsChangedRow, found-committed, found-squashed, sound-committed, sound-squashed}
 
--- there is a set
-positive : (n : ℕ) → IsTrue (is_power_of_two n) → 0 < n
-positive zero power = let e : count_ones 0 ≡ 1 = eqb-true (count_ones 0) 1 power in absurd (omega (arith, ones_le_self 0))
-positive (suc n) power = omega arith
-
+-- the set of a word is one of the cache's
 pub in_some_set : (cache : CacheValue) (word : ℕ) → IsSound cache → word % cache.sets < cache.sets
-in_some_set cache word sound = mod_below word cache.sets (positive cache.sets sound.power)
+in_some_set cache word sound = mod_below word cache.sets (power_positive cache.sets sound.power)
 
 -- a row has as many places as there are ways
 pub length-row : (cache : CacheValue) (s : ℕ) → IsSound cache → s < cache.sets → length (row_at cache s) ≡ cache.ways

@@ -1,4 +1,5 @@
 pub mod Founds
+pub mod Powers
 pub mod Rowing
 pub mod Surveys
 pub mod Changing

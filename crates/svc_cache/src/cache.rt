@@ -65,13 +65,14 @@ impl Cache {
         }
     }
 
-    // Where the places of the word's set begin.
+    // Where the places of the word's set begin. The sets are a power of two, so a mask is the remainder.
+    #[tactic(auto, using(crate::proofs::Powers::mask_of_power, crate::proofs::Powers::power_positive))]
     fn row_start(&self, word: WordAddr) -> usize
         ensures start { result ≡ (word.0 % self.now.sets) * self.now.ways }
         ensures within { result + self.now.ways ≤ length self.now.places }
         ensures small { result + self.now.ways < 2 ^ 32 }
     {
-        (word.0 % self.sets) as usize * self.ways as usize
+        (word.0 & (self.sets - 1)) as usize * self.ways as usize
     }
 
     // The places of the word's set.
