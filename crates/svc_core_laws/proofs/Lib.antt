@@ -10,3 +10,4 @@ pub mod Means
 pub mod SameCore
 pub mod OneStep
 pub mod OneBurst
+pub mod Going
