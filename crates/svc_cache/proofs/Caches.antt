@@ -1,5 +1,5 @@
 -- How a cache's map changes with its places, and that the cache stays sound.
-use Rattle.std.proofs.Common.{◌≡◌, ◌≢◌, ◌⊎◌, ◌∙◌, refl, sym, ap, subst, ℕ, zero, suc, ◌+◌, ◌*◌, ◌%◌, ◌<◌, ◌≤◌, min, Bool, true, false, Option, Some, None, List, [], ◌∷◌, length, get_or, set, take, drop, inl, inr, arith, length-set, length-drop}
+use Rattle.std.proofs.Common.{◌≡◌, ◌≢◌, ◌∙◌, refl, sym, ap, subst, ℕ, suc, ◌+◌, ◌*◌, ◌%◌, ◌<◌, ◌≤◌, true, false, Option, Some, None, List, [], ◌∷◌, length, set, take, drop, inl, inr, arith, length-set, length-drop}
 use Rattle.std.specs.Prelude.{All, IsTrue}
 use Rattle.std.proofs.lemmas.List.Elements.{All-get_or}
 use Rattle.svc_base.specs.declared.config.TheConstants.{MAX_SETS, MAX_WAYS}
@@ -11,12 +11,12 @@ use Rattle.std.proofs.Math.Path.{fun_ext}
 use Rattle.svc_line.specs.Bits.{Bits, committed, squashed}
 use Rattle.svc_line.specs.Line.{SeenLine, seen}
 use Rattle.svc_cache.specs.declared.place.Place.{Place}
-use Rattle.svc_cache.specs.Lines.{LineMap, no_lines, with_line, commit_line, squash_line}
+use Rattle.svc_cache.specs.Lines.{no_lines, with_line, commit_line, squash_line}
 use Rattle.svc_cache.specs.Places.{CacheValue, is_held, found, line_of, row_at}
-use Rattle.svc_cache.specs.Rows.{no_place, place_at, LacksBelow, IsFirstHolder, IsFoundAt, IsSeat}
+use Rattle.svc_cache.specs.Rows.{no_place, place_at, LacksBelow, IsFirstHolder, IsSeat}
 use Rattle.svc_cache.specs.Sound.{IsSound, IsSoundRow}
 use Rattle.svc_cache.specs.Changes.{HasChangedBits, IsChangedBelow}
-use Rattle.svc_cache.proofs.Founds.{CanTake, can_take-own, can_take-empty, found-lacks, found-here, found-put, sound-put, found-taken, sound-taken, holds_nothing, with_same, with_other}
+use Rattle.svc_cache.proofs.Founds.{CanTake, can_take-own, can_take-empty, found-lacks, found-put, sound-put, found-taken, sound-taken, holds_nothing, with_same, with_other}
 use Rattle.svc_cache.proofs.Powers.{power_positive}
 use Rattle.svc_cache.proofs.Rowing.{same_row, other_row}
 use Rattle.svc_cache.proofs.Changing.{IsChangedRow, found-committed, found-squashed, sound-committed, sound-squashed}

@@ -1,6 +1,5 @@
 -- What `found` answers of a row, and how it changes with one place.
-use Rattle.std.proofs.Common.{◌≡◌, ◌≢◌, ◌⊎◌, ◌∙◌, refl, sym, ap, subst, ℕ, zero, suc, ◌+◌, ◌<◌, ◌≤◌, ◌%◌, Bool, true, false, Option, Some, None, List, [], ◌∷◌, length, get_or, set, drop, inl, inr, arith}
-use Rattle.std.specs.Prelude.{if◌then◌else◌}
+use Rattle.std.proofs.Common.{◌≡◌, ◌≢◌, ◌∙◌, refl, sym, ap, ℕ, zero, suc, ◌<◌, ◌%◌, true, false, Option, Some, None, List, [], ◌∷◌, length, set, drop, inl, inr, arith}
 use Rattle.std.proofs.lemmas.Bool.{and_parts, and_from, and_left, and_right, both_ways, cases_Bool, cases_eq, eqb-true, eq-eqb, ne_eqb}
 use Rattle.svc_line.specs.Line.{SeenLine, seen}
 use Rattle.svc_cache.specs.declared.place.Place.{Place}

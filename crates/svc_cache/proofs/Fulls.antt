@@ -1,13 +1,13 @@
 -- What a search for a seat says of the map: whether the word's set is full, and which word leaves first.
-use Rattle.std.proofs.Common.{◌≡◌, ◌≢◌, ◌⊎◌, ◌∙◌, refl, sym, ap, subst, ℕ, zero, suc, ◌+◌, ◌%◌, ◌<◌, ◌≤◌, Bool, true, false, Option, Some, None, is_some, is_none, List, [], ◌∷◌, length, inl, inr, arith}
-use Rattle.std.specs.Prelude.{if◌then◌else◌, nat_lt, nat_le, not, ◌&&◌, ◌||◌, ◌==◌}
+use Rattle.std.proofs.Common.{◌≡◌, ◌∙◌, refl, sym, ap, subst, ℕ, zero, suc, ◌%◌, ◌<◌, ◌≤◌, Bool, true, false, Some, None, is_some, is_none, List, [], ◌∷◌, length, inl, inr, arith}
+use Rattle.std.specs.Prelude.{if◌then◌else◌, nat_lt, not, ◌&&◌, ◌||◌}
 use Rattle.std.specs.Option.{option_or}
-use Rattle.std.proofs.lemmas.Bool.{and_left, and_right, both_ways, cases_Bool, cases_eq, cases_lt, eq-eqb, ne_eqb, le-leb, lt-leb, le-ltb, ltb-false}
-use Rattle.svc_line.specs.Line.{SeenLine, seen}
+use Rattle.std.proofs.lemmas.Bool.{and_left, and_right, both_ways, cases_Bool, cases_eq, cases_lt, eq-eqb, ne_eqb, le-leb, lt-leb, ltb-false}
+use Rattle.svc_line.specs.Line.{seen}
 use Rattle.svc_cache.specs.declared.place.Place.{Place}
-use Rattle.svc_cache.specs.Lines.{EndsBelow, LineMap, is_committed_line, is_in_set, is_committed_in_set, is_set_full, first_to_leave, full_address}
+use Rattle.svc_cache.specs.Lines.{EndsBelow, is_committed_line, is_in_set, is_committed_in_set, is_set_full, full_address}
 use Rattle.svc_cache.specs.Places.{CacheValue, is_held, has_committed, holds, found, line_of, precedes, row_at}
-use Rattle.svc_cache.specs.Rows.{place_at, AreHeld, IsEmptySeat, IsFirstHolder, IsFirstToLeave, IsFullRow, IsSeat, LacksBelow}
+use Rattle.svc_cache.specs.Rows.{place_at, AreHeld, IsEmptySeat, IsFirstHolder, IsFirstToLeave, IsFullRow, IsSeat}
 use Rattle.svc_cache.specs.Search.{least, how_many}
 use Rattle.svc_cache.specs.Sound.{IsSound, IsSoundRow}
 use Rattle.svc_cache.proofs.Founds.{at_head, past_head, found-here, found-lacks, held_of, holds_of, word_of}

@@ -172,11 +172,7 @@ fn a_searched_list_answers_the_same(rt: HostRuntime) -> Result<(), Fail> {
     let mut cache = Tested::open(&rt, rt.alloc(), 2, 2).map_err(|_| "memory")?;
     let mut list = SearchedLines::new(rt.alloc(), 2, 2);
     for step in STEPS {
-        assert_eq!(rt;
-            cache.perform(step).0,
-            list.perform(step)?,
-            "at {step:?}"
-        );
+        assert_eq!(rt; cache.perform(step).0, list.perform(step)?, "at {step:?}");
         for word in 0..8 {
             let lookup = Step::Lookup(word);
             assert_eq!(rt;

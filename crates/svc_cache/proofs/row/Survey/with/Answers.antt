@@ -1,4 +1,4 @@
-use Rattle.std.proofs.Common.{◌≡◌, ◌∙◌, sym, ◌+◌, Bool, true, false, subst}
+use Rattle.std.proofs.Common.{◌≡◌, ◌∙◌, sym, ◌+◌, true, false, subst}
 use Rattle.svc_cache.specs.Places.{is_held}
 use Rattle.svc_cache.specs.Rows.{IsRoomBelow, place_at}
 use Rattle.svc_cache.proofs.Surveys.{room-held, room-empty, leaves-new}
