@@ -16,7 +16,7 @@ use Rattle.svc_cache.specs.Places.{CacheValue, is_held, found, line_of, row_at}
 use Rattle.svc_cache.specs.Rows.{no_place, place_at, LacksBelow, IsFirstHolder, IsSeat}
 use Rattle.svc_cache.specs.Sound.{IsSound, IsSoundRow}
 use Rattle.svc_cache.specs.Changes.{HasChangedBits, IsChangedBelow}
-use Rattle.svc_cache.proofs.Founds.{CanTake, can_take-own, can_take-empty, found-lacks, found-put, sound-put, found-taken, sound-taken, holds_nothing, with_same, with_other}
+use Rattle.svc_cache.proofs.Founds.{found-valid, CanTake, can_take-own, can_take-empty, found-lacks, found-put, sound-put, found-taken, sound-taken, holds_nothing, with_same, with_other}
 use Rattle.svc_cache.proofs.Powers.{power_positive}
 use Rattle.svc_cache.proofs.Rowing.{same_row, other_row}
 use Rattle.svc_cache.proofs.Changing.{IsChangedRow, found-committed, found-squashed, sound-committed, sound-squashed}
@@ -35,6 +35,11 @@ length-row cache s sound within =
 pub line-found : (cache : CacheValue) (word : ℕ) (row : List Place) → row ≡ row_at cache (word % cache.sets) → found row word ≡ line_of cache word
 unfolding line_of
 line-found cache word row same = ap (λ (places : List Place). found places word) same
+
+-- every line of the map is there
+pub line_of-valid : (cache : CacheValue) (word : ℕ) (line : SeenLine) → line_of cache word ≡ Some line → line.bits.valid ≡ true
+unfolding line_of
+line_of-valid cache word line there = found-valid (row_at cache (word % cache.sets)) word line there
 
 -- one place changed
 abbrev pub with_place : CacheValue → ℕ → Place → CacheValue

@@ -91,6 +91,18 @@ found-later sets s (place ∷ places) zero word sound first =
     ap (found places) (sym (word_of place word first.here)) ∙ (sound.0 (held_of place word first.here)).1
 found-later sets s (place ∷ places) (suc k) word sound first = found-later sets s places k word sound.1 (holder-tail place places k word first)
 
+-- a line that is found is there
+pub found-valid : (row : List Place) (word : ℕ) (line : SeenLine) → found row word ≡ Some line → line.bits.valid ≡ true
+unfolding found
+found-valid [] word line there = cc
+found-valid (place ∷ places) word line there = elim (cases_Bool (holds place word)) [
+  | inl here ↦
+      let some : Some (seen place.line) ≡ Some line = sym (at_head place places word here) ∙ there in
+      let same : seen place.line ≡ line = cc in
+      sym (ap (λ (l : SeenLine). l.bits.valid) same) ∙ held_of place word here
+  | inr away ↦ found-valid places word line (sym (past_head place places word away) ∙ there)
+]
+
 -- a place may take a word: it holds no other, and no other place holds the word
 pub record CanTake (row : List Place) (k word : ℕ) : Type 0 where
   pub within : k < length row

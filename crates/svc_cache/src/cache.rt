@@ -1,4 +1,4 @@
-ghost use Rattle.std.specs.Prelude.{◌≡◌, ◌<◌, ◌≤◌, ◌+◌, ◌*◌, ◌^◌, ◌%◌, ℕ, true, false, Some, None, Option, length, option_map, IsTrue, IfOk, OnOk, OnErr, MatchResult, All};
+ghost use Rattle.std.specs.Prelude.{◌≡◌, ◌<◌, ◌≤◌, ◌+◌, ◌*◌, ◌^◌, ◌%◌, ℕ, true, false, Some, None, Option, length, option_map, IsTrue, IfOk, IfSome, OnOk, OnErr, MatchResult, All};
 ghost use Rattle.std.specs.Int.{is_power_of_two};
 ghost use Rattle.svc_base.specs.declared.config.TheConstants.{MAX_SETS, MAX_WAYS};
 ghost use Rattle.svc_line.specs.Bits.{bits_of};
@@ -89,6 +89,7 @@ impl Cache {
     pub fn lookup(&self, word: WordAddr, probes: &mut Probes) -> Option<Line>
         requires room { HasRoom probes.old self.now.ways }
         ensures line { option_map seen result ≡ line_of self.now word.0 }
+        ensures valid { IfSome result (λ line. (bits_of line.bits).valid ≡ true) }
         ensures counted { CountsOneSearch probes.old probes.new self.now.ways }
     {
         let row = self.row(word);
