@@ -7,3 +7,4 @@ pub mod Program
 pub mod Words
 pub mod Sequence
 pub mod Bursts
+pub mod Places
