@@ -5,3 +5,5 @@ pub mod ImageBytes
 pub mod Parts
 pub mod Sequential
 pub mod Ends
+pub mod Looks
+pub mod Means

@@ -1,7 +1,9 @@
 -- The sequential order on bytes is that of the program on words.
-use Rattle.std.specs.Prelude.{All}
+use Rattle.std.specs.Prelude.{All, Bool, true, is_some}
 use Rattle.std.proofs.Common.{◌≡◌, ℕ, zero, suc, ◌+◌, ◌*◌, ◌^◌, ◌<◌, List, [], ◌∷◌, ◌++◌, Option, Some, None, sym, ◌∙◌, ap, refl, subst}
-use Rattle.svc_image.specs.Image.{Image}
+use Rattle.svc_image.specs.Image.{Image, is_entry}
+use Rattle.svc_core.specs.declared.end.End.{End}
+use Rattle.svc_core.specs.declared.end.End.TheVariants as end
 use Rattle.svc_core.specs.State.{State, limit_of}
 use Rattle.svc_core.specs.Bytes.{word_at, bytes_of, IsMemory}
 use Rattle.svc_core.specs.Turns.{Turn, data_words}
@@ -9,6 +11,7 @@ use Rattle.svc_core.specs.Words.{program}
 use Rattle.svc_core.specs.Program.{Memory, Run, Seq, seq, task, next_task, followed_by, due_after, stopped_after, wrote, over, output}
 use Rattle.svc_core.specs.Sequence.{plain_task, plain_seq, next_plain, after_task, PlainSeq, IsSame, IsSameSeq}
 use Rattle.svc_core.proofs.Parts.{same_part}
+use Rattle.svc_core.proofs.Ends.{is_program}
 use Rattle.svc_core.proofs.ImageBytes.{word-bytes_of, memory_of}
 
 -- a task after equal sequences
@@ -35,3 +38,22 @@ same_seq img (suc k) fit =
     let h = same_seq img k fit in
     subst (λ (o : Option ℕ). IsSameSeq img (next_plain img (plain_seq img k) (plain_seq img k).due) (next_task (program img) (seq (program img) k) o)) (sym h.due)
     (same_next img (plain_seq img k) (seq (program img) k) (plain_seq img k).due h)
+
+-- a whole task on bytes has ended
+pub plain_ends : (img : Image) (e : ℕ) (m : List ℕ) → IsMemory (data_words img) m → is_some (plain_task img e m).core.done ≡ true
+plain_ends img e m is = subst (λ (s : State). is_some s.done ≡ true) (same_part img e (suc (limit_of img e)) m is).core ((is_program img).ends e (word_at m))
+
+due_some : (o : Option End) (e : ℕ) → due_after o ≡ Some e → o ≡ Some (end.Next e)
+due_some None e h = cc
+due_some (Some (end.Next pc)) e h = cc
+due_some (Some (end.Exit code)) e h = cc
+due_some (Some (end.Trap number)) e h = cc
+
+due_next : (img : Image) (s : Seq) (o : Option ℕ) (e : ℕ) → s.due ≡ o → ((d : ℕ) → s.due ≡ Some d → is_entry img d ≡ true) → (next_task (program img) s o).due ≡ Some e → is_entry img e ≡ true
+due_next img s None e at before h = before e h
+due_next img s (Some d) e at before h = (is_program img).enters d (suc (limit_of img d)) s.memory e (due_some (task (program img) d s.memory).core.done e h)
+
+-- each due entry is an entry
+pub due_enters : (img : Image) → is_entry img img.start ≡ true → (k e : ℕ) → (seq (program img) k).due ≡ Some e → is_entry img e ≡ true
+due_enters img first zero e h = let same : img.start ≡ e = cc in subst (λ (x : ℕ). is_entry img x ≡ true) same first
+due_enters img first (suc k) e h = due_next img (seq (program img) k) (seq (program img) k).due e refl (due_enters img first k) h

@@ -1,6 +1,6 @@
 // A core: where a task stands.
 
-ghost use Rattle.std.specs.Prelude.{◌≡◌, ◌≤◌, ◌<◌, ◌+◌, ◌↔◌, true, None, IsTrue, is_none};
+ghost use Rattle.std.specs.Prelude.{◌≡◌, ◌≤◌, ◌<◌, ◌+◌, true, is_none};
 ghost use Rattle.svc_image.specs.Image.{is_entry};
 ghost use Rattle.svc_core.specs.State.{value_of, start, ended};
 
@@ -113,7 +113,7 @@ impl Core {
     /// Whether the task has not ended.
     #[inline]
     pub fn is_running(&self) -> bool
-        ensures { IsTrue result ↔ (self.now.done ≡ None) }
+        ensures { result ≡ is_none self.now.done }
     {
         self.done.is_none()
     }
