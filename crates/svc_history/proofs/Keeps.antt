@@ -120,8 +120,8 @@ stands_after img k words out c log (want.Store a w d) size places holds here ins
 stands_after img k words out c log (want.Narrow a f d) size places holds here inside = record {
   core = refl;
   versions = subst (λ w. (b : ℕ) → b < data_words img → version_at (slice_set words.versions a (Some (f (seen words a)))) b ≡ with_word a (f w) (wrote log) b)
-    (seen_same img words (seq (program img) k).memory (wrote log) size holds here.versions a inside)
-    (versions_after img words.versions a (f (seen words a)) (wrote log) places inside here.versions);
+      (seen_same img words (seq (program img) k).memory (wrote log) size holds here.versions a inside)
+      (versions_after img words.versions a (f (seen words a)) (wrote log) places inside here.versions);
   output = here.output;
 }
 stands_after img k words out c log (want.Emit w d) size places holds here inside = record {

@@ -172,7 +172,7 @@ unfolding committed
 sequential m es sound legal =
     let k = commits_of m es legal in
     let same : IsSameSeq m.image (plain_seq m.image (commits_in es)) (seq (program m.image) m.plain.commits) =
-      subst (λ n. IsSameSeq m.image (plain_seq m.image n) (seq (program m.image) m.plain.commits)) k (same_seq m.image m.plain.commits sound.words_fit) in
+    subst (λ n. IsSameSeq m.image (plain_seq m.image n) (seq (program m.image) m.plain.commits)) k (same_seq m.image m.plain.commits sound.words_fit) in
     record { tasks = k; memory = same.memory; output = same.output; due = same.due; stopped = same.stopped }
 
 pub room_of : (img : Image) (g : Config) (s : Plain) (x : Event) → refuse img g s x ≡ None → s.accepted < g.events

@@ -115,9 +115,9 @@ asked_stands img k e n words out s log w size places holds here leads wants insi
     let m = (seq (program img) k).memory in
     let one : 1 + n ≡ suc n = omega arith in
     let next : part (program img) e (1 + n) m ≡ act w (over (wrote log) m) log =
-      ap (λ j. part (program img) e j m) one ∙ (ap (λ (r : Run State). turn (program img) r m) leads ∙ ap (λ v. act v (over (wrote log) m) log) wants) in
+    ap (λ j. part (program img) e j m) one ∙ (ap (λ (r : Run State). turn (program img) r m) leads ∙ ap (λ v. act v (over (wrote log) m) log) wants) in
     subst (λ (r : Run State). Stands img k (effect_of w words out).words (effect_of w words out).output (effect_of w words out).core r) (sym next)
-      (stands_after img k words out s log w size places holds here inside)
+    (stands_after img k words out s log w size places holds here inside)
 
 after_stands : (img : Image) (k e n : ℕ) (words : Words) (out : List ℕ) (s : State) (log : List Action) (a : Ask)
     → length words.committed ≡ data_words img → length words.versions ≡ data_words img → Holds (seq (program img) k).memory words.committed
@@ -129,22 +129,22 @@ after_stands img k e n words out s log ask.Nothing size places holds here leads 
     let m = (seq (program img) k).memory in
     let same : part (program img) e (0 + n) m ≡ record { core = s; log = log } = ap (λ j. part (program img) e j m) (zero-add n) ∙ leads in
     subst (λ (y : Effect). Stands img k y.words y.output y.core (part (program img) e (0 + n) m)) (sym is)
-      (subst (λ (r : Run State). Stands img k words out s r) (sym same) here)
+    (subst (λ (r : Run State). Stands img k words out s r) (sym same) here)
 after_stands img k e n words out s log (ask.Load kind rd addr) size places holds here leads asked x is =
     subst (λ (y : Effect). Stands img k y.words y.output y.core (part (program img) e (1 + n) (seq (program img) k).memory)) (sym is)
-      (asked_stands img k e n words out s log _ size places holds here leads (wants_is img s (ask.Load kind rd addr) (asked refl)) (asked_inside img s (ask.Load kind rd addr)))
+    (asked_stands img k e n words out s log _ size places holds here leads (wants_is img s (ask.Load kind rd addr) (asked refl)) (asked_inside img s (ask.Load kind rd addr)))
 after_stands img k e n words out s log (ask.Store kind addr v) size places holds here leads asked x is =
     subst (λ (y : Effect). Stands img k y.words y.output y.core (part (program img) e (1 + n) (seq (program img) k).memory)) (sym is)
-      (asked_stands img k e n words out s log _ size places holds here leads (wants_is img s (ask.Store kind addr v) (asked refl)) (asked_inside img s (ask.Store kind addr v)))
+    (asked_stands img k e n words out s log _ size places holds here leads (wants_is img s (ask.Store kind addr v) (asked refl)) (asked_inside img s (ask.Store kind addr v)))
 after_stands img k e n words out s log (ask.Emit w) size places holds here leads asked x is =
     subst (λ (y : Effect). Stands img k y.words y.output y.core (part (program img) e (1 + n) (seq (program img) k).memory)) (sym is)
-      (asked_stands img k e n words out s log _ size places holds here leads (wants_is img s (ask.Emit w) (asked refl)) (asked_inside img s (ask.Emit w)))
+    (asked_stands img k e n words out s log _ size places holds here leads (wants_is img s (ask.Emit w) (asked refl)) (asked_inside img s (ask.Emit w)))
 
 -- the local turns of a burst that starts where the task stands
 pub burst_leads : (img : Image) (k : ℕ) (words : Words) (out : List ℕ) (slot : Slot) (b : Advance)
     → IsRunning img k words out (Some slot) → Means img b → b.start ≡ slot.core
     → part (program img) slot.entry (b.local + slot.core.count) (seq (program img) k).memory
-      ≡ record { core = b.end; log = (part (program img) slot.entry slot.core.count (seq (program img) k).memory).log }
+    ≡ record { core = b.end; log = (part (program img) slot.entry slot.core.count (seq (program img) k).memory).log }
 burst_leads img k words out slot b running means begins =
     let p = program img in
     let run : Run State = part p slot.entry slot.core.count (seq p k).memory in
@@ -191,7 +191,7 @@ submitted img k words out front due_now stop slot b x kept means begins counts i
       next = kept.next;
       running = (
         subst (λ n. Stands img k x.words x.output x.core (part (program img) slot.entry n (seq (program img) k).memory)) count
-          (after_stands img k slot.entry (b.local + slot.core.count) words out b.end _ b.ask kept.size kept.places kept.memory
+            (after_stands img k slot.entry (b.local + slot.core.count) words out b.end _ b.ask kept.size kept.places kept.memory
             (moved img k words out slot b kept.running) (burst_leads img k words out slot b kept.running means begins) means.ask x is),
         kept.running.1,
       );
@@ -213,7 +213,7 @@ answer_same : (img : Image) (s : Plain) (words : Words) (core : State) (log : Li
 unfolding committed
 answer_same img s words core log a run size holds versions leads asked =
     done_same (data_words img) (wants_asked img core a) (seen words) (over (wrote log) (seq (program img) s.commits).memory)
-      (seen_same img words (seq (program img) s.commits).memory (wrote log) size holds versions) (asked_inside img core a)
+    (seen_same img words (seq (program img) s.commits).memory (wrote log) size holds versions) (asked_inside img core a)
     ∙ (ap (λ w. done_by w (over (wrote log) (seq (program img) s.commits).memory)) (sym (wants_is img core a asked))
     ∙ ap (asked_turn img s) (sym leads))
 
@@ -243,7 +243,7 @@ pub burst_answer : (img : Image) (s : Plain) (words : Words) (out : List ℕ) (f
     → told img b.ask (record { core = b.end; words = words; output = out }) ≡ answer img s (slot_row (Some slot)) b.local (asks b.ask)
 burst_answer img s words out front due_now stop slot b kept means begins =
     told_by img s (record { epoch = slot.epoch; entry = slot.entry; turns = slot.core.count }) words out b.end _ b.local b.ask kept.size kept.memory kept.running.0.versions
-      (run_here img s _ b.local ∙ burst_leads img s.commits words out slot b kept.running means begins) means.ask
+    (run_here img s _ b.local ∙ burst_leads img s.commits words out slot b kept.running means begins) means.ask
 
 -- the next task of the sequential order is the one that stands there, once it has ended
 whole : (img : Image) (k : ℕ) (words : Words) (out : List ℕ) (slot : Slot) (e : End) → IsRunning img k words out (Some slot) → slot.core.done ≡ Some e
@@ -273,9 +273,11 @@ committed_one img k words after out front due_now stop slot e kept ended size pl
       sound = kept.sound;
       size = size ∙ kept.size;
       places = places ∙ kept.places;
-      memory = record { word = λ a lt.
-        back a ∙ (seen_same img words (seq p k).memory (wrote run.log) kept.size kept.memory kept.running.0.versions a (subst (λ n. a < n) (size ∙ kept.size) lt)
-        ∙ sym (ap (λ (s : Seq). s.memory a) next)) };
+      memory = record {
+        word = λ a lt.
+            back a ∙ (seen_same img words (seq p k).memory (wrote run.log) kept.size kept.memory kept.running.0.versions a (subst (λ n. a < n) (size ∙ kept.size) lt)
+            ∙ sym (ap (λ (s : Seq). s.memory a) next));
+      };
       front_is = ap length output;
       due = sym (ap (λ (s : Seq). s.due) next ∙ ap due_after done);
       stopped = sym (ap (λ (s : Seq). s.stopped) next ∙ ap stopped_after done);

@@ -119,7 +119,7 @@ listed_after vs written from b here listed none a w h =
     let later : (at.0 ≡ from) ⊎ (at.0 ≢ from) = same_or_not at.0 from in
     elim later [
       | inl e ↦ let same : a ≡ b = some_same a b (sym at.2 ∙ (ap (slice_get written) e ∙ here)) in
-        let no : ◌≡◌ {A = Option ℕ} None (Some w) = sym none ∙ (ap (version_at vs) (sym same) ∙ h) in cc
+          let no : ◌≡◌ {A = Option ℕ} None (Some w) = sym none ∙ (ap (version_at vs) (sym same) ∙ h) in cc
       | inr ne ↦ (at.0, omega (arith, at.1, ne), at.2)
     ]
   where

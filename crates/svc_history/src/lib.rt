@@ -12,3 +12,6 @@ pub use entry::{Entry, Kind, ReplyKind, Slip};
 pub use event::Event;
 pub use recorder::Recorder;
 pub use reply::{Cause, Cut, Reply, What};
+
+#[cfg(test)]
+mod tests;

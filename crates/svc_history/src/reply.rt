@@ -15,15 +15,24 @@ pub enum What {
     /// The burst's local turns were taken over, and it asked for nothing.
     Ran,
     /// The asked turn loaded from this word, and this value came into the register.
-    Loaded { addr: WordAddr, value: u32 },
+    Loaded {
+        addr: WordAddr,
+        value: u32,
+    },
     /// The asked turn stored, and this whole word stands there now.
-    Stored { addr: WordAddr, word: u32 },
+    Stored {
+        addr: WordAddr,
+        word: u32,
+    },
     /// The asked turn put out this word, which waits for the commit of its task.
     Emitted(u32),
     /// The asked turn trapped.
     Trapped(u8),
     /// The task of this number was committed, and this is how it ended.
-    Committed { task: TaskNo, end: End },
+    Committed {
+        task: TaskNo,
+        end: End,
+    },
 }
 
 /// Why tasks were cut.

@@ -21,12 +21,12 @@ invariant_of-self c =
     let read : version_at m.versions.items c.args.addr ≡ c.index.result.now = version_read m.versions.items c.args.addr c.index.result.now within c.index.ensures in
     elim c.if-is_none.branch [
       | then-is_none w ↦
-        let here = none_there (version_at m.versions.items c.args.addr) c.is_none.result (ap is_some read ∙ c.is_none.ensures) w.if-is_none.true in
-        let room = room_to_list m.committed.items m.versions.items m.written.items c.args.addr i.0 here inside in
-        let free : vec_len m.written < vec_capacity m.written = omega (arith, room, i.1, m.written.ok.0) in
-        let ok : is_ok w.push-pushed.result ≡ true = w.push-pushed.ensures.succeeds free in
-        rw (w.self-inside-is, rw ok at w.push-pushed.ensures.items) (listed_more m.committed.items m.versions.items m.written.items c.args.addr c.args.word i.0 here inside, omega (arith, i.1, w.push-pushed.ensures.capacity))
+          let here = none_there (version_at m.versions.items c.args.addr) c.is_none.result (ap is_some read ∙ c.is_none.ensures) w.if-is_none.true in
+          let room = room_to_list m.committed.items m.versions.items m.written.items c.args.addr i.0 here inside in
+          let free : vec_len m.written < vec_capacity m.written = omega (arith, room, i.1, m.written.ok.0) in
+          let ok : is_ok w.push-pushed.result ≡ true = w.push-pushed.ensures.succeeds free in
+          rw (w.self-inside-is, rw ok at w.push-pushed.ensures.items) (listed_more m.committed.items m.versions.items m.written.items c.args.addr c.args.word i.0 here inside, omega (arith, i.1, w.push-pushed.ensures.capacity))
       | else-is_none w ↦
-        let here = some_there (version_at m.versions.items c.args.addr) c.is_none.result (ap is_some read ∙ c.is_none.ensures) w.if-is_none.false in
-        rw w.self-inside-is (listed_again m.committed.items m.versions.items m.written.items c.args.addr here.0 c.args.word i.0 here.1 inside, i.1)
+          let here = some_there (version_at m.versions.items c.args.addr) c.is_none.result (ap is_some read ∙ c.is_none.ensures) w.if-is_none.false in
+          rw w.self-inside-is (listed_again m.committed.items m.versions.items m.written.items c.args.addr here.0 c.args.word i.0 here.1 inside, i.1)
     ]

@@ -30,10 +30,9 @@ invariant_of-self c =
     let v = c.args.self.now in
     let A : Shown → Type 0 = λ v. CommitAccepted v.image v.config v.plain in
     let a = subst A (sym c.self.view_is) (commit_accepted v.image v.config v.plain c.args.by c.requires) in
-    let front : c.len-self-inside.result ≡ length m.output.items = c.len-self-inside.ensures ∙ m.output.ok.0 in
-    (
+    let front : c.len-self-inside.result ≡ length m.output.items = c.len-self-inside.ensures ∙ m.output.ok.0 in (
       rw (front, c.due_after-self-inside.ensures, c.stopped_after-self-inside.ensures)
-        (commit_kept m.image s m.bus c.commit.new.self m.output.items m.committed_output m.due m.stopped m.slot c.in-Some.end i.0 (ended_is c) e.size e.places e.committed e.none),
+          (commit_kept m.image s m.bus c.commit.new.self m.output.items m.committed_output m.due m.stopped m.slot c.in-Some.end i.0 (ended_is c) e.size e.places e.committed e.none),
       omega (arith, i.1),
       omega (arith, i.2),
       omega (arith, a.room),
@@ -48,7 +47,7 @@ returns-clause-reply c =
     let s : Plain = record { commits = m.commits; accepted = m.accepted; next_epoch = m.next_epoch; row = slot_row m.slot } in
     let end = commit_end m.image s m.bus m.output.items m.committed_output m.due m.stopped m.slot c.in-Some.end c.self.invariant.0 (ended_is c) in
     subst (λ (v : Shown). without_cut (Committed (record { 0 = c.from.result }) c.in-Some.end) ≡ reply_to v.image v.plain (Commit c.args.by)) c.self.view_is
-      (ap₂ (λ k o. without_cut (Committed (record { 0 = k }) (the_end o))) c.from.ensures (sym end))
+    (ap₂ (λ k o. without_cut (Committed (record { 0 = k }) (the_end o))) c.from.ensures (sym end))
 
 pub returns-clause-state : goal.returns-clause-state
 unfolding stepped

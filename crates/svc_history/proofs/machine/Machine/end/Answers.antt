@@ -11,4 +11,4 @@ returns-in-Some c =
     let s : Plain = record { commits = m.commits; accepted = m.accepted; next_epoch = m.next_epoch; row = slot_row m.slot } in
     let kept = subst (λ o. Kept m.image m.commits m.bus m.output.items m.committed_output m.due m.stopped o) c.in-Some.is c.self.invariant.0 in
     subst (λ (v : Shown). c.done.result ≡ end_of v.image v.plain v.plain.row) c.self.view_is
-      (c.done.ensures ∙ (sym (end_here m.image s m.bus m.output.items m.committed_output m.due m.stopped c.in-Some.slot kept) ∙ ap (λ o. end_of m.image s (slot_row o)) (sym c.in-Some.is)))
+    (c.done.ensures ∙ (sym (end_here m.image s m.bus m.output.items m.committed_output m.due m.stopped c.in-Some.slot kept) ∙ ap (λ o. end_of m.image s (slot_row o)) (sym c.in-Some.is)))

@@ -18,6 +18,6 @@ returns-then-epoch-slot c =
     let kept = subst (λ o. Kept m.image m.commits m.bus m.output.items m.committed_output m.due m.stopped o) c.in-Some.is c.self.invariant.0 in
     let epoch : (b.epoch == slot.epoch) ≡ true = eq-eqb b.epoch slot.epoch (sym c.epoch.ensures ∙ c.if-epoch-slot.true) in
     let core : c.is_same.result ≡ is_current m.image s b (slot_row (Some slot)) =
-      c.is_same.ensures.test ∙ (ap₂ same_state c.start.ensures (sym (core_here m.image s m.bus m.output.items slot slot.epoch kept.running)) ∙ sym (ap (λ t. t && same_state b.start (core_of m.image s (record { epoch = slot.epoch; entry = slot.entry; turns = slot.core.count }))) epoch)) in
+    c.is_same.ensures.test ∙ (ap₂ same_state c.start.ensures (sym (core_here m.image s m.bus m.output.items slot slot.epoch kept.running)) ∙ sym (ap (λ t. t && same_state b.start (core_of m.image s (record { epoch = slot.epoch; entry = slot.entry; turns = slot.core.count }))) epoch)) in
     subst (λ (v : Shown). c.is_same.result ≡ is_current v.image v.plain b v.plain.row) c.self.view_is
-      (core ∙ ap (λ o. is_current m.image s b (slot_row o)) (sym c.in-Some.is))
+    (core ∙ ap (λ o. is_current m.image s b (slot_row o)) (sym c.in-Some.is))

@@ -16,6 +16,6 @@ returns-in-Some c =
     let kept = subst (λ o. Kept m.image m.commits m.bus m.output.items m.committed_output m.due m.stopped o) c.in-Some.is c.self.invariant.0 in
     let here = core_here m.image s m.bus m.output.items slot slot.epoch kept.running in
     let leased : Some c.new.result ≡ lease_at shown c.args.unit.0 (slot_row (Some slot)) =
-      ap (λ (l : Lease). Some l) c.new.ensures ∙ ap (λ (core : State). let l : Lease = record { unit = c.args.unit; epoch = slot.epoch; core = core } in Some l) (sym here) in
+    ap (λ (l : Lease). Some l) c.new.ensures ∙ ap (λ (core : State). let l : Lease = record { unit = c.args.unit; epoch = slot.epoch; core = core } in Some l) (sym here) in
     rw (← c.lacks_unit.ensures, c.if-lacks_unit.false)
-      (subst (λ (v : Shown). Some c.new.result ≡ lease_at v c.args.unit.0 v.plain.row) c.self.view_is (leased ∙ ap (λ o. lease_at shown c.args.unit.0 (slot_row o)) (sym c.in-Some.is)))
+    (subst (λ (v : Shown). Some c.new.result ≡ lease_at v c.args.unit.0 v.plain.row) c.self.view_is (leased ∙ ap (λ o. lease_at shown c.args.unit.0 (slot_row o)) (sym c.in-Some.is)))

@@ -11,14 +11,14 @@ returns-in-Some-clause-state c = let v = c.args.self.now in
 pub returns-in-Assign-clause-state : goal.returns-in-Assign-clause-state
 returns-in-Assign-clause-state c = let v = c.args.self.now in
     c.assign-what.ensures.state ∙ ap (λ (s : Plain). let w : Shown = record v { plain = s } in w)
-      (sym (accepted_step v.image v.config v.plain c.args.event.now (sym c.refusal.ensures ∙ c.in_default.is) ∙ ap (stepped v.image v.plain) c.in-Assign.is))
+    (sym (accepted_step v.image v.config v.plain c.args.event.now (sym c.refusal.ensures ∙ c.in_default.is) ∙ ap (stepped v.image v.plain) c.in-Assign.is))
 
 pub returns-in-Submit-clause-state : goal.returns-in-Submit-clause-state
 returns-in-Submit-clause-state c = let v = c.args.self.now in
     c.submit-what.ensures.state ∙ ap (λ (s : Plain). let w : Shown = record v { plain = s } in w)
-      (sym (accepted_step v.image v.config v.plain c.args.event.now (sym c.refusal.ensures ∙ c.in_default.is) ∙ ap (stepped v.image v.plain) c.in-Submit.is))
+    (sym (accepted_step v.image v.config v.plain c.args.event.now (sym c.refusal.ensures ∙ c.in_default.is) ∙ ap (stepped v.image v.plain) c.in-Submit.is))
 
 pub returns-in-Commit-clause-state : goal.returns-in-Commit-clause-state
 returns-in-Commit-clause-state c = let v = c.args.self.now in
     c.commit-what.ensures.state ∙ ap (λ (s : Plain). let w : Shown = record v { plain = s } in w)
-      (sym (accepted_step v.image v.config v.plain c.args.event.now (sym c.refusal.ensures ∙ c.in_default.is) ∙ ap (stepped v.image v.plain) c.in-Commit.is))
+    (sym (accepted_step v.image v.config v.plain c.args.event.now (sym c.refusal.ensures ∙ c.in_default.is) ∙ ap (stepped v.image v.plain) c.in-Commit.is))

@@ -45,9 +45,8 @@ invariant_of-self c =
     let looks = means m.image b c.end.ensures.follows (are_of_looks m.image b.looks a.text) in
     let x : Effect = record { core = c.do_asked.new.core; words = c.do_asked.new.bus; output = c.do_asked.new.output.items } in
     let is : x ≡ after_ask m.image b.ask (record { core = b.end; words = m.bus; output = m.output.items }) =
-      c.do_asked.ensures.effect ∙ ap₂ (λ (k : Ask) (t : State). after_ask m.image k (record { core = t; words = m.bus; output = m.output.items })) c.ask.ensures.ask c.end.ensures.end in
-    let i = c.self.invariant in
-    (
+    c.do_asked.ensures.effect ∙ ap₂ (λ (k : Ask) (t : State). after_ask m.image k (record { core = t; words = m.bus; output = m.output.items })) c.ask.ensures.ask c.end.ensures.end in
+    let i = c.self.invariant in (
       submitted m.image m.commits m.bus m.output.items m.committed_output m.due m.stopped slot b x kept looks begins c.end.ensures.counts.0 is,
       omega (arith, i.1, c.do_asked.ensures.more),
       omega (arith, i.2),
@@ -69,11 +68,11 @@ returns-clause-reply c =
     let begins = begins_here m.image s m.bus m.output.items slot b kept.running (subst (λ o. is_current m.image s b (slot_row o) ≡ true) c.in-Some.is a.current) in
     let looks = means m.image b c.end.ensures.follows (are_of_looks m.image b.looks a.text) in
     let what : c.do_asked.result ≡ answer m.image s (slot_row (Some slot)) b.local (asks b.ask) =
-      c.do_asked.ensures.what
-      ∙ (ap₂ (λ (k : Ask) (t : State). told m.image k (record { core = t; words = m.bus; output = m.output.items })) c.ask.ensures.ask c.end.ensures.end
-      ∙ burst_answer m.image s m.bus m.output.items m.committed_output m.due m.stopped slot b kept looks begins) in
+    c.do_asked.ensures.what
+    ∙ (ap₂ (λ (k : Ask) (t : State). told m.image k (record { core = t; words = m.bus; output = m.output.items })) c.ask.ensures.ask c.end.ensures.end
+    ∙ burst_answer m.image s m.bus m.output.items m.committed_output m.due m.stopped slot b kept looks begins) in
     subst (λ (v : Shown). without_cut c.do_asked.result ≡ reply_to v.image v.plain (Submit b)) c.self.view_is
-      (ap without_cut (what ∙ ap (λ o. answer m.image s (slot_row o) b.local (asks b.ask)) (sym c.in-Some.is)))
+    (ap without_cut (what ∙ ap (λ o. answer m.image s (slot_row o) b.local (asks b.ask)) (sym c.in-Some.is)))
 
 pub returns-clause-state : goal.returns-clause-state
 unfolding stepped
@@ -89,9 +88,9 @@ returns-clause-state c =
     let looks = means m.image b c.end.ensures.follows (are_of_looks m.image b.looks a.text) in
     let x : Effect = record { core = c.do_asked.new.core; words = c.do_asked.new.bus; output = c.do_asked.new.output.items } in
     let is : x ≡ after_ask m.image b.ask (record { core = b.end; words = m.bus; output = m.output.items }) =
-      c.do_asked.ensures.effect ∙ ap₂ (λ (k : Ask) (t : State). after_ask m.image k (record { core = t; words = m.bus; output = m.output.items })) c.ask.ensures.ask c.end.ensures.end in
+    c.do_asked.ensures.effect ∙ ap₂ (λ (k : Ask) (t : State). after_ask m.image k (record { core = t; words = m.bus; output = m.output.items })) c.ask.ensures.ask c.end.ensures.end in
     let count : x.core.count ≡ slot.core.count + (b.local + ask_turns b.ask) = burst_count m.image slot b m.bus m.output.items x begins c.end.ensures.counts.0 is in
     let after : ℕ → Shown = λ n. record { image = m.image; config = m.config; plain = record { commits = m.commits; accepted = m.accepted + 1; next_epoch = m.next_epoch; row = Some (record { epoch = slot.epoch; entry = slot.entry; turns = n }) } } in
     let before : Option Slot → Shown = λ o. record { image = m.image; config = m.config; plain = record { commits = m.commits; accepted = m.accepted; next_epoch = m.next_epoch; row = slot_row o } } in
     subst (λ (v : Shown). after x.core.count ≡ record v { plain = stepped v.image v.plain (Submit b) }) c.self.view_is
-      (ap after count ∙ ap (λ o. let v : Shown = before o in let w : Shown = record v { plain = stepped v.image v.plain (Submit b) } in w) (sym c.in-Some.is))
+    (ap after count ∙ ap (λ o. let v : Shown = before o in let w : Shown = record v { plain = stepped v.image v.plain (Submit b) } in w) (sym c.in-Some.is))

@@ -19,7 +19,7 @@ written : (c : goal.After-push-pushed) → c.telling-entry.result ≡ entry_of c
 written c =
     let m = c.self.inside.machine in
     entry_is m.image m.plain c.args.event c.telling-entry.result c.in_ok-reply.reply
-      (c.telling-entry.ensures ∙ ap (telling c.in_ok-reply.reply.what) c.named-named.ensures.entry) (c.in_ok-reply.ensures {u = tt}).reply
+    (c.telling-entry.ensures ∙ ap (telling c.in_ok-reply.reply.what) c.named-named.ensures.entry) (c.in_ok-reply.ensures {u = tt}).reply
 
 -- there was room for it
 fits : (c : goal.After-push-pushed) → is_ok c.push-pushed.result ≡ true
@@ -40,8 +40,8 @@ lawful : (c : goal.After-push-pushed) → IsLegal (record { machine = c.step.new
 lawful c =
     let m = c.self.inside.machine in
     let same : ◌≡◌ {A = Recorded} (record { machine = stepped_by m c.args.event; entries = c.self.inside.entries.items ++ entry_of m.image m.plain c.args.event ∷ [] })
-        (record { machine = c.step.new.self; entries = c.push-pushed.new.self.items }) =
-      ap₂ (λ (n : Shown) (es : List Entry). let r : Recorded = record { machine = n; entries = es } in r) (sym c.step.ensures.state) (sym (appended c)) in
+    (record { machine = c.step.new.self; entries = c.push-pushed.new.self.items }) =
+    ap₂ (λ (n : Shown) (es : List Entry). let r : Recorded = record { machine = n; entries = es } in r) (sym c.step.ensures.state) (sym (appended c)) in
     subst IsLegal same (recorded m c.self.inside.entries.items c.args.event c.self.invariant.0 c.named-named.ensures.sound (accepted c))
 
 sound : (c : goal.After-push-pushed) → IsImage c.step.new.self.image
@@ -56,8 +56,7 @@ pub invariant_of-self-2 : goal.invariant_of-self-2
 invariant_of-self-2 c =
     let m = c.self.inside.machine in
     let i = c.self.invariant in
-    let one = one_more m.image m.config m.plain c.args.event (accepted c) in
-    (
+    let one = one_more m.image m.config m.plain c.args.event (accepted c) in (
       lawful c,
       sound c,
       omega (arith, i.2, one, ap (λ (v : Shown). v.plain.accepted) c.step.ensures.state, ap length (pushed c), length-append c.self.inside.entries.items (c.telling-entry.result ∷ [])),
