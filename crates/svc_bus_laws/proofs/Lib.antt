@@ -24,3 +24,4 @@ pub mod Rows
 pub mod OrderProofs
 pub mod SoundSeen
 pub mod ReachedProofs
+pub mod StateRows

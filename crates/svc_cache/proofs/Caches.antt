@@ -1,5 +1,5 @@
 -- How a cache's map changes with its places, and that the cache stays sound.
-use Rattle.std.proofs.Common.{◌≡◌, ◌≢◌, ◌⊎◌, ◌∙◌, refl, sym, ap, subst, ℕ, zero, suc, ◌+◌, ◌*◌, ◌%◌, ◌<◌, ◌≤◌, min, Bool, true, false, Option, Some, None, List, [], ◌∷◌, length, get_or, set, take, drop, inl, inr, arith, length-set, length-drop}
+use Rattle.std.proofs.Common.{◌≡◌, ◌≢◌, ◌∙◌, refl, sym, ap, subst, ℕ, suc, ◌+◌, ◌*◌, ◌%◌, ◌<◌, ◌≤◌, true, false, Option, Some, None, List, [], ◌∷◌, length, set, take, drop, inl, inr, arith, length-set, length-drop}
 use Rattle.std.specs.Prelude.{All, IsTrue}
 use Rattle.std.proofs.lemmas.List.Elements.{All-get_or}
 use Rattle.svc_base.specs.declared.config.TheConstants.{MAX_SETS, MAX_WAYS}
@@ -11,12 +11,12 @@ use Rattle.std.proofs.Math.Path.{fun_ext}
 use Rattle.svc_line.specs.Bits.{Bits, committed, squashed}
 use Rattle.svc_line.specs.Line.{SeenLine, seen}
 use Rattle.svc_cache.specs.declared.place.Place.{Place}
-use Rattle.svc_cache.specs.Lines.{LineMap, no_lines, with_line, commit_line, squash_line}
+use Rattle.svc_cache.specs.Lines.{no_lines, with_line, commit_line, squash_line}
 use Rattle.svc_cache.specs.Places.{CacheValue, is_held, found, line_of, row_at}
-use Rattle.svc_cache.specs.Rows.{no_place, place_at, LacksBelow, IsFirstHolder, IsFoundAt, IsSeat}
+use Rattle.svc_cache.specs.Rows.{no_place, place_at, LacksBelow, IsFirstHolder, IsSeat}
 use Rattle.svc_cache.specs.Sound.{IsSound, IsSoundRow}
 use Rattle.svc_cache.specs.Changes.{HasChangedBits, IsChangedBelow}
-use Rattle.svc_cache.proofs.Founds.{CanTake, can_take-own, can_take-empty, found-lacks, found-here, found-put, sound-put, found-taken, sound-taken, holds_nothing, with_same, with_other}
+use Rattle.svc_cache.proofs.Founds.{CanTake, can_take-own, can_take-empty, found-lacks, found-put, sound-put, found-taken, sound-taken, holds_nothing, with_same, with_other}
 use Rattle.svc_cache.proofs.Powers.{power_positive}
 use Rattle.svc_cache.proofs.Rowing.{same_row, other_row}
 use Rattle.svc_cache.proofs.Changing.{IsChangedRow, found-committed, found-squashed, sound-committed, sound-squashed}
@@ -77,16 +77,16 @@ changed_cache cache word k i new line sound below at row_sound row_map = (
     lines : (other : ℕ) → found (row_at (with_place cache i new) (other % cache.sets)) other ≡ with_line (line_of cache) word line other
     lines other = elim (cases_eq (other % cache.sets) (word % cache.sets)) [
       | inl e ↦
-        ap (λ t. found (row_at (with_place cache i new) t) other) e
-        ∙ ap (λ (row : List Place). found row other) (row-same cache (word % cache.sets) k i new within at)
-        ∙ row_map other
-        ∙ elim (cases_eq other word) [
-          | inl same ↦ with_same (found (row_at cache (word % cache.sets))) word line other same ∙ sym (with_same (line_of cache) word line other same)
-          | inr ne ↦ with_other (found (row_at cache (word % cache.sets))) word line other ne ∙ ap (λ t. found (row_at cache t) other) (sym e) ∙ sym (with_other (line_of cache) word line other ne)
-        ]
+          ap (λ t. found (row_at (with_place cache i new) t) other) e
+          ∙ ap (λ (row : List Place). found row other) (row-same cache (word % cache.sets) k i new within at)
+          ∙ row_map other
+          ∙ elim (cases_eq other word) [
+            | inl same ↦ with_same (found (row_at cache (word % cache.sets))) word line other same ∙ sym (with_same (line_of cache) word line other same)
+            | inr ne ↦ with_other (found (row_at cache (word % cache.sets))) word line other ne ∙ ap (λ t. found (row_at cache t) other) (sym e) ∙ sym (with_other (line_of cache) word line other ne)
+          ]
       | inr ne ↦
-        ap (λ (row : List Place). found row other) (row-other cache (word % cache.sets) (other % cache.sets) k i new within at ne)
-        ∙ sym (with_other (line_of cache) word line other (λ e. ne (ap (λ w. w % cache.sets) e)))
+          ap (λ (row : List Place). found row other) (row-other cache (word % cache.sets) (other % cache.sets) k i new within at ne)
+          ∙ sym (with_other (line_of cache) word line other (λ e. ne (ap (λ w. w % cache.sets) e)))
     ]
 
 pub put_line : (cache : CacheValue) (word k i : ℕ) (new : Place) → IsSound cache → CanTake (row_at cache (word % cache.sets)) k word → i ≡ (word % cache.sets) * cache.ways + k → is_held new ≡ true → new.word.0 ≡ word → IsSound (with_place cache i new) × (line_of (with_place cache i new) ≡ with_line (line_of cache) word (Some (seen new.line)))
@@ -94,8 +94,8 @@ put_line cache word k i new sound can at held same =
     let s = word % cache.sets in
     let row = row_at cache s in
     changed_cache cache word k i new (Some (seen new.line)) sound can.within at
-      (sound-put cache.sets s row k new word (sound.rows s (in_some_set cache word sound)) can held same refl)
-      (found-put row k new word can held same)
+    (sound-put cache.sets s row k new word (sound.rows s (in_some_set cache word sound)) can held same refl)
+    (found-put row k new word can held same)
 
 pub seat_line : (cache : CacheValue) (word k i : ℕ) (new : Place) → IsSound cache → IsSeat (row_at cache (word % cache.sets)) word k → i ≡ (word % cache.sets) * cache.ways + k → is_held new ≡ true → new.word.0 ≡ word → IsSound (with_place cache i new) × (line_of (with_place cache i new) ≡ with_line (line_of cache) word (Some (seen new.line)))
 seat_line cache word k i new sound (inl first) at held same =
@@ -108,8 +108,8 @@ take_line cache word k i new sound first at empty =
     let row = row_at cache s in
     let row_sound = sound.rows s (in_some_set cache word sound) in
     changed_cache cache word k i new None sound first.within at
-      (sound-taken cache.sets s row k new word row_sound first empty)
-      (found-taken cache.sets s row k new word row_sound first empty)
+    (sound-taken cache.sets s row k new word row_sound first empty)
+    (found-taken cache.sets s row k new word row_sound first empty)
 
 -- a word without a line is taken out already
 pub without_line : (cache : CacheValue) (word : ℕ) → LacksBelow (row_at cache (word % cache.sets)) (length (row_at cache (word % cache.sets))) word → line_of cache ≡ with_line (line_of cache) word None
@@ -127,9 +127,9 @@ pub changed-row : (change : Bits → Bits) (before after : List Place) (ways sta
 changed-row change before after ways start n all_of changed = record {
   size = let e = changed.size in omega (arith, length-take ways (drop start before), length-take ways (drop start after), length-drop start before, length-drop start after);
   changed = λ k below.
-    let near : k < ways = omega (arith, below, length-take ways (drop start before)) in
-    let far : start + k < length before = omega (arith, below, length-take ways (drop start before), length-drop start before) in
-    subst (λ (p : Place). HasChangedBits change p (place_at (take ways (drop start after)) k)) (sym (place_at-row before ways start k near))
+      let near : k < ways = omega (arith, below, length-take ways (drop start before)) in
+      let far : start + k < length before = omega (arith, below, length-take ways (drop start before), length-drop start before) in
+      subst (λ (p : Place). HasChangedBits change p (place_at (take ways (drop start after)) k)) (sym (place_at-row before ways start k near))
       (subst (HasChangedBits change (place_at before (start + k))) (sym (place_at-row after ways start k near)) (changed.changed (start + k) (omega (arith, far, all_of))));
 }
 
@@ -149,8 +149,8 @@ committed_cache cache places n sound all_of changed = (
     rows = λ s below. sound-committed cache.sets s (row_at cache s) (row_at (with_places cache places) s) (changed-row committed cache.places places cache.ways (s * cache.ways) n all_of changed) (sound.rows s below);
   },
   fun_ext (λ word.
-    let s = word % cache.sets in
-    found-committed (row_at cache s) (row_at (with_places cache places) s) (changed-row committed cache.places places cache.ways (s * cache.ways) n all_of changed) word),
+      let s = word % cache.sets in
+      found-committed (row_at cache s) (row_at (with_places cache places) s) (changed-row committed cache.places places cache.ways (s * cache.ways) n all_of changed) word),
 )
 
 pub committed_places : (before after : CacheValue) (n : ℕ) → IsSound before → after.sets ≡ before.sets → after.ways ≡ before.ways → length before.places ≤ n → IsChangedBelow committed n before.places after.places → IsSound after × (line_of after ≡ (λ word. commit_line (line_of before word)))
@@ -170,8 +170,8 @@ squashed_cache cache places n sound all_of changed = (
     rows = λ s below. sound-squashed cache.sets s (row_at cache s) (row_at (with_places cache places) s) (changed-row squashed cache.places places cache.ways (s * cache.ways) n all_of changed) (sound.rows s below);
   },
   fun_ext (λ word.
-    let s = word % cache.sets in
-    found-squashed cache.sets s (row_at cache s) (row_at (with_places cache places) s) (changed-row squashed cache.places places cache.ways (s * cache.ways) n all_of changed) (sound.rows s (in_some_set cache word sound)) word),
+      let s = word % cache.sets in
+      found-squashed cache.sets s (row_at cache s) (row_at (with_places cache places) s) (changed-row squashed cache.places places cache.ways (s * cache.ways) n all_of changed) (sound.rows s (in_some_set cache word sound)) word),
 )
 
 pub squashed_places : (before after : CacheValue) (n : ℕ) → IsSound before → after.sets ≡ before.sets → after.ways ≡ before.ways → length before.places ≤ n → IsChangedBelow squashed n before.places after.places → IsSound after × (line_of after ≡ (λ word. squash_line (line_of before word)))
@@ -204,6 +204,6 @@ opened_cache cache power few_sets some_ways few_ways size empty = (
     rows = λ s below. sound-empty cache.sets s (row_at cache s) (row-empty cache.places cache.ways (s * cache.ways) empty);
   },
   fun_ext (λ word.
-    let row = row_at cache (word % cache.sets) in
-    found-lacks row word (record { lacks = λ k below. holds_nothing (place_at row k) word (row-empty cache.places cache.ways (word % cache.sets * cache.ways) empty k below) })),
+      let row = row_at cache (word % cache.sets) in
+      found-lacks row word (record { lacks = λ k below. holds_nothing (place_at row k) word (row-empty cache.places cache.ways (word % cache.sets * cache.ways) empty k below) })),
 )

@@ -1,8 +1,7 @@
 -- What is found in a row after a commit and after a squash.
-use Rattle.std.proofs.Common.{◌≡◌, ◌≢◌, ◌⊎◌, ◌∙◌, refl, sym, ap, subst, ℕ, zero, suc, ◌+◌, ◌*◌, ◌%◌, ◌<◌, ◌≤◌, Bool, true, false, Option, Some, None, List, [], ◌∷◌, length, get_or, take, drop, inl, inr, arith}
-use Rattle.std.specs.Prelude.{if◌then◌else◌, ◌&&◌, ◌==◌}
+use Rattle.std.proofs.Common.{◌≡◌, ◌∙◌, refl, sym, ap, subst, ℕ, suc, ◌%◌, ◌<◌, true, false, Some, None, List, [], ◌∷◌, length, inl, inr, arith}
+use Rattle.std.specs.Prelude.{◌&&◌, ◌==◌}
 use Rattle.std.proofs.lemmas.Bool.{both_ways, cases_Bool}
-use Rattle.std.proofs.lemmas.List.{get_or-take, get_or-drop}
 use Rattle.svc_base.specs.declared.ids.WordAddr.{WordAddr}
 use Rattle.svc_line.specs.Bits.{Bits, bits_of, is_active, committed, squashed}
 use Rattle.svc_line.specs.Line.{SeenLine, seen}
@@ -64,11 +63,12 @@ sound-committed sets s [] (q ∷ after) all sound = let e = all.size in absurd (
 sound-committed sets s (p ∷ before) [] all sound = let e = all.size in absurd (omega arith)
 sound-committed sets s (p ∷ before) (q ∷ after) all sound =
     let one = changed-head committed p q before after all in
-    let rest = changed-tail committed p q before after all in
-    (λ held.
-      let old = sound.0 (sym (committed-held p q one) ∙ held) in
-      subst (λ (w : WordAddr). (w.0 % sets ≡ s) × (found after w.0 ≡ None)) (sym one.word) (old.0, found-committed before after rest p.word.0 ∙ ap commit_line old.1),
-    sound-committed sets s before after rest sound.1)
+    let rest = changed-tail committed p q before after all in (
+      λ held.
+          let old = sound.0 (sym (committed-held p q one) ∙ held) in
+          subst (λ (w : WordAddr). (w.0 % sets ≡ s) × (found after w.0 ≡ None)) (sym one.word) (old.0, found-committed before after rest p.word.0 ∙ ap commit_line old.1),
+      sound-committed sets s before after rest sound.1,
+    )
 
 -- a squash takes active lines out, and leaves the others
 squashed-active : (p q : Place) → HasChangedBits squashed p q → is_active (bits_of p.line.bits) ≡ true → is_held q ≡ false
@@ -106,18 +106,18 @@ found-squashed sets s (p ∷ before) (q ∷ after) all sound word =
     elim (cases_Bool (is_active (bits_of p.line.bits))) [
       | inl active ↦ past_head q after word (holds_nothing q word (squashed-active p q one active)) ∙ rest ∙ elim (cases_Bool (holds p word)) [
         | inl here ↦
-          let later : found before word ≡ None = ap (found before) (sym (word_of p word here)) ∙ (sound.0 (held_of p word here)).1 in
-          ap squash_line later ∙ sym (squash_active (seen p.line) active) ∙ ap squash_line (sym (at_head p before word here))
+            let later : found before word ≡ None = ap (found before) (sym (word_of p word here)) ∙ (sound.0 (held_of p word here)).1 in
+            ap squash_line later ∙ sym (squash_active (seen p.line) active) ∙ ap squash_line (sym (at_head p before word here))
         | inr away ↦ ap squash_line (sym (past_head p before word away))
       ]
       | inr other ↦
-        let same = same_holds squashed p q word one (squashed-held p q one other) in
-        elim (cases_Bool (holds p word)) [
-          | inl here ↦
-            let line : seen q.line ≡ seen p.line = changed-seen squashed p q one ∙ ap (λ (b : Bits). record (seen p.line) { bits = b }) (squashed-kept (bits_of p.line.bits) other) in
-            at_head q after word (same ∙ here) ∙ ap Some line ∙ sym (squash_other (seen p.line) other) ∙ ap squash_line (sym (at_head p before word here))
-          | inr away ↦ past_head q after word (same ∙ away) ∙ rest ∙ ap squash_line (sym (past_head p before word away))
-        ]
+          let same = same_holds squashed p q word one (squashed-held p q one other) in
+          elim (cases_Bool (holds p word)) [
+            | inl here ↦
+                let line : seen q.line ≡ seen p.line = changed-seen squashed p q one ∙ ap (λ (b : Bits). record (seen p.line) { bits = b }) (squashed-kept (bits_of p.line.bits) other) in
+                at_head q after word (same ∙ here) ∙ ap Some line ∙ sym (squash_other (seen p.line) other) ∙ ap squash_line (sym (at_head p before word here))
+            | inr away ↦ past_head q after word (same ∙ away) ∙ rest ∙ ap squash_line (sym (past_head p before word away))
+          ]
     ]
 
 pub sound-squashed : (sets s : ℕ) (before after : List Place) → IsChangedRow squashed before after → IsSoundRow sets s before → IsSoundRow sets s after
@@ -127,8 +127,9 @@ sound-squashed sets s [] (q ∷ after) all sound = let e = all.size in absurd (o
 sound-squashed sets s (p ∷ before) [] all sound = let e = all.size in absurd (omega arith)
 sound-squashed sets s (p ∷ before) (q ∷ after) all sound =
     let one = changed-head squashed p q before after all in
-    let rest = changed-tail squashed p q before after all in
-    (λ held.
-      let old = sound.0 (squashed-was_held p q one held) in
-      subst (λ (w : WordAddr). (w.0 % sets ≡ s) × (found after w.0 ≡ None)) (sym one.word) (old.0, found-squashed sets s before after rest sound.1 p.word.0 ∙ ap squash_line old.1),
-    sound-squashed sets s before after rest sound.1)
+    let rest = changed-tail squashed p q before after all in (
+      λ held.
+          let old = sound.0 (squashed-was_held p q one held) in
+          subst (λ (w : WordAddr). (w.0 % sets ≡ s) × (found after w.0 ≡ None)) (sym one.word) (old.0, found-squashed sets s before after rest sound.1 p.word.0 ∙ ap squash_line old.1),
+      sound-squashed sets s before after rest sound.1,
+    )

@@ -1,8 +1,7 @@
 -- How many words have a line in a row.
-use Rattle.std.proofs.Common.{◌≡◌, ◌≢◌, ◌⊎◌, ◌∙◌, refl, sym, ap, subst, ℕ, zero, suc, ◌+◌, ◌%◌, ◌<◌, ◌≤◌, Bool, true, false, Option, Some, None, is_some, List, [], ◌∷◌, length, inl, inr, arith}
-use Rattle.std.specs.Prelude.{if◌then◌else◌}
-use Rattle.std.proofs.lemmas.Bool.{both_ways, cases_Bool, cases_eq, cases_lt}
-use Rattle.svc_line.specs.Line.{SeenLine, seen}
+use Rattle.std.proofs.Common.{◌≡◌, ◌≢◌, ◌∙◌, refl, sym, ap, ℕ, zero, suc, ◌+◌, ◌%◌, ◌<◌, ◌≤◌, Bool, true, false, Some, None, is_some, List, [], ◌∷◌, length, inl, inr, arith}
+use Rattle.std.proofs.lemmas.Bool.{both_ways, cases_Bool, cases_lt}
+use Rattle.svc_line.specs.Line.{seen}
 use Rattle.svc_cache.specs.declared.place.Place.{Place}
 use Rattle.svc_cache.specs.Places.{is_held, holds, found}
 use Rattle.svc_cache.specs.Rows.{place_at, AreHeld}
@@ -59,19 +58,19 @@ unfolding found held_count IsSoundRow
 how_many-found sets s bound [] sound ends = how_many-none bound (λ word. false) (λ word. refl)
 how_many-found sets s bound (place ∷ places) sound ends = elim (cases_Bool (is_held place)) [
   | inl held ↦
-    let own = place.word.0 in
-    let here : found (place ∷ places) own ≡ Some (seen place.line) = at_head place places own (holds_of place own held refl) in
-    let within : own < bound = elim (cases_lt own bound) [ inl below ↦ below | inr above ↦ absurd (both_ways true (ap is_some (sym here ∙ ends own above)) refl) ] in
-    let rest : (word : ℕ) → bound ≤ word → found places word ≡ None = λ word above.
+      let own = place.word.0 in
+      let here : found (place ∷ places) own ≡ Some (seen place.line) = at_head place places own (holds_of place own held refl) in
+      let within : own < bound = elim (cases_lt own bound) [ inl below ↦ below | inr above ↦ absurd (both_ways true (ap is_some (sym here ∙ ends own above)) refl) ] in
+      let rest : (word : ℕ) → bound ≤ word → found places word ≡ None = λ word above.
       let ne : own ≢ word = λ same. omega (arith, above, within, same) in
       sym (past_head place places word (holds_no_other place word ne)) ∙ ends word above in
-    let one : one_if (is_held place) ≡ 1 = ap one_if held in
-    let more = how_many-more bound (λ word. is_some (found places word)) (λ word. is_some (found (place ∷ places) word)) own within (ap is_some (sound.0 held).1) (ap is_some here) (λ word ne. ap is_some (past_head place places word (holds_no_other place word (λ same. ne (sym same))))) in
-    let before = how_many-found sets s bound places sound.1 rest in
-    more ∙ omega arith
+      let one : one_if (is_held place) ≡ 1 = ap one_if held in
+      let more = how_many-more bound (λ word. is_some (found places word)) (λ word. is_some (found (place ∷ places) word)) own within (ap is_some (sound.0 held).1) (ap is_some here) (λ word ne. ap is_some (past_head place places word (holds_no_other place word (λ same. ne (sym same))))) in
+      let before = how_many-found sets s bound places sound.1 rest in
+      more ∙ omega arith
   | inr empty ↦
-    let past : (word : ℕ) → found (place ∷ places) word ≡ found places word = λ word. past_head place places word (holds_nothing place word empty) in
-    let none : one_if (is_held place) ≡ 0 = ap one_if empty in
-    let before = how_many-found sets s bound places sound.1 (λ word above. sym (past word) ∙ ends word above) in
-    how_many-same bound (λ word. is_some (found (place ∷ places) word)) (λ word. is_some (found places word)) (λ word below. ap is_some (past word)) ∙ omega arith
+      let past : (word : ℕ) → found (place ∷ places) word ≡ found places word = λ word. past_head place places word (holds_nothing place word empty) in
+      let none : one_if (is_held place) ≡ 0 = ap one_if empty in
+      let before = how_many-found sets s bound places sound.1 (λ word above. sym (past word) ∙ ends word above) in
+      how_many-same bound (λ word. is_some (found (place ∷ places) word)) (λ word. is_some (found places word)) (λ word below. ap is_some (past word)) ∙ omega arith
 ]

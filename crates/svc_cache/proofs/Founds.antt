@@ -1,6 +1,5 @@
 -- What `found` answers of a row, and how it changes with one place.
-use Rattle.std.proofs.Common.{◌≡◌, ◌≢◌, ◌⊎◌, ◌∙◌, refl, sym, ap, subst, ℕ, zero, suc, ◌+◌, ◌<◌, ◌≤◌, ◌%◌, Bool, true, false, Option, Some, None, List, [], ◌∷◌, length, get_or, set, drop, inl, inr, arith}
-use Rattle.std.specs.Prelude.{if◌then◌else◌}
+use Rattle.std.proofs.Common.{◌≡◌, ◌≢◌, ◌∙◌, refl, sym, ap, ℕ, zero, suc, ◌<◌, ◌%◌, true, false, Option, Some, None, List, [], ◌∷◌, length, set, drop, inl, inr, arith}
 use Rattle.std.proofs.lemmas.Bool.{and_parts, and_from, and_left, and_right, both_ways, cases_Bool, cases_eq, eqb-true, eq-eqb, ne_eqb}
 use Rattle.svc_line.specs.Line.{SeenLine, seen}
 use Rattle.svc_cache.specs.declared.place.Place.{Place}
@@ -127,10 +126,10 @@ can_take-tail place places k word can = record {
 past_change : (place : Place) (places changed : List Place) (word : ℕ) (line : Option SeenLine) (other : ℕ) → holds place word ≡ false → found changed other ≡ with_line (found places) word line other → found (place ∷ changed) other ≡ with_line (found (place ∷ places)) word line other
 past_change place places changed word line other away rest = elim (cases_Bool (holds place other)) [
   | inl here ↦
-    let ne : other ≢ word = λ same. both_ways _ away (ap (holds place) (sym same) ∙ here) in
-    at_head place changed other here ∙ sym (at_head place places other here) ∙ sym (with_other (found (place ∷ places)) word line other ne)
+      let ne : other ≢ word = λ same. both_ways _ away (ap (holds place) (sym same) ∙ here) in
+      at_head place changed other here ∙ sym (at_head place places other here) ∙ sym (with_other (found (place ∷ places)) word line other ne)
   | inr past ↦
-    past_head place changed other past ∙ rest ∙ with_alike (found places) (found (place ∷ places)) word line other (λ ne. sym (past_head place places other past))
+      past_head place changed other past ∙ rest ∙ with_alike (found places) (found (place ∷ places)) word line other (λ ne. sym (past_head place places other past))
 ]
 
 -- a line is put
@@ -139,7 +138,7 @@ found-put [] k new word can held same other = let here = can.within in absurd (o
 found-put (place ∷ places) zero new word can held same other = elim (cases_eq other word) [
   | inl e ↦ at_head new places other (holds_of new other held (same ∙ sym e)) ∙ sym (with_same (found (place ∷ places)) word (Some (seen new.line)) other e)
   | inr ne ↦
-    past_head new places other (holds_no_other new other (λ e. ne (sym e ∙ same))) ∙ sym (past_head place places other (can.free other ne)) ∙ sym (with_other (found (place ∷ places)) word (Some (seen new.line)) other ne)
+      past_head new places other (holds_no_other new other (λ e. ne (sym e ∙ same))) ∙ sym (past_head place places other (can.free other ne)) ∙ sym (with_other (found (place ∷ places)) word (Some (seen new.line)) other ne)
 ]
 found-put (place ∷ places) (suc k) new word can held same other =
     past_change place places (set places k new) word (Some (seen new.line)) other (lacks-head place places k word can.first) (found-put places k new word (can_take-tail place places k word can) held same other)
@@ -150,11 +149,12 @@ sound-put sets s [] k new word sound can held same in_set = let here = can.withi
 sound-put sets s (place ∷ places) zero new word sound can held same in_set =
     (λ _. (ap (λ w. w % sets) same ∙ in_set, ap (found places) same ∙ can.last), sound.1)
 sound-put sets s (place ∷ places) (suc k) new word sound can held same in_set =
-    let rest = can_take-tail place places k word can in
-    (λ kept.
-      let ne = not_its_word place word kept (lacks-head place places k word can.first) in
-      ((sound.0 kept).0, found-put places k new word rest held same place.word.0 ∙ with_other (found places) word (Some (seen new.line)) place.word.0 ne ∙ (sound.0 kept).1),
-    sound-put sets s places k new word sound.1 rest held same in_set)
+    let rest = can_take-tail place places k word can in (
+      λ kept.
+          let ne = not_its_word place word kept (lacks-head place places k word can.first) in
+          ((sound.0 kept).0, found-put places k new word rest held same place.word.0 ∙ with_other (found places) word (Some (seen new.line)) place.word.0 ne ∙ (sound.0 kept).1),
+      sound-put sets s places k new word sound.1 rest held same in_set,
+    )
 
 -- a line is taken out
 pub found-taken : (sets s : ℕ) (row : List Place) (k : ℕ) (new : Place) (word : ℕ) → IsSoundRow sets s row → IsFirstHolder row word k → is_held new ≡ false → (other : ℕ) → found (set row k new) other ≡ with_line (found row) word None other
@@ -164,8 +164,8 @@ found-taken sets s (place ∷ places) zero new word sound first empty other =
     past_head new places other (holds_nothing new other empty) ∙ elim (cases_eq other word) [
       | inl e ↦ ap (found places) e ∙ found-later sets s (place ∷ places) zero word sound first ∙ sym (with_same (found (place ∷ places)) word None other e)
       | inr ne ↦
-        let away = holds_no_other place other (λ e. ne (sym e ∙ word_of place word first.here)) in
-        sym (past_head place places other away) ∙ sym (with_other (found (place ∷ places)) word None other ne)
+          let away = holds_no_other place other (λ e. ne (sym e ∙ word_of place word first.here)) in
+          sym (past_head place places other away) ∙ sym (with_other (found (place ∷ places)) word None other ne)
     ]
 found-taken sets s (place ∷ places) (suc k) new word sound first empty other =
     past_change place places (set places k new) word None other (lacks-head place places k word first.first) (found-taken sets s places k new word sound.1 (holder-tail place places k word first) empty other)

@@ -1,13 +1,13 @@
 -- What a search for a seat says of the map: whether the word's set is full, and which word leaves first.
-use Rattle.std.proofs.Common.{◌≡◌, ◌≢◌, ◌⊎◌, ◌∙◌, refl, sym, ap, subst, ℕ, zero, suc, ◌+◌, ◌%◌, ◌<◌, ◌≤◌, Bool, true, false, Option, Some, None, is_some, is_none, List, [], ◌∷◌, length, inl, inr, arith}
-use Rattle.std.specs.Prelude.{if◌then◌else◌, nat_lt, nat_le, not, ◌&&◌, ◌||◌, ◌==◌}
+use Rattle.std.proofs.Common.{◌≡◌, ◌∙◌, refl, sym, ap, subst, ℕ, zero, suc, ◌%◌, ◌<◌, ◌≤◌, Bool, true, false, Some, None, is_some, is_none, List, [], ◌∷◌, length, inl, inr, arith}
+use Rattle.std.specs.Prelude.{if◌then◌else◌, nat_lt, not, ◌&&◌, ◌||◌}
 use Rattle.std.specs.Option.{option_or}
-use Rattle.std.proofs.lemmas.Bool.{and_left, and_right, both_ways, cases_Bool, cases_eq, cases_lt, eq-eqb, ne_eqb, le-leb, lt-leb, le-ltb, ltb-false}
-use Rattle.svc_line.specs.Line.{SeenLine, seen}
+use Rattle.std.proofs.lemmas.Bool.{and_left, and_right, both_ways, cases_Bool, cases_eq, cases_lt, eq-eqb, ne_eqb, le-leb, lt-leb, ltb-false}
+use Rattle.svc_line.specs.Line.{seen}
 use Rattle.svc_cache.specs.declared.place.Place.{Place}
-use Rattle.svc_cache.specs.Lines.{EndsBelow, LineMap, is_committed_line, is_in_set, is_committed_in_set, is_set_full, first_to_leave, full_address}
+use Rattle.svc_cache.specs.Lines.{EndsBelow, is_committed_line, is_in_set, is_committed_in_set, is_set_full, full_address}
 use Rattle.svc_cache.specs.Places.{CacheValue, is_held, has_committed, holds, found, line_of, precedes, row_at}
-use Rattle.svc_cache.specs.Rows.{place_at, AreHeld, IsEmptySeat, IsFirstHolder, IsFirstToLeave, IsFullRow, IsSeat, LacksBelow}
+use Rattle.svc_cache.specs.Rows.{place_at, AreHeld, IsEmptySeat, IsFirstHolder, IsFirstToLeave, IsFullRow, IsSeat}
 use Rattle.svc_cache.specs.Search.{least, how_many}
 use Rattle.svc_cache.specs.Sound.{IsSound, IsSoundRow}
 use Rattle.svc_cache.proofs.Founds.{at_head, past_head, found-here, found-lacks, held_of, holds_of, word_of}
@@ -35,8 +35,8 @@ holder_of [] word some = absurd (both_ways false refl some)
 holder_of (place ∷ places) word some = elim (cases_Bool (holds place word)) [
   | inl here ↦ (0, record { within = omega arith; here = here; line = at_head place places word here })
   | inr away ↦
-    let later = holder_of places word (sym (ap is_some (past_head place places word away)) ∙ some) in
-    (suc later.0, holder-later place places word later.0 away later.1)
+      let later = holder_of places word (sym (ap is_some (past_head place places word away)) ∙ some) in
+      (suc later.0, holder-later place places word later.0 away later.1)
 ]
 
 -- each place that has a line is its word's holder
@@ -53,8 +53,8 @@ own_holder sets s (place ∷ places) (suc k) sound within held =
     let word = (place_at places k).word.0 in
     elim (cases_Bool (holds place word)) [
       | inl here ↦
-        let none : found places word ≡ None = ap (found places) (sym (word_of place word here)) ∙ (sound.0 (held_of place word here)).1 in
-        absurd (both_ways true (ap is_some (sym later.line ∙ none)) refl)
+          let none : found places word ≡ None = ap (found places) (sym (word_of place word here)) ∙ (sound.0 (held_of place word here)).1 in
+          absurd (both_ways true (ap is_some (sym later.line ∙ none)) refl)
       | inr away ↦ holder-later place places word k away later
     ]
 
@@ -109,11 +109,11 @@ fails false never = refl
 first_of_row : (sets s bound : ℕ) (row : List Place) (victim : ℕ) → IsSoundRow sets s row → ((word : ℕ) → bound ≤ word → found row word ≡ None) → AreHeld row (length row) → IsFirstToLeave row (length row) victim → option_or (least bound (is_found_committed row)) (least bound (is_found row)) ≡ Some (place_at row victim).word.0
 first_of_row sets s bound row victim sound ends all leaves = elim (cases_Bool (has_committed (place_at row victim))) [
   | inl committed ↦
-    let test : is_found_committed row named ≡ true = (λ i. is_some (own.line i) && is_committed_line (own.line i)) ∙ committed in
-    ap (λ o. option_or o (least bound (is_found row))) (least-is bound (is_found_committed row) named within test (λ j below. fails _ (λ is. omega (arith, below, (committed_above row victim j leaves is).1))))
+      let test : is_found_committed row named ≡ true = (λ i. is_some (own.line i) && is_committed_line (own.line i)) ∙ committed in
+      ap (λ o. option_or o (least bound (is_found row))) (least-is bound (is_found_committed row) named within test (λ j below. fails _ (λ is. omega (arith, below, (committed_above row victim j leaves is).1))))
   | inr active ↦
-    ap (λ o. option_or o (least bound (is_found row))) (least-none bound (is_found_committed row) (λ j below. fails _ (λ is. both_ways _ active (committed_above row victim j leaves is).0)))
-    ∙ least-is bound (is_found row) named within (ap is_some own.line) (λ j below. fails _ (λ is. omega (arith, below, active_above row victim j leaves active is)))
+      ap (λ o. option_or o (least bound (is_found row))) (least-none bound (is_found_committed row) (λ j below. fails _ (λ is. both_ways _ active (committed_above row victim j leaves is).0)))
+      ∙ least-is bound (is_found row) named within (ap is_some own.line) (λ j below. fails _ (λ is. omega (arith, below, active_above row victim j leaves active is)))
 ]
   where
     named : ℕ
@@ -144,8 +144,8 @@ module _ (cache : CacheValue) (word : ℕ) (sound : IsSound cache) where
   committed_in_set-found other = elim (cases_eq (other % cache.sets) (word % cache.sets)) [
     | inl same ↦ λ i. in_set-found other i && is_committed_line (within_set other same i)
     | inr ne ↦
-      let none = found-outside cache.sets (word % cache.sets) (row_at cache (word % cache.sets)) other (sound.rows _ (in_some_set cache word sound)) ne in
-      and_left _ _ (in_set-found other ∙ ap is_some none) ∙ sym (and_left _ _ (ap is_some none))
+        let none = found-outside cache.sets (word % cache.sets) (row_at cache (word % cache.sets)) other (sound.rows _ (in_some_set cache word sound)) ne in
+        and_left _ _ (in_set-found other ∙ ap is_some none) ∙ sym (and_left _ _ (ap is_some none))
   ]
 
   -- past the bound nothing is found in the row
@@ -190,9 +190,9 @@ module _ (cache : CacheValue) (word : ℕ) (sound : IsSound cache) where
       let enough : cache.ways ≤ how_many bound (is_in_set cache.sets (line_of cache) word) = omega arith in
       let is_full : is_set_full cache.sets cache.ways bound (line_of cache) word ≡ true = both _ _ (ap is_none none) (le-leb cache.ways (how_many bound (is_in_set cache.sets (line_of cache) word)) enough) in
       rw is_full (
-        (λ i. option_or (least-same bound (is_committed_in_set cache.sets (line_of cache) word) (is_found_committed row) (λ other below. committed_in_set-found other) i) (least-same bound (is_in_set cache.sets (line_of cache) word) (is_found row) (λ other below. in_set-found other) i))
-        ∙ first_of_row cache.sets (word % cache.sets) bound row full.victim (sound.rows _ (in_some_set cache word sound)) (row-ends bound ends) full.held full.leaves
-        ∙ ap Some (sym full.is_named)
+      (λ i. option_or (least-same bound (is_committed_in_set cache.sets (line_of cache) word) (is_found_committed row) (λ other below. committed_in_set-found other) i) (least-same bound (is_in_set cache.sets (line_of cache) word) (is_found row) (λ other below. in_set-found other) i))
+      ∙ first_of_row cache.sets (word % cache.sets) bound row full.victim (sound.rows _ (in_some_set cache word sound)) (row-ends bound ends) full.held full.leaves
+      ∙ ap Some (sym full.is_named)
       )
     where
       both : (a b : Bool) → a ≡ true → b ≡ true → (a && b) ≡ true

@@ -1,5 +1,5 @@
 -- The remainder of a word by a power of two, as a mask.
-use Rattle.std.proofs.Common.{◌≡◌, ◌⊎◌, ◌∙◌, sym, ap, ℕ, zero, suc, ◌+◌, ◌-◌, ◌*◌, ◌/◌, ◌%◌, ◌^◌, ◌<◌, ◌≤◌, inl, inr, arith}
+use Rattle.std.proofs.Common.{◌≡◌, ◌∙◌, sym, ap, ℕ, zero, suc, ◌+◌, ◌-◌, ◌*◌, ◌/◌, ◌%◌, ◌^◌, ◌<◌, ◌≤◌, inl, inr, arith}
 use Rattle.std.specs.Prelude.{IsTrue, bit_and, count_ones}
 use Rattle.std.specs.Int.{is_power_of_two}
 use Rattle.std.specs.Int.Count.{ones-ones}
@@ -18,15 +18,15 @@ power_below : (fuel n : ℕ) → n ≤ fuel → count_ones n ≡ 1 → (k : ℕ)
 power_below zero n below one = absurd (omega (arith, ones_le_self n))
 power_below (suc fuel) n below one = elim (cases_eq (n % 2) 0) [
   | inl even ↦
-    let low : count_ones (n % 2) ≡ 0 = omega (arith, ones_le_self (n % 2)) in
-    let high : count_ones (n / 2) ≡ 1 = omega (arith, ones_of_half n) in
-    let half = power_below fuel (n / 2) (omega (arith, ones_le_self n)) high in
-    (suc half.0, omega (arith, half.1, pow-suc 2 half.0))
+      let low : count_ones (n % 2) ≡ 0 = omega (arith, ones_le_self (n % 2)) in
+      let high : count_ones (n / 2) ≡ 1 = omega (arith, ones_of_half n) in
+      let half = power_below fuel (n / 2) (omega (arith, ones_le_self n)) high in
+      (suc half.0, omega (arith, half.1, pow-suc 2 half.0))
   | inr odd ↦
-    let low : n % 2 ≡ 1 = omega arith in
-    let bit : count_ones (n % 2) ≡ 1 = ap count_ones low ∙ ones-ones 1 in
-    let none : n / 2 ≡ 0 = zero_from_ones (n / 2) (omega (arith, ones_of_half n)) in
-    (0, omega arith)
+      let low : n % 2 ≡ 1 = omega arith in
+      let bit : count_ones (n % 2) ≡ 1 = ap count_ones low ∙ ones-ones 1 in
+      let none : n / 2 ≡ 0 = zero_from_ones (n / 2) (omega (arith, ones_of_half n)) in
+      (0, omega arith)
 ]
 
 pub mask_of_power : (word sets : ℕ) → IsTrue (is_power_of_two sets) → bit_and word (sets - 1) ≡ word % sets

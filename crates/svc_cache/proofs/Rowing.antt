@@ -1,5 +1,5 @@
 -- A row of a changed list of places.
-use Rattle.std.proofs.Common.{◌≡◌, ◌≢◌, ◌⊎◌, ◌∙◌, refl, sym, ap, ℕ, zero, suc, ◌+◌, ◌-◌, ◌*◌, ◌<◌, ◌≤◌, List, length, get_or, set, take, drop, inl, inr, arith}
+use Rattle.std.proofs.Common.{◌≡◌, ◌≢◌, ◌∙◌, sym, ap, ℕ, ◌+◌, ◌-◌, ◌*◌, ◌<◌, ◌≤◌, List, set, take, drop, inl, inr, arith}
 use Rattle.std.proofs.lemmas.Bool.{cases_order}
 use Rattle.std.proofs.lemmas.List.{drop-set-lt, drop-set-add, take-set-le}
 use Rattle.std.proofs.lemmas.Nat.{row_fits}
@@ -18,12 +18,12 @@ module _ {A : Type 0} where
   other_row places ways s t k new within ne = elim (cases_order t s) [
     | inl e ↦ absurd (ne e)
     | inr (inl before) ↦
-      let apart = rows_apart t s ways before in
-      let shifted : t * ways + (s * ways + k - t * ways) ≡ s * ways + k = omega arith in
-      ap (λ i. take ways (drop (t * ways) (set places i new))) (sym shifted)
-      ∙ ap (take ways) (drop-set-add (t * ways) places (s * ways + k - t * ways) new)
-      ∙ take-set-le ways (drop (t * ways) places) (s * ways + k - t * ways) new (omega arith)
+        let apart = rows_apart t s ways before in
+        let shifted : t * ways + (s * ways + k - t * ways) ≡ s * ways + k = omega arith in
+        ap (λ i. take ways (drop (t * ways) (set places i new))) (sym shifted)
+        ∙ ap (take ways) (drop-set-add (t * ways) places (s * ways + k - t * ways) new)
+        ∙ take-set-le ways (drop (t * ways) places) (s * ways + k - t * ways) new (omega arith)
     | inr (inr after) ↦
-      let apart = rows_apart s t ways after in
-      ap (take ways) (drop-set-lt (t * ways) places (s * ways + k) new (omega arith))
+        let apart = rows_apart s t ways after in
+        ap (take ways) (drop-set-lt (t * ways) places (s * ways + k) new (omega arith))
   ]

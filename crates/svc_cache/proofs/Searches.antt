@@ -1,5 +1,5 @@
 -- Least numbers and counts below a bound.
-use Rattle.std.proofs.Common.{◌≡◌, ◌≢◌, ◌⊎◌, ◌∙◌, refl, sym, ap, subst, ℕ, zero, suc, ◌+◌, ◌<◌, ◌≤◌, Bool, true, false, Option, Some, None, inl, inr, arith}
+use Rattle.std.proofs.Common.{◌≡◌, ◌≢◌, ◌∙◌, refl, sym, ap, ℕ, zero, suc, ◌+◌, ◌<◌, Bool, true, false, Some, None, inl, inr, arith}
 use Rattle.std.specs.Prelude.{if◌then◌else◌}
 use Rattle.std.specs.Option.{option_or}
 use Rattle.std.specs.Bool.{then_some}
@@ -44,12 +44,12 @@ unfolding how_many
 how_many-more zero f g k within old new others = absurd (omega (arith, within))
 how_many-more (suc n) f g k within old new others = elim (cases_eq k n) [
   | inl e ↦
-    let before : how_many n g ≡ how_many n f = how_many-same n g f (λ j below. others j (omega (arith, below, e))) in
-    let gone : one_if (f n) ≡ 0 = ap (λ j. one_if (f j)) (sym e) ∙ ap one_if old in
-    let there : one_if (g n) ≡ 1 = ap (λ j. one_if (g j)) (sym e) ∙ ap one_if new in
-    omega arith
+      let before : how_many n g ≡ how_many n f = how_many-same n g f (λ j below. others j (omega (arith, below, e))) in
+      let gone : one_if (f n) ≡ 0 = ap (λ j. one_if (f j)) (sym e) ∙ ap one_if old in
+      let there : one_if (g n) ≡ 1 = ap (λ j. one_if (g j)) (sym e) ∙ ap one_if new in
+      omega arith
   | inr ne ↦
-    let before : how_many n g ≡ how_many n f + 1 = how_many-more n f g k (omega (arith, within, ne)) old new others in
-    let here : one_if (g n) ≡ one_if (f n) = ap one_if (others n (λ same. ne (sym same))) in
-    omega arith
+      let before : how_many n g ≡ how_many n f + 1 = how_many-more n f g k (omega (arith, within, ne)) old new others in
+      let here : one_if (g n) ≡ one_if (f n) = ap one_if (others n (λ same. ne (sym same))) in
+      omega arith
 ]

@@ -1,6 +1,6 @@
 -- How a commit or a squash changes the places of a cache.
 use Rattle.std.specs.Prelude.{◌≡◌, ℕ, ◌<◌, ◌≤◌, List, length}
-use Rattle.svc_line.specs.Bits.{Bits, bits_of, committed, squashed}
+use Rattle.svc_line.specs.Bits.{Bits, bits_of}
 use Rattle.svc_cache.specs.declared.place.Place.{Place}
 use Rattle.svc_cache.specs.Rows.{place_at}
 

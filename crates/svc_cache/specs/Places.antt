@@ -1,6 +1,5 @@
 -- The places of a cache, and the map that they make.
-use Rattle.std.specs.Prelude.{◌≡◌, ℕ, ◌*◌, ◌%◌, ◌==◌, nat_lt, Bool, true, false, not, ◌&&◌, ◌||◌, Option, Some, None, List, [], ◌∷◌, take, drop, get_or, if◌then◌else◌}
-use Rattle.svc_base.specs.declared.ids.WordAddr.{WordAddr}
+use Rattle.std.specs.Prelude.{ℕ, ◌*◌, ◌%◌, ◌==◌, nat_lt, Bool, not, ◌&&◌, ◌||◌, Some, None, List, [], ◌∷◌, take, drop, if◌then◌else◌}
 use Rattle.svc_line.specs.Bits.{bits_of, is_committed}
 use Rattle.svc_line.specs.Line.{seen}
 use Rattle.svc_cache.specs.Lines.{LineMap}

@@ -1,5 +1,5 @@
 -- What a search of one row finds.
-use Rattle.std.specs.Prelude.{◌≡◌, ◌⊎◌, ℕ, ◌<◌, Bool, true, false, Option, Some, None, List, length, get_or, MatchOption}
+use Rattle.std.specs.Prelude.{◌≡◌, ◌⊎◌, ℕ, ◌<◌, true, false, Option, Some, None, List, length, get_or}
 use Rattle.svc_cache.specs.declared.place.Place.{Place}
 use Rattle.svc_cache.specs.declared.row.Survey.{Survey}
 use Rattle.svc_cache.specs.Places.{is_held, holds, precedes}

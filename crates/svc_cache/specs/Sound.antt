@@ -1,5 +1,5 @@
 -- What holds of every cache.
-use Rattle.std.specs.Prelude.{◌≡◌, ℕ, ◌*◌, ◌%◌, ◌<◌, ◌≤◌, Bool, true, Option, None, List, [], ◌∷◌, length, IsTrue, ⊤}
+use Rattle.std.specs.Prelude.{◌≡◌, ℕ, ◌*◌, ◌%◌, ◌<◌, ◌≤◌, true, None, List, [], ◌∷◌, length, IsTrue, ⊤}
 use Rattle.std.specs.Int.{is_power_of_two}
 use Rattle.svc_base.specs.declared.config.TheConstants.{MAX_SETS, MAX_WAYS}
 use Rattle.svc_cache.specs.declared.cache.Cache.TheInside.{Inside}

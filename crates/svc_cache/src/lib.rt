@@ -8,9 +8,9 @@
 #![tactic(auto)]
 
 pub mod cache;
-pub mod place;
+mod place;
 pub mod probes;
-pub mod row;
+mod row;
 
 pub use cache::Cache;
 pub use probes::Probes;

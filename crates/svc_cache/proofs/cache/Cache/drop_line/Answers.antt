@@ -1,5 +1,5 @@
-use Rattle.std.proofs.Common.{◌≡◌, ◌∙◌, refl, sym, ap, subst, arith, ℕ, ◌+◌, ◌*◌, ◌%◌, ◌<◌, ◌≤◌, true, false, Some, None, Option, List, length}
-use Rattle.svc_cache.specs.Places.{CacheValue, line_of, row_at, is_held}
+use Rattle.std.proofs.Common.{◌≡◌, ◌∙◌, sym, ap, subst, ◌+◌, ◌*◌, ◌%◌, None, List, length}
+use Rattle.svc_cache.specs.Places.{CacheValue, line_of, row_at}
 use Rattle.svc_cache.specs.Sound.{IsSound, value_of}
 use Rattle.svc_cache.specs.declared.place.Place.{Place}
 use Rattle.svc_cache.specs.Rows.{IsFirstHolder, LacksBelow}

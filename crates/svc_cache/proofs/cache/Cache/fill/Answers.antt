@@ -1,12 +1,12 @@
-use Rattle.std.proofs.Common.{◌≡◌, ◌∙◌, refl, sym, ap, subst, arith, ℕ, ◌+◌, ◌*◌, ◌%◌, ◌<◌, ◌≤◌, true, false, Some, None, Option, List, length}
-use Rattle.svc_cache.specs.Places.{CacheValue, line_of, row_at, is_held}
+use Rattle.std.proofs.Common.{◌≡◌, ◌∙◌, refl, sym, ap, subst, ℕ, ◌+◌, ◌*◌, ◌%◌, Some, None, Option, List}
+use Rattle.svc_cache.specs.Places.{CacheValue, line_of, row_at}
 use Rattle.svc_cache.specs.Sound.{IsSound, value_of}
 use Rattle.std.specs.Prelude.{MatchResult, IsErrAnd, Result, Ok, Err}
 use Rattle.svc_line.specs.Line.{seen}
 use Rattle.svc_cache.specs.declared.row.SetFull.{SetFull}
 use Rattle.svc_cache.specs.declared.place.Place.{Place}
 use Rattle.svc_cache.specs.Rows.{IsSeat, IsFullRow}
-use Rattle.svc_cache.specs.Lines.{EndsBelow, LineMap, with_line, full_address}
+use Rattle.svc_cache.specs.Lines.{LineMap, with_line}
 use Rattle.svc_cache.proofs.Caches.{seat_line, with_place}
 use Rattle.svc_cache.proofs.Fulls.{full-seat, full-full}
 use Rattle.svc_cache.proofs.cache.Cache.fill.Goals as goal

@@ -1,4 +1,4 @@
-use Rattle.std.proofs.Common.{◌≡◌, ◌+◌}
+use Rattle.std.proofs.Common.{◌≡◌}
 use Rattle.svc_line.specs.Bits.{committed}
 use Rattle.svc_cache.specs.Changes.{IsChangedBelow}
 use Rattle.svc_cache.proofs.cache.Cache.for_commit.Given as goal

@@ -1,6 +1,6 @@
-use Rattle.std.proofs.Common.{◌≡◌, ◌∙◌, refl, sym, ap, subst, arith, ℕ, ◌+◌, ◌*◌, ◌%◌, ◌<◌, ◌≤◌, true, false, Some, None, Option, List, length}
-use Rattle.svc_cache.specs.Places.{CacheValue, line_of, row_at, is_held}
-use Rattle.svc_cache.specs.Sound.{IsSound, value_of}
+use Rattle.std.proofs.Common.{◌∙◌, ap, arith}
+use Rattle.svc_cache.specs.Places.{CacheValue, line_of}
+use Rattle.svc_cache.specs.Sound.{value_of}
 use Rattle.svc_cache.proofs.Caches.{squashed_places}
 use Rattle.svc_cache.specs.Lines.{LineMap, squash_line}
 use Rattle.svc_cache.proofs.cache.Cache.for_squash.Goals as goal

@@ -1,6 +1,4 @@
-use Rattle.std.proofs.Common.{◌≡◌, ◌∙◌, refl, sym, ap, subst, arith, ℕ, ◌+◌, ◌*◌, ◌%◌, ◌<◌, ◌≤◌, true, false, Some, None, Option, List, length}
-use Rattle.svc_cache.specs.Places.{CacheValue, line_of, row_at, is_held}
-use Rattle.svc_cache.specs.Sound.{IsSound, value_of}
+use Rattle.std.proofs.Common.{sym, subst, List}
 use Rattle.svc_cache.specs.declared.place.Place.{Place}
 use Rattle.svc_cache.specs.Rows.{IsSeat, IsFullRow}
 use Rattle.svc_cache.proofs.Fulls.{full-seat, full-full}

@@ -1,6 +1,4 @@
-use Rattle.std.proofs.Common.{◌≡◌, ◌∙◌, refl, sym, ap, subst, arith, ℕ, ◌+◌, ◌*◌, ◌%◌, ◌<◌, ◌≤◌, true, false, Some, None, Option, List, length}
-use Rattle.svc_cache.specs.Places.{CacheValue, line_of, row_at, is_held}
-use Rattle.svc_cache.specs.Sound.{IsSound, value_of}
+use Rattle.std.proofs.Common.{◌∙◌, sym, ap, Option}
 use Rattle.std.specs.Prelude.{option_map}
 use Rattle.svc_line.specs.Line.{seen}
 use Rattle.svc_line.specs.declared.line.Line.{Line}

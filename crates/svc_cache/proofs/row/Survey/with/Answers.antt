@@ -1,4 +1,4 @@
-use Rattle.std.proofs.Common.{◌≡◌, ◌∙◌, sym, ◌+◌, Bool, true, false, subst}
+use Rattle.std.proofs.Common.{◌≡◌, ◌∙◌, sym, ◌+◌, true, false, subst}
 use Rattle.svc_cache.specs.Places.{is_held}
 use Rattle.svc_cache.specs.Rows.{IsRoomBelow, place_at}
 use Rattle.svc_cache.proofs.Surveys.{room-held, room-empty, leaves-new}
@@ -12,11 +12,11 @@ returns-then-precedes c =
     record {
       room = elim c.if-is_held.branch [
         | then-is_held w ↦
-          let here : is_held (place_at row k) ≡ true = sym c.is_held.ensures ∙ w.if-is_held.true in
-          subst (IsRoomBelow row (k + 1)) (sym w.empty-is) (room-held row k c.args.self.empty c.requires.before.room here)
+            let here : is_held (place_at row k) ≡ true = sym c.is_held.ensures ∙ w.if-is_held.true in
+            subst (IsRoomBelow row (k + 1)) (sym w.empty-is) (room-held row k c.args.self.empty c.requires.before.room here)
         | else-is_held w ↦
-          let here : is_held (place_at row k) ≡ false = sym c.is_held.ensures ∙ w.if-is_held.false in
-          subst (IsRoomBelow row (k + 1)) (sym w.empty-is) (room-empty row k here)
+            let here : is_held (place_at row k) ≡ false = sym c.is_held.ensures ∙ w.if-is_held.false in
+            subst (IsRoomBelow row (k + 1)) (sym w.empty-is) (room-empty row k here)
       ];
       leaves = leaves-new row k c.args.self.victim c.requires.before.leaves c.requires.within (sym c.precedes.ensures ∙ c.if-precedes.true);
     }

@@ -1,0 +1,17 @@
+//! Tasks in code: cores that turn in place, loads and stores by words, and bursts outside the lock.
+#![tactic(auto)]
+
+mod access;
+mod burst;
+mod core_state;
+mod numbers;
+mod step;
+mod turn;
+
+pub use access::{DATA_START, Place, load_place, loaded, store_place, stored};
+pub use burst::{Burst, Lease, MAX_BURST_TURNS};
+pub use core_state::Core;
+pub use svc_core_laws::{Ask, End, Ending};
+
+#[cfg(test)]
+mod tests;
