@@ -8,13 +8,14 @@ use Rattle.svc_rv32i.specs.declared.instr.StoreKind.{StoreKind}
 use Rattle.svc_rv32i.specs.declared.instr.Operation.{Operation}
 use Rattle.svc_rv32i.specs.declared.instr.ImmediateOperation.{ImmediateOperation}
 use Rattle.svc_rv32i.specs.declared.instr.ImmediateShift.{ImmediateShift}
+use Rattle.svc_rv32i.specs.declared.instr.ShiftAmount.{ShiftAmount}
 use Rattle.svc_rv32i.specs.declared.instr.Instr.{Instr}
 use Rattle.svc_rv32i.specs.declared.instr.Instr.TheVariants as i
 use Rattle.svc_rv32i.specs.Words.{word_of, r_type, comparison_code, load_code, store_code, immediate_code, shift_code, shift_sign, operation_code, operation_sign}
-use Rattle.svc_rv32i.specs.Meaning.{instr_of, short, long, i_imm, s_imm, b_imm, u_imm, j_imm}
+use Rattle.svc_rv32i.specs.Meaning.{instr_of, amount_at, short, long, i_imm, s_imm, b_imm, u_imm, j_imm}
 use Rattle.svc_rv32i.proofs.Tables.{comparison_known, load_known, store_known, immediate_known, shift_known, operation_known, comparison_small, load_small, store_small, immediate_small, shift_small, operation_small}
 use Rattle.svc_rv32i.proofs.Sums.{sum_of, Has, has, i_fields, s_fields, b_fields, u_fields, j_fields}
-use Rattle.svc_rv32i.proofs.Same.{same_register}
+use Rattle.svc_rv32i.proofs.Same.{same_register, same_amount}
 
 -- what the opcode and the codes say
 lui_is : (f : Fields) → f.opcode ≡ 55 → instr_of f ≡ Some (i.Lui f.rd (long (u_imm f)))
@@ -49,7 +50,7 @@ immediate_is : (f : Fields) (o : ImmediateOperation) → f.opcode ≡ 19 → f.f
 unfolding instr_of
 immediate_is f o e g = simp (e, g, immediate_known o)
 
-shift_is : (f : Fields) (o : ImmediateShift) → f.opcode ≡ 19 → f.funct3 ≡ shift_code o → f.funct7 ≡ shift_sign o → instr_of f ≡ Some (i.ShiftImm o f.rd f.rs1 f.rs2)
+shift_is : (f : Fields) (o : ImmediateShift) → f.opcode ≡ 19 → f.funct3 ≡ shift_code o → f.funct7 ≡ shift_sign o → instr_of f ≡ Some (i.ShiftImm o f.rd f.rs1 (amount_at f))
 unfolding instr_of
 shift_is f o e g h = simp (e, g, (shift_known o).0, g, h, (shift_known o).1)
 
@@ -68,6 +69,10 @@ ecall_is f h = simp (h.opcode, h.rd, h.funct3, h.rs1, h.funct7, h.rs2)
 ebreak_is : (f : Fields) → Has f 115 0 0 0 1 0 → instr_of f ≡ Some i.Ebreak
 unfolding instr_of
 ebreak_is f h = simp (h.opcode, h.rd, h.funct3, h.rs1, h.funct7, h.rs2)
+
+amount_is : (f : Fields) (amount : ShiftAmount) → f.rs2.number ≡ amount.bits → amount_at f ≡ amount
+unfolding amount_at
+amount_is f amount e = same_amount (amount_at f) amount e
 
 ecall_sum : r_type 115 0 0 0 0 0 ≡ 0x00000073
 unfolding r_type
@@ -118,10 +123,10 @@ instr_known (i.OpImm o rd rs1 imm) f e =
     let r = same_register f.rs1 rs1 p.3 in
     immediate_is f o p.0 p.2 ∙ cc p.4
 instr_known (i.ShiftImm o rd rs1 amount) f e =
-    let h = has f 19 rd.number (shift_code o) rs1.number amount.number (shift_sign o) (lit< tt) rd.in_range (shift_small o) rs1.in_range amount.in_range e in
+    let h = has f 19 rd.number (shift_code o) rs1.number amount.bits (shift_sign o) (lit< tt) rd.in_range (shift_small o) rs1.in_range amount.in_range e in
     let q = same_register f.rd rd h.rd in
     let r = same_register f.rs1 rs1 h.rs1 in
-    let s = same_register f.rs2 amount h.rs2 in
+    let s = amount_is f amount h.rs2 in
     shift_is f o h.opcode h.funct3 h.funct7 ∙ cc
 instr_known (i.Op o rd rs1 rs2) f e =
     let h = has f 51 rd.number (operation_code o) rs1.number rs2.number (operation_sign o) (lit< tt) rd.in_range (operation_small o) rs1.in_range rs2.in_range e in

@@ -21,6 +21,13 @@ pub struct Long {
     pub ghost in_range: { bits < 2 ^ 20 },
 }
 
+/// The amount of a shift by an immediate, in bits.
+#[derive(Clone, Copy, Debug, PartialEq, Eq)]
+pub struct ShiftAmount {
+    pub bits: u8,
+    pub ghost in_range: { bits < 2 ^ 5 },
+}
+
 /// What a branch tests.
 #[derive(Clone, Copy, Debug, PartialEq, Eq)]
 pub enum Comparison {
@@ -137,7 +144,7 @@ pub enum Instr {
         op: ImmediateShift,
         rd: Register,
         rs1: Register,
-        amount: Register,
+        amount: ShiftAmount,
     },
     Op {
         op: Operation,

@@ -1,10 +1,10 @@
 ghost use Rattle.std.specs.Prelude.{◌≡◌, ℕ, ◌<◌, ◌^◌, ◌↔◌, Some};
 ghost use Rattle.svc_rv32i.specs.Words.{word_of};
-ghost use Rattle.svc_rv32i.specs.Meaning.{register, short, long, fields_at, i_imm, s_imm, b_imm, u_imm, j_imm, system_of, immediate_or_shift, instr_of, meaning};
+ghost use Rattle.svc_rv32i.specs.Meaning.{register, short, long, amount_at, fields_at, i_imm, s_imm, b_imm, u_imm, j_imm, system_of, immediate_or_shift, instr_of, meaning};
 
 use crate::codes::{comparison_at, immediate_at, load_at, operation_at, shift_at, store_at};
 use crate::fields::Fields;
-use crate::instr::{ImmediateOperation, Instr, Long, Register, Short};
+use crate::instr::{ImmediateOperation, Instr, Long, Register, ShiftAmount, Short};
 
 #[tactic(auto, unfolding(crate::specs::Meaning::register), using(crate::proofs::Same::same_register))]
 fn lowest_register(bits: u32) -> Register
@@ -86,6 +86,13 @@ fn j_immediate(f: Fields) -> Long
     }
 }
 
+#[tactic(auto, unfolding(crate::specs::Meaning::amount_at), using(crate::proofs::Same::same_amount))]
+fn shift_amount(f: Fields) -> ShiftAmount
+    ensures { result ≡ amount_at f }
+{
+    ShiftAmount { bits: f.rs2.number }
+}
+
 fn system(f: Fields) -> Option<Instr>
     ensures { result ≡ system_of f }
 {
@@ -116,7 +123,7 @@ fn immediate(f: Fields, found: Option<ImmediateOperation>) -> Option<Instr>
                 op,
                 rd: f.rd,
                 rs1: f.rs1,
-                amount: f.rs2,
+                amount: shift_amount(f),
             })
         }
     }

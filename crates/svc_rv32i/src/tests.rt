@@ -95,7 +95,7 @@ fn row(instr: &Instr) -> (u32, u32, u32, u32) {
                 mnemonic,
                 rd.number as u32,
                 rs1.number as u32,
-                amount.number as u32,
+                amount.bits as u32,
             )
         }
         Instr::Op { op, rd, rs1, rs2 } => {

@@ -19,18 +19,19 @@ fn six_fields(opcode: u32, rd: u32, funct3: u32, rs1: u32, rs2: u32, funct7: u32
     opcode + (rd << 7) + (funct3 << 12) + (rs1 << 15) + (rs2 << 20) + (funct7 << 25)
 }
 
-fn r_word(opcode: u32, rd: Register, functs: (u8, u8), rs1: Register, rs2: Register) -> u32
+fn r_word(opcode: u32, rd: Register, functs: (u8, u8), rs1: Register, rs2: u8) -> u32
     requires opcode { opcode < 2 ^ 7 }
     requires funct3 { functs.0 < 2 ^ 3 }
     requires funct7 { functs.1 < 2 ^ 7 }
-    ensures { result ≡ r_type opcode rd.number functs.0 rs1.number rs2.number functs.1 }
+    requires rs2 { rs2 < 2 ^ 5 }
+    ensures { result ≡ r_type opcode rd.number functs.0 rs1.number rs2 functs.1 }
 {
     six_fields(
         opcode,
         rd.number as u32,
         functs.0 as u32,
         rs1.number as u32,
-        rs2.number as u32,
+        rs2 as u32,
         functs.1 as u32,
     )
 }
@@ -149,13 +150,13 @@ pub fn encode(instr: &Instr) -> u32
             rd,
             rs1,
             amount,
-        } => r_word(0b0010011, rd, shift_functs(op), rs1, amount),
+        } => r_word(0b0010011, rd, shift_functs(op), rs1, amount.bits),
         Instr::Op { op, rd, rs1, rs2 } => r_word(
             0b0110011,
             rd,
             operation_functs(op),
             rs1,
-            rs2,
+            rs2.number,
         ),
         Instr::Fence { rd, rs1, imm } => i_word(0b0001111, rd, 0, rs1, imm),
         Instr::Ecall => 0x00000073,

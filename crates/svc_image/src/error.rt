@@ -1,0 +1,48 @@
+// Why bytes are no image.
+
+ghost use Rattle.std.specs.Prelude.{◌≡◌};
+ghost use Rattle.svc_image.specs.declared.error.ImageError.TheVariants.{Memory};
+
+use std::alloc::AllocError;
+use thiserror::Error;
+
+/// Why bytes are no image, or no image could be made. The first eight are faults of the bytes, in the
+/// order in which a file is checked; the last says that memory ran out.
+#[derive(Clone, Copy, Debug, PartialEq, Eq, Error)]
+pub enum ImageError {
+    /// The bytes end before a field is whole.
+    #[error("the image ends too early")]
+    Short,
+    /// The first four bytes aren't `SVCI`.
+    #[error("not an image")]
+    Magic,
+    /// The version of the format is unknown.
+    #[error("unknown version of the image format")]
+    Version,
+    /// A count, or the limit of turns, is out of its range.
+    #[error("a count of the image is out of range")]
+    Count,
+    /// An entry isn't above the one before it.
+    #[error("the entries don't rise")]
+    EntryOrder,
+    /// No word of the text starts at an entry.
+    #[error("an entry is no word of the text")]
+    EntryPlace,
+    /// The first task's entry isn't among the entries.
+    #[error("the start is no entry")]
+    Start,
+    /// Bytes are left after the last data word.
+    #[error("bytes follow the image")]
+    Trailing,
+    /// Memory ran out.
+    #[error("out of memory")]
+    Memory,
+}
+
+impl From<AllocError> for ImageError {
+    ghost from_gives = { λ _ e. e ≡ Memory };
+
+    fn from(_error: AllocError) -> ImageError {
+        ImageError::Memory
+    }
+}
