@@ -1,0 +1,3 @@
+pub mod PlainMachine
+pub mod WholeMachine
+pub mod MachineLaws
