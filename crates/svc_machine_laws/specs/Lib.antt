@@ -1,3 +1,9 @@
 pub mod PlainMachine
 pub mod WholeMachine
 pub mod MachineLaws
+pub mod Events
+pub mod LineEvents
+pub mod Refusals
+pub mod Replies
+pub mod Guess
+pub mod Standing

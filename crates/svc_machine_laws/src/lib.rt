@@ -1,5 +1,6 @@
 //! The plain machine, and what it says of the whole machine.
 #![tactic(auto)]
 
-/// Nothing yet.
-pub fn law() {}
+mod reply;
+
+pub use reply::{Cause, Cut, Reply, Served, What};
