@@ -5,3 +5,12 @@ pub mod Rows
 pub mod Submits
 pub mod Steps
 pub mod Sound
+pub mod Lines
+pub mod Cases
+pub mod Places
+pub mod Accepted
+pub mod Given
+pub mod Wants
+pub mod MachineEvents
+pub mod LineUnits
+pub mod LinesKept

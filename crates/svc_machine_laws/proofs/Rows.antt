@@ -1,28 +1,12 @@
 -- A turn's row and seat, and the steps of the versioned map that it takes.
-use Rattle.std.proofs.Common.{ℕ, zero, suc, ◌≡◌, ◌==◌, Bool, true, false, ◌||◌, ◌&&◌, cond, List, [], ◌∷◌, ◌++◌, map, Option, Some, None, refl, sym, ap, ◌∙◌}
-use Rattle.std.proofs.Common.{is_none}
-use Rattle.std.proofs.lemmas.Bool.{eq-eqb, eqb-true}
-use borrow.Author.Tests.{both_ways}
+use Rattle.std.proofs.Common.{ℕ, zero, suc, ◌≡◌, Bool, true, false, List, [], ◌∷◌, ◌++◌, map, Option, Some, None, refl, sym, ap, ◌∙◌}
 use Rattle.svc_core.specs.Program.{Memory, Want, Local, Load, Store, Narrow, Emit}
-use Rattle.svc_bus_laws.specs.Versioned.{Row, Versioned, with_head, written_row, fresh_row}
+use Rattle.svc_bus_laws.specs.Versioned.{Row, Versioned, with_head, written_row}
 use Rattle.svc_bus_laws.specs.ByRows.{view_of, victim_after, edit, exposed_row}
 use Rattle.svc_machine_laws.specs.PlainMachine.{Running, row_of, cut_by}
 use Rattle.svc_machine_laws.specs.WholeMachine.{Seat, seat_of, seat_turn, map_turn}
 use Rattle.svc_machine_laws.proofs.Lists.{edit_same, edit_edit, victim_edit}
 use Rattle.svc_machine_laws.proofs.Runs.{turned}
-
--- the test for two numbers being one can be turned
-pub eqb_turned : (a b : ℕ) → (a == b) ≡ (b == a)
-eqb_turned a b = split (a == b) (b == a) refl refl
-  where
-    split : (s t : Bool) → (a == b) ≡ s → (b == a) ≡ t → s ≡ t
-    split true true e f = refl
-    split false false e f = refl
-    split true false e f = absurd (both_ways (b == a) f (eq-eqb b a (sym (eqb-true a b e))))
-    split false true e f = absurd (both_ways (a == b) e (eq-eqb a b (sym (eqb-true b a f))))
-
-row_same : (r s : Row) → ((a : ℕ) → r.versions a ≡ s.versions a) → ((a : ℕ) → r.exposed a ≡ s.exposed a) → r ≡ s
-row_same r s v e = λ i. record { versions = λ a. v a i; exposed = λ a. e a i }
 
 -- a row's turn that wants this, where memory is seen so
 abbrev pub row_turn : {C : Type 0} → Want C → Memory → Row → Row
@@ -34,13 +18,9 @@ row_turn (Emit v c) look row = row
 
 pub row_turned : {C : Type 0} (w : Want C) (look : Memory) (x : Running C) → row_of (turned w look x) ≡ row_turn w look (row_of x)
 row_turned (Local c) look x = refl
-row_turned (Load a value go) look x =
-    row_same _ _ (λ b. refl) (λ b. ap (λ t. (row_of x).exposed b || (t && is_none ((row_of x).versions b))) (eqb_turned a b))
-row_turned (Store a v c) look x = row_same _ _ (λ b. ap (λ t. cond t (Some v) ((row_of x).versions b)) (eqb_turned a b)) (λ b. refl)
-row_turned (Narrow a f c) look x =
-    row_same _ _
-    (λ b. ap (λ t. cond t (Some (f (look a))) ((row_of x).versions b)) (eqb_turned a b))
-    (λ b. ap (λ t. (row_of x).exposed b || (t && is_none ((row_of x).versions b))) (eqb_turned a b))
+row_turned (Load a value go) look x = refl
+row_turned (Store a v c) look x = refl
+row_turned (Narrow a f c) look x = refl
 row_turned (Emit v c) look x = refl
 
 pub seat_turned : {C : Type 0} (w : Want C) (look : Memory) (x : Running C) → seat_of (turned w look x) ≡ seat_turn w look (seat_of x)

@@ -7,3 +7,4 @@ pub mod Refusals
 pub mod Replies
 pub mod Guess
 pub mod Standing
+pub mod Reached
