@@ -7,3 +7,6 @@ pub mod Program
 pub mod Words
 pub mod Sequence
 pub mod Bursts
+pub mod Places
+pub mod Same
+pub mod Steps

@@ -1,17 +1,24 @@
 // A core: where a task stands.
 
+ghost use Rattle.std.specs.Prelude.{◌≡◌, ◌≤◌, ◌<◌, ◌+◌, true, IsTrue, ◌↔◌, is_none};
+ghost use Rattle.svc_image.specs.Image.{is_entry};
+ghost use Rattle.svc_core.specs.State.{value_of, start, ended};
+ghost use Rattle.svc_core.specs.Same.{same_end, same_words, same_state};
+
 use crate::end::End;
 use std::marker::Model;
+use svc_image::Image;
+use svc_rv32i::Register;
 
-/// Where a task stands: its place, registers, turns, words put out, limit and end.
+/// Where a task stands: its place, registers, turns, words put out, limit of turns, and end.
 #[derive(Clone, Copy, Debug, PartialEq, Eq)]
 pub struct Core {
-    pc: u32,
-    regs: [u32; 32],
-    count: u32,
-    emitted: u8,
-    limit: u32,
-    done: Option<End>,
+    pub(crate) pc: u32,
+    pub(crate) regs: [u32; 32],
+    pub(crate) count: u32,
+    pub(crate) emitted: u8,
+    pub(crate) limit: u32,
+    pub(crate) done: Option<End>,
 }
 
 impl Model for Core {
@@ -24,4 +31,129 @@ impl Model for Core {
     ghost invariant = { λ c. IsCore (record { pc = c.pc; regs = c.regs; count = c.count; emitted = c.emitted; limit = c.limit; done = c.done }) };
 
     ghost inverse = { λ s. record { pc = s.pc; regs = s.regs; count = s.count; emitted = s.emitted; limit = s.limit; done = s.done } };
+}
+
+impl Core {
+    /// The core of a task that begins at an entry of the image.
+    #[tactic(auto, unfolding(svc_image::specs::Image::limit_at))]
+    pub fn start(image: &Image, entry: u32) -> Core
+        requires { is_entry image.now entry ≡ true }
+        ensures { result ≡ start image.now entry }
+    {
+        let Some(limit) = image.limit_at(entry) else {
+            unreachable!()
+        };
+        let mut regs = [0; 32];
+        regs[1..].copy_from_slice(image.registers());
+        Core {
+            pc: entry,
+            regs,
+            count: 0,
+            emitted: 0,
+            limit,
+            done: None,
+        }
+    }
+
+    /// The byte address of the next instruction.
+    #[inline]
+    pub fn pc(&self) -> u32
+        ensures { result ≡ self.now.pc }
+    {
+        self.pc
+    }
+
+    /// What stands in a register.
+    #[inline]
+    pub fn value(&self, r: Register) -> u32
+        ensures { result ≡ value_of self.now r.number }
+    {
+        if r.number == 0 {
+            0
+        } else {
+            self.regs[r.number as usize]
+        }
+    }
+
+    /// The turns so far: at most the limit, and one more where the task has ended.
+    #[inline]
+    pub fn count(&self) -> u32
+        ensures value { result ≡ self.now.count }
+        ensures few { self.now.count ≤ self.now.limit + ended self.now.done }
+    {
+        self.count
+    }
+
+    /// The words put out so far, at most 64.
+    #[inline]
+    pub fn emitted(&self) -> u8
+        ensures value { result ≡ self.now.emitted }
+        ensures few { self.now.emitted ≤ 64 }
+    {
+        self.emitted
+    }
+
+    /// The limit of turns, from 1 to 65,536.
+    #[inline]
+    pub fn limit(&self) -> u32
+        ensures value { result ≡ self.now.limit }
+        ensures some { 1 ≤ self.now.limit }
+        ensures few { self.now.limit ≤ 65536 }
+    {
+        self.limit
+    }
+
+    /// How the task has ended, where it has.
+    #[inline]
+    pub fn done(&self) -> Option<End>
+        ensures { result ≡ self.now.done }
+    {
+        self.done
+    }
+
+    /// Whether the task has not ended.
+    #[inline]
+    pub fn is_running(&self) -> bool
+        ensures { result ≡ is_none self.now.done }
+    {
+        self.done.is_none()
+    }
+
+    /// Whether two cores are one.
+    pub fn is_same(&self, other: &Core) -> bool
+        ensures test { result ≡ same_state self.now other.now }
+        ensures same { IsTrue result ↔ (self.now ≡ other.now) }
+    {
+        self.has_same_fields(other)
+    }
+
+    fn has_same_fields(&self, other: &Core) -> bool
+        ensures { result ≡ same_state self.now other.now }
+    {
+        self.pc == other.pc
+            && self.count == other.count
+            && self.emitted == other.emitted
+            && self.limit == other.limit
+            && is_same_end(self.done, other.done)
+            && are_same_words(&self.regs, &other.regs)
+    }
+}
+
+fn is_same_end(a: Option<End>, b: Option<End>) -> bool
+    ensures { result ≡ same_end a b }
+{
+    match (a, b) {
+        (None, None) => true,
+        (Some(End::Next(a)), Some(End::Next(b))) => a == b,
+        (Some(End::Exit(a)), Some(End::Exit(b))) => a == b,
+        (Some(End::Trap(a)), Some(End::Trap(b))) => a == b,
+        _ => false,
+    }
+}
+
+#[tactic(auto, using(crate::proofs::SameCore::words))]
+fn are_same_words(a: &[u32; 32], b: &[u32; 32]) -> bool
+    ensures { result ≡ same_words a.now b.now }
+{
+    *a == *b
 }

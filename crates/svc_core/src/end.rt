@@ -1,5 +1,8 @@
 // How tasks and runs end.
 
+ghost use Rattle.std.specs.Prelude.{◌≡◌};
+ghost use Rattle.svc_core.specs.Sequence.{ending_of, goes_on_at};
+
 /// How a task ended.
 #[derive(Clone, Copy, Debug, PartialEq, Eq)]
 pub enum End {
@@ -24,4 +27,28 @@ pub enum Ending {
     Full(u32),
     /// The task at this entry is next.
     Open(u32),
+}
+
+impl Ending {
+    /// The ending of a run by the end that has stopped it, if one has, and the entry that is due.
+    pub fn of(full: bool, stopped: Option<End>, due: Option<u32>) -> Ending
+        ensures { result ≡ ending_of full stopped due }
+    {
+        match stopped {
+            Some(End::Exit(code)) => Ending::Exit(code),
+            Some(End::Trap(number)) => Ending::Trap(number),
+            Some(End::Next(entry)) => Ending::going_on(full, entry),
+            None => Ending::going_on(full, due.unwrap_or(0)),
+        }
+    }
+
+    fn going_on(full: bool, entry: u32) -> Ending
+        ensures { result ≡ goes_on_at full entry }
+    {
+        if full {
+            Ending::Full(entry)
+        } else {
+            Ending::Open(entry)
+        }
+    }
 }

@@ -1,0 +1,112 @@
+// Immediates, operations and comparisons of 32 bits.
+
+ghost use Rattle.std.specs.Prelude.{◌≡◌};
+ghost use Rattle.svc_core.specs.Numbers.{operated, on_registers, shift_on_registers, compared, short_value, branch_offset, jump_offset, upper_value};
+
+use svc_rv32i::{Comparison, ImmediateOperation, ImmediateShift, Long, Operation, Short};
+
+// The sign-extended immediate of a load, a store, a JALR or an operation.
+#[inline]
+pub(crate) fn value_of_short(imm: Short) -> u32
+    ensures { result ≡ short_value imm }
+{
+    let bits = imm.bits as u32;
+    if bits < 0x800 {
+        bits
+    } else {
+        bits + 0xFFFF_F000
+    }
+}
+
+#[inline]
+pub(crate) fn offset_of_branch(imm: Short) -> u32
+    ensures { result ≡ branch_offset imm }
+{
+    let offset = imm.bits as u32 * 2;
+    if offset < 0x1000 {
+        offset
+    } else {
+        offset + 0xFFFF_E000
+    }
+}
+
+#[inline]
+pub(crate) fn offset_of_jump(imm: Long) -> u32
+    ensures { result ≡ jump_offset imm }
+{
+    let offset = imm.bits * 2;
+    if offset < 0x10_0000 {
+        offset
+    } else {
+        offset + 0xFFE0_0000
+    }
+}
+
+#[inline]
+pub(crate) fn value_of_upper(imm: Long) -> u32
+    ensures { result ≡ upper_value imm }
+{
+    let bits = imm.bits;
+    bits << 12
+}
+
+// What an operation gives for its two numbers.
+#[inline]
+#[tactic(auto, unfolding(crate::specs::Numbers::operated))]
+pub(crate) fn operate(op: Operation, a: u32, b: u32) -> u32
+    ensures { result ≡ operated op a b }
+{
+    match op {
+        Operation::Add => a.wrapping_add(b),
+        Operation::Sub => a.wrapping_sub(b),
+        Operation::ShiftLeft => a << (b % 32),
+        Operation::SetLess => (a.cast_signed() < b.cast_signed()) as u32,
+        Operation::SetLessUnsigned => (a < b) as u32,
+        Operation::Xor => a ^ b,
+        Operation::ShiftRight => a >> (b % 32),
+        Operation::ShiftRightArithmetic => (a.cast_signed() >> (b % 32)).cast_unsigned(),
+        Operation::Or => a | b,
+        Operation::And => a & b,
+    }
+}
+
+#[inline]
+pub(crate) fn with_registers(op: ImmediateOperation) -> Operation
+    ensures { result ≡ on_registers op }
+{
+    match op {
+        ImmediateOperation::Add => Operation::Add,
+        ImmediateOperation::SetLess => Operation::SetLess,
+        ImmediateOperation::SetLessUnsigned => Operation::SetLessUnsigned,
+        ImmediateOperation::Xor => Operation::Xor,
+        ImmediateOperation::Or => Operation::Or,
+        ImmediateOperation::And => Operation::And,
+    }
+}
+
+#[inline]
+pub(crate) fn shift_with_registers(op: ImmediateShift) -> Operation
+    ensures { result ≡ shift_on_registers op }
+{
+    match op {
+        ImmediateShift::Left => Operation::ShiftLeft,
+        ImmediateShift::Right => Operation::ShiftRight,
+        ImmediateShift::RightArithmetic => Operation::ShiftRightArithmetic,
+    }
+}
+
+// Whether a branch is taken.
+#[inline]
+#[tactic(auto, unfolding(crate::specs::Numbers::compared))]
+pub(crate) fn compare(test: Comparison, a: u32, b: u32) -> bool
+    ensures { result ≡ compared test a b }
+{
+    match test {
+        Comparison::Equal => a == b,
+        Comparison::NotEqual => a != b,
+        Comparison::Less => a.cast_signed() < b.cast_signed(),
+        Comparison::GreaterEqual => a.cast_signed() >= b.cast_signed(),
+        Comparison::LessUnsigned => a < b,
+        Comparison::GreaterEqualUnsigned => a >= b,
+    }
+}
