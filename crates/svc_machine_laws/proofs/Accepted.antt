@@ -8,6 +8,8 @@ use Rattle.svc_base.specs.declared.config.Config.{Config}
 use Rattle.svc_image.specs.Image.{Image, is_entry}
 use Rattle.svc_core.specs.declared.end.End.{End}
 use Rattle.svc_core.specs.State.{State}
+use Rattle.svc_core.specs.Same.{same_state}
+use Rattle.svc_core.proofs.SameCore.{same_state-is}
 use Rattle.svc_core.specs.Program.{Program, seq}
 use Rattle.svc_core.specs.Words.{program}
 use Rattle.svc_core.specs.Bursts.{Advance, are_of, is_nothing}
@@ -15,9 +17,9 @@ use Rattle.svc_bus_laws.specs.Refusals.{table_cache, is_pinned}
 use Rattle.svc_machine_laws.specs.PlainMachine.{Running, running, unit_of}
 use Rattle.svc_machine_laws.specs.WholeMachine.{Seat, Machine, machine_of, seat_of, seat_unit}
 use Rattle.svc_machine_laws.specs.Events.{Event, Assign, Submit, Replace, Cancel, Commit, place_in, task_place, seat_place}
-use Rattle.svc_machine_laws.specs.Refusals.{same_core, seat_at, is_current, has_ended, cases_of, first_case, refuse, full_set, asked_word}
+use Rattle.svc_machine_laws.specs.Refusals.{seat_at, is_current, has_ended, cases_of, first_case, refuse, full_set, asked_word}
 use Rattle.svc_machine_laws.specs.Standing.{Standing, refused}
-use Rattle.svc_machine_laws.proofs.Cases.{no_case, some_of, none_of, and_not, same_cores_are}
+use Rattle.svc_machine_laws.proofs.Cases.{no_case, some_of, none_of, and_not}
 use Rattle.svc_machine_laws.proofs.Parts.{and_left, and_right}
 use Rattle.svc_machine_laws.proofs.Places.{found, within, some_at}
 use Rattle.svc_machine_laws.proofs.Steps.{map_runs}
@@ -34,15 +36,15 @@ pub record CanAssign (img : Image) (config : Config) (s : Standing) (unit guess 
 
 pub record CanSubmit (img : Image) (config : Config) (s : Standing) (b : Advance) : Type 0 where
   pub place : ℕ
-  pub at : task_place s.plain b.unit ≡ Some place
+  pub at : task_place s.plain b.unit.0 ≡ Some place
   pub run : Running State
   pub here : slice_get (running (program img) s.plain) place ≡ Some run
   pub start : run.run.core ≡ b.start
   pub ours : are_of img b.looks ≡ true
   pub going : run.run.core.done ≡ None
-  pub free : full_set s.lines b.unit (asked_word img b.ask) ≡ None
+  pub free : full_set s.lines b.unit.0 (asked_word img b.ask) ≡ None
   pub room : s.plain.accepted < config.events
-  pub some : (is_nothing b.ask && same_core b.end b.start) ≡ false
+  pub some : (is_nothing b.ask && same_state b.end b.start) ≡ false
 
 pub record CanReplace (config : Config) (s : Standing) (unit a : ℕ) : Type 0 where
   pub unpinned : is_pinned (table_cache s.lines unit) s.lines.units unit a ≡ false
@@ -101,22 +103,22 @@ module _ (img : Image) (config : Config) (s : Standing) where
   pub can_submit : (b : Advance) → refused img config s (Submit b) ≡ None → CanSubmit img config s b
   can_submit b h =
       let off = no_case (cases_of img config m s.lines (Submit b)) (cases (Submit b) h) in
-      let spot = some_of (seat_place m b.unit) (off 1) in
-      let run = run_here b.unit spot.0 spot.1 in
-      let seat : seat_at m b.unit ≡ Some (seat_of run.0) =
+      let spot = some_of (seat_place m b.unit.0) (off 1) in
+      let run = run_here b.unit.0 spot.0 spot.1 in
+      let seat : seat_at m b.unit.0 ≡ Some (seat_of run.0) =
       ap (λ o. unwrap_or (option_map (slice_get m.seats) o) None) spot.1 ∙ seat_here spot.0 ∙ ap (option_map seat_of) run.1 in
-      let current : is_current b (Some (seat_of run.0)) ≡ true = subst (λ o. is_current b o ≡ true) seat (not-false (is_current b (seat_at m b.unit)) (off 2)) in
-      let core : b.start ≡ run.0.run.core = same_cores_are b.start run.0.run.core (and_right (b.epoch == run.0.task.epoch) (same_core b.start run.0.run.core) current) in
+      let current : is_current b (Some (seat_of run.0)) ≡ true = subst (λ o. is_current b o ≡ true) seat (not-false (is_current b (seat_at m b.unit.0)) (off 2)) in
+      let core : b.start ≡ run.0.run.core = same_state-is b.start run.0.run.core (and_right (b.epoch == run.0.task.epoch) (same_state b.start run.0.run.core) current) in
       let ended : has_ended (Some (seat_of run.0)) ≡ false = subst (λ o. has_ended o ≡ false) seat (off 4) in
       record {
         place = spot.0;
-        at = sym (seat_places b.unit) ∙ spot.1;
+        at = sym (seat_places b.unit.0) ∙ spot.1;
         run = run.0;
         here = run.1;
         start = sym core;
         ours = not-false (are_of img b.looks) (off 3);
         going = none_of run.0.run.core.done ended;
-        free = none_of (full_set s.lines b.unit (asked_word img b.ask)) (off 5);
+        free = none_of (full_set s.lines b.unit.0 (asked_word img b.ask)) (off 5);
         room = below s.plain.accepted config.events (off 6);
         some = off 7;
       }

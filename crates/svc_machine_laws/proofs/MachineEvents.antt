@@ -43,7 +43,7 @@ module _ (img : Image) (given : Given img) (config : Config) (s : Standing) wher
       let can = can_submit img config s b h in
       ap (λ o. machine_of (program img) (plain_submit img s.plain o b)) can.at
       ∙ submit_step (program img) s.plain can.place b.local b.end (asked_want img b) (taken b is can)
-      ∙ sym (ap (λ o. whole_submit img (machine_of (program img) s.plain) o b) (seat_places img config s b.unit ∙ can.at))
+      ∙ sym (ap (λ o. whole_submit img (machine_of (program img) s.plain) o b) (seat_places img config s b.unit.0 ∙ can.at))
   machine_event reached (Replace unit address) is h = refl
   machine_event reached (Cancel unit) is h =
       let can = can_cancel img config s unit h in

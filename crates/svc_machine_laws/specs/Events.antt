@@ -65,7 +65,7 @@ plain_cancel s (Some place) = plain.cancel s place
 
 unfoldable pub plain_event : Image → Plain → Event → Plain
 plain_event img s (Assign unit guess) = plain.assign (program img) s unit guess
-plain_event img s (Submit b) = plain_submit img s (task_place s b.unit) b
+plain_event img s (Submit b) = plain_submit img s (task_place s b.unit.0) b
 plain_event img s (Replace unit address) = plain.replace s
 plain_event img s (Cancel unit) = plain_cancel s (task_place s unit)
 plain_event img s (Commit by) = plain.commit (program img) s
@@ -81,7 +81,7 @@ whole_cancel m (Some place) = whole.cancel m place
 
 unfoldable pub whole_event : Image → Machine State → Event → Machine State
 whole_event img m (Assign unit guess) = whole.assign (program img) m unit guess
-whole_event img m (Submit b) = whole_submit img m (seat_place m b.unit) b
+whole_event img m (Submit b) = whole_submit img m (seat_place m b.unit.0) b
 whole_event img m (Replace unit address) = whole.replace m
 whole_event img m (Cancel unit) = whole_cancel m (seat_place m unit)
 whole_event img m (Commit by) = whole.commit (program img) m

@@ -42,7 +42,7 @@ line_commit p t (s ∷ seats) = commit (line_settle t (stays (p.done s.core) (ma
 
 unfoldable pub line_event : Image → Machine State → LineTable → Event → LineTable
 line_event img m t (Assign unit guess) = begin t unit
-line_event img m t (Submit b) = line_submit (asked_want img b) t (seat_place m b.unit)
+line_event img m t (Submit b) = line_submit (asked_want img b) t (seat_place m b.unit.0)
 line_event img m t (Replace unit address) = replace t unit address
 line_event img m t (Cancel unit) = line_cancel t (seat_place m unit)
 line_event img m t (Commit by) = line_commit (program img) t m.seats

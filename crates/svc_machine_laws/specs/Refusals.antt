@@ -7,9 +7,8 @@ use Rattle.svc_base.specs.declared.refusal.Refusal.TheVariants as refusal
 use Rattle.svc_image.specs.Image.{Image, is_entry}
 use Rattle.svc_core.specs.declared.ask.Ask.{Ask}
 use Rattle.svc_core.specs.declared.ask.Ask.TheVariants as ask
-use Rattle.svc_core.specs.declared.end.End.{End}
-use Rattle.svc_core.specs.declared.end.End.TheVariants as end
 use Rattle.svc_core.specs.State.{State}
+use Rattle.svc_core.specs.Same.{same_state}
 use Rattle.svc_core.specs.Numbers.{load_bytes, store_bytes}
 use Rattle.svc_core.specs.Turns.{data_words, word_address, access_trap}
 use Rattle.svc_core.specs.Bursts.{Advance, are_of, is_nothing}
@@ -18,31 +17,6 @@ use Rattle.svc_bus_laws.specs.Refusals.{table_cache, set_full, is_not_resident, 
 use Rattle.svc_machine_laws.specs.WholeMachine.{Machine, Seat}
 use Rattle.svc_machine_laws.specs.Events.{Event, Assign, Submit, Replace, Cancel, Commit, seat_place}
 
--- the test for two ends being one
-abbrev pub same_end : Option End → Option End → Bool
-same_end None None = true
-same_end None (Some e) = false
-same_end (Some e) None = false
-same_end (Some (end.Next a)) (Some (end.Next b)) = a == b
-same_end (Some (end.Next a)) (Some (end.Exit b)) = false
-same_end (Some (end.Next a)) (Some (end.Trap b)) = false
-same_end (Some (end.Exit a)) (Some (end.Next b)) = false
-same_end (Some (end.Exit a)) (Some (end.Exit b)) = a == b
-same_end (Some (end.Exit a)) (Some (end.Trap b)) = false
-same_end (Some (end.Trap a)) (Some (end.Next b)) = false
-same_end (Some (end.Trap a)) (Some (end.Exit b)) = false
-same_end (Some (end.Trap a)) (Some (end.Trap b)) = a == b
-
-abbrev pub same_words : List ℕ → List ℕ → Bool
-same_words [] [] = true
-same_words [] (y ∷ ys) = false
-same_words (x ∷ xs) [] = false
-same_words (x ∷ xs) (y ∷ ys) = (x == y) && same_words xs ys
-
--- the test for two cores being one
-unfoldable pub same_core : State → State → Bool
-same_core c d = (c.pc == d.pc) && (same_words c.regs d.regs && ((c.count == d.count) && ((c.emitted == d.emitted) && ((c.limit == d.limit) && same_end c.done d.done))))
-
 -- the seat of the unit's task
 abbrev pub seat_at : {C : Type 0} → Machine C → ℕ → Option (Seat C)
 seat_at m unit = unwrap_or (option_map (slice_get m.seats) (seat_place m unit)) None
@@ -50,7 +24,7 @@ seat_at m unit = unwrap_or (option_map (slice_get m.seats) (seat_place m unit)) 
 -- the burst is of the unit's task as it stands
 abbrev pub is_current : Advance → Option (Seat State) → Bool
 is_current b None = false
-is_current b (Some s) = (b.epoch == s.epoch) && same_core b.start s.core
+is_current b (Some s) = (b.epoch == s.epoch) && same_state b.start s.core
 
 abbrev pub has_ended : Option (Seat State) → Bool
 has_ended None = false
@@ -90,15 +64,15 @@ cases_of img config m t (Assign unit guess) =
     ∷ (m.epoch == 2 ^ 64 - 1, refusal.EpochsSpent)
     ∷ []
 cases_of img config m t (Submit b) =
-    let full = full_set t b.unit (asked_word img b.ask) in
-    (no_unit config b.unit, refusal.NoSuchUnit)
-    ∷ (is_none (seat_place m b.unit), refusal.Idle)
-    ∷ (not (is_current b (seat_at m b.unit)), refusal.Stale)
+    let full = full_set t b.unit.0 (asked_word img b.ask) in
+    (no_unit config b.unit.0, refusal.NoSuchUnit)
+    ∷ (is_none (seat_place m b.unit.0), refusal.Idle)
+    ∷ (not (is_current b (seat_at m b.unit.0)), refusal.Stale)
     ∷ (not (are_of img b.looks), refusal.ForeignText)
-    ∷ (has_ended (seat_at m b.unit), refusal.Done)
+    ∷ (has_ended (seat_at m b.unit.0), refusal.Done)
     ∷ (is_some full, refusal.SetFull (record { 0 = unwrap_or full 0 }))
     ∷ (history_full config m, refusal.HistoryFull)
-    ∷ (is_nothing b.ask && same_core b.end b.start, refusal.EmptyBurst)
+    ∷ (is_nothing b.ask && same_state b.end b.start, refusal.EmptyBurst)
     ∷ []
 cases_of img config m t (Replace unit address) =
     (no_unit config unit, refusal.NoSuchUnit)

@@ -103,7 +103,7 @@ whole_committed p k (s ∷ seats) = committed k (p.done s.core) (stays (p.done s
 unfoldable pub whole_reply : Image → Machine State → LineTable → Event → Reply
 whole_reply img m t (Assign unit guess) =
     record { what = what.Assigned (record { 0 = m.versioned.commits + length m.seats }) (entry_for m.due (map seat_entry m.seats) guess) m.epoch; cut = None }
-whole_reply img m t (Submit b) = whole_submitted (program img) m t (seat_place m b.unit) (asked_want img b)
+whole_reply img m t (Submit b) = whole_submitted (program img) m t (seat_place m b.unit.0) (asked_want img b)
 whole_reply img m t (Replace unit address) = record { what = what.Replaced (record { 0 = address }); cut = None }
 whole_reply img m t (Cancel unit) = whole_cancelled m (seat_place m unit)
 whole_reply img m t (Commit by) = whole_committed (program img) m.versioned.commits m.seats
@@ -140,7 +140,7 @@ plain_committed p k (t ∷ ts) =
 unfoldable pub plain_reply : Image → Plain → LineTable → Event → Reply
 plain_reply img s t (Assign unit guess) =
     record { what = what.Assigned (record { 0 = s.commits + length s.tasks }) (entry_for (seq (program img) s.commits).due (map entry_of s.tasks) guess) s.epoch; cut = None }
-plain_reply img s t (Submit b) = plain_submitted (program img) s t (task_place s b.unit) b.local (is_some (asked_want img b))
+plain_reply img s t (Submit b) = plain_submitted (program img) s t (task_place s b.unit.0) b.local (is_some (asked_want img b))
 plain_reply img s t (Replace unit address) = record { what = what.Replaced (record { 0 = address }); cut = None }
 plain_reply img s t (Cancel unit) = plain_cancelled s (task_place s unit)
 plain_reply img s t (Commit by) = plain_committed (program img) s.commits s.tasks
