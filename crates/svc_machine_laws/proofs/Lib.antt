@@ -14,3 +14,7 @@ pub mod Wants
 pub mod MachineEvents
 pub mod LineUnits
 pub mod LinesKept
+pub mod Every
+pub mod Stay
+pub mod Standings
+pub mod Folds

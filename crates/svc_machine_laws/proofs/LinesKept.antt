@@ -6,7 +6,7 @@ use Rattle.svc_base.specs.declared.config.Config.{Config}
 use Rattle.svc_image.specs.Image.{Image}
 use Rattle.svc_core.specs.declared.end.End.{End}
 use Rattle.svc_core.specs.State.{State}
-use Rattle.svc_core.specs.Program.{Memory, Program, Want, Run, wrote, over, part, seq}
+use Rattle.svc_core.specs.Program.{Memory, Program, Want, Run, wrote, over, part, seq, IsProgram}
 use Rattle.svc_core.specs.Words.{program}
 use Rattle.svc_core.specs.Bursts.{Advance, Follows}
 use Rattle.svc_bus_laws.specs.Versioned.{Row, Versioned}
@@ -14,7 +14,7 @@ use Rattle.svc_bus_laws.specs.Versioned as map_of
 use Rattle.svc_bus_laws.specs.ByRows.{edit}
 use Rattle.svc_bus_laws.specs.ByRows as rows
 use Rattle.svc_bus_laws.specs.LineTable.{LineTable, versioned, unit_at}
-use Rattle.svc_bus_laws.specs.Steps.{begin, replace, squash}
+use Rattle.svc_bus_laws.specs.Steps.{begin, replace, squash, commit}
 use Rattle.svc_bus_laws.specs.Refusals.{is_pinned, table_cache}
 use Rattle.svc_bus_laws.proofs.BeginLaws.{begin_sound, begin_map}
 use Rattle.svc_bus_laws.proofs.ReplaceLaws.{replace_sound, replace_map}
@@ -136,3 +136,46 @@ module _ (img : Image) (config : Config) where
         ways = are.ways;
         words = are.words;
       }
+
+  committed_units : (t : LineTable) (keep : Bool) → (commit (line_settle t keep)).units ≡ cond keep (drop 1 t.units) (drop 1 (take 1 t.units))
+  committed_units t true = refl
+  committed_units t false = refl
+
+  committed_keeps : {X : Type 0} (f : LineTable → X) (t : LineTable) (keep : Bool) → f (commit t) ≡ f t → f (commit (squash t 1)) ≡ f t → f (commit (line_settle t keep)) ≡ f t
+  committed_keeps f t true e g = e
+  committed_keeps f t false e g = g
+
+  kept_units : (b : Bool) (u : ℕ) (ts : List Task) → cond b (map unit_of ts) (drop 1 (take 1 (u ∷ map unit_of ts))) ≡ map unit_of (cond b ts [])
+  kept_units true u ts = refl
+  kept_units false u ts = refl
+
+  commit_lines : IsProgram p → (k a e : ℕ) (ts : List Task) (t : LineTable) (x : Running State) (ended : End)
+      → let s : Plain = record { commits = k; accepted = a; epoch = e; tasks = ts } in
+      slice_get (running p s) 0 ≡ Some x → IsDue (seq p k).due ts → HasEnded p s → AreItsLines img config s t
+      → AreItsLines img config (plain.commit p s) (line_commit p t (machine_of p s).seats)
+  commit_lines good k a e [] t x ended here due done are = absurd (none-some x here)
+  commit_lines good k a e (tk ∷ ts) t x ended here due done are =
+      let s : Plain = record { commits = k; accepted = a; epoch = e; tasks = tk ∷ ts } in
+      let r : Run State = part p tk.entry tk.turns (seq p k).memory in
+      let rest : List (Seat State) = map seat_of (runs_of p (over (wrote r.log) (seq p k).memory) ts) in
+      let keep : Bool = stays r.core.done (map seat_entry rest) in
+      let same : map seat_entry rest ≡ map entry_of ts = map_runs p seat_entry entry_of (λ y. refl) (over (wrote r.log) (seq p k).memory) ts in
+      let some : 0 < length t.units = let n = ap length are.units in omega (arith, n) in
+      let step = line_commit_step t keep are.sound some in
+      record {
+        sound = step.sound;
+        same_map = step.same_map ∙ ap (λ v. rows.commit (settle v keep)) are.same_map ∙ ap (λ (m : Machine State). m.versioned) (sym (commit_step p good s due done));
+        units = committed_units t keep
+        ∙ ap (λ us. cond keep (drop 1 us) (drop 1 (take 1 us))) are.units
+        ∙ kept_units keep tk.unit ts
+        ∙ ap (λ es. map unit_of (cond (stays r.core.done es) ts [])) same;
+        caches = committed_keeps (λ u. u.caches) t keep refl refl ∙ are.caches;
+        sets = committed_keeps (λ u. u.sets) t keep refl refl ∙ are.sets;
+        ways = committed_keeps (λ u. u.ways) t keep refl refl ∙ are.ways;
+        words = committed_keeps (λ u. u.words) t keep refl refl ∙ are.words;
+      }
+
+  pub lines_commit : IsProgram p → (s : Plain) (t : LineTable) (x : Running State)
+      → slice_get (running p s) 0 ≡ Some x → IsDue (seq p s.commits).due s.tasks → (done : HasEnded p s) → AreItsLines img config s t
+      → AreItsLines img config (plain.commit p s) (line_commit p t (machine_of p s).seats)
+  lines_commit good s t x here due done are = commit_lines good s.commits s.accepted s.epoch s.tasks t x done.end here due done are

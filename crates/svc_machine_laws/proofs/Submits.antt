@@ -40,19 +40,19 @@ abbrev pub asked_run : {C : Type 0} → Program C → ℕ → Want C → Memory 
 asked_run p n w look x = turned w look (local_run p n x)
 
 module _ {C : Type 0} (p : Program C) (n : ℕ) (m : Memory) (ts : List Task) (place : ℕ) (x : Running C) (at : slice_get (runs_of p m ts) place ≡ Some x) (own : are_local p n x.run.core ≡ true) where
-  abbrev runs : List (Running C)
+  abbrev pub runs : List (Running C)
   runs = runs_of p m ts
 
-  abbrev rows : List Row
+  abbrev pub rows : List Row
   rows = map row_of runs
 
-  local_runs : runs_of p m (edit place (more n) None ts) ≡ edit place (local_run p n) None runs
+  pub local_runs : runs_of p m (edit place (more n) None ts) ≡ edit place (local_run p n) None runs
   local_runs = local_at p n m ts place (λ y h. subst (λ (z : Running C). are_local p n z.run.core ≡ true) (same_Some x y (sym at ∙ h)) own)
 
   local_rows : map row_of (edit place (local_run p n) None runs) ≡ rows
   local_rows = map_edit row_of (local_run p n) (λ r. r) place None runs (λ y h. refl) ∙ edit_same place rows
 
-  asked_runs : runs_of p m (asked p m (edit place (more n) None ts) place)
+  pub asked_runs : runs_of p m (asked p m (edit place (more n) None ts) place)
       ≡ edit place (asked_run p n (p.want (locals p n x.run.core)) (view_of rows m place)) (cut_by (p.want (locals p n x.run.core)) rows place) runs
   asked_runs =
       let now : List Task = edit place (more n) None ts in

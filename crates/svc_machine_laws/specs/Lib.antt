@@ -8,3 +8,4 @@ pub mod Replies
 pub mod Guess
 pub mod Standing
 pub mod Reached
+pub mod Headline

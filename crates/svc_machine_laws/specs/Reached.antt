@@ -1,5 +1,6 @@
 -- What holds of every standing that events lead to.
-use Rattle.std.specs.Prelude.{ℕ, ◌≡◌, ◌≤◌, true, List, [], All, map, Option, Some, None, is_some, slice_get}
+use Rattle.std.specs.Prelude.{ℕ, ◌≡◌, ◌≤◌, true, List, [], map, Option, Some, None, is_some, slice_get}
+use Rattle.std.specs.List.{AllByRecursion}
 use Rattle.svc_base.specs.declared.config.Config.{Config}
 use Rattle.svc_image.specs.Image.{Image, is_entry}
 use Rattle.svc_core.specs.State.{State}
@@ -34,8 +35,8 @@ pub record IsReached (img : Image) (config : Config) (s : Standing) : Type 0 whe
   -- the head is the due task, and once the run has stopped there is no task
   pub due : IsDue (seq (program img) s.plain.commits).due s.plain.tasks
   pub idle : is_some (seq (program img) s.plain.commits).stopped ≡ true → s.plain.tasks ≡ []
-  pub entries : All (BeganAtEntry img) s.plain.tasks
-  pub counted : All IsCounted (running (program img) s.plain)
+  pub entries : AllByRecursion (BeganAtEntry img) s.plain.tasks
+  pub counted : AllByRecursion IsCounted (running (program img) s.plain)
   pub commits_few : s.plain.commits ≤ s.plain.accepted
   pub accepted_few : s.plain.accepted ≤ config.events
   pub lines : AreItsLines img config s.plain s.lines
