@@ -18,3 +18,6 @@ pub mod Every
 pub mod Stay
 pub mod Standings
 pub mod Folds
+pub mod Anew
+pub mod Answering
+pub mod Blames

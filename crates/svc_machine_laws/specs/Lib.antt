@@ -9,3 +9,4 @@ pub mod Guess
 pub mod Standing
 pub mod Reached
 pub mod Headline
+pub mod Blame
