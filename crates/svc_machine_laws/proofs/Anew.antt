@@ -9,7 +9,7 @@ use Rattle.svc_bus_laws.proofs.ByRowsLaws.{view_by_rows}
 use Rattle.svc_machine_laws.specs.PlainMachine.{Task, Plain, Running, runs_of, running, run_of, row_of, memory_at}
 use Rattle.svc_machine_laws.specs.WholeMachine.{machine_of, seat_of}
 use Rattle.svc_machine_laws.specs.MachineLaws.{IsAnew}
-use Rattle.svc_machine_laws.proofs.Lists.{view_hide}
+use Rattle.svc_machine_laws.proofs.EditedLists.{view_hide}
 
 -- each task's run is its part on the memory of its place
 pub runs_at : {C : Type 0} (p : Program C) (m : Memory) (ts : List Task) (place : ℕ) → slice_get (runs_of p m ts) place ≡ option_map (run_of p (memory_at p m ts place)) (slice_get ts place)

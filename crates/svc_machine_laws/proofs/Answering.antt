@@ -25,7 +25,7 @@ use Rattle.svc_machine_laws.specs.Standing.{Standing, refused}
 use Rattle.svc_machine_laws.proofs.Given.{Given}
 use Rattle.svc_machine_laws.proofs.Accepted.{CanSubmit, can_submit, CanCancel, can_cancel, seat_places}
 use Rattle.svc_machine_laws.proofs.Anew.{runs_at, view_at}
-use Rattle.svc_machine_laws.proofs.Lists.{view_hide, victim_hide}
+use Rattle.svc_machine_laws.proofs.EditedLists.{view_hide, victim_hide}
 use Rattle.svc_machine_laws.proofs.MachineEvents.{taken}
 use Rattle.svc_machine_laws.proofs.Parts.{part_locals}
 use Rattle.svc_machine_laws.proofs.Steps.{map_runs}

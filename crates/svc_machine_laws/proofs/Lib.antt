@@ -1,4 +1,4 @@
-pub mod Lists
+pub mod EditedLists
 pub mod Runs
 pub mod Parts
 pub mod Rows

@@ -10,7 +10,7 @@ use Rattle.svc_bus_laws.proofs.ByRowsLaws.{victim_by_rows}
 use Rattle.svc_machine_laws.specs.PlainMachine.{cut_by}
 use Rattle.svc_machine_laws.specs.LineEvents.{line_turn}
 use Rattle.svc_machine_laws.specs.MachineLaws.{IsWithin}
-use Rattle.svc_machine_laws.proofs.Lists.{edit_same, victim_edit}
+use Rattle.svc_machine_laws.proofs.EditedLists.{edit_same, victim_edit}
 use Rattle.svc_machine_laws.proofs.Places.{take_edit}
 use Rattle.svc_machine_laws.proofs.Lines.{rows_units, read_keeps, read_step}
 

@@ -33,7 +33,7 @@ use Rattle.svc_machine_laws.proofs.Given.{Given}
 use Rattle.svc_machine_laws.proofs.Wants.{asked_within}
 use Rattle.svc_machine_laws.proofs.Accepted.{CanAssign, CanSubmit, CanReplace, CanCancel, CanCommit, can_assign, can_submit, can_replace, can_cancel, can_commit, seat_places}
 use Rattle.svc_machine_laws.proofs.MachineEvents.{taken, head_ended}
-use Rattle.svc_machine_laws.proofs.Lists.{map_append_one, map_take, map_edit, edit_same}
+use Rattle.svc_machine_laws.proofs.EditedLists.{map_append_one, map_take, map_edit, edit_same}
 use Rattle.svc_machine_laws.proofs.Lines.{line_turn_step, line_commit_step}
 use Rattle.svc_machine_laws.proofs.LineUnits.{turn_units, turn_keeps}
 use Rattle.svc_machine_laws.proofs.Places.{not_found, found, within}

@@ -6,7 +6,7 @@ use Rattle.std.proofs.lemmas.Bool.{eqb-true, eq-eqb}
 use borrow.Author.Tests.{both_ways}
 use Rattle.svc_bus_laws.specs.ByRows.{cut_at, edit}
 use Rattle.svc_machine_laws.specs.Events.{place_in}
-use Rattle.svc_machine_laws.proofs.Lists.{edit_same}
+use Rattle.svc_machine_laws.proofs.EditedLists.{edit_same}
 
 -- where no place is found, no place has the unit
 pub not_found : (units : List ℕ) (u q : ℕ) → place_in units u ≡ None → q < length units → get_or units q 0 ≢ u

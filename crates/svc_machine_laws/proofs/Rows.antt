@@ -5,7 +5,7 @@ use Rattle.svc_bus_laws.specs.Versioned.{Row, Versioned, with_head, written_row}
 use Rattle.svc_bus_laws.specs.ByRows.{view_of, victim_after, edit, exposed_row}
 use Rattle.svc_machine_laws.specs.PlainMachine.{Running, row_of, cut_by}
 use Rattle.svc_machine_laws.specs.WholeMachine.{Seat, seat_of, seat_turn, map_turn}
-use Rattle.svc_machine_laws.proofs.Lists.{edit_same, edit_edit, victim_edit}
+use Rattle.svc_machine_laws.proofs.EditedLists.{edit_same, edit_edit, victim_edit}
 use Rattle.svc_machine_laws.proofs.Runs.{turned}
 
 -- a row's turn that wants this, where memory is seen so

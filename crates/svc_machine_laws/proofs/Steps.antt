@@ -8,7 +8,7 @@ use Rattle.svc_machine_laws.specs.PlainMachine.{Task, Plain, Running, IsDue, run
 use Rattle.svc_machine_laws.specs.WholeMachine.{Seat, Machine, seat_of, machine_of, with_seats, settle, seat_entry}
 use Rattle.svc_machine_laws.specs.WholeMachine as whole
 use Rattle.svc_machine_laws.specs.MachineLaws.{HasEnded}
-use Rattle.svc_machine_laws.proofs.Lists.{map_take, map_append_one, hide_take}
+use Rattle.svc_machine_laws.proofs.EditedLists.{map_take, map_append_one, hide_take}
 use Rattle.svc_machine_laws.proofs.Parts.{seq_commit}
 use Rattle.svc_machine_laws.proofs.Submits.{machine_by}
 

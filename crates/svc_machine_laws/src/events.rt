@@ -1,0 +1,31 @@
+// One accepted event.
+
+ghost use Rattle.std.specs.Prelude.{◌≡◌, ℕ, Option, Some, None};
+ghost use Rattle.svc_base.specs.declared.config.Config.{Config};
+ghost use Rattle.svc_image.specs.Image.{Image, IsImage};
+ghost use Rattle.svc_core.specs.Words.{program};
+ghost use Rattle.svc_machine_laws.specs.declared.reply.Cut.{Cut};
+ghost use Rattle.svc_machine_laws.specs.WholeMachine.{machine_of};
+ghost use Rattle.svc_machine_laws.specs.Events.{Event, IsEvent, whole_event};
+ghost use Rattle.svc_machine_laws.specs.Replies.{whole_reply};
+ghost use Rattle.svc_machine_laws.specs.Standing.{Standing, refused, stepped, reply_to, after_event};
+ghost use Rattle.svc_machine_laws.specs.Reached.{IsReached};
+ghost use Rattle.svc_machine_laws.specs.Blame.{IsBlamed};
+
+/// An accepted event of the whole machine is the plain machine's, and so is the reply to it, with all
+/// that it cuts.
+pub fn accepted_event()
+    ensures machine { (img : Image) → IsImage img → (config : Config) → (s : Standing) → IsReached img config s → (x : Event) → IsEvent x → refused img config s x ≡ None → machine_of (program img) (stepped img s x).plain ≡ whole_event img (machine_of (program img) s.plain) x }
+    ensures reply { (img : Image) → IsImage img → (config : Config) → (s : Standing) → (x : Event) → IsEvent x → refused img config s x ≡ None → whole_reply img (machine_of (program img) s.plain) s.lines x ≡ reply_to img s x }
+{}
+
+/// What holds of every standing that events lead to is kept by each event, accepted or refused: among it
+/// that the line table is sound and stands for the plain machine's versioned map.
+pub fn event_keeps()
+    ensures { (img : Image) → IsImage img → (config : Config) → (s : Standing) → IsReached img config s → (x : Event) → IsEvent x → IsReached img config (after_event img config s x) }
+{}
+
+/// Every cut of a reply has its blame.
+pub fn cut_is_blamed()
+    ensures { (img : Image) → IsImage img → (config : Config) → (s : Standing) → IsReached img config s → (x : Event) → IsEvent x → refused img config s x ≡ None → (cut : Cut) → (reply_to img s x).cut ≡ Some cut → IsBlamed img s.plain x cut }
+{}
