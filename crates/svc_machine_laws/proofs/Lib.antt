@@ -21,3 +21,4 @@ pub mod Folds
 pub mod Anew
 pub mod Answering
 pub mod Blames
+pub mod Followed

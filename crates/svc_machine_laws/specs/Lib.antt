@@ -10,3 +10,4 @@ pub mod Standing
 pub mod Reached
 pub mod Headline
 pub mod Blame
+pub mod Guide
