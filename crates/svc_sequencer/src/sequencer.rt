@@ -1,7 +1,8 @@
 // The sequencer.
 
-ghost use Rattle.std.specs.Prelude.{◌≡◌, ◌<◌, ℕ, Option, Some, None, List, [], IfOk, IfErr, length, map, drop};
+ghost use Rattle.std.specs.Prelude.{◌≡◌, ◌<◌, Some, IfOk, IfErr, length, drop, slice_get, unwrap_or};
 ghost use Rattle.std.specs.List.Sorted.{IsStrictlyIncreasing};
+ghost use Rattle.svc_core.specs.Program.{due_after};
 ghost use Rattle.svc_machine_laws.specs.PlainMachine.{entry_for};
 ghost use Rattle.svc_machine_laws.specs.Guess.{entry_after};
 ghost use Rattle.svc_machine_laws.specs.Guide.{guess_of, guide_opened, guide_assigned, guide_cut, guide_committed, cuts_next, successor_in, with_successor};
@@ -39,8 +40,10 @@ impl Model for Sequencer {
     ghost invariant = { λ s. AreTables (record { entries = s.entries.items; due = s.due; successors = s.successors.items; active = s.active.items }) };
 }
 
-// The entry after place i; the first follows the last.
-fn entry_from(entries: &[u32], i: usize) -> u32 {
+// The entry at a place; the first follows the last.
+fn entry_from(entries: &[u32], i: usize) -> u32
+    ensures { result ≡ unwrap_or (slice_get entries.now i) (unwrap_or (slice_get entries.now 0) 0) }
+{
     match entries.get(i) {
         Some(&entry) => entry,
         None => entries.first().copied().unwrap_or(0),
@@ -51,6 +54,7 @@ fn entry_from(entries: &[u32], i: usize) -> u32 {
 fn following(entries: &[u32], successors: &[Option<u32>], entry: u32) -> u32
     requires rising { IsStrictlyIncreasing entries.now }
     requires as_many { length successors.now ≡ length entries.now }
+    ensures { result ≡ unwrap_or (successor_in entries.now successors.now entry) (entry_after entries.now entry) }
 {
     match entries.binary_search(&entry) {
         Ok(i) => match successors[i] {
@@ -61,14 +65,28 @@ fn following(entries: &[u32], successors: &[Option<u32>], entry: u32) -> u32
     }
 }
 
-// Remembers the successor of an entry.
-fn remember(entries: &[u32], successors: &mut Vec<Option<u32>>, entry: u32, successor: u32)
+// Remembers the successor, where there is one, of a task that began at an entry.
+fn remember(entries: &[u32], successors: &mut Vec<Option<u32>>, entry: u32, successor: Option<u32>)
     requires rising { IsStrictlyIncreasing entries.now }
     requires as_many { length successors.old.items ≡ length entries.now }
-    ensures { successors.new.items ≡ with_successor entries.now (Some entry) (Some successor) successors.old.items }
+    ensures { successors.new.items ≡ with_successor entries.now (Some entry) successor successors.old.items }
 {
+    if successor.is_none() {
+        return;
+    }
     if let Ok(i) = entries.binary_search(&entry) {
-        successors[i] = Some(successor);
+        successors[i] = successor;
+    }
+}
+
+// The entry that is due after a task that ended so.
+fn due_at(end: End) -> Option<u32>
+    ensures { result ≡ due_after (Some end) }
+{
+    match end {
+        End::Next(entry) => Some(entry),
+        End::Exit(_) => None,
+        End::Trap(_) => None,
     }
 }
 
@@ -157,14 +175,8 @@ impl Sequencer {
         ensures { self.new ≡ guide_committed end self.old }
     {
         let head = self.active.remove(0);
-        self.due = match end {
-            End::Next(entry) => {
-                remember(&self.entries, &mut self.successors, head, entry);
-                Some(entry)
-            }
-            End::Exit(_) => None,
-            End::Trap(_) => None,
-        };
+        self.due = due_at(end);
+        remember(&self.entries, &mut self.successors, head, self.due);
     }
 
     /// Takes out the task at a position, counted from the oldest, and all that are younger.
