@@ -22,3 +22,4 @@ pub mod Anew
 pub mod Answering
 pub mod Blames
 pub mod Followed
+pub mod TaskLogs

@@ -11,3 +11,4 @@ pub mod Reached
 pub mod Headline
 pub mod Blame
 pub mod Guide
+pub mod Logs

@@ -11,6 +11,7 @@ ghost use Rattle.svc_machine_laws.specs.Replies.{whole_reply};
 ghost use Rattle.svc_machine_laws.specs.Standing.{Standing, refused, stepped, reply_to, after_event};
 ghost use Rattle.svc_machine_laws.specs.Reached.{IsReached};
 ghost use Rattle.svc_machine_laws.specs.Blame.{IsBlamed};
+ghost use Rattle.svc_machine_laws.specs.Logs.{LogsFollow};
 
 /// An accepted event of the whole machine is the plain machine's, and so is the reply to it, with all
 /// that it cuts.
@@ -28,4 +29,11 @@ pub fn event_keeps()
 /// Every cut of a reply has its blame.
 pub fn cut_is_blamed()
     ensures { (img : Image) → IsImage img → (config : Config) → (s : Standing) → IsReached img config s → (x : Event) → IsEvent x → refused img config s x ≡ None → (cut : Cut) → (reply_to img s x).cut ≡ Some cut → IsBlamed img s.plain x cut }
+{}
+
+/// Each accepted event adds what it answers to the log of its task; and the log of a head that is committed
+/// is the sequential answers: whatever the task was answered, also while earlier tasks still ran, is what
+/// the sequential run answers it, in order.
+pub fn logs_follow()
+    ensures { (img : Image) → IsImage img → (config : Config) → (s : Standing) → IsReached img config s → (x : Event) → IsEvent x → refused img config s x ≡ None → LogsFollow (program img) s.plain (stepped img s x).plain x (reply_to img s x).what }
 {}
