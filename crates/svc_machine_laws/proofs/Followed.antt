@@ -50,12 +50,12 @@ edit_all h place f [] same = refl
 edit_all {A} {B} h zero f (x ∷ xs) same = ap {B = List B} (λ y. y ∷ map h xs) (same x)
 edit_all {A} {B} h (suc place) f (x ∷ xs) same = ap {B = List B} (λ q. h x ∷ q) (edit_all h place f xs same)
 
-edit_count : {A : Type 0} (place : ℕ) (f : A → A) (xs : List A) → length (edit place f None xs) ≡ length xs
+pub edit_count : {A : Type 0} (place : ℕ) (f : A → A) (xs : List A) → length (edit place f None xs) ≡ length xs
 edit_count place f [] = refl
 edit_count zero f (x ∷ xs) = refl
 edit_count (suc place) f (x ∷ xs) = ap suc (edit_count place f xs)
 
-map_count : {A B : Type 0} (f : A → B) (xs : List A) → length (map f xs) ≡ length xs
+pub map_count : {A B : Type 0} (f : A → B) (xs : List A) → length (map f xs) ≡ length xs
 map_count f [] = refl
 map_count f (x ∷ xs) = ap suc (map_count f xs)
 

@@ -23,3 +23,4 @@ pub mod Answering
 pub mod Blames
 pub mod Followed
 pub mod TaskLogs
+pub mod Numbers

@@ -24,6 +24,8 @@ use Rattle.svc_core.specs.Words.{wanted, wants, wants_load, wants_store, wants_w
 use Rattle.svc_core.specs.Bursts.{Advance, Means, shown, is_nothing}
 use Rattle.svc_machine_laws.specs.MachineLaws.{IsWithin}
 use Rattle.svc_machine_laws.specs.Events.{want_of, asked_want}
+use Rattle.svc_machine_laws.specs.LineEvents.{word_of}
+use Rattle.svc_machine_laws.specs.Refusals.{word_unless, asked_word}
 use Rattle.svc_machine_laws.proofs.Parts.{and_left, and_right}
 
 -- an access of some bytes that doesn't trap is to a word of the data
@@ -137,3 +139,20 @@ asked_next img b m w h = by b.ask m.ask h
     by (ask.Load kind rd addr) n h = ap (wanted img b.end) (n refl) ∙ same_Some _ w h
     by (ask.Store kind addr v) n h = ap (wanted img b.end) (n refl) ∙ same_Some _ w h
     by (ask.Emit e) n h = ap (wanted img b.end) (n refl) ∙ same_Some _ w h
+
+-- the word that an ask wants is the asked word
+load_word : (img : Image) (s : State) (kind : LoadKind) (rd : Register) (addr : ℕ) (t : Option ℕ) → word_of (wants_load img s kind rd addr t) ≡ word_unless t addr
+load_word img s kind rd addr None = refl
+load_word img s kind rd addr (Some trap) = refl
+
+store_word : (img : Image) (s : State) (kind : StoreKind) (addr v : ℕ) (t : Option ℕ) → word_of (wants_store img s kind addr v t) ≡ word_unless t addr
+store_word img s store.Byte addr v None = refl
+store_word img s store.Half addr v None = refl
+store_word img s store.Word addr v None = refl
+store_word img s kind addr v (Some trap) = refl
+
+pub asked_word_is : (img : Image) (s : State) (a : Ask) (w : Want State) → want_of img s a ≡ Some w → word_of w ≡ asked_word img a
+asked_word_is img s ask.Nothing w h = absurd (none-some w h)
+asked_word_is img s (ask.Load kind rd addr) w h = ap word_of (sym (same_Some _ w h)) ∙ load_word img s kind rd addr (access_trap (data_words img) (load_bytes kind) addr)
+asked_word_is img s (ask.Store kind addr v) w h = ap word_of (sym (same_Some _ w h)) ∙ store_word img s kind addr v (access_trap (data_words img) (store_bytes kind) addr)
+asked_word_is img s (ask.Emit e) w h = ap word_of (sym (same_Some _ w h))

@@ -19,6 +19,14 @@ line_turn (Store a w c) t place = write t place a w
 line_turn (Narrow a f c) t place = write (read t place a) place a (f (view (versioned t) place a))
 line_turn (Emit w c) t place = t
 
+-- the word that a turn wants, if any
+abbrev pub word_of : {C : Type 0} → Want C → Option ℕ
+word_of (Local c) = None
+word_of (Load a value go) = Some a
+word_of (Store a w c) = Some a
+word_of (Narrow a f c) = Some a
+word_of (Emit w c) = None
+
 abbrev pub line_ask : {C : Type 0} → Option (Want C) → LineTable → ℕ → LineTable
 line_ask None t place = t
 line_ask (Some w) t place = line_turn w t place
