@@ -106,6 +106,7 @@ module _ (img : Image) (given : Given img) (config : Config) where
     counted = tt;
     commits_few = omega arith;
     accepted_few = omega arith;
+    outputs_few = omega arith;
     lines = opened_lines first;
   }
 

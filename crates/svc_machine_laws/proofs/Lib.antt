@@ -24,3 +24,4 @@ pub mod Blames
 pub mod Followed
 pub mod TaskLogs
 pub mod Numbers
+pub mod Waiting

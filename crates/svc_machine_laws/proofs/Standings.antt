@@ -30,6 +30,7 @@ use Rattle.svc_machine_laws.proofs.LinesKept.{lines_assign, lines_ask, lines_rep
 use Rattle.svc_machine_laws.proofs.MachineEvents.{taken, head_ended}
 use Rattle.svc_machine_laws.proofs.Places.{found, within, not_found}
 use Rattle.svc_machine_laws.proofs.Sound.{goes_on, due_some, due_assign, due_take, due_submit, due_commit}
+use Rattle.svc_machine_laws.proofs.Waiting.{assign_waiting, cancel_waiting, submit_waiting, commit_waiting}
 use Rattle.svc_machine_laws.proofs.Stay.{entry_assigned, submit_entries, commit_entries, commit_idle, assign_counted, take_counted, submit_counted, commit_counted}
 
 count : {A B : Type 0} (f : A → B) (xs : List A) → length (map f xs) ≡ length xs
@@ -69,6 +70,7 @@ module _ (img : Image) (given : Given img) (config : Config) (s : Standing) (rea
         counted = assign_counted img q.memory s.plain.tasks unit s.plain.epoch (entry_for q.due (map entry_of s.plain.tasks) guess) reached.counted;
         commits_few = let h = reached.commits_few in omega (arith, h);
         accepted_few = let h = can.room in omega (arith, h);
+        outputs_few = let h = reached.outputs_few in let e = assign_waiting p s.plain unit guess in omega (arith, h, e);
         lines = lines_assign img config s.plain s.lines unit guess can.known can.idle reached.lines;
       }
     where
@@ -91,6 +93,7 @@ module _ (img : Image) (given : Given img) (config : Config) (s : Standing) (rea
         counted = submit_counted img s.plain can.place b.local b.end (asked_want img b) t counts (λ w e. asked_counts img b.end b.ask w e) reached.counted;
         commits_few = let h = reached.commits_few in omega (arith, h);
         accepted_few = let h = can.room in omega (arith, h);
+        outputs_few = let h = reached.outputs_few in let e = submit_waiting p s.plain can.place b.local b.end (asked_want img b) t in omega (arith, h, e);
         lines = lines_ask img config s.plain s.lines can.place b.local b.end (asked_want img b) (place_within b.unit.0 can.place can.at) room t reached.lines;
       }
 
@@ -102,6 +105,7 @@ module _ (img : Image) (given : Given img) (config : Config) (s : Standing) (rea
     counted = reached.counted;
     commits_few = let h = reached.commits_few in omega (arith, h);
     accepted_few = let h = can.room in omega (arith, h);
+    outputs_few = let h = reached.outputs_few in omega (arith, h);
     lines = lines_replace img config s.plain s.lines unit a can.unpinned reached.lines;
   }
 
@@ -119,6 +123,7 @@ module _ (img : Image) (given : Given img) (config : Config) (s : Standing) (rea
         counted = take_counted img q.memory can.place s.plain.tasks reached.counted;
         commits_few = let h = reached.commits_few in omega (arith, h);
         accepted_few = let h = can.room in omega (arith, h);
+        outputs_few = let h = reached.outputs_few in let e = cancel_waiting p s.plain can.place in omega (arith, h, e);
         lines = lines_cancel img config s.plain s.lines can.place above (omega (arith, inside, units)) reached.lines;
       }
 
@@ -131,7 +136,12 @@ module _ (img : Image) (given : Given img) (config : Config) (s : Standing) (rea
         entries = commit_entries img p s.plain.commits s.plain.accepted s.plain.epoch s.plain.tasks reached.entries;
         counted = commit_counted img given.is_program s.plain.commits s.plain.accepted s.plain.epoch s.plain.tasks done.end reached.due done.is reached.counted;
         commits_few = few s.plain.tasks;
-        accepted_few = let h = can.room in least s.plain.tasks;
+        accepted_few = least s.plain.tasks;
+        outputs_few =
+        let h = reached.outputs_few in
+        let e = commit_waiting p given.is_program s.plain.commits s.plain.accepted s.plain.epoch s.plain.tasks done.end reached.due done.is in
+        let n = more s.plain.tasks in
+        omega (arith, h, e, n);
         lines = lines_commit img config given.is_program s.plain s.lines can.run can.here reached.due done reached.lines;
       }
     where
@@ -145,6 +155,10 @@ module _ (img : Image) (given : Given img) (config : Config) (s : Standing) (rea
       few : (ts : List Task) → (plain.commit_tasks p s.plain ts).commits ≤ (plain.commit_tasks p s.plain ts).accepted
       few [] = let h = reached.commits_few in omega (arith, h)
       few (t ∷ ts) = let h = reached.commits_few in omega (arith, h)
+
+      more : (ts : List Task) → s.plain.accepted ≤ (plain.commit_tasks p s.plain ts).accepted
+      more [] = omega arith
+      more (t ∷ ts) = omega arith
 
       least : (ts : List Task) → (plain.commit_tasks p s.plain ts).accepted ≤ config.events
       least [] = let h = can.room in omega (arith, h)

@@ -1,10 +1,10 @@
 -- What holds of every standing that events lead to.
-use Rattle.std.specs.Prelude.{ℕ, ◌≡◌, ◌≤◌, true, List, [], map, Option, Some, None, is_some, slice_get}
+use Rattle.std.specs.Prelude.{ℕ, ◌≡◌, ◌+◌, ◌≤◌, true, List, [], ◌∷◌, length, map, Option, Some, None, is_some, slice_get}
 use Rattle.std.specs.List.{AllByRecursion}
 use Rattle.svc_base.specs.declared.config.Config.{Config}
 use Rattle.svc_image.specs.Image.{Image, is_entry}
 use Rattle.svc_core.specs.State.{State}
-use Rattle.svc_core.specs.Program.{seq}
+use Rattle.svc_core.specs.Program.{output, seq}
 use Rattle.svc_core.specs.Words.{program}
 use Rattle.svc_core.specs.Turns.{data_words}
 use Rattle.svc_bus_laws.specs.LineTable.{LineTable, versioned}
@@ -31,6 +31,11 @@ BeganAtEntry img t = is_entry img t.entry ≡ true
 abbrev pub IsCounted : Running State → Type 0
 IsCounted x = x.run.core.count ≡ x.task.turns
 
+-- the words that these tasks have put out, which wait for their commits
+abbrev pub words_waiting : {C : Type 0} → List (Running C) → ℕ
+words_waiting [] = 0
+words_waiting (x ∷ runs) = length (output x.run.log) + words_waiting runs
+
 pub record IsReached (img : Image) (config : Config) (s : Standing) : Type 0 where
   -- the head is the due task, and once the run has stopped there is no task
   pub due : IsDue (seq (program img) s.plain.commits).due s.plain.tasks
@@ -39,4 +44,6 @@ pub record IsReached (img : Image) (config : Config) (s : Standing) : Type 0 whe
   pub counted : AllByRecursion IsCounted (running (program img) s.plain)
   pub commits_few : s.plain.commits ≤ s.plain.accepted
   pub accepted_few : s.plain.accepted ≤ config.events
+  -- each word put out was one accepted event's
+  pub outputs_few : length (seq (program img) s.plain.commits).output + words_waiting (running (program img) s.plain) ≤ s.plain.accepted
   pub lines : AreItsLines img config s.plain s.lines
