@@ -25,3 +25,5 @@ pub mod Followed
 pub mod TaskLogs
 pub mod Numbers
 pub mod Waiting
+pub mod Guessing
+pub mod Suppliers

@@ -1,6 +1,8 @@
 -- The entry that is due, and the guess for the next task, read off the sequential run.
-use Rattle.std.specs.Prelude.{ℕ, zero, suc, ◌==◌, Bool, true, false, cond, nat_lt, List, [], ◌∷◌, map, Option, Some, None, unwrap_or, slice_get}
+use Rattle.std.specs.Prelude.{ℕ, zero, suc, ◌≡◌, ◌==◌, Bool, true, false, cond, nat_lt, List, [], ◌∷◌, map, Option, Some, None, unwrap_or, is_some, slice_get}
+use Rattle.svc_image.specs.Image.{Image, is_entry}
 use Rattle.svc_core.specs.Program.{Program, seq}
+use Rattle.svc_core.specs.Words.{program}
 use Rattle.svc_machine_laws.specs.PlainMachine.{Plain, entry_of}
 
 -- the successor, where there is one, of a task that began at this entry, if it is the entry that is asked for; else what was known before
@@ -40,3 +42,9 @@ guess p entries s = guess_after entries (seq p s.commits).due (successor_at p s.
 -- the entry of the next task to commit
 abbrev pub due_of : {C : Type 0} → Program C → Plain → Option ℕ
 due_of p s = (seq p s.commits).due
+
+-- once the run has stopped there is no guess; until then there is one, and it is an entry
+pub record IsGuess (img : Image) (s : Plain) : Type 0 where
+  pub stopped : is_some (seq (program img) s.commits).stopped ≡ true → guess (program img) img.entries s ≡ None
+  pub going : is_some (seq (program img) s.commits).stopped ≡ false → is_some (guess (program img) img.entries s) ≡ true
+  pub entry : (e : ℕ) → guess (program img) img.entries s ≡ Some e → is_entry img e ≡ true

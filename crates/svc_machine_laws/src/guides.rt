@@ -2,13 +2,13 @@
 
 ghost use Rattle.std.specs.Prelude.{◌≡◌, ℕ, List, Bool, Some, length, slice_get};
 ghost use Rattle.svc_base.specs.declared.config.Config.{Config};
-ghost use Rattle.svc_image.specs.Image.{Image};
+ghost use Rattle.svc_image.specs.Image.{Image, IsImage};
 ghost use Rattle.svc_core.specs.Program.{Program, IsProgram, seq};
 ghost use Rattle.svc_core.specs.Words.{program};
 ghost use Rattle.svc_machine_laws.specs.PlainMachine as plain;
 ghost use Rattle.svc_machine_laws.specs.PlainMachine.{Plain, Running, IsDue, running, plain_opening};
 ghost use Rattle.svc_machine_laws.specs.MachineLaws.{HasEnded};
-ghost use Rattle.svc_machine_laws.specs.Guess.{guess};
+ghost use Rattle.svc_machine_laws.specs.Guess.{guess, IsGuess};
 ghost use Rattle.svc_machine_laws.specs.Guide.{guide_of, guess_of, guide_opened, guide_assigned, guide_cut, guide_committed, guide_settled};
 ghost use Rattle.svc_machine_laws.specs.Standing.{Standing};
 ghost use Rattle.svc_machine_laws.specs.Reached.{IsReached};
@@ -28,4 +28,9 @@ pub fn guide_steps<C>()
 /// The guess that a sequencer gives is the one that is read off the sequential run.
 pub fn guess_is_guided()
     ensures { (img : Image) → (config : Config) → (s : Standing) → IsReached img config s → guess_of (guide_of (program img) img.entries s.plain) ≡ guess (program img) img.entries s.plain }
+{}
+
+/// Once the run has stopped there is no guess; until then there is one, and it is an entry.
+pub fn guess_is_entry()
+    ensures { (img : Image) → IsImage img → (config : Config) → (s : Standing) → IsReached img config s → IsGuess img s.plain }
 {}
