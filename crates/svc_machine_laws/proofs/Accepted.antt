@@ -1,7 +1,7 @@
 -- What an accepted event tells: no case of the table of refusals holds.
-use Rattle.std.proofs.Common.{ℕ, zero, suc, ◌≡◌, ◌==◌, ◌<◌, Bool, true, false, not, ◌&&◌, List, [], ◌∷◌, map, Option, Some, None, refl, sym, ap, ◌∙◌, subst, option_map, slice_get, is_some, is_none, unwrap_or, arith}
+use Rattle.std.proofs.Common.{ℕ, ◌≡◌, ◌==◌, ◌<◌, true, false, not, ◌&&◌, map, Option, Some, None, refl, sym, ap, ◌∙◌, subst, option_map, slice_get, is_some, is_none, unwrap_or}
 use Rattle.std.specs.Prelude.{nat_le}
-use Rattle.std.proofs.lemmas.Option.{slice_get-map, same_Some, none-some}
+use Rattle.std.proofs.lemmas.Option.{slice_get-map, none-some}
 use Rattle.std.proofs.lemmas.Bool.{leb-false}
 use borrow.Author.Tests.{both_ways, not-false}
 use Rattle.svc_base.specs.declared.config.Config.{Config}
@@ -10,7 +10,7 @@ use Rattle.svc_core.specs.declared.end.End.{End}
 use Rattle.svc_core.specs.State.{State}
 use Rattle.svc_core.specs.Same.{same_state}
 use Rattle.svc_core.proofs.SameCore.{same_state-is}
-use Rattle.svc_core.specs.Program.{Program, seq}
+use Rattle.svc_core.specs.Program.{seq}
 use Rattle.svc_core.specs.Words.{program}
 use Rattle.svc_core.specs.Bursts.{Advance, are_of, is_nothing}
 use Rattle.svc_bus_laws.specs.Refusals.{table_cache, is_pinned}
@@ -19,9 +19,9 @@ use Rattle.svc_machine_laws.specs.WholeMachine.{Seat, Machine, machine_of, seat_
 use Rattle.svc_machine_laws.specs.Events.{Event, Assign, Submit, Replace, Cancel, Commit, place_in, task_place, seat_place}
 use Rattle.svc_machine_laws.specs.Refusals.{seat_at, is_current, has_ended, cases_of, first_case, refuse, full_set, asked_word}
 use Rattle.svc_machine_laws.specs.Standing.{Standing, refused}
-use Rattle.svc_machine_laws.proofs.Cases.{no_case, some_of, none_of, and_not}
-use Rattle.svc_machine_laws.proofs.Parts.{and_left, and_right}
-use Rattle.svc_machine_laws.proofs.Places.{found, within, some_at}
+use Rattle.svc_machine_laws.proofs.Cases.{no_case, some_of, none_of}
+use Rattle.svc_machine_laws.proofs.Parts.{and_right}
+use Rattle.svc_machine_laws.proofs.Places.{found}
 use Rattle.svc_machine_laws.proofs.Steps.{map_runs}
 
 below : (x y : ℕ) → nat_le y x ≡ false → x < y

@@ -1,9 +1,9 @@
 -- What the whole machine holds of each task is its part, run anew on the memory of its place.
-use Rattle.std.proofs.Common.{ℕ, zero, suc, ◌≡◌, ◌==◌, Bool, true, false, not, ◌&&◌, List, [], ◌∷◌, map, Option, Some, None, refl, sym, ap, ◌∙◌, subst, option_map, slice_get, get_or, arith}
+use Rattle.std.proofs.Common.{ℕ, zero, suc, ◌≡◌, ◌==◌, false, not, ◌&&◌, List, [], ◌∷◌, map, Some, refl, sym, ap, ◌∙◌, subst, option_map, slice_get, get_or, arith}
 use Rattle.std.proofs.lemmas.Option.{slice_get-map, same_Some, none-some}
 use Rattle.std.proofs.lemmas.Bool.{ne_eqb}
-use Rattle.svc_core.specs.Program.{Memory, Program, wrote, exposed, over, part, seq}
-use Rattle.svc_bus_laws.specs.Versioned.{Row, Versioned, fresh_row, with_head}
+use Rattle.svc_core.specs.Program.{Memory, Program, wrote, over, part, seq}
+use Rattle.svc_bus_laws.specs.Versioned.{Row, fresh_row, with_head}
 use Rattle.svc_bus_laws.specs.ByRows.{view_of}
 use Rattle.svc_bus_laws.proofs.ByRowsLaws.{view_by_rows}
 use Rattle.svc_machine_laws.specs.PlainMachine.{Task, Plain, Running, runs_of, running, run_of, row_of, memory_at}

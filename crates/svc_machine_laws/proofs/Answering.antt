@@ -1,5 +1,5 @@
 -- The answer to every accepted event is the plain machine's.
-use Rattle.std.proofs.Common.{ℕ, zero, suc, ◌≡◌, ◌+◌, Bool, true, false, cond, List, [], ◌∷◌, map, length, Option, Some, None, refl, sym, ap, ap₂, ◌∙◌, subst, is_some, option_map, slice_get, unwrap_or}
+use Rattle.std.proofs.Common.{ℕ, suc, ◌≡◌, ◌+◌, Bool, true, false, List, [], ◌∷◌, map, length, Option, Some, None, refl, sym, ap, ap₂, ◌∙◌, subst, is_some, option_map, slice_get, unwrap_or}
 use Rattle.std.proofs.lemmas.Option.{same_Some, none-some}
 use Rattle.svc_base.specs.declared.config.Config.{Config}
 use Rattle.svc_image.specs.Image.{Image}
@@ -8,22 +8,19 @@ use Rattle.svc_core.specs.declared.end.End.TheVariants as end
 use Rattle.svc_core.specs.State.{State}
 use Rattle.svc_core.specs.Program.{Memory, Program, Want, Local, Load, Store, Narrow, Emit, Run, wrote, over, part, seq, locals, are_local}
 use Rattle.svc_core.specs.Words.{program}
-use Rattle.svc_core.specs.Bursts.{Advance, Follows}
 use Rattle.svc_bus_laws.specs.Versioned.{Row, with_head}
-use Rattle.svc_bus_laws.specs.ByRows.{view_of}
 use Rattle.svc_bus_laws.specs.LineTable.{LineTable}
 use Rattle.svc_machine_laws.specs.declared.reply.Cause.TheVariants as cause
 use Rattle.svc_machine_laws.specs.declared.reply.What.TheVariants as what
-use Rattle.svc_machine_laws.specs.declared.reply.Cut.{Cut}
 use Rattle.svc_machine_laws.specs.declared.reply.Reply.{Reply}
 use Rattle.svc_machine_laws.specs.PlainMachine.{Task, Plain, Running, runs_of, running, run_of, row_of, memory_at, entry_of, entry_for, stays}
-use Rattle.svc_machine_laws.specs.WholeMachine.{Machine, machine_of, seat_of, seat_entry, seen}
+use Rattle.svc_machine_laws.specs.WholeMachine.{machine_of, seat_of, seat_entry, seen}
 use Rattle.svc_machine_laws.specs.MachineLaws.{Taken}
 use Rattle.svc_machine_laws.specs.Events.{Event, Assign, Submit, Replace, Cancel, Commit, IsEvent, asked_want}
 use Rattle.svc_machine_laws.specs.Replies.{turn_done, turn_cut, cut_from, committed, cancelled, serves_at, whole_asked, whole_submitted, whole_cancelled, whole_committed, whole_reply, plain_asked_of, plain_asked, plain_submitted, plain_cancelled, plain_committed, plain_reply}
 use Rattle.svc_machine_laws.specs.Standing.{Standing, refused}
 use Rattle.svc_machine_laws.proofs.Given.{Given}
-use Rattle.svc_machine_laws.proofs.Accepted.{CanSubmit, can_submit, CanCancel, can_cancel, seat_places}
+use Rattle.svc_machine_laws.proofs.Accepted.{can_submit, can_cancel, seat_places}
 use Rattle.svc_machine_laws.proofs.Anew.{runs_at, view_at}
 use Rattle.svc_machine_laws.proofs.EditedLists.{view_hide, victim_hide}
 use Rattle.svc_machine_laws.proofs.MachineEvents.{taken}

@@ -1,10 +1,9 @@
 -- Every cut has its blame.
-use Rattle.std.proofs.Common.{ℕ, zero, suc, ◌≡◌, ◌≢◌, ◌==◌, ◌+◌, ◌-◌, ◌⊎◌, inl, inr, Bool, true, false, cond, List, [], ◌∷◌, map, length, Option, Some, None, refl, sym, ap, ◌∙◌, subst, is_some, option_map, slice_get, arith}
+use Rattle.std.proofs.Common.{ℕ, suc, ◌≡◌, ◌≢◌, ◌==◌, ◌+◌, ◌-◌, ◌⊎◌, inl, inr, Bool, true, false, cond, List, [], ◌∷◌, map, length, Option, Some, None, refl, sym, ap, ◌∙◌, subst, is_some, option_map, slice_get}
 use Rattle.std.proofs.lemmas.Option.{same_Some, none-some}
 use Rattle.std.proofs.lemmas.Bool.{eq-eqb}
 use borrow.Author.Tests.{both_ways}
 use Rattle.svc_base.specs.declared.config.Config.{Config}
-use Rattle.svc_base.specs.declared.ids.WordAddr.{WordAddr}
 use Rattle.svc_image.specs.Image.{Image}
 use Rattle.svc_core.specs.declared.end.End.{End}
 use Rattle.svc_core.specs.declared.end.End.TheVariants as end
@@ -12,23 +11,22 @@ use Rattle.svc_core.specs.State.{State}
 use Rattle.svc_core.specs.Program.{Program, Want, Local, Load, Store, Narrow, Emit, Run, Seq, part, seq, due_after, stopped_after, followed_by, IsProgram}
 use Rattle.svc_core.specs.Words.{program}
 use Rattle.svc_core.specs.Bursts.{Advance}
-use Rattle.svc_bus_laws.specs.Versioned.{Versioned, victim}
 use Rattle.svc_bus_laws.specs.ByRows.{victim_after}
 use Rattle.svc_bus_laws.proofs.ByRowsLaws.{victim_by_rows}
 use Rattle.svc_bus_laws.proofs.MapViews.{victim_is}
 use Rattle.svc_machine_laws.specs.declared.reply.Cause.TheVariants as cause
 use Rattle.svc_machine_laws.specs.declared.reply.Cut.{Cut}
 use Rattle.svc_machine_laws.specs.declared.reply.Reply.{Reply}
-use Rattle.svc_machine_laws.specs.PlainMachine.{Task, Plain, Running, IsDue, runs_of, running, entry_of, stays}
-use Rattle.svc_machine_laws.specs.WholeMachine.{Machine, machine_of, seat_of}
+use Rattle.svc_machine_laws.specs.PlainMachine.{Task, Plain, Running, IsDue, runs_of, entry_of, stays}
+use Rattle.svc_machine_laws.specs.WholeMachine.{Machine, machine_of}
 use Rattle.svc_machine_laws.specs.MachineLaws.{HasEnded}
 use Rattle.svc_machine_laws.specs.Events.{Event, Assign, Submit, Replace, Cancel, Commit, IsEvent, asked_want, task_place}
 use Rattle.svc_machine_laws.specs.Replies.{turn_cut, cut_from, whole_asked, whole_submitted, whole_reply, plain_cancelled, plain_committed, plain_reply, wrong_guess}
 use Rattle.svc_machine_laws.specs.Standing.{Standing, refused, reply_to}
 use Rattle.svc_machine_laws.specs.Reached.{IsReached}
-use Rattle.svc_machine_laws.specs.Blame.{IsCutAt, Writes, IsViolation, IsWrongGuess, IsCancel, IsBlamed}
+use Rattle.svc_machine_laws.specs.Blame.{Writes, IsBlamed}
 use Rattle.svc_machine_laws.proofs.Given.{Given}
-use Rattle.svc_machine_laws.proofs.Accepted.{CanSubmit, can_submit, CanCancel, can_cancel, CanCommit, can_commit, seat_places}
+use Rattle.svc_machine_laws.proofs.Accepted.{can_submit, can_cancel, can_commit, seat_places}
 use Rattle.svc_machine_laws.proofs.Answering.{count, reply_is}
 use Rattle.svc_machine_laws.proofs.MachineEvents.{head_ended}
 use Rattle.svc_machine_laws.proofs.Parts.{seq_commit}

@@ -1,7 +1,7 @@
 -- The table of refusals, read.
-use Rattle.std.proofs.Common.{ℕ, zero, suc, ◌≡◌, ◌==◌, Bool, true, false, ◌&&◌, not, cond, List, [], ◌∷◌, Option, Some, None, refl, sym, ap, ap₂, ◌∙◌, subst, is_some, is_none}
+use Rattle.std.proofs.Common.{ℕ, zero, suc, ◌≡◌, Bool, true, false, ◌&&◌, cond, List, [], ◌∷◌, Option, Some, None, refl, sym, subst, is_some, is_none}
 use Rattle.std.proofs.lemmas.Option.{none-some}
-use borrow.Author.Tests.{both_ways, not-false}
+use borrow.Author.Tests.{both_ways}
 use Rattle.svc_base.specs.declared.refusal.Refusal.{Refusal}
 use Rattle.svc_machine_laws.specs.Refusals.{first_case}
 

@@ -1,27 +1,24 @@
 -- Every list of events, and the headline.
-use Rattle.std.proofs.Common.{ℕ, zero, suc, ◌≡◌, ◌+◌, ◌≤◌, Bool, true, false, List, [], ◌∷◌, Option, Some, None, refl, sym, ap, ap₂, ◌∙◌, subst, arith, zero-add, slice_get}
+use Rattle.std.proofs.Common.{ℕ, suc, ◌≡◌, ◌+◌, List, [], ◌∷◌, Option, Some, None, refl, sym, ap, ◌∙◌, subst, arith, zero-add, slice_get}
 use Rattle.std.specs.List.{AllByRecursion}
 use Rattle.std.proofs.lemmas.Option.{none-some}
 use Rattle.svc_base.specs.declared.config.Config.{Config}
 use Rattle.svc_base.specs.declared.refusal.Refusal.{Refusal}
 use Rattle.svc_image.specs.Image.{Image}
 use Rattle.svc_core.specs.State.{State}
-use Rattle.svc_core.specs.Bytes.{word_at}
-use Rattle.svc_core.specs.Program.{Memory, Program, seq}
+use Rattle.svc_core.specs.Program.{Program, seq}
 use Rattle.svc_core.specs.Words.{program}
 use Rattle.svc_core.specs.Sequence.{plain_seq, IsSameSeq}
 use Rattle.svc_bus_laws.specs.Versioned.{Versioned}
-use Rattle.svc_bus_laws.specs.LineTable.{LineTable, versioned, committed_value}
 use Rattle.svc_bus_laws.proofs.OpenedLaws.{opened_law}
 use Rattle.svc_machine_laws.specs.PlainMachine.{Task, Plain, Running, runs_of, running}
 use Rattle.svc_machine_laws.specs.PlainMachine as plain
-use Rattle.svc_machine_laws.specs.WholeMachine.{Machine, machine_of}
-use Rattle.svc_machine_laws.specs.Events.{Event, Assign, Submit, Replace, Cancel, Commit, IsEvent, task_place, plain_event, plain_submit, plain_cancel}
+use Rattle.svc_machine_laws.specs.Events.{Event, Assign, Submit, Replace, Cancel, Commit, IsEvent, plain_event, plain_submit, plain_cancel}
 use Rattle.svc_machine_laws.specs.Standing.{Standing, Whole, whole_of, opened_at, whole_opened, refused, whole_refuse, stepped, whole_stepped, after_event, whole_after_event, after_events, whole_after_events, accepted_commits, is_commit, unless}
 use Rattle.svc_machine_laws.specs.Reached.{IsReached, AreItsLines}
 use Rattle.svc_machine_laws.specs.Headline.{IsSequential}
 use Rattle.svc_machine_laws.proofs.Given.{Given}
-use Rattle.svc_machine_laws.proofs.Accepted.{CanSubmit, can_submit, CanCancel, can_cancel, CanCommit, can_commit}
+use Rattle.svc_machine_laws.proofs.Accepted.{can_submit, can_cancel, can_commit}
 use Rattle.svc_machine_laws.proofs.MachineEvents.{machine_event}
 use Rattle.svc_machine_laws.proofs.Standings.{event_reached}
 

@@ -1,5 +1,5 @@
 -- What a sequencer keeps follows the plain machine.
-use Rattle.std.proofs.Common.{ℕ, zero, suc, ◌≡◌, ◌==◌, Bool, true, false, not, cond, List, [], ◌∷◌, ◌++◌, map, take, drop, length, Option, Some, None, refl, sym, ap, ap₂, ◌∙◌, subst, slice_get, is_some, arith}
+use Rattle.std.proofs.Common.{ℕ, zero, suc, ◌≡◌, ◌==◌, Bool, true, false, not, cond, List, [], ◌∷◌, map, take, drop, length, Option, Some, None, refl, sym, ap, ap₂, ◌∙◌, subst, slice_get, arith}
 use Rattle.std.specs.Prelude.{unwrap_or, ◌||◌}
 use Rattle.std.specs.List.{AllByRecursion, list_any}
 use Rattle.std.proofs.lemmas.List.{take_all}
@@ -8,8 +8,7 @@ use Rattle.std.proofs.lemmas.Bool.{eqb-true}
 use borrow.Author.Tests.{both_ways}
 use Rattle.svc_image.specs.Image.{Image, is_entry}
 use Rattle.svc_core.specs.declared.end.End.{End}
-use Rattle.svc_core.specs.State.{State}
-use Rattle.svc_core.specs.Program.{Memory, Program, Run, part, seq, due_after, next_task, followed_by, IsProgram}
+use Rattle.svc_core.specs.Program.{Memory, Program, Run, part, seq, due_after, IsProgram}
 use Rattle.svc_core.specs.Words.{program}
 use Rattle.svc_bus_laws.specs.ByRows.{cut_at, edit}
 use Rattle.svc_machine_laws.specs.PlainMachine.{Task, Plain, Running, runs_of, running, entry_of, entry_for, stays, settled, more, one_more, cut_by, asked_by, submitted, row_of, IsDue}
@@ -17,9 +16,8 @@ use Rattle.svc_machine_laws.specs.PlainMachine as plain
 use Rattle.svc_machine_laws.specs.MachineLaws.{HasEnded}
 use Rattle.svc_machine_laws.specs.Guess.{newer_successor, successor_at, guess, guess_after, youngest, entry_after}
 use Rattle.svc_machine_laws.specs.Guide.{Guide, guide_of, successor_in, guess_of, guide_assigned, guide_cut, guide_committed, guide_settled, with_successor, cuts_next}
-use Rattle.svc_machine_laws.specs.Standing.{Standing}
-use Rattle.svc_machine_laws.specs.Reached.{IsReached, BeganAtEntry}
-use Rattle.svc_machine_laws.proofs.EditedLists.{map_append_one, map_take, map_edit}
+use Rattle.svc_machine_laws.specs.Reached.{BeganAtEntry}
+use Rattle.svc_machine_laws.proofs.EditedLists.{map_append_one, map_take}
 use Rattle.svc_machine_laws.proofs.Parts.{seq_commit}
 
 -- ---- an assignment, a cancel and a submit

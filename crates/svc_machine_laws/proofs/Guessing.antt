@@ -1,7 +1,7 @@
 -- A guess is an entry, and there is one until the run stops.
-use Rattle.std.proofs.Common.{ℕ, zero, suc, ◌≡◌, ◌≤◌, ◌==◌, Bool, true, false, cond, List, [], ◌∷◌, map, length, Option, Some, None, refl, sym, ap, ◌∙◌, subst, is_some, slice_get, unwrap_or, arith, ⊎_elim}
+use Rattle.std.proofs.Common.{ℕ, zero, suc, ◌≡◌, ◌≤◌, ◌==◌, Bool, true, false, cond, List, [], ◌∷◌, map, length, Option, Some, None, refl, ap, ◌∙◌, subst, is_some, slice_get, unwrap_or, arith, ⊎_elim}
 use Rattle.std.specs.Prelude.{◌||◌, nat_lt}
-use Rattle.std.specs.List.{AllByRecursion, list_any}
+use Rattle.std.specs.List.{list_any}
 use Rattle.std.proofs.lemmas.Option.{same_Some, none-some}
 use Rattle.std.proofs.lemmas.Bool.{eq-eqb}
 use borrow.Author.Tests.{both_ways}
@@ -10,10 +10,10 @@ use Rattle.svc_image.specs.Image.{Image, IsImage, is_entry}
 use Rattle.svc_core.specs.declared.end.End.{End}
 use Rattle.svc_core.specs.declared.end.End.TheVariants as end
 use Rattle.svc_core.specs.State.{State}
-use Rattle.svc_core.specs.Program.{Program, Seq, seq, task, next_task, due_after, stopped_after}
+use Rattle.svc_core.specs.Program.{Program, seq, task, next_task, due_after, stopped_after}
 use Rattle.svc_core.specs.Words.{program}
-use Rattle.svc_machine_laws.specs.PlainMachine.{Task, Plain, entry_of}
-use Rattle.svc_machine_laws.specs.Guess.{newer_successor, successor_at, first_above, entry_after, youngest, guess_after, guess, IsGuess}
+use Rattle.svc_machine_laws.specs.PlainMachine.{Task, entry_of}
+use Rattle.svc_machine_laws.specs.Guess.{newer_successor, successor_at, first_above, entry_after, youngest, guess_after, IsGuess}
 use Rattle.svc_machine_laws.specs.Standing.{Standing}
 use Rattle.svc_machine_laws.specs.Reached.{IsReached}
 use Rattle.svc_machine_laws.proofs.Given.{Given}

@@ -1,10 +1,10 @@
 -- What the line table's steps leave of its units, and what they leave as it was.
-use Rattle.std.proofs.Common.{ℕ, zero, suc, ◌≡◌, ◌+◌, ◌<◌, Bool, true, false, List, [], ◌∷◌, take, length, Option, Some, None, refl, sym, ap, ◌∙◌, arith, option_map, unwrap_or}
+use Rattle.std.proofs.Common.{ℕ, zero, suc, ◌≡◌, ◌<◌, List, take, length, refl, sym, ap, ◌∙◌, arith, unwrap_or}
 use Rattle.svc_core.specs.Program.{Want, Local, Load, Store, Narrow, Emit}
 use Rattle.svc_bus_laws.specs.Versioned.{Row, Versioned, view, victim}
 use Rattle.svc_bus_laws.specs.ByRows.{victim_after, edit, read_rows, exposed_row}
 use Rattle.svc_bus_laws.specs.LineTable.{LineTable, versioned}
-use Rattle.svc_bus_laws.specs.Steps.{read, write, reuse, fill, survivors}
+use Rattle.svc_bus_laws.specs.Steps.{read, write, reuse, fill}
 use Rattle.svc_bus_laws.specs.Sound.{IsSound}
 use Rattle.svc_bus_laws.proofs.ByRowsLaws.{victim_by_rows}
 use Rattle.svc_machine_laws.specs.PlainMachine.{cut_by}

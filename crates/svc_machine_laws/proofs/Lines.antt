@@ -1,9 +1,8 @@
 -- The line table's steps are the versioned map's, by the recursion on rows, and keep it sound.
-use Rattle.std.proofs.Common.{ℕ, zero, suc, ◌≡◌, ◌<◌, ◌≤◌, Bool, true, false, ◌≢◌, cond, List, [], ◌∷◌, map, take, length, Option, Some, None, refl, sym, ap, ◌∙◌, subst, arith, get_or}
+use Rattle.std.proofs.Common.{ℕ, zero, suc, ◌≡◌, ◌<◌, Bool, true, false, cond, length, refl, ap, ◌∙◌, arith}
 use Rattle.std.proofs.Common.{length-take}
 use Rattle.svc_core.specs.Program.{Want, Local, Load, Store, Narrow, Emit}
 use Rattle.svc_bus_laws.specs.Versioned.{Row, Versioned, view}
-use Rattle.svc_bus_laws.specs.Versioned as map_of
 use Rattle.svc_bus_laws.specs.ByRows as rows
 use Rattle.svc_bus_laws.specs.ByRows.{view_of}
 use Rattle.svc_bus_laws.specs.Search.{tabulate}
@@ -15,7 +14,7 @@ use Rattle.svc_bus_laws.proofs.ReadLaws.{read_sound, read_map}
 use Rattle.svc_bus_laws.proofs.WriteLaws.{write_law}
 use Rattle.svc_bus_laws.proofs.CommitLaws.{commit_sound, commit_map}
 use Rattle.svc_bus_laws.proofs.SquashLaws.{squash_law}
-use Rattle.svc_machine_laws.specs.WholeMachine.{map_turn, settle, seen}
+use Rattle.svc_machine_laws.specs.WholeMachine.{map_turn, settle}
 use Rattle.svc_machine_laws.specs.LineEvents.{line_turn, line_settle}
 use Rattle.svc_machine_laws.specs.MachineLaws.{IsWithin}
 
@@ -64,8 +63,8 @@ line_turn_step (Narrow a f c) t place sound within known =
     record {
       sound = second.sound;
       same_map = second.same_map
-      ∙ ap (λ v. rows.write v place a (f (view (versioned t) place a))) first.same_map
-      ∙ ap (λ m. rows.write (rows.read (versioned t) place a) place a (f (m a))) (view_by_rows (versioned t) place);
+          ∙ ap (λ v. rows.write v place a (f (view (versioned t) place a))) first.same_map
+          ∙ ap (λ m. rows.write (rows.read (versioned t) place a) place a (f (m a))) (view_by_rows (versioned t) place);
     }
 line_turn_step (Emit w c) t place sound within known = record { sound = sound; same_map = refl }
 

@@ -1,19 +1,17 @@
 -- Each accepted event leaves a line table that stands for the plain machine's versioned map.
-use Rattle.std.proofs.Common.{ℕ, zero, suc, ◌≡◌, ◌<◌, ◌≤◌, ◌==◌, ◌≢◌, Bool, true, false, cond, List, [], ◌∷◌, ◌++◌, map, take, drop, length, Option, Some, None, refl, sym, ap, ap₂, ◌∙◌, subst, arith, is_some, slice_get, get_or}
-use Rattle.std.proofs.lemmas.Option.{same_Some, none-some}
-use Rattle.std.proofs.lemmas.Bool.{eqb-false}
+use Rattle.std.proofs.Common.{ℕ, suc, ◌≡◌, ◌<◌, ◌≤◌, ◌≢◌, Bool, true, false, cond, List, [], ◌∷◌, ◌++◌, map, take, drop, length, Option, Some, None, refl, sym, ap, ◌∙◌, subst, arith, is_some, slice_get, get_or}
+use Rattle.std.proofs.lemmas.Option.{none-some}
 use Rattle.svc_base.specs.declared.config.Config.{Config}
 use Rattle.svc_image.specs.Image.{Image}
 use Rattle.svc_core.specs.declared.end.End.{End}
 use Rattle.svc_core.specs.State.{State}
 use Rattle.svc_core.specs.Program.{Memory, Program, Want, Run, wrote, over, part, seq, IsProgram}
 use Rattle.svc_core.specs.Words.{program}
-use Rattle.svc_core.specs.Bursts.{Advance, Follows}
 use Rattle.svc_bus_laws.specs.Versioned.{Row, Versioned}
 use Rattle.svc_bus_laws.specs.Versioned as map_of
 use Rattle.svc_bus_laws.specs.ByRows.{edit}
 use Rattle.svc_bus_laws.specs.ByRows as rows
-use Rattle.svc_bus_laws.specs.LineTable.{LineTable, versioned, unit_at}
+use Rattle.svc_bus_laws.specs.LineTable.{LineTable, unit_at}
 use Rattle.svc_bus_laws.specs.Steps.{begin, replace, squash, commit}
 use Rattle.svc_bus_laws.specs.Refusals.{is_pinned, table_cache}
 use Rattle.svc_bus_laws.proofs.BeginLaws.{begin_sound, begin_map}
@@ -24,19 +22,14 @@ use Rattle.svc_machine_laws.specs.PlainMachine.{Task, Plain, Running, IsDue, run
 use Rattle.svc_machine_laws.specs.PlainMachine as plain
 use Rattle.svc_machine_laws.specs.WholeMachine.{Seat, Machine, machine_of, seat_of, seat_unit, seat_entry, seat_turn, at_core, seen, settle}
 use Rattle.svc_machine_laws.specs.WholeMachine as whole
-use Rattle.svc_machine_laws.specs.Events.{Event, Assign, Submit, Replace, Cancel, Commit, IsEvent, task_place, asked_want, plain_event, plain_submit, plain_cancel}
-use Rattle.svc_machine_laws.specs.LineEvents.{line_turn, line_ask, line_submit, line_cancel, line_commit, line_settle, line_event}
+use Rattle.svc_machine_laws.specs.Events.{task_place}
+use Rattle.svc_machine_laws.specs.LineEvents.{line_ask, line_commit, line_settle}
 use Rattle.svc_machine_laws.specs.MachineLaws.{Taken, HasEnded, IsWithin}
-use Rattle.svc_machine_laws.specs.Standing.{Standing, refused}
-use Rattle.svc_machine_laws.specs.Reached.{IsReached, AreItsLines}
-use Rattle.svc_machine_laws.proofs.Given.{Given}
-use Rattle.svc_machine_laws.proofs.Wants.{asked_within}
-use Rattle.svc_machine_laws.proofs.Accepted.{CanAssign, CanSubmit, CanReplace, CanCancel, CanCommit, can_assign, can_submit, can_replace, can_cancel, can_commit, seat_places}
-use Rattle.svc_machine_laws.proofs.MachineEvents.{taken, head_ended}
+use Rattle.svc_machine_laws.specs.Reached.{AreItsLines}
 use Rattle.svc_machine_laws.proofs.EditedLists.{map_append_one, map_take, map_edit, edit_same}
 use Rattle.svc_machine_laws.proofs.Lines.{line_turn_step, line_commit_step}
 use Rattle.svc_machine_laws.proofs.LineUnits.{turn_units, turn_keeps}
-use Rattle.svc_machine_laws.proofs.Places.{not_found, found, within}
+use Rattle.svc_machine_laws.proofs.Places.{not_found}
 use Rattle.svc_machine_laws.proofs.Steps.{map_runs, assign_step, cancel_step, commit_step}
 use Rattle.svc_machine_laws.proofs.Submits.{submit_step}
 
@@ -100,9 +93,9 @@ module _ (img : Image) (config : Config) where
         sound = step.sound;
         same_map = step.same_map ∙ ap (λ v. whole.map_turn w v place) are.same_map ∙ ap (λ (m : Machine State). m.versioned) (sym (submit_step p s place local end (Some w) tk));
         units = turn_units w t place are.sound here (known w refl)
-        ∙ ap (λ (v : Versioned). edit place (λ u. u) (cut_by w v.rows place) t.units) are.same_map
-        ∙ ap (edit place (λ u. u) (cut_by w m.versioned.rows place)) are.units
-        ∙ sym (turned_units s place local end w tk);
+            ∙ ap (λ (v : Versioned). edit place (λ u. u) (cut_by w v.rows place) t.units) are.same_map
+            ∙ ap (edit place (λ u. u) (cut_by w m.versioned.rows place)) are.units
+            ∙ sym (turned_units s place local end w tk);
         caches = turn_keeps (λ u. u.caches) w t place (λ u a. refl) (λ u a. refl) (λ u a v. refl) ∙ are.caches;
         sets = turn_keeps (λ u. u.sets) w t place (λ u a. refl) (λ u a. refl) (λ u a v. refl) ∙ are.sets;
         ways = turn_keeps (λ u. u.ways) w t place (λ u a. refl) (λ u a. refl) (λ u a v. refl) ∙ are.ways;
@@ -166,9 +159,9 @@ module _ (img : Image) (config : Config) where
         sound = step.sound;
         same_map = step.same_map ∙ ap (λ v. rows.commit (settle v keep)) are.same_map ∙ ap (λ (m : Machine State). m.versioned) (sym (commit_step p good s due done));
         units = committed_units t keep
-        ∙ ap (λ us. cond keep (drop 1 us) (drop 1 (take 1 us))) are.units
-        ∙ kept_units keep tk.unit ts
-        ∙ ap (λ es. map unit_of (cond (stays r.core.done es) ts [])) same;
+            ∙ ap (λ us. cond keep (drop 1 us) (drop 1 (take 1 us))) are.units
+            ∙ kept_units keep tk.unit ts
+            ∙ ap (λ es. map unit_of (cond (stays r.core.done es) ts [])) same;
         caches = committed_keeps (λ u. u.caches) t keep refl refl ∙ are.caches;
         sets = committed_keeps (λ u. u.sets) t keep refl refl ∙ are.sets;
         ways = committed_keeps (λ u. u.ways) t keep refl refl ∙ are.ways;

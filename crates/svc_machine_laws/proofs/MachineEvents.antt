@@ -1,21 +1,21 @@
 -- Every accepted event of the whole machine is the plain machine's.
-use Rattle.std.proofs.Common.{ℕ, ◌≡◌, Bool, true, Option, Some, None, refl, sym, ap, ◌∙◌, subst, is_some, slice_get}
+use Rattle.std.proofs.Common.{◌≡◌, true, None, refl, sym, ap, ◌∙◌, subst}
 use Rattle.std.proofs.lemmas.Option.{same_Some}
 use Rattle.svc_base.specs.declared.config.Config.{Config}
 use Rattle.svc_image.specs.Image.{Image}
 use Rattle.svc_core.specs.State.{State}
-use Rattle.svc_core.specs.Program.{Program, locals, are_local}
+use Rattle.svc_core.specs.Program.{locals, are_local}
 use Rattle.svc_core.specs.Words.{program}
 use Rattle.svc_core.specs.Bursts.{Advance, Follows, Means}
-use Rattle.svc_machine_laws.specs.PlainMachine.{Plain, Running, running}
-use Rattle.svc_machine_laws.specs.WholeMachine.{Machine, machine_of}
+use Rattle.svc_machine_laws.specs.PlainMachine.{Running}
+use Rattle.svc_machine_laws.specs.WholeMachine.{machine_of}
 use Rattle.svc_machine_laws.specs.Events.{Event, Assign, Submit, Replace, Cancel, Commit, IsEvent, asked_want, plain_submit, plain_cancel, whole_submit, whole_cancel, plain_event, whole_event}
 use Rattle.svc_machine_laws.specs.MachineLaws.{Taken, HasEnded}
 use Rattle.svc_machine_laws.specs.Standing.{Standing, refused}
 use Rattle.svc_machine_laws.specs.Reached.{IsReached}
 use Rattle.svc_machine_laws.proofs.Given.{Given}
 use Rattle.svc_machine_laws.proofs.Wants.{asked_next}
-use Rattle.svc_machine_laws.proofs.Accepted.{CanSubmit, can_submit, CanCancel, can_cancel, CanCommit, can_commit, seat_places}
+use Rattle.svc_machine_laws.proofs.Accepted.{CanSubmit, can_submit, can_cancel, CanCommit, can_commit, seat_places}
 use Rattle.svc_machine_laws.proofs.Steps.{assign_step, cancel_step, commit_step}
 use Rattle.svc_machine_laws.proofs.Submits.{submit_step}
 

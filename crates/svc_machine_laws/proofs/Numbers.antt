@@ -1,20 +1,17 @@
 -- Each task that was begun is committed, cut or active.
-use Rattle.std.proofs.Common.{ℕ, zero, suc, ◌≡◌, ◌+◌, ◌-◌, ◌<◌, ◌≤◌, Bool, true, false, cond, List, [], ◌∷◌, ◌++◌, map, take, length, Option, Some, None, refl, sym, ap, ◌∙◌, subst, is_some, option_map, slice_get, arith, length-append}
+use Rattle.std.proofs.Common.{ℕ, zero, suc, ◌≡◌, ◌+◌, ◌<◌, ◌≤◌, Bool, true, false, cond, List, [], ◌∷◌, map, take, length, Option, Some, None, refl, sym, ap, ◌∙◌, is_some, option_map, slice_get, arith, length-append}
 use Rattle.std.proofs.lemmas.Option.{none-some}
 use Rattle.svc_base.specs.declared.config.Config.{Config}
 use Rattle.svc_image.specs.Image.{Image}
-use Rattle.svc_core.specs.declared.end.End.{End}
 use Rattle.svc_core.specs.State.{State}
-use Rattle.svc_core.specs.Program.{Memory, Program, Want, Local, Load, Store, Narrow, Emit, Run, part, seq}
+use Rattle.svc_core.specs.Program.{Program, Want, Local, Load, Store, Narrow, Emit, part, seq}
 use Rattle.svc_core.specs.Words.{program}
-use Rattle.svc_core.specs.Bursts.{Advance, Follows}
-use Rattle.svc_bus_laws.specs.Versioned.{Row, Versioned, with_head, victim}
-use Rattle.svc_bus_laws.specs.ByRows.{victim_after, edit, cut_at}
+use Rattle.svc_bus_laws.specs.Versioned.{Row, with_head}
+use Rattle.svc_bus_laws.specs.ByRows.{victim_after, edit}
 use Rattle.svc_bus_laws.specs.LineTable.{LineTable}
 use Rattle.svc_bus_laws.proofs.ByRowsLaws.{victim_by_rows}
 use Rattle.svc_bus_laws.proofs.MapViews.{victim_is}
 use Rattle.svc_machine_laws.specs.declared.reply.Cause.TheVariants as cause
-use Rattle.svc_machine_laws.specs.declared.reply.Cut.{Cut}
 use Rattle.svc_machine_laws.specs.declared.reply.Reply.{Reply}
 use Rattle.svc_machine_laws.specs.PlainMachine.{Task, Plain, Running, runs_of, running, row_of, cut_by, entry_of, stays}
 use Rattle.svc_machine_laws.specs.PlainMachine as plain
@@ -25,7 +22,7 @@ use Rattle.svc_machine_laws.specs.Replies.{turn_cut, cut_from, wrong_guess, whol
 use Rattle.svc_machine_laws.specs.Standing.{Standing, refused, stepped, reply_to, is_commit}
 use Rattle.svc_machine_laws.specs.Blame.{tasks_cut, begun}
 use Rattle.svc_machine_laws.proofs.Given.{Given}
-use Rattle.svc_machine_laws.proofs.Accepted.{CanSubmit, can_submit, CanCancel, can_cancel, CanCommit, can_commit, seat_places}
+use Rattle.svc_machine_laws.proofs.Accepted.{can_submit, can_cancel, can_commit, seat_places}
 use Rattle.svc_machine_laws.proofs.Answering.{count, reply_is}
 use Rattle.svc_machine_laws.proofs.Followed.{edit_count, map_count}
 use Rattle.svc_machine_laws.proofs.MachineEvents.{taken}

@@ -4,7 +4,7 @@ use Rattle.std.proofs.lemmas.List.{take_all}
 use Rattle.std.proofs.lemmas.Option.{same_Some, none-some}
 use Rattle.std.proofs.lemmas.Bool.{eqb-true, eq-eqb}
 use borrow.Author.Tests.{both_ways}
-use Rattle.svc_bus_laws.specs.ByRows.{cut_at, edit}
+use Rattle.svc_bus_laws.specs.ByRows.{edit}
 use Rattle.svc_machine_laws.specs.Events.{place_in}
 use Rattle.svc_machine_laws.proofs.EditedLists.{edit_same}
 

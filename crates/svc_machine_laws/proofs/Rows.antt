@@ -1,10 +1,10 @@
 -- A turn's row and seat, and the steps of the versioned map that it takes.
-use Rattle.std.proofs.Common.{ℕ, zero, suc, ◌≡◌, Bool, true, false, List, [], ◌∷◌, ◌++◌, map, Option, Some, None, refl, sym, ap, ◌∙◌}
+use Rattle.std.proofs.Common.{ℕ, zero, suc, ◌≡◌, false, List, [], ◌∷◌, None, refl, sym, ap, ◌∙◌}
 use Rattle.svc_core.specs.Program.{Memory, Want, Local, Load, Store, Narrow, Emit}
 use Rattle.svc_bus_laws.specs.Versioned.{Row, Versioned, with_head, written_row}
 use Rattle.svc_bus_laws.specs.ByRows.{view_of, victim_after, edit, exposed_row}
 use Rattle.svc_machine_laws.specs.PlainMachine.{Running, row_of, cut_by}
-use Rattle.svc_machine_laws.specs.WholeMachine.{Seat, seat_of, seat_turn, map_turn}
+use Rattle.svc_machine_laws.specs.WholeMachine.{seat_of, seat_turn, map_turn}
 use Rattle.svc_machine_laws.proofs.EditedLists.{edit_same, edit_edit, victim_edit}
 use Rattle.svc_machine_laws.proofs.Runs.{turned}
 

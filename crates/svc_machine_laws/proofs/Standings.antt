@@ -1,34 +1,32 @@
 -- What holds of every standing that events lead to holds after one event more.
-use Rattle.std.proofs.Common.{ℕ, zero, suc, ◌≡◌, ◌+◌, ◌<◌, ◌≤◌, ◌==◌, Bool, true, false, not, ◌&&◌, List, [], ◌∷◌, map, take, length, Option, Some, None, refl, sym, ap, ◌∙◌, subst, arith, is_some, is_none, slice_get, unwrap_or, option_map}
-use Rattle.std.specs.List.{AllByRecursion}
-use Rattle.std.proofs.lemmas.Option.{same_Some, none-some, slice_get-map}
+use Rattle.std.proofs.Common.{ℕ, zero, suc, ◌≡◌, ◌+◌, ◌<◌, ◌≤◌, true, false, not, ◌&&◌, List, [], ◌∷◌, map, take, length, Option, Some, None, refl, sym, ap, ◌∙◌, subst, arith, is_some, slice_get, unwrap_or}
+use Rattle.std.proofs.lemmas.Option.{same_Some, none-some}
 use Rattle.std.proofs.lemmas.Bool.{eqb-false}
 use borrow.Author.Tests.{both_ways}
 use Rattle.svc_base.specs.declared.config.Config.{Config}
 use Rattle.svc_base.specs.declared.refusal.Refusal.{Refusal}
-use Rattle.svc_image.specs.Image.{Image, IsImage, is_entry}
+use Rattle.svc_image.specs.Image.{Image, is_entry}
 use Rattle.svc_core.specs.declared.end.End.{End}
 use Rattle.svc_core.specs.State.{State}
 use Rattle.svc_core.specs.Program.{Memory, Program, Want, part, seq}
 use Rattle.svc_core.specs.Words.{program}
 use Rattle.svc_core.specs.Bursts.{Advance, Follows}
-use Rattle.svc_bus_laws.specs.LineTable.{LineTable}
 use Rattle.svc_bus_laws.specs.Steps as lines
 use Rattle.svc_machine_laws.specs.PlainMachine.{Task, Plain, Running, IsDue, runs_of, running, unit_of, entry_of, entry_for}
 use Rattle.svc_machine_laws.specs.PlainMachine as plain
-use Rattle.svc_machine_laws.specs.WholeMachine.{Machine, Seat, machine_of, seat_of}
+use Rattle.svc_machine_laws.specs.WholeMachine.{machine_of, seat_of}
 use Rattle.svc_machine_laws.specs.Events.{Event, Assign, Submit, Replace, Cancel, Commit, IsEvent, place_in, task_place, asked_want, plain_event, plain_submit, plain_cancel}
 use Rattle.svc_machine_laws.specs.LineEvents.{line_event, line_ask, line_submit, line_cancel, line_commit}
 use Rattle.svc_machine_laws.specs.MachineLaws.{Taken, HasEnded, IsWithin}
 use Rattle.svc_machine_laws.specs.Standing.{Standing, refused, stepped, after_event, unless}
-use Rattle.svc_machine_laws.specs.Reached.{IsReached, AreItsLines, BeganAtEntry, IsCounted}
+use Rattle.svc_machine_laws.specs.Reached.{IsReached, BeganAtEntry}
 use Rattle.svc_machine_laws.proofs.Given.{Given}
 use Rattle.svc_machine_laws.proofs.Wants.{asked_within, asked_counts}
 use Rattle.svc_machine_laws.proofs.Accepted.{CanAssign, CanSubmit, CanReplace, CanCancel, CanCommit, can_assign, can_submit, can_replace, can_cancel, can_commit, seat_places}
 use Rattle.svc_machine_laws.proofs.Every.{every_take, every_append}
 use Rattle.svc_machine_laws.proofs.LinesKept.{lines_assign, lines_ask, lines_replace, lines_cancel, lines_commit}
 use Rattle.svc_machine_laws.proofs.MachineEvents.{taken, head_ended}
-use Rattle.svc_machine_laws.proofs.Places.{found, within, not_found}
+use Rattle.svc_machine_laws.proofs.Places.{found, within}
 use Rattle.svc_machine_laws.proofs.Sound.{goes_on, due_some, due_assign, due_take, due_submit, due_commit}
 use Rattle.svc_machine_laws.proofs.Waiting.{assign_waiting, cancel_waiting, submit_waiting, commit_waiting}
 use Rattle.svc_machine_laws.proofs.Stay.{entry_assigned, submit_entries, commit_entries, commit_idle, assign_counted, take_counted, submit_counted, commit_counted}
@@ -138,10 +136,10 @@ module _ (img : Image) (given : Given img) (config : Config) (s : Standing) (rea
         commits_few = few s.plain.tasks;
         accepted_few = least s.plain.tasks;
         outputs_few =
-        let h = reached.outputs_few in
-        let e = commit_waiting p given.is_program s.plain.commits s.plain.accepted s.plain.epoch s.plain.tasks done.end reached.due done.is in
-        let n = more s.plain.tasks in
-        omega (arith, h, e, n);
+            let h = reached.outputs_few in
+            let e = commit_waiting p given.is_program s.plain.commits s.plain.accepted s.plain.epoch s.plain.tasks done.end reached.due done.is in
+            let n = more s.plain.tasks in
+            omega (arith, h, e, n);
         lines = lines_commit img config given.is_program s.plain s.lines can.run can.here reached.due done reached.lines;
       }
     where

@@ -1,21 +1,19 @@
 -- What each accepted event keeps of the plain machine: entries, turns, and that a stopped run has no task.
-use Rattle.std.proofs.Common.{ℕ, zero, suc, ◌≡◌, ◌+◌, ◌==◌, Bool, true, false, cond, not, ◌&&◌, List, [], ◌∷◌, ◌++◌, map, take, Option, Some, None, refl, sym, ap, ◌∙◌, subst, arith, is_some, unwrap_or, slice_get, add-one, zero-add}
+use Rattle.std.proofs.Common.{ℕ, suc, ◌≡◌, ◌+◌, Bool, true, false, cond, not, ◌&&◌, List, [], ◌∷◌, ◌++◌, map, take, Option, Some, None, refl, sym, ap, ◌∙◌, subst, arith, is_some, unwrap_or, slice_get}
 use Rattle.std.specs.List.{AllByRecursion}
-use Rattle.std.proofs.lemmas.Option.{same_Some, none-some}
-use Rattle.std.proofs.lemmas.Bool.{eqb-true}
+use Rattle.std.proofs.lemmas.Option.{same_Some}
 use borrow.Author.Tests.{both_ways, not-false}
-use Rattle.svc_image.specs.Image.{Image, IsImage, is_entry}
+use Rattle.svc_image.specs.Image.{Image, is_entry}
 use Rattle.svc_core.specs.declared.end.End.{End}
 use Rattle.svc_core.specs.declared.end.End.TheVariants as end
-use Rattle.svc_core.specs.State.{State, start}
-use Rattle.svc_core.specs.Program.{Memory, Program, Want, Local, Load, Store, Narrow, Emit, Run, act, over, wrote, part, seq, locals, due_after, stopped_after, followed_by, IsProgram}
+use Rattle.svc_core.specs.State.{State}
+use Rattle.svc_core.specs.Program.{Memory, Program, Want, Local, Load, Store, Narrow, Emit, Run, over, wrote, part, seq, locals, stopped_after, IsProgram}
 use Rattle.svc_core.specs.Words.{program}
 use Rattle.svc_bus_laws.specs.Versioned.{Row}
 use Rattle.svc_bus_laws.specs.ByRows.{view_of, edit}
 use Rattle.svc_machine_laws.specs.PlainMachine.{Task, Plain, Running, runs_of, running, row_of, more, one_more, cut_by, asked_by, submitted, stays, settled, entry_of, entry_for, commit_tasks, IsDue}
 use Rattle.svc_machine_laws.specs.PlainMachine as plain
-use Rattle.svc_machine_laws.specs.WholeMachine.{Seat, machine_of}
-use Rattle.svc_machine_laws.specs.MachineLaws.{Taken, HasEnded}
+use Rattle.svc_machine_laws.specs.MachineLaws.{Taken}
 use Rattle.svc_machine_laws.specs.Reached.{BeganAtEntry, IsCounted}
 use Rattle.svc_machine_laws.proofs.Every.{every_take, every_append, every_edit, every_if}
 use Rattle.svc_machine_laws.proofs.Parts.{seq_commit}

@@ -2,7 +2,7 @@
 use Rattle.std.proofs.Common.{ℕ, zero, suc, ◌≡◌, Bool, true, false, cond, List, [], ◌∷◌, ◌++◌, map, take, Some, refl, sym, ap, ap₂, ◌∙◌, slice_get}
 use Rattle.svc_core.specs.declared.end.End.{End}
 use Rattle.svc_core.specs.Program.{Memory, Program, Run, wrote, output, over, part, Seq, seq, followed_by, due_after, stopped_after, IsProgram}
-use Rattle.svc_bus_laws.specs.Versioned.{Row, Versioned, with_head, squash, fresh_row}
+use Rattle.svc_bus_laws.specs.Versioned.{Row, with_head, fresh_row}
 use Rattle.svc_bus_laws.specs.ByRows as rows
 use Rattle.svc_machine_laws.specs.PlainMachine.{Task, Plain, Running, IsDue, runs_of, running, row_of, stays, settled, entry_of, entry_for, assign, cancel, commit, commit_tasks}
 use Rattle.svc_machine_laws.specs.WholeMachine.{Seat, Machine, seat_of, machine_of, with_seats, settle, seat_entry}

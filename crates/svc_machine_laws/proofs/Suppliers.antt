@@ -1,5 +1,5 @@
 -- Who serves a read holds what the run anew sees.
-use Rattle.std.proofs.Common.{ℕ, suc, ◌≡◌, ◌<◌, List, [], ◌∷◌, map, length, Some, refl, sym, ap, ◌∙◌, slice_get, arith}
+use Rattle.std.proofs.Common.{ℕ, ◌≡◌, length, Some, ap, ◌∙◌, slice_get, arith}
 use Rattle.svc_base.specs.declared.config.Config.{Config}
 use Rattle.svc_image.specs.Image.{Image}
 use Rattle.svc_core.specs.Program.{over, wrote, seq}

@@ -1,19 +1,16 @@
 -- Each accepted event adds its answer to the log of its task, and a committed log is the sequential answers.
-use Rattle.std.proofs.Common.{ℕ, zero, suc, ◌≡◌, Bool, true, false, cond, List, [], ◌∷◌, ◌++◌, map, take, Option, Some, None, refl, sym, ap, ◌∙◌, subst, is_some, slice_get}
-use Rattle.std.proofs.lemmas.Option.{same_Some, none-some}
+use Rattle.std.proofs.Common.{ℕ, ◌≡◌, Bool, true, false, cond, List, [], ◌∷◌, ◌++◌, map, take, Option, Some, None, refl, sym, ap, ◌∙◌, subst, is_some, slice_get}
+use Rattle.std.proofs.lemmas.Option.{none-some}
 use Rattle.svc_base.specs.declared.config.Config.{Config}
 use Rattle.svc_image.specs.Image.{Image}
 use Rattle.svc_core.specs.declared.end.End.{End}
 use Rattle.svc_core.specs.State.{State}
-use Rattle.svc_core.specs.Program.{Memory, Program, Want, Local, Load, Store, Narrow, Emit, Run, Action, act, wrote, over, part, task, seq, said, due_run, log_of_run, locals, followed_by, IsProgram}
+use Rattle.svc_core.specs.Program.{Memory, Program, Want, Local, Load, Store, Narrow, Emit, Run, Action, act, wrote, over, part, task, seq, said, due_run, log_of_run, locals, IsProgram}
 use Rattle.svc_core.specs.Words.{program}
-use Rattle.svc_core.specs.Bursts.{Advance, Follows}
 use Rattle.svc_bus_laws.specs.Versioned.{Row}
 use Rattle.svc_bus_laws.specs.ByRows.{view_of, edit}
 use Rattle.svc_bus_laws.specs.LineTable.{LineTable}
 use Rattle.svc_machine_laws.specs.declared.reply.Served.{Served}
-use Rattle.svc_machine_laws.specs.declared.reply.What.{What}
-use Rattle.svc_machine_laws.specs.declared.reply.What.TheVariants as what
 use Rattle.svc_machine_laws.specs.declared.reply.Reply.{Reply}
 use Rattle.svc_machine_laws.specs.PlainMachine.{Task, Plain, Running, IsDue, runs_of, running, row_of, cut_by, entry_of, entry_for, stays, settled}
 use Rattle.svc_machine_laws.specs.PlainMachine as plain
@@ -23,14 +20,13 @@ use Rattle.svc_machine_laws.specs.Events.{Event, Assign, Submit, Replace, Cancel
 use Rattle.svc_machine_laws.specs.Replies.{turn_done, serves_at, whole_asked, whole_submitted, whole_reply, plain_reply}
 use Rattle.svc_machine_laws.specs.Standing.{Standing, refused, stepped, reply_to}
 use Rattle.svc_machine_laws.specs.Reached.{IsReached}
-use Rattle.svc_machine_laws.specs.Logs.{TaskLog, log_of, logs_of, told, plus, adds, AddsItsAnswer, LeavesEarlier, CommitsAnswers, LogsFollow}
+use Rattle.svc_machine_laws.specs.Logs.{TaskLog, log_of, logs_of, told, plus, adds, AddsItsAnswer, CommitsAnswers, LogsFollow}
 use Rattle.svc_machine_laws.proofs.Given.{Given}
-use Rattle.svc_machine_laws.proofs.Accepted.{CanSubmit, can_submit, CanCancel, can_cancel, CanCommit, can_commit, seat_places}
+use Rattle.svc_machine_laws.proofs.Accepted.{can_submit, can_cancel, can_commit, seat_places}
 use Rattle.svc_machine_laws.proofs.Answering.{reply_is}
-use Rattle.svc_machine_laws.proofs.EditedLists.{map_append_one, map_take, map_edit, edit_same, view_hide}
+use Rattle.svc_machine_laws.proofs.EditedLists.{map_append_one, map_take, map_edit, view_hide}
 use Rattle.svc_machine_laws.proofs.MachineEvents.{taken, head_ended}
 use Rattle.svc_machine_laws.proofs.Parts.{part_whole, seq_commit}
-use Rattle.svc_machine_laws.proofs.Runs.{turned}
 use Rattle.svc_machine_laws.proofs.Steps.{runs_append, runs_take}
 use Rattle.svc_machine_laws.proofs.Submits.{local_run, local_runs, asked_run, asked_runs}
 
@@ -57,7 +53,7 @@ submit_logs p s t unit place local last None at tk = record {
   at = at;
   cut = None;
   logs = ap (map log_of) (local_runs p local (seq p s.commits).memory s.tasks place tk.run tk.at tk.own)
-  ∙ map_edit log_of (local_run p local) (adds None) place None (running p s) (λ x h. refl);
+      ∙ map_edit log_of (local_run p local) (adds None) place None (running p s) (λ x h. refl);
 }
 submit_logs {C} p s t unit place local last (Some w) at tk =
     let m : Memory = (seq p s.commits).memory in
@@ -72,10 +68,10 @@ submit_logs {C} p s t unit place local last (Some w) at tk =
       at = at;
       cut = cut_by w rows place;
       logs = ap (map log_of) (asked_runs p local m s.tasks place tk.run tk.at tk.own)
-      ∙ ap (λ v. map log_of (edit place (asked_run p local v look) (cut_by v rows place) all)) wants
-      ∙ ap (λ l. map log_of (edit place (asked_run p local w l) (cut_by w rows place) all)) same
-      ∙ map_edit log_of (asked_run p local w sees) (adds (told (turn_done p w sees (serves_at t place)))) place (cut_by w rows place) all
-      (λ x h. ap {B = TaskLog} (λ l. record { unit = x.task.unit; log = l }) (act_tells p w sees (serves_at t place) x.run.log));
+          ∙ ap (λ v. map log_of (edit place (asked_run p local v look) (cut_by v rows place) all)) wants
+          ∙ ap (λ l. map log_of (edit place (asked_run p local w l) (cut_by w rows place) all)) same
+          ∙ map_edit log_of (asked_run p local w sees) (adds (told (turn_done p w sees (serves_at t place)))) place (cut_by w rows place) all
+          (λ x h. ap {B = TaskLog} (λ l. record { unit = x.task.unit; log = l }) (act_tells p w sees (serves_at t place) x.run.log));
     }
 
 commit_tasks_logs : {C : Type 0} (p : Program C) → IsProgram p → (k a e : ℕ) (ts : List Task) (x : Running C) (ended : End)

@@ -1,9 +1,8 @@
 -- What a turn of an image's program wants: its word is one of the data, and its turn is one more.
-use Rattle.std.proofs.Common.{ℕ, ◌≡◌, ◌+◌, ◌-◌, ◌*◌, ◌/◌, ◌%◌, ◌==◌, ◌<◌, ◌≤◌, ◌&&◌, Bool, true, false, length, Option, Some, None, refl, sym, ap, ◌∙◌, subst, arith}
+use Rattle.std.proofs.Common.{ℕ, ◌≡◌, ◌+◌, ◌*◌, ◌%◌, ◌==◌, ◌<◌, ◌≤◌, ◌&&◌, Bool, true, false, Option, Some, None, refl, sym, ap, ◌∙◌, subst, arith}
 use Rattle.std.specs.Prelude.{nat_le, if◌then◌else◌}
 use Rattle.std.proofs.lemmas.Bool.{leb-true}
 use Rattle.std.proofs.lemmas.Option.{none-some, same_Some}
-use borrow.Author.Tests.{both_ways}
 use Rattle.svc_rv32i.specs.declared.instr.Register.{Register}
 use Rattle.svc_rv32i.specs.declared.instr.LoadKind.{LoadKind}
 use Rattle.svc_rv32i.specs.declared.instr.LoadKind.TheVariants as load
@@ -13,20 +12,18 @@ use Rattle.svc_image.specs.Image.{Image, is_entry}
 use Rattle.svc_core.specs.declared.ask.Ask.{Ask}
 use Rattle.svc_core.specs.declared.ask.Ask.TheVariants as ask
 use Rattle.svc_core.specs.declared.end.End.{End}
-use Rattle.svc_core.specs.declared.end.End.TheVariants as end
 use Rattle.svc_core.specs.State.{State}
 use Rattle.svc_core.specs.Local.{Outcome, ends, goes_on, sets}
 use Rattle.svc_core.specs.Local as out
 use Rattle.svc_core.specs.Numbers.{load_bytes, store_bytes}
 use Rattle.svc_core.specs.Turns.{data_words, data_start, word_address, access_trap, arrived_if, arrived, arrives, puts_out, next}
 use Rattle.svc_core.specs.Program.{Want, Local, Load, Store, Narrow, Emit}
-use Rattle.svc_core.specs.Words.{wanted, wants, wants_load, wants_store, wants_write, program}
+use Rattle.svc_core.specs.Words.{wanted, wants, wants_load, wants_store, wants_write}
 use Rattle.svc_core.specs.Bursts.{Advance, Means, shown, is_nothing}
 use Rattle.svc_machine_laws.specs.MachineLaws.{IsWithin}
 use Rattle.svc_machine_laws.specs.Events.{want_of, asked_want}
 use Rattle.svc_machine_laws.specs.LineEvents.{word_of}
 use Rattle.svc_machine_laws.specs.Refusals.{word_unless, asked_word}
-use Rattle.svc_machine_laws.proofs.Parts.{and_left, and_right}
 
 -- an access of some bytes that doesn't trap is to a word of the data
 in_words : (words n addr : ℕ) → 0 < n → access_trap words n addr ≡ None → word_address addr < words

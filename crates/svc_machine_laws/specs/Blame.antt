@@ -1,6 +1,5 @@
 -- What the cause of a cut says.
 use Rattle.std.specs.Prelude.{ℕ, suc, ◌≡◌, ◌≢◌, ◌+◌, ◌-◌, ◌⊎◌, true, List, ◌∷◌, length, Option, Some, None, is_some}
-use Rattle.svc_base.specs.declared.ids.WordAddr.{WordAddr}
 use Rattle.svc_image.specs.Image.{Image}
 use Rattle.svc_core.specs.State.{State}
 use Rattle.svc_core.specs.Program.{Want, Local, Load, Store, Narrow, Emit, seq}

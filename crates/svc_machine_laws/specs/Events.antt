@@ -1,5 +1,5 @@
 -- The machine's events, and what each does to the plain machine and to the whole machine.
-use Rattle.std.specs.Prelude.{ℕ, zero, suc, ◌==◌, Bool, true, false, cond, List, [], ◌∷◌, map, Option, Some, None, option_map, is_some}
+use Rattle.std.specs.Prelude.{ℕ, suc, ◌==◌, cond, List, [], ◌∷◌, map, Option, Some, None, option_map, is_some}
 use Rattle.svc_image.specs.Image.{Image}
 use Rattle.svc_core.specs.declared.ask.Ask.{Ask}
 use Rattle.svc_core.specs.declared.ask.Ask.TheVariants as ask

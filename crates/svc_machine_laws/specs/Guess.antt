@@ -1,5 +1,5 @@
 -- The entry that is due, and the guess for the next task, read off the sequential run.
-use Rattle.std.specs.Prelude.{ℕ, zero, suc, ◌≡◌, ◌==◌, Bool, true, false, cond, nat_lt, List, [], ◌∷◌, map, Option, Some, None, unwrap_or, is_some, slice_get}
+use Rattle.std.specs.Prelude.{ℕ, zero, suc, ◌≡◌, ◌==◌, true, false, cond, nat_lt, List, [], ◌∷◌, map, Option, Some, None, unwrap_or, is_some, slice_get}
 use Rattle.svc_image.specs.Image.{Image, is_entry}
 use Rattle.svc_core.specs.Program.{Program, seq}
 use Rattle.svc_core.specs.Words.{program}

@@ -1,5 +1,5 @@
 -- What each accepted event does to the line table.
-use Rattle.std.specs.Prelude.{ℕ, Bool, true, false, cond, List, [], ◌∷◌, map, Option, Some, None}
+use Rattle.std.specs.Prelude.{ℕ, Bool, true, false, List, [], ◌∷◌, map, Option, Some, None}
 use Rattle.svc_image.specs.Image.{Image}
 use Rattle.svc_core.specs.State.{State}
 use Rattle.svc_core.specs.Program.{Want, Local, Load, Store, Narrow, Emit, Program}

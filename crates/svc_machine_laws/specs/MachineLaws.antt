@@ -1,5 +1,5 @@
 -- The laws that tie the whole machine to the plain machine, for any program.
-use Rattle.std.specs.Prelude.{ℕ, ◌≡◌, ◌<◌, ◌==◌, Bool, true, false, not, ◌&&◌, Option, Some, None, slice_get}
+use Rattle.std.specs.Prelude.{ℕ, ◌≡◌, ◌<◌, ◌==◌, true, not, ◌&&◌, Option, Some, slice_get}
 use Rattle.svc_core.specs.declared.end.End.{End}
 use Rattle.svc_core.specs.Program.{Want, Local, Load, Store, Narrow, Emit, Program, Run, wrote, exposed, output, over, part, seq, locals, are_local}
 use Rattle.svc_bus_laws.specs.Versioned.{version, is_exposed, view}

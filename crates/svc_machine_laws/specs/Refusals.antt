@@ -1,7 +1,6 @@
 -- When an event is refused: for each kind of event its cases in the order of their numbers, and the first that holds is the refusal.
-use Rattle.std.specs.Prelude.{ℕ, ◌-◌, ◌^◌, ◌==◌, Bool, true, false, cond, not, ◌&&◌, nat_le, List, [], ◌∷◌, Option, Some, None, unwrap_or, option_map, is_some, is_none, slice_get}
+use Rattle.std.specs.Prelude.{ℕ, ◌-◌, ◌^◌, ◌==◌, Bool, false, cond, not, ◌&&◌, nat_le, List, [], ◌∷◌, Option, Some, None, unwrap_or, option_map, is_some, is_none, slice_get}
 use Rattle.svc_base.specs.declared.config.Config.{Config}
-use Rattle.svc_base.specs.declared.ids.WordAddr.{WordAddr}
 use Rattle.svc_base.specs.declared.refusal.Refusal.{Refusal}
 use Rattle.svc_base.specs.declared.refusal.Refusal.TheVariants as refusal
 use Rattle.svc_image.specs.Image.{Image, is_entry}

@@ -1,16 +1,12 @@
 -- What the machine answers to an accepted event.
 use Rattle.std.specs.Prelude.{ℕ, suc, ◌+◌, ◌-◌, Bool, true, false, cond, List, [], ◌∷◌, length, map, Option, Some, None, unwrap_or, option_map, is_some, slice_get}
-use Rattle.svc_base.specs.declared.ids.TaskNo.{TaskNo}
-use Rattle.svc_base.specs.declared.ids.UnitId.{UnitId}
-use Rattle.svc_base.specs.declared.ids.WordAddr.{WordAddr}
 use Rattle.svc_image.specs.Image.{Image}
 use Rattle.svc_core.specs.declared.end.End.{End}
 use Rattle.svc_core.specs.declared.end.End.TheVariants as end
 use Rattle.svc_core.specs.State.{State}
 use Rattle.svc_core.specs.Program.{Memory, Want, Local, Load, Store, Narrow, Emit, Program, wrote, over, part, seq}
 use Rattle.svc_core.specs.Words.{program}
-use Rattle.svc_core.specs.Bursts.{Advance}
-use Rattle.svc_bus_laws.specs.Versioned.{Row, Versioned}
+use Rattle.svc_bus_laws.specs.Versioned.{Row}
 use Rattle.svc_bus_laws.specs.ByRows.{victim_after}
 use Rattle.svc_bus_laws.specs.LineTable.{LineTable}
 use Rattle.svc_bus_laws.specs.Supplier.{Supplier, supplier}

@@ -1,5 +1,5 @@
 -- The plain machine with the line table, the whole machine with it, and what lists of events lead them to.
-use Rattle.std.specs.Prelude.{ℕ, zero, suc, ◌+◌, Bool, true, false, List, [], ◌∷◌, Option, Some, None}
+use Rattle.std.specs.Prelude.{ℕ, ◌+◌, List, [], ◌∷◌, Option, Some, None}
 use Rattle.svc_base.specs.declared.config.Config.{Config}
 use Rattle.svc_base.specs.declared.refusal.Refusal.{Refusal}
 use Rattle.svc_image.specs.Image.{Image}
@@ -12,7 +12,7 @@ use Rattle.svc_machine_laws.specs.WholeMachine.{Machine, machine_of, opening}
 use Rattle.svc_machine_laws.specs.Events.{Event, Assign, Submit, Replace, Cancel, Commit, plain_event, whole_event}
 use Rattle.svc_machine_laws.specs.LineEvents.{line_event}
 use Rattle.svc_machine_laws.specs.Refusals.{refuse}
-use Rattle.svc_machine_laws.specs.Replies.{whole_reply, plain_reply}
+use Rattle.svc_machine_laws.specs.Replies.{plain_reply}
 
 -- where a machine stands: the plain machine and the line table
 pub record Standing : Type 0 where

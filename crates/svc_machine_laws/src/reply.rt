@@ -50,11 +50,16 @@ pub enum What {
     /// The asked turn trapped, with this number.
     Trapped(u8),
     /// A line of this word was taken out of the unit's cache.
-    Replaced { addr: WordAddr },
+    Replaced {
+        addr: WordAddr,
+    },
     /// The unit's task was squashed.
     Cancelled,
     /// The head was committed: its number, and how it ended.
-    Committed { task: TaskNo, end: End },
+    Committed {
+        task: TaskNo,
+        end: End,
+    },
 }
 
 /// Why tasks were squashed.

@@ -1,4 +1,4 @@
-use Rattle.std.proofs.Common.{ℕ, ◌≡◌, List, [], ◌∷◌, Option, None, refl, ap, map}
+use Rattle.std.proofs.Common.{refl}
 use Rattle.svc_machine_laws.proofs.Followed.{assign_guide, submit_guide, cancel_guide, commit_guide}
 use Rattle.svc_machine_laws.proofs.guides.guide_steps.Goals as goal
 
