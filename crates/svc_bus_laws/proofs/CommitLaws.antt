@@ -6,7 +6,7 @@ use Rattle.std.proofs.lemmas.Bool.{cases_Bool, cases_eq, le-leb, lt-leb}
 use Rattle.svc_bus_laws.specs.Search.{all_below}
 use Rattle.svc_bus_laws.specs.Versioned.{Row, Versioned, fresh_row, row_at, version, is_exposed, latest, view}
 use Rattle.svc_bus_laws.specs.Versioned as map
-use Rattle.svc_bus_laws.specs.LineTable.{Line, LineTable, is_active, version_in, exposed_in, is_committed_dirty, task_in, value_in, unit_at, line_at, is_newest, newest, value_of, committed_value, own_version, versioned}
+use Rattle.svc_bus_laws.specs.LineTable.{Line, LineTable, version_in, exposed_in, is_committed_dirty, task_in, value_in, unit_at, line_at, is_newest, newest, value_of, committed_value, own_version, versioned}
 use Rattle.svc_bus_laws.specs.Steps.{settled, commit}
 use Rattle.svc_bus_laws.specs.Sound.{IsActiveLine, IsCommittedLine, IsSoundLine, IsSound}
 use Rattle.svc_bus_laws.proofs.Searches.{least_found, all_from, all_refuted}
@@ -18,10 +18,6 @@ use Rattle.svc_bus_laws.proofs.Tables.{SameCommitted, same_line, committed_same,
 settled_parts : (line : Option Line) (l : Line) → settled line ≡ Some l → (k : Line) × (line ≡ Some k) × (record k { commit = true } ≡ l)
 settled_parts None l e = none_line l e
 settled_parts (Some k) l e = (k, refl, some_line _ _ e)
-
-settled_inactive : (line : Option Line) → is_active (settled line) ≡ false
-settled_inactive None = refl
-settled_inactive (Some l) = refl
 
 -- what becomes a committed dirty line was one, or was a version
 settled_dirty : (line : Option Line) → version_in line ≡ None → SameCommitted (settled line) line

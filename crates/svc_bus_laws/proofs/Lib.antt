@@ -22,3 +22,6 @@ pub mod OpenedLaws
 pub mod LineWalks
 pub mod Rows
 pub mod OrderProofs
+pub mod SoundSeen
+pub mod ReachedProofs
+pub mod StateRows

@@ -1,10 +1,10 @@
 -- The order of a word's dirty lines is a strict total order: committed ones first, then active ones in task order.
 use Rattle.std.proofs.Common.{◌≡◌, ◌⊎◌, ◌≢◌, refl, sym, ap, ap₂, ◌∙◌, ℕ, ◌+◌, ◌<◌, ◌≤◌, Some, None, true, false, Bool, cond, not, ◌&&◌, Option, length, get_or, inl, inr, arith, true≢false, is_some, ltb, lt-ltb, le-ltb, ltb-true}
 use Rattle.std.proofs.lemmas.Bool.{cases_Bool, ltb-false}
-use Rattle.svc_bus_laws.specs.LineTable.{Line, LineTable, is_committed_dirty, task_in, unit_at, line_at}
+use Rattle.svc_bus_laws.specs.LineTable.{Line, LineTable, task_in, unit_at}
 use Rattle.svc_bus_laws.specs.Sound.{IsSoundLine}
 use Rattle.svc_bus_laws.specs.BusLine.{BusLine, is_dirty_line, is_committed_dirty_line, version_of_line}
-use Rattle.svc_bus_laws.specs.BusState.{BusState, Agrees, unnumbered, is_dirty, is_lower}
+use Rattle.svc_bus_laws.specs.BusState.{BusState, Agrees, unnumbered, is_dirty}
 use Rattle.svc_bus_laws.specs.BusView.{bus_line_at}
 use Rattle.svc_bus_laws.proofs.SeenLaws.{dirty_line_is, unit_is}
 

@@ -1,8 +1,10 @@
 -- Worked rows of the bus, by computation alone. Steps are named by unit, as callers name them.
 use Rattle.std.proofs.Common.{◌≡◌, refl, ℕ, Some, None, true, false, List, [], ◌∷◌, Option, unwrap_or}
 use Rattle.svc_bus_laws.specs.Search.{tabulate}
-use Rattle.svc_bus_laws.specs.Versioned.{Victim, view, victim_answer}
+use Rattle.svc_bus_laws.specs.Versioned.{Victim, view, victim_answer, is_exposed}
+use Rattle.svc_bus_laws.specs.Versioned as map
 use Rattle.svc_bus_laws.specs.LineTable.{LineTable, place_of, versioned, committed_value, opened}
+use Rattle.svc_bus_laws.specs.Walk.{walk_lines}
 use Rattle.svc_bus_laws.specs.Supplier.{Supplier, Hit, Reuse, Version, Spill, Committed, Memory, supplier}
 use Rattle.svc_bus_laws.specs.Steps.{commit, replace, squash_from, begin}
 use Rattle.svc_bus_laws.specs.Steps as step
@@ -118,6 +120,20 @@ overtaken = begin (commit (commit (write (read two 0 0) 1 0 9))) 0
 overtaken-read : (line overtaken 0 0 ≡ Some (29, 7)) × (answer overtaken 0 0 ≡ (9, Committed 1)) × (backing (read overtaken 0 0) ≡ 9 ∷ 0 ∷ 0 ∷ 0 ∷ [])
 overtaken-read = (refl, refl, refl)
 
+-- so has a store after the copy's task was committed
+abbrev outdated : LineTable
+outdated = write (commit (read two 0 0)) 1 0 9
+
+outdated-read : (line outdated 0 0 ≡ Some (29, 7)) × (answer (begin (commit outdated) 0) 0 0 ≡ (9, Committed 1)) × (committed (commit outdated) ≡ 9 ∷ 0 ∷ 0 ∷ 0 ∷ [])
+outdated-read = (refl, refl, refl)
+
+-- a committed dirty line is not reused
+abbrev stored : LineTable
+stored = begin (commit (write one 0 0 5)) 0
+
+stored-read : (answer stored 0 0 ≡ (5, Committed 0)) × (line (read stored 0 0) 0 0 ≡ Some (5, 5)) × (backing (read stored 0 0) ≡ 5 ∷ 0 ∷ 0 ∷ 0 ∷ [])
+stored-read = (refl, refl, refl)
+
 -- a read below a version that stands already is stale from the first
 abbrev passed : LineTable
 passed = read (write three 1 0 4) 0 0
@@ -165,6 +181,13 @@ emptied-read = (refl, refl, refl, refl)
 emptied-commit : (backing (commit (read emptied 1 0)) ≡ 8 ∷ 9 ∷ []) × (committed (commit (read emptied 1 0)) ≡ 8 ∷ 9 ∷ [])
 emptied-commit = (refl, refl)
 
+-- a reuse is an exposed read, also of a line that the spill filled without L
+abbrev resumed : LineTable
+resumed = begin (begin (commit (read emptied 1 0)) 0) 1
+
+resumed-reuse : (answer resumed 1 0 ≡ (8, Reuse)) × (line (read resumed 1 0) 1 0 ≡ Some (5, 8)) × (cut (read resumed 1 0) 0 0 ≡ Some (record { first = 3; tasks = 1 }))
+resumed-reuse = (refl, refl, refl)
+
 -- SetFull names a committed line before a lower one that is not
 abbrev crowded : LineTable
 crowded = write (begin (commit (write (write (begin (opened 4 1 2 (0 ∷ 0 ∷ 0 ∷ [])) 0) 0 1 5) 0 0 6)) 0) 0 0 7
@@ -185,8 +208,15 @@ abbrev struck : LineTable
 struck = write (read loaded 2 0) 0 0 9
 
 -- V S is left
+struck-walk : walk_lines (read loaded 2 0) 0 0 ≡ Some 1
+struck-walk = refl
+
 struck-cut : (cut (read loaded 2 0) 0 0 ≡ Some (record { first = 1; tasks = 2 })) × (struck.units ≡ 0 ∷ []) × (lines struck 0 ≡ Some (3, 9) ∷ None ∷ None ∷ None ∷ []) × (committed struck ≡ 7 ∷ 0 ∷ 0 ∷ 0 ∷ []) × (committed (commit struck) ≡ 9 ∷ 0 ∷ 0 ∷ 0 ∷ [])
 struck-cut = (refl, refl, refl, refl, refl)
+
+-- the new head's reads are no longer recorded
+head-forgets : (is_exposed (versioned (read two 1 0)) 1 0 ≡ true) × (is_exposed (map.commit (versioned (read two 1 0))) 0 0 ≡ false)
+head-forgets = (refl, refl)
 
 -- it did not: its version hides the store
 abbrev hidden : LineTable

@@ -9,7 +9,11 @@ use Rattle.svc_bus_laws.specs.Supplier.{Hit, Reuse, Version, Spill, supplier, by
 use Rattle.svc_bus_laws.specs.Sound.{IsSound}
 use Rattle.svc_bus_laws.specs.BusLine.{is_active_line, is_reusable_line, is_committed_dirty_line, is_dirty_line, is_exposed_line, value_of_line, version_of_line}
 use Rattle.svc_bus_laws.specs.BusState.{BusState, Agrees, unnumbered, is_dirty, is_lower, state_of}
-use Rattle.svc_bus_laws.specs.BusView.{bus_line_at, is_newest_line, bus_newest, value_of_unit, bus_committed, bus_row, bus_map, bus_by_version, bus_supplier}
+use Rattle.svc_bus_laws.specs.BusView.{bus_line_at, is_newest_line, bus_newest, value_of_unit, bus_committed, bus_row, bus_map, bus_view, bus_victim, bus_by_version, bus_supplier}
+use Rattle.svc_bus_laws.specs.BusSteps.{bus_opened}
+use Rattle.svc_bus_laws.specs.LineTable.{opened}
+use Rattle.svc_bus_laws.specs.Versioned.{view, victim_answer}
+use Rattle.svc_bus_laws.proofs.OpenedLaws.{opened_law}
 use Rattle.svc_bus_laws.proofs.Searches.{least_same, all_same, greatest_same}
 
 -- ---- one line
@@ -34,11 +38,11 @@ pub exposed_line_is : (line : Option Line) → is_exposed_line (unnumbered line)
 exposed_line_is None = refl
 exposed_line_is (Some l) = refl
 
-committed_line_is : (line : Option Line) → is_committed_dirty_line (unnumbered line) ≡ is_committed_dirty line
+pub committed_line_is : (line : Option Line) → is_committed_dirty_line (unnumbered line) ≡ is_committed_dirty line
 committed_line_is None = refl
 committed_line_is (Some l) = refl
 
-value_line_is : (line : Option Line) → value_of_line (unnumbered line) ≡ value_in line
+pub value_line_is : (line : Option Line) → value_of_line (unnumbered line) ≡ value_in line
 value_line_is None = refl
 value_line_is (Some l) = refl
 
@@ -138,12 +142,33 @@ committed_seen b t a agrees = committed_at b t agrees a
 pub map_seen : (b : BusState) (t : LineTable) → Agrees b t → bus_map b ≡ versioned t
 map_seen b t agrees = map_is b t agrees
 
+pub view_seen : (b : BusState) (t : LineTable) (p a : ℕ) → Agrees b t → bus_view b p a ≡ view (versioned t) p a
+view_seen b t p a agrees = ap (λ m. view m p a) (map_is b t agrees)
+
+pub victim_seen : (b : BusState) (t : LineTable) (p a : ℕ) → Agrees b t → bus_victim b p a ≡ victim_answer (versioned t) p a
+victim_seen b t p a agrees = ap (λ m. victim_answer m p a) (map_is b t agrees)
+
 pub supplier_seen : (b : BusState) (t : LineTable) (p a : ℕ) → Agrees b t → bus_supplier b p a ≡ supplier t p a
 supplier_seen b t p a agrees = supplier_is b t agrees p a
 
 pub own_state : (probes : ℕ) (t : LineTable) → IsSound t → Agrees (state_of probes t) t
 own_state probes t sound = record {
   sound = sound;
+  caches = refl;
+  sets = refl;
+  ways = refl;
+  words = refl;
+  lines = λ u a. refl;
+  order = λ a u v. refl;
+  spill = λ a. refl;
+  backing = λ a. refl;
+  commits = refl;
+  units = refl;
+}
+
+pub opened_agrees : (caches sets ways : ℕ) (memory : List ℕ) → Agrees (bus_opened caches sets ways memory) (opened caches sets ways memory)
+opened_agrees caches sets ways memory = record {
+  sound = (opened_law caches sets ways memory).0;
   caches = refl;
   sets = refl;
   ways = refl;

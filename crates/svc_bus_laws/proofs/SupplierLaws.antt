@@ -6,7 +6,7 @@ use Rattle.std.proofs.lemmas.Bool.{cases_Bool}
 use Rattle.svc_bus_laws.specs.Search.{greatest}
 use Rattle.svc_bus_laws.specs.Versioned.{view}
 use Rattle.svc_bus_laws.specs.LineTable.{Line, LineTable, is_active, version_in, is_reusable, value_in, line_at, newest, committed_value, own_version, versioned}
-use Rattle.svc_bus_laws.specs.Supplier.{Spill, supplier, supplied, by_version, by_committed}
+use Rattle.svc_bus_laws.specs.Supplier.{is_spill, Spill, supplier, supplied, by_version, by_committed}
 use Rattle.svc_bus_laws.specs.Sound.{IsSound}
 use Rattle.svc_bus_laws.proofs.Searches.{cases_below, greatest_cases}
 use Rattle.svc_bus_laws.proofs.Maps.{latest_at, latest_none}
@@ -75,3 +75,11 @@ module _ (t : LineTable) (p a : ℕ) (sound : IsSound t) (within : p < length t.
       | inr other ↦ rw (miss, other) (found_value miss)
     ]
   ]
+
+pub spill_supplies : (t : LineTable) (a : ℕ) → is_active (line_at t 0 a) ≡ false → is_reusable (line_at t 0 a) ≡ false → is_spill (supplier t 0 a) ≡ is_some (t.spill a)
+spill_supplies t a miss other = rw (miss, other) (either (is_some (t.spill a)) (newest t a))
+  where
+    either : (x : Bool) (o : Option ℕ) → is_spill (cond x Spill (by_committed o)) ≡ x
+    either true o = refl
+    either false None = refl
+    either false (Some u) = refl

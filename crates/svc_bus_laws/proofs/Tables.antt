@@ -21,10 +21,6 @@ pub no_exposure : (line : Option Line) → is_active line ≡ false → exposed_
 no_exposure None e = refl
 no_exposure (Some l) e = rw e
 
-pub active_clean : (line : Option Line) → is_active line ≡ true → is_committed_dirty line ≡ false
-active_clean None e = refl
-active_clean (Some l) e = elim (cases_Bool l.commit) [ inl set ↦ absurd (true≢false (sym e ∙ rw set)) | inr clear ↦ rw clear ]
-
 pub dirty_settled : (line : Option Line) → is_committed_dirty line ≡ true → is_active line ≡ false
 dirty_settled None e = refl
 dirty_settled (Some l) e = elim (cases_Bool l.commit) [ inl set ↦ rw set | inr clear ↦ absurd (true≢false (sym e ∙ rw clear)) ]

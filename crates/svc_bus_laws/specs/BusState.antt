@@ -4,19 +4,23 @@ use Rattle.svc_bus_laws.specs.LineTable.{Line, LineTable, task_in}
 use Rattle.svc_bus_laws.specs.BusLine.{BusLine}
 use Rattle.svc_bus_laws.specs.Sound.{IsSound}
 
--- a bus: how many caches, sets, ways and words it has, its lines by unit and word, the order of each word's dirty lines, the spill table, the backing memory, the number of commits, the units of the active tasks, and the look-ups of the last read or write
+-- all that callers see of a bus
 pub record BusState : Type 0 where
+  -- how many units there are, the sets and ways of each cache, and the words of the memory
   pub caches : ℕ
   pub sets : ℕ
   pub ways : ℕ
   pub words : ℕ
+  -- by unit and word
   pub lines : ℕ → ℕ → Option BusLine
   -- of a word and two units: both have a dirty line of the word, and the first unit's is older
   pub is_older : ℕ → ℕ → ℕ → Bool
   pub spill : ℕ → Option ℕ
   pub backing : ℕ → ℕ
   pub commits : ℕ
+  -- the units of the active tasks, oldest first
   pub units : List ℕ
+  -- the look-ups of the last accepted read or write
   pub probes : ℕ
 
 -- a line without its number
@@ -46,6 +50,19 @@ pub record Agrees (b : BusState) (t : LineTable) : Type 0 where
   pub backing : (a : ℕ) → b.backing a ≡ t.backing a
   pub commits : b.commits ≡ t.commits
   pub units : b.units ≡ t.units
+
+-- two states that differ in look-ups at most
+pub record SameBus (b c : BusState) : Type 0 where
+  pub caches : b.caches ≡ c.caches
+  pub sets : b.sets ≡ c.sets
+  pub ways : b.ways ≡ c.ways
+  pub words : b.words ≡ c.words
+  pub lines : (u a : ℕ) → b.lines u a ≡ c.lines u a
+  pub order : (a u v : ℕ) → b.is_older a u v ≡ c.is_older a u v
+  pub spill : (a : ℕ) → b.spill a ≡ c.spill a
+  pub backing : (a : ℕ) → b.backing a ≡ c.backing a
+  pub commits : b.commits ≡ c.commits
+  pub units : b.units ≡ c.units
 
 -- what callers see of a line table
 abbrev pub state_of : ℕ → LineTable → BusState

@@ -1,5 +1,5 @@
 -- The steps of a bus without numbers: what its lines, its order and its queue become. They are what a body has to show.
-use Rattle.std.specs.Prelude.{ℕ, suc, Bool, true, false, cond, not, ◌&&◌, ◌==◌, ltb, Option, Some, None, is_some, unwrap_or, [], ◌∷◌, ◌++◌, length, get_or, take, drop}
+use Rattle.std.specs.Prelude.{List, ℕ, suc, Bool, true, false, cond, not, ◌&&◌, ◌==◌, ltb, Option, Some, None, is_some, unwrap_or, [], ◌∷◌, ◌++◌, length, get_or, take, drop}
 use Rattle.std.specs.Option.{option_or}
 use Rattle.svc_bus_laws.specs.Search.{any_below}
 use Rattle.svc_bus_laws.specs.Versioned.{view, survivors}
@@ -7,6 +7,22 @@ use Rattle.svc_bus_laws.specs.LineTable.{is_cut}
 use Rattle.svc_bus_laws.specs.BusLine.{BusLine, is_active_line, is_dirty_line, is_reusable_line, is_exposed_line, version_of_line, settled_line, reused_line, purged_line, marked_line}
 use Rattle.svc_bus_laws.specs.BusState.{BusState}
 use Rattle.svc_bus_laws.specs.BusView.{bus_line_at, bus_committed, bus_map}
+
+-- the opened bus: no lines, no tasks
+abbrev pub bus_opened : ℕ → ℕ → ℕ → List ℕ → BusState
+bus_opened caches sets ways memory = record {
+  caches = caches;
+  sets = sets;
+  ways = ways;
+  words = length memory;
+  lines = λ u a. None;
+  is_older = λ a u v. false;
+  spill = λ a. None;
+  backing = λ a. get_or memory a 0;
+  commits = 0;
+  units = [];
+  probes = 0;
+}
 
 -- the idle unit's new task goes last
 abbrev pub bus_begin : BusState → ℕ → BusState

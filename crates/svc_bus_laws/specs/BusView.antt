@@ -1,9 +1,10 @@
 -- What the state that callers see says of committed values, of the versioned map and of the supplier of a read: all without numbers.
-use Rattle.std.specs.Prelude.{ℕ, Bool, cond, not, ◌&&◌, ◌||◌, ◌==◌, Option, Some, None, is_some, length, get_or}
+use Rattle.std.specs.Prelude.{suc, ◌-◌, ℕ, Bool, cond, not, ◌&&◌, ◌||◌, ◌==◌, Option, Some, None, is_some, length, get_or}
 use Rattle.std.specs.Option.{option_or}
 use Rattle.svc_bus_laws.specs.Search.{least, greatest, all_below, tabulate}
-use Rattle.svc_bus_laws.specs.Versioned.{Row, Versioned}
-use Rattle.svc_bus_laws.specs.Supplier.{Supplier, Hit, Reuse, Version, Spill, by_committed}
+use Rattle.svc_bus_laws.specs.Versioned.{Row, Versioned, Victim, view, victim_answer}
+use Rattle.svc_bus_laws.specs.Supplier.{Supplier, Hit, Reuse, Version, Spill, Committed, Memory, by_committed}
+use Rattle.svc_bus_laws.specs.Walk.{walk}
 use Rattle.svc_bus_laws.specs.BusLine.{BusLine, is_active_line, is_reusable_line, is_committed_dirty_line, is_exposed_line, value_of_line, version_of_line}
 use Rattle.svc_bus_laws.specs.BusState.{BusState}
 
@@ -43,6 +44,13 @@ bus_map b = record {
   rows = tabulate (length b.units) (bus_row b);
 }
 
+-- what the task at a place reads, and the victim of its write
+abbrev pub bus_view : BusState → ℕ → ℕ → ℕ
+bus_view b p a = view (bus_map b) p a
+
+abbrev pub bus_victim : BusState → ℕ → ℕ → Option Victim
+bus_victim b p a = victim_answer (bus_map b) p a
+
 -- the version at a place that was found, else the spilled value, else what is committed
 abbrev pub bus_by_version : BusState → ℕ → Option ℕ → Supplier
 bus_by_version b a (Some q) = Version (get_or b.units q 0)
@@ -54,3 +62,16 @@ bus_supplier b p a =
     cond (is_active_line (bus_line_at b p a)) Hit
     (cond (is_reusable_line (bus_line_at b p a)) Reuse
     (bus_by_version b a (greatest p (λ q. is_some (version_of_line (bus_line_at b q a))))))
+
+-- the value that a supplier holds
+abbrev pub bus_supplied : BusState → ℕ → ℕ → Supplier → Option ℕ
+bus_supplied b p a Hit = Some (value_of_line (bus_line_at b p a))
+bus_supplied b p a Reuse = Some (value_of_line (bus_line_at b p a))
+bus_supplied b p a (Version u) = Some (value_of_line (b.lines u a))
+bus_supplied b p a Spill = b.spill a
+bus_supplied b p a (Committed u) = Some (value_of_line (b.lines u a))
+bus_supplied b p a Memory = Some (b.backing a)
+
+-- the walk of a write over the lines of the tasks above the writer
+abbrev pub bus_walk : BusState → ℕ → ℕ → Option ℕ
+bus_walk b p a = walk (λ q. is_exposed_line (bus_line_at b q a)) (λ q. is_some (version_of_line (bus_line_at b q a))) (suc p) (length b.units - suc p)

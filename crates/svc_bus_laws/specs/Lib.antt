@@ -9,6 +9,7 @@ pub mod Sound
 pub mod BusLine
 pub mod BusState
 pub mod BusView
+pub mod SoundState
 pub mod BusSteps
 pub mod Refusals
 pub mod MapLaws
@@ -16,3 +17,4 @@ pub mod TableLaws
 pub mod AgreementLaws
 pub mod RefusalLaws
 pub mod OrderLaws
+pub mod Reached

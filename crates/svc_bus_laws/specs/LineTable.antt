@@ -1,4 +1,5 @@
 -- The line table: every cache's lines, the spill table and the backing memory.
+-- The bits V, S, L, C and T are those of "Speculative Versioning Cache" (HPCA 1998), the efficient commit design (EC).
 use Rattle.std.specs.Prelude.{ℕ, Bool, false, cond, not, ◌&&◌, ◌||◌, ◌==◌, leb, Option, Some, None, List, [], length, get_or}
 use Rattle.std.specs.Option.{option_or}
 use Rattle.svc_bus_laws.specs.Search.{least, all_below, any_below, tabulate}
@@ -13,16 +14,23 @@ pub record Line : Type 0 where
   pub stale : Bool
   pub task : ℕ
 
--- the lines by unit and word, the head's spilled values, the backing memory, the number of commits, and the units of the active tasks, oldest first; the units are the numbers below caches, each with a cache of sets times ways places, and the memory's words are the numbers below words
+-- all that the caches, the spill table and the memory hold
 pub record LineTable : Type 0 where
+  -- the units are the numbers below caches, and each has a cache of sets times ways places
   pub caches : ℕ
   pub sets : ℕ
   pub ways : ℕ
+  -- the memory's words are the numbers below words
   pub words : ℕ
+  -- by unit and word
   pub lines : ℕ → ℕ → Option Line
+  -- the head's versions whose lines were replaced, by word
   pub spill : ℕ → Option ℕ
+  -- the memory, by word
   pub backing : ℕ → ℕ
+  -- how many tasks were committed: the head's number
   pub commits : ℕ
+  -- the units of the active tasks, oldest first
   pub units : List ℕ
 
 -- V set and C clear

@@ -1,5 +1,5 @@
 -- The order of a word's dirty lines that callers see.
-use Rattle.std.specs.Prelude.{◌≡◌, ◌≢◌, ◌⊎◌, ℕ, ◌<◌, Bool, true, false, ltb, Option, Some, is_some, length, get_or}
+use Rattle.std.specs.Prelude.{◌≡◌, ◌≢◌, ◌⊎◌, ℕ, ◌<◌, true, false, ltb, is_some, length, get_or}
 use Rattle.svc_bus_laws.specs.LineTable.{LineTable}
 use Rattle.svc_bus_laws.specs.BusLine.{is_dirty_line, is_committed_dirty_line, version_of_line}
 use Rattle.svc_bus_laws.specs.BusState.{BusState, Agrees}

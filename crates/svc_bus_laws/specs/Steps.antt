@@ -1,4 +1,5 @@
 -- The steps of the bus on the line table, pointwise. What is not named stays.
+-- A commit writes nothing back but spilled values: versions go to memory when their word is next purged (lazy commit).
 use Rattle.std.specs.Prelude.{ℕ, suc, ◌+◌, Bool, true, false, cond, not, ◌&&◌, ◌||◌, ◌==◌, ltb, leb, Option, Some, None, is_some, unwrap_or, [], ◌∷◌, ◌++◌, length, take, drop}
 use Rattle.std.specs.Option.{option_or}
 use Rattle.svc_bus_laws.specs.Search.{any_below}

@@ -1,5 +1,5 @@
 -- Who supplies the value of a read.
-use Rattle.std.specs.Prelude.{ℕ, cond, Option, Some, None, is_some}
+use Rattle.std.specs.Prelude.{true, false, Bool, ℕ, cond, Option, Some, None, is_some}
 use Rattle.svc_bus_laws.specs.Search.{greatest}
 use Rattle.svc_bus_laws.specs.LineTable.{LineTable, is_active, is_reusable, version_in, value_in, unit_at, line_at, newest}
 
@@ -37,3 +37,11 @@ supplied t p a (Version u) = Some (value_in (t.lines u a))
 supplied t p a Spill = t.spill a
 supplied t p a (Committed u) = Some (value_in (t.lines u a))
 supplied t p a Memory = Some (t.backing a)
+
+abbrev pub is_spill : Supplier → Bool
+is_spill Hit = false
+is_spill Reuse = false
+is_spill (Version u) = false
+is_spill Spill = true
+is_spill (Committed u) = false
+is_spill Memory = false

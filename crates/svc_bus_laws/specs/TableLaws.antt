@@ -1,18 +1,23 @@
 -- The laws of the line table: each step keeps it sound, and is the versioned map's step with the same answer.
-use Rattle.std.specs.Prelude.{◌≡◌, ◌≢◌, ◌⊎◌, ℕ, ◌+◌, ◌<◌, ◌≤◌, true, false, Some, None, List, [], length, get_or}
+use Rattle.std.specs.Prelude.{is_some, ◌≡◌, ◌≢◌, ◌⊎◌, ℕ, ◌+◌, ◌<◌, ◌≤◌, true, false, Some, None, List, [], length, get_or}
 use Rattle.svc_bus_laws.specs.Versioned.{Versioned, view, victim}
 use Rattle.svc_bus_laws.specs.Versioned as map
 use Rattle.svc_bus_laws.specs.Walk.{walk_lines}
 use Rattle.svc_bus_laws.specs.LineTable.{LineTable, is_active, is_committed_dirty, is_reusable, value_in, unit_at, line_at, committed_value, versioned, opened}
-use Rattle.svc_bus_laws.specs.Supplier.{supplier, supplied}
+use Rattle.svc_bus_laws.specs.Supplier.{supplier, supplied, is_spill}
 use Rattle.svc_bus_laws.specs.Steps.{read, write, replace, squash, squash_from, squashed, commit, begin, purge}
 use Rattle.svc_bus_laws.specs.Sound.{IsSound}
+use Rattle.svc_bus_laws.specs.Reached.{Reached}
 use Rattle.svc_bus_laws.specs.Refusals.{table_cache, is_pinned}
 
 -- an opened bus is sound, and stands for the map of its memory without tasks
 abbrev pub OpenedLaw : Type 0
 OpenedLaw = (caches sets ways : ℕ) (memory : List ℕ) → IsSound (opened caches sets ways memory)
     × (versioned (opened caches sets ways memory) ≡ record { commits = 0; committed = λ a. get_or memory a 0; rows = [] })
+
+-- every reached table is sound
+abbrev pub ReachedLaw : Type 0
+ReachedLaw = (t : LineTable) → Reached t → IsSound t
 
 -- no line lies past the memory
 abbrev pub MemoryLaw : Type 0
@@ -30,6 +35,10 @@ OwnLineLaw = (t : LineTable) (p a : ℕ) → IsSound t → p < length t.units �
 -- the supplier of a read holds what the task reads
 abbrev pub SupplierLaw : Type 0
 SupplierLaw = (t : LineTable) (p a : ℕ) → IsSound t → p < length t.units → supplied t p a (supplier t p a) ≡ Some (view (versioned t) p a)
+
+-- the head's bus request is supplied by the spill exactly where the word has a spilled value (and then its line has no L)
+abbrev pub SpillSupplies : Type 0
+SpillSupplies = (t : LineTable) (a : ℕ) → is_active (line_at t 0 a) ≡ false → is_reusable (line_at t 0 a) ≡ false → is_spill (supplier t 0 a) ≡ is_some (t.spill a)
 
 -- a write; the tasks that it leaves are those below the map's victim
 abbrev pub WriteLaw : Type 0

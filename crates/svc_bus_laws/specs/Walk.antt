@@ -1,4 +1,4 @@
--- The walk of a write over the later tasks.
+-- The walk of a write over the later tasks, by which the version control logic finds whom it squashes.
 use Rattle.std.specs.Prelude.{ℕ, zero, suc, ◌-◌, Bool, cond, Option, Some, None, is_some, length}
 use Rattle.svc_bus_laws.specs.LineTable.{LineTable, version_in, exposed_in, line_at}
 

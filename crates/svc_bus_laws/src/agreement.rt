@@ -1,15 +1,28 @@
 // A bus without numbers, and the line tables that it agrees with.
 
-ghost use Rattle.svc_bus_laws.specs.AgreementLaws.{OwnState, CommittedSeen, MapSeen, SupplierSeen, ReadAgrees, WriteAgrees, ReplaceAgrees, SquashAgrees, CommitAgrees, BeginAgrees, AlikeReads, AlikeWrites, AlikeReplacements, AlikeSquashes, AlikeCommits, AlikeBeginnings, AlikeMaps};
+ghost use Rattle.svc_bus_laws.specs.AgreementLaws.{OpenedAgrees, OwnState, SameAgrees, SoundSeen, CommittedSeen, MapSeen, ViewSeen, VictimSeen, SupplierSeen, SuppliedSeen, WalkSeen, ReadAgrees, WriteAgrees, ReplaceAgrees, SquashAgrees, CommitAgrees, BeginAgrees, AlikeReads, AlikeWrites, AlikeReplacements, AlikeSquashes, AlikeCommits, AlikeBeginnings, AlikeMaps};
 ghost use Rattle.svc_bus_laws.specs.OrderLaws.{OrderDirty, OrderStrict, OrderTransitive, OrderTotal, CommittedFirst, TaskOrder};
 
-/// A sound table's own state agrees with it. The committed values, the versioned map, with it each view and victim, and
-/// the supplier of a read are seen without numbers, and are those of every table that agrees.
+/// The opened bus agrees with the opened table, and a sound table's own state with it. A state that agrees satisfies what
+/// its table satisfies, and its look-ups decide nothing.
 pub fn state_law()
+    ensures opened { OpenedAgrees }
     ensures own { OwnState }
+    ensures same { SameAgrees }
+    ensures sound { SoundSeen }
+{}
+
+/// The committed values, the versioned map, with it each view and victim, and the supplier of a read are seen without
+/// numbers, and are those of every table that agrees. The supplier that is seen holds the view, and the walk over the
+/// lines that are seen finds the victim.
+pub fn seen_law()
     ensures committed { CommittedSeen }
     ensures map { MapSeen }
+    ensures view { ViewSeen }
+    ensures victim { VictimSeen }
     ensures supplier { SupplierSeen }
+    ensures supplied { SuppliedSeen }
+    ensures walk { WalkSeen }
 {}
 
 /// The order of a word's dirty lines that callers see is strict and total: committed ones first, then active ones in the

@@ -17,10 +17,10 @@ mod map;
 mod refusal;
 mod table;
 
-pub use agreement::{agreement_law, alike_law, order_law, state_law};
+pub use agreement::{agreement_law, alike_law, order_law, seen_law, state_law};
 pub use map::{rows_law, victim_law, view_law, walk_law};
 pub use refusal::{full_law, pinned_law, same_refusals_law};
 pub use table::{
-    begin_law, commit_law, opened_law, purge_law, read_law, replace_law, squash_law, supplier_law,
-    write_law,
+    begin_law, commit_law, opened_law, purge_law, reached_law, read_law, replace_law, squash_law,
+    supplier_law, write_law,
 };

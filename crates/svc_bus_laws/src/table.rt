@@ -1,11 +1,15 @@
 // The line table: each step keeps what every reached table satisfies, and is the versioned map's step.
 
-ghost use Rattle.svc_bus_laws.specs.TableLaws.{OpenedLaw, MemoryLaw, ReadLaw, OwnLineLaw, SupplierLaw, WriteLaw, LineWalkLaw, ReplaceLaw, SquashLaw, SquashNumbers, SquashFrom, CommitLaw, SpillLaw, BeginLaw, PurgeLaw};
+ghost use Rattle.svc_bus_laws.specs.TableLaws.{OpenedLaw, ReachedLaw, MemoryLaw, ReadLaw, OwnLineLaw, SupplierLaw, SpillSupplies, WriteLaw, LineWalkLaw, ReplaceLaw, SquashLaw, SquashNumbers, SquashFrom, CommitLaw, SpillLaw, BeginLaw, PurgeLaw};
 
-/// An opened bus is sound, and stands for the map of its memory without tasks. In every sound table no line lies past
-/// the memory.
+/// An opened bus is sound, and stands for the map of its memory without tasks.
 pub fn opened_law()
-    ensures opened { OpenedLaw }
+    ensures { OpenedLaw }
+{}
+
+/// Every line table that a bus reaches is sound. No line of a sound table lies past the memory.
+pub fn reached_law()
+    ensures sound { ReachedLaw }
     ensures in_memory { MemoryLaw }
 {}
 
@@ -14,10 +18,12 @@ pub fn read_law()
     ensures { ReadLaw }
 {}
 
-/// The supplier of a read holds what the task reads; so do the unit's own line at a hit and at a reuse.
+/// The supplier of a read holds what the task reads; so does the unit's own line at a hit and at a reuse. The head's bus
+/// request is supplied by the spill exactly where the word has a spilled value.
 pub fn supplier_law()
     ensures value { SupplierLaw }
     ensures own { OwnLineLaw }
+    ensures spill { SpillSupplies }
 {}
 
 /// A write keeps the table sound, and is the map's write; the walk over the later tasks' lines finds its victim.

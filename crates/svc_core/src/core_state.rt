@@ -2,11 +2,11 @@
 
 ghost use Rattle.std.specs.Prelude.{◌≡◌, ◌≤◌, ◌<◌, ◌+◌, true, IsTrue, ◌↔◌, is_none};
 ghost use Rattle.svc_image.specs.Image.{is_entry};
-ghost use Rattle.svc_core.specs.State.{value_of, start, ended};
-ghost use Rattle.svc_core.specs.Same.{same_end, same_words, same_state};
+ghost use Rattle.svc_core_laws.specs.State.{value_of, start, ended};
+ghost use Rattle.svc_core_laws.specs.Same.{same_end, same_words, same_state};
 
-use crate::end::End;
 use std::marker::Model;
+use svc_core_laws::End;
 use svc_image::Image;
 use svc_rv32i::Register;
 
@@ -14,15 +14,17 @@ use svc_rv32i::Register;
 #[derive(Clone, Copy, Debug, PartialEq, Eq)]
 pub struct Core {
     pub(crate) pc: u32,
-    pub(crate) regs: [u32; 32],
     pub(crate) count: u32,
     pub(crate) emitted: u8,
     pub(crate) limit: u32,
     pub(crate) done: Option<End>,
+    // The registers come last: fields lie in the order of the source, so a write at a register's number
+    // can't touch what stands before them, and the compiler keeps that in machine registers.
+    pub(crate) regs: [u32; 32],
 }
 
 impl Model for Core {
-    ghost use Rattle.svc_core.specs.State.{State, IsCore};
+    ghost use Rattle.svc_core_laws.specs.State.{State, IsCore};
 
     ghost Value = { State };
 
@@ -151,7 +153,7 @@ fn is_same_end(a: Option<End>, b: Option<End>) -> bool
     }
 }
 
-#[tactic(auto, using(crate::proofs::SameCore::words))]
+#[tactic(auto, using(svc_core_laws::proofs::SameCore::words))]
 fn are_same_words(a: &[u32; 32], b: &[u32; 32]) -> bool
     ensures { result ≡ same_words a.now b.now }
 {

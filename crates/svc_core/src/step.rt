@@ -2,15 +2,15 @@
 
 ghost use Rattle.std.specs.Prelude.{◌≡◌, ◌<◌, ◌≤◌, ℕ, None, length, slice_index, option_to_list};
 ghost use Rattle.svc_image.specs.Image.{fetched};
-ghost use Rattle.svc_core.specs.Numbers.{load_bytes, store_bytes};
-ghost use Rattle.svc_core.specs.Turns.{data_words, access_trap};
-ghost use Rattle.svc_core.specs.Program.{over, wrote, output};
-ghost use Rattle.svc_core.specs.Bursts.{IsReady};
-ghost use Rattle.svc_core.specs.Steps.{step_of, answered, load_answer, store_answer};
+ghost use Rattle.svc_core_laws.specs.Numbers.{load_bytes, store_bytes};
+ghost use Rattle.svc_core_laws.specs.Turns.{data_words, access_trap};
+ghost use Rattle.svc_core_laws.specs.Program.{over, wrote, output};
+ghost use Rattle.svc_core_laws.specs.Bursts.{IsReady};
+ghost use Rattle.svc_core_laws.specs.Steps.{step_of, answered, load_answer, store_answer};
 
 use crate::access::{load_place, loaded, store_place, stored};
-use crate::ask::Ask;
 use crate::core_state::Core;
+use svc_core_laws::Ask;
 use svc_image::{Fetched, Image};
 use svc_rv32i::{LoadKind, Register, StoreKind};
 
@@ -19,12 +19,7 @@ impl Core {
     /// core stands, before and after, so that each place is fetched once. The answer is the word that the
     /// turn puts out, if any.
     #[inline]
-    pub fn step(
-        &mut self,
-        image: &Image,
-        seen: &mut Fetched,
-        memory: &mut [u32],
-    ) -> Option<u32>
+    pub fn step(&mut self, image: &Image, seen: &mut Fetched, memory: &mut [u32]) -> Option<u32>
         requires running { self.old.done ≡ None }
         requires here { seen.old ≡ fetched image.now self.old.pc }
         requires size { length memory.old ≡ data_words image.now }
@@ -42,9 +37,10 @@ impl Core {
         word
     }
 
-    // Does an asked turn, up to the test for an entry.
+    /// Does an asked turn on a memory of words, up to the test for an entry; the answer is the word put out,
+    /// if any.
     #[inline]
-    fn answer(&mut self, ask: Ask, memory: &mut [u32]) -> Option<u32>
+    pub fn answer(&mut self, ask: Ask, memory: &mut [u32]) -> Option<u32>
         requires ready { IsReady self.old ask }
         requires few { length memory.old ≤ 65536 }
         ensures core { self.new ≡ (answered (length memory.old) ask self.old (slice_index memory.old)).core }

@@ -6,13 +6,13 @@ use Rattle.std.proofs.lemmas.Bool.{leb-false}
 use borrow.Author.Tests.{both_ways, not-false}
 use Rattle.svc_base.specs.declared.config.Config.{Config}
 use Rattle.svc_image.specs.Image.{Image, is_entry}
-use Rattle.svc_core.specs.declared.end.End.{End}
-use Rattle.svc_core.specs.State.{State}
-use Rattle.svc_core.specs.Same.{same_state}
-use Rattle.svc_core.proofs.SameCore.{same_state-is}
-use Rattle.svc_core.specs.Program.{seq}
-use Rattle.svc_core.specs.Words.{program}
-use Rattle.svc_core.specs.Bursts.{Advance, are_of, is_nothing}
+use Rattle.svc_core_laws.specs.declared.end.End.{End}
+use Rattle.svc_core_laws.specs.State.{State}
+use Rattle.svc_core_laws.specs.Same.{same_state}
+use Rattle.svc_core_laws.proofs.SameCore.{same_state-is}
+use Rattle.svc_core_laws.specs.Program.{seq}
+use Rattle.svc_core_laws.specs.Words.{program}
+use Rattle.svc_core_laws.specs.Bursts.{Advance, are_of, is_nothing}
 use Rattle.svc_bus_laws.specs.Refusals.{table_cache, is_pinned}
 use Rattle.svc_machine_laws.specs.PlainMachine.{Running, running, unit_of}
 use Rattle.svc_machine_laws.specs.WholeMachine.{Seat, Machine, machine_of, seat_of, seat_unit}

@@ -2,7 +2,7 @@
 use Rattle.std.proofs.Common.{ℕ, zero, suc, ◌≡◌, ◌==◌, false, not, ◌&&◌, List, [], ◌∷◌, map, Some, refl, sym, ap, ◌∙◌, subst, option_map, slice_get, get_or, arith}
 use Rattle.std.proofs.lemmas.Option.{slice_get-map, same_Some, none-some}
 use Rattle.std.proofs.lemmas.Bool.{ne_eqb}
-use Rattle.svc_core.specs.Program.{Memory, Program, wrote, over, part, seq}
+use Rattle.svc_core_laws.specs.Program.{Memory, Program, wrote, over, part, seq}
 use Rattle.svc_bus_laws.specs.Versioned.{Row, fresh_row, with_head}
 use Rattle.svc_bus_laws.specs.ByRows.{view_of}
 use Rattle.svc_bus_laws.proofs.ByRowsLaws.{view_by_rows}

@@ -5,12 +5,12 @@ use Rattle.std.proofs.lemmas.Bool.{eq-eqb}
 use borrow.Author.Tests.{both_ways}
 use Rattle.svc_base.specs.declared.config.Config.{Config}
 use Rattle.svc_image.specs.Image.{Image}
-use Rattle.svc_core.specs.declared.end.End.{End}
-use Rattle.svc_core.specs.declared.end.End.TheVariants as end
-use Rattle.svc_core.specs.State.{State}
-use Rattle.svc_core.specs.Program.{Program, Want, Local, Load, Store, Narrow, Emit, Run, Seq, part, seq, due_after, stopped_after, followed_by, IsProgram}
-use Rattle.svc_core.specs.Words.{program}
-use Rattle.svc_core.specs.Bursts.{Advance}
+use Rattle.svc_core_laws.specs.declared.end.End.{End}
+use Rattle.svc_core_laws.specs.declared.end.End.TheVariants as end
+use Rattle.svc_core_laws.specs.State.{State}
+use Rattle.svc_core_laws.specs.Program.{Program, Want, Local, Load, Store, Narrow, Emit, Run, Seq, part, seq, due_after, stopped_after, followed_by, IsProgram}
+use Rattle.svc_core_laws.specs.Words.{program}
+use Rattle.svc_core_laws.specs.Bursts.{Advance}
 use Rattle.svc_bus_laws.specs.ByRows.{victim_after}
 use Rattle.svc_bus_laws.proofs.ByRowsLaws.{victim_by_rows}
 use Rattle.svc_bus_laws.proofs.MapViews.{victim_is}

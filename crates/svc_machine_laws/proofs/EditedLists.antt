@@ -2,7 +2,7 @@
 use Rattle.std.proofs.Common.{ℕ, zero, suc, ◌≡◌, List, [], ◌∷◌, ◌++◌, map, take, Option, Some, None, refl, ap, ap₂, slice_get}
 use Rattle.svc_bus_laws.specs.Versioned.{Row, with_head}
 use Rattle.svc_bus_laws.specs.ByRows.{view_of, victim_after, cut_at, edit}
-use Rattle.svc_core.specs.Program.{Memory, Want, Local, Load, Store, Narrow, Emit}
+use Rattle.svc_core_laws.specs.Program.{Memory, Want, Local, Load, Store, Narrow, Emit}
 use Rattle.svc_machine_laws.specs.PlainMachine.{cut_by}
 
 pub map_take : {A B : Type 0} (h : A → B) (n : ℕ) (xs : List A) → map h (take n xs) ≡ take n (map h xs)

@@ -5,10 +5,10 @@ use Rattle.std.proofs.lemmas.Option.{none-some}
 use Rattle.svc_base.specs.declared.config.Config.{Config}
 use Rattle.svc_base.specs.declared.refusal.Refusal.{Refusal}
 use Rattle.svc_image.specs.Image.{Image}
-use Rattle.svc_core.specs.State.{State}
-use Rattle.svc_core.specs.Program.{Program, seq}
-use Rattle.svc_core.specs.Words.{program}
-use Rattle.svc_core.specs.Sequence.{plain_seq, IsSameSeq}
+use Rattle.svc_core_laws.specs.State.{State}
+use Rattle.svc_core_laws.specs.Program.{Program, seq}
+use Rattle.svc_core_laws.specs.Words.{program}
+use Rattle.svc_core_laws.specs.Sequence.{plain_seq, IsSameSeq}
 use Rattle.svc_bus_laws.specs.Versioned.{Versioned}
 use Rattle.svc_bus_laws.proofs.OpenedLaws.{opened_law}
 use Rattle.svc_machine_laws.specs.PlainMachine.{Task, Plain, Running, runs_of, running}

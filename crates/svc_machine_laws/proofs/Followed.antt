@@ -7,9 +7,9 @@ use Rattle.std.proofs.lemmas.Option.{same_Some, none-some}
 use Rattle.std.proofs.lemmas.Bool.{eqb-true}
 use borrow.Author.Tests.{both_ways}
 use Rattle.svc_image.specs.Image.{Image, is_entry}
-use Rattle.svc_core.specs.declared.end.End.{End}
-use Rattle.svc_core.specs.Program.{Memory, Program, Run, part, seq, due_after, IsProgram}
-use Rattle.svc_core.specs.Words.{program}
+use Rattle.svc_core_laws.specs.declared.end.End.{End}
+use Rattle.svc_core_laws.specs.Program.{Memory, Program, Run, part, seq, due_after, IsProgram}
+use Rattle.svc_core_laws.specs.Words.{program}
 use Rattle.svc_bus_laws.specs.ByRows.{cut_at, edit}
 use Rattle.svc_machine_laws.specs.PlainMachine.{Task, Plain, Running, runs_of, running, entry_of, entry_for, stays, settled, more, one_more, cut_by, asked_by, submitted, row_of, IsDue}
 use Rattle.svc_machine_laws.specs.PlainMachine as plain

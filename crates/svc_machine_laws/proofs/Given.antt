@@ -1,14 +1,14 @@
 -- What the laws of the program give for an image.
 use Rattle.std.proofs.Common.{ℕ, ◌≡◌, ◌+◌, true, Some}
 use Rattle.svc_image.specs.Image.{Image, IsImage, is_entry}
-use Rattle.svc_core.specs.Program.{IsProgram, seq}
-use Rattle.svc_core.specs.Words.{program}
-use Rattle.svc_core.specs.Sequence.{plain_seq, IsSameSeq}
-use Rattle.svc_core.specs.Bursts.{Advance, Follows, Means, are_of}
-use Rattle.svc_core.proofs.Ends.{is_program}
-use Rattle.svc_core.proofs.Looks.{end_counts}
-use Rattle.svc_core.proofs.Means.{means, are_of_looks}
-use Rattle.svc_core.proofs.Sequential.{same_seq, due_enters}
+use Rattle.svc_core_laws.specs.Program.{IsProgram, seq}
+use Rattle.svc_core_laws.specs.Words.{program}
+use Rattle.svc_core_laws.specs.Sequence.{plain_seq, IsSameSeq}
+use Rattle.svc_core_laws.specs.Bursts.{Advance, Follows, Means, are_of}
+use Rattle.svc_core_laws.proofs.Ends.{is_program}
+use Rattle.svc_core_laws.proofs.Looks.{end_counts}
+use Rattle.svc_core_laws.proofs.Means.{means, are_of_looks}
+use Rattle.svc_core_laws.proofs.Sequential.{same_seq, due_enters}
 
 pub record Given (img : Image) : Type 0 where
   pub is_program : IsProgram (program img)

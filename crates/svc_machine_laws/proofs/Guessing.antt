@@ -7,11 +7,11 @@ use Rattle.std.proofs.lemmas.Bool.{eq-eqb}
 use borrow.Author.Tests.{both_ways}
 use Rattle.svc_base.specs.declared.config.Config.{Config}
 use Rattle.svc_image.specs.Image.{Image, IsImage, is_entry}
-use Rattle.svc_core.specs.declared.end.End.{End}
-use Rattle.svc_core.specs.declared.end.End.TheVariants as end
-use Rattle.svc_core.specs.State.{State}
-use Rattle.svc_core.specs.Program.{Program, seq, task, next_task, due_after, stopped_after}
-use Rattle.svc_core.specs.Words.{program}
+use Rattle.svc_core_laws.specs.declared.end.End.{End}
+use Rattle.svc_core_laws.specs.declared.end.End.TheVariants as end
+use Rattle.svc_core_laws.specs.State.{State}
+use Rattle.svc_core_laws.specs.Program.{Program, seq, task, next_task, due_after, stopped_after}
+use Rattle.svc_core_laws.specs.Words.{program}
 use Rattle.svc_machine_laws.specs.PlainMachine.{Task, entry_of}
 use Rattle.svc_machine_laws.specs.Guess.{newer_successor, successor_at, first_above, entry_after, youngest, guess_after, IsGuess}
 use Rattle.svc_machine_laws.specs.Standing.{Standing}

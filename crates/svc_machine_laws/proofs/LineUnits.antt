@@ -1,6 +1,6 @@
 -- What the line table's steps leave of its units, and what they leave as it was.
 use Rattle.std.proofs.Common.{ℕ, zero, suc, ◌≡◌, ◌<◌, List, take, length, refl, sym, ap, ◌∙◌, arith, unwrap_or}
-use Rattle.svc_core.specs.Program.{Want, Local, Load, Store, Narrow, Emit}
+use Rattle.svc_core_laws.specs.Program.{Want, Local, Load, Store, Narrow, Emit}
 use Rattle.svc_bus_laws.specs.Versioned.{Row, Versioned, view, victim}
 use Rattle.svc_bus_laws.specs.ByRows.{victim_after, edit, read_rows, exposed_row}
 use Rattle.svc_bus_laws.specs.LineTable.{LineTable, versioned}

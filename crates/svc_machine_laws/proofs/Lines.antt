@@ -1,7 +1,7 @@
 -- The line table's steps are the versioned map's, by the recursion on rows, and keep it sound.
 use Rattle.std.proofs.Common.{ℕ, zero, suc, ◌≡◌, ◌<◌, Bool, true, false, cond, length, refl, ap, ◌∙◌, arith}
 use Rattle.std.proofs.Common.{length-take}
-use Rattle.svc_core.specs.Program.{Want, Local, Load, Store, Narrow, Emit}
+use Rattle.svc_core_laws.specs.Program.{Want, Local, Load, Store, Narrow, Emit}
 use Rattle.svc_bus_laws.specs.Versioned.{Row, Versioned, view}
 use Rattle.svc_bus_laws.specs.ByRows as rows
 use Rattle.svc_bus_laws.specs.ByRows.{view_of}

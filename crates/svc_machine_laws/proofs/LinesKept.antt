@@ -3,10 +3,10 @@ use Rattle.std.proofs.Common.{ℕ, suc, ◌≡◌, ◌<◌, ◌≤◌, ◌≢◌
 use Rattle.std.proofs.lemmas.Option.{none-some}
 use Rattle.svc_base.specs.declared.config.Config.{Config}
 use Rattle.svc_image.specs.Image.{Image}
-use Rattle.svc_core.specs.declared.end.End.{End}
-use Rattle.svc_core.specs.State.{State}
-use Rattle.svc_core.specs.Program.{Memory, Program, Want, Run, wrote, over, part, seq, IsProgram}
-use Rattle.svc_core.specs.Words.{program}
+use Rattle.svc_core_laws.specs.declared.end.End.{End}
+use Rattle.svc_core_laws.specs.State.{State}
+use Rattle.svc_core_laws.specs.Program.{Memory, Program, Want, Run, wrote, over, part, seq, IsProgram}
+use Rattle.svc_core_laws.specs.Words.{program}
 use Rattle.svc_bus_laws.specs.Versioned.{Row, Versioned}
 use Rattle.svc_bus_laws.specs.Versioned as map_of
 use Rattle.svc_bus_laws.specs.ByRows.{edit}
@@ -67,11 +67,11 @@ module _ (img : Image) (config : Config) where
       ∙ ap (edit place (λ u. u) cut) (map_runs p seat_unit unit_of (λ x. refl) (seq p s.commits).memory s.tasks)
     where
       same_unit : (w : Want State) (look : Memory) (z : Seat State) → (seat_turn w look z).unit ≡ z.unit
-      same_unit (Rattle.svc_core.specs.Program.Local c) look z = refl
-      same_unit (Rattle.svc_core.specs.Program.Load a value go) look z = refl
-      same_unit (Rattle.svc_core.specs.Program.Store a v c) look z = refl
-      same_unit (Rattle.svc_core.specs.Program.Narrow a f c) look z = refl
-      same_unit (Rattle.svc_core.specs.Program.Emit v c) look z = refl
+      same_unit (Rattle.svc_core_laws.specs.Program.Local c) look z = refl
+      same_unit (Rattle.svc_core_laws.specs.Program.Load a value go) look z = refl
+      same_unit (Rattle.svc_core_laws.specs.Program.Store a v c) look z = refl
+      same_unit (Rattle.svc_core_laws.specs.Program.Narrow a f c) look z = refl
+      same_unit (Rattle.svc_core_laws.specs.Program.Emit v c) look z = refl
 
   pub lines_ask : (s : Plain) (t : LineTable) (place local : ℕ) (end : State) (ask : Option (Want State)) → place < length s.tasks
       → ((w : Want State) → ask ≡ Some w → IsWithin t.words w)

@@ -3,10 +3,10 @@ use Rattle.std.proofs.Common.{◌≡◌, true, None, refl, sym, ap, ◌∙◌, s
 use Rattle.std.proofs.lemmas.Option.{same_Some}
 use Rattle.svc_base.specs.declared.config.Config.{Config}
 use Rattle.svc_image.specs.Image.{Image}
-use Rattle.svc_core.specs.State.{State}
-use Rattle.svc_core.specs.Program.{locals, are_local}
-use Rattle.svc_core.specs.Words.{program}
-use Rattle.svc_core.specs.Bursts.{Advance, Follows, Means}
+use Rattle.svc_core_laws.specs.State.{State}
+use Rattle.svc_core_laws.specs.Program.{locals, are_local}
+use Rattle.svc_core_laws.specs.Words.{program}
+use Rattle.svc_core_laws.specs.Bursts.{Advance, Follows, Means}
 use Rattle.svc_machine_laws.specs.PlainMachine.{Running}
 use Rattle.svc_machine_laws.specs.WholeMachine.{machine_of}
 use Rattle.svc_machine_laws.specs.Events.{Event, Assign, Submit, Replace, Cancel, Commit, IsEvent, asked_want, plain_submit, plain_cancel, whole_submit, whole_cancel, plain_event, whole_event}

@@ -3,9 +3,9 @@ use Rattle.std.proofs.Common.{ℕ, zero, suc, ◌≡◌, ◌+◌, ◌<◌, ◌�
 use Rattle.std.proofs.lemmas.Option.{none-some}
 use Rattle.svc_base.specs.declared.config.Config.{Config}
 use Rattle.svc_image.specs.Image.{Image}
-use Rattle.svc_core.specs.State.{State}
-use Rattle.svc_core.specs.Program.{Program, Want, Local, Load, Store, Narrow, Emit, part, seq}
-use Rattle.svc_core.specs.Words.{program}
+use Rattle.svc_core_laws.specs.State.{State}
+use Rattle.svc_core_laws.specs.Program.{Program, Want, Local, Load, Store, Narrow, Emit, part, seq}
+use Rattle.svc_core_laws.specs.Words.{program}
 use Rattle.svc_bus_laws.specs.Versioned.{Row, with_head}
 use Rattle.svc_bus_laws.specs.ByRows.{victim_after, edit}
 use Rattle.svc_bus_laws.specs.LineTable.{LineTable}

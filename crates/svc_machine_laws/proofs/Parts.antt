@@ -2,9 +2,9 @@
 use Rattle.std.proofs.Common.{ℕ, zero, suc, ◌≡◌, ◌+◌, ◌-◌, ◌≤◌, Bool, true, false, ◌&&◌, List, Option, Some, None, refl, sym, ap, ◌∙◌, arith, zero-add, suc-add, ⊎_elim, is_some}
 use Rattle.std.proofs.Common.{◌⊎◌}
 use borrow.Author.Tests.{both_ways}
-use Rattle.svc_core.specs.declared.end.End.{End}
-use Rattle.svc_core.specs.Program.{Memory, Want, Local, Load, Store, Narrow, Emit, Program, Run, Action, wrote, over, act, turn, part, task, seq, next_task, followed_by, IsProgram}
-use Rattle.svc_core.specs.Program.{local_core, locals, is_local, are_local}
+use Rattle.svc_core_laws.specs.declared.end.End.{End}
+use Rattle.svc_core_laws.specs.Program.{Memory, Want, Local, Load, Store, Narrow, Emit, Program, Run, Action, wrote, over, act, turn, part, task, seq, next_task, followed_by, IsProgram}
+use Rattle.svc_core_laws.specs.Program.{local_core, locals, is_local, are_local}
 
 pub and_left : (x y : Bool) → (x && y) ≡ true → x ≡ true
 and_left true y h = refl

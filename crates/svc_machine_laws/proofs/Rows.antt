@@ -1,6 +1,6 @@
 -- A turn's row and seat, and the steps of the versioned map that it takes.
 use Rattle.std.proofs.Common.{ℕ, zero, suc, ◌≡◌, false, List, [], ◌∷◌, None, refl, sym, ap, ◌∙◌}
-use Rattle.svc_core.specs.Program.{Memory, Want, Local, Load, Store, Narrow, Emit}
+use Rattle.svc_core_laws.specs.Program.{Memory, Want, Local, Load, Store, Narrow, Emit}
 use Rattle.svc_bus_laws.specs.Versioned.{Row, Versioned, with_head, written_row}
 use Rattle.svc_bus_laws.specs.ByRows.{view_of, victim_after, edit, exposed_row}
 use Rattle.svc_machine_laws.specs.PlainMachine.{Running, row_of, cut_by}

@@ -4,11 +4,11 @@ use Rattle.std.proofs.Common.{unwrap_or, is_some, option_map, slice_get}
 use Rattle.std.proofs.lemmas.Option.{same_Some}
 use borrow.Author.Tests.{eqb-true, both_ways}
 use mathlib.Core.Path.{fun_ext}
-use Rattle.svc_core.specs.Program.{Memory, Words, Want, Local, Load, Store, Narrow, Emit, Program, Run, Action, with_word, wrote, exposed, over, act, part}
+use Rattle.svc_core_laws.specs.Program.{Memory, Words, Want, Local, Load, Store, Narrow, Emit, Program, Run, Action, with_word, wrote, exposed, over, act, part}
 use Rattle.svc_bus_laws.specs.Versioned.{Row}
 use Rattle.svc_bus_laws.specs.ByRows.{view_of, first_exposed, cut_at, edit}
 use Rattle.svc_machine_laws.specs.PlainMachine.{Task, Running, runs_of, row_of, one_more, cut_by}
-use Rattle.svc_core.proofs.Central.{part_agrees}
+use Rattle.svc_core_laws.proofs.Central.{part_agrees}
 
 -- two memories that differ at a alone
 abbrev pub DifferAt : ℕ → Memory → Memory → Type 0

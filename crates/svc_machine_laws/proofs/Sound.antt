@@ -2,9 +2,9 @@
 use Rattle.std.proofs.Common.{ℕ, zero, suc, ◌≡◌, ◌==◌, Bool, true, false, cond, List, [], ◌∷◌, ◌++◌, map, take, Option, Some, None, refl, sym, ap, ◌∙◌, subst, slice_get, is_some, unwrap_or}
 use Rattle.std.proofs.Common.{◌⊎◌, inl, inr, ⊎_elim}
 use borrow.Author.Tests.{both_ways, eqb-true}
-use Rattle.svc_core.specs.declared.end.End.{End}
-use Rattle.svc_core.specs.declared.end.End.TheVariants as end
-use Rattle.svc_core.specs.Program.{Memory, Program, part, task, Seq, seq, next_task, due_after, stopped_after, IsProgram}
+use Rattle.svc_core_laws.specs.declared.end.End.{End}
+use Rattle.svc_core_laws.specs.declared.end.End.TheVariants as end
+use Rattle.svc_core_laws.specs.Program.{Memory, Program, part, task, Seq, seq, next_task, due_after, stopped_after, IsProgram}
 use Rattle.svc_bus_laws.specs.ByRows.{edit}
 use Rattle.svc_machine_laws.specs.PlainMachine.{Task, Running, IsDue, runs_of, settled, entry_of, entry_for, more, one_more, asked_by, submitted, cut_by, row_of}
 use Rattle.svc_machine_laws.proofs.Parts.{seq_commit}

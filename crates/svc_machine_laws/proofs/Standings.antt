@@ -6,11 +6,11 @@ use borrow.Author.Tests.{both_ways}
 use Rattle.svc_base.specs.declared.config.Config.{Config}
 use Rattle.svc_base.specs.declared.refusal.Refusal.{Refusal}
 use Rattle.svc_image.specs.Image.{Image, is_entry}
-use Rattle.svc_core.specs.declared.end.End.{End}
-use Rattle.svc_core.specs.State.{State}
-use Rattle.svc_core.specs.Program.{Memory, Program, Want, part, seq}
-use Rattle.svc_core.specs.Words.{program}
-use Rattle.svc_core.specs.Bursts.{Advance, Follows}
+use Rattle.svc_core_laws.specs.declared.end.End.{End}
+use Rattle.svc_core_laws.specs.State.{State}
+use Rattle.svc_core_laws.specs.Program.{Memory, Program, Want, part, seq}
+use Rattle.svc_core_laws.specs.Words.{program}
+use Rattle.svc_core_laws.specs.Bursts.{Advance, Follows}
 use Rattle.svc_bus_laws.specs.Steps as lines
 use Rattle.svc_machine_laws.specs.PlainMachine.{Task, Plain, Running, IsDue, runs_of, running, unit_of, entry_of, entry_for}
 use Rattle.svc_machine_laws.specs.PlainMachine as plain

@@ -4,11 +4,11 @@ use Rattle.std.specs.List.{AllByRecursion}
 use Rattle.std.proofs.lemmas.Option.{same_Some}
 use borrow.Author.Tests.{both_ways, not-false}
 use Rattle.svc_image.specs.Image.{Image, is_entry}
-use Rattle.svc_core.specs.declared.end.End.{End}
-use Rattle.svc_core.specs.declared.end.End.TheVariants as end
-use Rattle.svc_core.specs.State.{State}
-use Rattle.svc_core.specs.Program.{Memory, Program, Want, Local, Load, Store, Narrow, Emit, Run, over, wrote, part, seq, locals, stopped_after, IsProgram}
-use Rattle.svc_core.specs.Words.{program}
+use Rattle.svc_core_laws.specs.declared.end.End.{End}
+use Rattle.svc_core_laws.specs.declared.end.End.TheVariants as end
+use Rattle.svc_core_laws.specs.State.{State}
+use Rattle.svc_core_laws.specs.Program.{Memory, Program, Want, Local, Load, Store, Narrow, Emit, Run, over, wrote, part, seq, locals, stopped_after, IsProgram}
+use Rattle.svc_core_laws.specs.Words.{program}
 use Rattle.svc_bus_laws.specs.Versioned.{Row}
 use Rattle.svc_bus_laws.specs.ByRows.{view_of, edit}
 use Rattle.svc_machine_laws.specs.PlainMachine.{Task, Plain, Running, runs_of, running, row_of, more, one_more, cut_by, asked_by, submitted, stays, settled, entry_of, entry_for, commit_tasks, IsDue}

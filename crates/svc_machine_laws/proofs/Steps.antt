@@ -1,7 +1,7 @@
 -- The other events: the whole machine's step is the plain machine's.
 use Rattle.std.proofs.Common.{ℕ, zero, suc, ◌≡◌, Bool, true, false, cond, List, [], ◌∷◌, ◌++◌, map, take, Some, refl, sym, ap, ap₂, ◌∙◌, slice_get}
-use Rattle.svc_core.specs.declared.end.End.{End}
-use Rattle.svc_core.specs.Program.{Memory, Program, Run, wrote, output, over, part, Seq, seq, followed_by, due_after, stopped_after, IsProgram}
+use Rattle.svc_core_laws.specs.declared.end.End.{End}
+use Rattle.svc_core_laws.specs.Program.{Memory, Program, Run, wrote, output, over, part, Seq, seq, followed_by, due_after, stopped_after, IsProgram}
 use Rattle.svc_bus_laws.specs.Versioned.{Row, with_head, fresh_row}
 use Rattle.svc_bus_laws.specs.ByRows as rows
 use Rattle.svc_machine_laws.specs.PlainMachine.{Task, Plain, Running, IsDue, runs_of, running, row_of, stays, settled, entry_of, entry_for, assign, cancel, commit, commit_tasks}

@@ -1,7 +1,7 @@
 -- A submit: what the whole machine does over its versioned map is what the plain machine says.
 use Rattle.std.proofs.Common.{ℕ, zero, suc, ◌≡◌, true, List, [], ◌∷◌, map, Option, Some, None, refl, sym, ap, ap₂, ◌∙◌, subst, is_some, slice_get}
 use Rattle.std.proofs.lemmas.Option.{same_Some, none-some}
-use Rattle.svc_core.specs.Program.{Memory, Want, Program, Run, wrote, over, part, Seq, seq, locals, are_local}
+use Rattle.svc_core_laws.specs.Program.{Memory, Want, Program, Run, wrote, over, part, Seq, seq, locals, are_local}
 use Rattle.svc_bus_laws.specs.Versioned.{Row, with_head}
 use Rattle.svc_bus_laws.specs.ByRows.{view_of, edit}
 use Rattle.svc_machine_laws.specs.PlainMachine.{Task, Plain, Running, runs_of, running, row_of, more, cut_by, asked_by, asked, submit}

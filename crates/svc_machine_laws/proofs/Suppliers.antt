@@ -2,8 +2,8 @@
 use Rattle.std.proofs.Common.{ℕ, ◌≡◌, length, Some, ap, ◌∙◌, slice_get, arith}
 use Rattle.svc_base.specs.declared.config.Config.{Config}
 use Rattle.svc_image.specs.Image.{Image}
-use Rattle.svc_core.specs.Program.{over, wrote, seq}
-use Rattle.svc_core.specs.Words.{program}
+use Rattle.svc_core_laws.specs.Program.{over, wrote, seq}
+use Rattle.svc_core_laws.specs.Words.{program}
 use Rattle.svc_bus_laws.specs.Versioned.{Versioned, view}
 use Rattle.svc_bus_laws.specs.Supplier.{supplier, supplied}
 use Rattle.svc_bus_laws.proofs.SupplierLaws.{supplier_value}

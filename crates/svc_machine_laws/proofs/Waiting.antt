@@ -1,7 +1,7 @@
 -- The words put out are at most as many as the accepted events.
 use Rattle.std.proofs.Common.{ℕ, zero, suc, ◌≡◌, ◌+◌, ◌≤◌, Bool, true, false, cond, List, [], ◌∷◌, ◌++◌, map, take, length, Option, Some, None, refl, ap, ◌∙◌, is_some, slice_get, arith, length-append}
-use Rattle.svc_core.specs.declared.end.End.{End}
-use Rattle.svc_core.specs.Program.{Memory, Program, Want, Local, Load, Store, Narrow, Emit, Run, Seq, act, over, wrote, output, part, seq, locals, IsProgram}
+use Rattle.svc_core_laws.specs.declared.end.End.{End}
+use Rattle.svc_core_laws.specs.Program.{Memory, Program, Want, Local, Load, Store, Narrow, Emit, Run, Seq, act, over, wrote, output, part, seq, locals, IsProgram}
 use Rattle.svc_bus_laws.specs.Versioned.{Row}
 use Rattle.svc_bus_laws.specs.ByRows.{view_of, edit, cut_at}
 use Rattle.svc_machine_laws.specs.PlainMachine.{Task, Plain, Running, IsDue, runs_of, running, row_of, cut_by, stays, settled, entry_of, commit_tasks}

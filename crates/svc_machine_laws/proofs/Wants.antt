@@ -9,17 +9,17 @@ use Rattle.svc_rv32i.specs.declared.instr.LoadKind.TheVariants as load
 use Rattle.svc_rv32i.specs.declared.instr.StoreKind.{StoreKind}
 use Rattle.svc_rv32i.specs.declared.instr.StoreKind.TheVariants as store
 use Rattle.svc_image.specs.Image.{Image, is_entry}
-use Rattle.svc_core.specs.declared.ask.Ask.{Ask}
-use Rattle.svc_core.specs.declared.ask.Ask.TheVariants as ask
-use Rattle.svc_core.specs.declared.end.End.{End}
-use Rattle.svc_core.specs.State.{State}
-use Rattle.svc_core.specs.Local.{Outcome, ends, goes_on, sets}
-use Rattle.svc_core.specs.Local as out
-use Rattle.svc_core.specs.Numbers.{load_bytes, store_bytes}
-use Rattle.svc_core.specs.Turns.{data_words, data_start, word_address, access_trap, arrived_if, arrived, arrives, puts_out, next}
-use Rattle.svc_core.specs.Program.{Want, Local, Load, Store, Narrow, Emit}
-use Rattle.svc_core.specs.Words.{wanted, wants, wants_load, wants_store, wants_write}
-use Rattle.svc_core.specs.Bursts.{Advance, Means, shown, is_nothing}
+use Rattle.svc_core_laws.specs.declared.ask.Ask.{Ask}
+use Rattle.svc_core_laws.specs.declared.ask.Ask.TheVariants as ask
+use Rattle.svc_core_laws.specs.declared.end.End.{End}
+use Rattle.svc_core_laws.specs.State.{State}
+use Rattle.svc_core_laws.specs.Local.{Outcome, ends, goes_on, sets}
+use Rattle.svc_core_laws.specs.Local as out
+use Rattle.svc_core_laws.specs.Numbers.{load_bytes, store_bytes}
+use Rattle.svc_core_laws.specs.Turns.{data_words, data_start, word_address, access_trap, arrived_if, arrived, arrives, puts_out, next}
+use Rattle.svc_core_laws.specs.Program.{Want, Local, Load, Store, Narrow, Emit}
+use Rattle.svc_core_laws.specs.Words.{wanted, wants, wants_load, wants_store, wants_write}
+use Rattle.svc_core_laws.specs.Bursts.{Advance, Means, shown, is_nothing}
 use Rattle.svc_machine_laws.specs.MachineLaws.{IsWithin}
 use Rattle.svc_machine_laws.specs.Events.{want_of, asked_want}
 use Rattle.svc_machine_laws.specs.LineEvents.{word_of}

@@ -1,10 +1,10 @@
 -- What the cause of a cut says.
 use Rattle.std.specs.Prelude.{ℕ, suc, ◌≡◌, ◌≢◌, ◌+◌, ◌-◌, ◌⊎◌, true, List, ◌∷◌, length, Option, Some, None, is_some}
 use Rattle.svc_image.specs.Image.{Image}
-use Rattle.svc_core.specs.State.{State}
-use Rattle.svc_core.specs.Program.{Want, Local, Load, Store, Narrow, Emit, seq}
-use Rattle.svc_core.specs.Words.{program}
-use Rattle.svc_core.specs.Bursts.{Advance}
+use Rattle.svc_core_laws.specs.State.{State}
+use Rattle.svc_core_laws.specs.Program.{Want, Local, Load, Store, Narrow, Emit, seq}
+use Rattle.svc_core_laws.specs.Words.{program}
+use Rattle.svc_core_laws.specs.Bursts.{Advance}
 use Rattle.svc_bus_laws.specs.MapLaws.{IsVictim}
 use Rattle.svc_machine_laws.specs.declared.reply.Cause.{Cause}
 use Rattle.svc_machine_laws.specs.declared.reply.Cause.TheVariants as cause

@@ -1,12 +1,12 @@
 -- The machine's events, and what each does to the plain machine and to the whole machine.
 use Rattle.std.specs.Prelude.{ℕ, suc, ◌==◌, cond, List, [], ◌∷◌, map, Option, Some, None, option_map, is_some}
 use Rattle.svc_image.specs.Image.{Image}
-use Rattle.svc_core.specs.declared.ask.Ask.{Ask}
-use Rattle.svc_core.specs.declared.ask.Ask.TheVariants as ask
-use Rattle.svc_core.specs.State.{State}
-use Rattle.svc_core.specs.Program.{Want}
-use Rattle.svc_core.specs.Words.{program, wanted}
-use Rattle.svc_core.specs.Bursts.{Advance, Follows, shown}
+use Rattle.svc_core_laws.specs.declared.ask.Ask.{Ask}
+use Rattle.svc_core_laws.specs.declared.ask.Ask.TheVariants as ask
+use Rattle.svc_core_laws.specs.State.{State}
+use Rattle.svc_core_laws.specs.Program.{Want}
+use Rattle.svc_core_laws.specs.Words.{program, wanted}
+use Rattle.svc_core_laws.specs.Bursts.{Advance, Follows, shown}
 use Rattle.svc_machine_laws.specs.PlainMachine.{Plain, unit_of}
 use Rattle.svc_machine_laws.specs.PlainMachine as plain
 use Rattle.svc_machine_laws.specs.WholeMachine.{Machine, seat_unit}

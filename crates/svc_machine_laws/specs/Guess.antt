@@ -1,8 +1,8 @@
 -- The entry that is due, and the guess for the next task, read off the sequential run.
 use Rattle.std.specs.Prelude.{ℕ, zero, suc, ◌≡◌, ◌==◌, true, false, cond, nat_lt, List, [], ◌∷◌, map, Option, Some, None, unwrap_or, is_some, slice_get}
 use Rattle.svc_image.specs.Image.{Image, is_entry}
-use Rattle.svc_core.specs.Program.{Program, seq}
-use Rattle.svc_core.specs.Words.{program}
+use Rattle.svc_core_laws.specs.Program.{Program, seq}
+use Rattle.svc_core_laws.specs.Words.{program}
 use Rattle.svc_machine_laws.specs.PlainMachine.{Plain, entry_of}
 
 -- the successor, where there is one, of a task that began at this entry, if it is the entry that is asked for; else what was known before

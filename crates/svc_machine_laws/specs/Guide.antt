@@ -1,7 +1,7 @@
 -- What a sequencer keeps of the run, and what it makes of it.
 use Rattle.std.specs.Prelude.{ℕ, ◌==◌, Bool, false, cond, not, List, [], ◌∷◌, ◌++◌, map, take, drop, Option, Some, None, slice_get}
-use Rattle.svc_core.specs.declared.end.End.{End}
-use Rattle.svc_core.specs.Program.{Program, seq, due_after}
+use Rattle.svc_core_laws.specs.declared.end.End.{End}
+use Rattle.svc_core_laws.specs.Program.{Program, seq, due_after}
 use Rattle.svc_machine_laws.specs.PlainMachine.{Plain, entry_of, entry_for, stays}
 use Rattle.svc_machine_laws.specs.Guess.{newer_successor, successor_at, guess_after, youngest}
 

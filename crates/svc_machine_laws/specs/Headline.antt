@@ -1,8 +1,8 @@
 -- The headline: what the committed tasks have left is what the sequential run leaves on one flat memory of bytes.
 use Rattle.std.specs.Prelude.{ℕ, ◌≡◌}
 use Rattle.svc_image.specs.Image.{Image}
-use Rattle.svc_core.specs.Bytes.{word_at}
-use Rattle.svc_core.specs.Sequence.{plain_seq}
+use Rattle.svc_core_laws.specs.Bytes.{word_at}
+use Rattle.svc_core_laws.specs.Sequence.{plain_seq}
 use Rattle.svc_bus_laws.specs.LineTable.{committed_value}
 use Rattle.svc_machine_laws.specs.Standing.{Whole}
 

@@ -1,9 +1,9 @@
 -- What each accepted event does to the line table.
 use Rattle.std.specs.Prelude.{ℕ, Bool, true, false, List, [], ◌∷◌, map, Option, Some, None}
 use Rattle.svc_image.specs.Image.{Image}
-use Rattle.svc_core.specs.State.{State}
-use Rattle.svc_core.specs.Program.{Want, Local, Load, Store, Narrow, Emit, Program}
-use Rattle.svc_core.specs.Words.{program}
+use Rattle.svc_core_laws.specs.State.{State}
+use Rattle.svc_core_laws.specs.Program.{Want, Local, Load, Store, Narrow, Emit, Program}
+use Rattle.svc_core_laws.specs.Words.{program}
 use Rattle.svc_bus_laws.specs.Versioned.{view}
 use Rattle.svc_bus_laws.specs.LineTable.{LineTable, versioned}
 use Rattle.svc_bus_laws.specs.Steps.{read, write, replace, squash, commit, begin}

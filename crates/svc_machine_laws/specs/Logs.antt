@@ -1,6 +1,6 @@
 -- What the active tasks have done with memory and output so far, and what each accepted event adds to it.
 use Rattle.std.specs.Prelude.{ℕ, ◌≡◌, Bool, cond, List, [], ◌∷◌, ◌++◌, map, take, Option, Some, None}
-use Rattle.svc_core.specs.Program.{Program, Action, Loaded, Stored, Replaced, Emitted, said}
+use Rattle.svc_core_laws.specs.Program.{Program, Action, Loaded, Stored, Replaced, Emitted, said}
 use Rattle.svc_bus_laws.specs.ByRows.{edit}
 use Rattle.svc_machine_laws.specs.declared.reply.What.{What}
 use Rattle.svc_machine_laws.specs.declared.reply.What.TheVariants as what

@@ -1,7 +1,7 @@
 -- The laws that tie the whole machine to the plain machine, for any program.
 use Rattle.std.specs.Prelude.{ℕ, ◌≡◌, ◌<◌, ◌==◌, true, not, ◌&&◌, Option, Some, slice_get}
-use Rattle.svc_core.specs.declared.end.End.{End}
-use Rattle.svc_core.specs.Program.{Want, Local, Load, Store, Narrow, Emit, Program, Run, wrote, exposed, output, over, part, seq, locals, are_local}
+use Rattle.svc_core_laws.specs.declared.end.End.{End}
+use Rattle.svc_core_laws.specs.Program.{Want, Local, Load, Store, Narrow, Emit, Program, Run, wrote, exposed, output, over, part, seq, locals, are_local}
 use Rattle.svc_bus_laws.specs.Versioned.{version, is_exposed, view}
 use Rattle.svc_machine_laws.specs.PlainMachine.{Task, Plain, Running, running, memory_at}
 use Rattle.svc_machine_laws.specs.WholeMachine.{machine_of}

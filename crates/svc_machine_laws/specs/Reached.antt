@@ -3,10 +3,10 @@ use Rattle.std.specs.Prelude.{ℕ, ◌≡◌, ◌+◌, ◌≤◌, true, List, []
 use Rattle.std.specs.List.{AllByRecursion}
 use Rattle.svc_base.specs.declared.config.Config.{Config}
 use Rattle.svc_image.specs.Image.{Image, is_entry}
-use Rattle.svc_core.specs.State.{State}
-use Rattle.svc_core.specs.Program.{output, seq}
-use Rattle.svc_core.specs.Words.{program}
-use Rattle.svc_core.specs.Turns.{data_words}
+use Rattle.svc_core_laws.specs.State.{State}
+use Rattle.svc_core_laws.specs.Program.{output, seq}
+use Rattle.svc_core_laws.specs.Words.{program}
+use Rattle.svc_core_laws.specs.Turns.{data_words}
 use Rattle.svc_bus_laws.specs.LineTable.{LineTable, versioned}
 use Rattle.svc_bus_laws.specs.Sound.{IsSound}
 use Rattle.svc_machine_laws.specs.PlainMachine.{Task, Plain, Running, running, unit_of, IsDue}

@@ -4,13 +4,13 @@ use Rattle.svc_base.specs.declared.config.Config.{Config}
 use Rattle.svc_base.specs.declared.refusal.Refusal.{Refusal}
 use Rattle.svc_base.specs.declared.refusal.Refusal.TheVariants as refusal
 use Rattle.svc_image.specs.Image.{Image, is_entry}
-use Rattle.svc_core.specs.declared.ask.Ask.{Ask}
-use Rattle.svc_core.specs.declared.ask.Ask.TheVariants as ask
-use Rattle.svc_core.specs.State.{State}
-use Rattle.svc_core.specs.Same.{same_state}
-use Rattle.svc_core.specs.Numbers.{load_bytes, store_bytes}
-use Rattle.svc_core.specs.Turns.{data_words, word_address, access_trap}
-use Rattle.svc_core.specs.Bursts.{Advance, are_of, is_nothing}
+use Rattle.svc_core_laws.specs.declared.ask.Ask.{Ask}
+use Rattle.svc_core_laws.specs.declared.ask.Ask.TheVariants as ask
+use Rattle.svc_core_laws.specs.State.{State}
+use Rattle.svc_core_laws.specs.Same.{same_state}
+use Rattle.svc_core_laws.specs.Numbers.{load_bytes, store_bytes}
+use Rattle.svc_core_laws.specs.Turns.{data_words, word_address, access_trap}
+use Rattle.svc_core_laws.specs.Bursts.{Advance, are_of, is_nothing}
 use Rattle.svc_bus_laws.specs.LineTable.{LineTable}
 use Rattle.svc_bus_laws.specs.Refusals.{table_cache, set_full, is_not_resident, is_pinned}
 use Rattle.svc_machine_laws.specs.WholeMachine.{Machine, Seat}

@@ -1,11 +1,11 @@
 -- What the machine answers to an accepted event.
 use Rattle.std.specs.Prelude.{ℕ, suc, ◌+◌, ◌-◌, Bool, true, false, cond, List, [], ◌∷◌, length, map, Option, Some, None, unwrap_or, option_map, is_some, slice_get}
 use Rattle.svc_image.specs.Image.{Image}
-use Rattle.svc_core.specs.declared.end.End.{End}
-use Rattle.svc_core.specs.declared.end.End.TheVariants as end
-use Rattle.svc_core.specs.State.{State}
-use Rattle.svc_core.specs.Program.{Memory, Want, Local, Load, Store, Narrow, Emit, Program, wrote, over, part, seq}
-use Rattle.svc_core.specs.Words.{program}
+use Rattle.svc_core_laws.specs.declared.end.End.{End}
+use Rattle.svc_core_laws.specs.declared.end.End.TheVariants as end
+use Rattle.svc_core_laws.specs.State.{State}
+use Rattle.svc_core_laws.specs.Program.{Memory, Want, Local, Load, Store, Narrow, Emit, Program, wrote, over, part, seq}
+use Rattle.svc_core_laws.specs.Words.{program}
 use Rattle.svc_bus_laws.specs.Versioned.{Row}
 use Rattle.svc_bus_laws.specs.ByRows.{victim_after}
 use Rattle.svc_bus_laws.specs.LineTable.{LineTable}

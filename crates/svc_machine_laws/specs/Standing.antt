@@ -3,8 +3,8 @@ use Rattle.std.specs.Prelude.{ℕ, ◌+◌, List, [], ◌∷◌, Option, Some, N
 use Rattle.svc_base.specs.declared.config.Config.{Config}
 use Rattle.svc_base.specs.declared.refusal.Refusal.{Refusal}
 use Rattle.svc_image.specs.Image.{Image}
-use Rattle.svc_core.specs.State.{State}
-use Rattle.svc_core.specs.Words.{program}
+use Rattle.svc_core_laws.specs.State.{State}
+use Rattle.svc_core_laws.specs.Words.{program}
 use Rattle.svc_bus_laws.specs.LineTable.{LineTable, opened}
 use Rattle.svc_machine_laws.specs.declared.reply.Reply.{Reply}
 use Rattle.svc_machine_laws.specs.PlainMachine.{Plain, plain_opening}

@@ -1,7 +1,7 @@
 -- The whole machine: a versioned map, and a seat for each active task. Its steps run nothing anew.
 use Rattle.std.specs.Prelude.{ℕ, suc, Bool, true, false, cond, List, [], ◌∷◌, ◌++◌, map, take, Option, Some, None}
-use Rattle.svc_core.specs.declared.end.End.{End}
-use Rattle.svc_core.specs.Program.{Memory, Want, Local, Load, Store, Narrow, Emit, Program, output, seq, due_after, stopped_after}
+use Rattle.svc_core_laws.specs.declared.end.End.{End}
+use Rattle.svc_core_laws.specs.Program.{Memory, Want, Local, Load, Store, Narrow, Emit, Program, output, seq, due_after, stopped_after}
 use Rattle.svc_bus_laws.specs.Versioned.{Versioned, with_head, begin, squash}
 use Rattle.svc_bus_laws.specs.ByRows.{view_of, edit, read, write}
 use Rattle.svc_bus_laws.specs.ByRows as rows

@@ -3,11 +3,11 @@
 ghost use Rattle.std.specs.Prelude.{◌≡◌, ℕ, ◌+◌, Option, Some, None, length};
 ghost use Rattle.svc_base.specs.declared.config.Config.{Config};
 ghost use Rattle.svc_image.specs.Image.{Image, IsImage};
-ghost use Rattle.svc_core.specs.declared.ask.Ask.{Ask};
-ghost use Rattle.svc_core.specs.State.{State};
-ghost use Rattle.svc_core.specs.Program.{Want};
-ghost use Rattle.svc_core.specs.Turns.{data_words};
-ghost use Rattle.svc_core.specs.Words.{program};
+ghost use Rattle.svc_core_laws.specs.declared.ask.Ask.{Ask};
+ghost use Rattle.svc_core_laws.specs.State.{State};
+ghost use Rattle.svc_core_laws.specs.Program.{Want};
+ghost use Rattle.svc_core_laws.specs.Turns.{data_words};
+ghost use Rattle.svc_core_laws.specs.Words.{program};
 ghost use Rattle.svc_machine_laws.specs.declared.reply.Cut.{Cut};
 ghost use Rattle.svc_machine_laws.specs.WholeMachine.{machine_of};
 ghost use Rattle.svc_machine_laws.specs.Events.{Event, IsEvent, want_of, whole_event};

@@ -3,8 +3,8 @@
 ghost use Rattle.std.specs.Prelude.{◌≡◌, ℕ, List, Bool, Some, length, slice_get};
 ghost use Rattle.svc_base.specs.declared.config.Config.{Config};
 ghost use Rattle.svc_image.specs.Image.{Image, IsImage};
-ghost use Rattle.svc_core.specs.Program.{Program, IsProgram, seq};
-ghost use Rattle.svc_core.specs.Words.{program};
+ghost use Rattle.svc_core_laws.specs.Program.{Program, IsProgram, seq};
+ghost use Rattle.svc_core_laws.specs.Words.{program};
 ghost use Rattle.svc_machine_laws.specs.PlainMachine as plain;
 ghost use Rattle.svc_machine_laws.specs.PlainMachine.{Plain, Running, IsDue, running, plain_opening};
 ghost use Rattle.svc_machine_laws.specs.MachineLaws.{HasEnded};

@@ -1,7 +1,7 @@
 // The whole machine and the plain machine, for every program.
 
 ghost use Rattle.std.specs.Prelude.{◌≡◌, ℕ, Option, Some, is_some, slice_get};
-ghost use Rattle.svc_core.specs.Program.{Program, IsProgram, Want, seq};
+ghost use Rattle.svc_core_laws.specs.Program.{Program, IsProgram, Want, seq};
 ghost use Rattle.svc_machine_laws.specs.PlainMachine as plain;
 ghost use Rattle.svc_machine_laws.specs.PlainMachine.{Plain, Task, IsDue};
 ghost use Rattle.svc_machine_laws.specs.WholeMachine as whole;

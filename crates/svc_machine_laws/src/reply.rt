@@ -1,7 +1,7 @@
 // What the machine answers to an accepted event.
 
 use svc_base::{TaskNo, UnitId, WordAddr};
-use svc_core::End;
+use svc_core_laws::End;
 
 /// Who supplied the value of a read.
 #[derive(Clone, Copy, Debug, PartialEq, Eq)]

@@ -2,7 +2,7 @@
 
 ghost use Rattle.std.specs.Prelude.{◌≡◌, ◌<◌, Some, IfOk, IfErr, length, drop, slice_get, unwrap_or};
 ghost use Rattle.std.specs.List.Sorted.{IsStrictlyIncreasing};
-ghost use Rattle.svc_core.specs.Program.{due_after};
+ghost use Rattle.svc_core_laws.specs.Program.{due_after};
 ghost use Rattle.svc_machine_laws.specs.PlainMachine.{entry_for};
 ghost use Rattle.svc_machine_laws.specs.Guess.{entry_after};
 ghost use Rattle.svc_machine_laws.specs.Guide.{guess_of, guide_opened, guide_assigned, guide_cut, guide_committed, cuts_next, successor_in, with_successor};
@@ -11,7 +11,7 @@ use arrayvec::ArrayVec;
 use std::alloc::{AllocError, Global};
 use std::marker::Model;
 use svc_base::OpenError;
-use svc_core::End;
+use svc_core_laws::End;
 use svc_image::Image;
 
 /// How many tasks can be active at once: as many as there can be units.

@@ -6,7 +6,7 @@ ghost use Rattle.svc_sequencer.specs.declared.sequencer.TheConstants.{CAPACITY};
 use crate::Sequencer;
 use std::alloc::Global;
 use std::test::Fail;
-use svc_core::End;
+use svc_core_laws::End;
 use svc_image::samples::{P, P1};
 use svc_image::Image;
 

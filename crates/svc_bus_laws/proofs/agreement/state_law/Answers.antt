@@ -1,5 +1,6 @@
-use Rattle.svc_bus_laws.proofs.SeenLaws.{own_state, committed_seen, map_seen, supplier_seen}
+use Rattle.svc_bus_laws.proofs.SeenLaws.{opened_agrees, own_state}
+use Rattle.svc_bus_laws.proofs.SoundSeen.{same_agrees, sound_seen}
 use Rattle.svc_bus_laws.proofs.agreement.state_law.Goals as goal
 
 pub returns : goal.returns
-returns c = record { own = own_state; committed = committed_seen; map = map_seen; supplier = supplier_seen }
+returns c = record { opened = opened_agrees; own = own_state; same = same_agrees; sound = sound_seen }

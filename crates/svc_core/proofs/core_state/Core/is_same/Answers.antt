@@ -1,4 +1,4 @@
-use Rattle.svc_core.proofs.SameCore.{same_state-both}
+use Rattle.svc_core_laws.proofs.SameCore.{same_state-both}
 use Rattle.svc_core.proofs.core_state.Core.is_same.Goals as goal
 
 pub returns-clause-same : goal.returns-clause-same

@@ -1,10 +1,10 @@
-use Rattle.std.proofs.Common.{◌≡◌, ◌∙◌, ℕ, List, sym, ap, subst}
+use Rattle.std.proofs.Common.{◌≡◌, ◌∙◌, sym, ap}
 use Rattle.std.specs.Prelude.{slice_index, length}
-use Rattle.svc_core.specs.State.{State}
-use Rattle.svc_core.specs.Program.{Run, over, wrote, output}
-use Rattle.svc_core.specs.Turns.{arrives}
-use Rattle.svc_core.specs.Steps.{step_of, answered}
-use Rattle.svc_core.proofs.OneStep.{at_entry, step_is, word_there, arrives_there, fetched_there}
+use Rattle.svc_core_laws.specs.State.{State}
+use Rattle.svc_core_laws.specs.Program.{Run, over, wrote, output}
+use Rattle.svc_core_laws.specs.Turns.{arrives}
+use Rattle.svc_core_laws.specs.Steps.{step_of, answered}
+use Rattle.svc_core_laws.proofs.OneStep.{at_entry, step_is, word_there, arrives_there, fetched_there}
 use Rattle.svc_core.proofs.core_state.Core.step.Goals as goal
 
 whole : (c : goal.After-arrive) → step_of c.args.image.now c.args.self.now c.args.memory.now ≡ at_entry c.args.image.now (answered (length c.args.memory.now) c.try_turn-ask.result c.try_turn-ask.new.self (slice_index c.args.memory.now))
