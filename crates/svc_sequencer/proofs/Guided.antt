@@ -1,5 +1,5 @@
 -- What the sequencer's steps leave, as guides.
-use Rattle.std.proofs.Common.{ℕ, zero, suc, ◌≡◌, ◌-◌, ◌<◌, Bool, true, false, List, [], ◌∷◌, ◌++◌, map, drop, length, remove, replicate, Option, Some, None, refl, sym, ap, ap₂, ◌∙◌, subst, slice_get, get_or, unwrap_or, arith}
+use Rattle.std.proofs.Common.{ℕ, suc, ◌≡◌, ◌-◌, ◌<◌, List, [], ◌∷◌, map, drop, length, remove, replicate, Option, Some, None, refl, sym, ap, ap₂, ◌∙◌, slice_get, get_or, unwrap_or, arith}
 use Rattle.svc_core_laws.specs.declared.end.End.{End}
 use Rattle.svc_core_laws.specs.Program.{due_after}
 use Rattle.svc_machine_laws.specs.Guess.{youngest, guess_after, entry_after}

@@ -1,11 +1,11 @@
 -- What a search among rising entries tells of the tables.
-use Rattle.std.proofs.Common.{ℕ, zero, suc, ◌≡◌, ◌≢◌, ◌==◌, ◌+◌, ◌<◌, ◌≤◌, Bool, true, false, cond, List, [], ◌∷◌, length, set, Option, Some, None, refl, sym, ap, ◌∙◌, subst, slice_get, get_or, unwrap_or, arith}
+use Rattle.std.proofs.Common.{ℕ, zero, suc, ◌≡◌, ◌≢◌, ◌+◌, ◌<◌, ◌≤◌, true, false, cond, List, [], ◌∷◌, length, set, Option, Some, None, refl, sym, ap, ◌∙◌, subst, slice_get, get_or, arith}
 use Rattle.std.proofs.Common.{◌⊎◌, inl, inr, add-one, is_none}
 use borrow.Author.Tests.{both_ways}
 use Rattle.std.specs.Prelude.{nat_lt}
 use Rattle.std.specs.List.Sorted.{IsStrictlyIncreasing}
 use Rattle.std.proofs.lemmas.Bool.{eq-eqb, ne_eqb, lt-ltb, lt-leb}
-use Rattle.svc_machine_laws.specs.Guess.{newer_successor, first_above}
+use Rattle.svc_machine_laws.specs.Guess.{first_above}
 use Rattle.svc_machine_laws.specs.Guide.{successor_in, with_successor}
 
 -- a number that isn't below another fails the test

@@ -4,7 +4,7 @@
 
 mod sequencer;
 
-pub use sequencer::{Sequencer, CAPACITY};
+pub use sequencer::{CAPACITY, Sequencer};
 
 #[cfg(test)]
 mod tests;

@@ -7,8 +7,8 @@ use crate::Sequencer;
 use std::alloc::Global;
 use std::test::Fail;
 use svc_core_laws::End;
-use svc_image::samples::{P, P1};
 use svc_image::Image;
+use svc_image::samples::{P, P1};
 
 // The sequencer of an image's file.
 fn opened(alloc: Global, bytes: &[u8]) -> Result<Sequencer, Fail>

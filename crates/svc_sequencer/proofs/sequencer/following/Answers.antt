@@ -1,4 +1,4 @@
-use Rattle.std.proofs.Common.{◌≡◌, ◌∙◌, ap, sym, Ok, Err, Some, None, unwrap_or, slice_get, get_or}
+use Rattle.std.proofs.Common.{◌≡◌, ◌∙◌, ap, sym, Ok, Err, None, unwrap_or, slice_get, get_or}
 use Rattle.std.proofs.lemmas.List.Sorted.{searched}
 use Rattle.svc_machine_laws.specs.Guess.{entry_after}
 use Rattle.svc_sequencer.proofs.Searched.{found, missed, rising_order}

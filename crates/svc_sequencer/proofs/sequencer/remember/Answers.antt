@@ -1,4 +1,4 @@
-use Rattle.std.proofs.Common.{◌≡◌, ◌∙◌, ap, sym, Ok, Err, Some, None, true, false}
+use Rattle.std.proofs.Common.{Ok, Err}
 use Rattle.std.proofs.lemmas.List.Sorted.{searched}
 use Rattle.svc_sequencer.proofs.Searched.{found, missed, rising_order, remember_none, remember_found, remember_missed}
 use Rattle.svc_sequencer.proofs.sequencer.remember.Goals as goal

@@ -1,4 +1,4 @@
-use Rattle.std.proofs.Common.{◌≡◌, ◌∙◌, ◌<◌, ℕ, List, Option, Some, None, ap, sym, subst, length, arith}
+use Rattle.std.proofs.Common.{◌∙◌, ◌<◌, Some, ap, sym, subst, length}
 use Rattle.svc_machine_laws.specs.Guide.{Guide, guide_committed, with_successor}
 use Rattle.svc_sequencer.proofs.Guided.{as_many, committed}
 use Rattle.svc_sequencer.proofs.sequencer.Sequencer.commit.Goals as goal

@@ -1,5 +1,4 @@
-use Rattle.std.proofs.Common.{rules, ◌≡◌, ◌∙◌, ℕ, List, [], Option, Some, None, ap, sym, length, replicate, map}
-use Rattle.svc_machine_laws.specs.Guide.{Guide, guide_opened}
+use Rattle.std.proofs.Common.{rules, ◌≡◌, ◌∙◌, Some, None, ap, length, replicate, map}
 use Rattle.svc_sequencer.proofs.Guided.{no_successors}
 use Rattle.svc_sequencer.proofs.sequencer.Sequencer.tables.Goals as goal
 
