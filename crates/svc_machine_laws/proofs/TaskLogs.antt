@@ -1,0 +1,120 @@
+-- Each accepted event adds its answer to the log of its task, and a committed log is the sequential answers.
+use Rattle.std.proofs.Common.{ℕ, ◌≡◌, Bool, true, false, cond, List, [], ◌∷◌, ◌++◌, map, take, Option, Some, None, refl, sym, ap, ◌∙◌, subst, is_some, slice_get}
+use Rattle.std.proofs.lemmas.Option.{none-some}
+use Rattle.svc_base.specs.declared.config.Config.{Config}
+use Rattle.svc_image.specs.Image.{Image}
+use Rattle.svc_core_laws.specs.declared.end.End.{End}
+use Rattle.svc_core_laws.specs.State.{State}
+use Rattle.svc_core_laws.specs.Program.{Memory, Program, Want, Local, Load, Store, Narrow, Emit, Run, Action, act, wrote, over, part, task, seq, said, due_run, log_of_run, locals, IsProgram}
+use Rattle.svc_core_laws.specs.Words.{program}
+use Rattle.svc_bus_laws.specs.Versioned.{Row}
+use Rattle.svc_bus_laws.specs.ByRows.{view_of, edit}
+use Rattle.svc_bus_laws.specs.LineTable.{LineTable}
+use Rattle.svc_machine_laws.specs.declared.reply.Served.{Served}
+use Rattle.svc_machine_laws.specs.declared.reply.Reply.{Reply}
+use Rattle.svc_machine_laws.specs.PlainMachine.{Task, Plain, Running, IsDue, runs_of, running, row_of, cut_by, entry_of, entry_for, stays, settled}
+use Rattle.svc_machine_laws.specs.PlainMachine as plain
+use Rattle.svc_machine_laws.specs.WholeMachine.{machine_of, seen}
+use Rattle.svc_machine_laws.specs.MachineLaws.{Taken, HasEnded}
+use Rattle.svc_machine_laws.specs.Events.{Event, Assign, Submit, Replace, Cancel, Commit, IsEvent, task_place, asked_want, plain_event, plain_submit, plain_cancel}
+use Rattle.svc_machine_laws.specs.Replies.{turn_done, serves_at, whole_asked, whole_submitted, whole_reply, plain_reply}
+use Rattle.svc_machine_laws.specs.Standing.{Standing, refused, stepped, reply_to}
+use Rattle.svc_machine_laws.specs.Reached.{IsReached}
+use Rattle.svc_machine_laws.specs.Logs.{TaskLog, log_of, logs_of, told, plus, adds, AddsItsAnswer, CommitsAnswers, LogsFollow}
+use Rattle.svc_machine_laws.proofs.Given.{Given}
+use Rattle.svc_machine_laws.proofs.Accepted.{can_submit, can_cancel, can_commit, seat_places}
+use Rattle.svc_machine_laws.proofs.Answering.{reply_is}
+use Rattle.svc_machine_laws.proofs.EditedLists.{map_append_one, map_take, map_edit, view_hide}
+use Rattle.svc_machine_laws.proofs.MachineEvents.{taken, head_ended}
+use Rattle.svc_machine_laws.proofs.Parts.{part_whole, seq_commit}
+use Rattle.svc_machine_laws.proofs.Steps.{runs_append, runs_take}
+use Rattle.svc_machine_laws.proofs.Submits.{local_run, local_runs, asked_run, asked_runs}
+
+-- a turn puts on the log what its answer tells
+act_tells : {C : Type 0} (p : Program C) (w : Want C) (look : Memory) (serves : ℕ → Served) (log : List Action) → (act w look log).log ≡ plus (told (turn_done p w look serves)) log
+act_tells p (Local c) look serves log = refl
+act_tells p (Load a value go) look serves log = refl
+act_tells p (Store a v c) look serves log = refl
+act_tells p (Narrow a f c) look serves log = refl
+act_tells p (Emit v c) look serves log = refl
+
+assign_logs : {C : Type 0} (p : Program C) (s : Plain) (unit guess : ℕ) → logs_of p (plain.assign p s unit guess) ≡ logs_of p s ++ record { unit = unit; log = [] } ∷ []
+assign_logs p s unit guess =
+    ap (map log_of) (runs_append p (seq p s.commits).memory s.tasks unit s.epoch (entry_for (seq p s.commits).due (map entry_of s.tasks) guess))
+    ∙ map_append_one log_of (running p s) _
+
+cancel_logs : {C : Type 0} (p : Program C) (s : Plain) (place : ℕ) → logs_of p (plain.cancel s place) ≡ take place (logs_of p s)
+cancel_logs p s place = ap (map log_of) (runs_take p (seq p s.commits).memory place s.tasks) ∙ map_take log_of place (running p s)
+
+submit_logs : {C : Type 0} (p : Program C) (s : Plain) (t : LineTable) (unit place local : ℕ) (last : C) (ask : Option (Want C)) → task_place s unit ≡ Some place → Taken p s place local last ask
+    → AddsItsAnswer p s (plain.submit p s place local (is_some ask)) unit (whole_asked p (machine_of p s) t place ask).what
+submit_logs p s t unit place local last None at tk = record {
+  place = place;
+  at = at;
+  cut = None;
+  logs = ap (map log_of) (local_runs p local (seq p s.commits).memory s.tasks place tk.run tk.at tk.own)
+      ∙ map_edit log_of (local_run p local) (adds None) place None (running p s) (λ x h. refl);
+}
+submit_logs {C} p s t unit place local last (Some w) at tk =
+    let m : Memory = (seq p s.commits).memory in
+    let all : List (Running C) = running p s in
+    let rows : List Row = map row_of all in
+    let look : Memory = view_of rows m place in
+    let sees : Memory = seen (machine_of p s).versioned place in
+    let same : look ≡ sees = sym (view_hide rows m place) in
+    let wants : p.want (locals p local tk.run.run.core) ≡ w = ap p.want tk.end_is ∙ tk.ask_is w refl in
+    record {
+      place = place;
+      at = at;
+      cut = cut_by w rows place;
+      logs = ap (map log_of) (asked_runs p local m s.tasks place tk.run tk.at tk.own)
+          ∙ ap (λ v. map log_of (edit place (asked_run p local v look) (cut_by v rows place) all)) wants
+          ∙ ap (λ l. map log_of (edit place (asked_run p local w l) (cut_by w rows place) all)) same
+          ∙ map_edit log_of (asked_run p local w sees) (adds (told (turn_done p w sees (serves_at t place)))) place (cut_by w rows place) all
+          (λ x h. ap {B = TaskLog} (λ l. record { unit = x.task.unit; log = l }) (act_tells p w sees (serves_at t place) x.run.log));
+    }
+
+commit_tasks_logs : {C : Type 0} (p : Program C) → IsProgram p → (k a e : ℕ) (ts : List Task) (x : Running C) (ended : End)
+    → slice_get (runs_of p (seq p k).memory ts) 0 ≡ Some x
+    → IsDue (seq p k).due ts → ((y : Running C) → slice_get (runs_of p (seq p k).memory ts) 0 ≡ Some y → p.done y.run.core ≡ Some ended)
+    → let s : Plain = record { commits = k; accepted = a; epoch = e; tasks = ts } in CommitsAnswers p s (plain.commit p s)
+commit_tasks_logs p good k a e [] x ended here due done = absurd (none-some x here)
+commit_tasks_logs {C} p good k a e (t ∷ ts) x ended here due done =
+    let r : Run C = part p t.entry t.turns (seq p k).memory in
+    let m : Memory = over (wrote r.log) (seq p k).memory in
+    let over_is : p.done r.core ≡ Some ended = done (record { task = t; run = r }) refl in
+    let whole : r ≡ task p t.entry (seq p k).memory = sym (part_whole p good t.entry t.turns (seq p k).memory ended over_is) in
+    let says : r.log ≡ said p k = ap (λ (q : Run C). q.log) whole ∙ sym (ap (λ o. log_of_run (due_run p (seq p k).memory o)) due) in
+    let rest : List TaskLog = map log_of (runs_of p m ts) in
+    record {
+      unit = t.unit;
+      others = rest;
+      head = ap {B = List TaskLog} (λ l. record { unit = t.unit; log = l } ∷ rest) says;
+      keep = stays (p.done r.core) (map entry_of ts);
+      logs = ap (λ q. map log_of (runs_of p q.memory (settled (p.done r.core) ts))) (seq_commit p good k t.entry t.turns ended due over_is) ∙ left (stays (p.done r.core) (map entry_of ts)) m;
+    }
+  where
+    left : (b : Bool) (m : Memory) → map log_of (runs_of p m (cond b ts [])) ≡ cond b (map log_of (runs_of p m ts)) []
+    left true m = refl
+    left false m = refl
+
+pub logs_follow : (img : Image) → Given img → (config : Config) (s : Standing) → IsReached img config s → (x : Event) → IsEvent x → refused img config s x ≡ None
+    → LogsFollow (program img) s.plain (stepped img s x).plain x (reply_to img s x).what
+unfolding stepped plain_event reply_to plain_reply whole_reply
+logs_follow img given config s reached (Assign unit guess) is ok = assign_logs (program img) s.plain unit guess
+logs_follow img given config s reached (Submit b) is ok =
+    let p : Program State = program img in
+    let can = can_submit img config s b ok in
+    let place = seat_places img config s b.unit.0 ∙ can.at in
+    let answer = ap (λ o. (whole_submitted p (machine_of p s.plain) s.lines o (asked_want img b)).what) (sym place) ∙ ap (λ (r : Reply). r.what) (reply_is img given config s (Submit b) is ok) in
+    subst (AddsItsAnswer p s.plain (plain_submit img s.plain (task_place s.plain b.unit.0) b) b.unit.0) answer
+    (subst (λ o. AddsItsAnswer p s.plain (plain_submit img s.plain o b) b.unit.0 (whole_asked p (machine_of p s.plain) s.lines can.place (asked_want img b)).what) (sym can.at)
+    (submit_logs p s.plain s.lines b.unit.0 can.place b.local b.end (asked_want img b) can.at (taken img given config s b is can)))
+logs_follow img given config s reached (Replace unit a) is ok = refl
+logs_follow img given config s reached (Cancel unit) is ok =
+    let can = can_cancel img config s unit ok in
+    record { place = can.place; at = can.at; logs = ap (λ o. logs_of (program img) (plain_cancel s.plain o)) can.at ∙ cancel_logs (program img) s.plain can.place }
+logs_follow img given config s reached (Commit by) is ok =
+    let can = can_commit img config s by ok in
+    let done : HasEnded (program img) s.plain = head_ended img given config s can in
+    commit_tasks_logs (program img) given.is_program s.plain.commits s.plain.accepted s.plain.epoch s.plain.tasks can.run done.end can.here reached.due done.is

@@ -1,0 +1,80 @@
+-- What the cause of a cut says.
+use Rattle.std.specs.Prelude.{ℕ, suc, ◌≡◌, ◌≢◌, ◌+◌, ◌-◌, ◌⊎◌, true, List, ◌∷◌, length, Option, Some, None, is_some}
+use Rattle.svc_image.specs.Image.{Image}
+use Rattle.svc_core_laws.specs.State.{State}
+use Rattle.svc_core_laws.specs.Program.{Want, Local, Load, Store, Narrow, Emit, seq}
+use Rattle.svc_core_laws.specs.Words.{program}
+use Rattle.svc_core_laws.specs.Bursts.{Advance}
+use Rattle.svc_bus_laws.specs.MapLaws.{IsVictim}
+use Rattle.svc_machine_laws.specs.declared.reply.Cause.{Cause}
+use Rattle.svc_machine_laws.specs.declared.reply.Cause.TheVariants as cause
+use Rattle.svc_machine_laws.specs.declared.reply.Cut.{Cut}
+use Rattle.svc_machine_laws.specs.PlainMachine.{Task, Plain}
+use Rattle.svc_machine_laws.specs.WholeMachine.{machine_of}
+use Rattle.svc_machine_laws.specs.Events.{Event, Assign, Submit, Replace, Cancel, Commit, asked_want, task_place}
+
+-- the first task that is cut is the one at this place, and the cut counts it and all that were active after it
+pub record IsCutAt (s : Plain) (cut : Cut) (place : ℕ) : Type 0 where
+  pub first : cut.first.0 ≡ s.commits + place
+  pub tasks : cut.tasks ≡ length s.tasks - place
+
+-- a turn that wants this writes the word
+abbrev pub Writes : {C : Type 0} → Want C → ℕ → Type 0
+Writes (Local c) a = ⊥
+Writes (Load b value go) a = ⊥
+Writes (Store b w c) a = b ≡ a
+Writes (Narrow b f c) a = b ≡ a
+Writes (Emit w c) a = ⊥
+
+-- a violation of a word: the event is a submit whose asked turn wrote the word, and the first task cut is the victim of that write
+pub record IsViolation (img : Image) (s : Plain) (x : Event) (cut : Cut) (a : ℕ) : Type 0 where
+  pub burst : Advance
+  pub event : x ≡ Submit burst
+  pub want : Want State
+  pub asked : asked_want img burst ≡ Some want
+  pub wrote : Writes want a
+  pub place : ℕ
+  pub at : task_place s burst.unit.0 ≡ Some place
+  pub victim : ℕ
+  pub is_victim : IsVictim (machine_of (program img) s).versioned place a victim
+  pub cut_at : IsCutAt s cut victim
+
+-- a wrong guess: the event is a commit, the run has stopped with it or the next task didn't begin at the entry that is due after it, and the first task cut is the next one
+pub record IsWrongGuess (img : Image) (s : Plain) (x : Event) (cut : Cut) : Type 0 where
+  pub by : ℕ
+  pub event : x ≡ Commit by
+  pub head : Task
+  pub next : Task
+  pub others : List Task
+  pub tasks : s.tasks ≡ head ∷ next ∷ others
+  pub wrong : (is_some (seq (program img) (suc s.commits)).stopped ≡ true) ⊎ ((seq (program img) (suc s.commits)).due ≢ Some next.entry)
+  pub cut_at : IsCutAt s cut 1
+
+-- a cancel: the event is a cancel, and the first task cut is its unit's
+pub record IsCancel (s : Plain) (x : Event) (cut : Cut) : Type 0 where
+  pub unit : ℕ
+  pub event : x ≡ Cancel unit
+  pub place : ℕ
+  pub at : task_place s unit ≡ Some place
+  pub cut_at : IsCutAt s cut place
+
+abbrev pub IsBlamedOn : Image → Plain → Event → Cut → Cause → Type 0
+IsBlamedOn img s x cut (cause.Violation a) = IsViolation img s x cut a.0
+IsBlamedOn img s x cut cause.WrongGuess = IsWrongGuess img s x cut
+IsBlamedOn img s x cut cause.Cancelled = IsCancel s x cut
+
+abbrev pub IsBlamed : Image → Plain → Event → Cut → Type 0
+IsBlamed img s x cut = IsBlamedOn img s x cut cut.cause
+
+-- how many tasks are cut
+abbrev pub tasks_cut : Option Cut → ℕ
+tasks_cut None = 0
+tasks_cut (Some cut) = cut.tasks
+
+-- how many tasks an accepted event begins, and commits
+abbrev pub begun : Event → ℕ
+begun (Assign unit guess) = 1
+begun (Submit b) = 0
+begun (Replace unit address) = 0
+begun (Cancel unit) = 0
+begun (Commit by) = 0

@@ -1,0 +1,14 @@
+pub mod PlainMachine
+pub mod WholeMachine
+pub mod MachineLaws
+pub mod Events
+pub mod LineEvents
+pub mod Refusals
+pub mod Replies
+pub mod Guess
+pub mod Standing
+pub mod Reached
+pub mod Headline
+pub mod Blame
+pub mod Guide
+pub mod Logs

@@ -1,0 +1,69 @@
+-- What the active tasks have done with memory and output so far, and what each accepted event adds to it.
+use Rattle.std.specs.Prelude.{ℕ, ◌≡◌, Bool, cond, List, [], ◌∷◌, ◌++◌, map, take, Option, Some, None}
+use Rattle.svc_core_laws.specs.Program.{Program, Action, Loaded, Stored, Replaced, Emitted, said}
+use Rattle.svc_bus_laws.specs.ByRows.{edit}
+use Rattle.svc_machine_laws.specs.declared.reply.What.{What}
+use Rattle.svc_machine_laws.specs.declared.reply.What.TheVariants as what
+use Rattle.svc_machine_laws.specs.PlainMachine.{Plain, Running, running}
+use Rattle.svc_machine_laws.specs.Events.{Event, Assign, Submit, Replace, Cancel, Commit, task_place}
+
+-- a task's unit, and what its turns did, the newest first
+pub record TaskLog : Type 0 where
+  pub unit : ℕ
+  pub log : List Action
+
+abbrev pub log_of : {C : Type 0} → Running C → TaskLog
+log_of x = record { unit = x.task.unit; log = x.run.log }
+
+-- those of the active tasks, oldest task first
+abbrev pub logs_of : {C : Type 0} → Program C → Plain → List TaskLog
+logs_of p s = map log_of (running p s)
+
+-- what an answer tells of memory or output; a store for which a word was read is one of less than a word
+abbrev pub told : What → Option Action
+told (what.Assigned task entry epoch) = None
+told what.Ran = None
+told (what.Loaded addr value served) = Some (Loaded addr.0 value)
+told (what.Stored addr word None) = Some (Stored addr.0 word)
+told (what.Stored addr word (Some served)) = Some (Replaced addr.0 word)
+told (what.Emitted word) = Some (Emitted word)
+told (what.Trapped number) = None
+told (what.Replaced addr) = None
+told what.Cancelled = None
+told (what.Committed task ended) = None
+
+-- one action more, where there is one
+abbrev pub plus : Option Action → List Action → List Action
+plus None log = log
+plus (Some action) log = action ∷ log
+
+abbrev pub adds : Option Action → TaskLog → TaskLog
+adds action t = record t { log = plus action t.log }
+
+-- a submit puts what it answers on its task's log, and leaves the logs of the tasks that it doesn't cut
+pub record AddsItsAnswer {C : Type 0} (p : Program C) (before after : Plain) (unit : ℕ) (done : What) : Type 0 where
+  pub place : ℕ
+  pub at : task_place before unit ≡ Some place
+  pub cut : Option ℕ
+  pub logs : logs_of p after ≡ edit place (adds (told done)) cut (logs_of p before)
+
+-- a cancel leaves the logs of the tasks before its unit's
+pub record LeavesEarlier {C : Type 0} (p : Program C) (before after : Plain) (unit : ℕ) : Type 0 where
+  pub place : ℕ
+  pub at : task_place before unit ≡ Some place
+  pub logs : logs_of p after ≡ take place (logs_of p before)
+
+-- the log of a head that is committed is the sequential answers of its task; the others stay, or are all cut
+pub record CommitsAnswers {C : Type 0} (p : Program C) (before after : Plain) : Type 0 where
+  pub unit : ℕ
+  pub others : List TaskLog
+  pub head : logs_of p before ≡ record { unit = unit; log = said p before.commits } ∷ others
+  pub keep : Bool
+  pub logs : logs_of p after ≡ cond keep others []
+
+abbrev pub LogsFollow : {C : Type 0} → Program C → Plain → Plain → Event → What → Type 0
+LogsFollow p before after (Assign unit guess) done = logs_of p after ≡ logs_of p before ++ record { unit = unit; log = [] } ∷ []
+LogsFollow p before after (Submit b) done = AddsItsAnswer p before after b.unit.0 done
+LogsFollow p before after (Replace unit address) done = logs_of p after ≡ logs_of p before
+LogsFollow p before after (Cancel unit) done = LeavesEarlier p before after unit
+LogsFollow p before after (Commit by) done = CommitsAnswers p before after

@@ -1,0 +1,148 @@
+-- The plain machine: counts of turns, from which all else is read off by running the program anew.
+use Rattle.std.specs.Prelude.{ℕ, zero, suc, ◌≡◌, ◌==◌, ◌+◌, Bool, true, false, cond, List, [], ◌∷◌, ◌++◌, map, take, Option, Some, None, unwrap_or, slice_get}
+use Rattle.svc_core_laws.specs.declared.end.End.{End}
+use Rattle.svc_core_laws.specs.declared.end.End.TheVariants as end
+use Rattle.svc_core_laws.specs.Program.{Memory, Want, Local, Load, Store, Narrow, Emit, Program, Run, wrote, exposed, over, part, seq}
+use Rattle.svc_bus_laws.specs.Versioned.{Row}
+use Rattle.svc_bus_laws.specs.ByRows.{victim_after, edit}
+
+-- an active task: its unit, its epoch, the entry at which it began, and its turns so far
+pub record Task : Type 0 where
+  pub unit : ℕ
+  pub epoch : ℕ
+  pub entry : ℕ
+  pub turns : ℕ
+
+-- the number of commits, the number of accepted events, the next epoch, and the active tasks, oldest first
+pub record Plain : Type 0 where
+  pub commits : ℕ
+  pub accepted : ℕ
+  pub epoch : ℕ
+  pub tasks : List Task
+
+abbrev pub unit_of : Task → ℕ
+unit_of t = t.unit
+
+abbrev pub entry_of : Task → ℕ
+entry_of t = t.entry
+
+-- a task and its run
+pub record Running (C : Type 0) : Type 0 where
+  pub task : Task
+  pub run : Run C
+
+-- the run of each task: the first begins on this memory, and each next one on what the one before leaves
+abbrev pub runs_of : {C : Type 0} → Program C → Memory → List Task → List (Running C)
+runs_of p m [] = []
+runs_of p m (t ∷ ts) =
+    let run = part p t.entry t.turns m in
+    record { task = t; run = run } ∷ runs_of p (over (wrote run.log) m) ts
+
+-- the memory on which the task at a place runs: what the tasks before it leave
+abbrev pub memory_at : {C : Type 0} → Program C → Memory → List Task → ℕ → Memory
+memory_at p m [] place = m
+memory_at p m (t ∷ ts) zero = m
+memory_at p m (t ∷ ts) (suc place) = memory_at p (over (wrote (part p t.entry t.turns m).log) m) ts place
+
+-- the run of a task that begins on this memory
+abbrev pub run_of : {C : Type 0} → Program C → Memory → Task → Running C
+run_of p m t = record { task = t; run = part p t.entry t.turns m }
+
+-- the runs of the active tasks, from what the committed ones leave
+abbrev pub running : {C : Type 0} → Program C → Plain → List (Running C)
+running p s = runs_of p (seq p s.commits).memory s.tasks
+
+-- what the task wrote, and which words it exposed
+abbrev pub row_of : {C : Type 0} → Running C → Row
+row_of x = record { versions = wrote x.run.log; exposed = exposed x.run.log }
+
+abbrev pub more : ℕ → Task → Task
+more n t = record t { turns = n + t.turns }
+
+abbrev pub one_more : Task → Task
+one_more t = record t { turns = suc t.turns }
+
+-- the victim of a turn that wants this, counted from the task after it
+abbrev pub cut_by : {C : Type 0} → Want C → List Row → ℕ → Option ℕ
+cut_by (Local c) rows place = None
+cut_by (Load a value go) rows place = None
+cut_by (Store a w c) rows place = victim_after rows place a
+cut_by (Narrow a f c) rows place = victim_after rows place a
+cut_by (Emit w c) rows place = None
+
+-- one turn more for the task at a place, where there is one; its victim and all after it go
+abbrev pub asked_by : {C : Type 0} → Program C → List (Running C) → List Task → ℕ → Option (Running C) → List Task
+asked_by p runs ts place None = ts
+asked_by p runs ts place (Some x) = edit place one_more (cut_by (p.want x.run.core) (map row_of runs) place) ts
+
+abbrev pub asked : {C : Type 0} → Program C → Memory → List Task → ℕ → List Task
+asked p m ts place = asked_by p (runs_of p m ts) ts place (slice_get (runs_of p m ts) place)
+
+-- so many local turns, and one more where there is an ask
+abbrev pub submitted : {C : Type 0} → Program C → Memory → List Task → ℕ → ℕ → Bool → List Task
+submitted p m ts place local false = edit place (more local) None ts
+submitted p m ts place local true = asked p m (edit place (more local) None ts) place
+
+-- whether the next task stays at a commit of a head that ended so: at its entry
+abbrev pub stays : Option End → List ℕ → Bool
+stays None entries = false
+stays (Some (end.Exit code)) entries = false
+stays (Some (end.Trap number)) entries = false
+stays (Some (end.Next e)) [] = false
+stays (Some (end.Next e)) (x ∷ entries) = x == e
+
+-- the tasks that stay
+abbrev pub settled : Option End → List Task → List Task
+settled ended ts = cond (stays ended (map entry_of ts)) ts []
+
+-- the entry of a new task: the due one where no task is active, else the guess
+abbrev pub entry_for : Option ℕ → List ℕ → ℕ → ℕ
+entry_for due [] guess = unwrap_or due guess
+entry_for due (x ∷ entries) guess = guess
+
+-- one event more is accepted, and these are the tasks
+abbrev pub accept : Plain → List Task → Plain
+accept s ts = record s { accepted = suc s.accepted; tasks = ts }
+
+-- a new task, the last, on this unit
+abbrev pub assign : {C : Type 0} → Program C → Plain → (unit guess : ℕ) → Plain
+assign p s unit guess =
+    record s {
+      accepted = suc s.accepted;
+      epoch = suc s.epoch;
+      tasks = s.tasks ++ record { unit = unit; epoch = s.epoch; entry = entry_for (seq p s.commits).due (map entry_of s.tasks) guess; turns = 0 } ∷ [];
+    }
+
+-- turns of the task at a place: so many local ones, and one more where there is an ask
+abbrev pub submit : {C : Type 0} → Program C → Plain → (place local : ℕ) → Bool → Plain
+submit p s place local ask = accept s (submitted p (seq p s.commits).memory s.tasks place local ask)
+
+-- a replacement changes no task
+abbrev pub replace : Plain → Plain
+replace s = accept s s.tasks
+
+-- the task at a place and all after it go
+abbrev pub cancel : Plain → (place : ℕ) → Plain
+cancel s place = accept s (take place s.tasks)
+
+-- the first of these tasks is committed; the others stay where the next one begins where it ended
+abbrev pub commit_tasks : {C : Type 0} → Program C → Plain → List Task → Plain
+commit_tasks p s [] = accept s []
+commit_tasks p s (t ∷ ts) =
+    record s {
+      commits = suc s.commits;
+      accepted = suc s.accepted;
+      tasks = settled (p.done (part p t.entry t.turns (seq p s.commits).memory).core) ts;
+    }
+
+abbrev pub commit : {C : Type 0} → Program C → Plain → Plain
+commit p s = commit_tasks p s s.tasks
+
+-- before any event; the first epoch is given
+abbrev pub plain_opening : (first : ℕ) → Plain
+plain_opening first = record { commits = 0; accepted = 0; epoch = first; tasks = [] }
+
+-- the head, where there is one, is the task that is due
+abbrev pub IsDue : Option ℕ → List Task → Type 0
+IsDue due [] = Unit {0}
+IsDue due (t ∷ ts) = due ≡ Some t.entry

@@ -1,0 +1,22 @@
+//! The plain machine: counts of commits, events and turns, from which all else is read off by running the
+//! program anew. What it says of the whole machine, when an event is refused, what is answered, and the
+//! headline. Each function is a law: its contract is the statement, and its body is empty.
+#![tactic(auto)]
+
+mod events;
+mod guides;
+mod lists;
+mod machine;
+mod reply;
+
+pub use events::{
+    accepted_event, asked_word_is_wanted, cut_is_blamed, event_keeps, logs_follow,
+    tasks_are_counted,
+};
+pub use guides::{guess_is_entry, guess_is_guided, guide_steps};
+pub use lists::{
+    headline, list_keeps, opening_is_reached, reached_is_sequential, supplier_holds,
+    whole_machine_anew,
+};
+pub use machine::{machine_steps, task_anew};
+pub use reply::{Cause, Cut, Reply, Served, What};

@@ -1,0 +1,90 @@
+// What the machine answers to an accepted event.
+
+use svc_base::{TaskNo, UnitId, WordAddr};
+use svc_core_laws::End;
+
+/// Who supplied the value of a read.
+#[derive(Clone, Copy, Debug, PartialEq, Eq)]
+pub enum Served {
+    /// The unit's own uncommitted line.
+    Hit,
+    /// The unit's own committed line, which is clean and not stale.
+    Reuse,
+    /// The nearest earlier task's version, in this unit's cache.
+    Version(UnitId),
+    /// A version of the head that a replacement took out of its cache.
+    Spill,
+    /// The newest committed version, in this unit's cache.
+    Committed(UnitId),
+    /// The backing memory.
+    Memory,
+}
+
+/// What an accepted event did.
+#[derive(Clone, Copy, Debug, PartialEq, Eq)]
+pub enum What {
+    /// A task was assigned: its number, the entry at which it begins, a byte address, and its epoch.
+    Assigned {
+        task: TaskNo,
+        entry: u32,
+        epoch: u64,
+    },
+    /// Local turns were taken over, and nothing was asked.
+    Ran,
+    /// The asked turn loaded: the word's address, the value that the register got, and who supplied
+    /// the word.
+    Loaded {
+        addr: WordAddr,
+        value: u32,
+        served: Served,
+    },
+    /// The asked turn stored: the word's address, the whole word that stands there now, and, for a byte
+    /// or a half alone, who supplied the word that was read for it.
+    Stored {
+        addr: WordAddr,
+        word: u32,
+        served: Option<Served>,
+    },
+    /// The asked turn put out this word. It waits for the task's commit.
+    Emitted(u32),
+    /// The asked turn trapped, with this number.
+    Trapped(u8),
+    /// A line of this word was taken out of the unit's cache.
+    Replaced {
+        addr: WordAddr,
+    },
+    /// The unit's task was squashed.
+    Cancelled,
+    /// The head was committed: its number, and how it ended.
+    Committed {
+        task: TaskNo,
+        end: End,
+    },
+}
+
+/// Why tasks were squashed.
+#[derive(Clone, Copy, Debug, PartialEq, Eq)]
+pub enum Cause {
+    /// An earlier task stored to this word, which the first of them had read too early.
+    Violation(WordAddr),
+    /// The run stopped, or the first of them began at another entry than the one that is due.
+    WrongGuess,
+    /// The first of them was cancelled.
+    Cancelled,
+}
+
+/// Which tasks an event squashed, and why: the first one, and how many with all that were active
+/// after it.
+#[derive(Clone, Copy, Debug, PartialEq, Eq)]
+pub struct Cut {
+    pub cause: Cause,
+    pub first: TaskNo,
+    pub tasks: u32,
+}
+
+/// The answer to an accepted event.
+#[derive(Clone, Copy, Debug, PartialEq, Eq)]
+pub struct Reply {
+    pub what: What,
+    pub cut: Option<Cut>,
+}

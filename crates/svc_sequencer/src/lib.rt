@@ -1,0 +1,10 @@
+//! The sequencer: which task is due, which one to guess, and what a commit cuts (ISCA 1995, "Multiscalar
+//! Processors": a sequencer predicts the next task and assigns it, and tasks retire in order).
+#![tactic(auto)]
+
+mod sequencer;
+
+pub use sequencer::{CAPACITY, Sequencer};
+
+#[cfg(test)]
+mod tests;

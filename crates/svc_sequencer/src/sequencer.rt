@@ -1,0 +1,188 @@
+// The sequencer.
+
+ghost use Rattle.std.specs.Prelude.{◌≡◌, ◌<◌, Some, IfOk, IfErr, length, drop, slice_get, unwrap_or};
+ghost use Rattle.std.specs.List.Sorted.{IsStrictlyIncreasing};
+ghost use Rattle.svc_core_laws.specs.Program.{due_after};
+ghost use Rattle.svc_machine_laws.specs.PlainMachine.{entry_for};
+ghost use Rattle.svc_machine_laws.specs.Guess.{entry_after};
+ghost use Rattle.svc_machine_laws.specs.Guide.{guess_of, guide_opened, guide_assigned, guide_cut, guide_committed, cuts_next, successor_in, with_successor};
+
+use arrayvec::ArrayVec;
+use std::alloc::{AllocError, Global};
+use std::marker::Model;
+use svc_base::OpenError;
+use svc_core_laws::End;
+use svc_image::Image;
+
+/// How many tasks can be active at once: as many as there can be units.
+pub const CAPACITY: usize = 16;
+
+/// Keeps the due entry, the successor of the last committed task that began at each entry, and the entries
+/// of the active tasks, oldest first.
+///
+/// Contracts see it as a guide, which is what the plain machine says of it.
+#[derive(Drop)]
+pub struct Sequencer {
+    entries: Vec<u32>,
+    successors: Vec<Option<u32>>,
+    due: Option<u32>,
+    active: ArrayVec<u32, CAPACITY>,
+}
+
+impl Model for Sequencer {
+    ghost use Rattle.svc_machine_laws.specs.Guide.{Guide};
+    ghost use Rattle.svc_sequencer.specs.Tables.{AreTables};
+
+    ghost Value = { Guide };
+
+    ghost view = { λ s. record { entries = s.entries.items; due = s.due; successors = s.successors.items; active = s.active.items } };
+
+    ghost invariant = { λ s. AreTables (record { entries = s.entries.items; due = s.due; successors = s.successors.items; active = s.active.items }) };
+}
+
+// The entry at a place; the first follows the last.
+fn entry_from(entries: &[u32], i: usize) -> u32
+    ensures { result ≡ unwrap_or (slice_get entries.now i) (unwrap_or (slice_get entries.now 0) 0) }
+{
+    match entries.get(i) {
+        Some(&entry) => entry,
+        None => entries.first().copied().unwrap_or(0),
+    }
+}
+
+// The successor of an entry, or else the entry after it in the table.
+fn following(entries: &[u32], successors: &[Option<u32>], entry: u32) -> u32
+    requires rising { IsStrictlyIncreasing entries.now }
+    requires as_many { length successors.now ≡ length entries.now }
+    ensures { result ≡ unwrap_or (successor_in entries.now successors.now entry) (entry_after entries.now entry) }
+{
+    match entries.binary_search(&entry) {
+        Ok(i) => match successors[i] {
+            Some(successor) => successor,
+            None => entry_from(entries, i + 1),
+        },
+        Err(i) => entry_from(entries, i),
+    }
+}
+
+// Remembers the successor, where there is one, of a task that began at an entry.
+fn remember(entries: &[u32], successors: &mut Vec<Option<u32>>, entry: u32, successor: Option<u32>)
+    requires rising { IsStrictlyIncreasing entries.now }
+    requires as_many { length successors.old.items ≡ length entries.now }
+    ensures { successors.new.items ≡ with_successor entries.now (Some entry) successor successors.old.items }
+{
+    if successor.is_none() {
+        return;
+    }
+    if let Ok(i) = entries.binary_search(&entry) {
+        successors[i] = successor;
+    }
+}
+
+// The entry that is due after a task that ended so.
+fn due_at(end: End) -> Option<u32>
+    ensures { result ≡ due_after (Some end) }
+{
+    match end {
+        End::Next(entry) => Some(entry),
+        End::Exit(_) => None,
+        End::Trap(_) => None,
+    }
+}
+
+impl Sequencer {
+    /// The sequencer of an image before any event. All the room that it ever fills is taken here.
+    pub fn open(alloc: Global, image: &Image) -> Result<Sequencer, OpenError>
+        ensures ok { IfOk result (λ s. s ≡ guide_opened image.now.entries image.now.start) }
+        ensures err { IfErr result (λ e. e ≡ OpenError.Memory) }
+    {
+        match Sequencer::tables(alloc, image) {
+            Ok(sequencer) => Ok(sequencer),
+            Err(_) => Err(OpenError::Memory),
+        }
+    }
+
+    // The sequencer with its tables.
+    fn tables(alloc: Global, image: &Image) -> Result<Sequencer, AllocError>
+        ensures { IfOk result (λ s. s ≡ guide_opened image.now.entries image.now.start) }
+    {
+        let entries = Vec::from_slice(alloc, image.entries())?;
+        let successors = Vec::from_elem(alloc, None, entries.len())?;
+        Ok(Sequencer {
+            entries,
+            successors,
+            due: Some(image.start()),
+            active: ArrayVec::new(),
+        })
+    }
+
+    /// The byte address of the entry of the next task to commit, while the run goes on.
+    pub fn due(&self) -> Option<u32>
+        ensures { result ≡ self.now.due }
+    {
+        let _open = &self.entries;
+        self.due
+    }
+
+    /// The guess for the next task, a byte address: with no task active the due entry. Else the successor
+    /// of the last committed task that began where the youngest active one did, and without one the entry
+    /// after that, where the first follows the last.
+    pub fn predict(&self) -> Option<u32>
+        ensures { result ≡ guess_of self.now }
+    {
+        match self.active.last() {
+            Some(&youngest) => Some(following(&self.entries, &self.successors, youngest)),
+            None => self.due,
+        }
+    }
+
+    /// Whether a commit of the oldest task, which ended so, cuts the next ones: always at an exit or trap,
+    /// and else exactly where the next task didn't begin at the entry that is due then. Without a next task
+    /// there is nothing to cut.
+    pub fn settle(&self, end: End) -> bool
+        ensures { result ≡ cuts_next end (drop 1 self.now.active) }
+    {
+        match self.active.get(1) {
+            Some(&next) => match end {
+                End::Next(entry) => next != entry,
+                End::Exit(_) => true,
+                End::Trap(_) => true,
+            },
+            None => false,
+        }
+    }
+
+    /// Puts a new task last, and answers its entry, a byte address: the due one where no task is active,
+    /// else the guess.
+    pub fn assign(&mut self, guess: u32) -> u32
+        requires room { length self.old.active < CAPACITY }
+        ensures entry { result ≡ entry_for self.old.due self.old.active guess }
+        ensures state { self.new ≡ guide_assigned guess self.old }
+    {
+        let entry = if self.active.is_empty() {
+            self.due.unwrap_or(guess)
+        } else {
+            guess
+        };
+        self.active.push(entry);
+        entry
+    }
+
+    /// Takes out the oldest task, which ended so: its successor is due, and is remembered. At an exit or trap
+    /// no task is due any more.
+    pub fn commit(&mut self, end: End)
+        requires { 0 < length self.old.active }
+        ensures { self.new ≡ guide_committed end self.old }
+    {
+        let head = self.active.remove(0);
+        self.due = due_at(end);
+        remember(&self.entries, &mut self.successors, head, self.due);
+    }
+
+    /// Takes out the task at a position, counted from the oldest, and all that are younger.
+    pub fn cut_from(&mut self, position: usize)
+        ensures { self.new ≡ guide_cut position self.old }
+    {
+        self.active.truncate(position);
+    }
+}
