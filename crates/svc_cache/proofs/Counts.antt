@@ -1,47 +1,65 @@
--- How many words have a line in a row.
-use Rattle.std.proofs.Common.{◌≡◌, ◌≢◌, ◌∙◌, refl, sym, ap, ℕ, zero, suc, ◌+◌, ◌%◌, ◌<◌, ◌≤◌, Bool, true, false, Some, None, is_some, List, [], ◌∷◌, length, inl, inr, arith}
-use Rattle.std.proofs.lemmas.Bool.{both_ways, cases_Bool, cases_lt}
-use Rattle.svc_line.specs.Line.{seen}
+-- How many words of a set have lines in a list of places.
+use Rattle.std.proofs.Common.{◌≡◌, ◌≢◌, ◌∙◌, refl, sym, ap, ℕ, zero, suc, ◌+◌, ◌%◌, ◌<◌, ◌≤◌, Bool, true, false, Some, None, Option, is_some, List, [], ◌∷◌, length, inl, inr, arith}
+use Rattle.std.specs.Prelude.{◌==◌, ◌&&◌, cond, count_by}
+use Rattle.std.proofs.lemmas.Bool.{and_from, and_left, and_parts, and_right, both_ways, cases_Bool, cases_lt, eq-eqb}
+use Rattle.std.proofs.lemmas.List.Sums.{count_by-le-length, sum_by-cons}
+use Rattle.svc_line.specs.Line.{SeenLine, seen}
 use Rattle.svc_cache.specs.declared.place.Place.{Place}
+use Rattle.svc_cache.specs.Lines.{is_in_set}
+use Rattle.svc_cache.specs.Sets.{lies_in}
 use Rattle.svc_cache.specs.Places.{is_held, holds, found}
 use Rattle.svc_cache.specs.Rows.{place_at, AreHeld}
 use Rattle.svc_cache.specs.Search.{how_many}
 use Rattle.svc_cache.specs.Sound.{IsSoundRow}
-use Rattle.svc_cache.proofs.Founds.{holds_of, holds_no_other, holds_nothing, held_of, word_of, at_head, past_head}
+use Rattle.svc_cache.proofs.Founds.{holds_of, holds_no_other, held_of, word_of, at_head, past_head, none-tail}
 use Rattle.svc_cache.proofs.Searches.{one_if, how_many-same, how_many-none, how_many-more}
 
--- how many places have lines
-pub held_count : List Place → ℕ
-held_count [] = 0
-held_count (place ∷ places) = held_count places + one_if (is_held place)
+-- how many places have lines, in the set of the word
+pub lines_in : (sets word : ℕ) → List Place → ℕ
+lines_in sets word places = count_by (lies_in sets word) places
 
-held-tail : (place : Place) (places : List Place) → AreHeld (place ∷ places) (suc (length places)) → AreHeld places (length places)
-held-tail place places all = record { held = λ k below. all.held (suc k) (omega (arith, below)) }
+pub lines_in-is : (sets word : ℕ) (places : List Place) → count_by (lies_in sets word) places ≡ lines_in sets word places
+unfolding lines_in
+lines_in-is sets word places = refl
 
-pub held_count-full : (row : List Place) → AreHeld row (length row) → held_count row ≡ length row
-unfolding held_count
-held_count-full [] all = refl
-held_count-full (place ∷ places) all =
-    let whole : AreHeld (place ∷ places) (suc (length places)) = record { held = λ k below. all.held k (omega (arith, below)) } in
-    let here : one_if (is_held place) ≡ 1 = ap one_if (whole.held 0 (omega arith)) in
-    omega (arith, held_count-full places (held-tail place places whole))
+lines_in-none : (sets word : ℕ) → lines_in sets word [] ≡ 0
+unfolding lines_in
+lines_in-none sets word = refl
+
+lines_in-cons : (sets word : ℕ) (place : Place) (places : List Place) → lines_in sets word (place ∷ places) ≡ one_if (lies_in sets word place) + lines_in sets word places
+unfolding lines_in
+lines_in-cons sets word place places = sum_by-cons (λ (p : Place). cond (lies_in sets word p) 1 0) place places
+
+lines_in-le : (sets word : ℕ) (places : List Place) → lines_in sets word places ≤ length places
+unfolding lines_in
+lines_in-le sets word places = count_by-le-length (lies_in sets word) places
 
 one_if-le : (b : Bool) → one_if b ≤ 1
 one_if-le true = omega arith
 one_if-le false = omega arith
 
-held_count-le : (row : List Place) → held_count row ≤ length row
-unfolding held_count
-held_count-le [] = omega arith
-held_count-le (place ∷ places) = omega (arith, held_count-le places, one_if-le (is_held place))
+held-tail : (place : Place) (places : List Place) → AreHeld (place ∷ places) (suc (length places)) → AreHeld places (length places)
+held-tail place places all = record { held = λ k below. all.held (suc k) (omega (arith, below)) }
 
-pub held_count-empty : (row : List Place) (k : ℕ) → k < length row → is_held (place_at row k) ≡ false → held_count row < length row
-unfolding held_count
-held_count-empty [] k within empty = absurd (omega (arith, within))
-held_count-empty (place ∷ places) zero within empty =
-    let here : one_if (is_held place) ≡ 0 = ap one_if empty in omega (arith, held_count-le places)
-held_count-empty (place ∷ places) (suc k) within empty =
-    omega (arith, held_count-empty places k (omega (arith, within)) empty, one_if-le (is_held place))
+-- every place of a full row has a line of its set
+pub lines_in-full : (sets word : ℕ) (row : List Place) → IsSoundRow sets (word % sets) row → AreHeld row (length row) → lines_in sets word row ≡ length row
+unfolding IsSoundRow
+lines_in-full sets word [] sound all = lines_in-none sets word
+lines_in-full sets word (place ∷ places) sound all =
+    let whole : AreHeld (place ∷ places) (suc (length places)) = record { held = λ k below. all.held k (omega (arith, below)) } in
+    let held : is_held place ≡ true = whole.held 0 (omega arith) in
+    let here : one_if (lies_in sets word place) ≡ 1 = ap one_if (and_from _ _ (eq-eqb _ _ (sound.0 held).0) held) in
+    let rest = lines_in-full sets word places sound.1 (held-tail place places whole) in
+    lines_in-cons sets word place places ∙ omega arith
+
+-- an empty place has none
+pub lines_in-empty : (sets word : ℕ) (row : List Place) (k : ℕ) → k < length row → is_held (place_at row k) ≡ false → lines_in sets word row < length row
+lines_in-empty sets word [] k within empty = absurd (omega (arith, within))
+lines_in-empty sets word (place ∷ places) zero within empty =
+    let here : one_if (lies_in sets word place) ≡ 0 = ap one_if (and_right _ _ empty) in
+    omega (arith, lines_in-cons sets word place places, lines_in-le sets word places)
+lines_in-empty sets word (place ∷ places) (suc k) within empty =
+    omega (arith, lines_in-cons sets word place places, lines_in-empty sets word places k (omega (arith, within)) empty, one_if-le (lies_in sets word place))
 
 -- a row has the words of its set alone
 pub found-outside : (sets s : ℕ) (row : List Place) (word : ℕ) → IsSoundRow sets s row → word % sets ≢ s → found row word ≡ None
@@ -52,25 +70,37 @@ found-outside sets s (place ∷ places) word sound outside = elim (cases_Bool (h
   | inr away ↦ past_head place places word away ∙ found-outside sets s places word sound.1 outside
 ]
 
--- the number of words that have a line is the number of places that have one
-pub how_many-found : (sets s bound : ℕ) (row : List Place) → IsSoundRow sets s row → ((word : ℕ) → bound ≤ word → found row word ≡ None) → how_many bound (λ word. is_some (found row word)) ≡ held_count row
-unfolding found held_count IsSoundRow
-how_many-found sets s bound [] sound ends = how_many-none bound (λ word. false) (λ word. refl)
-how_many-found sets s bound (place ∷ places) sound ends = elim (cases_Bool (is_held place)) [
-  | inl held ↦
-      let own = place.word.0 in
-      let here : found (place ∷ places) own ≡ Some (seen place.line) = at_head place places own (holds_of place own held refl) in
-      let within : own < bound = elim (cases_lt own bound) [ inl below ↦ below | inr above ↦ absurd (both_ways true (ap is_some (sym here ∙ ends own above)) refl) ] in
-      let rest : (word : ℕ) → bound ≤ word → found places word ≡ None = λ word above.
-      let ne : own ≢ word = λ same. omega (arith, above, within, same) in
-      sym (past_head place places word (holds_no_other place word ne)) ∙ ends word above in
-      let one : one_if (is_held place) ≡ 1 = ap one_if held in
-      let more = how_many-more bound (λ word. is_some (found places word)) (λ word. is_some (found (place ∷ places) word)) own within (ap is_some (sound.0 held).1) (ap is_some here) (λ word ne. ap is_some (past_head place places word (holds_no_other place word (λ same. ne (sym same))))) in
-      let before = how_many-found sets s bound places sound.1 rest in
-      more ∙ omega arith
-  | inr empty ↦
-      let past : (word : ℕ) → found (place ∷ places) word ≡ found places word = λ word. past_head place places word (holds_nothing place word empty) in
-      let none : one_if (is_held place) ≡ 0 = ap one_if empty in
-      let before = how_many-found sets s bound places sound.1 (λ word above. sym (past word) ∙ ends word above) in
-      how_many-same bound (λ word. is_some (found (place ∷ places) word)) (λ word. is_some (found places word)) (λ word below. ap is_some (past word)) ∙ omega arith
+-- a place outside the set changes nothing in it
+outside-head : (sets word : ℕ) (place : Place) (places : List Place) (other : ℕ) → lies_in sets word place ≡ false → is_in_set sets (found (place ∷ places)) word other ≡ is_in_set sets (found places) word other
+outside-head sets word place places other out = elim (cases_Bool (holds place other)) [
+  | inl here ↦
+      let not_in : (other % sets == word % sets) ≡ false = elim (cases_Bool (other % sets == word % sets)) [
+        | inl same ↦ absurd (both_ways _ out (and_from _ _ (ap (λ w. w % sets == word % sets) (word_of place other here) ∙ same) (held_of place other here)))
+        | inr apart ↦ apart
+      ] in
+      and_left _ _ not_in ∙ sym (and_left _ _ not_in)
+  | inr away ↦ ap (λ (line : Option SeenLine). (other % sets == word % sets) && is_some line) (past_head place places other away)
 ]
+
+-- as many words of the set have a line as places of the set
+pub how_many-found : (n r sets word bound : ℕ) (places : List Place) → IsSoundRow n r places → ((other : ℕ) → bound ≤ other → found places other ≡ None) → how_many bound (is_in_set sets (found places) word) ≡ lines_in sets word places
+unfolding found IsSoundRow
+how_many-found n r sets word bound [] sound ends = how_many-none bound (is_in_set sets (found []) word) (λ other. and_right _ _ refl) ∙ sym (lines_in-none sets word)
+how_many-found n r sets word bound (place ∷ places) sound ends = elim (cases_Bool (lies_in sets word place)) [
+  | inl lies ↦
+      let own = place.word.0 in
+      let parts : ((own % sets == word % sets) ≡ true) × (is_held place ≡ true) = and_parts (own % sets == word % sets) (is_held place) lies in
+      let here : found (place ∷ places) own ≡ Some (seen place.line) = at_head place places own (holds_of place own parts.1 refl) in
+      let within : own < bound = elim (cases_lt own bound) [ inl below ↦ below | inr above ↦ absurd (both_ways true (ap is_some (sym here ∙ ends own above)) refl) ] in
+      let one : one_if (lies_in sets word place) ≡ 1 = ap one_if lies in
+      let more = how_many-more bound (is_in_set sets (found places) word) (is_in_set sets (found (place ∷ places)) word) own within (and_right _ _ (ap is_some (sound.0 parts.1).1)) (and_from _ _ parts.0 (ap is_some here)) (λ other ne. ap (λ (line : Option SeenLine). (other % sets == word % sets) && is_some line) (past_head place places other (holds_no_other place other (λ same. ne (sym same))))) in
+      let before = how_many-found n r sets word bound places sound.1 rest in
+      more ∙ omega (arith, lines_in-cons sets word place places)
+  | inr out ↦
+      let none : one_if (lies_in sets word place) ≡ 0 = ap one_if out in
+      let before = how_many-found n r sets word bound places sound.1 rest in
+      how_many-same bound (is_in_set sets (found (place ∷ places)) word) (is_in_set sets (found places) word) (λ other below. outside-head sets word place places other out) ∙ omega (arith, lines_in-cons sets word place places)
+]
+  where
+    rest : (other : ℕ) → bound ≤ other → found places other ≡ None
+    rest other above = none-tail place places other (ends other above)

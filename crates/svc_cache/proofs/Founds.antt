@@ -1,5 +1,5 @@
 -- What `found` answers of a row, and how it changes with one place.
-use Rattle.std.proofs.Common.{◌≡◌, ◌≢◌, ◌∙◌, refl, sym, ap, ℕ, zero, suc, ◌<◌, ◌%◌, true, false, Option, Some, None, List, [], ◌∷◌, length, set, drop, inl, inr, arith}
+use Rattle.std.proofs.Common.{◌≡◌, ◌≢◌, ◌∙◌, refl, sym, ap, ℕ, zero, suc, ◌<◌, ◌%◌, true, false, Option, Some, None, is_some, List, [], ◌∷◌, ◌++◌, length, set, drop, inl, inr, arith}
 use Rattle.std.proofs.lemmas.Bool.{and_parts, and_from, and_left, and_right, both_ways, cases_Bool, cases_eq, eqb-true, eq-eqb, ne_eqb}
 use Rattle.svc_line.specs.Line.{SeenLine, seen}
 use Rattle.svc_cache.specs.declared.place.Place.{Place}
@@ -49,6 +49,16 @@ at_head place places word here = rw here
 pub past_head : (place : Place) (places : List Place) (word : ℕ) → holds place word ≡ false → found (place ∷ places) word ≡ found places word
 unfolding found
 past_head place places word away = rw away
+
+-- a word that is not found is held by no first place, and is not found in the later ones
+pub none-head : (place : Place) (places : List Place) (word : ℕ) → found (place ∷ places) word ≡ None → holds place word ≡ false
+none-head place places word none = elim (cases_Bool (holds place word)) [
+  | inl here ↦ absurd (both_ways true (ap is_some (sym (at_head place places word here) ∙ none)) refl)
+  | inr away ↦ away
+]
+
+pub none-tail : (place : Place) (places : List Place) (word : ℕ) → found (place ∷ places) word ≡ None → found places word ≡ None
+none-tail place places word none = sym (past_head place places word (none-head place places word none)) ∙ none
 
 pub lacks-head : (place : Place) (places : List Place) (n word : ℕ) → LacksBelow (place ∷ places) (suc n) word → holds place word ≡ false
 lacks-head place places n word all = all.lacks 0 (omega arith)
@@ -166,6 +176,27 @@ sound-put sets s (place ∷ places) (suc k) new word sound can held same in_set 
           let ne = not_its_word place word kept (lacks-head place places k word can.first) in
           ((sound.0 kept).0, found-put places k new word rest held same place.word.0 ∙ with_other (found places) word (Some (seen new.line)) place.word.0 ne ∙ (sound.0 kept).1),
       sound-put sets s places k new word sound.1 rest held same in_set,
+    )
+
+-- a line of a word that is not found is put after the others
+pub found-pushed : (places : List Place) (new : Place) (word : ℕ) → found places word ≡ None → is_held new ≡ true → new.word.0 ≡ word → (other : ℕ) → found (places ++ new ∷ []) other ≡ with_line (found places) word (Some (seen new.line)) other
+unfolding found
+found-pushed [] new word none held same other = elim (cases_eq other word) [
+  | inl e ↦ at_head new [] other (holds_of new other held (same ∙ sym e)) ∙ sym (with_same (found []) word (Some (seen new.line)) other e)
+  | inr ne ↦ past_head new [] other (holds_no_other new other (λ e. ne (sym e ∙ same))) ∙ sym (with_other (found []) word (Some (seen new.line)) other ne)
+]
+found-pushed (place ∷ places) new word none held same other =
+    past_change place places (places ++ new ∷ []) word (Some (seen new.line)) other (none-head place places word none) (found-pushed places new word (none-tail place places word none) held same other)
+
+pub sound-pushed : (sets s : ℕ) (places : List Place) (new : Place) (word : ℕ) → IsSoundRow sets s places → found places word ≡ None → is_held new ≡ true → new.word.0 ≡ word → word % sets ≡ s → IsSoundRow sets s (places ++ new ∷ [])
+unfolding found IsSoundRow
+sound-pushed sets s [] new word sound none held same in_set = (λ _. (ap (λ w. w % sets) same ∙ in_set, refl), tt)
+sound-pushed sets s (place ∷ places) new word sound none held same in_set =
+    let later = none-tail place places word none in (
+      λ kept.
+          let ne = not_its_word place word kept (none-head place places word none) in
+          ((sound.0 kept).0, found-pushed places new word later held same place.word.0 ∙ with_other (found places) word (Some (seen new.line)) place.word.0 ne ∙ (sound.0 kept).1),
+      sound-pushed sets s places new word sound.1 later held same in_set,
     )
 
 -- a line is taken out

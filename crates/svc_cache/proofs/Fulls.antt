@@ -1,21 +1,22 @@
 -- What a search for a seat says of the map: whether the word's set is full, and which word leaves first.
-use Rattle.std.proofs.Common.{◌≡◌, ◌∙◌, refl, sym, ap, subst, ℕ, zero, suc, ◌%◌, ◌<◌, ◌≤◌, Bool, true, false, Some, None, is_some, is_none, List, [], ◌∷◌, length, inl, inr, arith}
-use Rattle.std.specs.Prelude.{if◌then◌else◌, nat_lt, not, ◌&&◌, ◌||◌}
+use Rattle.std.proofs.Common.{◌≡◌, ◌∙◌, refl, sym, ap, subst, ℕ, zero, suc, ◌%◌, ◌<◌, ◌≤◌, Bool, true, false, Some, None, Option, is_some, is_none, List, [], ◌∷◌, length, inl, inr, arith}
+use Rattle.std.specs.Prelude.{if◌then◌else◌, nat_le, nat_lt, not, ◌==◌, ◌&&◌, ◌||◌}
 use Rattle.std.specs.Option.{option_or}
-use Rattle.std.proofs.lemmas.Bool.{and_left, and_right, both_ways, cases_Bool, cases_eq, cases_lt, eq-eqb, ne_eqb, le-leb, lt-leb, ltb-false}
-use Rattle.svc_line.specs.Line.{seen}
+use Rattle.std.proofs.lemmas.Bool.{and_from, and_left, and_parts, and_right, both_ways, cases_Bool, cases_eq, cases_lt, eq-eqb, ne_eqb, le-leb, lt-leb, ltb-false}
+use Rattle.svc_line.specs.Line.{SeenLine, seen}
 use Rattle.svc_cache.specs.declared.place.Place.{Place}
-use Rattle.svc_cache.specs.Lines.{EndsBelow, is_committed_line, is_in_set, is_committed_in_set, is_set_full, full_address}
+use Rattle.svc_cache.specs.Lines.{LineMap, EndsBelow, is_committed_line, is_in_set, is_committed_in_set, is_set_full, first_to_leave, full_address}
+use Rattle.svc_cache.specs.Sets.{lies_in, HasNoneBelow, IsFirstBelow}
 use Rattle.svc_cache.specs.Places.{CacheValue, is_held, has_committed, holds, found, line_of, precedes, row_at}
-use Rattle.svc_cache.specs.Rows.{place_at, AreHeld, IsEmptySeat, IsFirstHolder, IsFirstToLeave, IsFullRow, IsSeat}
+use Rattle.svc_cache.specs.Rows.{place_at, IsFirstHolder, IsFoundAt, IsFullRow, IsSeat, LacksBelow}
 use Rattle.svc_cache.specs.Search.{least, how_many}
 use Rattle.svc_cache.specs.Sound.{IsSound, IsSoundRow}
 use Rattle.svc_cache.proofs.Founds.{at_head, past_head, found-here, found-lacks, held_of, holds_of, word_of}
 use Rattle.svc_cache.proofs.Searches.{least-is, least-none, least-same, how_many-same}
-use Rattle.svc_cache.proofs.Counts.{held_count, held_count-empty, held_count-full, how_many-found, found-outside}
+use Rattle.svc_cache.proofs.Counts.{lines_in, lines_in-empty, lines_in-full, how_many-found, found-outside}
 use Rattle.svc_cache.proofs.Caches.{in_some_set, length-row, line-found}
 
--- a place of the row holds the word, and its line is the word's
+-- a place of the list holds the word, and its line is the word's
 record IsHolder (row : List Place) (word k : ℕ) : Type 0 where
   within : k < length row
   here : holds (place_at row k) word ≡ true
@@ -72,128 +73,192 @@ late_committed place victim late is = (not_before (has_committed place) (has_com
 late_active : (place victim : Place) → precedes place victim ≡ false → has_committed victim ≡ false → victim.word.0 ≤ place.word.0
 late_active place victim late is = (not_before (has_committed place) (has_committed victim) place.word.0 victim.word.0 late).1 is
 
--- the words of a row, and its committed words
-abbrev is_found : List Place → ℕ → Bool
-is_found row word = is_some (found row word)
+-- a word of the set has a holder, which lies in the set
+in_set_holder : (sets word : ℕ) (places : List Place) (other : ℕ) → is_in_set sets (found places) word other ≡ true → (k : ℕ) × IsHolder places other k
+in_set_holder sets word places other is = holder_of places other (and_parts (other % sets == word % sets) (is_some (found places other)) is).1
 
-abbrev is_found_committed : List Place → ℕ → Bool
-is_found_committed row word = is_some (found row word) && is_committed_line (found row word)
+holder_lies : (sets word : ℕ) (places : List Place) (other k : ℕ) → is_in_set sets (found places) word other ≡ true → IsHolder places other k → lies_in sets word (place_at places k) ≡ true
+holder_lies sets word places other k is holder =
+    let place = place_at places k in
+    let same : (other % sets == word % sets) ≡ true = (and_parts (other % sets == word % sets) (is_some (found places other)) is).0 in
+    and_from _ _ (ap (λ w. w % sets == word % sets) (word_of place other holder.here) ∙ same) (held_of place other holder.here)
 
 -- a committed word's holder is committed, and no lower than the victim, which is committed
-committed_above : (row : List Place) (victim word : ℕ) → IsFirstToLeave row (length row) victim → is_found_committed row word ≡ true → (has_committed (place_at row victim) ≡ true) × ((place_at row victim).word.0 ≤ word)
-committed_above row victim word leaves is =
-    let parts = split (is_some (found row word)) (is_committed_line (found row word)) is in
-    let holder = holder_of row word parts.0 in
-    let place = place_at row holder.0 in
+committed_above : (sets word : ℕ) (places : List Place) (victim other : ℕ) → IsFirstBelow sets word places (length places) victim → is_committed_in_set sets (found places) word other ≡ true → (has_committed (place_at places victim) ≡ true) × ((place_at places victim).word.0 ≤ other)
+committed_above sets word places victim other leaves is =
+    let parts = and_parts (is_in_set sets (found places) word other) (is_committed_line (found places other)) is in
+    let holder = in_set_holder sets word places other parts.0 in
+    let place = place_at places holder.0 in
     let committed : has_committed place ≡ true = sym (ap is_committed_line holder.1.line) ∙ parts.1 in
-    let late = late_committed place (place_at row victim) (leaves.unpreceded holder.0 holder.1.within) committed in
-    (late.0, subst (λ w. (place_at row victim).word.0 ≤ w) (word_of place word holder.1.here) late.1)
-  where
-    split : (a b : Bool) → (a && b) ≡ true → (a ≡ true) × (b ≡ true)
-    split true b both = (refl, both)
-    split false b both = absurd (both_ways false refl both)
+    let late = late_committed place (place_at places victim) (leaves.unpreceded holder.0 holder.1.within (holder_lies sets word places other holder.0 parts.0 holder.1)) committed in
+    (late.0, subst (λ w. (place_at places victim).word.0 ≤ w) (word_of place other holder.1.here) late.1)
 
--- no word of the row is lower than an uncommitted victim
-active_above : (row : List Place) (victim word : ℕ) → IsFirstToLeave row (length row) victim → has_committed (place_at row victim) ≡ false → is_found row word ≡ true → (place_at row victim).word.0 ≤ word
-active_above row victim word leaves active some =
-    let holder = holder_of row word some in
-    let place = place_at row holder.0 in
-    subst (λ w. (place_at row victim).word.0 ≤ w) (word_of place word holder.1.here) (late_active place (place_at row victim) (leaves.unpreceded holder.0 holder.1.within) active)
+-- no word of the set is lower than an uncommitted victim
+active_above : (sets word : ℕ) (places : List Place) (victim other : ℕ) → IsFirstBelow sets word places (length places) victim → has_committed (place_at places victim) ≡ false → is_in_set sets (found places) word other ≡ true → (place_at places victim).word.0 ≤ other
+active_above sets word places victim other leaves active is =
+    let holder = in_set_holder sets word places other is in
+    let place = place_at places holder.0 in
+    subst (λ w. (place_at places victim).word.0 ≤ w) (word_of place other holder.1.here) (late_active place (place_at places victim) (leaves.unpreceded holder.0 holder.1.within (holder_lies sets word places other holder.0 is holder.1)) active)
 
 -- a test fails where it implies what is not so
 fails : (b : Bool) → (b ≡ true → ⊥) → b ≡ false
 fails true never = absurd (never refl)
 fails false never = refl
 
--- the least committed word of a full row, or its least word where none is committed
-first_of_row : (sets s bound : ℕ) (row : List Place) (victim : ℕ) → IsSoundRow sets s row → ((word : ℕ) → bound ≤ word → found row word ≡ None) → AreHeld row (length row) → IsFirstToLeave row (length row) victim → option_or (least bound (is_found_committed row)) (least bound (is_found row)) ≡ Some (place_at row victim).word.0
-first_of_row sets s bound row victim sound ends all leaves = elim (cases_Bool (has_committed (place_at row victim))) [
+-- the victim is the set's least committed word, or its least word where none is committed
+first_of_set : (n r sets word bound : ℕ) (places : List Place) (victim : ℕ) → IsSoundRow n r places → EndsBelow (found places) bound → IsFirstBelow sets word places (length places) victim → first_to_leave sets bound (found places) word ≡ Some (place_at places victim).word.0
+first_of_set n r sets word bound places victim sound ends leaves = elim (cases_Bool (has_committed (place_at places victim))) [
   | inl committed ↦
-      let test : is_found_committed row named ≡ true = (λ i. is_some (own.line i) && is_committed_line (own.line i)) ∙ committed in
-      ap (λ o. option_or o (least bound (is_found row))) (least-is bound (is_found_committed row) named within test (λ j below. fails _ (λ is. omega (arith, below, (committed_above row victim j leaves is).1))))
+      let test : is_committed_in_set sets (found places) word named ≡ true = and_from _ _ in_set (ap is_committed_line own.line ∙ committed) in
+      ap (λ o. option_or o (least bound (is_in_set sets (found places) word))) (least-is bound (is_committed_in_set sets (found places) word) named within test (λ j below. fails _ (λ is. omega (arith, below, (committed_above sets word places victim j leaves is).1))))
   | inr active ↦
-      ap (λ o. option_or o (least bound (is_found row))) (least-none bound (is_found_committed row) (λ j below. fails _ (λ is. both_ways _ active (committed_above row victim j leaves is).0)))
-      ∙ least-is bound (is_found row) named within (ap is_some own.line) (λ j below. fails _ (λ is. omega (arith, below, active_above row victim j leaves active is)))
+      ap (λ o. option_or o (least bound (is_in_set sets (found places) word))) (least-none bound (is_committed_in_set sets (found places) word) (λ j below. fails _ (λ is. both_ways _ active (committed_above sets word places victim j leaves is).0)))
+      ∙ least-is bound (is_in_set sets (found places) word) named within in_set (λ j below. fails _ (λ is. omega (arith, below, active_above sets word places victim j leaves active is)))
 ]
   where
     named : ℕ
-    named = (place_at row victim).word.0
+    named = (place_at places victim).word.0
 
-    own : IsHolder row (place_at row victim).word.0 victim
-    own = own_holder sets s row victim sound leaves.within (all.held victim leaves.within)
+    lies : (((place_at places victim).word.0 % sets == word % sets) ≡ true) × (is_held (place_at places victim) ≡ true)
+    lies = and_parts ((place_at places victim).word.0 % sets == word % sets) (is_held (place_at places victim)) leaves.lies
 
-    within : (place_at row victim).word.0 < bound
-    within = elim (cases_lt (place_at row victim).word.0 bound) [
+    own : IsHolder places (place_at places victim).word.0 victim
+    own = own_holder n r places victim sound leaves.within lies.1
+
+    in_set : is_in_set sets (found places) word (place_at places victim).word.0 ≡ true
+    in_set = and_from _ _ lies.0 (ap is_some own.line)
+
+    within : (place_at places victim).word.0 < bound
+    within = elim (cases_lt (place_at places victim).word.0 bound) [
       | inl below ↦ below
-      | inr above ↦ absurd (both_ways true (ap is_some (sym own.line ∙ ends _ above)) refl)
+      | inr above ↦ absurd (both_ways true (ap is_some (sym own.line ∙ ends.ends _ above)) refl)
     ]
 
--- the map's tests, by the row of the word
+-- where no place lies in the set, no word leaves
+first_of_none : (sets word bound : ℕ) (places : List Place) → HasNoneBelow sets word places (length places) → first_to_leave sets bound (found places) word ≡ None
+first_of_none sets word bound places has_none =
+    λ i. option_or (least-none bound (is_committed_in_set sets (found places) word) (λ other below. and_left _ _ (none other)) i) (least-none bound (is_in_set sets (found places) word) (λ other below. none other) i)
+  where
+    none : (other : ℕ) → is_in_set sets (found places) word other ≡ false
+    none other = fails _ (λ is.
+        let holder = in_set_holder sets word places other is in
+        both_ways _ (has_none.none holder.0 holder.1.within) (holder_lies sets word places other holder.0 is holder.1))
+
+-- what any map answers: of a word with a line, of a set with room, and of a full set
+full-own : (sets ways bound : ℕ) (lines : LineMap) (word : ℕ) (line : SeenLine) → lines word ≡ Some line → full_address sets ways bound lines word ≡ None
+full-own sets ways bound lines word line here =
+    let not_full : is_set_full sets ways bound lines word ≡ false = and_left _ _ (ap is_none here) in
+    rw not_full
+
+full-few : (sets ways bound : ℕ) (lines : LineMap) (word : ℕ) → how_many bound (is_in_set sets lines word) < ways → full_address sets ways bound lines word ≡ None
+full-few sets ways bound lines word few =
+    let not_full : is_set_full sets ways bound lines word ≡ false = and_right _ _ (lt-leb ways (how_many bound (is_in_set sets lines word)) few) in
+    rw not_full
+
+full-enough : (sets ways bound : ℕ) (lines : LineMap) (word : ℕ) → lines word ≡ None → ways ≤ how_many bound (is_in_set sets lines word) → full_address sets ways bound lines word ≡ first_to_leave sets bound lines word
+full-enough sets ways bound lines word none enough =
+    let is_full : is_set_full sets ways bound lines word ≡ true = and_from _ _ (ap is_none none) (le-leb ways (how_many bound (is_in_set sets lines word)) enough) in
+    rw is_full
+
+-- a search that finds no place has looked at all of them
+pub lacks_all : (places : List Place) (word : ℕ) (place : Option ℕ) → IsFoundAt places word place → is_some place ≡ false → LacksBelow places (length places) word
+lacks_all places word None lacks none = lacks
+lacks_all places word (Some k) first none = absurd (both_ways _ none refl)
+
+-- the answers for a list of places, of which no two hold the same word
+module _ (n r sets ways word : ℕ) (places : List Place) (sound : IsSoundRow n r places) (bound : ℕ) where
+  pub listed-own : (k : ℕ) → IsFirstHolder places word k → full_address sets ways bound (found places) word ≡ None
+  listed-own k first = full-own sets ways bound (found places) word (seen (place_at places k).line) (found-here places k word first)
+
+  pub listed-some : (place : Option ℕ) → IsFoundAt places word place → is_some place ≡ true → full_address sets ways bound (found places) word ≡ None
+  listed-some None lacks some = absurd (both_ways _ refl some)
+  listed-some (Some k) first some = listed-own k first
+
+  pub listed-few : EndsBelow (found places) bound → lines_in sets word places < ways → full_address sets ways bound (found places) word ≡ None
+  listed-few ends few =
+      let count = how_many-found n r sets word bound places sound ends.ends in
+      full-few sets ways bound (found places) word (omega arith)
+
+  listed-enough : EndsBelow (found places) bound → LacksBelow places (length places) word → ways ≤ lines_in sets word places → full_address sets ways bound (found places) word ≡ first_to_leave sets bound (found places) word
+  listed-enough ends lacks enough =
+      let count = how_many-found n r sets word bound places sound ends.ends in
+      full-enough sets ways bound (found places) word (found-lacks places word lacks) (omega arith)
+
+  pub listed-full : (victim : ℕ) → EndsBelow (found places) bound → LacksBelow places (length places) word → ways ≤ lines_in sets word places → IsFirstBelow sets word places (length places) victim → full_address sets ways bound (found places) word ≡ Some (place_at places victim).word.0
+  listed-full victim ends lacks enough leaves = listed-enough ends lacks enough ∙ first_of_set n r sets word bound places victim sound ends leaves
+
+  pub listed-none : EndsBelow (found places) bound → LacksBelow places (length places) word → ways ≤ lines_in sets word places → HasNoneBelow sets word places (length places) → full_address sets ways bound (found places) word ≡ None
+  listed-none ends lacks enough has_none = listed-enough ends lacks enough ∙ first_of_none sets word bound places has_none
+
+-- what is asked of a word depends on the words of its set alone
+module _ (sets ways word : ℕ) (lines others : LineMap) (alike : (other : ℕ) → other % sets ≡ word % sets → lines other ≡ others other) where
+  in_set-alike : (other : ℕ) → is_in_set sets lines word other ≡ is_in_set sets others word other
+  in_set-alike other = elim (cases_eq (other % sets) (word % sets)) [
+    | inl same ↦ ap (λ (line : Option SeenLine). (other % sets == word % sets) && is_some line) (alike other same)
+    | inr ne ↦ and_left _ _ (ne_eqb _ _ ne) ∙ sym (and_left _ _ (ne_eqb _ _ ne))
+  ]
+
+  committed_in_set-alike : (other : ℕ) → is_committed_in_set sets lines word other ≡ is_committed_in_set sets others word other
+  committed_in_set-alike other = elim (cases_eq (other % sets) (word % sets)) [
+    | inl same ↦ ap (λ (line : Option SeenLine). ((other % sets == word % sets) && is_some line) && is_committed_line line) (alike other same)
+    | inr ne ↦ and_left _ _ (and_left _ _ (ne_eqb _ _ ne)) ∙ sym (and_left _ _ (and_left _ _ (ne_eqb _ _ ne)))
+  ]
+
+  full-alike : (bound : ℕ) → full_address sets ways bound lines word ≡ full_address sets ways bound others word
+  full-alike bound =
+      let own : lines word ≡ others word = alike word refl in
+      let count = how_many-same bound (is_in_set sets lines word) (is_in_set sets others word) (λ other below. in_set-alike other) in
+      let committed = least-same bound (is_committed_in_set sets lines word) (is_committed_in_set sets others word) (λ other below. committed_in_set-alike other) in
+      let any = least-same bound (is_in_set sets lines word) (is_in_set sets others word) (λ other below. in_set-alike other) in
+      λ i. if is_none (own i) && nat_le ways (count i) then option_or (committed i) (any i) else None
+
+-- a place of a row that has a line has one of a word of the set
+in_own_set : (sets s : ℕ) (row : List Place) (k : ℕ) → IsSoundRow sets s row → k < length row → is_held (place_at row k) ≡ true → (place_at row k).word.0 % sets ≡ s
+unfolding IsSoundRow
+in_own_set sets s [] k sound within held = absurd (omega (arith, within))
+in_own_set sets s (place ∷ places) zero sound within held = (sound.0 held).0
+in_own_set sets s (place ∷ places) (suc k) sound within held = in_own_set sets s places k sound.1 (omega (arith, within)) held
+
+-- the answers for a cache, by the row of the word
 module _ (cache : CacheValue) (word : ℕ) (sound : IsSound cache) where
-  -- a word of the same set is found in the row, and one of another set is not
+  row_sound : IsSoundRow cache.sets (word % cache.sets) (row_at cache (word % cache.sets))
+  row_sound = sound.rows _ (in_some_set cache word sound)
+
+  -- a word of the same set is found in the row
   within_set : (other : ℕ) → other % cache.sets ≡ word % cache.sets → line_of cache other ≡ found (row_at cache (word % cache.sets)) other
   within_set other same = sym (line-found cache other (row_at cache (word % cache.sets)) (ap (row_at cache) (sym same)))
 
-  in_set-found : (other : ℕ) → is_in_set cache.sets (line_of cache) word other ≡ is_found (row_at cache (word % cache.sets)) other
-  in_set-found other = elim (cases_eq (other % cache.sets) (word % cache.sets)) [
-    | inl same ↦ rw (eq-eqb _ _ same) (ap is_some (within_set other same))
-    | inr ne ↦ rw (ne_eqb _ _ ne) (sym (ap is_some (found-outside cache.sets (word % cache.sets) (row_at cache (word % cache.sets)) other (sound.rows _ (in_some_set cache word sound)) ne)))
-  ]
-
-  committed_in_set-found : (other : ℕ) → is_committed_in_set cache.sets (line_of cache) word other ≡ is_found_committed (row_at cache (word % cache.sets)) other
-  committed_in_set-found other = elim (cases_eq (other % cache.sets) (word % cache.sets)) [
-    | inl same ↦ λ i. in_set-found other i && is_committed_line (within_set other same i)
-    | inr ne ↦
-        let none = found-outside cache.sets (word % cache.sets) (row_at cache (word % cache.sets)) other (sound.rows _ (in_some_set cache word sound)) ne in
-        and_left _ _ (in_set-found other ∙ ap is_some none) ∙ sym (and_left _ _ (ap is_some none))
-  ]
+  by_row : (bound : ℕ) → full_address cache.sets cache.ways bound (line_of cache) word ≡ full_address cache.sets cache.ways bound (found (row_at cache (word % cache.sets))) word
+  by_row bound = full-alike cache.sets cache.ways word (line_of cache) (found (row_at cache (word % cache.sets))) within_set bound
 
   -- past the bound nothing is found in the row
-  row-ends : (bound : ℕ) → EndsBelow (line_of cache) bound → (other : ℕ) → bound ≤ other → found (row_at cache (word % cache.sets)) other ≡ None
-  row-ends bound ends other above = elim (cases_eq (other % cache.sets) (word % cache.sets)) [
-    | inl same ↦ sym (within_set other same) ∙ ends.ends other above
-    | inr ne ↦ found-outside cache.sets (word % cache.sets) (row_at cache (word % cache.sets)) other (sound.rows _ (in_some_set cache word sound)) ne
-  ]
-
-  -- as many words of the set have a line as places of the row
-  set-count : (bound : ℕ) → EndsBelow (line_of cache) bound → how_many bound (is_in_set cache.sets (line_of cache) word) ≡ held_count (row_at cache (word % cache.sets))
-  set-count bound ends =
-      how_many-same bound (is_in_set cache.sets (line_of cache) word) (is_found (row_at cache (word % cache.sets))) (λ other below. in_set-found other)
-      ∙ how_many-found cache.sets (word % cache.sets) bound (row_at cache (word % cache.sets)) (sound.rows _ (in_some_set cache word sound)) (row-ends bound ends)
-
-  pub full-own : (bound k : ℕ) → IsFirstHolder (row_at cache (word % cache.sets)) word k → full_address cache.sets cache.ways bound (line_of cache) word ≡ None
-  full-own bound k first =
-      let here : line_of cache word ≡ Some (seen (place_at (row_at cache (word % cache.sets)) k).line) = within_set word refl ∙ found-here (row_at cache (word % cache.sets)) k word first in
-      let not_full : is_set_full cache.sets cache.ways bound (line_of cache) word ≡ false = and_left _ _ (ap is_none here) in
-      rw not_full
-
-  pub full-empty : (bound k : ℕ) → EndsBelow (line_of cache) bound → IsEmptySeat (row_at cache (word % cache.sets)) word k → full_address cache.sets cache.ways bound (line_of cache) word ≡ None
-  full-empty bound k ends seat =
-      let size = length-row cache (word % cache.sets) sound (in_some_set cache word sound) in
-      let count = set-count bound ends in
-      let few = held_count-empty (row_at cache (word % cache.sets)) k seat.within seat.empty in
-      let fewer : how_many bound (is_in_set cache.sets (line_of cache) word) < cache.ways = omega arith in
-      let not_full : is_set_full cache.sets cache.ways bound (line_of cache) word ≡ false = and_right _ _ (lt-leb cache.ways (how_many bound (is_in_set cache.sets (line_of cache) word)) fewer) in
-      rw not_full
+  row-ends : (bound : ℕ) → EndsBelow (line_of cache) bound → EndsBelow (found (row_at cache (word % cache.sets))) bound
+  row-ends bound ends = record {
+    ends = λ other above. elim (cases_eq (other % cache.sets) (word % cache.sets)) [
+      | inl same ↦ sym (within_set other same) ∙ ends.ends other above
+      | inr ne ↦ found-outside cache.sets (word % cache.sets) (row_at cache (word % cache.sets)) other row_sound ne
+    ];
+  }
 
   pub full-seat : (bound k : ℕ) → EndsBelow (line_of cache) bound → IsSeat (row_at cache (word % cache.sets)) word k → full_address cache.sets cache.ways bound (line_of cache) word ≡ None
-  full-seat bound k ends (inl first) = full-own bound k first
-  full-seat bound k ends (inr seat) = full-empty bound k ends seat
+  full-seat bound k ends (inl first) = by_row bound ∙ listed-own cache.sets (word % cache.sets) cache.sets cache.ways word (row_at cache (word % cache.sets)) row_sound bound k first
+  full-seat bound k ends (inr seat) =
+      let row = row_at cache (word % cache.sets) in
+      let size = length-row cache (word % cache.sets) sound (in_some_set cache word sound) in
+      let few = lines_in-empty cache.sets word row k seat.within seat.empty in
+      by_row bound ∙ listed-few cache.sets (word % cache.sets) cache.sets cache.ways word row row_sound bound (row-ends bound ends) (omega arith)
 
   pub full-full : (bound named : ℕ) → EndsBelow (line_of cache) bound → IsFullRow (row_at cache (word % cache.sets)) word named → full_address cache.sets cache.ways bound (line_of cache) word ≡ Some named
   full-full bound named ends full =
       let row = row_at cache (word % cache.sets) in
       let size = length-row cache (word % cache.sets) sound (in_some_set cache word sound) in
-      let count = set-count bound ends in
-      let all = held_count-full row full.held in
-      let none : line_of cache word ≡ None = within_set word refl ∙ found-lacks row word full.lacks in
-      let enough : cache.ways ≤ how_many bound (is_in_set cache.sets (line_of cache) word) = omega arith in
-      let is_full : is_set_full cache.sets cache.ways bound (line_of cache) word ≡ true = both _ _ (ap is_none none) (le-leb cache.ways (how_many bound (is_in_set cache.sets (line_of cache) word)) enough) in
-      rw is_full (
-      (λ i. option_or (least-same bound (is_committed_in_set cache.sets (line_of cache) word) (is_found_committed row) (λ other below. committed_in_set-found other) i) (least-same bound (is_in_set cache.sets (line_of cache) word) (is_found row) (λ other below. in_set-found other) i))
-      ∙ first_of_row cache.sets (word % cache.sets) bound row full.victim (sound.rows _ (in_some_set cache word sound)) (row-ends bound ends) full.held full.leaves
+      let all = lines_in-full cache.sets word row row_sound full.held in
+      let held : is_held (place_at row full.victim) ≡ true = full.held.held full.victim full.leaves.within in
+      let first : IsFirstBelow cache.sets word row (length row) full.victim = record {
+        within = full.leaves.within;
+        lies = and_from _ _ (eq-eqb _ _ (in_own_set cache.sets (word % cache.sets) row full.victim row_sound full.leaves.within held)) held;
+        unpreceded = λ k below lies. full.leaves.unpreceded k below;
+      } in
+      by_row bound
+      ∙ listed-full cache.sets (word % cache.sets) cache.sets cache.ways word row row_sound bound full.victim (row-ends bound ends) full.lacks (omega arith) first
       ∙ ap Some (sym full.is_named)
-      )
-    where
-      both : (a b : Bool) → a ≡ true → b ≡ true → (a && b) ≡ true
-      both a b first second = λ i. first i && second i

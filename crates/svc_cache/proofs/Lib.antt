@@ -7,3 +7,4 @@ pub mod Caches
 pub mod Searches
 pub mod Counts
 pub mod Fulls
+pub mod Listings

@@ -5,3 +5,5 @@ pub mod Places
 pub mod Rows
 pub mod Sound
 pub mod Changes
+pub mod Sets
+pub mod Listed

@@ -1,98 +1,227 @@
-//! A cache as a searched list of lines: what the rows of places are measured by.
-ghost use Rattle.std.specs.Prelude.{◌≢◌};
+//! A cache as a searched list of places: what the rows of places are measured by.
+ghost use Rattle.std.specs.Prelude.{◌≡◌, ◌+◌, ◌<◌, ◌≤◌, length, count_by};
+ghost use Rattle.svc_cache.specs.Rows.{IsFoundAt};
+ghost use Rattle.svc_cache.specs.Sets.{IsVictimBelow, lies_in};
 
 use super::{Answer, Step, line};
 use crate::SetFull;
+use crate::place::Place;
 use std::alloc::{AllocError, Global};
+use std::marker::Model;
 use svc_base::WordAddr;
 use svc_line::Line;
 
+/// A list of the lines that a cache would have. Contracts see the map `line_in` from word address to
+/// line, and say of it what a cache's contracts say of the cache's map.
 #[derive(Drop)]
 pub(crate) struct SearchedLines {
     sets: u32,
-    ways: usize,
-    lines: Vec<(WordAddr, Line)>,
-    ghost some_sets: { sets ≢ 0 },
+    ways: u32,
+    places: Vec<Place>,
+}
+
+impl Model for SearchedLines {
+    ghost use Rattle.svc_cache.specs.Listed.{ListValue, IsSoundList};
+
+    ghost Value = { ListValue };
+
+    ghost view = { λ list. record { sets = list.sets; ways = list.ways; places = list.places.items } };
+
+    ghost invariant = { λ list. IsSoundList (record { sets = list.sets; ways = list.ways; places = list.places.items }) };
+}
+
+// The first place that holds the word.
+fn place_of(places: &[Place], word: WordAddr) -> Option<usize>
+    ensures { IsFoundAt places.now word.0 result }
+{
+    for place in 0..places.len() {
+        if places[place].holds(word) {
+            return Some(place);
+        }
+    }
+    None
+}
+
+// The place has a line, in the set of the word.
+fn lies_in(place: &Place, sets: u32, word: WordAddr) -> bool
+    requires { 0 < sets }
+    ensures { result ≡ lies_in sets word.0 place.now }
+{
+    place.word.0 % sets == word.0 % sets && place.is_held()
+}
+
+// How many lines the word's set has.
+fn lines_in_set(places: &[Place], sets: u32, word: WordAddr) -> usize
+    requires { 0 < sets }
+    ensures { result ≡ count_by (lies_in sets word.0) places.now }
+{
+    places
+        .iter()
+        .filter(|place| lies_in(place, sets, word))
+        .count()
+}
+
+// Of the word's set, the place that leaves first, when one more place is looked at.
+fn next_victim(
+    places: &[Place],
+    sets: u32,
+    word: WordAddr,
+    place: usize,
+    victim: Option<usize>,
+) -> Option<usize>
+    requires sets { 0 < sets }
+    requires within { place < length places.now }
+    requires before { IsVictimBelow sets word.0 places.now place victim }
+    ensures { IsVictimBelow sets word.0 places.now (place + 1) result }
+{
+    if !lies_in(&places[place], sets, word) {
+        return victim;
+    }
+    let Some(other) = victim else {
+        return Some(place);
+    };
+    if places[place].precedes(&places[other]) {
+        return Some(place);
+    }
+    Some(other)
+}
+
+// Of the word's set, the place that leaves first.
+fn first_to_leave(places: &[Place], sets: u32, word: WordAddr) -> Option<usize>
+    requires { 0 < sets }
+    ensures { IsVictimBelow sets word.0 places.now (length places.now) result }
+{
+    let mut victim = None;
+    for place in 0..places.len() {
+        victim = next_victim(places, sets, word, place, victim);
+    }
+    victim
 }
 
 impl SearchedLines {
-    pub(crate) fn new(alloc: Global, sets: u32, ways: usize) -> SearchedLines
-        requires { sets ≢ 0 }
+    ghost use Rattle.std.specs.Prelude.{◌≡◌, ◌<◌, ℕ, true, Some, None, option_map, IfOk, IfSome, OnOk, OnErr, MatchResult};
+    ghost use Rattle.svc_line.specs.Bits.{bits_of};
+    ghost use Rattle.svc_line.specs.Line.{seen};
+    ghost use Rattle.svc_cache.specs.Lines.{EndsBelow, commit_line, full_address, no_lines, squash_line, with_line};
+    ghost use Rattle.svc_cache.specs.Listed.{line_in};
+
+    /// A list without lines.
+    pub(crate) fn new(alloc: Global, sets: u32, ways: u32) -> SearchedLines
+        requires { 0 < sets }
+        ensures sets { result.sets ≡ sets }
+        ensures ways { result.ways ≡ ways }
+        ensures lines { line_in result ≡ no_lines }
     {
         SearchedLines {
             sets,
             ways,
-            lines: Vec::new(alloc),
+            places: Vec::new(alloc),
         }
     }
 
-    pub(crate) fn perform(&mut self, step: Step) -> Result<Answer, AllocError> {
-        match step {
-            Step::Fill(word, value) => Ok(Answer::Filled(self.fill(WordAddr(word), line(value))?)),
-            Step::Lookup(word) => Ok(Answer::Found(self.lookup(WordAddr(word)))),
-            Step::Full(word) => Ok(Answer::Named(self.full(WordAddr(word)))),
-            Step::Drop(word) => {
-                self.lines.retain(|held| held.0 != WordAddr(word));
-                Ok(Answer::Done)
-            }
-            Step::Commit => {
-                for held in self.lines.iter_mut() {
-                    held.1.bits = held.1.bits.on_commit();
-                }
-                Ok(Answer::Done)
-            }
-            Step::Squash => {
-                self.lines.retain(|held| held.1.bits.is_committed());
-                Ok(Answer::Done)
-            }
-        }
+    /// The line of the word.
+    pub(crate) fn lookup(&self, word: WordAddr) -> Option<Line>
+        ensures line { option_map seen result ≡ line_in self.now word.0 }
+        ensures valid { IfSome result (λ line. (bits_of line.bits).valid ≡ true) }
+    {
+        let place = place_of(&self.places, word)?;
+        Some(self.places[place].line)
     }
 
-    fn lookup(&self, word: WordAddr) -> Option<Line> {
-        for held in &self.lines {
-            if held.0 == word {
-                return Some(held.1);
-            }
-        }
-        None
-    }
-
-    fn full(&self, word: WordAddr) -> Option<WordAddr> {
-        let mut count = 0_usize;
-        let mut least = None;
-        let mut least_committed = None;
-        for held in &self.lines {
-            if held.0 == word {
-                return None;
-            }
-            if held.0.0 % self.sets == word.0 % self.sets {
-                count = count.saturating_add(1);
-                least = lesser(least, held.0);
-                if held.1.bits.is_committed() {
-                    least_committed = lesser(least_committed, held.0);
-                }
-            }
-        }
-        if count < self.ways {
+    /// The word whose line is to be replaced before a line of `word` can be filled, exactly where
+    /// `word` has no line and its set is full.
+    pub(crate) fn full(&self, word: WordAddr) -> Option<WordAddr>
+        ensures address { (bound : ℕ) → EndsBelow (line_in self.now) bound → option_map (λ named. named.0) result ≡ full_address self.now.sets self.now.ways bound (line_in self.now) word.0 }
+    {
+        if place_of(&self.places, word).is_some() {
             return None;
         }
-        least_committed.or(least)
+        if lines_in_set(&self.places, self.sets, word) < self.ways as usize {
+            return None;
+        }
+        let victim = first_to_leave(&self.places, self.sets, word)?;
+        Some(self.places[victim].word)
     }
 
-    fn fill(&mut self, word: WordAddr, line: Line) -> Result<Result<(), SetFull>, AllocError> {
+    /// Puts the line of the word in the list, over the line that the word had, if any. Where the set is
+    /// full, or memory runs out, nothing changes.
+    pub(crate) fn fill(
+        &mut self,
+        word: WordAddr,
+        line: Line,
+    ) -> Result<Result<(), SetFull>, AllocError>
+        requires valid { (bits_of line.bits).valid ≡ true }
+        ensures refused { IfOk result (λ answer. (bound : ℕ) → EndsBelow (line_in self.old) bound → MatchResult answer (λ _. full_address self.old.sets self.old.ways bound (line_in self.old) word.0 ≡ None) (λ e. full_address self.old.sets self.old.ways bound (line_in self.old) word.0 ≡ Some e.0.0)) }
+        ensures memory { OnErr result (self.new ≡ self.old) }
+        ensures unchanged { IfOk result (λ answer. OnErr answer (self.new ≡ self.old)) }
+        ensures line { IfOk result (λ answer. OnOk answer (line_in self.new ≡ with_line (line_in self.old) word.0 (Some (seen line)))) }
+        ensures sets { self.new.sets ≡ self.old.sets }
+        ensures ways { self.new.ways ≡ self.old.ways }
+    {
         if let Some(named) = self.full(word) {
             return Ok(Err(SetFull(named)));
         }
-        self.lines.retain(|held| held.0 != word);
-        self.lines.push((word, line))?;
+        if let Some(place) = place_of(&self.places, word) {
+            self.places[place] = Place { word, line };
+            return Ok(Ok(()));
+        }
+        self.places.push(Place { word, line })?;
         Ok(Ok(()))
     }
-}
 
-// The lesser of two words, where there is a first.
-fn lesser(first: Option<WordAddr>, second: WordAddr) -> Option<WordAddr> {
-    match first {
-        Some(least) if least.0 < second.0 => Some(least),
-        _ => Some(second),
+    /// The word's line, if any, becomes invalid.
+    pub(crate) fn drop_line(&mut self, word: WordAddr)
+        ensures line { line_in self.new ≡ with_line (line_in self.old) word.0 None }
+        ensures sets { self.new.sets ≡ self.old.sets }
+        ensures ways { self.new.ways ≡ self.old.ways }
+    {
+        if let Some(place) = place_of(&self.places, word) {
+            self.places[place] = Place::empty();
+        }
+    }
+
+    /// The unit's task is committed: C is set on every active line.
+    pub(crate) fn for_commit(&mut self)
+        ensures lines { line_in self.new ≡ (λ word. commit_line (line_in self.old word)) }
+        ensures sets { self.new.sets ≡ self.old.sets }
+        ensures ways { self.new.ways ≡ self.old.ways }
+    {
+        for place in 0..self.places.len() {
+            let bits = self.places[place].line.bits;
+            self.places[place].line.bits = bits.on_commit();
+        }
+    }
+
+    /// The unit's task is squashed: every active line becomes invalid.
+    pub(crate) fn for_squash(&mut self)
+        ensures lines { line_in self.new ≡ (λ word. squash_line (line_in self.old word)) }
+        ensures sets { self.new.sets ≡ self.old.sets }
+        ensures ways { self.new.ways ≡ self.old.ways }
+    {
+        for place in 0..self.places.len() {
+            let bits = self.places[place].line.bits;
+            self.places[place].line.bits = bits.on_squash();
+        }
+    }
+
+    // The step's answer.
+    pub(crate) fn perform(&mut self, step: Step) -> Result<Answer, AllocError> {
+        match step {
+            Step::Fill(word, value) => Ok(Answer::Filled(self.fill(WordAddr(word), line(value))?)),
+            Step::Drop(word) => {
+                self.drop_line(WordAddr(word));
+                Ok(Answer::Done)
+            }
+            Step::Lookup(word) => Ok(Answer::Found(self.lookup(WordAddr(word)))),
+            Step::Full(word) => Ok(Answer::Named(self.full(WordAddr(word)))),
+            Step::Commit => {
+                self.for_commit();
+                Ok(Answer::Done)
+            }
+            Step::Squash => {
+                self.for_squash();
+                Ok(Answer::Done)
+            }
+        }
     }
 }
