@@ -1,6 +1,5 @@
 -- The fields of an instruction's word give that instruction.
-use Rattle.std.proofs.Common.{◌≡◌, ℕ, ◌+◌, ◌*◌, ◌^◌, ◌<◌, lit<, Option, Some, None, refl, ap, sym, ◌∙◌, subst, arith}
-use Rattle.std.specs.Prelude.{option_map, ◌==◌, ◌&&◌, ◌↔◌}
+use Rattle.std.proofs.Common.{◌≡◌, lit<, Some, refl, ◌∙◌}
 use Rattle.svc_rv32i.specs.declared.fields.Fields.{Fields}
 use Rattle.svc_rv32i.specs.declared.instr.Comparison.{Comparison}
 use Rattle.svc_rv32i.specs.declared.instr.LoadKind.{LoadKind}
@@ -11,7 +10,7 @@ use Rattle.svc_rv32i.specs.declared.instr.ImmediateShift.{ImmediateShift}
 use Rattle.svc_rv32i.specs.declared.instr.ShiftAmount.{ShiftAmount}
 use Rattle.svc_rv32i.specs.declared.instr.Instr.{Instr}
 use Rattle.svc_rv32i.specs.declared.instr.Instr.TheVariants as i
-use Rattle.svc_rv32i.specs.Words.{word_of, r_type, comparison_code, load_code, store_code, immediate_code, shift_code, shift_sign, operation_code, operation_sign}
+use Rattle.svc_rv32i.specs.Words.{word_of, r_type, comparison_funct3, load_funct3, store_funct3, immediate_funct3, shift_funct3, shift_funct7, operation_funct3, operation_funct7}
 use Rattle.svc_rv32i.specs.Meaning.{instr_of, amount_at, short, long, i_imm, s_imm, b_imm, u_imm, j_imm}
 use Rattle.svc_rv32i.proofs.Tables.{comparison_known, load_known, store_known, immediate_known, shift_known, operation_known, comparison_small, load_small, store_small, immediate_small, shift_small, operation_small}
 use Rattle.svc_rv32i.proofs.Sums.{sum_of, Has, has, i_fields, s_fields, b_fields, u_fields, j_fields}
@@ -34,27 +33,27 @@ jalr_is : (f : Fields) → f.opcode ≡ 103 → f.funct3 ≡ 0 → instr_of f �
 unfolding instr_of
 jalr_is f e g = simp (e, g)
 
-branch_is : (f : Fields) (c : Comparison) → f.opcode ≡ 99 → f.funct3 ≡ comparison_code c → instr_of f ≡ Some (i.Branch c f.rs1 f.rs2 (short (b_imm f)))
+branch_is : (f : Fields) (c : Comparison) → f.opcode ≡ 99 → f.funct3 ≡ comparison_funct3 c → instr_of f ≡ Some (i.Branch c f.rs1 f.rs2 (short (b_imm f)))
 unfolding instr_of
 branch_is f c e g = simp (e, g, comparison_known c)
 
-load_is : (f : Fields) (k : LoadKind) → f.opcode ≡ 3 → f.funct3 ≡ load_code k → instr_of f ≡ Some (i.Load k f.rd f.rs1 (short (i_imm f)))
+load_is : (f : Fields) (k : LoadKind) → f.opcode ≡ 3 → f.funct3 ≡ load_funct3 k → instr_of f ≡ Some (i.Load k f.rd f.rs1 (short (i_imm f)))
 unfolding instr_of
 load_is f k e g = simp (e, g, load_known k)
 
-store_is : (f : Fields) (k : StoreKind) → f.opcode ≡ 35 → f.funct3 ≡ store_code k → instr_of f ≡ Some (i.Store k f.rs1 f.rs2 (short (s_imm f)))
+store_is : (f : Fields) (k : StoreKind) → f.opcode ≡ 35 → f.funct3 ≡ store_funct3 k → instr_of f ≡ Some (i.Store k f.rs1 f.rs2 (short (s_imm f)))
 unfolding instr_of
 store_is f k e g = simp (e, g, store_known k)
 
-immediate_is : (f : Fields) (o : ImmediateOperation) → f.opcode ≡ 19 → f.funct3 ≡ immediate_code o → instr_of f ≡ Some (i.OpImm o f.rd f.rs1 (short (i_imm f)))
+immediate_is : (f : Fields) (o : ImmediateOperation) → f.opcode ≡ 19 → f.funct3 ≡ immediate_funct3 o → instr_of f ≡ Some (i.OpImm o f.rd f.rs1 (short (i_imm f)))
 unfolding instr_of
 immediate_is f o e g = simp (e, g, immediate_known o)
 
-shift_is : (f : Fields) (o : ImmediateShift) → f.opcode ≡ 19 → f.funct3 ≡ shift_code o → f.funct7 ≡ shift_sign o → instr_of f ≡ Some (i.ShiftImm o f.rd f.rs1 (amount_at f))
+shift_is : (f : Fields) (o : ImmediateShift) → f.opcode ≡ 19 → f.funct3 ≡ shift_funct3 o → f.funct7 ≡ shift_funct7 o → instr_of f ≡ Some (i.ShiftImm o f.rd f.rs1 (amount_at f))
 unfolding instr_of
 shift_is f o e g h = simp (e, g, (shift_known o).0, g, h, (shift_known o).1)
 
-registers_is : (f : Fields) (o : Operation) → f.opcode ≡ 51 → f.funct3 ≡ operation_code o → f.funct7 ≡ operation_sign o → instr_of f ≡ Some (i.Op o f.rd f.rs1 f.rs2)
+registers_is : (f : Fields) (o : Operation) → f.opcode ≡ 51 → f.funct3 ≡ operation_funct3 o → f.funct7 ≡ operation_funct7 o → instr_of f ≡ Some (i.Op o f.rd f.rs1 f.rs2)
 unfolding instr_of
 registers_is f o e g h = simp (e, g, h, operation_known o)
 
@@ -103,33 +102,33 @@ instr_known (i.Jalr rd rs1 imm) f e =
     let r = same_register f.rs1 rs1 p.3 in
     jalr_is f p.0 p.2 ∙ cc p.4
 instr_known (i.Branch c rs1 rs2 imm) f e =
-    let p = b_fields f 99 (comparison_code c) rs1.number rs2.number imm (lit< tt) (comparison_small c) rs1.in_range rs2.in_range e in
+    let p = b_fields f 99 (comparison_funct3 c) rs1.number rs2.number imm (lit< tt) (comparison_small c) rs1.in_range rs2.in_range e in
     let q = same_register f.rs1 rs1 p.2 in
     let r = same_register f.rs2 rs2 p.3 in
     branch_is f c p.0 p.1 ∙ cc p.4
 instr_known (i.Load k rd rs1 imm) f e =
-    let p = i_fields f 3 rd.number (load_code k) rs1.number imm (lit< tt) rd.in_range (load_small k) rs1.in_range e in
+    let p = i_fields f 3 rd.number (load_funct3 k) rs1.number imm (lit< tt) rd.in_range (load_small k) rs1.in_range e in
     let q = same_register f.rd rd p.1 in
     let r = same_register f.rs1 rs1 p.3 in
     load_is f k p.0 p.2 ∙ cc p.4
 instr_known (i.Store k rs1 rs2 imm) f e =
-    let p = s_fields f 35 (store_code k) rs1.number rs2.number imm (lit< tt) (store_small k) rs1.in_range rs2.in_range e in
+    let p = s_fields f 35 (store_funct3 k) rs1.number rs2.number imm (lit< tt) (store_small k) rs1.in_range rs2.in_range e in
     let q = same_register f.rs1 rs1 p.2 in
     let r = same_register f.rs2 rs2 p.3 in
     store_is f k p.0 p.1 ∙ cc p.4
 instr_known (i.OpImm o rd rs1 imm) f e =
-    let p = i_fields f 19 rd.number (immediate_code o) rs1.number imm (lit< tt) rd.in_range (immediate_small o) rs1.in_range e in
+    let p = i_fields f 19 rd.number (immediate_funct3 o) rs1.number imm (lit< tt) rd.in_range (immediate_small o) rs1.in_range e in
     let q = same_register f.rd rd p.1 in
     let r = same_register f.rs1 rs1 p.3 in
     immediate_is f o p.0 p.2 ∙ cc p.4
 instr_known (i.ShiftImm o rd rs1 amount) f e =
-    let h = has f 19 rd.number (shift_code o) rs1.number amount.bits (shift_sign o) (lit< tt) rd.in_range (shift_small o) rs1.in_range amount.in_range e in
+    let h = has f 19 rd.number (shift_funct3 o) rs1.number amount.bits (shift_funct7 o) (lit< tt) rd.in_range (shift_small o) rs1.in_range amount.in_range e in
     let q = same_register f.rd rd h.rd in
     let r = same_register f.rs1 rs1 h.rs1 in
     let s = amount_is f amount h.rs2 in
     shift_is f o h.opcode h.funct3 h.funct7 ∙ cc
 instr_known (i.Op o rd rs1 rs2) f e =
-    let h = has f 51 rd.number (operation_code o) rs1.number rs2.number (operation_sign o) (lit< tt) rd.in_range (operation_small o) rs1.in_range rs2.in_range e in
+    let h = has f 51 rd.number (operation_funct3 o) rs1.number rs2.number (operation_funct7 o) (lit< tt) rd.in_range (operation_small o) rs1.in_range rs2.in_range e in
     let q = same_register f.rd rd h.rd in
     let r = same_register f.rs1 rs1 h.rs1 in
     let s = same_register f.rs2 rs2 h.rs2 in

@@ -2,9 +2,12 @@ ghost use Rattle.std.specs.Prelude.{◌≡◌, ℕ, ◌<◌, ◌^◌, ◌↔◌,
 ghost use Rattle.svc_rv32i.specs.Words.{word_of};
 ghost use Rattle.svc_rv32i.specs.Meaning.{register, short, long, amount_at, fields_at, i_imm, s_imm, b_imm, u_imm, j_imm, system_of, immediate_or_shift, instr_of, meaning};
 
-use crate::codes::{comparison_at, immediate_at, load_at, operation_at, shift_at, store_at};
 use crate::fields::Fields;
-use crate::instr::{ImmediateOperation, Instr, Long, Register, ShiftAmount, Short};
+use crate::instr::{
+    Comparison, ImmediateOperation, ImmediateShift, Instr, LoadKind, Long, Operation, Register,
+    ShiftAmount, Short, StoreKind,
+};
+use crate::opcode;
 
 #[tactic(auto, unfolding(crate::specs::Meaning::register), using(crate::proofs::Same::same_register))]
 fn lowest_register(bits: u32) -> Register
@@ -34,7 +37,7 @@ fn i_immediate(f: Fields) -> Short
     ensures { result ≡ short (i_imm f) }
 {
     Short {
-        bits: f.rs2.number as u16 + f.funct7 as u16 * 32,
+        bits: f.rs2.number as u16 + ((f.funct7 as u16) << 5),
     }
 }
 
@@ -43,7 +46,7 @@ fn s_immediate(f: Fields) -> Short
     ensures { result ≡ short (s_imm f) }
 {
     Short {
-        bits: f.rd.number as u16 + f.funct7 as u16 * 32,
+        bits: f.rd.number as u16 + ((f.funct7 as u16) << 5),
     }
 }
 
@@ -54,7 +57,7 @@ fn b_immediate(f: Fields) -> Short
     let rd = f.rd.number as u16;
     let funct7 = f.funct7 as u16;
     Short {
-        bits: rd / 2 + funct7 % 64 * 16 + rd % 2 * 1024 + funct7 / 64 * 2048,
+        bits: (rd >> 1) + (funct7 % 64 << 4) + (rd % 2 << 10) + (funct7 >> 6 << 11),
     }
 }
 
@@ -64,9 +67,9 @@ fn u_immediate(f: Fields) -> Long
 {
     Long {
         bits: f.funct3 as u32
-            + f.rs1.number as u32 * 8
-            + f.rs2.number as u32 * 256
-            + f.funct7 as u32 * 8192,
+            + ((f.rs1.number as u32) << 3)
+            + ((f.rs2.number as u32) << 8)
+            + ((f.funct7 as u32) << 13),
     }
 }
 
@@ -77,12 +80,12 @@ fn j_immediate(f: Fields) -> Long
     let rs2 = f.rs2.number as u32;
     let funct7 = f.funct7 as u32;
     Long {
-        bits: rs2 / 2
-            + funct7 % 64 * 16
-            + rs2 % 2 * 1024
-            + f.funct3 as u32 * 2048
-            + f.rs1.number as u32 * 16384
-            + funct7 / 64 * 524288,
+        bits: (rs2 >> 1)
+            + (funct7 % 64 << 4)
+            + (rs2 % 2 << 10)
+            + ((f.funct3 as u32) << 11)
+            + ((f.rs1.number as u32) << 14)
+            + (funct7 >> 6 << 19),
     }
 }
 
@@ -118,7 +121,7 @@ fn immediate(f: Fields, found: Option<ImmediateOperation>) -> Option<Instr>
             imm: i_immediate(f),
         }),
         None => {
-            let op = shift_at(f.funct3, f.funct7)?;
+            let op = ImmediateShift::from_functs(f.funct3, f.funct7)?;
             Some(Instr::ShiftImm {
                 op,
                 rd: f.rd,
@@ -135,59 +138,59 @@ fn instr_at(f: Fields) -> Option<Instr>
     ensures { result ≡ instr_of f }
 {
     match f.opcode {
-        0b0110111 => Some(Instr::Lui {
+        opcode::LUI => Some(Instr::Lui {
             rd: f.rd,
             imm: u_immediate(f),
         }),
-        0b0010111 => Some(Instr::Auipc {
+        opcode::AUIPC => Some(Instr::Auipc {
             rd: f.rd,
             imm: u_immediate(f),
         }),
-        0b1101111 => Some(Instr::Jal {
+        opcode::JAL => Some(Instr::Jal {
             rd: f.rd,
             imm: j_immediate(f),
         }),
-        0b1100111 if f.funct3 == 0 => Some(Instr::Jalr {
+        opcode::JALR if f.funct3 == 0 => Some(Instr::Jalr {
             rd: f.rd,
             rs1: f.rs1,
             imm: i_immediate(f),
         }),
-        0b1100011 => Some(Instr::Branch {
-            test: comparison_at(f.funct3)?,
+        opcode::BRANCH => Some(Instr::Branch {
+            test: Comparison::from_funct3(f.funct3)?,
             rs1: f.rs1,
             rs2: f.rs2,
             imm: b_immediate(f),
         }),
-        0b0000011 => Some(Instr::Load {
-            kind: load_at(f.funct3)?,
+        opcode::LOAD => Some(Instr::Load {
+            kind: LoadKind::from_funct3(f.funct3)?,
             rd: f.rd,
             rs1: f.rs1,
             imm: i_immediate(f),
         }),
-        0b0100011 => Some(Instr::Store {
-            kind: store_at(f.funct3)?,
+        opcode::STORE => Some(Instr::Store {
+            kind: StoreKind::from_funct3(f.funct3)?,
             rs1: f.rs1,
             rs2: f.rs2,
             imm: s_immediate(f),
         }),
-        0b0010011 => immediate(f, immediate_at(f.funct3)),
-        0b0110011 => Some(Instr::Op {
-            op: operation_at(f.funct3, f.funct7)?,
+        opcode::OP_IMM => immediate(f, ImmediateOperation::from_funct3(f.funct3)),
+        opcode::OP => Some(Instr::Op {
+            op: Operation::from_functs(f.funct3, f.funct7)?,
             rd: f.rd,
             rs1: f.rs1,
             rs2: f.rs2,
         }),
-        0b0001111 if f.funct3 == 0 => Some(Instr::Fence {
+        opcode::MISC_MEM if f.funct3 == 0 => Some(Instr::Fence {
             rd: f.rd,
             rs1: f.rs1,
             imm: i_immediate(f),
         }),
-        0b1110011 => system(f),
+        opcode::SYSTEM => system(f),
         _ => None,
     }
 }
 
-/// The instruction whose word it is, if there is one.
+/// The instruction whose word it is; `None` for a word that is no instruction's, as of another extension or a reserved one.
 #[tactic(auto, unfolding(crate::specs::Meaning::meaning), using(crate::proofs::Exact::meaning_exact))]
 pub fn decode(word: u32) -> Option<Instr>
     ensures exact { (i : Instr) → (result ≡ Some i) ↔ (word_of i ≡ word) }
@@ -196,7 +199,15 @@ pub fn decode(word: u32) -> Option<Instr>
     instr_at(split(word))
 }
 
-/// A word means the instruction whose word it is.
+/// A law of the definitions: a word of 32 bits means the instruction whose word it is.
+#[tactic(auto, using(crate::proofs::Exact::meaning_exact))]
 pub fn one_meaning()
     ensures { (word : ℕ) (i : Instr) → word < 2 ^ 32 → (meaning word ≡ Some i) ↔ (word_of i ≡ word) }
+{}
+
+/// Laws of the definitions: an instruction's word has 32 bits, and two instructions of one word are equal.
+#[tactic(auto, using(crate::proofs::Bounds::word_bound, crate::proofs::Exact::same_instr))]
+pub fn one_word()
+    ensures fits { (i : Instr) → word_of i < 2 ^ 32 }
+    ensures same { (i j : Instr) → word_of i ≡ word_of j → i ≡ j }
 {}
