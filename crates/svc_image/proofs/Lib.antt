@@ -1,1 +1,7 @@
-pub mod Marks
+pub mod Flags
+pub mod Wordwise
+pub mod Checks
+pub mod Chunks
+pub mod Files
+pub mod Building
+pub mod FilesBack

@@ -1,2 +1,5 @@
 pub mod Image
 pub mod Fields
+pub mod Format
+pub mod Reading
+pub mod Faults

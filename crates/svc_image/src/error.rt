@@ -1,6 +1,7 @@
 // Why bytes are no image.
 
 ghost use Rattle.std.specs.Prelude.{◌≡◌};
+ghost use Rattle.svc_image.specs.Faults.{fault_number};
 ghost use Rattle.svc_image.specs.declared.error.ImageError.TheVariants.{Memory};
 
 use std::alloc::AllocError;
@@ -37,6 +38,25 @@ pub enum ImageError {
     /// Memory ran out.
     #[error("out of memory")]
     Memory,
+}
+
+impl ImageError {
+    /// The fault's number, from 1 to 9, as the program prints it.
+    pub fn number(self) -> u8
+        ensures { result ≡ fault_number self }
+    {
+        match self {
+            ImageError::Short => 1,
+            ImageError::Magic => 2,
+            ImageError::Version => 3,
+            ImageError::Count => 4,
+            ImageError::EntryOrder => 5,
+            ImageError::EntryPlace => 6,
+            ImageError::Start => 7,
+            ImageError::Trailing => 8,
+            ImageError::Memory => 9,
+        }
+    }
 }
 
 impl From<AllocError> for ImageError {

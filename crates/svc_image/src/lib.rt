@@ -1,10 +1,19 @@
 //! Images: the programs that the simulator runs, and the loader of their files.
 #![tactic(auto)]
 
+mod check;
 mod error;
 mod fetched;
+mod header;
 mod image;
+mod layout;
+mod marks;
+pub mod samples;
+mod words;
 
 pub use error::ImageError;
 pub use fetched::Fetched;
 pub use image::Image;
+
+#[cfg(test)]
+mod tests;

@@ -1,0 +1,48 @@
+use Rattle.std.proofs.Common.{◌≡◌, ◌∙◌, sym, ap, refl, ℕ, List, None, Ok}
+use Rattle.std.proofs.lemmas.Result.{err_from_is_err_and}
+use Rattle.svc_image.specs.declared.header.Header.{Header}
+use Rattle.svc_image.specs.Format.{header_checks, entries_checks, end_checks, entry_count_in, first_of}
+use Rattle.svc_image.specs.Reading.{checked, header_in}
+use Rattle.svc_image.proofs.Checks.{checked-Err, checked-Ok, fault-header, fault-entries, fault-end}
+use Rattle.svc_image.proofs.check.check.Goals as goal
+
+-- the header of a file whose header has no fault
+of_header : (bytes : List ℕ) (header : Header) → Ok header ≡ checked (first_of (header_checks bytes)) (header_in bytes)
+    → (first_of (header_checks bytes) ≡ None) × (header ≡ header_in bytes)
+of_header bytes header same = checked-Ok (first_of (header_checks bytes)) (header_in bytes) header same
+
+-- the entries, by the header's count
+entries_of : (bytes : List ℕ) (header : Header) → header ≡ header_in bytes
+    → first_of (entries_checks bytes header.entries) ≡ first_of (entries_checks bytes (entry_count_in bytes))
+entries_of bytes header same = ap (λ (h : Header). first_of (entries_checks bytes h.entries)) same
+
+pub returns-in_err-header-clause-value : goal.returns-in_err-header-clause-value
+returns-in_err-header-clause-value c =
+    let p = err_from_is_err_and c.from_residual.result c.from_residual.ensures.1 in
+    let here = checked-Err (first_of (header_checks c.args.bytes.now)) (header_in c.args.bytes.now) _ c.in_err-header.ensures.value in
+    rw (p.1, p.2, fault-header c.args.bytes.now _ here) refl
+
+pub returns-in_err-check_entries-clause-value : goal.returns-in_err-check_entries-clause-value
+returns-in_err-check_entries-clause-value c =
+    let p = err_from_is_err_and c.from_residual-in_err-check_entries.result c.from_residual-in_err-check_entries.ensures.1 in
+    let header = of_header c.args.bytes.now c.in_ok-header.header c.in_ok-header.ensures.value in
+    let here = checked-Err (first_of (entries_checks c.args.bytes.now c.in_ok-header.header.entries)) tt _ c.in_err-check_entries.ensures.value in
+    let all = fault-entries c.args.bytes.now _ header.0 (sym (entries_of c.args.bytes.now c.in_ok-header.header header.1) ∙ here) in
+    rw (p.1, p.2, all) refl
+
+pub returns-in_err-check_end-clause-value : goal.returns-in_err-check_end-clause-value
+returns-in_err-check_end-clause-value c =
+    let p = err_from_is_err_and c.from_residual-in_err-check_end.result c.from_residual-in_err-check_end.ensures.1 in
+    let header = of_header c.args.bytes.now c.in_ok-header.header c.in_ok-header.ensures.value in
+    let entries = checked-Ok (first_of (entries_checks c.args.bytes.now c.in_ok-header.header.entries)) tt _ c.in_ok-check_entries.ensures.value in
+    let here = checked-Err (first_of (end_checks c.args.bytes.now)) tt _ c.in_err-check_end.ensures.value in
+    let all = fault-end c.args.bytes.now header.0 (sym (entries_of c.args.bytes.now c.in_ok-header.header header.1) ∙ entries.0) ∙ here in
+    rw (p.1, p.2, all) refl
+
+pub returns-clause-value : goal.returns-clause-value
+returns-clause-value c =
+    let header = of_header c.args.bytes.now c.in_ok-header.header c.in_ok-header.ensures.value in
+    let entries = checked-Ok (first_of (entries_checks c.args.bytes.now c.in_ok-header.header.entries)) tt _ c.in_ok-check_entries.ensures.value in
+    let here = checked-Ok (first_of (end_checks c.args.bytes.now)) tt _ c.in_ok-check_end.ensures.value in
+    let all = fault-end c.args.bytes.now header.0 (sym (entries_of c.args.bytes.now c.in_ok-header.header header.1) ∙ entries.0) ∙ here.0 in
+    rw (all, header.1) refl

@@ -1,0 +1,138 @@
+-- Image files, version 1: where each field stands, the bytes of an image, and the first fault of any bytes. Numbers stand lowest byte first.
+use Rattle.std.specs.Prelude.{ℕ, zero, suc, ◌+◌, ◌*◌, ◌%◌, Bool, false, not, ◌&&◌, List, [], ◌∷◌, ◌++◌, length, drop, Option, Some, None, nat_eq, nat_lt, nat_le, ◌==◌, if◌then◌else◌}
+use Rattle.std.specs.List.{flat_map, list_any, starts_with}
+use Rattle.byteorder.specs.Endian.{little_bytes, little_number}
+use Rattle.svc_image.specs.declared.error.ImageError.{ImageError}
+use Rattle.svc_image.specs.declared.error.ImageError.TheVariants.{Short, Magic, Version, Count, EntryOrder, EntryPlace, Start, Trailing}
+use Rattle.svc_image.specs.Image.{Image}
+
+-- `SVCI`, with which every image begins
+abbrev pub magic : List ℕ
+magic = 83 ∷ 86 ∷ 67 ∷ 73 ∷ []
+
+-- the bytes of a number of 16 bits, of one of 32 bits, and of words one after another
+unfoldable pub bytes_of_half : ℕ → List ℕ
+bytes_of_half number = little_bytes 2 number
+
+unfoldable pub bytes_of_word : ℕ → List ℕ
+bytes_of_word number = little_bytes 4 number
+
+unfoldable pub bytes_of_words : List ℕ → List ℕ
+bytes_of_words words = flat_map bytes_of_word words
+
+-- the bytes of an image: magic, version, the counts of entries, text words and data words, the limit, the start, then the registers, the entries, the text and the data
+unfoldable pub file_of : Image → List ℕ
+file_of img =
+    magic ++ (bytes_of_half 1 ++ (bytes_of_half (length img.entries) ++ (bytes_of_word (length img.text)
+    ++ (bytes_of_word (length img.words) ++ (bytes_of_word img.limit ++ (bytes_of_word img.start
+    ++ (bytes_of_words img.registers ++ (bytes_of_words img.entries
+    ++ (bytes_of_words img.text ++ bytes_of_words img.words)))))))))
+
+-- the number of 16 bits, and that of 32 bits, at a place of the file
+unfoldable pub half_at : List ℕ → ℕ → ℕ
+half_at bytes place = little_number 2 (drop place bytes)
+
+unfoldable pub word_at : List ℕ → ℕ → ℕ
+word_at bytes place = little_number 4 (drop place bytes)
+
+-- the first n words of some bytes
+unfoldable pub words_in : ℕ → List ℕ → List ℕ
+words_in zero bytes = []
+words_in (suc n) bytes = word_at bytes 0 ∷ words_in n (drop 4 bytes)
+
+-- the fields of a file, each at its place
+abbrev pub version_in : List ℕ → ℕ
+version_in bytes = half_at bytes 4
+
+abbrev pub entry_count_in : List ℕ → ℕ
+entry_count_in bytes = half_at bytes 6
+
+abbrev pub text_count_in : List ℕ → ℕ
+text_count_in bytes = word_at bytes 8
+
+abbrev pub data_count_in : List ℕ → ℕ
+data_count_in bytes = word_at bytes 12
+
+abbrev pub limit_in : List ℕ → ℕ
+limit_in bytes = word_at bytes 16
+
+abbrev pub start_in : List ℕ → ℕ
+start_in bytes = word_at bytes 20
+
+abbrev pub registers_in : List ℕ → List ℕ
+registers_in bytes = words_in 31 (drop 24 bytes)
+
+abbrev pub entry_in : List ℕ → ℕ → ℕ
+entry_in bytes k = word_at bytes (148 + 4 * k)
+
+abbrev pub entries_in : List ℕ → List ℕ
+entries_in bytes = words_in (entry_count_in bytes) (drop 148 bytes)
+
+-- where the text begins, where the data begins, and where the file ends
+abbrev pub text_place : List ℕ → ℕ
+text_place bytes = 148 + 4 * entry_count_in bytes
+
+abbrev pub data_place : List ℕ → ℕ
+data_place bytes = text_place bytes + 4 * text_count_in bytes
+
+abbrev pub end_place : List ℕ → ℕ
+end_place bytes = data_place bytes + 4 * data_count_in bytes
+
+-- a check of the format: whether the bytes fail it, and the fault that this is
+abbrev pub Check : Type 0
+Check = Bool × ImageError
+
+-- the fault of the first check that fails
+abbrev pub first_of : List Check → Option ImageError
+first_of [] = None
+first_of (check ∷ rest) = if check.0 then Some check.1 else first_of rest
+
+-- the field that would end at this place isn't whole
+abbrev pub ends_before : List ℕ → ℕ → Check
+ends_before bytes place = (nat_lt (length bytes) place, Short)
+
+-- a count isn't from 1 to the most
+unfoldable pub is_outside : ℕ → ℕ → Bool
+is_outside most count = not (nat_le 1 count && nat_le count most)
+
+-- the checks up to the registers, each field's after that it is whole; the start waits for the entries, and any register is sound
+unfoldable pub header_checks : List ℕ → List Check
+header_checks bytes =
+    ends_before bytes 4 ∷ (not (starts_with nat_eq bytes magic), Magic)
+    ∷ ends_before bytes 6 ∷ (not (version_in bytes == 1), Version)
+    ∷ ends_before bytes 8 ∷ (is_outside 1024 (entry_count_in bytes), Count)
+    ∷ ends_before bytes 12 ∷ (is_outside 65536 (text_count_in bytes), Count)
+    ∷ ends_before bytes 16 ∷ (is_outside 65536 (data_count_in bytes), Count)
+    ∷ ends_before bytes 20 ∷ (is_outside 65536 (limit_in bytes), Count)
+    ∷ ends_before bytes 24
+    ∷ ends_before bytes 148 ∷ []
+
+-- the k-th entry isn't above the one before it
+abbrev pub falls : List ℕ → ℕ → Bool
+falls bytes zero = false
+falls bytes (suc k) = nat_le (entry_in bytes (suc k)) (entry_in bytes k)
+
+-- no word of the text starts at the k-th entry
+abbrev pub is_misplaced : List ℕ → ℕ → Bool
+is_misplaced bytes k = not (entry_in bytes k % 4 == 0 && nat_lt (entry_in bytes k) (4 * text_count_in bytes))
+
+-- the checks of the k-th entry
+unfoldable pub entry_checks : List ℕ → ℕ → List Check
+entry_checks bytes k =
+    ends_before bytes (148 + 4 * k + 4) ∷ (falls bytes k, EntryOrder) ∷ (is_misplaced bytes k, EntryPlace) ∷ []
+
+-- the checks of the first n entries, in turn
+unfoldable pub entries_checks : List ℕ → ℕ → List Check
+entries_checks bytes zero = []
+entries_checks bytes (suc k) = entries_checks bytes k ++ entry_checks bytes k
+
+-- the checks after the last entry: the start, that text and data are whole, and that nothing follows
+unfoldable pub end_checks : List ℕ → List Check
+end_checks bytes =
+    (not (list_any (λ e. e == start_in bytes) (entries_in bytes)), Start)
+    ∷ ends_before bytes (end_place bytes)
+    ∷ (nat_lt (end_place bytes) (length bytes), Trailing) ∷ []
+
+-- the first fault of any bytes
+unfoldable pub fault : List ℕ → Option ImageError
+fault bytes = first_of (header_checks bytes ++ (entries_checks bytes (entry_count_in bytes) ++ end_checks bytes))

@@ -1,0 +1,27 @@
+// Where the fields of an image file stand, and their limits: version 1 of the format.
+
+/// The bytes with which every image begins.
+pub const MAGIC: [u8; 4] = *b"SVCI";
+/// The version of the format.
+pub const VERSION: u32 = 1;
+
+/// The most entries of an image.
+pub const MOST_ENTRIES: u32 = 1024;
+/// The most text words, the most data words, and the greatest limit of turns.
+pub const MOST_WORDS: u32 = 65_536;
+
+pub const VERSION_PLACE: usize = 4;
+
+pub const ENTRY_COUNT_PLACE: usize = 6;
+
+pub const TEXT_COUNT_PLACE: usize = 8;
+
+pub const DATA_COUNT_PLACE: usize = 12;
+
+pub const LIMIT_PLACE: usize = 16;
+
+pub const START_PLACE: usize = 20;
+
+pub const REGISTERS_PLACE: usize = 24;
+
+pub const ENTRIES_PLACE: usize = 148;
