@@ -1,10 +1,1 @@
-pub mod Numbers
-pub mod State
-pub mod Local
-pub mod Bytes
-pub mod Turns
-pub mod Program
-pub mod Words
-pub mod Sequence
-pub mod Bursts
 pub mod Places

@@ -1,10 +1,10 @@
 // Loads and stores on a memory of words.
 
 ghost use Rattle.std.specs.Prelude.{◌≡◌, ◌==◌, ◌+◌, ◌*◌, ◌/◌, ◌^◌, ◌<◌, ◌≤◌, ◌%◌, IfOk};
-ghost use Rattle.svc_core.specs.Numbers.{extended, load_bytes, store_bytes};
-ghost use Rattle.svc_core.specs.Turns.{access_trap, word_address, lane_of};
+ghost use Rattle.svc_core_laws.specs.Numbers.{extended, load_bytes, store_bytes};
+ghost use Rattle.svc_core_laws.specs.Turns.{access_trap, word_address, lane_of};
 ghost use Rattle.svc_core.specs.Places.{trap_of};
-ghost use Rattle.svc_core.specs.Words.{loaded, stored};
+ghost use Rattle.svc_core_laws.specs.Words.{loaded, stored};
 
 use svc_rv32i::{LoadKind, StoreKind};
 
@@ -137,7 +137,7 @@ fn lowest(kind: LoadKind, bytes: u32) -> u32
 }
 
 // What comes into the register, by the kind of the load.
-#[tactic(auto, unfolding(crate::specs::Numbers::extended))]
+#[tactic(auto, unfolding(svc_core_laws::specs::Numbers::extended))]
 fn extend(kind: LoadKind, number: u32) -> u32
     requires { number < 256 ^ load_bytes kind }
     ensures { result ≡ extended kind number }

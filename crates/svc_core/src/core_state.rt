@@ -1,11 +1,12 @@
 // A core: where a task stands.
 
-ghost use Rattle.std.specs.Prelude.{◌≡◌, ◌≤◌, ◌<◌, ◌+◌, true, is_none};
+ghost use Rattle.std.specs.Prelude.{◌≡◌, ◌≤◌, ◌<◌, ◌+◌, true, IsTrue, ◌↔◌, is_none};
 ghost use Rattle.svc_image.specs.Image.{is_entry};
-ghost use Rattle.svc_core.specs.State.{value_of, start, ended};
+ghost use Rattle.svc_core_laws.specs.State.{value_of, start, ended};
+ghost use Rattle.svc_core_laws.specs.Same.{same_end, same_words, same_state};
 
-use crate::end::End;
 use std::marker::Model;
+use svc_core_laws::End;
 use svc_image::Image;
 use svc_rv32i::Register;
 
@@ -21,7 +22,7 @@ pub struct Core {
 }
 
 impl Model for Core {
-    ghost use Rattle.svc_core.specs.State.{State, IsCore};
+    ghost use Rattle.svc_core_laws.specs.State.{State, IsCore};
 
     ghost Value = { State };
 
@@ -117,4 +118,42 @@ impl Core {
     {
         self.done.is_none()
     }
+
+    /// Whether two cores are one.
+    pub fn is_same(&self, other: &Core) -> bool
+        ensures test { result ≡ same_state self.now other.now }
+        ensures same { IsTrue result ↔ (self.now ≡ other.now) }
+    {
+        self.has_same_fields(other)
+    }
+
+    fn has_same_fields(&self, other: &Core) -> bool
+        ensures { result ≡ same_state self.now other.now }
+    {
+        self.pc == other.pc
+            && self.count == other.count
+            && self.emitted == other.emitted
+            && self.limit == other.limit
+            && is_same_end(self.done, other.done)
+            && are_same_words(&self.regs, &other.regs)
+    }
+}
+
+fn is_same_end(a: Option<End>, b: Option<End>) -> bool
+    ensures { result ≡ same_end a b }
+{
+    match (a, b) {
+        (None, None) => true,
+        (Some(End::Next(a)), Some(End::Next(b))) => a == b,
+        (Some(End::Exit(a)), Some(End::Exit(b))) => a == b,
+        (Some(End::Trap(a)), Some(End::Trap(b))) => a == b,
+        _ => false,
+    }
+}
+
+#[tactic(auto, using(svc_core_laws::proofs::SameCore::words))]
+fn are_same_words(a: &[u32; 32], b: &[u32; 32]) -> bool
+    ensures { result ≡ same_words a.now b.now }
+{
+    *a == *b
 }

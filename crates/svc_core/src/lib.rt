@@ -1,21 +1,17 @@
-//! Tasks: what their turns do, the sequential program, and bursts of turns outside the lock.
+//! Tasks in code: cores that turn in place, loads and stores by words, and bursts outside the lock.
 #![tactic(auto)]
 
 mod access;
-mod ask;
 mod burst;
 mod core_state;
-mod end;
-mod laws;
 mod numbers;
+mod step;
 mod turn;
 
 pub use access::{DATA_START, Place, load_place, loaded, store_place, stored};
-pub use ask::Ask;
 pub use burst::{Burst, Lease, MAX_BURST_TURNS};
 pub use core_state::Core;
-pub use end::{End, Ending};
-pub use laws::{
-    bytes_of_a_word, due_is_entry, ended_task_stays, every_task_ends, one_turn_more, same_part,
-    sequence_on_words, turns_on_words,
-};
+pub use svc_core_laws::{Ask, End, Ending};
+
+#[cfg(test)]
+mod tests;

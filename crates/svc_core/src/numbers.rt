@@ -1,7 +1,7 @@
 // Immediates, operations and comparisons of 32 bits.
 
 ghost use Rattle.std.specs.Prelude.{◌≡◌};
-ghost use Rattle.svc_core.specs.Numbers.{operated, on_registers, shift_on_registers, compared, short_value, branch_offset, jump_offset, upper_value};
+ghost use Rattle.svc_core_laws.specs.Numbers.{operated, on_registers, shift_on_registers, compared, short_value, branch_offset, jump_offset, upper_value};
 
 use svc_rv32i::{Comparison, ImmediateOperation, ImmediateShift, Long, Operation, Short};
 
@@ -52,7 +52,7 @@ pub(crate) fn value_of_upper(imm: Long) -> u32
 
 // What an operation gives for its two numbers.
 #[inline]
-#[tactic(auto, unfolding(crate::specs::Numbers::operated))]
+#[tactic(auto, unfolding(svc_core_laws::specs::Numbers::operated))]
 pub(crate) fn operate(op: Operation, a: u32, b: u32) -> u32
     ensures { result ≡ operated op a b }
 {
@@ -97,7 +97,7 @@ pub(crate) fn shift_with_registers(op: ImmediateShift) -> Operation
 
 // Whether a branch is taken.
 #[inline]
-#[tactic(auto, unfolding(crate::specs::Numbers::compared))]
+#[tactic(auto, unfolding(svc_core_laws::specs::Numbers::compared))]
 pub(crate) fn compare(test: Comparison, a: u32, b: u32) -> bool
     ensures { result ≡ compared test a b }
 {

@@ -1,9 +1,0 @@
-pub mod Memory
-pub mod Central
-pub mod OnWords
-pub mod ImageBytes
-pub mod Parts
-pub mod Sequential
-pub mod Ends
-pub mod Looks
-pub mod Means

@@ -1,5 +1,0 @@
-use Rattle.svc_core.proofs.Central.{part_agrees}
-use Rattle.svc_core.proofs.laws.same_part.Goals as goal
-
-pub returns : goal.returns
-returns g c = part_agrees

@@ -1,0 +1,82 @@
+// Traps in their order; a turn that traps changes nothing but the count and the end.
+
+use super::core_with;
+use crate::{Ask, Core, End};
+
+// A fetched word, the numbers in x10 and x17, the words put out before, and how the turn ends.
+const ENDS: [(Option<u32>, u32, u32, u8, End); 14] = [
+    (None, 0, 0, 0, End::Trap(2)),
+    // no instruction: 0, FENCE.I, SLLI with a bit of funct7, a half instruction
+    (Some(0), 0, 0, 0, End::Trap(3)),
+    (Some(0x0000100F), 0, 0, 0, End::Trap(3)),
+    (Some(0x02029393), 0, 0, 0, End::Trap(3)),
+    (Some(0x00000001), 0, 0, 0, End::Trap(3)),
+    // JAL x7, 2; JALR x7, 2(x0); BEQ x5, x6, 2
+    (Some(0x002003EF), 0, 0, 0, End::Trap(4)),
+    (Some(0x002003E7), 0, 0, 0, End::Trap(4)),
+    (Some(0x00628163), 0, 0, 0, End::Trap(4)),
+    // ECALL
+    (Some(0x00000073), 7, 0, 64, End::Exit(7)),
+    (Some(0x00000073), 7, 2, 0, End::Trap(7)),
+    (Some(0x00000073), 7, 0xFFFFFFFF, 64, End::Trap(7)),
+    (Some(0x00000073), 7, 1, 64, End::Trap(9)),
+    // EBREAK
+    (Some(0x00100073), 7, 0, 0, End::Trap(8)),
+    (Some(0x00100073), 7, 1, 64, End::Trap(8)),
+];
+
+#[test]
+fn ends_of_one_turn(rt: HostRuntime) {
+    for (word, x10, x17, emitted, end) in &ENDS {
+        if *emitted <= 64 {
+            let mut core = core_with(0x100, 0, 0);
+            core.regs[10] = *x10;
+            core.regs[17] = *x17;
+            core.emitted = *emitted;
+            let before = core;
+            let ask = core.try_turn(*word);
+            assert_eq!(rt; (ask, core.done), (Ask::Nothing, Some(*end)), "{word:?}");
+            assert!(rt; core.count == 1 && core.pc == before.pc && core.regs == before.regs);
+            assert!(rt; core.emitted == before.emitted && core.limit == before.limit);
+        }
+    }
+}
+
+// The limit comes before the fetch, and the fetch before what the word means.
+#[test]
+fn the_limit_comes_first(rt: HostRuntime) {
+    for word in [None, Some(0), Some(0x00000013), Some(0x00100073)] {
+        let mut core = core_with(0x100, 0, 0);
+        core.count = 100;
+        let ask = core.try_turn(word);
+        assert_eq!(rt;
+            (ask, core.done, core.count),
+            (Ask::Nothing, Some(End::Trap(1)), 101)
+        );
+    }
+}
+
+// The 64th word is put out.
+#[test]
+fn the_last_word_is_asked(rt: HostRuntime) {
+    let mut core = core_with(0x100, 0, 0);
+    core.regs[10] = 5;
+    core.regs[17] = 1;
+    core.emitted = 63;
+    let ask = core.try_turn(Some(0x00000073));
+    assert_eq!(rt; (ask, core.count, core.emitted), (Ask::Emit(5), 0, 63));
+}
+
+// A running core ends at an entry, and one that has ended stays.
+#[test]
+fn entries_end_running_tasks(rt: HostRuntime) {
+    let mut core = core_with(0x100, 0, 0);
+    core.arrive(false);
+    assert_eq!(rt; core.done, None);
+    core.arrive(true);
+    assert_eq!(rt; (core.done, core.count), (Some(End::Next(0x100)), 0));
+    let mut trapped: Core = core_with(0x100, 0, 0);
+    trapped.trap(6);
+    trapped.arrive(true);
+    assert_eq!(rt; (trapped.done, trapped.count), (Some(End::Trap(6)), 1));
+}

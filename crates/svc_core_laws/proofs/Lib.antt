@@ -1,0 +1,11 @@
+pub mod Memory
+pub mod Central
+pub mod OnWords
+pub mod ImageBytes
+pub mod Parts
+pub mod Sequential
+pub mod Ends
+pub mod Looks
+pub mod Means
+pub mod SameCore
+pub mod OneStep

@@ -1,0 +1,54 @@
+// How tasks and runs end.
+
+ghost use Rattle.std.specs.Prelude.{◌≡◌};
+ghost use Rattle.svc_core_laws.specs.Sequence.{ending_of, goes_on_at};
+
+/// How a task ended.
+#[derive(Clone, Copy, Debug, PartialEq, Eq)]
+pub enum End {
+    /// The task came to the entry at this byte address, where the next task begins.
+    Next(u32),
+    /// The program asked to exit with this code.
+    Exit(u32),
+    /// A turn trapped. The numbers are 1 to 9: the limit of turns, a fetch outside the text, an illegal
+    /// word, a target that isn't a multiple of 4, a load or store that isn't aligned, one outside the data,
+    /// an unknown environment call, a breakpoint, a 65th word put out.
+    Trap(u8),
+}
+
+/// How a run ended, or why it goes on no further.
+#[derive(Clone, Copy, Debug, PartialEq, Eq)]
+pub enum Ending {
+    /// The program exited with this code.
+    Exit(u32),
+    /// The last task trapped with this number.
+    Trap(u8),
+    /// No further event is accepted; the task at this entry would be next.
+    Full(u32),
+    /// The task at this entry is next.
+    Open(u32),
+}
+
+impl Ending {
+    /// The ending of a run by the end that has stopped it, if one has, and the entry that is due.
+    pub fn of(full: bool, stopped: Option<End>, due: Option<u32>) -> Ending
+        ensures { result ≡ ending_of full stopped due }
+    {
+        match stopped {
+            Some(End::Exit(code)) => Ending::Exit(code),
+            Some(End::Trap(number)) => Ending::Trap(number),
+            Some(End::Next(entry)) => Ending::going_on(full, entry),
+            None => Ending::going_on(full, due.unwrap_or(0)),
+        }
+    }
+
+    fn going_on(full: bool, entry: u32) -> Ending
+        ensures { result ≡ goes_on_at full entry }
+    {
+        if full {
+            Ending::Full(entry)
+        } else {
+            Ending::Open(entry)
+        }
+    }
+}
