@@ -9,3 +9,5 @@ pub mod Looks
 pub mod Means
 pub mod SameCore
 pub mod OneStep
+pub mod OneBurst
+pub mod Going

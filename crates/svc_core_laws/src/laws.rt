@@ -62,3 +62,9 @@ pub fn sequence_on_words()
 pub fn due_is_entry()
     ensures { (img : Image) → IsImage img → (k entry : ℕ) → (seq (program img) k).due ≡ Some entry → is_entry img entry ≡ true }
 {}
+
+/// Advancing has one answer: of two bursts that turn out by its rule from one core, with the same unit and
+/// epoch, both are the same.
+pub fn one_burst()
+    ensures { (img : Image) → (max : ℕ) → (a b : Advance) → IsAdvance img max a → IsAdvance img max b → a.unit ≡ b.unit → a.epoch ≡ b.epoch → a.start ≡ b.start → a ≡ b }
+{}

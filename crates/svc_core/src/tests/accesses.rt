@@ -39,30 +39,22 @@ fn stores_replace_their_bytes(rt: HostRuntime) {
 #[test]
 fn places_and_their_traps(rt: HostRuntime) {
     let last = DATA_START + 4;
-    assert_eq!(rt;
-        load_place(LoadKind::Word, last, 2),
-        Ok(Place { word: 1, lane: 0 })
-    );
-    assert_eq!(rt;
-        load_place(LoadKind::Half, last + 2, 2),
-        Ok(Place { word: 1, lane: 2 })
-    );
-    assert_eq!(rt;
-        load_place(LoadKind::ByteUnsigned, last + 3, 2),
-        Ok(Place { word: 1, lane: 3 })
-    );
-    assert_eq!(rt;
-        store_place(StoreKind::Byte, DATA_START, 1),
-        Ok(Place { word: 0, lane: 0 })
-    );
+    let load = |kind, addr| load_place(kind, addr, 2);
+    let at = |word, lane| Ok(Place { word, lane });
+    assert_eq!(rt; load(LoadKind::Word, last), at(1, 0));
+    assert_eq!(rt; load(LoadKind::Half, last + 2), at(1, 2));
+    assert_eq!(rt; load(LoadKind::ByteUnsigned, last + 3), at(1, 3));
     // not aligned comes before outside
-    assert_eq!(rt; load_place(LoadKind::Word, 2, 2), Err(5));
-    assert_eq!(rt; load_place(LoadKind::HalfUnsigned, 0xFFFFFFFF, 2), Err(5));
-    assert_eq!(rt; store_place(StoreKind::Half, DATA_START + 1, 2), Err(5));
-    assert_eq!(rt; load_place(LoadKind::Word, DATA_START - 4, 2), Err(6));
-    assert_eq!(rt; load_place(LoadKind::Byte, DATA_START - 1, 2), Err(6));
-    assert_eq!(rt; store_place(StoreKind::Word, DATA_START + 8, 2), Err(6));
-    assert_eq!(rt; store_place(StoreKind::Word, 0xFFFFFFFC, 65536), Err(6));
+    assert_eq!(rt; load(LoadKind::Word, 2), Err(5));
+    assert_eq!(rt; load(LoadKind::HalfUnsigned, 0xFFFFFFFF), Err(5));
+    assert_eq!(rt; load(LoadKind::Word, DATA_START - 4), Err(6));
+    assert_eq!(rt; load(LoadKind::Byte, DATA_START - 1), Err(6));
+    let store = |kind, addr| store_place(kind, addr, 65536);
+    assert_eq!(rt; store(StoreKind::Byte, DATA_START), at(0, 0));
+    assert_eq!(rt; store(StoreKind::Word, DATA_START + 0x3FFFC), at(65535, 0));
+    assert_eq!(rt; store(StoreKind::Half, DATA_START + 1), Err(5));
+    assert_eq!(rt; store(StoreKind::Word, DATA_START + 0x40000), Err(6));
+    assert_eq!(rt; store(StoreKind::Word, 0xFFFFFFFC), Err(6));
 }
 
 // An ask has the address as the instruction gives it, and nothing is done: LW x7, -4(x5), SB x6, 1(x5).

@@ -1,5 +1,7 @@
 // Traps in their order; a turn that traps changes nothing but the count and the end.
 
+ghost use Rattle.std.specs.Prelude.{◌≡◌, None};
+
 use super::core_with;
 use crate::{Ask, Core, End};
 
@@ -42,12 +44,24 @@ fn ends_of_one_turn(rt: HostRuntime) {
     }
 }
 
+fn at_its_limit() -> Core
+    ensures { result.done ≡ None }
+{
+    Core {
+        pc: 0x100,
+        regs: [0; 32],
+        count: 100,
+        emitted: 0,
+        limit: 100,
+        done: None,
+    }
+}
+
 // The limit comes before the fetch, and the fetch before what the word means.
 #[test]
 fn the_limit_comes_first(rt: HostRuntime) {
     for word in [None, Some(0), Some(0x00000013), Some(0x00100073)] {
-        let mut core = core_with(0x100, 0, 0);
-        core.count = 100;
+        let mut core = at_its_limit();
         let ask = core.try_turn(word);
         assert_eq!(rt;
             (ask, core.done, core.count),

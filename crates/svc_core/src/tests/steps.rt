@@ -1,0 +1,84 @@
+// Whole tasks on words, turn by turn.
+
+ghost use Rattle.std.specs.Prelude.{◌≡◌, ◌≤◌, length};
+ghost use Rattle.svc_core_laws.specs.Turns.{data_words};
+
+use super::{changed, core_with};
+use crate::{Core, End};
+use std::test::Fail;
+use svc_image::Image;
+
+// Runs a task to its end, and answers how many words it put out.
+fn run(image: &Image, core: &mut Core, memory: &mut [u32]) -> u32
+    requires size { length memory.old ≡ data_words image.now }
+    requires few { length memory.old ≤ 65536 }
+{
+    let mut words = 0u32;
+    for _turn in 0..200 {
+        if !core.is_running() {
+            return words;
+        }
+        let mut seen = image.fetch(core.pc());
+        if core.step(image, &mut seen, memory).is_some() {
+            words = words.wrapping_add(1);
+        }
+    }
+    words
+}
+
+type Changes = &'static [(usize, u32)];
+
+// ADDI x17, x0, 1; ECALL; JAL x0, -4: puts out a word every second turn.
+const EMITS: Changes = &[(0, 0x00100893), (1, 0x00000073), (2, 0xFFDFF06F)];
+
+// The changes of the sample, the limit, where the task begins, its turns, its end, how many words it puts
+// out, and the data then.
+const TASKS: [(Changes, u32, u32, u32, End, u32, [u32; 2]); 13] = [
+    (&[], 100, 0, 3, End::Next(12), 0, [5, 0]),
+    (&[], 100, 12, 6, End::Exit(0), 1, [0, 0]),
+    (&[], 5, 12, 6, End::Trap(1), 1, [0, 0]),
+    // SW x1, 2(x5); SW x1, 8(x5); SW x1, 10(x5): not aligned comes first
+    (&[(2, 0x0012A123)], 100, 0, 3, End::Trap(5), 0, [0, 0]),
+    (&[(2, 0x0012A423)], 100, 0, 3, End::Trap(6), 0, [0, 0]),
+    (&[(2, 0x0012A523)], 100, 0, 3, End::Trap(5), 0, [0, 0]),
+    // SB x1, 1(x5); SH x1, 6(x5)
+    (&[(2, 0x001280A3)], 9, 0, 3, End::Next(12), 0, [1280, 0]),
+    (&[(2, 0x00129323)], 9, 0, 3, End::Next(12), 0, [0, 327680]),
+    // LW x0, 0(x5) still loads; LW x1, 8(x5) traps
+    (&[(2, 0x0002A003)], 9, 0, 3, End::Next(12), 0, [0, 0]),
+    (&[(2, 0x0082A083)], 100, 0, 3, End::Trap(6), 0, [0, 0]),
+    // JAL x0, 1024 leads out of the text
+    (&[(1, 0x4000006F)], 100, 0, 3, End::Trap(2), 0, [0, 0]),
+    // a 65th word, and before it the limit
+    (EMITS, 130, 0, 130, End::Trap(9), 64, [0, 0]),
+    (EMITS, 129, 0, 130, End::Trap(1), 64, [0, 0]),
+];
+
+#[test]
+fn tasks_to_their_ends(rt: HostRuntime) -> Result<(), Fail> {
+    for (changes, limit, entry, turns, end, words, after) in &TASKS {
+        let image = changed(rt.alloc(), *limit, *changes)?;
+        let mut core = Core::start(&image, image.start());
+        core.pc = *entry;
+        let mut memory = image.data_words().to_vec(rt.alloc())?;
+        let put_out = run(&image, &mut core, memory.as_mut_slice());
+        assert_eq!(rt;
+            (core.done, core.count, put_out),
+            (Some(*end), *turns, *words)
+        );
+        assert_eq!(rt; memory.as_slice(), after.as_slice());
+    }
+    Ok(())
+}
+
+// A step hands on what the image has at its new place.
+#[test]
+fn a_step_fetches_once(rt: HostRuntime) -> Result<(), Fail> {
+    let image = changed(rt.alloc(), 100, &[])?;
+    let mut core = core_with(0, 0, 0);
+    let mut memory = image.data_words().to_vec(rt.alloc())?;
+    let mut seen = image.fetch(core.pc());
+    let word = core.step(&image, &mut seen, memory.as_mut_slice());
+    assert_eq!(rt; (word, seen), (None, image.fetch(4)));
+    Ok(())
+}

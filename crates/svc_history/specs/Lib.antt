@@ -1,0 +1,9 @@
+pub mod Words
+pub mod Plain
+pub mod Refusals
+pub mod Replies
+pub mod Steps
+pub mod Entries
+pub mod Asked
+pub mod Kept
+pub mod History
