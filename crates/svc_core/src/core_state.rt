@@ -14,11 +14,13 @@ use svc_rv32i::Register;
 #[derive(Clone, Copy, Debug, PartialEq, Eq)]
 pub struct Core {
     pub(crate) pc: u32,
-    pub(crate) regs: [u32; 32],
     pub(crate) count: u32,
     pub(crate) emitted: u8,
     pub(crate) limit: u32,
     pub(crate) done: Option<End>,
+    // The registers come last: fields lie in the order of the source, so a write at a register's number
+    // can't touch what stands before them, and the compiler keeps that in machine registers.
+    pub(crate) regs: [u32; 32],
 }
 
 impl Model for Core {

@@ -37,9 +37,10 @@ impl Core {
         word
     }
 
-    // Does an asked turn, up to the test for an entry.
+    /// Does an asked turn on a memory of words, up to the test for an entry; the answer is the word put out,
+    /// if any.
     #[inline]
-    fn answer(&mut self, ask: Ask, memory: &mut [u32]) -> Option<u32>
+    pub fn answer(&mut self, ask: Ask, memory: &mut [u32]) -> Option<u32>
         requires ready { IsReady self.old ask }
         requires few { length memory.old ≤ 65536 }
         ensures core { self.new ≡ (answered (length memory.old) ask self.old (slice_index memory.old)).core }

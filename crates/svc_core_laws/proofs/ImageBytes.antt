@@ -1,7 +1,7 @@
 -- The words of an image's flat memory are the image's words.
 use Rattle.std.specs.Prelude.{All}
-use Rattle.std.proofs.Common.{◌≡◌, ℕ, zero, suc, ◌+◌, ◌*◌, ◌^◌, ◌/◌, ◌%◌, ◌<◌, List, [], ◌∷◌, ◌++◌, length, get_or, arith, sym, ◌∙◌, ap, refl}
-use Rattle.svc_core_laws.specs.Bytes.{number_at, word_at, low_bytes, bytes_of, IsMemory}
+use Rattle.std.proofs.Common.{◌≡◌, ℕ, zero, suc, ◌+◌, ◌*◌, ◌^◌, ◌/◌, ◌%◌, ◌<◌, List, [], ◌∷◌, length, get_or, arith, ◌∙◌, ap, refl}
+use Rattle.svc_core_laws.specs.Bytes.{number_at, word_at, bytes_of, IsMemory}
 
 -- a number past four bytes stands four bytes earlier without them
 number-past : (n k a b c d : ℕ) (m : List ℕ) → number_at n (suc (suc (suc (suc k)))) (a ∷ b ∷ c ∷ d ∷ m) ≡ number_at n k m

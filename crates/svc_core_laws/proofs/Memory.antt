@@ -1,11 +1,11 @@
 -- A load of bytes is an extraction from a word, and a store of bytes replaces bytes of a word.
-use Rattle.std.proofs.Common.{◌≡◌, ℕ, zero, suc, ◌+◌, ◌-◌, ◌*◌, ◌^◌, ◌/◌, ◌%◌, ◌<◌, ◌≤◌, ◌⊎◌, inl, inr, ◌≢◌, ⊎_elim, List, length, get_or, set, arith, sym, ◌∙◌, ap, refl, subst, add-suc, add-zero, zero-add, get_or-set_same, get_or-set_other}
+use Rattle.std.proofs.Common.{◌≡◌, ℕ, zero, suc, ◌+◌, ◌*◌, ◌^◌, ◌/◌, ◌%◌, ◌<◌, ◌≤◌, ◌⊎◌, inl, inr, ◌≢◌, ⊎_elim, List, length, get_or, set, arith, sym, ◌∙◌, ap, refl, subst, add-zero, zero-add, get_or-set_same, get_or-set_other}
 use Rattle.std.proofs.lemmas.Bool.{cases_eq, cases_lt}
 use Rattle.std.proofs.lemmas.List.{get_or_past}
 use Rattle.std.proofs.lemmas.Nat.{pow-add, mod_below, div-add-mod'}
 use Rattle.std.proofs.Math.Nat.{pow-suc, suc-add, add-mul-mod_self_left, add-mul-div_left, mod-eq_of_lt, div-eq_of_lt, div-div-eq-div-mul}
 use Rattle.std.proofs.Math.ListN.{length-set}
-use Rattle.svc_core_laws.specs.Bytes.{number_at, word_at, with_bytes, extracted, replaced, IsMemory}
+use Rattle.svc_core_laws.specs.Bytes.{number_at, word_at, with_bytes, extracted, replaced}
 
 -- a number is its lower bytes and its higher ones
 number-split : (i j k : ℕ) (m : List ℕ) → number_at (i + j) k m ≡ number_at i k m + 256 ^ i * number_at j (k + i) m

@@ -1,8 +1,8 @@
 -- A turn on bytes does what it wants of words.
-use Rattle.std.proofs.Common.{◌≡◌, ℕ, zero, suc, ◌+◌, ◌-◌, ◌*◌, ◌^◌, ◌/◌, ◌%◌, ◌<◌, ◌≤◌, ◌⊎◌, inl, inr, ◌≢◌, Bool, true, false, cond, eqb, List, [], ◌∷◌, ◌++◌, length, get_or, arith, sym, ◌∙◌, ap, refl, subst, Option, Some, None}
+use Rattle.std.proofs.Common.{◌≡◌, ℕ, ◌+◌, ◌-◌, ◌*◌, ◌^◌, ◌/◌, ◌%◌, ◌<◌, ◌≤◌, Bool, true, false, cond, List, ◌++◌, length, get_or, arith, sym, ◌∙◌, ap, refl, Option, Some, None}
 use Rattle.std.specs.Prelude.{◌==◌, ◌&&◌, nat_le, unwrap_or}
 use Rattle.std.proofs.lemmas.List.{append-nil}
-use Rattle.std.proofs.lemmas.Bool.{eqb-true, eqb-false, leb-true, and_parts, cond_both, eq-eqb, ne_eqb, cases_eq}
+use Rattle.std.proofs.lemmas.Bool.{eqb-true, eqb-false, leb-true, and_parts, cond_both}
 use Rattle.svc_rv32i.specs.declared.instr.Register.{Register}
 use Rattle.svc_rv32i.specs.declared.instr.LoadKind.{LoadKind}
 use Rattle.svc_rv32i.specs.declared.instr.LoadKind.TheVariants as load
@@ -15,8 +15,8 @@ use Rattle.svc_core_laws.specs.Local.{Outcome, ends, goes_on, sets}
 use Rattle.svc_core_laws.specs.Local as out
 use Rattle.svc_core_laws.specs.Bytes.{number_at, word_at, with_bytes, extracted, replaced, IsMemory}
 use Rattle.svc_core_laws.specs.Turns.{Turn, data_words, data_start, access_trap, arrives, next, loads, stores, on_bytes, plain}
-use Rattle.svc_core_laws.specs.Words.{loaded, wants_load, wants_write, wants_store, wanted, wants}
-use Rattle.svc_core_laws.specs.Program.{Memory, Run, Action, act, wrote, over, output, Words, with_word, no_words}
+use Rattle.svc_core_laws.specs.Words.{wants_load, wants_store, wanted, wants}
+use Rattle.svc_core_laws.specs.Program.{Memory, Run, Action, act, wrote, over, output, Words, with_word}
 use Rattle.svc_core_laws.proofs.Memory.{load-is, store-is, store_elsewhere, length-with_bytes, bytes-with_bytes, number-below}
 
 -- where an access that isn't a trap lies: byte o of word a

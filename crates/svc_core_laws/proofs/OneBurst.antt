@@ -1,6 +1,5 @@
 -- What advancing makes is one burst.
-use Rattle.std.proofs.Common.{◌≡◌, ℕ, zero, suc, ◌+◌, ◌<◌, ◌≤◌, ◌⊎◌, inl, inr, ⊎_elim, Bool, true, false, List, [], ◌∷◌, length, Option, Some, None, is_some, slice_get, refl, sym, ◌∙◌, ap, subst, arith}
-use Rattle.std.specs.Prelude.{min}
+use Rattle.std.proofs.Common.{◌≡◌, ℕ, zero, suc, ◌<◌, ◌≤◌, inl, inr, ⊎_elim, Bool, true, false, List, [], ◌∷◌, Option, Some, None, is_some, slice_get, refl, sym, ◌∙◌, ap, subst, arith}
 use Rattle.std.proofs.lemmas.Option.{none-some}
 use Rattle.std.proofs.lemmas.Bool.{cases_lt}
 use Rattle.svc_image.specs.declared.fetched.Fetched.{Fetched}
@@ -14,8 +13,8 @@ use Rattle.svc_core_laws.specs.Local as out
 use Rattle.svc_core_laws.specs.Turns.{next}
 use Rattle.svc_core_laws.specs.Words.{program}
 use Rattle.svc_core_laws.specs.Program.{locals}
-use Rattle.svc_core_laws.specs.Bursts.{Advance, after, before, core_of, turned, IsLook, IsAsked, Follows, AreOf, IsAdvance, HasStopped, is_nothing, shown, ask_turns}
-use Rattle.svc_core_laws.proofs.Looks.{get_past, before-next}
+use Rattle.svc_core_laws.specs.Bursts.{Advance, after, before, core_of, IsLook, IsAsked, Follows, AreOf, IsAdvance, HasStopped, is_nothing, shown, ask_turns}
+use Rattle.svc_core_laws.proofs.Looks.{get_past}
 use Rattle.svc_core_laws.proofs.Means.{Taken, taken, all_locals, asked}
 
 -- two bursts that advancing makes from one core

@@ -1,11 +1,11 @@
 -- The turns of a task on bytes are those of the program on words.
-use Rattle.std.proofs.Common.{◌≡◌, ℕ, zero, suc, List, [], ◌∷◌, ◌++◌, ◌+◌, add-one, sym, ◌∙◌, ap, refl, subst}
-use Rattle.svc_core_laws.specs.State.{State, start}
+use Rattle.std.proofs.Common.{◌≡◌, ℕ, zero, suc, List, [], ◌++◌, ◌+◌, add-one, sym, ◌∙◌, ap, refl, subst}
+use Rattle.svc_core_laws.specs.State.{State}
 use Rattle.svc_core_laws.specs.Bytes.{word_at, IsMemory}
 use Rattle.svc_image.specs.Image.{Image}
 use Rattle.svc_core_laws.specs.Turns.{Turn, data_words, plain, then_plain}
 use Rattle.svc_core_laws.specs.Words.{wants, program}
-use Rattle.svc_core_laws.specs.Program.{Memory, Run, Action, act, turn, part, wrote, over, output}
+use Rattle.svc_core_laws.specs.Program.{Memory, Run, act, turn, part, wrote, over}
 use Rattle.svc_core_laws.specs.Sequence.{plain_part, IsSame}
 use Rattle.svc_core_laws.proofs.OnWords.{same_turn, After}
 

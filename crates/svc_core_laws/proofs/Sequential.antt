@@ -1,14 +1,14 @@
 -- The sequential order on bytes is that of the program on words.
-use Rattle.std.specs.Prelude.{All, Bool, true, is_some}
-use Rattle.std.proofs.Common.{◌≡◌, ℕ, zero, suc, ◌+◌, ◌*◌, ◌^◌, ◌<◌, List, [], ◌∷◌, ◌++◌, Option, Some, None, sym, ◌∙◌, ap, refl, subst}
+use Rattle.std.specs.Prelude.{All, true, is_some}
+use Rattle.std.proofs.Common.{◌≡◌, ℕ, zero, suc, ◌^◌, ◌<◌, List, ◌++◌, Option, Some, None, sym, ◌∙◌, ap, refl, subst}
 use Rattle.svc_image.specs.Image.{Image, is_entry}
 use Rattle.svc_core_laws.specs.declared.end.End.{End}
 use Rattle.svc_core_laws.specs.declared.end.End.TheVariants as end
 use Rattle.svc_core_laws.specs.State.{State, limit_of}
-use Rattle.svc_core_laws.specs.Bytes.{word_at, bytes_of, IsMemory}
-use Rattle.svc_core_laws.specs.Turns.{Turn, data_words}
+use Rattle.svc_core_laws.specs.Bytes.{word_at, IsMemory}
+use Rattle.svc_core_laws.specs.Turns.{data_words}
 use Rattle.svc_core_laws.specs.Words.{program}
-use Rattle.svc_core_laws.specs.Program.{Memory, Run, Seq, seq, task, next_task, followed_by, due_after, stopped_after, wrote, over, output}
+use Rattle.svc_core_laws.specs.Program.{Memory, Seq, seq, task, next_task, followed_by, due_after, stopped_after, output}
 use Rattle.svc_core_laws.specs.Sequence.{plain_task, plain_seq, next_plain, after_task, PlainSeq, IsSame, IsSameSeq}
 use Rattle.svc_core_laws.proofs.Parts.{same_part}
 use Rattle.svc_core_laws.proofs.Ends.{is_program}

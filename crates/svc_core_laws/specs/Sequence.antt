@@ -1,5 +1,5 @@
 -- Tasks on a flat memory of bytes, and the sequential run.
-use Rattle.std.specs.Prelude.{◌≡◌, ℕ, zero, suc, ◌<◌, Bool, if◌then◌else◌, List, [], ◌++◌, length, Option, Some, None, unwrap_or, slice_index}
+use Rattle.std.specs.Prelude.{◌≡◌, ℕ, zero, suc, Bool, if◌then◌else◌, List, [], ◌++◌, Option, Some, None, unwrap_or}
 use Rattle.svc_image.specs.Image.{Image}
 use Rattle.svc_core_laws.specs.declared.end.End.{End}
 use Rattle.svc_core_laws.specs.declared.end.End.TheVariants as end
@@ -62,7 +62,3 @@ pub record IsSameSeq (img : Image) (s : PlainSeq) (w : Seq) : Type 0 where
   pub due : w.due ≡ s.due
   pub stopped : w.stopped ≡ s.stopped
   pub is_memory : IsMemory (data_words img) s.memory
-
--- a list of words holds this memory of words
-pub record Holds (m : Memory) (words : List ℕ) : Type 0 where
-  pub word : (a : ℕ) → a < length words → slice_index words a ≡ m a

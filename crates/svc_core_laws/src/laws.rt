@@ -6,7 +6,7 @@ ghost use Rattle.svc_core_laws.specs.declared.end.End.{End};
 ghost use Rattle.svc_core_laws.specs.State.{State};
 ghost use Rattle.svc_core_laws.specs.Bytes.{IsMemory, number_at, word_at, with_bytes, extracted, replaced, bytes_of};
 ghost use Rattle.svc_core_laws.specs.Turns.{data_words, plain, then_plain};
-ghost use Rattle.svc_core_laws.specs.Program.{Program, IsProgram, Memory, part, turn, seq, exposed, act};
+ghost use Rattle.svc_core_laws.specs.Program.{Program, IsProgram, Memory, part, turn, seq, exposed, act, output};
 ghost use Rattle.svc_core_laws.specs.Program as want;
 ghost use Rattle.svc_core_laws.specs.Words.{program, wants};
 ghost use Rattle.svc_core_laws.specs.Sequence.{plain_part, plain_task, plain_seq, IsSame, IsSameSeq};
@@ -67,4 +67,9 @@ pub fn due_is_entry()
 /// epoch, both are the same.
 pub fn one_burst()
     ensures { (img : Image) → (max : ℕ) → (a b : Advance) → IsAdvance img max a → IsAdvance img max b → a.unit ≡ b.unit → a.epoch ≡ b.epoch → a.start ≡ b.start → a ≡ b }
+{}
+
+/// A core counts the words that its task has put out.
+pub fn words_are_counted()
+    ensures { (img : Image) → (entry n : ℕ) → (m : Memory) → (part (program img) entry n m).core.emitted ≡ length (output (part (program img) entry n m).log) }
 {}

@@ -5,7 +5,10 @@ ghost use Rattle.svc_image.specs.Format.{half_at, word_at, first_of, header_chec
 ghost use Rattle.svc_image.specs.Reading.{InLimits, checked, header_in};
 
 use crate::error::ImageError;
-use crate::layout::*;
+use crate::layout::{
+    DATA_COUNT_PLACE, ENTRIES_PLACE, ENTRY_COUNT_PLACE, LIMIT_PLACE, MAGIC, MOST_ENTRIES,
+    MOST_WORDS, START_PLACE, TEXT_COUNT_PLACE, VERSION, VERSION_PLACE,
+};
 use byteorder::{ByteOrder, LittleEndian};
 
 /// The numbers of an image file's header.

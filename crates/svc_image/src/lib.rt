@@ -6,6 +6,7 @@ mod error;
 mod fetched;
 mod header;
 mod image;
+mod laws;
 mod layout;
 mod marks;
 pub mod samples;
@@ -14,6 +15,7 @@ mod words;
 pub use error::ImageError;
 pub use fetched::Fetched;
 pub use image::Image;
+pub use laws::one_meaning;
 
 #[cfg(test)]
 mod tests;

@@ -1,0 +1,35 @@
+// The versioned map alone.
+
+ghost use Rattle.svc_bus_laws.specs.MapLaws.{CommittedView, NearestView, VictimIs, IsTheVictim, NoVictim, WalkFinds, WalkStops, WalkEnds, WalkIs, ViewByRows, VictimByRows, ReadByRows, WriteByRows, CommitByRows};
+
+/// A task reads the version of the latest task not after it that has one, else the committed value.
+pub fn view_law()
+    ensures committed { CommittedView }
+    ensures nearest { NearestView }
+{}
+
+/// The victim of a write is the earliest later task that read the word before it wrote it, with no version in between.
+pub fn victim_law()
+    ensures found { VictimIs }
+    ensures only { IsTheVictim }
+    ensures none { NoVictim }
+{}
+
+/// A walk over the later tasks, in order, finds the victim: it ends at the first that exposed the word, which is the
+/// victim, or at the first that only stored to it, and then there is none.
+pub fn walk_law()
+    ensures finds { WalkFinds }
+    ensures stops { WalkStops }
+    ensures ends { WalkEnds }
+    ensures whole { WalkIs }
+{}
+
+/// The view, the victim and the steps by recursion on the rows are those of the map. (A beginning and a squash are the
+/// same in both forms as they stand.)
+pub fn rows_law()
+    ensures view { ViewByRows }
+    ensures victim { VictimByRows }
+    ensures read { ReadByRows }
+    ensures write { WriteByRows }
+    ensures commit { CommitByRows }
+{}

@@ -1,0 +1,9 @@
+pub mod Founds
+pub mod Powers
+pub mod Rowing
+pub mod Surveys
+pub mod Changing
+pub mod Caches
+pub mod Searches
+pub mod Counts
+pub mod Fulls

@@ -1,0 +1,43 @@
+-- The places of a cache, and the map that they make.
+use Rattle.std.specs.Prelude.{ℕ, ◌*◌, ◌%◌, ◌==◌, nat_lt, Bool, not, ◌&&◌, ◌||◌, Some, None, List, [], ◌∷◌, take, drop, if◌then◌else◌}
+use Rattle.svc_line.specs.Bits.{bits_of, is_committed}
+use Rattle.svc_line.specs.Line.{seen}
+use Rattle.svc_cache.specs.Lines.{LineMap}
+use Rattle.svc_cache.specs.declared.place.Place.{Place}
+
+-- what a cache holds: its callers ask for sets, ways and `line_of` alone
+pub record CacheValue : Type 0 where
+  pub sets : ℕ
+  pub ways : ℕ
+  pub places : List Place
+
+-- the place has a line
+abbrev pub is_held : Place → Bool
+is_held place = (bits_of place.line.bits).valid
+
+-- the place has a line of the word
+abbrev pub holds : Place → ℕ → Bool
+holds place word = is_held place && (place.word.0 == word)
+
+-- the line of the first place that holds the word
+unfoldable pub found : List Place → LineMap
+found [] word = None
+found (place ∷ places) word = if holds place word then Some (seen place.line) else found places word
+
+-- the places of a set
+abbrev pub row_at : CacheValue → (set : ℕ) → List Place
+row_at cache set = take cache.ways (drop (set * cache.ways) cache.places)
+
+-- the line of a word, which lies in the set of its remainder
+unfoldable pub line_of : CacheValue → LineMap
+line_of cache word = found (row_at cache (word % cache.sets)) word
+
+-- the place's line is committed
+abbrev pub has_committed : Place → Bool
+has_committed place = is_committed (bits_of place.line.bits)
+
+-- the place's line leaves before the other's: a committed line before an active one, and else the lower word
+abbrev pub precedes : Place → Place → Bool
+precedes place other =
+    if has_committed place then (not (has_committed other) || nat_lt place.word.0 other.word.0)
+    else (not (has_committed other) && nat_lt place.word.0 other.word.0)

@@ -1,0 +1,67 @@
+ghost use Rattle.std.specs.Prelude.{◌≡◌, false};
+ghost use Rattle.svc_line.specs.Bits.{bits_of};
+ghost use Rattle.svc_cache.specs.Places.{has_committed, holds, is_held, precedes};
+
+use bitflags::Flags;
+use svc_base::{TaskNo, WordAddr};
+use svc_line::{Line, LineBits};
+
+/// A place of a cache. It holds its word while the line's bits have V, and else it is empty.
+#[derive(Clone, Copy, Debug, PartialEq, Eq)]
+pub struct Place {
+    /// The word of the line.
+    pub word: WordAddr,
+    /// The line.
+    pub line: Line,
+}
+
+impl Place {
+    /// A place without a line.
+    #[tactic(auto, unfolding(svc_line::specs::Bits::bits_of))]
+    pub fn empty() -> Place
+        ensures { is_held result ≡ false }
+    {
+        Place {
+            word: WordAddr(0),
+            line: Line {
+                value: 0,
+                bits: LineBits::empty(),
+                task: TaskNo(0),
+            },
+        }
+    }
+
+    /// The place has a line.
+    pub fn is_held(&self) -> bool
+        ensures { result ≡ is_held self.now }
+    {
+        self.line.bits.is_valid()
+    }
+
+    /// The place has a line, and it is committed.
+    pub fn has_committed(&self) -> bool
+        ensures { result ≡ has_committed self.now }
+    {
+        self.line.bits.is_committed()
+    }
+
+    /// The place has a line of the word.
+    pub fn holds(&self, word: WordAddr) -> bool
+        ensures { result ≡ holds self.now word.0 }
+    {
+        self.is_held() && self.word.0 == word.0
+    }
+
+    /// Of two places that hold lines, this one's goes first when a line has to leave: a committed line
+    /// before an active one, and else the lower word.
+    pub fn precedes(&self, other: &Place) -> bool
+        ensures { result ≡ precedes self.now other.now }
+    {
+        let lower = self.word.0 < other.word.0;
+        if self.has_committed() {
+            !other.has_committed() || lower
+        } else {
+            !other.has_committed() && lower
+        }
+    }
+}

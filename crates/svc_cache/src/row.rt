@@ -1,0 +1,81 @@
+ghost use Rattle.std.specs.Prelude.{◌≡◌, ◌<◌, ◌+◌, length, MatchResult};
+ghost use Rattle.svc_cache.specs.Probes.{CountsOneSearch, HasRoom};
+ghost use Rattle.svc_cache.specs.Rows.{IsFoundAt, IsFullRow, IsSeat, IsSurvey};
+
+use crate::place::Place;
+use crate::probes::Probes;
+use svc_base::WordAddr;
+
+/// Why a line was not filled: its set is full, and the line of this word is to be replaced first. It is
+/// the least word among the set's committed lines, or among all its lines where none is committed.
+#[derive(Clone, Copy, Debug, PartialEq, Eq)]
+pub struct SetFull(pub WordAddr);
+
+/// The place of a row that holds the word.
+pub(crate) fn find(row: &[Place], word: WordAddr, probes: &mut Probes) -> Option<usize>
+    requires room { HasRoom probes.old (length row.now) }
+    ensures found { IsFoundAt row.now word.0 result }
+    ensures counted { CountsOneSearch probes.old probes.new (length row.now) }
+{
+    probes.searches += 1;
+    for place in 0..row.len() {
+        probes.places += 1;
+        if row[place].holds(word) {
+            return Some(place);
+        }
+    }
+    None
+}
+
+/// What the first places of a row show of the room in it.
+#[derive(Clone, Copy, Debug)]
+struct Survey {
+    /// An empty place among them.
+    empty: Option<usize>,
+    /// The place among them that no other precedes.
+    victim: usize,
+}
+
+impl Survey {
+    // The survey with one more place.
+    fn with(self, row: &[Place], place: usize) -> Survey
+        requires within { place < length row.now }
+        requires before { IsSurvey row.now place self }
+        ensures { IsSurvey row.now (place + 1) result }
+    {
+        let empty = if row[place].is_held() {
+            self.empty
+        } else {
+            Some(place)
+        };
+        let victim = if row[place].precedes(&row[self.victim]) {
+            place
+        } else {
+            self.victim
+        };
+        Survey { empty, victim }
+    }
+}
+
+/// The place of a row where a line of the word may go: the one that holds the word, else an empty one.
+/// Where there is none, the word whose line is to leave first.
+pub(crate) fn seat_of(row: &[Place], word: WordAddr, probes: &mut Probes) -> Result<usize, SetFull>
+    requires some { 0 < length row.now }
+    requires room { HasRoom probes.old (length row.now) }
+    ensures seat { MatchResult result (IsSeat row.now word.0) (λ full. IsFullRow row.now word.0 full.0.0) }
+    ensures counted { CountsOneSearch probes.old probes.new (length row.now) }
+{
+    probes.searches += 1;
+    let mut survey = Survey {
+        empty: None,
+        victim: 0,
+    };
+    for place in 0..row.len() {
+        probes.places += 1;
+        if row[place].holds(word) {
+            return Ok(place);
+        }
+        survey = survey.with(row, place);
+    }
+    survey.empty.ok_or(SetFull(row[survey.victim].word))
+}

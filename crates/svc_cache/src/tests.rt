@@ -1,0 +1,186 @@
+ghost use Rattle.std.specs.Prelude.{◌≡◌, ◌≤◌, true};
+ghost use Rattle.svc_base.specs.declared.config.TheConstants.{MAX_SETS, MAX_WAYS};
+ghost use Rattle.svc_line.specs.Bits.{bits_of};
+
+use crate::{Cache, Probes, SetFull};
+use searched::SearchedLines;
+use std::alloc::Global;
+use std::process::Abort;
+use std::test::Fail;
+use svc_base::{OpenError, TaskNo, WordAddr};
+use svc_line::{Line, LineBits};
+
+mod searched;
+
+// An active line with this value.
+fn line(value: u32) -> Line
+    ensures { (bits_of result.bits).valid ≡ true }
+{
+    Line {
+        value,
+        bits: LineBits::on_load(true, false),
+        task: TaskNo(0),
+    }
+}
+
+// What is done to a cache.
+#[derive(Clone, Copy, Debug)]
+pub(crate) enum Step {
+    Fill(u32, u32),
+    Drop(u32),
+    Lookup(u32),
+    Full(u32),
+    Commit,
+    Squash,
+}
+
+// What a step answers.
+#[derive(Clone, Copy, Debug, PartialEq, Eq)]
+pub(crate) enum Answer {
+    Done,
+    Filled(Result<(), SetFull>),
+    Found(Option<Line>),
+    Named(Option<WordAddr>),
+}
+
+// A cache, known to be of few ways, so that the probes of a step can be counted.
+#[derive(Drop)]
+struct Tested {
+    cache: Cache,
+    ghost few_ways: { cache.ways ≤ MAX_WAYS },
+}
+
+impl Tested {
+    fn open(rt: &impl Abort, alloc: Global, sets: u32, ways: u32) -> Result<Tested, OpenError>
+        requires few_sets { sets ≤ MAX_SETS }
+        requires some_ways { 1 ≤ ways }
+        requires few_ways { ways ≤ MAX_WAYS }
+    {
+        assert!(rt; sets.is_power_of_two());
+        let cache = Cache::open(alloc, sets, ways)?;
+        Ok(Tested { cache })
+    }
+
+    // The step's answer, and the probes that it took.
+    fn perform(&mut self, step: Step) -> (Answer, Probes) {
+        let mut probes = Probes::new();
+        let answer = match step {
+            Step::Fill(word, value) => {
+                Answer::Filled(self.cache.fill(WordAddr(word), line(value), &mut probes))
+            }
+            Step::Drop(word) => {
+                self.cache.drop_line(WordAddr(word), &mut probes);
+                Answer::Done
+            }
+            Step::Lookup(word) => Answer::Found(self.cache.lookup(WordAddr(word), &mut probes)),
+            Step::Full(word) => Answer::Named(self.cache.full(WordAddr(word), &mut probes)),
+            Step::Commit => {
+                self.cache.for_commit();
+                Answer::Done
+            }
+            Step::Squash => {
+                self.cache.for_squash();
+                Answer::Done
+            }
+        };
+        (answer, probes)
+    }
+}
+
+const FULL: Answer = Answer::Filled(Err(SetFull(WordAddr(0))));
+
+const FILLED: Answer = Answer::Filled(Ok(()));
+
+#[test]
+fn a_set_of_one_way_holds_one_line(rt: HostRuntime) -> Result<(), Fail> {
+    let mut cache = Tested::open(&rt, rt.alloc(), 2, 1).map_err(|_| "memory")?;
+    for (step, expected) in [
+        (Step::Fill(0, 10), FILLED),
+        (Step::Fill(2, 12), FULL),
+        (Step::Fill(1, 11), FILLED),
+        (Step::Fill(0, 20), FILLED),
+        (Step::Lookup(0), Answer::Found(Some(line(20)))),
+        (Step::Drop(0), Answer::Done),
+        (Step::Fill(2, 12), FILLED),
+        (Step::Lookup(0), Answer::Found(None)),
+    ] {
+        assert_eq!(rt; cache.perform(step).0, expected, "at {step:?}");
+    }
+    Ok(())
+}
+
+#[test]
+fn a_set_of_four_ways_holds_four_lines(rt: HostRuntime) -> Result<(), Fail> {
+    let mut cache = Tested::open(&rt, rt.alloc(), 256, 4).map_err(|_| "memory")?;
+    for (step, expected) in [
+        (Step::Fill(0, 1), FILLED),
+        (Step::Fill(256, 2), FILLED),
+        (Step::Fill(512, 3), FILLED),
+        (Step::Fill(768, 4), FILLED),
+        (Step::Full(1024), Answer::Named(Some(WordAddr(0)))),
+        (Step::Full(512), Answer::Named(None)),
+        (Step::Fill(1024, 5), FULL),
+        (Step::Drop(512), Answer::Done),
+        (Step::Fill(1024, 5), FILLED),
+        (Step::Lookup(512), Answer::Found(None)),
+        (Step::Lookup(768), Answer::Found(Some(line(4)))),
+    ] {
+        let (got, probes) = cache.perform(step);
+        assert_eq!(rt; got, expected, "at {step:?}");
+        assert_eq!(rt; probes.searches, 1);
+        assert!(rt; probes.places <= 4);
+    }
+    Ok(())
+}
+
+// Two sets of two ways: full sets, committed lines before active ones, squashes among both.
+const STEPS: [Step; 30] = [
+    Step::Fill(4, 40),
+    Step::Fill(2, 20),
+    Step::Full(0),
+    Step::Fill(0, 1),
+    Step::Fill(3, 30),
+    Step::Commit,
+    Step::Lookup(4),
+    Step::Drop(2),
+    Step::Fill(0, 2),
+    Step::Full(2),
+    Step::Fill(2, 21),
+    Step::Fill(0, 3),
+    Step::Fill(5, 50),
+    Step::Full(1),
+    Step::Fill(7, 70),
+    Step::Squash,
+    Step::Lookup(0),
+    Step::Lookup(5),
+    Step::Lookup(3),
+    Step::Full(1),
+    Step::Fill(1, 10),
+    Step::Full(5),
+    Step::Drop(3),
+    Step::Drop(3),
+    Step::Fill(5, 51),
+    Step::Full(3),
+    Step::Commit,
+    Step::Squash,
+    Step::Full(3),
+    Step::Lookup(5),
+];
+
+#[test]
+fn a_searched_list_answers_the_same(rt: HostRuntime) -> Result<(), Fail> {
+    let mut cache = Tested::open(&rt, rt.alloc(), 2, 2).map_err(|_| "memory")?;
+    let mut list = SearchedLines::new(rt.alloc(), 2, 2);
+    for step in STEPS {
+        assert_eq!(rt; cache.perform(step).0, list.perform(step)?, "at {step:?}");
+        for word in 0..8 {
+            let lookup = Step::Lookup(word);
+            assert_eq!(rt;
+                cache.perform(lookup).0,
+                list.perform(lookup)?,
+                "word {word} after {step:?}"
+            );
+        }
+    }
+    Ok(())
+}

@@ -1,0 +1,80 @@
+-- The bits of a line, each under its own name, and what each step of the bus makes of them.
+use Rattle.std.specs.Prelude.{ℕ, ◌/◌, ◌==◌, Bool, true, false, not, ◌&&◌, if◌then◌else◌}
+use Rattle.std.specs.Int.RustNames.{bit_and}
+use Rattle.svc_line.specs.declared.bits.LineBits.{LineBits}
+
+-- V, S, L, C and T, and the number that the bits without a name make
+pub record Bits : Type 0 where
+  pub valid : Bool
+  pub store : Bool
+  pub load : Bool
+  pub commit : Bool
+  pub stale : Bool
+  pub unnamed : ℕ
+
+-- the number has the bit of this weight
+abbrev pub has_bit : ℕ → ℕ → Bool
+has_bit n weight = bit_and n weight == weight
+
+-- the bits of a number: V is 1, S is 2, L is 4, C is 8 and T is 16
+abbrev pub bits_in : ℕ → Bits
+bits_in n = record {
+  valid = has_bit n 1;
+  store = has_bit n 2;
+  load = has_bit n 4;
+  commit = has_bit n 8;
+  stale = has_bit n 16;
+  unnamed = n / 32;
+}
+
+-- the bits of a line
+unfoldable pub bits_of : LineBits → Bits
+bits_of line = bits_in line.0
+
+-- no bit is set
+abbrev pub no_bits : Bits
+no_bits = record { valid = false; store = false; load = false; commit = false; stale = false; unnamed = 0 }
+
+-- there, and not committed
+abbrev pub is_active : Bits → Bool
+is_active b = b.valid && not b.commit
+
+-- there, and committed
+abbrev pub is_committed : Bits → Bool
+is_committed b = b.valid && b.commit
+
+-- there, and stored to
+abbrev pub is_dirty : Bits → Bool
+is_dirty b = b.valid && b.store
+
+-- active, and loaded before its task stored it
+abbrev pub is_exposed : Bits → Bool
+is_exposed b = is_active b && b.load
+
+-- committed, never stored to, and not stale
+abbrev pub is_reusable : Bits → Bool
+is_reusable b = is_committed b && not b.store && not b.stale
+
+-- a load fills the line: it is there, loaded where the value is not the task's own, and stale where a later task has a version
+abbrev pub loaded : (first_use overtaken : Bool) → Bits
+loaded first_use overtaken = record no_bits { valid = true; load = first_use; stale = overtaken }
+
+-- a store goes to the line: it is there and stored to, still loaded where it was exposed, and stale where a later task has a version
+abbrev pub stored : Bits → (overtaken : Bool) → Bits
+stored b overtaken = record no_bits { valid = true; store = true; load = is_exposed b; stale = overtaken }
+
+-- the unit's task is committed: an active line is committed with it
+abbrev pub committed : Bits → Bits
+committed b = if is_active b then record b { commit = true } else b
+
+-- the unit's task is squashed: an active line goes with it
+abbrev pub squashed : Bits → Bits
+squashed b = if is_active b then no_bits else b
+
+-- the unit's next task takes the line over, and depends on its value
+abbrev pub reused : Bits → Bits
+reused b = record b { commit = false; load = true }
+
+-- a later task has stored the word
+abbrev pub overtaken_now : Bits → Bits
+overtaken_now b = record b { stale = true }
