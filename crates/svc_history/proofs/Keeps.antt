@@ -1,5 +1,5 @@
 -- What accepted events do to the machine's fields.
-use Rattle.std.proofs.Common.{◌≡◌, ℕ, zero, suc, ◌+◌, ◌-◌, ◌*◌, ◌/◌, ◌<◌, ◌≤◌, ◌≢◌, Bool, true, false, cond, not, ◌&&◌, List, [], ◌∷◌, ◌++◌, length, Option, Some, None, is_some, refl, sym, ◌∙◌, ap, ap₂, subst, arith, add-zero, add-one, append_assoc, unwrap_or, slice_index, slice_index_or, ◌⊎◌, inl, inr, get_or}
+use Rattle.std.proofs.Common.{◌≡◌, ℕ, ◌+◌, ◌*◌, ◌<◌, ◌≤◌, Bool, true, false, cond, ◌&&◌, List, [], ◌∷◌, ◌++◌, length, Option, Some, None, refl, sym, ◌∙◌, ap, ap₂, subst, arith, append_assoc, unwrap_or}
 use Rattle.std.specs.Prelude.{◌==◌, nat_le, ◌%◌, slice_set}
 use Rattle.std.proofs.Math.ListN.{set}
 use Rattle.std.proofs.lemmas.List.{get_or-set_same, get_or-set_other, length-set}
@@ -9,25 +9,19 @@ use Rattle.svc_rv32i.specs.declared.instr.LoadKind.{LoadKind}
 use Rattle.svc_rv32i.specs.declared.instr.LoadKind.TheVariants as load
 use Rattle.svc_rv32i.specs.declared.instr.StoreKind.{StoreKind}
 use Rattle.svc_rv32i.specs.declared.instr.StoreKind.TheVariants as store
-use Rattle.svc_image.specs.Image.{Image, IsImage}
+use Rattle.svc_image.specs.Image.{Image}
 use Rattle.svc_core_laws.specs.declared.ask.Ask.{Ask}
 use Rattle.svc_core_laws.specs.declared.ask.Ask.TheVariants as ask
-use Rattle.svc_core_laws.specs.declared.end.End.{End}
-use Rattle.svc_core_laws.specs.declared.end.End.TheVariants as end
 use Rattle.svc_core_laws.specs.Numbers.{load_bytes, store_bytes}
-use Rattle.svc_core_laws.specs.State.{State, start}
+use Rattle.svc_core_laws.specs.State.{State}
 use Rattle.svc_core_laws.specs.Program.{Memory, Want, Run, Seq, Action, wrote, with_word, over, output, act, part, seq, locals, are_local, followed_by, due_after, stopped_after}
 use Rattle.svc_core_laws.specs.Program as want
-use Rattle.svc_core_laws.specs.Words.{program, wants, wanted, wants_load, wants_store, wants_write}
-use Rattle.svc_core_laws.specs.Turns.{data_words, data_start, word_address, access_trap, next}
-use Rattle.svc_core_laws.specs.Bursts.{Advance, Means, is_nothing, ask_turns, shown}
+use Rattle.svc_core_laws.specs.Words.{program, wants_load, wants_store, wants_write}
+use Rattle.svc_core_laws.specs.Turns.{data_words, data_start, word_address, access_trap}
 use Rattle.svc_core_laws.specs.Sequence.{Holds}
-use Rattle.svc_core_laws.proofs.Ends.{is_program}
-use Rattle.svc_history.specs.declared.machine.Slot.{Slot}
-use Rattle.svc_history.specs.Words.{Words, version_at, seen, HasNoVersion}
-use Rattle.svc_history.specs.Asked.{Effect, with_version, effect_of, wants_asked, after_ask}
-use Rattle.svc_history.specs.Kept.{Kept, Stands, IsRunning, slot_row}
-use Rattle.svc_history.proofs.Parts.{part_locals, part_whole, seq_commit}
+use Rattle.svc_history.specs.Words.{Words, version_at, seen}
+use Rattle.svc_history.specs.Asked.{effect_of, wants_asked}
+use Rattle.svc_history.specs.Kept.{Stands}
 
 -- what is wanted of a word is wanted of one of the data
 abbrev pub IsInside : {C : Type 0} → ℕ → Want C → Type 0

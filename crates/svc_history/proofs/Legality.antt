@@ -1,5 +1,5 @@
 -- The history of accepted events is legal, and what a legal history says of its machine.
-use Rattle.std.proofs.Common.{◌≡◌, ℕ, zero, suc, ◌+◌, ◌<◌, ◌≤◌, Bool, true, false, cond, not, ◌&&◌, List, [], ◌∷◌, ◌++◌, Option, Some, None, is_some, refl, sym, ◌∙◌, ap, subst, arith, zero-add, inl, inr, ◌⊎◌, slice_get, unwrap_or}
+use Rattle.std.proofs.Common.{◌≡◌, ℕ, ◌+◌, ◌<◌, ◌≤◌, true, false, ◌&&◌, List, [], ◌∷◌, ◌++◌, Option, Some, None, is_some, refl, sym, ◌∙◌, ap, subst, arith, zero-add, inl, inr}
 use Rattle.std.specs.Prelude.{◌==◌}
 use Rattle.std.proofs.lemmas.Bool.{and_parts, eqb-false, and_cases}
 use Rattle.svc_base.specs.declared.config.Config.{Config}
@@ -8,12 +8,11 @@ use Rattle.svc_core_laws.specs.declared.ask.Ask.{Ask}
 use Rattle.svc_core_laws.specs.declared.ask.Ask.TheVariants as ask
 use Rattle.svc_core_laws.specs.declared.end.End.{End}
 use Rattle.svc_core_laws.specs.State.{State}
-use Rattle.svc_core_laws.specs.Local.{Outcome}
 use Rattle.svc_core_laws.specs.Turns.{next}
 use Rattle.svc_core_laws.specs.Words.{program}
 use Rattle.svc_core_laws.specs.Program.{Run, part, seq, locals, are_local}
 use Rattle.svc_core_laws.specs.Sequence.{plain_seq, IsSameSeq}
-use Rattle.svc_core_laws.specs.Bursts.{Advance, Follows, AreOf, are_of, IsLocal, IsAsked, after, is_nothing, ask_turns, shown}
+use Rattle.svc_core_laws.specs.Bursts.{Advance, Follows, AreOf, are_of, IsLocal, after, is_nothing, ask_turns, shown}
 use Rattle.svc_core_laws.proofs.SameCore.{same_state-is}
 use Rattle.svc_core_laws.proofs.Means.{means, are_of_looks}
 use Rattle.svc_core_laws.proofs.Sequential.{same_seq}
@@ -26,14 +25,14 @@ use Rattle.svc_history.specs.declared.entry.Kind.TheVariants.{Assign, Submit, Co
 use Rattle.svc_history.specs.Plain.{Row, Plain, Shown, opening, committed, run_on, core_of, end_of}
 use Rattle.svc_history.specs.Refusals.{refuse, is_current}
 use Rattle.svc_history.specs.Replies.{asks, reply_to}
-use Rattle.svc_history.specs.Steps.{submitted, stepped, unless, after_event, stepped_by, IsSequential}
+use Rattle.svc_history.specs.Steps.{submitted, stepped, after_event, stepped_by, IsSequential}
 use Rattle.svc_history.specs.Entries.{named, telling, entry_of, IsSound}
 use Rattle.svc_history.specs.declared.reply.Reply.{Reply}
-use Rattle.svc_history.specs.History.{Recorded, turns_of, IsLocalAt, IsAskedAt, IsSubmission, IsSubmissionAt, LegalEntry, after_entry, by_kind, last, Legal, IsLegal, commit_of, commits_in}
+use Rattle.svc_history.specs.History.{turns_of, IsLocalAt, IsAskedAt, IsSubmission, IsSubmissionAt, LegalEntry, after_entry, by_kind, last, Legal, IsLegal, commit_of, commits_in}
 use Rattle.svc_history.proofs.Parts.{part_locals}
 use Rattle.svc_history.proofs.Cases.{submit_accepted, assign_accepted, commit_accepted}
 use Rattle.svc_history.proofs.Moves.{run_here}
-use Rattle.svc_history.proofs.Turns.{Taken, taken, all_locals}
+use Rattle.svc_history.proofs.Turns.{taken, all_locals}
 
 pub refused_step : (img : Image) (g : Config) (s : Plain) (x : Event) (r : Refusal) → refuse img g s x ≡ Some r → after_event img g s x ≡ s
 unfolding after_event

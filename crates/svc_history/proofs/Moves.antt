@@ -1,10 +1,10 @@
 -- What the machine's fields keep through each accepted event.
-use Rattle.std.proofs.Common.{◌≡◌, ℕ, zero, suc, ◌+◌, ◌<◌, ◌≤◌, Bool, true, false, cond, not, List, [], ◌∷◌, ◌++◌, length, Option, Some, None, is_some, refl, sym, ◌∙◌, ap, ap₂, subst, arith, add-zero, zero-add, add-one, add_comm, append-nil, unwrap_or, slice_index}
+use Rattle.std.proofs.Common.{◌≡◌, ℕ, suc, ◌+◌, ◌<◌, Bool, true, false, List, [], length, Option, Some, None, is_some, refl, sym, ◌∙◌, ap, subst, arith, zero-add, add-one, add_comm, append-nil, slice_index}
 use Rattle.svc_rv32i.specs.declared.instr.Register.{Register}
 use Rattle.svc_rv32i.specs.declared.instr.LoadKind.{LoadKind}
 use Rattle.svc_rv32i.specs.declared.instr.StoreKind.{StoreKind}
 use Rattle.svc_rv32i.specs.declared.instr.StoreKind.TheVariants as store
-use Rattle.svc_image.specs.Image.{Image, IsImage, is_entry}
+use Rattle.svc_image.specs.Image.{Image, IsImage}
 use Rattle.svc_core_laws.specs.declared.ask.Ask.{Ask}
 use Rattle.svc_core_laws.specs.declared.ask.Ask.TheVariants as ask
 use Rattle.svc_core_laws.specs.declared.end.End.{End}
@@ -14,18 +14,17 @@ use Rattle.svc_core_laws.specs.Local.{sets}
 use Rattle.svc_core_laws.specs.Program.{Memory, Want, Run, Seq, Action, wrote, over, output, act, turn, part, seq, locals, are_local, followed_by, due_after, stopped_after, end_at, end_of_run, due_run}
 use Rattle.svc_core_laws.specs.Program as want
 use Rattle.svc_core_laws.specs.Words.{program, wants, wanted, wants_load, wants_store, wants_write}
-use Rattle.svc_core_laws.specs.Turns.{data_words, access_trap, arrived_if, arrived, next}
+use Rattle.svc_core_laws.specs.Turns.{data_words, arrived_if, arrived, next}
 use Rattle.svc_core_laws.specs.Bursts.{Advance, Means, is_nothing, ask_turns, shown}
 use Rattle.svc_core_laws.specs.Sequence.{Holds}
 use Rattle.svc_core_laws.proofs.Ends.{is_program}
 use Rattle.svc_history.specs.declared.machine.Slot.{Slot}
-use Rattle.svc_history.specs.declared.reply.What.{What}
-use Rattle.svc_history.specs.declared.reply.What.TheVariants.{Ran, Loaded, Stored, Emitted}
+use Rattle.svc_history.specs.declared.reply.What.TheVariants.{Loaded, Stored}
 use Rattle.svc_history.specs.Words.{Words, version_at, seen, HasNoVersion}
 use Rattle.svc_history.specs.Asked.{Effect, effect_of, wants_asked, after_ask, told}
 use Rattle.svc_history.specs.Kept.{Kept, Stands, IsRunning, slot_row}
-use Rattle.svc_history.specs.Plain.{Row, Plain, committed, run_on, seen_by, core_of, end_of}
-use Rattle.svc_history.specs.Replies.{done_by, asked_turn, answer, asks, address, the_end}
+use Rattle.svc_history.specs.Plain.{Row, Plain, committed, run_on, core_of}
+use Rattle.svc_history.specs.Replies.{done_by, asked_turn, answer, asks, address}
 use Rattle.svc_history.proofs.Parts.{part_locals, part_whole, seq_commit}
 use Rattle.svc_history.proofs.Keeps.{IsInside, asked_inside, seen_same, stands_after, same_places}
 

@@ -1,10 +1,10 @@
 -- What the machine's fields tell of the committed tasks.
-use Rattle.std.proofs.Common.{◌≡◌, ℕ, ◌+◌, ◌<◌, ◌≤◌, [], append-nil, length-append, arith, Bool, true, false, List, ◌++◌, length, take, Option, Some, None, is_some, refl, sym, ◌∙◌, ap, subst, unwrap_or, slice_index}
-use Rattle.std.proofs.Math.Seq.{take-append_seam, take-length}
-use Rattle.svc_image.specs.Image.{Image, IsImage}
+use Rattle.std.proofs.Common.{◌≡◌, ℕ, ◌+◌, ◌<◌, ◌≤◌, [], append-nil, length-append, arith, true, List, ◌++◌, length, take, Option, Some, None, is_some, refl, sym, ◌∙◌, ap, subst, unwrap_or, slice_index}
+use Rattle.std.proofs.Math.Seq.{take-append_seam}
+use Rattle.svc_image.specs.Image.{Image}
 use Rattle.svc_core_laws.specs.declared.end.End.{End}
 use Rattle.svc_core_laws.specs.State.{State}
-use Rattle.svc_core_laws.specs.Program.{Run, output, part, seq, due_after, stopped_after, end_at}
+use Rattle.svc_core_laws.specs.Program.{output, part, seq, due_after, stopped_after, end_at}
 use Rattle.svc_core_laws.specs.Words.{program}
 use Rattle.svc_core_laws.specs.Bytes.{word_at}
 use Rattle.svc_core_laws.specs.Turns.{data_words}
@@ -17,7 +17,7 @@ use Rattle.svc_core_laws.specs.Bursts.{Advance}
 use Rattle.svc_core_laws.proofs.SameCore.{same_state-is}
 use Rattle.std.proofs.lemmas.Bool.{and_parts}
 use Rattle.std.specs.Prelude.{◌==◌}
-use Rattle.svc_history.specs.Plain.{Plain, Row, committed, due_entry, end_of, core_of}
+use Rattle.svc_history.specs.Plain.{Plain, Row, committed, due_entry, end_of}
 use Rattle.svc_history.specs.Refusals.{is_current}
 use Rattle.svc_history.specs.Kept.{Kept, IsRunning, slot_row}
 use Rattle.svc_history.proofs.Moves.{core_here, committed_one, committed_end}

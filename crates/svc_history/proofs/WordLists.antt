@@ -1,5 +1,5 @@
 -- Lists of versions, and of the words that have one.
-use Rattle.std.proofs.Common.{◌≡◌, ℕ, zero, suc, ◌+◌, ◌<◌, ◌≤◌, ◌≢◌, List, [], ◌∷◌, ◌++◌, length, Option, Some, None, refl, sym, ap, ◌∙◌, subst, arith, unwrap_or, slice_get, slice_index, slice_index_or, All, get_or, take, inl, inr, ◌⊎◌, ⊎_elim, length-append}
+use Rattle.std.proofs.Common.{◌≡◌, ℕ, zero, suc, ◌+◌, ◌<◌, ◌≤◌, ◌≢◌, List, [], ◌∷◌, ◌++◌, length, Option, Some, None, refl, sym, ap, ◌∙◌, subst, arith, unwrap_or, slice_get, All, get_or, take, inl, inr, ◌⊎◌, length-append}
 use Rattle.std.specs.List.{sum_by}
 use Rattle.std.proofs.Math.ListN.{set}
 use Rattle.std.proofs.lemmas.List.{get_or-set_same, get_or-set_other, length-set}
@@ -8,7 +8,7 @@ use Rattle.std.proofs.Common.{rules}
 use Rattle.std.proofs.lemmas.Grind.{common_steps}
 use Rattle.std.proofs.lemmas.Option.{slice_get_within}
 use Rattle.std.proofs.lemmas.List.Sums.{sum_by-set, sum_by-cons}
-use Rattle.svc_history.specs.Words.{Words, version_at, seen_in, HasNoVersion, IsListedFrom, IsListed, one_version}
+use Rattle.svc_history.specs.Words.{version_at, seen_in, HasNoVersion, IsListedFrom, IsListed, one_version}
 
 few : (v : Option ℕ) → one_version v ≤ 1
 few None = omega arith

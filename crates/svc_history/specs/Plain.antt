@@ -1,5 +1,5 @@
 -- The plain machine of one unit: counts, and where the active task stands. All else is read off by running the program anew.
-use Rattle.std.specs.Prelude.{ℕ, ◌+◌, List, Option, Some, None, unwrap_or}
+use Rattle.std.specs.Prelude.{ℕ, ◌+◌, Option, Some, None, unwrap_or}
 use Rattle.svc_image.specs.Image.{Image}
 use Rattle.svc_base.specs.declared.config.Config.{Config}
 use Rattle.svc_core_laws.specs.declared.end.End.{End}

@@ -1,10 +1,9 @@
 -- Why an event is refused.
-use Rattle.std.specs.Prelude.{ℕ, ◌-◌, ◌^◌, Bool, true, false, not, ◌&&◌, ◌==◌, nat_le, List, [], ◌∷◌, Option, Some, None, is_some, is_none, if◌then◌else◌}
+use Rattle.std.specs.Prelude.{◌-◌, ◌^◌, Bool, false, not, ◌&&◌, ◌==◌, nat_le, List, [], ◌∷◌, Option, Some, None, is_some, is_none, if◌then◌else◌}
 use Rattle.svc_base.specs.declared.config.Config.{Config}
 use Rattle.svc_base.specs.declared.refusal.Refusal.{Refusal}
 use Rattle.svc_base.specs.declared.refusal.Refusal.TheVariants.{NoSuchUnit, Busy, Idle, Stale, ForeignText, NotEntry, Stopped, Done, HeadNotDone, NoTask, HistoryFull, EpochsSpent, EmptyBurst}
 use Rattle.svc_image.specs.Image.{Image, is_entry}
-use Rattle.svc_core_laws.specs.State.{State}
 use Rattle.svc_core_laws.specs.Bursts.{Advance, are_of, is_nothing}
 use Rattle.svc_history.specs.declared.event.Event.{Event}
 use Rattle.svc_history.specs.declared.event.Event.TheVariants.{Assign, Submit, Commit}

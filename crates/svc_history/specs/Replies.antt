@@ -1,6 +1,5 @@
 -- What an accepted event is answered.
-use Rattle.std.specs.Prelude.{ℕ, ◌+◌, Bool, true, false, not, Option, Some, None}
-use Rattle.svc_base.specs.declared.ids.TaskNo.{TaskNo}
+use Rattle.std.specs.Prelude.{ℕ, Bool, true, false, not, Option, Some, None}
 use Rattle.svc_base.specs.declared.ids.WordAddr.{WordAddr}
 use Rattle.svc_image.specs.Image.{Image}
 use Rattle.svc_core_laws.specs.declared.ask.Ask.{Ask}

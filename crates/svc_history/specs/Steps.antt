@@ -1,19 +1,16 @@
 -- What events do to the plain machine, and what a machine shows after them.
-use Rattle.std.specs.Prelude.{◌≡◌, ℕ, ◌+◌, ◌<◌, nat_le, Bool, List, Option, Some, None, Result, Ok, Err, if◌then◌else◌}
+use Rattle.std.specs.Prelude.{◌≡◌, ℕ, ◌+◌, nat_le, Bool, List, Option, Some, None, Result, Ok, Err, if◌then◌else◌}
 use Rattle.svc_base.specs.declared.config.Config.{Config}
-use Rattle.svc_base.specs.declared.ids.UnitId.{UnitId}
 use Rattle.svc_base.specs.declared.refusal.Refusal.{Refusal}
 use Rattle.svc_image.specs.Image.{Image}
 use Rattle.svc_core.specs.declared.burst.Lease.{Lease}
 use Rattle.svc_core_laws.specs.declared.end.End.{End}
 use Rattle.svc_core_laws.specs.Program.{Memory}
 use Rattle.svc_core_laws.specs.Bytes.{word_at}
-use Rattle.svc_core_laws.specs.Turns.{data_words}
 use Rattle.svc_core_laws.specs.Sequence.{plain_seq}
 use Rattle.svc_core_laws.specs.Bursts.{ask_turns}
 use Rattle.svc_history.specs.declared.event.Event.{Event}
 use Rattle.svc_history.specs.declared.event.Event.TheVariants.{Assign, Submit, Commit}
-use Rattle.svc_history.specs.declared.reply.Reply.{Reply}
 use Rattle.svc_history.specs.Plain.{Row, Plain, Shown, committed, due_entry, core_of}
 use Rattle.svc_history.specs.Refusals.{refuse}
 

@@ -1,4 +1,4 @@
-use Rattle.std.proofs.Common.{◌≡◌, ◌≤◌, ◌∙◌, ◌++◌, refl, sym, ap, subst, arith, ℕ, List, length, take, drop, All}
+use Rattle.std.proofs.Common.{◌≡◌, ◌∙◌, sym, ap, arith, length}
 use Rattle.svc_history.proofs.WordLists.{listed_none, whole_front}
 use Rattle.svc_history.proofs.bus.Bus.commit.Goals as goal
 

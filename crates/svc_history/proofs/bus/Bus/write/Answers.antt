@@ -1,5 +1,5 @@
-use Rattle.std.proofs.Common.{◌≡◌, ◌<◌, ◌≤◌, ◌∙◌, refl, Bool, sym, ap, subst, arith, Option, Some, None, true, false, is_ok, is_some, not, ℕ, length, vec_len, vec_capacity}
-use Rattle.svc_history.specs.Words.{IsListed, version_at}
+use Rattle.std.proofs.Common.{◌≡◌, ◌<◌, ◌∙◌, refl, Bool, ap, arith, Option, Some, None, true, false, is_ok, is_some, not, ℕ, length, vec_len, vec_capacity}
+use Rattle.svc_history.specs.Words.{version_at}
 use Rattle.svc_history.proofs.WordLists.{listed_again, listed_more, room_to_list, version_read}
 use Rattle.svc_history.proofs.bus.Bus.write.Goals as goal
 use Rattle.svc_history.proofs.bus.Bus.write.Goals.{then-is_none, else-is_none}

@@ -1,8 +1,7 @@
-use Rattle.std.proofs.Common.{◌≡◌, ◌∙◌, ◌+◌, ◌<◌, ◌≤◌, refl, sym, ap, ap₂, subst, arith, true, false, Option, Some, None, is_some, List, ℕ, length, vec_capacity}
+use Rattle.std.proofs.Common.{◌≡◌, ◌∙◌, ◌+◌, sym, ap, ap₂, subst, arith, true, false, Some, is_some}
 use Rattle.svc_history.specs.Plain.{Plain, Shown}
-use Rattle.svc_history.specs.Kept.{Kept, IsRunning, slot_row}
-use Rattle.svc_core_laws.specs.State.{State, start}
-use Rattle.svc_history.specs.declared.reply.Reply.{Reply}
+use Rattle.svc_history.specs.Kept.{Kept, slot_row}
+use Rattle.svc_core_laws.specs.State.{State}
 use Rattle.svc_history.specs.declared.reply.What.TheVariants.{Assigned}
 use Rattle.svc_history.specs.declared.event.Event.TheVariants.{Assign}
 use Rattle.svc_history.specs.Replies.{reply_to, without_cut}

@@ -1,7 +1,6 @@
-use Rattle.std.proofs.Common.{◌≡◌, ◌∙◌, ◌+◌, ◌<◌, ◌≤◌, refl, sym, ap, ap₂, subst, arith, true, false, Option, Some, None, is_some, List, ℕ, length, vec_capacity}
+use Rattle.std.proofs.Common.{◌≡◌, ◌∙◌, ◌+◌, refl, sym, ap, ap₂, subst, arith, true, false, Some, None, is_some, length}
 use Rattle.svc_history.specs.Plain.{Plain, Shown}
-use Rattle.svc_history.specs.Kept.{Kept, IsRunning, slot_row}
-use Rattle.svc_core_laws.specs.declared.end.End.{End}
+use Rattle.svc_history.specs.Kept.{slot_row}
 use Rattle.svc_history.specs.Plain.{end_of}
 use Rattle.svc_history.specs.declared.reply.What.TheVariants.{Committed}
 use Rattle.svc_history.specs.declared.event.Event.TheVariants.{Commit}

@@ -1,6 +1,6 @@
-use Rattle.std.proofs.Common.{◌≡◌, ◌∙◌, ◌+◌, ◌<◌, ◌≤◌, refl, sym, ap, ap₂, subst, arith, true, false, Option, Some, None, is_some, List, ℕ, length, vec_capacity}
+use Rattle.std.proofs.Common.{◌≡◌, ◌∙◌, sym, ap, subst}
 use Rattle.svc_history.specs.Plain.{Plain, Shown}
-use Rattle.svc_history.specs.Kept.{Kept, IsRunning, slot_row}
+use Rattle.svc_history.specs.Kept.{Kept, slot_row}
 use Rattle.svc_history.specs.Plain.{end_of}
 use Rattle.svc_history.proofs.Readings.{end_here}
 use Rattle.svc_history.proofs.machine.Machine.end.Goals as goal

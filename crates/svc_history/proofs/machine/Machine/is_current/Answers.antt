@@ -1,6 +1,6 @@
-use Rattle.std.proofs.Common.{◌≡◌, ◌∙◌, ◌+◌, ◌<◌, ◌≤◌, refl, sym, ap, ap₂, subst, arith, true, false, Option, Some, None, is_some, List, ℕ, length, vec_capacity}
+use Rattle.std.proofs.Common.{◌≡◌, ◌∙◌, sym, ap, ap₂, subst, true, Some}
 use Rattle.svc_history.specs.Plain.{Plain, Shown}
-use Rattle.svc_history.specs.Kept.{Kept, IsRunning, slot_row}
+use Rattle.svc_history.specs.Kept.{Kept, slot_row}
 use Rattle.std.specs.Prelude.{◌==◌, ◌&&◌}
 use Rattle.std.proofs.lemmas.Bool.{eq-eqb}
 use Rattle.svc_history.specs.Plain.{core_of}

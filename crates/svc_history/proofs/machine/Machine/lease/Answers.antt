@@ -1,9 +1,9 @@
-use Rattle.std.proofs.Common.{◌≡◌, ◌∙◌, ◌+◌, ◌<◌, ◌≤◌, refl, sym, ap, ap₂, subst, arith, true, false, Option, Some, None, is_some, List, ℕ, length, vec_capacity}
+use Rattle.std.proofs.Common.{◌≡◌, ◌∙◌, sym, ap, subst, Some}
 use Rattle.svc_history.specs.Plain.{Plain, Shown}
-use Rattle.svc_history.specs.Kept.{Kept, IsRunning, slot_row}
+use Rattle.svc_history.specs.Kept.{Kept, slot_row}
 use Rattle.svc_core.specs.declared.burst.Lease.{Lease}
 use Rattle.svc_core_laws.specs.State.{State}
-use Rattle.svc_history.specs.Steps.{lease_of, lease_at}
+use Rattle.svc_history.specs.Steps.{lease_at}
 use Rattle.svc_history.proofs.Moves.{core_here}
 use Rattle.svc_history.proofs.machine.Machine.lease.Goals as goal
 

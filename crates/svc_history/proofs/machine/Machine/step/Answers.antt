@@ -1,4 +1,4 @@
-use Rattle.std.proofs.Common.{◌≡◌, ◌∙◌, sym, ap}
+use Rattle.std.proofs.Common.{◌∙◌, sym, ap}
 use Rattle.svc_history.specs.Plain.{Plain, Shown}
 use Rattle.svc_history.specs.Steps.{stepped}
 use Rattle.svc_history.proofs.Legality.{refused_step, accepted_step}

@@ -1,13 +1,12 @@
-use Rattle.std.proofs.Common.{◌≡◌, ◌∙◌, ◌+◌, ◌<◌, ◌≤◌, refl, sym, ap, ap₂, subst, arith, true, Option, Some, None, List, ℕ, length, vec_capacity}
+use Rattle.std.proofs.Common.{◌≡◌, ◌∙◌, ◌+◌, sym, ap, ap₂, subst, arith, true, Option, Some, ℕ}
 use Rattle.svc_core_laws.specs.declared.ask.Ask.{Ask}
 use Rattle.svc_core_laws.specs.State.{State}
 use Rattle.svc_core_laws.specs.Bursts.{ask_turns}
 use Rattle.svc_core_laws.proofs.Means.{means, are_of_looks}
 use Rattle.svc_history.specs.declared.event.Event.TheVariants.{Submit}
-use Rattle.svc_history.specs.declared.reply.What.{What}
 use Rattle.svc_history.specs.declared.machine.Slot.{Slot}
 use Rattle.svc_history.specs.Plain.{Plain, Shown}
-use Rattle.svc_history.specs.Kept.{Kept, IsRunning, slot_row}
+use Rattle.svc_history.specs.Kept.{Kept, slot_row}
 use Rattle.svc_history.specs.Asked.{Effect, after_ask, told}
 use Rattle.svc_history.specs.Refusals.{is_current}
 use Rattle.svc_history.specs.Replies.{reply_to, answer, asks, without_cut}

@@ -1,4 +1,4 @@
-use Rattle.std.proofs.Common.{◌≡◌, ◌<◌, ◌+◌, ◌∙◌, [], ◌∷◌, ◌++◌, List, length, None, true, is_ok, sym, ap, ap₂, subst, arith, vec_len, vec_capacity, length-append}
+use Rattle.std.proofs.Common.{◌≡◌, ◌<◌, ◌∙◌, [], ◌∷◌, ◌++◌, List, length, None, true, is_ok, sym, ap, ap₂, subst, arith, vec_len, vec_capacity, length-append}
 use Rattle.svc_image.specs.Image.{IsImage}
 use Rattle.svc_history.specs.Plain.{Shown}
 use Rattle.svc_history.specs.Refusals.{refuse}
