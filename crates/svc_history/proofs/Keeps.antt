@@ -18,7 +18,7 @@ use Rattle.svc_core_laws.specs.Program.{Memory, Want, Run, Seq, Action, wrote, w
 use Rattle.svc_core_laws.specs.Program as want
 use Rattle.svc_core_laws.specs.Words.{program, wants_load, wants_store, wants_write}
 use Rattle.svc_core_laws.specs.Turns.{data_words, data_start, word_address, access_trap}
-use Rattle.svc_core_laws.specs.Sequence.{Holds}
+use Rattle.svc_history.specs.Words.{Holds}
 use Rattle.svc_history.specs.Words.{Words, version_at, seen}
 use Rattle.svc_history.specs.Asked.{effect_of, wants_asked}
 use Rattle.svc_history.specs.Kept.{Stands}

@@ -16,7 +16,7 @@ use Rattle.svc_core_laws.specs.Program as want
 use Rattle.svc_core_laws.specs.Words.{program, wants, wanted, wants_load, wants_store, wants_write}
 use Rattle.svc_core_laws.specs.Turns.{data_words, arrived_if, arrived, next}
 use Rattle.svc_core_laws.specs.Bursts.{Advance, Means, is_nothing, ask_turns, shown}
-use Rattle.svc_core_laws.specs.Sequence.{Holds}
+use Rattle.svc_history.specs.Words.{Holds}
 use Rattle.svc_core_laws.proofs.Ends.{is_program}
 use Rattle.svc_history.specs.declared.machine.Slot.{Slot}
 use Rattle.svc_history.specs.declared.reply.What.TheVariants.{Loaded, Stored}

@@ -6,7 +6,7 @@ use Rattle.svc_core_laws.specs.State.{State}
 use Rattle.svc_core_laws.specs.Program.{Run, wrote, output, part, seq}
 use Rattle.svc_core_laws.specs.Words.{program}
 use Rattle.svc_core_laws.specs.Turns.{data_words}
-use Rattle.svc_core_laws.specs.Sequence.{Holds}
+use Rattle.svc_history.specs.Words.{Holds}
 use Rattle.svc_history.specs.declared.machine.Slot.{Slot}
 use Rattle.svc_history.specs.Plain.{Row}
 use Rattle.svc_history.specs.Words.{Words, version_at, HasNoVersion}

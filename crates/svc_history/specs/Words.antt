@@ -35,3 +35,7 @@ pub record IsListed (committed : List ℕ) (versions : List (Option ℕ)) (writt
   pub listed : IsListedFrom 0 versions written
   pub placed : All (λ a. a < length committed) written
   pub once : length written ≡ sum_by one_version versions
+
+-- a list of words holds this memory of words
+pub record Holds (m : ℕ → ℕ) (words : List ℕ) : Type 0 where
+  pub word : (a : ℕ) → a < length words → slice_index words a ≡ m a
