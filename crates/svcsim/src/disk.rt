@@ -1,0 +1,31 @@
+//! What the program takes from the system: the words of its command line, and the files of the disk.
+
+use crate::faults::Fault;
+use crate::files::{FileFault, Files};
+use std::rt::{self, Env};
+use std::{env, fs};
+
+/// The files of the disk. A name is a path.
+#[derive(Drop)]
+pub struct Disk<'a, R> {
+    pub rt: &'a R,
+}
+
+impl<R: rt::Files + AllocGlobal> Files for Disk<'_, R> {
+    fn load(&mut self, name: &str) -> Result<Vec<u8>, FileFault> {
+        fs::read(self.rt, name).map_err(|_| FileFault)
+    }
+
+    fn save(&mut self, name: &str, bytes: &[u8]) -> Result<(), FileFault> {
+        fs::write(self.rt, name, bytes).map_err(|_| FileFault)
+    }
+}
+
+/// The words of the command line, the program's name first.
+pub fn words_of<R: Env + AllocGlobal>(rt: &R) -> Result<Vec<String>, Fault> {
+    let mut words = Vec::new(rt.alloc());
+    for word in env::args(rt)? {
+        words.push(word)?;
+    }
+    Ok(words)
+}

@@ -1,0 +1,36 @@
+//! `svcsim`: the command line over the simulator.
+#![tactic(auto)]
+
+mod command;
+mod disk;
+mod execute;
+mod faults;
+mod files;
+mod request;
+mod rows;
+mod run;
+mod sequential;
+mod summary;
+
+use disk::{Disk, words_of};
+use execute::execute;
+use faults::tell;
+use std::process::ExitCode;
+
+fn main(rt: HostRuntime) -> ExitCode {
+    let mut err = rt.stderr();
+    let status = match words_of(&rt) {
+        Ok(words) => execute(
+            rt.alloc(),
+            &words,
+            &mut Disk { rt: &rt },
+            &mut rt.stdout(),
+            &mut err,
+        ),
+        Err(fault) => tell(&fault, &mut err),
+    };
+    ExitCode::from(status)
+}
+
+#[cfg(test)]
+mod tests;
