@@ -1,0 +1,5 @@
+pub mod Counts
+pub mod Listing
+pub mod Settling
+pub mod Squashing
+pub mod Emptying

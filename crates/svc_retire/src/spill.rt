@@ -1,0 +1,166 @@
+ghost use Rattle.std.specs.Prelude.{◌≡◌, ◌<◌, ℕ, Option, Some, None, All, IfOk, length, get_or, set, replicate, unwrap_or};
+ghost use Rattle.svc_retire.specs.Spills.{is_listed, spilled};
+ghost use Rattle.svc_retire.specs.declared.spill.Place.TheVariants.{Unlisted};
+
+use crate::memory::store;
+use std::alloc::{AllocError, Global};
+use std::marker::Model;
+use svc_base::{OpenError, WordAddr};
+
+/// What the table holds for a word.
+#[derive(Clone, Copy, Debug, PartialEq, Eq)]
+enum Place {
+    /// No version of the word was spilled since the last commit.
+    Unlisted,
+    /// One was, and then the head stored the word again.
+    Emptied,
+    /// The version of the head, whose line was replaced.
+    Spilled(u32),
+}
+
+impl Place {
+    // The word is in the list of words.
+    fn is_listed(&self) -> bool
+        ensures { result ≡ is_listed self.now }
+    {
+        match self {
+            Place::Unlisted => false,
+            Place::Emptied => true,
+            Place::Spilled(_) => true,
+        }
+    }
+
+    // The spilled version.
+    fn version(&self) -> Option<u32>
+        ensures { result ≡ spilled self.now }
+    {
+        match self {
+            Place::Unlisted => None,
+            Place::Emptied => None,
+            Place::Spilled(value) => Some(*value),
+        }
+    }
+
+    // The place once its word was stored again.
+    fn emptied(&self) -> Place
+        ensures listed { is_listed result ≡ is_listed self.now }
+        ensures empty { spilled result ≡ None }
+    {
+        match self {
+            Place::Unlisted => Place::Unlisted,
+            Place::Emptied => Place::Emptied,
+            Place::Spilled(_) => Place::Emptied,
+        }
+    }
+}
+
+/// The spill table: for each word of the memory, the head's version of it whose line was replaced, if
+/// any. It is empty when a task becomes the head.
+///
+/// The words with a version are also kept in a list, so that a commit costs as much as was spilled
+/// since the last one, whatever the memory's size. There is room for both from the opening on.
+///
+/// Contracts see the list of the versions by word.
+#[derive(Drop)]
+pub struct Spill {
+    places: Vec<Place>,
+    words: Vec<u32>,
+    count: usize,
+}
+
+impl Model for Spill {
+    ghost use Rattle.std.specs.Prelude.{List, Option, ℕ, map};
+    ghost use Rattle.svc_retire.specs.Spills.{spilled, IsListed};
+
+    ghost Value = { List (Option ℕ) };
+
+    ghost view = { λ table. map spilled table.places.items };
+
+    ghost invariant = { λ table. IsListed table.places.items table.words.items table.count };
+}
+
+// So many places without a version.
+fn empty_places(alloc: Global, words: usize) -> Result<Vec<Place>, AllocError>
+    ensures { IfOk result (λ places. places.items ≡ replicate words Unlisted) }
+{
+    vec![in alloc; Place::Unlisted; words]
+}
+
+// So many places for words.
+fn empty_words(alloc: Global, words: usize) -> Result<Vec<u32>, AllocError>
+    ensures { IfOk result (λ list. length list.items ≡ words) }
+{
+    vec![in alloc; 0; words]
+}
+
+impl Spill {
+    /// A table without versions, for a memory of so many words. It takes its memory here, and no more
+    /// later.
+    pub fn open(alloc: Global, words: usize) -> Result<Spill, OpenError>
+        ensures { IfOk result (λ table. table ≡ replicate words None) }
+    {
+        let Ok(places) = empty_places(alloc, words) else {
+            return Err(OpenError::Memory);
+        };
+        let Ok(words) = empty_words(alloc, words) else {
+            return Err(OpenError::Memory);
+        };
+        Ok(Spill {
+            places,
+            words,
+            count: 0,
+        })
+    }
+
+    /// How many words the memory has.
+    pub fn len(&self) -> usize
+        ensures { result ≡ length self.now }
+    {
+        self.places.len()
+    }
+
+    /// The spilled version of the word.
+    pub fn get(&self, word: WordAddr) -> Option<u32>
+        requires { word.0 < length self.now }
+        ensures { result ≡ get_or self.now word.0 None }
+    {
+        self.places[word.0 as usize].version()
+    }
+
+    /// The head's version of the word is spilled.
+    pub fn put(&mut self, word: WordAddr, value: u32)
+        requires { word.0 < length self.old }
+        ensures { self.new ≡ set self.old word.0 (Some value) }
+    {
+        let place = word.0 as usize;
+        if !self.places[place].is_listed() {
+            self.words[self.count] = word.0;
+            self.count += 1;
+        }
+        self.places[place] = Place::Spilled(value);
+    }
+
+    /// The head stored the word again, so the spilled version of it is its version no more.
+    pub fn clear(&mut self, word: WordAddr)
+        requires { word.0 < length self.old }
+        ensures { self.new ≡ set self.old word.0 None }
+    {
+        let place = word.0 as usize;
+        self.places[place] = self.places[place].emptied();
+    }
+
+    /// The head is committed: the spilled versions go to the backing memory, and the table is empty.
+    pub fn write_back(&mut self, backing: &mut [u32])
+        requires { length backing.old ≡ length self.old }
+        ensures memory { (a : ℕ) → get_or backing.new a 0 ≡ unwrap_or (get_or self.old a None) (get_or backing.old a 0) }
+        ensures empty { self.new ≡ replicate (length self.old) None }
+    {
+        for k in 0..self.count {
+            let place = self.words[k] as usize;
+            let version = self.places[place].version();
+            store(backing, place, version);
+            self.places[place] = Place::Unlisted;
+        }
+        self.count = 0;
+    }
+}
