@@ -27,3 +27,4 @@ pub mod Numbers
 pub mod Waiting
 pub mod Guessing
 pub mod Suppliers
+pub mod EmptyBursts

@@ -1,10 +1,12 @@
 // One accepted event.
 
-ghost use Rattle.std.specs.Prelude.{◌≡◌, ℕ, ◌+◌, Option, Some, None, length};
+ghost use Rattle.std.specs.Prelude.{◌≡◌, ℕ, ◌+◌, ◌==◌, Option, Some, None, length};
 ghost use Rattle.svc_base.specs.declared.config.Config.{Config};
 ghost use Rattle.svc_image.specs.Image.{Image, IsImage};
 ghost use Rattle.svc_core_laws.specs.declared.ask.Ask.{Ask};
 ghost use Rattle.svc_core_laws.specs.State.{State};
+ghost use Rattle.svc_core_laws.specs.Same.{same_state};
+ghost use Rattle.svc_core_laws.specs.Bursts.{Advance, Follows};
 ghost use Rattle.svc_core_laws.specs.Program.{Want};
 ghost use Rattle.svc_core_laws.specs.Turns.{data_words};
 ghost use Rattle.svc_core_laws.specs.Words.{program};
@@ -32,6 +34,11 @@ pub fn accepted_event()
 pub fn asked_word_is_wanted()
     ensures word { (img : Image) → (s : State) → (ask : Ask) → (w : Want State) → want_of img s ask ≡ Some w → word_of w ≡ asked_word img ask }
     ensures inside { (img : Image) → (s : State) → (ask : Ask) → (w : Want State) → want_of img s ask ≡ Some w → IsWithin (data_words img) w }
+{}
+
+/// A burst ends at the core where it starts exactly where it has no local turn.
+pub fn empty_burst_has_no_turn()
+    ensures { (b : Advance) → Follows b → same_state b.end b.start ≡ (b.local == 0) }
 {}
 
 /// What holds of every standing that events lead to is kept by each event, accepted or refused: among it
