@@ -7,7 +7,8 @@ pub record HasRoom (probes : Probes) (ways : ℕ) : Type 0 where
   pub searches : probes.searches + 1 < 2 ^ 32
   pub places : probes.places + ways < 2 ^ 32
 
--- exactly one search was added, and no more places than the set has ways
+-- exactly one search was added, and no more places than the set has ways; what was counted before stays counted
 pub record CountsOneSearch (before after : Probes) (ways : ℕ) : Type 0 where
   pub searches : after.searches ≡ before.searches + 1
   pub places : after.places ≤ before.places + ways
+  pub kept : before.places ≤ after.places

@@ -11,3 +11,4 @@ pub mod SameCore
 pub mod OneStep
 pub mod OneBurst
 pub mod Going
+pub mod PlainParts

@@ -8,7 +8,7 @@ use Rattle.svc_core_laws.specs.declared.end.Ending.TheVariants as ending
 use Rattle.svc_core_laws.specs.State.{State, start, limit_of}
 use Rattle.svc_core_laws.specs.Bytes.{word_at, bytes_of, IsMemory}
 use Rattle.svc_core_laws.specs.Turns.{Turn, plain_turns, data_words}
-use Rattle.svc_core_laws.specs.Program.{Memory, Run, Seq, wrote, over, output, due_after, stopped_after}
+use Rattle.svc_core_laws.specs.Program.{Words, Memory, Run, Seq, wrote, over, output, due_after, stopped_after}
 
 -- part of a task: n plain turns from an entry
 abbrev pub plain_part : Image → (e n : ℕ) → List ℕ → Turn
@@ -62,3 +62,9 @@ pub record IsSameSeq (img : Image) (s : PlainSeq) (w : Seq) : Type 0 where
   pub due : w.due ≡ s.due
   pub stopped : w.stopped ≡ s.stopped
   pub is_memory : IsMemory (data_words img) s.memory
+
+-- two parts did the same: they leave the same core and have put out the same words, and each word that was written has the same value
+pub record IsSamePart (written : Words) (t u : Turn) : Type 0 where
+  pub core : t.core ≡ u.core
+  pub output : t.output ≡ u.output
+  pub words : (a v : ℕ) → written a ≡ Some v → (word_at t.memory a ≡ v) × (word_at u.memory a ≡ v)

@@ -6,16 +6,24 @@ ghost use Rattle.svc_core_laws.specs.declared.end.End.{End};
 ghost use Rattle.svc_core_laws.specs.State.{State};
 ghost use Rattle.svc_core_laws.specs.Bytes.{IsMemory, number_at, word_at, with_bytes, extracted, replaced, bytes_of};
 ghost use Rattle.svc_core_laws.specs.Turns.{data_words, plain, then_plain};
-ghost use Rattle.svc_core_laws.specs.Program.{Program, IsProgram, Memory, part, turn, seq, exposed, act, output};
+ghost use Rattle.svc_core_laws.specs.Program.{Program, IsProgram, Memory, part, turn, seq, exposed, wrote, act, output};
 ghost use Rattle.svc_core_laws.specs.Program as want;
 ghost use Rattle.svc_core_laws.specs.Words.{program, wants};
-ghost use Rattle.svc_core_laws.specs.Sequence.{plain_part, plain_task, plain_seq, IsSame, IsSameSeq};
+ghost use Rattle.svc_core_laws.specs.Sequence.{plain_part, plain_task, plain_seq, IsSame, IsSamePart, IsSameSeq};
 ghost use Rattle.svc_core_laws.specs.Bursts.{Advance, IsAdvance};
 
 /// Where two memories agree on a part's exposed words, the part does the same on both: it gives the same
 /// core and the same actions, so the same output, exposed words, and written words with their values.
 pub fn same_part<C>()
     ensures { (p : Program C) → (entry turns : ℕ) → (m other : Memory) → ((a : ℕ) → exposed (part p entry turns m).log a ≡ true → m a ≡ other a) → part p entry turns m ≡ part p entry turns other }
+{}
+
+/// The same on flat memories of bytes: where two of them agree on the words that a part reads before it
+/// writes them, the part leaves the same core, output and written words on both.
+pub fn same_plain_part()
+    ensures { (img : Image) → (entry turns : ℕ) → (m other : List ℕ) → IsMemory (data_words img) m → IsMemory (data_words img) other
+        → ((a : ℕ) → exposed (part (program img) entry turns (word_at m)).log a ≡ true → word_at m a ≡ word_at other a)
+        → IsSamePart (wrote (part (program img) entry turns (word_at m)).log) (plain_part img entry turns m) (plain_part img entry turns other) }
 {}
 
 /// A task that has ended stays as it is.

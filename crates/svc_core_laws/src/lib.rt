@@ -10,5 +10,5 @@ pub use ask::Ask;
 pub use end::{End, Ending};
 pub use laws::{
     bytes_of_a_word, due_is_entry, ended_task_stays, every_task_ends, one_burst, one_turn_more,
-    same_part, sequence_on_words, turns_on_words, words_are_counted,
+    same_part, same_plain_part, sequence_on_words, turns_on_words, words_are_counted,
 };
