@@ -28,3 +28,4 @@ pub mod Waiting
 pub mod Guessing
 pub mod Suppliers
 pub mod EmptyBursts
+pub mod Room
