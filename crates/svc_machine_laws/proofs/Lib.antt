@@ -1,7 +1,7 @@
 pub mod EditedLists
 pub mod Runs
 pub mod Parts
-pub mod Rows
+pub mod TurnRows
 pub mod Submits
 pub mod Steps
 pub mod Sound

@@ -8,6 +8,7 @@ mod guides;
 mod lists;
 mod machine;
 mod reply;
+mod rows;
 
 pub use events::{
     accepted_event, asked_word_is_wanted, cut_is_blamed, empty_burst_has_no_turn, event_keeps,
@@ -20,3 +21,4 @@ pub use lists::{
 };
 pub use machine::{machine_steps, task_anew};
 pub use reply::{Cause, Cut, Reply, Served, What};
+pub use rows::first_assignment;
