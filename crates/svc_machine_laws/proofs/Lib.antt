@@ -1,7 +1,7 @@
 pub mod EditedLists
 pub mod Runs
 pub mod Parts
-pub mod Rows
+pub mod TurnRows
 pub mod Submits
 pub mod Steps
 pub mod Sound
@@ -28,3 +28,4 @@ pub mod Waiting
 pub mod Guessing
 pub mod Suppliers
 pub mod EmptyBursts
+pub mod Room

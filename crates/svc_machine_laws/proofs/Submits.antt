@@ -10,7 +10,7 @@ use Rattle.svc_machine_laws.specs.WholeMachine as whole
 use Rattle.svc_machine_laws.specs.MachineLaws.{Taken}
 use Rattle.svc_machine_laws.proofs.EditedLists.{map_edit, edit_same, edit_edit, cut_by_hide, view_hide}
 use Rattle.svc_machine_laws.proofs.Runs.{turned, turn_at}
-use Rattle.svc_machine_laws.proofs.Rows.{row_turn, row_turned, seat_turned, map_turn_rows}
+use Rattle.svc_machine_laws.proofs.TurnRows.{row_turn, row_turned, seat_turned, map_turn_rows}
 use Rattle.svc_machine_laws.proofs.Parts.{part_locals}
 
 -- local turns of one task are local turns of its run

@@ -8,6 +8,7 @@ mod guides;
 mod lists;
 mod machine;
 mod reply;
+mod rows;
 
 pub use events::{
     accepted_event, asked_word_is_wanted, cut_is_blamed, empty_burst_has_no_turn, event_keeps,
@@ -15,8 +16,9 @@ pub use events::{
 };
 pub use guides::{guess_is_entry, guess_is_guided, guide_steps};
 pub use lists::{
-    headline, list_keeps, opening_is_reached, reached_is_sequential, supplier_holds,
+    headline, list_keeps, opening_is_reached, reached_is_sequential, supplier_holds, tasks_are_few,
     whole_machine_anew,
 };
 pub use machine::{machine_steps, task_anew};
 pub use reply::{Cause, Cut, Reply, Served, What};
+pub use rows::first_assignment;

@@ -1,6 +1,6 @@
 // Every list of events.
 
-ghost use Rattle.std.specs.Prelude.{◌≡◌, ℕ, List, Some, slice_get};
+ghost use Rattle.std.specs.Prelude.{◌≡◌, ℕ, ◌≤◌, List, Some, length, slice_get};
 ghost use Rattle.std.specs.List.{AllByRecursion};
 ghost use Rattle.svc_base.specs.declared.config.Config.{Config};
 ghost use Rattle.svc_image.specs.Image.{Image, IsImage};
@@ -33,6 +33,11 @@ pub fn whole_machine_anew()
 /// A standing that events lead to has committed the first tasks of the sequential run, and nothing else.
 pub fn reached_is_sequential()
     ensures { (img : Image) → IsImage img → (config : Config) → (s : Standing) → IsReached img config s → IsSequential img s.plain.commits (whole_of img s) }
+{}
+
+/// There are at most as many active tasks as units.
+pub fn tasks_are_few()
+    ensures { (img : Image) → (config : Config) → (s : Standing) → IsReached img config s → length s.plain.tasks ≤ config.units }
 {}
 
 /// Who serves a read of an active task holds the word that the task's run sees, when it is run anew.
