@@ -1,0 +1,3 @@
+mod Older
+mod Inserting
+mod Finding

@@ -1,0 +1,144 @@
+ghost use Rattle.std.specs.Prelude.{◌≡◌, ◌<◌, ◌≤◌, ◌+◌, ℕ, true, false, Some, length, map, get_or, option_map};
+ghost use Rattle.svc_line.specs.Line.{seen};
+ghost use Rattle.svc_cache.specs.Places.{CacheValue, line_of};
+ghost use Rattle.svc_vol.specs.Lines.{CountsOneOfEach, HasRoomForEach, UnitLines, is_older_of, lines_at, lines_in};
+ghost use Rattle.svc_vol.specs.Versions.{AreCommitted, active_versions, seen_version, version_at};
+
+use crate::version::Version;
+use arrayvec::ArrayVec;
+use std::marker::Model;
+use svc_base::{UnitId, WordAddr};
+use svc_cache::{Cache, Probes};
+use svc_line::Line;
+use svc_order::TaskQueue;
+
+/// How many lines a word can have: as many as there can be units.
+pub const CAPACITY: usize = 16;
+
+/// The valid lines of a word, in order: the committed ones, then the active ones.
+///
+/// Among the committed lines those that were stored to stand in the order of their tasks, oldest first.
+/// An active line stands at the place of its task in the queue.
+#[derive(Drop)]
+pub struct VersionList {
+    committed: ArrayVec<Version, CAPACITY>,
+    active: ArrayVec<Option<Version>, CAPACITY>,
+}
+
+impl Model for VersionList {
+    ghost use Rattle.svc_vol.specs.Versions.{Versions};
+
+    ghost Value = { Versions };
+
+    ghost view = { λ list. record { committed = list.committed.items; active = list.active.items } };
+}
+
+// One look into each cache: the word's line in it.
+fn found_in(
+    caches: &[Cache],
+    word: WordAddr,
+    probes: &mut Probes,
+) -> ArrayVec<Option<Line>, CAPACITY>
+    requires few { length caches.now ≤ CAPACITY }
+    requires room { HasRoomForEach probes.old caches.now }
+    ensures lines { map (option_map seen) result.items ≡ map (λ (cache : CacheValue). line_of cache word.0) caches.now }
+    ensures counted { CountsOneOfEach probes.old probes.new caches.now }
+{
+    let mut found = ArrayVec::new();
+    for cache in caches {
+        found.push(cache.lookup(word, probes));
+    }
+    found
+}
+
+// The first place whose version is newer, which is the new one's place.
+fn seat_of(versions: &[Version], new: &Version) -> usize
+    ensures within { result ≤ length versions.now }
+    ensures before { (place : ℕ) → place < result → is_older_of (Some (seen new.now.line)) (Some (seen (version_at versions.now place).line)) ≡ false }
+    ensures newer { result < length versions.now → is_older_of (Some (seen new.now.line)) (Some (seen (version_at versions.now result).line)) ≡ true }
+{
+    for place in 0..versions.len() {
+        if new.is_older_than(&versions[place]) {
+            return place;
+        }
+    }
+    versions.len()
+}
+
+// The unit's line comes in among the committed lines of the units before it, where it is committed.
+fn enter(committed: &mut ArrayVec<Version, CAPACITY>, unit: UnitId, line: Option<Line>)
+    requires room { length committed.old.items < CAPACITY }
+    ensures { (lines : UnitLines) → AreCommitted lines unit.0 committed.old.items → lines unit.0 ≡ option_map seen line → AreCommitted lines (unit.0 + 1) committed.new.items }
+{
+    let Some(line) = line else { return };
+    if !line.bits.is_committed() {
+        return;
+    }
+    let version = Version { unit, line };
+    let seat = seat_of(committed, &version);
+    committed.insert(seat, version);
+}
+
+// The committed lines among those that were found, in order.
+fn committed_of(found: &[Option<Line>]) -> ArrayVec<Version, CAPACITY>
+    requires few { length found.now ≤ CAPACITY }
+    ensures { AreCommitted (lines_at (map (option_map seen) found.now)) (length found.now) result.items }
+{
+    let mut committed = ArrayVec::new();
+    for unit in 0..found.len() {
+        enter(&mut committed, UnitId(unit as u8), found[unit]);
+    }
+    committed
+}
+
+// The active lines among those that were found, by the places of their tasks.
+fn active_of(found: &[Option<Line>], queue: &TaskQueue) -> ArrayVec<Option<Version>, CAPACITY>
+    requires known { (place : ℕ) → place < length queue.now → get_or queue.now place 0 < length found.now }
+    ensures { map (option_map seen_version) result.items ≡ active_versions (lines_at (map (option_map seen) found.now)) queue.now }
+{
+    let mut active = ArrayVec::new();
+    for place in 0..queue.len() {
+        let unit = queue.unit_at(place);
+        active.push(Version::active(unit, found[unit.0 as usize]));
+    }
+    active
+}
+
+impl VersionList {
+    /// The valid lines of the word. Each cache is searched once.
+    pub fn of(
+        caches: &[Cache],
+        queue: &TaskQueue,
+        word: WordAddr,
+        probes: &mut Probes,
+    ) -> VersionList
+        requires few { length caches.now ≤ CAPACITY }
+        requires known { (place : ℕ) → place < length queue.now → get_or queue.now place 0 < length caches.now }
+        requires room { HasRoomForEach probes.old caches.now }
+        ensures committed { AreCommitted (lines_in caches.now word.0) (length caches.now) result.committed }
+        ensures active { map (option_map seen_version) result.active ≡ active_versions (lines_in caches.now word.0) queue.now }
+        ensures counted { CountsOneOfEach probes.old probes.new caches.now }
+    {
+        let found = found_in(caches, word, probes);
+        VersionList {
+            committed: committed_of(&found),
+            active: active_of(&found, queue),
+        }
+    }
+
+    /// The committed lines. Of those that were stored to, the oldest is the first.
+    pub fn committed(&self) -> &[Version]
+        ensures lines { result.now ≡ self.now.committed }
+        ensures capacity { length result.now ≤ CAPACITY }
+    {
+        &self.committed
+    }
+
+    /// The active lines, each at the place of its task in the queue.
+    pub fn active(&self) -> &[Option<Version>]
+        ensures lines { result.now ≡ self.now.active }
+        ensures capacity { length result.now ≤ CAPACITY }
+    {
+        &self.active
+    }
+}

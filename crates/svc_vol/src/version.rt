@@ -1,0 +1,52 @@
+ghost use Rattle.std.specs.Prelude.{◌≡◌, Some, option_map};
+ghost use Rattle.svc_line.specs.Line.{seen};
+ghost use Rattle.svc_vol.specs.Lines.{is_older_of};
+ghost use Rattle.svc_vol.specs.Versions.{active_version, seen_version};
+
+use bitflags::Flags;
+use svc_base::{TaskNo, UnitId};
+use svc_line::{Line, LineBits};
+
+/// A valid line of a word, and the unit whose cache holds it.
+#[derive(Clone, Copy, Debug, PartialEq, Eq)]
+pub struct Version {
+    /// The unit.
+    pub unit: UnitId,
+    /// The line.
+    pub line: Line,
+}
+
+impl Default for Version {
+    // A line without V: what fills the unused places of a list.
+    fn default() -> Version {
+        Version {
+            unit: UnitId(0),
+            line: Line {
+                value: 0,
+                bits: LineBits::empty(),
+                task: TaskNo(0),
+            },
+        }
+    }
+}
+
+impl Version {
+    /// The unit's line, where it is active.
+    pub(crate) fn active(unit: UnitId, line: Option<Line>) -> Option<Version>
+        ensures { option_map seen_version result ≡ active_version unit.0 (option_map seen line) }
+    {
+        match line {
+            Some(line) if line.bits.is_active() => Some(Version { unit, line }),
+            _ => None,
+        }
+    }
+
+    /// Both lines were stored to, and this one by an earlier task.
+    pub(crate) fn is_older_than(&self, other: &Version) -> bool
+        ensures { result ≡ is_older_of (Some (seen self.now.line)) (Some (seen other.now.line)) }
+    {
+        self.line.bits.is_dirty()
+            && other.line.bits.is_dirty()
+            && self.line.task.0 < other.line.task.0
+    }
+}
