@@ -1,5 +1,6 @@
 -- The spill table's words are taken up one by one: each spilled version goes to the memory, and its place is emptied.
-use Rattle.std.proofs.Common.{◌≡◌, ◌≢◌, ◌∙◌, refl, sym, ap, subst, ℕ, zero, suc, ◌+◌, ◌<◌, Bool, true, false, cond, ◌||◌, Option, Some, None, List, [], ◌∷◌, length, get_or, set, replicate, unwrap_or, inl, inr, arith, length-set, get_or-set_same, get_or-set_other, eq-eqb, ne_eqb, true≢false}
+use Rattle.std.proofs.Common.{◌≡◌, ◌≢◌, ◌∙◌, refl, sym, ap, subst, ℕ, zero, suc, ◌+◌, ◌<◌, ◌≤◌, Bool, true, false, cond, ◌||◌, Option, Some, None, List, [], ◌∷◌, length, get_or, set, replicate, unwrap_or, inl, inr, arith, length-set, get_or-set_same, get_or-set_other, eq-eqb, ne_eqb, true≢false}
+use Rattle.std.specs.Bool.{◌==◌}
 use Rattle.std.specs.Prelude.{map}
 use Rattle.std.proofs.lemmas.Bool.{cases_Bool, cases_eq}
 use Rattle.std.proofs.lemmas.List.{length-map}
@@ -8,6 +9,7 @@ use Rattle.svc_retire.specs.declared.spill.Place.TheVariants.{Unlisted, Emptied,
 use Rattle.svc_retire.specs.Memory.{with_version}
 use Rattle.svc_retire.specs.Spills.{spilled, is_listed, place_at, is_among, IsListed}
 use Rattle.svc_retire.proofs.Counts.{how_many_within}
+use Rattle.svc_retire.proofs.Listing.{empty_list, empty_view}
 
 -- the memory's word, over which a version has gone
 abbrev pub memory_after : Bool → Option ℕ → ℕ → ℕ
@@ -32,11 +34,11 @@ or_false true y e = refl
 or_false false y e = e
 
 -- a word of the memory after a version of it
-version_same : (memory : List ℕ) (word : ℕ) (version : Option ℕ) → word < length memory → get_or (with_version memory word version) word 0 ≡ unwrap_or version (get_or memory word 0)
+pub version_same : (memory : List ℕ) (word : ℕ) (version : Option ℕ) → word < length memory → get_or (with_version memory word version) word 0 ≡ unwrap_or version (get_or memory word 0)
 version_same memory word None h = refl
 version_same memory word (Some value) h = get_or-set_same memory word value 0 h
 
-version_other : (memory : List ℕ) (word other : ℕ) (version : Option ℕ) → other ≢ word → get_or (with_version memory word version) other 0 ≡ get_or memory other 0
+pub version_other : (memory : List ℕ) (word other : ℕ) (version : Option ℕ) → other ≢ word → get_or (with_version memory word version) other 0 ≡ get_or memory other 0
 version_other memory word other None ne = refl
 version_other memory word other (Some value) ne = get_or-set_other memory word other value 0 ne
 

@@ -3,3 +3,5 @@ pub mod Listing
 pub mod Settling
 pub mod Squashing
 pub mod Emptying
+pub mod Dropping
+pub mod Newest

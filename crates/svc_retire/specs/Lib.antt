@@ -1,3 +1,4 @@
 pub mod Memory
 pub mod Spills
 pub mod Caches
+pub mod Purges

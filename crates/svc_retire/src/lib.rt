@@ -9,9 +9,11 @@
 
 pub mod lines;
 mod memory;
+pub mod purging;
 pub mod spill;
 
 pub use lines::{commit_lines, squash_lines};
+pub use purging::purge;
 pub use spill::Spill;
 
 #[cfg(test)]

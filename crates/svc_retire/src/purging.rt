@@ -1,0 +1,98 @@
+ghost use Rattle.std.specs.Prelude.{◌≡◌, ◌+◌, ◌<◌, ◌==◌, ◌&&◌, ℕ, None, cond, length, get_or};
+ghost use Rattle.svc_vol.specs.Lines.{lines_in};
+ghost use Rattle.svc_vol.specs.Versions.{AreCommitted};
+ghost use Rattle.svc_retire.specs.Caches.{line_in, SameSizes};
+ghost use Rattle.svc_retire.specs.Purges.{committed_in, AreDistinct, CountsSearches, drops, HasRoomFor, is_purged, IsNewest, keeps, line_after_purge, purges};
+
+use crate::memory::store;
+use svc_base::{UnitId, WordAddr};
+use svc_cache::{Cache, Probes};
+use svc_vol::{Version, VersionList};
+
+// The value of the newest version among committed lines, of which the oldest is the first.
+fn newest(committed: &[Version]) -> Option<u32>
+    ensures { IsNewest committed.now (length committed.now) result }
+{
+    let mut newest = None;
+    for version in committed {
+        if version.line.bits.is_dirty() {
+            newest = Some(version.line.value);
+        }
+    }
+    newest
+}
+
+// The unit's line stays.
+fn is_kept(keep: Option<UnitId>, unit: UnitId) -> bool
+    ensures { result ≡ keeps keep unit.0 }
+{
+    match keep {
+        None => false,
+        Some(kept) => kept.0 == unit.0,
+    }
+}
+
+// The committed line becomes invalid where it holds a version, unless its unit keeps it.
+fn drop_version(
+    caches: &mut [Cache],
+    version: &Version,
+    word: WordAddr,
+    keep: Option<UnitId>,
+    probes: &mut Probes,
+)
+    requires known { version.now.unit.0 < length caches.old }
+    requires room { HasRoomFor probes.old caches.old 1 }
+    ensures lines { (u a : ℕ) → line_in caches.new u a ≡ cond ((a == word.0) && (drops keep version.now && (version.now.unit.0 == u))) None (line_in caches.old u a) }
+    ensures sizes { SameSizes caches.old caches.new }
+    ensures counted { CountsSearches probes.old probes.new (cond (drops keep version.now) 1 0) }
+{
+    if version.line.bits.is_dirty() && !is_kept(keep, version.unit) {
+        caches[version.unit.0 as usize].drop_line(word, probes);
+    }
+}
+
+// All of these become invalid that hold versions, except the one of the unit that keeps it.
+fn drop_versions(
+    caches: &mut [Cache],
+    committed: &[Version],
+    word: WordAddr,
+    keep: Option<UnitId>,
+    probes: &mut Probes,
+)
+    requires listed { AreCommitted (lines_in caches.old word.0) (length caches.old) committed.now }
+    requires room { HasRoomFor probes.old caches.old (length caches.old) }
+    ensures lines { (u a : ℕ) → line_in caches.new u a ≡ line_after_purge keep word.0 u a (line_in caches.old u a) }
+    ensures sizes { SameSizes caches.old caches.new }
+    ensures counted { CountsSearches probes.old probes.new (purges caches.old keep word.0) }
+{
+    for version in committed {
+        drop_version(caches, version, word, keep, probes);
+    }
+}
+
+/// The word is purged: of its committed lines that hold versions, the newest one's value goes to the
+/// backing memory, and all of them become invalid. The line of `keep` stays in its place, for a read or
+/// write of that unit that fills over it at once.
+///
+/// `list` is the version list of the word. Each line that becomes invalid takes one search.
+pub fn purge(
+    caches: &mut [Cache],
+    backing: &mut [u32],
+    list: &VersionList,
+    word: WordAddr,
+    keep: Option<UnitId>,
+    probes: &mut Probes,
+)
+    requires listed { AreCommitted (lines_in caches.old word.0) (length caches.old) list.now.committed }
+    requires distinct { AreDistinct caches.old word.0 }
+    requires in_memory { word.0 < length backing.old }
+    requires room { HasRoomFor probes.old caches.old (length caches.old) }
+    ensures lines { (u a : ℕ) → line_in caches.new u a ≡ line_after_purge keep word.0 u a (line_in caches.old u a) }
+    ensures memory { (a : ℕ) → get_or backing.new a 0 ≡ cond (a == word.0) (committed_in caches.old backing.old word.0) (get_or backing.old a 0) }
+    ensures sizes { SameSizes caches.old caches.new }
+    ensures counted { CountsSearches probes.old probes.new (purges caches.old keep word.0) }
+{
+    let committed = list.committed();
+    store(backing, word.0 as usize, newest(committed));
+    drop_versions(caches, committed, word, keep, probes);
+}
