@@ -40,13 +40,13 @@ pub enum Refusal {
     Stopped,
     /// The unit's task has ended.
     Done,
-    /// The asked word has no valid line in the unit's cache, and its set is full. The address is that
-    /// of the line to replace: the least of the set's committed lines, or of all its lines where none is
-    /// committed.
+    /// The unit's cache has no room for the word that the burst asks for: there is no line of it, and every
+    /// place of its set is taken. The address is the word to replace first: the lowest in the set whose line
+    /// is committed, and where no line of the set is, the lowest.
     SetFull(WordAddr),
-    /// The unit has no valid line of the word.
+    /// The unit's cache has nothing to replace at that word.
     NotResident,
-    /// The line is uncommitted, and the unit is not the head's.
+    /// The line belongs to a running task that is not the head, so it has to stay.
     Pinned,
     /// The head has not ended.
     HeadNotDone,

@@ -37,7 +37,7 @@ is_dirty (Some l) = l.store
 abbrev pub is_lower : LineTable → ℕ → ℕ → ℕ → Bool
 is_lower t a u v = (is_dirty (t.lines u a) && is_dirty (t.lines v a)) && ltb (task_in (t.lines u a)) (task_in (t.lines v a))
 
--- a bus agrees with a sound line table where all but the lines' numbers is equal, and the order of each word's dirty lines is that of the numbers
+-- a bus agrees with a sound line table that differs from it in the lines' numbers at most, and whose numbers put each word's dirty lines in the bus's order
 pub record Agrees (b : BusState) (t : LineTable) : Type 0 where
   pub sound : IsSound t
   pub caches : b.caches ≡ t.caches

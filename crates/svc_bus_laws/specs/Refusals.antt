@@ -32,7 +32,7 @@ is_committed_in_set c a w = is_in_set c a w && is_committed_line (c.lines w)
 abbrev pub is_set_full : CacheState → ℕ → Bool
 is_set_full c a = is_none (c.lines a) && leb c.ways (how_many c.words (is_in_set c a))
 
--- the least word among the set's committed lines, or among all its lines where none is committed
+-- the lowest word of the set whose line is committed; where no line of the set is, the lowest with a line
 abbrev pub full_address : CacheState → ℕ → Option ℕ
 full_address c a = option_or (least c.words (is_committed_in_set c a)) (least c.words (is_in_set c a))
 

@@ -47,7 +47,7 @@ is_committed_in_set sets lines word other = is_in_set sets lines word other && i
 abbrev pub is_set_full : (sets ways bound : ℕ) → LineMap → ℕ → Bool
 is_set_full sets ways bound lines word = is_none (lines word) && nat_le ways (how_many bound (is_in_set sets lines word))
 
--- the least word among the set's committed lines, or among all its lines where none is committed
+-- the lowest word of the set whose line is committed; where no line of the set is, the lowest with a line
 abbrev pub first_to_leave : (sets bound : ℕ) → LineMap → ℕ → Option ℕ
 first_to_leave sets bound lines word = option_or (least bound (is_committed_in_set sets lines word)) (least bound (is_in_set sets lines word))
 

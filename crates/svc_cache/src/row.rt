@@ -6,8 +6,8 @@ use crate::place::Place;
 use crate::probes::Probes;
 use svc_base::WordAddr;
 
-/// Why a line was not filled: its set is full, and the line of this word is to be replaced first. It is
-/// the least word among the set's committed lines, or among all its lines where none is committed.
+/// Why a line was not filled: its set is full, and the line of this word is to leave first. Of the words
+/// with lines in the set it is the lowest whose line is committed; where no line is, the lowest.
 #[derive(Clone, Copy, Debug, PartialEq, Eq)]
 pub struct SetFull(pub WordAddr);
 

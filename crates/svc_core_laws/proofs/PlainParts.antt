@@ -27,6 +27,6 @@ pub same_plain : (img : Image) (entry turns : ℕ) (m other : List ℕ) → IsMe
     → IsSamePart (wrote (part (program img) entry turns (word_at m)).log) (plain_part img entry turns m) (plain_part img entry turns other)
 same_plain img entry turns m other is other_is agree =
     left_same img (word_at m) (word_at other) (plain_part img entry turns m) (plain_part img entry turns other)
-        (part (program img) entry turns (word_at m)) (part (program img) entry turns (word_at other))
-        (same_part img entry turns m is) (same_part img entry turns other other_is)
-        (part_agrees (program img) entry turns (word_at m) (word_at other) agree)
+    (part (program img) entry turns (word_at m)) (part (program img) entry turns (word_at other))
+    (same_part img entry turns m is) (same_part img entry turns other other_is)
+    (part_agrees (program img) entry turns (word_at m) (word_at other) agree)

@@ -40,7 +40,7 @@ pub enum What {
 pub enum Cause {
     /// An earlier task stored to this word after a later one had read it.
     Violation(WordAddr),
-    /// The next task began at another entry than its predecessor led to.
+    /// The next task began at another entry than its predecessor led to, or the run stopped before it.
     WrongGuess,
 }
 

@@ -55,7 +55,7 @@ impl Place {
 }
 
 /// The spill table: for each word of the memory, the head's version of it whose line was replaced, if
-/// any. It is empty when a task becomes the head.
+/// any. A new head finds it empty.
 ///
 /// The words with a version are also kept in a list, so that a commit costs as much as was spilled
 /// since the last one, whatever the memory's size. There is room for both from the opening on.

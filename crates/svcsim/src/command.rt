@@ -19,7 +19,8 @@ pub fn command<'a>(alloc: Global) -> Result<Command<'a>, AllocError> {
 }
 
 const ABOUT: &str =
-    "Simulates a multiprocessor with speculative versioning caches that runs one sequential program.
+    "Simulates processing units that run the tasks of one sequential program at once, over caches that
+keep speculative versions of its data.
 
 The program is an image: its instructions (RV32I), its data, and the entries at which its run is cut
 into tasks. A run prints a summary, one row of two fields a line:
@@ -29,7 +30,8 @@ into tasks. A run prints a summary, one row of two fields a line:
   exit,C     the program exited with this code; or
   trap,T     its last task trapped with this number; or
   full,E     no more events were allowed, and the task at this address was next; or
-  open,E     the run was stopped, and the task at this address was next
+  open,E     the run could go on: the tasks or turns that were asked for are spent, and the task at
+             this address is next
 
 Without any words, svcsim runs an image of one task that it brings along.";
 
@@ -84,7 +86,7 @@ fn image<'a>(alloc: Global) -> Arg<'a> {
 
 // A command with an option for each number of a configuration.
 fn with_configuration<'a>(alloc: Global, command: Command<'a>) -> Result<Command<'a>, AllocError> {
-    let units = "How many processing units there are; for now only 1 is taken";
+    let units = "How many processing units there are; for now only 1 is taken, so give --units 1";
     let sets = "How many sets each unit's cache has: a power of two, 1 to 256";
     let ways = "How many lines a set holds: 1 to 4";
     let events = "How many events are accepted at most: 1 to 1000000";
