@@ -26,7 +26,7 @@ IsBuiltInRun (request.Run source.BuiltIn config) = ⊤
 IsBuiltInRun (request.Run (source.File name) config) = ⊥
 IsBuiltInRun (request.Sequential from asked) = ⊥
 
--- a line of this many words, the program's name among them, may ask for this: exactly a line without another word asks for the run of the built-in image. What else a line asks for is the parser's to say
+-- what a line of so many words, the program's name among them, may ask for: the run of the built-in image, exactly where there is no other word. What other words ask for is the parser's to say
 abbrev pub MayAsk : ℕ → Request → Type 0
 MayAsk count asked = IsBuiltInRun asked ↔ (count ≤ 1)
 

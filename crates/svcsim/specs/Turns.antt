@@ -6,6 +6,7 @@ use Rattle.svc_core_laws.specs.declared.end.Ending.{Ending}
 use Rattle.svc_core_laws.specs.declared.end.Ending.TheVariants as ending
 use Rattle.svc_core_laws.specs.Bursts.{Advance, IsAdvance}
 use Rattle.svc_core.specs.declared.burst.Lease.{Lease}
+use Rattle.svc_core.specs.declared.burst.TheConstants.{MAX_BURST_TURNS}
 use Rattle.svc_history.specs.declared.event.Event.{Event}
 use Rattle.svc_history.specs.declared.event.Event.TheVariants.{Assign, Submit, Commit}
 use Rattle.svc_history.specs.Plain.{Shown}
@@ -25,7 +26,7 @@ pub record TakesOn (m : Shown) (lease : Lease) (burst : Advance) : Type 0 where
   pub unit : burst.unit ≡ lease.unit
   pub epoch : burst.epoch ≡ lease.epoch
   pub start : burst.start ≡ lease.core
-  pub advance : IsAdvance m.image 63 burst
+  pub advance : IsAdvance m.image MAX_BURST_TURNS burst
 
 -- what is asked for a task, by how it has ended: a commit where it has, else more of its turns
 abbrev pub AsksFor : Shown → Lease → Option End → Event → Type 0

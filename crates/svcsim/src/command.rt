@@ -6,18 +6,6 @@ use std::alloc::{AllocError, Global};
 /// The greatest number of tasks that may be asked of the plain runner.
 const MAX_TASKS: i64 = 1_000_000;
 
-/// The whole command line.
-pub fn command<'a>(alloc: Global) -> Result<Command<'a>, AllocError> {
-    Command::new(alloc, "svcsim")
-        .bin_name("svcsim")?
-        .about("Simulates a multiprocessor with speculative versioning caches")
-        .long_about(ABOUT)
-        .after_help(STATUSES)
-        .subcommand_required(true)
-        .subcommand(run(alloc)?)?
-        .subcommand(sequential(alloc)?)
-}
-
 const ABOUT: &str =
     "Simulates processing units that run the tasks of one sequential program at once, over caches that
 keep speculative versions of its data.
@@ -36,8 +24,8 @@ into tasks. A run prints a summary, one row of two fields a line:
 Without any words, svcsim runs an image of one task that it brings along.";
 
 const STATUSES: &str =
-    "Exit status: 0 where the program exited, 2 at any other ending, and 1 at a fault, which standard
-error names.";
+    "Exit status: 0 where the image's program came to its exit, 2 at any other ending, and 1 at a fault,
+which standard error names.";
 
 const RUN: &str = "Runs an image on the simulated machine, and prints the summary.
 
@@ -48,6 +36,18 @@ committed tasks.";
 const SEQ: &str = "Runs an image's tasks one after another on plain memory, and prints the summary.
 
 There are no units, caches or events. This is what any run of the same image has to agree with.";
+
+/// The whole command line.
+pub fn command<'a>(alloc: Global) -> Result<Command<'a>, AllocError> {
+    Command::new(alloc, "svcsim")
+        .bin_name("svcsim")?
+        .about("Simulates a multiprocessor with speculative versioning caches")
+        .long_about(ABOUT)
+        .after_help(STATUSES)
+        .subcommand_required(true)
+        .subcommand(run(alloc)?)?
+        .subcommand(sequential(alloc)?)
+}
 
 // `run`: the simulator.
 fn run<'a>(alloc: Global) -> Result<Command<'a>, AllocError> {

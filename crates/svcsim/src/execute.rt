@@ -14,7 +14,8 @@ use svc_image::{Image, samples};
 
 /// Does what the words of a command line ask for, of which the first is the program's name, and answers
 /// the exit status: 0 where the run came to the program's exit or help was asked for, 1 at a fault, which
-/// is told on `err`, and 2 at any other ending.
+/// is told on `err`, and 2 at any other ending. The first fault is told, looked for in this order: the
+/// words, the configuration, the image, the opening of the machine, the run, the output.
 pub fn execute<F: Files, O: Write, E: Write>(
     alloc: Global,
     words: &[String],

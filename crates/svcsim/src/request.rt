@@ -67,10 +67,12 @@ fn asked<'a>(matches: &ArgMatches<'a>) -> Result<Request<'a>, Fault>
             image: image(given)?,
             tasks: number(given, "tasks")?,
         }),
+        // The parser reads no other subcommand, and no line without one.
         _ => Err(Fault::File),
     }
 }
 
+// The image's file.
 fn image<'a>(given: &ArgMatches<'a>) -> Result<Source<'a>, Fault>
     ensures { IfOk result (λ s. s ≢ Source.BuiltIn) }
 {
@@ -78,6 +80,7 @@ fn image<'a>(given: &ArgMatches<'a>) -> Result<Source<'a>, Fault>
     Ok(Source::File(name))
 }
 
+// The configuration that the options give.
 fn configuration(given: &ArgMatches<'_>) -> Result<Config, Fault> {
     let config = Config::new(
         number(given, "units")?,
@@ -89,7 +92,7 @@ fn configuration(given: &ArgMatches<'_>) -> Result<Config, Fault> {
     Ok(config)
 }
 
-// The number of an option that is required or has a default, so that a line that was read has it.
+// The number of an option. Each is required or has a default, so a line that was read has it.
 fn number(given: &ArgMatches<'_>, name: &str) -> Result<u32, Fault> {
     given.get_one::<u32>(name).ok_or(Fault::File)
 }

@@ -4,6 +4,8 @@ mod faults;
 mod help;
 mod rows;
 
+ghost use Rattle.std.specs.Prelude.{Some};
+
 use crate::execute::execute;
 use crate::files::{FileFault, Files};
 use std::alloc::{AllocError, Global};
@@ -22,6 +24,8 @@ struct Memory<'a> {
 }
 
 impl Files for Memory<'_> {
+    ghost held = { λ m _. Some m.image.now };
+
     fn load(&mut self, name: &str) -> Result<Vec<u8>, FileFault> {
         if name != "image" {
             return Err(FileFault);
