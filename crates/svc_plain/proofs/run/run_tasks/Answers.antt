@@ -1,10 +1,5 @@
-use Rattle.std.proofs.Common.{◌≡◌, ◌≤◌, ◌+◌, ◌++◌, ℕ, List, Option, Some, None, length, take, drop, refl, sym, ◌∙◌, ap, subst, arith}
-use Rattle.std.specs.Prelude.{slice_index}
-use Rattle.svc_image.specs.Image.{IsImage}
-use Rattle.svc_core_laws.specs.declared.end.End.{End}
-use Rattle.svc_core_laws.specs.Program.{due_after, stopped_after}
-use Rattle.svc_core_laws.proofs.Sequential.{same_seq, due_enters}
-use Rattle.svc_plain.specs.Code.{IsCodeOf}
+use Rattle.std.proofs.Common.{◌≡◌, ◌+◌, ◌++◌, ℕ, List, Option, Some, length, sym, ◌∙◌, ap, subst, arith}
+use Rattle.svc_core_laws.proofs.Sequential.{due_enters}
 use Rattle.svc_plain.specs.Tasks.{IsRun}
 use Rattle.svc_plain.proofs.Turns.{none_of}
 use Rattle.svc_plain.proofs.Runs.{next_run, same_run, idle_until, written_back, ends_so, puts_out_so, leaves_so}
