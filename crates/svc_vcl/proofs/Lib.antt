@@ -1,0 +1,6 @@
+pub mod Searching
+pub mod Entries
+pub mod Newest
+pub mod ReadPlans
+pub mod WritePlans
+pub mod Describing

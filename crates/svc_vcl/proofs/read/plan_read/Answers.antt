@@ -1,0 +1,74 @@
+use Rattle.std.proofs.Common.{◌≡◌, ◌∙◌, sym, ap, ap₂, Some, None, length, arith}
+use Rattle.svc_line.specs.Bits.{bits_of}
+use Rattle.svc_bus_laws.specs.BusSteps.{is_overtaken_line}
+use Rattle.svc_vcl.specs.Listed.{entry_at, is_overtaken_in, reusable_version_in}
+use Rattle.svc_vcl.specs.Planned.{supplier_of}
+use Rattle.svc_bus_laws.specs.Supplier.{Hit, Reuse}
+use Rattle.svc_vcl.proofs.Entries.{overtaken_is}
+use Rattle.svc_vcl.proofs.ReadPlans.{fill_line, fill_supplier, hit_supplier, hit_value, reuse_line, reuse_supplier, reuse_valid, reuse_value, view_is}
+use Rattle.svc_vcl.proofs.read.plan_read.Goals as goal
+
+pub returns-in-Some-clause-value : goal.returns-in-Some-clause-value
+returns-in-Some-clause-value c = λ b t a read.
+    let list = c.args.list.now in
+    let own = c.in-Some.own in
+    let entry : entry_at list.active c.args.place ≡ Some own = ap (λ active. entry_at active c.args.place) (sym c.active.ensures.lines) ∙ c.in-Some.is in
+    view_is b t a list c.args.unit.0 c.args.place c.args.spill c.args.backing read Hit own.line.value
+    (hit_supplier b t a list c.args.unit.0 c.args.place c.args.spill c.args.backing read own entry)
+    (hit_value b t a list c.args.unit.0 c.args.place c.args.spill c.args.backing read own entry)
+
+pub returns-in-Some-reusable-clause-served : goal.returns-in-Some-reusable-clause-served
+returns-in-Some-reusable-clause-served c = λ b t a read.
+    let list = c.args.list.now in
+    let copy = c.in-Some-reusable.copy in
+    let entry : entry_at list.active c.args.place ≡ None = ap (λ active. entry_at active c.args.place) (sym c.active.ensures.lines) ∙ c.in_default.is in
+    let found : reusable_version_in list.committed c.args.unit.0 ≡ Some copy = ap (λ committed. reusable_version_in committed c.args.unit.0) (sym c.committed.ensures.lines) ∙ sym c.reusable.ensures ∙ c.in-Some-reusable.is in
+    reuse_supplier b t a list c.args.unit.0 c.args.place c.args.spill c.args.backing read entry copy found
+
+pub returns-in-Some-reusable-clause-value : goal.returns-in-Some-reusable-clause-value
+returns-in-Some-reusable-clause-value c = λ b t a read.
+    let list = c.args.list.now in
+    let copy = c.in-Some-reusable.copy in
+    let entry : entry_at list.active c.args.place ≡ None = ap (λ active. entry_at active c.args.place) (sym c.active.ensures.lines) ∙ c.in_default.is in
+    let found : reusable_version_in list.committed c.args.unit.0 ≡ Some copy = ap (λ committed. reusable_version_in committed c.args.unit.0) (sym c.committed.ensures.lines) ∙ sym c.reusable.ensures ∙ c.in-Some-reusable.is in
+    view_is b t a list c.args.unit.0 c.args.place c.args.spill c.args.backing read Reuse copy.line.value
+    (reuse_supplier b t a list c.args.unit.0 c.args.place c.args.spill c.args.backing read entry copy found)
+    (reuse_value b t a list c.args.unit.0 c.args.place c.args.spill c.args.backing read entry copy found)
+
+pub returns-in-Some-reusable-clause-line : goal.returns-in-Some-reusable-clause-line
+returns-in-Some-reusable-clause-line c = λ b t a read.
+    let list = c.args.list.now in
+    let copy = c.in-Some-reusable.copy in
+    let entry : entry_at list.active c.args.place ≡ None = ap (λ active. entry_at active c.args.place) (sym c.active.ensures.lines) ∙ c.in_default.is in
+    let found : reusable_version_in list.committed c.args.unit.0 ≡ Some copy = ap (λ committed. reusable_version_in committed c.args.unit.0) (sym c.committed.ensures.lines) ∙ sym c.reusable.ensures ∙ c.in-Some-reusable.is in
+    reuse_line b t a list c.args.unit.0 c.args.place c.args.spill c.args.backing read entry copy found (bits_of c.on_reuse.result) c.on_reuse.ensures
+
+pub returns-in-Some-reusable-clause-valid : goal.returns-in-Some-reusable-clause-valid
+returns-in-Some-reusable-clause-valid c = λ b t a read.
+    let list = c.args.list.now in
+    let copy = c.in-Some-reusable.copy in
+    let entry : entry_at list.active c.args.place ≡ None = ap (λ active. entry_at active c.args.place) (sym c.active.ensures.lines) ∙ c.in_default.is in
+    let found : reusable_version_in list.committed c.args.unit.0 ≡ Some copy = ap (λ committed. reusable_version_in committed c.args.unit.0) (sym c.committed.ensures.lines) ∙ sym c.reusable.ensures ∙ c.in-Some-reusable.is in
+    reuse_valid b t a list c.args.unit.0 c.args.place c.args.spill c.args.backing read entry copy found (bits_of c.on_reuse.result) c.on_reuse.ensures
+
+pub returns-clause-served : goal.returns-clause-served
+returns-clause-served c = λ b t a read.
+    let list = c.args.list.now in
+    let entry : entry_at list.active c.args.place ≡ None = ap (λ active. entry_at active c.args.place) (sym c.active.ensures.lines) ∙ c.in_default.is in
+    let lacks : reusable_version_in list.committed c.args.unit.0 ≡ None = ap (λ committed. reusable_version_in committed c.args.unit.0) (sym c.committed.ensures.lines) ∙ sym c.reusable.ensures ∙ c.in_default-reusable.is in
+    fill_supplier b t a list c.args.unit.0 c.args.place c.args.spill c.args.backing read entry lacks (supplier_of c.supplier-served.result.0) (c.supplier-served.ensures.served b t a c.args.unit.0 read)
+
+pub returns-clause-value : goal.returns-clause-value
+returns-clause-value c = λ b t a read.
+    let list = c.args.list.now in
+    view_is b t a list c.args.unit.0 c.args.place c.args.spill c.args.backing read (supplier_of c.supplier-served.result.0) c.supplier-served.result.1 (returns-clause-served c b t a read) (c.supplier-served.ensures.value b t a c.args.unit.0 read)
+
+pub returns-clause-line : goal.returns-clause-line
+returns-clause-line c = λ b t a read.
+    let list = c.args.list.now in
+    let entry : entry_at list.active c.args.place ≡ None = ap (λ active. entry_at active c.args.place) (sym c.active.ensures.lines) ∙ c.in_default.is in
+    let lacks : reusable_version_in list.committed c.args.unit.0 ≡ None = ap (λ committed. reusable_version_in committed c.args.unit.0) (sym c.committed.ensures.lines) ∙ sym c.reusable.ensures ∙ c.in_default-reusable.is in
+    let same : length c.active-3.result.now ≡ length b.units = ap length c.active-3.ensures.lines ∙ read.request.described.places in
+    let passed : c.is_overtaken-overtaken.result ≡ is_overtaken_line b (length b.units) c.args.place a =
+    c.is_overtaken-overtaken.ensures ∙ ap₂ (λ active n. is_overtaken_in active n c.args.place) c.active-2.ensures.lines same ∙ overtaken_is b t a list c.args.unit.0 c.args.place read.request (length b.units) (omega arith) in
+    fill_line b t a list c.args.unit.0 c.args.place c.args.spill c.args.backing read entry lacks c.supplier-served.result.1 (bits_of c.on_load.result) c.is_first_use.result c.is_overtaken-overtaken.result (returns-clause-value c b t a read) c.on_load.ensures c.is_first_use.ensures passed

@@ -1,0 +1,64 @@
+-- What plans say: the supplier of a read, and the lines that a write makes stale.
+use Rattle.std.specs.Prelude.{ℕ, Bool, false, not, ◌&&◌, ◌||◌, ◌==◌, Option, Some, None, List, get_or}
+use Rattle.std.specs.List.{list_any}
+use Rattle.svc_base.specs.declared.ids.UnitId.{UnitId}
+use Rattle.svc_line.specs.Bits.{Bits, bits_of, is_dirty, no_bits}
+use Rattle.svc_bus_laws.specs.Search.{any_below}
+use Rattle.svc_bus_laws.specs.Supplier as bus
+use Rattle.svc_bus_laws.specs.BusLine.{BusLine, purged_line}
+use Rattle.svc_bus_laws.specs.BusState.{BusState}
+use Rattle.svc_bus_laws.specs.BusSteps.{is_below}
+use Rattle.svc_vol.specs.declared.version.Version.{Version}
+use Rattle.svc_vol.specs.Versions.{version_at, unit_at}
+use Rattle.svc_vcl.specs.declared.served.Served.{Served}
+use Rattle.svc_vcl.specs.declared.served.Served.TheVariants.{Hit, Reuse, Version as FromVersion, Spill, Committed, Memory}
+use Rattle.svc_vcl.specs.Listed.{entry_at}
+
+-- the supplier by its unit's number
+abbrev pub supplier_of : Served → bus.Supplier
+supplier_of Hit = bus.Hit
+supplier_of Reuse = bus.Reuse
+supplier_of (FromVersion unit) = bus.Version unit.0
+supplier_of Spill = bus.Spill
+supplier_of (Committed unit) = bus.Committed unit.0
+supplier_of Memory = bus.Memory
+
+-- the unit is in the list
+abbrev pub is_named : List UnitId → (unit : ℕ) → Bool
+is_named units unit = list_any (λ (named : UnitId). named.0 == unit) units
+
+-- T is set anew on a line that a purge has left: a committed one, or one of a task below the writer's
+abbrev pub is_marked_anew : (below : Bool) → Option BusLine → Bool
+is_marked_anew below None = false
+is_marked_anew below (Some line) = not line.stale && (line.commit || below)
+
+-- a write of the word by the task at a place sets T on the unit's line
+abbrev pub becomes_stale : BusState → (place a unit : ℕ) → Bool
+becomes_stale b place a unit = not (unit == get_or b.units place 0) && is_marked_anew (is_below b place unit) (purged_line (b.lines unit a))
+
+-- T is set where the flag says so
+abbrev pub marked_where : Bool → Option BusLine → Option BusLine
+marked_where flag None = None
+marked_where flag (Some line) = Some (record line { stale = line.stale || flag })
+
+-- the bits of an active line, and none where there is no such line
+abbrev pub own_bits : Option Version → Bits
+own_bits None = no_bits
+own_bits (Some version) = bits_of version.line.bits
+
+-- the version is a clean line without T
+abbrev pub is_fresh_copy : Version → Bool
+is_fresh_copy version = not (is_dirty (bits_of version.line.bits)) && not (bits_of version.line.bits).stale
+
+-- some of the first so many committed versions is a clean line without T in this unit, which is not the writer's
+abbrev pub is_copy_of : List Version → (count writer unit : ℕ) → Bool
+is_copy_of committed count writer unit = any_below count (λ i. (not (unit_at committed i == writer) && is_fresh_copy (version_at committed i)) && (unit_at committed i == unit))
+
+-- the entry is a line without T in this unit
+abbrev pub is_unmarked_in : Option Version → (unit : ℕ) → Bool
+is_unmarked_in None unit = false
+is_unmarked_in (Some version) unit = not (bits_of version.line.bits).stale && (version.unit.0 == unit)
+
+-- some task of the first so many has an active line without T in this unit
+abbrev pub is_passed_in : List (Option Version) → (count unit : ℕ) → Bool
+is_passed_in active count unit = any_below count (λ q. is_unmarked_in (entry_at active q) unit)

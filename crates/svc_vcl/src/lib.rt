@@ -1,0 +1,15 @@
+//! Version control logic: what the bus does about a request, by the word's version list (Gopal,
+//! Vijaykumar, Smith, Sohi, "Speculative Versioning Cache", HPCA 1998). It decides and changes nothing.
+#![tactic(auto)]
+
+pub mod read;
+mod search;
+pub mod served;
+pub mod write;
+
+pub use read::{ReadPlan, plan_read};
+pub use served::Served;
+pub use write::{STALE_CAPACITY, WritePlan, plan_write};
+
+#[cfg(test)]
+mod tests;

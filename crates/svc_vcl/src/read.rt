@@ -1,0 +1,92 @@
+ghost use Rattle.std.specs.Prelude.{◌≡◌, ◌<◌, ℕ, Option, Some, None, true, length, is_some, not, ◌&&◌, ◌==◌};
+ghost use Rattle.svc_line.specs.Bits.{bits_of};
+ghost use Rattle.svc_bus_laws.specs.LineTable.{LineTable};
+ghost use Rattle.svc_bus_laws.specs.Search.{greatest};
+ghost use Rattle.svc_bus_laws.specs.BusLine.{version_of_line};
+ghost use Rattle.svc_bus_laws.specs.BusState.{BusState};
+ghost use Rattle.svc_bus_laws.specs.BusSteps.{bus_read};
+ghost use Rattle.svc_bus_laws.specs.BusView.{bus_by_version, bus_line_at, bus_supplied, bus_supplier, bus_view};
+ghost use Rattle.svc_vcl.specs.Described.{IsReadRequest, line_with};
+ghost use Rattle.svc_vcl.specs.Planned.{supplier_of};
+
+use crate::search::{is_overtaken, nearest, newest, reusable};
+use crate::served::Served;
+use svc_base::UnitId;
+use svc_line::LineBits;
+use svc_vol::VersionList;
+
+/// What a read does.
+#[derive(Clone, Copy, Debug, PartialEq, Eq)]
+pub struct ReadPlan {
+    /// Who supplies the value.
+    pub served: Served,
+    /// The value, which the unit's line has after the read.
+    pub value: u32,
+    /// The bits of the unit's line after the read.
+    pub bits: LineBits,
+}
+
+// The supplier where the unit's own line is none, and its value: the nearest earlier version, else the
+// spilled value, else the newest committed version, else the backing memory.
+fn supplier(list: &VersionList, place: usize, spill: Option<u32>, backing: u32) -> (Served, u32)
+    requires { place < length list.now.active }
+    ensures served { (b : BusState) (t : LineTable) (a unit : ℕ) → IsReadRequest b t a list.now unit place spill backing → supplier_of result.0 ≡ bus_by_version b a (greatest place (λ q. is_some (version_of_line (bus_line_at b q a)))) }
+    ensures value { (b : BusState) (t : LineTable) (a unit : ℕ) → IsReadRequest b t a list.now unit place spill backing → bus_supplied b place a (supplier_of result.0) ≡ Some result.1 }
+{
+    if let Some(version) = nearest(list.active(), place) {
+        return (Served::Version(version.unit), version.line.value);
+    }
+    if let Some(value) = spill {
+        return (Served::Spill, value);
+    }
+    match newest(list.committed()) {
+        Some(version) => (Served::Committed(version.unit), version.line.value),
+        None => (Served::Memory, backing),
+    }
+}
+
+// The value is not the task's own: the head's own version may be spilled.
+fn is_first_use(place: usize, spill: Option<u32>) -> bool
+    ensures { result ≡ not ((place == 0) && is_some spill) }
+{
+    place != 0 || spill.is_none()
+}
+
+/// The plan of a read by the unit of the task at a place: whoever supplies the value, the value that
+/// the task sees, and the bits that the unit's line then has. `spill` is the word's spilled value, and
+/// `backing` its word in memory.
+pub fn plan_read(
+    list: &VersionList,
+    unit: UnitId,
+    place: usize,
+    spill: Option<u32>,
+    backing: u32,
+) -> ReadPlan
+    requires { place < length list.now.active }
+    ensures served { (b : BusState) (t : LineTable) (a : ℕ) → IsReadRequest b t a list.now unit.0 place spill backing → supplier_of result.served ≡ bus_supplier b place a }
+    ensures value { (b : BusState) (t : LineTable) (a : ℕ) → IsReadRequest b t a list.now unit.0 place spill backing → result.value ≡ bus_view b place a }
+    ensures line { (b : BusState) (t : LineTable) (a : ℕ) → IsReadRequest b t a list.now unit.0 place spill backing → (bus_read b place a).lines unit.0 a ≡ Some (line_with result.value (bits_of result.bits)) }
+    ensures valid { (b : BusState) (t : LineTable) (a : ℕ) → IsReadRequest b t a list.now unit.0 place spill backing → (bits_of result.bits).valid ≡ true }
+{
+    if let Some(own) = list.active()[place] {
+        return ReadPlan {
+            served: Served::Hit,
+            value: own.line.value,
+            bits: own.line.bits,
+        };
+    }
+    if let Some(copy) = reusable(list.committed(), unit) {
+        return ReadPlan {
+            served: Served::Reuse,
+            value: copy.line.value,
+            bits: copy.line.bits.on_reuse(),
+        };
+    }
+    let (served, value) = supplier(list, place, spill, backing);
+    let overtaken = is_overtaken(list.active(), list.active().len(), place);
+    ReadPlan {
+        served,
+        value,
+        bits: LineBits::on_load(is_first_use(place, spill), overtaken),
+    }
+}

@@ -1,0 +1,94 @@
+ghost use Rattle.std.specs.Prelude.{◌≡◌, ◌<◌, ◌≤◌, length};
+ghost use Rattle.svc_vcl.specs.Listed.{entry_at, is_exposure, is_overtaken_in, is_version, nearest_version_in, newest_version_in, reusable_version_in, victim_in};
+
+use svc_base::UnitId;
+use svc_vol::Version;
+
+/// The task has a version: an active line that it stored to.
+pub(crate) fn is_version(entry: &Option<Version>) -> bool
+    ensures { result ≡ is_version entry.now }
+{
+    match entry {
+        Some(version) => version.line.bits.is_dirty(),
+        None => false,
+    }
+}
+
+/// The task read the word before it wrote it.
+pub(crate) fn is_exposure(entry: &Option<Version>) -> bool
+    ensures { result ≡ is_exposure entry.now }
+{
+    match entry {
+        Some(version) => version.line.bits.is_exposed(),
+        None => false,
+    }
+}
+
+/// The version of the nearest earlier task that has one.
+pub(crate) fn nearest(active: &[Option<Version>], place: usize) -> Option<Version>
+    requires { place ≤ length active.now }
+    ensures { result ≡ nearest_version_in active.now place }
+{
+    let mut nearest = None;
+    for earlier in 0..place {
+        if is_version(&active[earlier]) {
+            nearest = active[earlier];
+        }
+    }
+    nearest
+}
+
+/// The place of the task that a write squashes: of the tasks after the writer's, in order, the first
+/// that read the word before it wrote it, unless one before that has a version.
+pub(crate) fn victim(active: &[Option<Version>], place: usize) -> Option<usize>
+    requires { place < length active.now }
+    ensures { result ≡ victim_in active.now place }
+{
+    for later in place + 1..active.len() {
+        if is_exposure(&active[later]) {
+            return Some(later);
+        }
+        if is_version(&active[later]) {
+            return None;
+        }
+    }
+    None
+}
+
+/// A task after the place has a version, one of the first `count` tasks.
+pub(crate) fn is_overtaken(active: &[Option<Version>], count: usize, place: usize) -> bool
+    requires { count ≤ length active.now }
+    ensures { result ≡ is_overtaken_in active.now count place }
+{
+    let mut overtaken = false;
+    for later in 0..count {
+        overtaken = overtaken || place < later && is_version(&active[later]);
+    }
+    overtaken
+}
+
+/// The newest committed version.
+pub(crate) fn newest(committed: &[Version]) -> Option<Version>
+    ensures { result ≡ newest_version_in committed.now }
+{
+    let mut newest = None;
+    for place in 0..committed.len() {
+        if committed[place].line.bits.is_dirty() {
+            newest = Some(committed[place]);
+        }
+    }
+    newest
+}
+
+/// The unit's committed copy, where no later store has passed it.
+pub(crate) fn reusable(committed: &[Version], unit: UnitId) -> Option<Version>
+    ensures { result ≡ reusable_version_in committed.now unit.0 }
+{
+    for place in 0..committed.len() {
+        let version = committed[place];
+        if version.unit.0 == unit.0 && version.line.bits.is_reusable() {
+            return Some(version);
+        }
+    }
+    None
+}

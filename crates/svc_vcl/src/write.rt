@@ -1,0 +1,116 @@
+ghost use Rattle.std.specs.Prelude.{◌≡◌, ◌≢◌, ◌<◌, ◌≤◌, ◌+◌, ℕ, Bool, ◌||◌, Option, Some, true, length};
+ghost use Rattle.svc_line.specs.Bits.{bits_of};
+ghost use Rattle.svc_bus_laws.specs.LineTable.{LineTable};
+ghost use Rattle.svc_bus_laws.specs.Versioned.{survivors, victim};
+ghost use Rattle.svc_bus_laws.specs.BusLine.{purged_line};
+ghost use Rattle.svc_bus_laws.specs.BusState.{BusState};
+ghost use Rattle.svc_bus_laws.specs.BusSteps.{bus_write, line_after_cut};
+ghost use Rattle.svc_bus_laws.specs.BusView.{bus_map};
+ghost use Rattle.svc_vcl.specs.Described.{IsRequest, line_with};
+ghost use Rattle.svc_vcl.specs.Planned.{becomes_stale, is_copy_of, is_fresh_copy, is_named, is_passed_in, marked_where, own_bits};
+
+use crate::search::{is_overtaken, victim};
+use arrayvec::ArrayVec;
+use bitflags::Flags;
+use svc_base::UnitId;
+use svc_line::LineBits;
+use svc_vol::{CAPACITY, Version, VersionList};
+
+/// How many lines can become stale at most, as the types tell: all of a version list.
+pub const STALE_CAPACITY: usize = 32;
+
+/// What a write does.
+#[derive(Drop)]
+pub struct WritePlan {
+    /// The place of the task that is squashed, with all after it.
+    pub victim: Option<usize>,
+    /// The bits of the unit's line after the write.
+    pub bits: LineBits,
+    /// The units on whose lines T is set.
+    pub stale: ArrayVec<UnitId, STALE_CAPACITY>,
+}
+
+// T is set.
+#[tactic(auto, unfolding(svc_line::specs::Bits::bits_of))]
+fn is_stale(bits: LineBits) -> bool
+    ensures { result ≡ (bits_of bits).stale }
+{
+    bits.contains(LineBits::STALE)
+}
+
+// The bits of the unit's active line, and none where it has no such line.
+#[tactic(auto, unfolding(svc_line::specs::Bits::bits_of))]
+fn own_bits(entry: &Option<Version>) -> LineBits
+    ensures { bits_of result ≡ own_bits entry.now }
+{
+    match entry {
+        Some(version) => version.line.bits,
+        None => LineBits::empty(),
+    }
+}
+
+// The version is a clean line on which T is clear.
+fn is_fresh_copy(version: &Version) -> bool
+    ensures { result ≡ is_fresh_copy version.now }
+{
+    !version.line.bits.is_dirty() && !is_stale(version.line.bits)
+}
+
+// Names the units of the committed copies that become stale.
+fn name_copies(stale: &mut ArrayVec<UnitId, STALE_CAPACITY>, committed: &[Version], writer: UnitId)
+    requires room { length stale.old.items + length committed.now ≤ STALE_CAPACITY }
+    ensures size { length stale.new.items ≤ length stale.old.items + length committed.now }
+    ensures named { (unit : ℕ) → is_named stale.new.items unit ≡ (is_named stale.old.items unit || is_copy_of committed.now (length committed.now) writer.0 unit) }
+{
+    for place in 0..committed.len() {
+        let version = &committed[place];
+        if version.unit.0 != writer.0 && is_fresh_copy(version) {
+            stale.push(version.unit);
+        }
+    }
+}
+
+// Names the units of the earlier tasks whose lines become stale.
+fn name_earlier(
+    stale: &mut ArrayVec<UnitId, STALE_CAPACITY>,
+    active: &[Option<Version>],
+    place: usize,
+)
+    requires within { place ≤ length active.now }
+    requires room { length stale.old.items + place ≤ STALE_CAPACITY }
+    ensures named { (unit : ℕ) → is_named stale.new.items unit ≡ (is_named stale.old.items unit || is_passed_in active.now place unit) }
+{
+    for earlier in 0..place {
+        if let Some(version) = &active[earlier]
+            && !is_stale(version.line.bits)
+        {
+            stale.push(version.unit);
+        }
+    }
+}
+
+/// The plan of a write by the unit of the task at a place: the victim, if any, the bits that the unit's
+/// line then has, and the lines that become stale. Those are the committed copies, and the lines of
+/// earlier tasks. (A write purges the word, so no committed version is left.)
+pub fn plan_write(list: &VersionList, unit: UnitId, place: usize) -> WritePlan
+    requires { place < length list.now.active }
+    ensures victim { (b : BusState) (t : LineTable) (a : ℕ) → IsRequest b t a list.now unit.0 place → result.victim ≡ victim (bus_map b) place a }
+    ensures line { (b : BusState) (t : LineTable) (a value : ℕ) → IsRequest b t a list.now unit.0 place → (bus_write b place a value).lines unit.0 a ≡ Some (line_with value (bits_of result.bits)) }
+    ensures valid { (bits_of result.bits).valid ≡ true }
+    // what the write makes of another unit's line
+    ensures others { (b : BusState) (t : LineTable) (a value other : ℕ) → IsRequest b t a list.now unit.0 place → other ≢ unit.0 → (bus_write b place a value).lines other a ≡ marked_where (is_named result.stale.items other) (purged_line (line_after_cut b (survivors (bus_map b) place a) other a)) }
+    ensures stale { (b : BusState) (t : LineTable) (a other : ℕ) → IsRequest b t a list.now unit.0 place → is_named result.stale.items other ≡ becomes_stale b place a other }
+{
+    let active = list.active();
+    let victim = victim(active, place);
+    let overtaken = is_overtaken(active, victim.unwrap_or(active.len()), place);
+    let bits = own_bits(&active[place]).on_store(overtaken);
+    let mut stale = ArrayVec::new();
+    name_copies(&mut stale, list.committed(), unit);
+    name_earlier(&mut stale, active, place);
+    WritePlan {
+        victim,
+        bits,
+        stale,
+    }
+}
