@@ -1,11 +1,9 @@
 -- A word's committed dirty lines are taken out one after another.
-use Rattle.std.proofs.Common.{◌≡◌, ◌≢◌, ◌⊎◌, ◌∙◌, refl, sym, ap, subst, ℕ, zero, suc, ◌+◌, ◌*◌, ◌<◌, ◌≤◌, Bool, true, false, cond, not, ◌&&◌, ◌||◌, Option, Some, None, List, [], ◌∷◌, length, get_or, inl, inr, arith, add-zero, eq-eqb, ne_eqb, true≢false}
+use Rattle.std.proofs.Common.{◌≡◌, ◌≢◌, ◌⊎◌, ◌∙◌, refl, sym, ap, subst, ℕ, zero, suc, ◌+◌, ◌<◌, ◌≤◌, Bool, true, false, cond, not, ◌&&◌, ◌||◌, Option, Some, None, List, [], ◌∷◌, length, inl, inr, arith, add-zero, eq-eqb, ne_eqb, true≢false}
 use Rattle.std.specs.Bool.{◌==◌}
-use Rattle.std.specs.Prelude.{map}
 use Rattle.std.proofs.lemmas.Bool.{cases_Bool, cases_eq, eqb-true}
-use Rattle.svc_base.specs.declared.config.TheConstants.{MAX_WAYS}
 use Rattle.svc_base.specs.declared.ids.UnitId.{UnitId}
-use Rattle.svc_line.specs.Bits.{Bits, bits_of, is_dirty, is_committed}
+use Rattle.svc_line.specs.Bits.{bits_of}
 use Rattle.svc_line.specs.Line.{SeenLine, seen}
 use Rattle.svc_cache.specs.declared.probes.Probes.{Probes}
 use Rattle.svc_cache.specs.Lines.{is_committed_line}
@@ -13,9 +11,9 @@ use Rattle.svc_cache.specs.Places.{CacheValue, line_of, found}
 use Rattle.svc_bus_laws.specs.Search.{any_below, how_many}
 use Rattle.svc_bus_laws.specs.LineTable.{Line, is_committed_dirty}
 use Rattle.svc_bus_laws.specs.Steps.{purged}
-use Rattle.svc_bus_laws.proofs.Searches.{any_none, any_found, any_fails}
+use Rattle.svc_bus_laws.proofs.Searches.{any_none, any_found}
 use Rattle.svc_vol.specs.declared.version.Version.{Version}
-use Rattle.svc_vol.specs.Lines.{lines_at, lines_in}
+use Rattle.svc_vol.specs.Lines.{lines_in}
 use Rattle.svc_vol.specs.Versions.{version_at, unit_at, AreCommitted}
 use Rattle.svc_retire.specs.Caches.{no_cache, cache_at, line_in, numbered, SameSizes}
 use Rattle.svc_retire.specs.Purges.{keeps, line_after_purge, is_purged, purges, is_dirty_version, drops, CountsSearches}

@@ -1,6 +1,5 @@
 -- The spill table's words are taken up one by one: each spilled version goes to the memory, and its place is emptied.
-use Rattle.std.proofs.Common.{◌≡◌, ◌≢◌, ◌∙◌, refl, sym, ap, subst, ℕ, zero, suc, ◌+◌, ◌<◌, ◌≤◌, Bool, true, false, cond, ◌||◌, Option, Some, None, List, [], ◌∷◌, length, get_or, set, replicate, unwrap_or, inl, inr, arith, length-set, get_or-set_same, get_or-set_other, eq-eqb, ne_eqb, true≢false}
-use Rattle.std.specs.Bool.{◌==◌}
+use Rattle.std.proofs.Common.{◌≡◌, ◌≢◌, ◌∙◌, refl, sym, ap, subst, ℕ, zero, suc, ◌+◌, ◌<◌, Bool, true, false, cond, ◌||◌, Option, Some, None, List, [], ◌∷◌, length, get_or, set, replicate, unwrap_or, inl, inr, arith, length-set, get_or-set_same, get_or-set_other, eq-eqb, ne_eqb, true≢false}
 use Rattle.std.specs.Prelude.{map}
 use Rattle.std.proofs.lemmas.Bool.{cases_Bool, cases_eq}
 use Rattle.std.proofs.lemmas.List.{length-map}
@@ -9,7 +8,6 @@ use Rattle.svc_retire.specs.declared.spill.Place.TheVariants.{Unlisted, Emptied,
 use Rattle.svc_retire.specs.Memory.{with_version}
 use Rattle.svc_retire.specs.Spills.{spilled, is_listed, place_at, is_among, IsListed}
 use Rattle.svc_retire.proofs.Counts.{how_many_within}
-use Rattle.svc_retire.proofs.Listing.{empty_list, empty_view}
 
 -- the memory's word, over which a version has gone
 abbrev pub memory_after : Bool → Option ℕ → ℕ → ℕ

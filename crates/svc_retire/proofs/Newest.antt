@@ -1,18 +1,17 @@
 -- The last dirty version of the list holds the committed value.
-use Rattle.std.proofs.Common.{◌≡◌, ◌⊎◌, ◌∙◌, refl, sym, ap, ap₂, ℕ, ◌<◌, ◌≤◌, Bool, true, false, not, ◌&&◌, ◌||◌, leb, ltb, Option, Some, None, List, length, get_or, unwrap_or, inl, inr, arith, true≢false, le-leb, leb-true, ltb-false, cond, eq-eqb, ne_eqb}
+use Rattle.std.proofs.Common.{◌≡◌, ◌⊎◌, ◌∙◌, sym, ap, ap₂, ℕ, ◌<◌, ◌≤◌, true, false, not, ◌&&◌, ◌||◌, leb, ltb, Option, Some, None, List, length, get_or, unwrap_or, inl, inr, arith, true≢false, le-leb, leb-true, ltb-false, cond, eq-eqb, ne_eqb}
 use Rattle.std.specs.Bool.{◌==◌}
 use Rattle.std.proofs.lemmas.Bool.{cases_Bool, cases_eq}
-use Rattle.svc_line.specs.Bits.{bits_of, is_dirty}
+use Rattle.svc_line.specs.Bits.{is_dirty}
 use Rattle.svc_line.specs.Line.{SeenLine, seen}
-use Rattle.svc_cache.specs.Places.{CacheValue, line_of}
-use Rattle.svc_bus_laws.specs.Search.{all_below}
-use Rattle.svc_bus_laws.specs.LineTable.{Line, LineTable, is_committed_dirty, task_in, value_in, is_newest, newest, value_of, committed_value}
+use Rattle.svc_cache.specs.Places.{CacheValue}
+use Rattle.svc_bus_laws.specs.LineTable.{is_committed_dirty, task_in, value_in, is_newest, value_of}
 use Rattle.svc_bus_laws.proofs.Searches.{least_cases, all_from, all_true}
 use Rattle.svc_bus_laws.proofs.Tables.{committed_none}
 use Rattle.svc_vol.specs.declared.version.Version.{Version}
-use Rattle.svc_vol.specs.Lines.{lines_in, is_older_of, is_older_line}
+use Rattle.svc_vol.specs.Lines.{lines_in, is_older_of}
 use Rattle.svc_vol.specs.Versions.{version_at, unit_at, AreCommitted}
-use Rattle.svc_retire.specs.Caches.{cache_at, line_in, numbered}
+use Rattle.svc_retire.specs.Caches.{line_in, numbered}
 use Rattle.svc_retire.specs.Memory.{with_version}
 use Rattle.svc_retire.specs.Purges.{is_dirty_version, table_in, committed_in, AreDistinct, IsNewestAt, IsNewest}
 use Rattle.svc_retire.proofs.Emptying.{version_same, version_other}

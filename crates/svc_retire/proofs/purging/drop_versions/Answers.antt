@@ -1,8 +1,5 @@
-use Rattle.std.proofs.Common.{arith, ◌≡◌, ◌∙◌, ap, sym, subst, ℕ, suc, ◌+◌, ◌≤◌, ◌*◌, length}
-use Rattle.svc_base.specs.declared.config.TheConstants.{MAX_WAYS}
-use Rattle.svc_bus_laws.specs.Search.{how_many}
-use Rattle.svc_retire.specs.Caches.{cache_at}
-use Rattle.svc_retire.proofs.Dropping.{IsDropped, is_taken, taken_few, drop_begins, drop_steps, drop_ends}
+use Rattle.std.proofs.Common.{arith, ◌≡◌, subst, suc, ◌+◌, length}
+use Rattle.svc_retire.proofs.Dropping.{IsDropped, taken_few, drop_begins, drop_steps, drop_ends}
 use Rattle.svc_retire.proofs.purging.drop_versions.Goals as goal
 
 pub loop-version-init : goal.loop-version-init

@@ -1,9 +1,7 @@
-use Rattle.std.proofs.Common.{◌≡◌, ◌∙◌, ap, sym, subst, ℕ, List, Option, length, get_or, cond, inl, inr, eq-eqb, ne_eqb}
-use Rattle.std.proofs.lemmas.Bool.{cases_eq}
+use Rattle.std.proofs.Common.{◌∙◌, ap, subst, ℕ, List, length, get_or}
 use Rattle.svc_vol.specs.declared.version.Version.{Version}
-use Rattle.svc_retire.specs.Memory.{with_version}
-use Rattle.svc_retire.specs.Purges.{IsNewest, committed_in}
-use Rattle.svc_retire.proofs.Newest.{newest_value, memory_after_purge}
+use Rattle.svc_retire.specs.Purges.{IsNewest}
+use Rattle.svc_retire.proofs.Newest.{memory_after_purge}
 use Rattle.svc_retire.proofs.purging.purge.Goals as goal
 
 pub returns-clause-memory : goal.returns-clause-memory
