@@ -17,7 +17,7 @@ use svc_line::LineBits;
 use svc_vol::{CAPACITY, Version, VersionList};
 
 /// How many lines can become stale at most, as the types tell: all of a version list.
-pub const STALE_CAPACITY: usize = 32;
+pub const STALE_CAPACITY: usize = 2 * CAPACITY;
 
 /// What a write does.
 #[derive(Drop)]
