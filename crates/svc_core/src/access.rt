@@ -22,6 +22,7 @@ pub struct Place {
 
 /// Where a store lies in data of so many words, or the number of its trap: 5 where it isn't aligned to its
 /// width, else 6 where it lies outside the data.
+#[inline(always)]
 pub fn store_place(kind: StoreKind, addr: u32, words: u32) -> Result<Place, u8>
     requires { words ≤ 65536 }
     ensures trap { trap_of result ≡ access_trap words (store_bytes kind) addr }
@@ -49,6 +50,7 @@ pub fn store_place(kind: StoreKind, addr: u32, words: u32) -> Result<Place, u8>
 }
 
 /// Where a load lies in data of so many words, or the number of its trap, as for a store.
+#[inline(always)]
 pub fn load_place(kind: LoadKind, addr: u32, words: u32) -> Result<Place, u8>
     requires { words ≤ 65536 }
     ensures trap { trap_of result ≡ access_trap words (load_bytes kind) addr }
@@ -60,6 +62,7 @@ pub fn load_place(kind: LoadKind, addr: u32, words: u32) -> Result<Place, u8>
 }
 
 // The store of as many bytes.
+#[inline(always)]
 fn width_of(kind: LoadKind) -> StoreKind
     ensures { store_bytes result ≡ load_bytes kind }
 {
@@ -72,6 +75,7 @@ fn width_of(kind: LoadKind) -> StoreKind
     }
 }
 
+#[inline(always)]
 fn is_aligned(kind: StoreKind, addr: u32) -> bool
     ensures { result ≡ (addr % store_bytes kind == 0) }
 {
@@ -83,6 +87,7 @@ fn is_aligned(kind: StoreKind, addr: u32) -> bool
 }
 
 /// The value that a load gives from a byte of a word on.
+#[inline(always)]
 pub fn loaded(kind: LoadKind, lane: u32, word: u32) -> u32
     requires { lane + load_bytes kind ≤ 4 }
     ensures { result ≡ loaded kind lane word }
@@ -91,6 +96,7 @@ pub fn loaded(kind: LoadKind, lane: u32, word: u32) -> u32
 }
 
 /// The word with the lowest bytes of a value in place of its bytes from a lane on.
+#[inline(always)]
 pub fn stored(kind: StoreKind, lane: u32, value: u32, word: u32) -> u32
     requires fits { lane + store_bytes kind ≤ 4 }
     requires aligned { lane % store_bytes kind ≡ 0 }

@@ -58,7 +58,7 @@ impl Core {
     }
 
     /// The byte address of the next instruction.
-    #[inline]
+    #[inline(always)]
     pub fn pc(&self) -> u32
         ensures { result ≡ self.now.pc }
     {
@@ -66,7 +66,7 @@ impl Core {
     }
 
     /// What stands in a register.
-    #[inline]
+    #[inline(always)]
     pub fn value(&self, r: Register) -> u32
         ensures { result ≡ value_of self.now r.number }
     {
@@ -114,7 +114,7 @@ impl Core {
     }
 
     /// Whether the task has not ended.
-    #[inline]
+    #[inline(always)]
     pub fn is_running(&self) -> bool
         ensures { result ≡ is_none self.now.done }
     {

@@ -6,7 +6,7 @@ ghost use Rattle.svc_core_laws.specs.Numbers.{operated, on_registers, shift_on_r
 use svc_rv32i::{Comparison, ImmediateOperation, ImmediateShift, Long, Operation, Short};
 
 // The sign-extended immediate of a load, a store, a JALR or an operation.
-#[inline]
+#[inline(always)]
 pub(crate) fn value_of_short(imm: Short) -> u32
     ensures { result ≡ short_value imm }
 {
@@ -18,7 +18,7 @@ pub(crate) fn value_of_short(imm: Short) -> u32
     }
 }
 
-#[inline]
+#[inline(always)]
 pub(crate) fn offset_of_branch(imm: Short) -> u32
     ensures { result ≡ branch_offset imm }
 {
@@ -30,7 +30,7 @@ pub(crate) fn offset_of_branch(imm: Short) -> u32
     }
 }
 
-#[inline]
+#[inline(always)]
 pub(crate) fn offset_of_jump(imm: Long) -> u32
     ensures { result ≡ jump_offset imm }
 {
@@ -42,7 +42,7 @@ pub(crate) fn offset_of_jump(imm: Long) -> u32
     }
 }
 
-#[inline]
+#[inline(always)]
 pub(crate) fn value_of_upper(imm: Long) -> u32
     ensures { result ≡ upper_value imm }
 {
@@ -51,7 +51,7 @@ pub(crate) fn value_of_upper(imm: Long) -> u32
 }
 
 // What an operation gives for its two numbers.
-#[inline]
+#[inline(always)]
 #[tactic(auto, unfolding(svc_core_laws::specs::Numbers::operated))]
 pub(crate) fn operate(op: Operation, a: u32, b: u32) -> u32
     ensures { result ≡ operated op a b }
@@ -70,7 +70,7 @@ pub(crate) fn operate(op: Operation, a: u32, b: u32) -> u32
     }
 }
 
-#[inline]
+#[inline(always)]
 pub(crate) fn with_registers(op: ImmediateOperation) -> Operation
     ensures { result ≡ on_registers op }
 {
@@ -84,7 +84,7 @@ pub(crate) fn with_registers(op: ImmediateOperation) -> Operation
     }
 }
 
-#[inline]
+#[inline(always)]
 pub(crate) fn shift_with_registers(op: ImmediateShift) -> Operation
     ensures { result ≡ shift_on_registers op }
 {
@@ -96,7 +96,7 @@ pub(crate) fn shift_with_registers(op: ImmediateShift) -> Operation
 }
 
 // Whether a branch is taken.
-#[inline]
+#[inline(always)]
 #[tactic(auto, unfolding(svc_core_laws::specs::Numbers::compared))]
 pub(crate) fn compare(test: Comparison, a: u32, b: u32) -> bool
     ensures { result ≡ compared test a b }

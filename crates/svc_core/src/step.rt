@@ -39,7 +39,7 @@ impl Core {
 
     /// Does an asked turn on a memory of words, up to the test for an entry; the answer is the word put out,
     /// if any.
-    #[inline]
+    #[inline(always)]
     pub fn answer(&mut self, ask: Ask, memory: &mut [u32]) -> Option<u32>
         requires ready { IsReady self.old ask }
         requires few { length memory.old ≤ 65536 }
@@ -64,7 +64,7 @@ impl Core {
         }
     }
 
-    #[inline]
+    #[inline(always)]
     fn load(&mut self, memory: &[u32], kind: LoadKind, rd: Register, addr: u32)
         requires running { self.old.done ≡ None }
         requires in_time { self.old.count < self.old.limit }
@@ -80,7 +80,7 @@ impl Core {
         }
     }
 
-    #[inline]
+    #[inline(always)]
     fn store(&mut self, memory: &mut [u32], kind: StoreKind, addr: u32, value: u32)
         requires running { self.old.done ≡ None }
         requires in_time { self.old.count < self.old.limit }
