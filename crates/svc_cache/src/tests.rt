@@ -34,6 +34,16 @@ pub(crate) enum Step {
     Squash,
 }
 
+impl Step {
+    // How many searches the step takes.
+    fn searches(self) -> u32 {
+        match self {
+            Step::Fill(..) | Step::Drop(_) | Step::Lookup(_) | Step::Full(_) => 1,
+            Step::Commit | Step::Squash => 0,
+        }
+    }
+}
+
 // What a step answers.
 #[derive(Clone, Copy, Debug, PartialEq, Eq)]
 pub(crate) enum Answer {
@@ -167,19 +177,29 @@ const STEPS: [Step; 30] = [
     Step::Lookup(5),
 ];
 
+// The cache and the list answer the step in the same way, by as many searches.
+fn answers_agree(
+    rt: &impl Abort,
+    cache: &mut Tested,
+    list: &mut SearchedLines,
+    step: Step,
+) -> Result<(), Fail> {
+    let (answer, probes) = cache.perform(step);
+    let (list_answer, list_probes) = list.perform(rt, step)?;
+    assert_eq!(rt; answer, list_answer, "at {step:?}");
+    assert_eq!(rt; probes.searches, step.searches(), "at {step:?}");
+    assert_eq!(rt; list_probes.searches, step.searches(), "at {step:?}");
+    Ok(())
+}
+
 #[test]
 fn a_searched_list_answers_the_same(rt: HostRuntime) -> Result<(), Fail> {
     let mut cache = Tested::open(&rt, rt.alloc(), 2, 2).map_err(|_| "memory")?;
     let mut list = SearchedLines::new(rt.alloc(), 2, 2);
     for step in STEPS {
-        assert_eq!(rt; cache.perform(step).0, list.perform(step)?, "at {step:?}");
+        answers_agree(&rt, &mut cache, &mut list, step)?;
         for word in 0..8 {
-            let lookup = Step::Lookup(word);
-            assert_eq!(rt;
-                cache.perform(lookup).0,
-                list.perform(lookup)?,
-                "word {word} after {step:?}"
-            );
+            answers_agree(&rt, &mut cache, &mut list, Step::Lookup(word))?;
         }
     }
     Ok(())

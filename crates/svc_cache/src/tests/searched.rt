@@ -1,18 +1,25 @@
 //! A cache as a searched list of places: what the rows of places are measured by.
+//!
+//! The list has its places in no order, so a search of it looks at all of them. Each is counted as
+//! visited once, however often the search comes back to it.
 ghost use Rattle.std.specs.Prelude.{◌≡◌, ◌+◌, ◌<◌, ◌≤◌, length, count_by};
+ghost use Rattle.svc_cache.specs.Probes.{CountsOneSearch, HasRoom};
 ghost use Rattle.svc_cache.specs.Rows.{IsFoundAt};
 ghost use Rattle.svc_cache.specs.Sets.{IsVictimBelow, lies_in};
 
 use super::{Answer, Step, line};
-use crate::SetFull;
 use crate::place::Place;
+use crate::{Probes, SetFull};
 use std::alloc::{AllocError, Global};
 use std::marker::Model;
+use std::process::Abort;
+use std::test::Fail;
 use svc_base::WordAddr;
 use svc_line::Line;
 
 /// A list of the lines that a cache would have. Contracts see the map `line_in` from word address to
-/// line, and say of it what a cache's contracts say of the cache's map.
+/// line, and say of it what a cache's contracts say of the cache's map. The searches are counted as a
+/// cache's are, but a search visits as many places as the list has, and not as a set has ways.
 #[derive(Drop)]
 pub(crate) struct SearchedLines {
     sets: u32,
@@ -28,6 +35,15 @@ impl Model for SearchedLines {
     ghost view = { λ list. record { sets = list.sets; ways = list.ways; places = list.places.items } };
 
     ghost invariant = { λ list. IsSoundList (record { sets = list.sets; ways = list.ways; places = list.places.items }) };
+}
+
+// A search of all the places is counted.
+fn count_search(places: &[Place], probes: &mut Probes)
+    requires { HasRoom probes.old (length places.now) }
+    ensures { CountsOneSearch probes.old probes.new (length places.now) }
+{
+    probes.searches += 1;
+    probes.places += places.len() as u32;
 }
 
 // The first place that holds the word.
@@ -120,19 +136,25 @@ impl SearchedLines {
     }
 
     /// The line of the word.
-    pub(crate) fn lookup(&self, word: WordAddr) -> Option<Line>
+    pub(crate) fn lookup(&self, word: WordAddr, probes: &mut Probes) -> Option<Line>
+        requires room { HasRoom probes.old (length self.now.places) }
         ensures line { option_map seen result ≡ line_in self.now word.0 }
         ensures valid { IfSome result (λ line. (bits_of line.bits).valid ≡ true) }
+        ensures counted { CountsOneSearch probes.old probes.new (length self.now.places) }
     {
+        count_search(&self.places, probes);
         let place = place_of(&self.places, word)?;
         Some(self.places[place].line)
     }
 
     /// The word whose line is to be replaced before a line of `word` can be filled, exactly where
     /// `word` has no line and its set is full.
-    pub(crate) fn full(&self, word: WordAddr) -> Option<WordAddr>
+    pub(crate) fn full(&self, word: WordAddr, probes: &mut Probes) -> Option<WordAddr>
+        requires room { HasRoom probes.old (length self.now.places) }
         ensures address { (bound : ℕ) → EndsBelow (line_in self.now) bound → option_map (λ named. named.0) result ≡ full_address self.now.sets self.now.ways bound (line_in self.now) word.0 }
+        ensures counted { CountsOneSearch probes.old probes.new (length self.now.places) }
     {
+        count_search(&self.places, probes);
         if place_of(&self.places, word).is_some() {
             return None;
         }
@@ -149,16 +171,19 @@ impl SearchedLines {
         &mut self,
         word: WordAddr,
         line: Line,
+        probes: &mut Probes,
     ) -> Result<Result<(), SetFull>, AllocError>
         requires valid { (bits_of line.bits).valid ≡ true }
+        requires room { HasRoom probes.old (length self.old.places) }
         ensures refused { IfOk result (λ answer. (bound : ℕ) → EndsBelow (line_in self.old) bound → MatchResult answer (λ _. full_address self.old.sets self.old.ways bound (line_in self.old) word.0 ≡ None) (λ e. full_address self.old.sets self.old.ways bound (line_in self.old) word.0 ≡ Some e.0.0)) }
         ensures memory { OnErr result (self.new ≡ self.old) }
         ensures unchanged { IfOk result (λ answer. OnErr answer (self.new ≡ self.old)) }
         ensures line { IfOk result (λ answer. OnOk answer (line_in self.new ≡ with_line (line_in self.old) word.0 (Some (seen line)))) }
         ensures sets { self.new.sets ≡ self.old.sets }
         ensures ways { self.new.ways ≡ self.old.ways }
+        ensures counted { CountsOneSearch probes.old probes.new (length self.old.places) }
     {
-        if let Some(named) = self.full(word) {
+        if let Some(named) = self.full(word, probes) {
             return Ok(Err(SetFull(named)));
         }
         if let Some(place) = place_of(&self.places, word) {
@@ -170,11 +195,14 @@ impl SearchedLines {
     }
 
     /// The word's line, if any, becomes invalid.
-    pub(crate) fn drop_line(&mut self, word: WordAddr)
+    pub(crate) fn drop_line(&mut self, word: WordAddr, probes: &mut Probes)
+        requires room { HasRoom probes.old (length self.old.places) }
         ensures line { line_in self.new ≡ with_line (line_in self.old) word.0 None }
         ensures sets { self.new.sets ≡ self.old.sets }
         ensures ways { self.new.ways ≡ self.old.ways }
+        ensures counted { CountsOneSearch probes.old probes.new (length self.old.places) }
     {
+        count_search(&self.places, probes);
         if let Some(place) = place_of(&self.places, word) {
             self.places[place] = Place::empty();
         }
@@ -204,24 +232,33 @@ impl SearchedLines {
         }
     }
 
-    // The step's answer.
-    pub(crate) fn perform(&mut self, step: Step) -> Result<Answer, AllocError> {
-        match step {
-            Step::Fill(word, value) => Ok(Answer::Filled(self.fill(WordAddr(word), line(value))?)),
-            Step::Drop(word) => {
-                self.drop_line(WordAddr(word));
-                Ok(Answer::Done)
+    // The step's answer, and the probes that it took.
+    pub(crate) fn perform(
+        &mut self,
+        rt: &impl Abort,
+        step: Step,
+    ) -> Result<(Answer, Probes), Fail> {
+        assert!(rt; self.places.len() < 1000);
+        let mut probes = Probes::new();
+        let answer = match step {
+            Step::Fill(word, value) => {
+                Answer::Filled(self.fill(WordAddr(word), line(value), &mut probes)?)
             }
-            Step::Lookup(word) => Ok(Answer::Found(self.lookup(WordAddr(word)))),
-            Step::Full(word) => Ok(Answer::Named(self.full(WordAddr(word)))),
+            Step::Drop(word) => {
+                self.drop_line(WordAddr(word), &mut probes);
+                Answer::Done
+            }
+            Step::Lookup(word) => Answer::Found(self.lookup(WordAddr(word), &mut probes)),
+            Step::Full(word) => Answer::Named(self.full(WordAddr(word), &mut probes)),
             Step::Commit => {
                 self.for_commit();
-                Ok(Answer::Done)
+                Answer::Done
             }
             Step::Squash => {
                 self.for_squash();
-                Ok(Answer::Done)
+                Answer::Done
             }
-        }
+        };
+        Ok((answer, probes))
     }
 }

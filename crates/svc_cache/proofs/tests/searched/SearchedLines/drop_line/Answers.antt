@@ -13,7 +13,7 @@ taken : (c : goal.After-self-1) → IsSoundRow 1 0 (set c.self.inside.places.ite
 taken c =
     let word = c.args.word.0 in
     let place = c.in-Some.place in
-    taken_from_list c.self.inside.places.items word place c.empty.result c.self.invariant.once (subst (λ (places : List Place). IsFirstHolder places word place) c.deref.ensures.value c.in-Some.ensures) c.empty.ensures
+    taken_from_list c.self.inside.places.items word place c.empty.result c.self.invariant.once (subst (λ (places : List Place). IsFirstHolder places word place) c.deref-2.ensures.value c.in-Some.ensures) c.empty.ensures
 
 pub invariant_of-self : goal.invariant_of-self
 invariant_of-self c = record { some_sets = c.self.invariant.some_sets; once = (taken c).0 }
@@ -25,5 +25,5 @@ returns-in-Some-clause-line c =
 pub returns-in_default-clause-line : goal.returns-in_default-clause-line
 returns-in_default-clause-line c =
     let word = c.args.word.0 in
-    let same = without_word c.self.inside.places.items word (subst (λ (places : List Place). LacksBelow places (length places) word) c.deref.ensures.value c.in_default.ensures) in
+    let same = without_word c.self.inside.places.items word (subst (λ (places : List Place). LacksBelow places (length places) word) c.deref-2.ensures.value c.in_default.ensures) in
     subst (λ (list : ListValue). line_in list ≡ with_line (line_in list) word None) c.self.view_is same

@@ -21,49 +21,41 @@ count_in sets word count places others same is = is ∙ lines_in-is sets word pl
 ends_in : (before after : ListValue) (bound : ℕ) → before ≡ after → EndsBelow (line_in after) bound → EndsBelow (line_in before) bound
 ends_in before after bound same ends = subst (λ (list : ListValue). EndsBelow (line_in list) bound) (sym same) ends
 
-pub returns-then-is_some : goal.returns-then-is_some
-returns-then-is_some c = record {
-  address = λ bound ends.
-      let word = c.args.word.0 in
-      let list = c.self.inside in
-      let own = subst (λ (places : List Place). IsFoundAt places word c.place_of.result) c.deref.ensures.value c.place_of.ensures in
-      sym (listed-some 1 0 list.sets list.ways word list.places.items c.self.invariant.once bound c.place_of.result own (sym c.is_some.ensures ∙ c.if-is_some.true))
-      ∙ ap (λ (v : ListValue). full_address v.sets v.ways bound (line_in v) word) c.self.view_is;
-}
+pub returns-then-is_some-clause-address : goal.returns-then-is_some-clause-address
+returns-then-is_some-clause-address c = λ bound ends.
+    let word = c.args.word.0 in
+    let list = c.self.inside in
+    let own = subst (λ (places : List Place). IsFoundAt places word c.place_of.result) c.deref-2.ensures.value c.place_of.ensures in
+    sym (listed-some 1 0 list.sets list.ways word list.places.items c.self.invariant.once bound c.place_of.result own (sym c.is_some.ensures ∙ c.if-is_some.true))
+    ∙ ap (λ (v : ListValue). full_address v.sets v.ways bound (line_in v) word) c.self.view_is
 
-pub returns-then-lines_in_set-self : goal.returns-then-lines_in_set-self
-returns-then-lines_in_set-self c = record {
-  address = λ bound ends.
-      let word = c.args.word.0 in
-      let list = c.self.inside in
-      let few = subst (λ n. n < list.ways) (count_in list.sets word c.lines_in_set.result c.deref-2.result.now list.places.items c.deref-2.ensures.value c.lines_in_set.ensures) c.if-lines_in_set-self.true in
-      sym (listed-few 1 0 list.sets list.ways word list.places.items c.self.invariant.once bound (ends_in _ _ bound c.self.view_is ends) few)
-      ∙ ap (λ (v : ListValue). full_address v.sets v.ways bound (line_in v) word) c.self.view_is;
-}
+pub returns-then-lines_in_set-self-clause-address : goal.returns-then-lines_in_set-self-clause-address
+returns-then-lines_in_set-self-clause-address c = λ bound ends.
+    let word = c.args.word.0 in
+    let list = c.self.inside in
+    let few = subst (λ n. n < list.ways) (count_in list.sets word c.lines_in_set.result c.deref-3.result.now list.places.items c.deref-3.ensures.value c.lines_in_set.ensures) c.if-lines_in_set-self.true in
+    sym (listed-few 1 0 list.sets list.ways word list.places.items c.self.invariant.once bound (ends_in _ _ bound c.self.view_is ends) few)
+    ∙ ap (λ (v : ListValue). full_address v.sets v.ways bound (line_in v) word) c.self.view_is
 
-pub returns-in_err-victim : goal.returns-in_err-victim
-returns-in_err-victim c = record {
-  address = λ bound ends.
-      let word = c.args.word.0 in
-      let list = c.self.inside in
-      let lacks = lacks_in c.deref.result.now list.places.items word c.place_of.result c.deref.ensures.value c.place_of.ensures (sym c.is_some.ensures ∙ c.if-is_some.false) in
-      let enough = subst (λ n. list.ways ≤ n) (count_in list.sets word c.lines_in_set.result c.deref-2.result.now list.places.items c.deref-2.ensures.value c.lines_in_set.ensures) c.if-lines_in_set-self.false in
-      let none = subst (λ (places : List Place). HasNoneBelow list.sets word places (length places)) c.deref-3.ensures.value c.in_err-victim.ensures in
-      ap (λ (named : Option WordAddr). option_map (λ (word : WordAddr). word.0) named) c.from_residual.ensures
-      ∙ sym (listed-none 1 0 list.sets list.ways word list.places.items c.self.invariant.once bound (ends_in _ _ bound c.self.view_is ends) lacks enough none)
-      ∙ ap (λ (v : ListValue). full_address v.sets v.ways bound (line_in v) word) c.self.view_is;
-}
+pub returns-in_err-victim-clause-address : goal.returns-in_err-victim-clause-address
+returns-in_err-victim-clause-address c = λ bound ends.
+    let word = c.args.word.0 in
+    let list = c.self.inside in
+    let lacks = lacks_in c.deref-2.result.now list.places.items word c.place_of.result c.deref-2.ensures.value c.place_of.ensures (sym c.is_some.ensures ∙ c.if-is_some.false) in
+    let enough = subst (λ n. list.ways ≤ n) (count_in list.sets word c.lines_in_set.result c.deref-3.result.now list.places.items c.deref-3.ensures.value c.lines_in_set.ensures) c.if-lines_in_set-self.false in
+    let none = subst (λ (places : List Place). HasNoneBelow list.sets word places (length places)) c.deref-4.ensures.value c.in_err-victim.ensures in
+    ap (λ (named : Option WordAddr). option_map (λ (word : WordAddr). word.0) named) c.from_residual.ensures
+    ∙ sym (listed-none 1 0 list.sets list.ways word list.places.items c.self.invariant.once bound (ends_in _ _ bound c.self.view_is ends) lacks enough none)
+    ∙ ap (λ (v : ListValue). full_address v.sets v.ways bound (line_in v) word) c.self.view_is
 
-pub returns : goal.returns
-returns c = record {
-  address = λ bound ends.
-      let word = c.args.word.0 in
-      let list = c.self.inside in
-      let victim = c.in_ok-victim.victim in
-      let lacks = lacks_in c.deref.result.now list.places.items word c.place_of.result c.deref.ensures.value c.place_of.ensures (sym c.is_some.ensures ∙ c.if-is_some.false) in
-      let enough = subst (λ n. list.ways ≤ n) (count_in list.sets word c.lines_in_set.result c.deref-2.result.now list.places.items c.deref-2.ensures.value c.lines_in_set.ensures) c.if-lines_in_set-self.false in
-      let first = subst (λ (places : List Place). IsFirstBelow list.sets word places (length places) victim) c.deref-3.ensures.value c.in_ok-victim.ensures in
-      ap (λ (place : Place). Some place.word.0) (c.index.ensures ∙ get_or_default list.places.items victim c.index.result.now no_place first.within)
-      ∙ sym (listed-full 1 0 list.sets list.ways word list.places.items c.self.invariant.once bound victim (ends_in _ _ bound c.self.view_is ends) lacks enough first)
-      ∙ ap (λ (v : ListValue). full_address v.sets v.ways bound (line_in v) word) c.self.view_is;
-}
+pub returns-clause-address : goal.returns-clause-address
+returns-clause-address c = λ bound ends.
+    let word = c.args.word.0 in
+    let list = c.self.inside in
+    let victim = c.in_ok-victim.victim in
+    let lacks = lacks_in c.deref-2.result.now list.places.items word c.place_of.result c.deref-2.ensures.value c.place_of.ensures (sym c.is_some.ensures ∙ c.if-is_some.false) in
+    let enough = subst (λ n. list.ways ≤ n) (count_in list.sets word c.lines_in_set.result c.deref-3.result.now list.places.items c.deref-3.ensures.value c.lines_in_set.ensures) c.if-lines_in_set-self.false in
+    let first = subst (λ (places : List Place). IsFirstBelow list.sets word places (length places) victim) c.deref-4.ensures.value c.in_ok-victim.ensures in
+    ap (λ (place : Place). Some place.word.0) (c.index.ensures ∙ get_or_default list.places.items victim c.index.result.now no_place first.within)
+    ∙ sym (listed-full 1 0 list.sets list.ways word list.places.items c.self.invariant.once bound victim (ends_in _ _ bound c.self.view_is ends) lacks enough first)
+    ∙ ap (λ (v : ListValue). full_address v.sets v.ways bound (line_in v) word) c.self.view_is

@@ -12,7 +12,7 @@ use Rattle.svc_cache.proofs.tests.searched.SearchedLines.lookup.Goals as goal
 pub returns-in_err-place-clause-line : goal.returns-in_err-place-clause-line
 returns-in_err-place-clause-line c =
     let word = c.args.word.0 in
-    let lacks = subst (λ (places : List Place). LacksBelow places (length places) word) c.deref.ensures.value c.in_err-place.ensures in
+    let lacks = subst (λ (places : List Place). LacksBelow places (length places) word) c.deref-2.ensures.value c.in_err-place.ensures in
     ap (λ (line : Option Line). option_map seen line) c.from_residual.ensures
     ∙ sym (found-lacks c.self.inside.places.items word lacks) ∙ ap (λ (list : ListValue). line_in list word) c.self.view_is
 
@@ -20,6 +20,6 @@ pub returns-clause-line : goal.returns-clause-line
 returns-clause-line c =
     let word = c.args.word.0 in
     let place = c.in_ok-place.place in
-    let first = subst (λ (places : List Place). IsFirstHolder places word place) c.deref.ensures.value c.in_ok-place.ensures in
+    let first = subst (λ (places : List Place). IsFirstHolder places word place) c.deref-2.ensures.value c.in_ok-place.ensures in
     ap (λ (found : Place). Some (seen found.line)) (c.index.ensures ∙ get_or_default c.self.inside.places.items place c.index.result.now no_place first.within)
     ∙ sym (found-here c.self.inside.places.items place word first) ∙ ap (λ (list : ListValue). line_in list word) c.self.view_is
