@@ -142,47 +142,39 @@ changed-row change before after ways start n all_of changed = record {
 abbrev pub with_places : CacheValue → List Place → CacheValue
 with_places cache places = record cache { places = places }
 
-pub committed_cache : (cache : CacheValue) (places : List Place) (n : ℕ) → IsSound cache → length cache.places ≤ n → IsChangedBelow committed n cache.places places → IsSound (with_places cache places) × (line_of (with_places cache places) ≡ (λ word. commit_line (line_of cache word)))
+-- a row of lines of the set stays one, and its map changes line by line
+abbrev pub ChangesRow : (Bits → Bits) → (Option SeenLine → Option SeenLine) → (sets : ℕ) → Type 0
+ChangesRow change line_change sets = (s : ℕ) (before after : List Place) → IsChangedRow change before after → IsSoundRow sets s before → IsSoundRow sets s after × ((word : ℕ) → found after word ≡ line_change (found before word))
+
+changed_rows : (change : Bits → Bits) (line_change : Option SeenLine → Option SeenLine) (cache : CacheValue) (places : List Place) (n : ℕ) → ChangesRow change line_change cache.sets → IsSound cache → length cache.places ≤ n → IsChangedBelow change n cache.places places → IsSound (with_places cache places) × (line_of (with_places cache places) ≡ (λ word. line_change (line_of cache word)))
 unfolding line_of
-committed_cache cache places n sound all_of changed = (
+changed_rows change line_change cache places n by_row sound all_of changed = (
   record {
     power = sound.power;
     few_sets = sound.few_sets;
     some_ways = sound.some_ways;
     few_ways = sound.few_ways;
     size = changed.size ∙ sound.size;
-    rows = λ s below. sound-committed cache.sets s (row_at cache s) (row_at (with_places cache places) s) (changed-row committed cache.places places cache.ways (s * cache.ways) n all_of changed) (sound.rows s below);
+    rows = λ s below. (row s below).0;
   },
-  fun_ext (λ word.
-      let s = word % cache.sets in
-      found-committed (row_at cache s) (row_at (with_places cache places) s) (changed-row committed cache.places places cache.ways (s * cache.ways) n all_of changed) word),
+  fun_ext (λ word. (row (word % cache.sets) (in_some_set cache word sound)).1 word),
 )
+  where
+    row : (s : ℕ) → s < cache.sets → IsSoundRow cache.sets s (row_at (with_places cache places) s) × ((word : ℕ) → found (row_at (with_places cache places) s) word ≡ line_change (found (row_at cache s) word))
+    row s below = by_row s (row_at cache s) (row_at (with_places cache places) s) (changed-row change cache.places places cache.ways (s * cache.ways) n all_of changed) (sound.rows s below)
+
+changed_places : (change : Bits → Bits) (line_change : Option SeenLine → Option SeenLine) (before after : CacheValue) (n : ℕ) → ChangesRow change line_change before.sets → IsSound before → after.sets ≡ before.sets → after.ways ≡ before.ways → length before.places ≤ n → IsChangedBelow change n before.places after.places → IsSound after × (line_of after ≡ (λ word. line_change (line_of before word)))
+changed_places change line_change before after n by_row sound sets ways all_of changed =
+    let same : with_places before after.places ≡ after = λ i. record { sets = sym sets i; ways = sym ways i; places = after.places } in
+    subst (λ (cache : CacheValue). IsSound cache × (line_of cache ≡ (λ word. line_change (line_of before word)))) same (changed_rows change line_change before after.places n by_row sound all_of changed)
 
 pub committed_places : (before after : CacheValue) (n : ℕ) → IsSound before → after.sets ≡ before.sets → after.ways ≡ before.ways → length before.places ≤ n → IsChangedBelow committed n before.places after.places → IsSound after × (line_of after ≡ (λ word. commit_line (line_of before word)))
-committed_places before after n sound sets ways all_of changed =
-    let same : with_places before after.places ≡ after = λ i. record { sets = sym sets i; ways = sym ways i; places = after.places } in
-    subst (λ (cache : CacheValue). IsSound cache × (line_of cache ≡ (λ word. commit_line (line_of before word)))) same (committed_cache before after.places n sound all_of changed)
-
-pub squashed_cache : (cache : CacheValue) (places : List Place) (n : ℕ) → IsSound cache → length cache.places ≤ n → IsChangedBelow squashed n cache.places places → IsSound (with_places cache places) × (line_of (with_places cache places) ≡ (λ word. squash_line (line_of cache word)))
-unfolding line_of
-squashed_cache cache places n sound all_of changed = (
-  record {
-    power = sound.power;
-    few_sets = sound.few_sets;
-    some_ways = sound.some_ways;
-    few_ways = sound.few_ways;
-    size = changed.size ∙ sound.size;
-    rows = λ s below. sound-squashed cache.sets s (row_at cache s) (row_at (with_places cache places) s) (changed-row squashed cache.places places cache.ways (s * cache.ways) n all_of changed) (sound.rows s below);
-  },
-  fun_ext (λ word.
-      let s = word % cache.sets in
-      found-squashed cache.sets s (row_at cache s) (row_at (with_places cache places) s) (changed-row squashed cache.places places cache.ways (s * cache.ways) n all_of changed) (sound.rows s (in_some_set cache word sound)) word),
-)
+committed_places before after n =
+    changed_places committed commit_line before after n (λ s row new all sound. (sound-committed before.sets s row new all sound, found-committed row new all))
 
 pub squashed_places : (before after : CacheValue) (n : ℕ) → IsSound before → after.sets ≡ before.sets → after.ways ≡ before.ways → length before.places ≤ n → IsChangedBelow squashed n before.places after.places → IsSound after × (line_of after ≡ (λ word. squash_line (line_of before word)))
-squashed_places before after n sound sets ways all_of changed =
-    let same : with_places before after.places ≡ after = λ i. record { sets = sym sets i; ways = sym ways i; places = after.places } in
-    subst (λ (cache : CacheValue). IsSound cache × (line_of cache ≡ (λ word. squash_line (line_of before word)))) same (squashed_cache before after.places n sound all_of changed)
+squashed_places before after n =
+    changed_places squashed squash_line before after n (λ s row new all sound. (sound-squashed before.sets s row new all sound, found-squashed before.sets s row new all sound))
 
 -- places without lines make an empty cache
 sound-empty : (sets s : ℕ) (row : List Place) → ((k : ℕ) → k < length row → is_held (place_at row k) ≡ false) → IsSoundRow sets s row
