@@ -85,19 +85,34 @@ fn one_active(
     Ok(VersionList::of(&caches, &queue, WORD, &mut Probes::new()))
 }
 
+// The plan of a read where the word in memory is 7.
+fn read_of(
+    rt: &impl Abort,
+    list: &VersionList,
+    unit: u8,
+    place: usize,
+    spill: Option<u32>,
+) -> ReadPlan {
+    assert!(rt; place < list.active().len());
+    plan_read(list, UnitId(unit), place, spill, 7)
+}
+
+// A plan whose bits have this number.
+fn plan(served: Served, value: u32, number: u8) -> ReadPlan {
+    ReadPlan {
+        served,
+        value,
+        bits: bits(number),
+    }
+}
+
 #[test]
 fn a_read_takes_the_nearest_earlier_version(rt: HostRuntime) -> Result<(), Fail> {
     let lines = [line(1, 19, 0), line(2, 19, 1), line(3, 3, 2), None];
     let list = all_active(&rt, rt.alloc(), lines).map_err(|_| "memory")?;
-    assert!(rt; 3 < list.active().len());
-    let plan = plan_read(&list, UnitId(3), 3, None, 7);
-    let expected = ReadPlan {
-        served: Served::Version(UnitId(2)),
-        value: 3,
-        bits: bits(5),
-    };
-    assert_eq!(rt; plan, expected);
-    assert_eq!(rt; plan_read(&list, UnitId(1), 1, None, 7).served, Served::Hit);
+    let expected = plan(Served::Version(UnitId(2)), 3, 5);
+    assert_eq!(rt; read_of(&rt, &list, 3, 3, None), expected);
+    assert_eq!(rt; read_of(&rt, &list, 1, 1, None), plan(Served::Hit, 2, 19));
     Ok(())
 }
 
@@ -105,51 +120,31 @@ fn a_read_takes_the_nearest_earlier_version(rt: HostRuntime) -> Result<(), Fail>
 fn a_read_without_a_version_takes_the_newest_committed_one(rt: HostRuntime) -> Result<(), Fail> {
     let lines = [line(1, 11, 0), line(2, 11, 1), None, None];
     let list = one_active(&rt, rt.alloc(), lines).map_err(|_| "memory")?;
-    assert!(rt; 0 < list.active().len());
-    let plan = plan_read(&list, UnitId(2), 0, None, 7);
-    let expected = ReadPlan {
-        served: Served::Committed(UnitId(1)),
-        value: 2,
-        bits: bits(5),
-    };
-    assert_eq!(rt; plan, expected);
+    let expected = plan(Served::Committed(UnitId(1)), 2, 5);
+    assert_eq!(rt; read_of(&rt, &list, 2, 0, None), expected);
     Ok(())
 }
 
 #[test]
 fn a_committed_copy_is_reused_until_a_later_store_passes_it(rt: HostRuntime) -> Result<(), Fail> {
-    let lines = [None, None, line(7, 13, 0), None];
-    let list = one_active(&rt, rt.alloc(), lines).map_err(|_| "memory")?;
-    assert!(rt; 0 < list.active().len());
-    let reused = ReadPlan {
-        served: Served::Reuse,
-        value: 7,
-        bits: bits(5),
-    };
-    assert_eq!(rt; plan_read(&list, UnitId(2), 0, None, 7), reused);
-    let lines = [None, None, line(7, 29, 0), None];
-    let list = one_active(&rt, rt.alloc(), lines).map_err(|_| "memory")?;
-    assert!(rt; 0 < list.active().len());
-    let filled = ReadPlan {
-        served: Served::Memory,
-        value: 7,
-        bits: bits(5),
-    };
-    assert_eq!(rt; plan_read(&list, UnitId(2), 0, None, 7), filled);
+    for (number, expected) in [
+        (13, plan(Served::Reuse, 6, 5)),
+        (29, plan(Served::Memory, 7, 5)),
+    ] {
+        let lines = [None, None, line(6, number, 0), None];
+        let list = one_active(&rt, rt.alloc(), lines).map_err(|_| "memory")?;
+        assert_eq!(rt; read_of(&rt, &list, 2, 0, None), expected, "bits {number}");
+    }
     Ok(())
 }
 
 #[test]
 fn the_head_reads_its_spilled_version(rt: HostRuntime) -> Result<(), Fail> {
     let list = one_active(&rt, rt.alloc(), [None; 4]).map_err(|_| "memory")?;
-    assert!(rt; 0 < list.active().len());
-    let plan = plan_read(&list, UnitId(2), 0, Some(8), 0);
-    let expected = ReadPlan {
-        served: Served::Spill,
-        value: 8,
-        bits: bits(1),
-    };
-    assert_eq!(rt; plan, expected);
+    assert_eq!(rt;
+        read_of(&rt, &list, 2, 0, Some(8)),
+        plan(Served::Spill, 8, 1)
+    );
     Ok(())
 }
 

@@ -17,46 +17,50 @@ returns-in-Some-clause-value c = λ b t a read.
     (hit_supplier b t a list c.args.unit.0 c.args.place c.args.spill c.args.backing read own entry)
     (hit_value b t a list c.args.unit.0 c.args.place c.args.spill c.args.backing read own entry)
 
+-- the task has no active line, and its unit has a copy of the word
+unowned : (c : goal.After-on_reuse) → entry_at c.args.list.now.active c.args.place ≡ None
+unowned c = ap (λ active. entry_at active c.args.place) (sym c.active.ensures.lines) ∙ c.in_default.is
+
+copied : (c : goal.After-on_reuse) → reusable_version_in c.args.list.now.committed c.args.unit.0 ≡ Some c.in-Some-reusable.copy
+copied c = ap (λ committed. reusable_version_in committed c.args.unit.0) (sym c.committed.ensures.lines) ∙ sym c.reusable.ensures ∙ c.in-Some-reusable.is
+
 pub returns-in-Some-reusable-clause-served : goal.returns-in-Some-reusable-clause-served
 returns-in-Some-reusable-clause-served c = λ b t a read.
     let list = c.args.list.now in
     let copy = c.in-Some-reusable.copy in
-    let entry : entry_at list.active c.args.place ≡ None = ap (λ active. entry_at active c.args.place) (sym c.active.ensures.lines) ∙ c.in_default.is in
-    let found : reusable_version_in list.committed c.args.unit.0 ≡ Some copy = ap (λ committed. reusable_version_in committed c.args.unit.0) (sym c.committed.ensures.lines) ∙ sym c.reusable.ensures ∙ c.in-Some-reusable.is in
-    reuse_supplier b t a list c.args.unit.0 c.args.place c.args.spill c.args.backing read entry copy found
+    reuse_supplier b t a list c.args.unit.0 c.args.place c.args.spill c.args.backing read (unowned c) copy (copied c)
 
 pub returns-in-Some-reusable-clause-value : goal.returns-in-Some-reusable-clause-value
 returns-in-Some-reusable-clause-value c = λ b t a read.
     let list = c.args.list.now in
     let copy = c.in-Some-reusable.copy in
-    let entry : entry_at list.active c.args.place ≡ None = ap (λ active. entry_at active c.args.place) (sym c.active.ensures.lines) ∙ c.in_default.is in
-    let found : reusable_version_in list.committed c.args.unit.0 ≡ Some copy = ap (λ committed. reusable_version_in committed c.args.unit.0) (sym c.committed.ensures.lines) ∙ sym c.reusable.ensures ∙ c.in-Some-reusable.is in
     view_is b t a list c.args.unit.0 c.args.place c.args.spill c.args.backing read Reuse copy.line.value
-    (reuse_supplier b t a list c.args.unit.0 c.args.place c.args.spill c.args.backing read entry copy found)
-    (reuse_value b t a list c.args.unit.0 c.args.place c.args.spill c.args.backing read entry copy found)
+    (reuse_supplier b t a list c.args.unit.0 c.args.place c.args.spill c.args.backing read (unowned c) copy (copied c))
+    (reuse_value b t a list c.args.unit.0 c.args.place c.args.spill c.args.backing read (unowned c) copy (copied c))
 
 pub returns-in-Some-reusable-clause-line : goal.returns-in-Some-reusable-clause-line
 returns-in-Some-reusable-clause-line c = λ b t a read.
     let list = c.args.list.now in
     let copy = c.in-Some-reusable.copy in
-    let entry : entry_at list.active c.args.place ≡ None = ap (λ active. entry_at active c.args.place) (sym c.active.ensures.lines) ∙ c.in_default.is in
-    let found : reusable_version_in list.committed c.args.unit.0 ≡ Some copy = ap (λ committed. reusable_version_in committed c.args.unit.0) (sym c.committed.ensures.lines) ∙ sym c.reusable.ensures ∙ c.in-Some-reusable.is in
-    reuse_line b t a list c.args.unit.0 c.args.place c.args.spill c.args.backing read entry copy found (bits_of c.on_reuse.result) c.on_reuse.ensures
+    reuse_line b t a list c.args.unit.0 c.args.place c.args.spill c.args.backing read (unowned c) copy (copied c) (bits_of c.on_reuse.result) c.on_reuse.ensures
 
 pub returns-in-Some-reusable-clause-valid : goal.returns-in-Some-reusable-clause-valid
 returns-in-Some-reusable-clause-valid c = λ b t a read.
     let list = c.args.list.now in
     let copy = c.in-Some-reusable.copy in
-    let entry : entry_at list.active c.args.place ≡ None = ap (λ active. entry_at active c.args.place) (sym c.active.ensures.lines) ∙ c.in_default.is in
-    let found : reusable_version_in list.committed c.args.unit.0 ≡ Some copy = ap (λ committed. reusable_version_in committed c.args.unit.0) (sym c.committed.ensures.lines) ∙ sym c.reusable.ensures ∙ c.in-Some-reusable.is in
-    reuse_valid b t a list c.args.unit.0 c.args.place c.args.spill c.args.backing read entry copy found (bits_of c.on_reuse.result) c.on_reuse.ensures
+    reuse_valid b t a list c.args.unit.0 c.args.place c.args.spill c.args.backing read (unowned c) copy (copied c) (bits_of c.on_reuse.result) c.on_reuse.ensures
+
+-- the task has no active line, and its unit no copy
+unread : (c : goal.After-on_load) → entry_at c.args.list.now.active c.args.place ≡ None
+unread c = ap (λ active. entry_at active c.args.place) (sym c.active.ensures.lines) ∙ c.in_default.is
+
+uncopied : (c : goal.After-on_load) → reusable_version_in c.args.list.now.committed c.args.unit.0 ≡ None
+uncopied c = ap (λ committed. reusable_version_in committed c.args.unit.0) (sym c.committed.ensures.lines) ∙ sym c.reusable.ensures ∙ c.in_default-reusable.is
 
 pub returns-clause-served : goal.returns-clause-served
 returns-clause-served c = λ b t a read.
     let list = c.args.list.now in
-    let entry : entry_at list.active c.args.place ≡ None = ap (λ active. entry_at active c.args.place) (sym c.active.ensures.lines) ∙ c.in_default.is in
-    let lacks : reusable_version_in list.committed c.args.unit.0 ≡ None = ap (λ committed. reusable_version_in committed c.args.unit.0) (sym c.committed.ensures.lines) ∙ sym c.reusable.ensures ∙ c.in_default-reusable.is in
-    fill_supplier b t a list c.args.unit.0 c.args.place c.args.spill c.args.backing read entry lacks (supplier_of c.supplier-served.result.0) (c.supplier-served.ensures.served b t a c.args.unit.0 read)
+    fill_supplier b t a list c.args.unit.0 c.args.place c.args.spill c.args.backing read (unread c) (uncopied c) (supplier_of c.supplier-served.result.0) (c.supplier-served.ensures.served b t a c.args.unit.0 read)
 
 pub returns-clause-value : goal.returns-clause-value
 returns-clause-value c = λ b t a read.
@@ -66,9 +70,7 @@ returns-clause-value c = λ b t a read.
 pub returns-clause-line : goal.returns-clause-line
 returns-clause-line c = λ b t a read.
     let list = c.args.list.now in
-    let entry : entry_at list.active c.args.place ≡ None = ap (λ active. entry_at active c.args.place) (sym c.active.ensures.lines) ∙ c.in_default.is in
-    let lacks : reusable_version_in list.committed c.args.unit.0 ≡ None = ap (λ committed. reusable_version_in committed c.args.unit.0) (sym c.committed.ensures.lines) ∙ sym c.reusable.ensures ∙ c.in_default-reusable.is in
     let same : length c.active-3.result.now ≡ length b.units = ap length c.active-3.ensures.lines ∙ read.request.described.places in
     let passed : c.is_overtaken-overtaken.result ≡ is_overtaken_line b (length b.units) c.args.place a =
     c.is_overtaken-overtaken.ensures ∙ ap₂ (λ active n. is_overtaken_in active n c.args.place) c.active-2.ensures.lines same ∙ overtaken_is b t a list c.args.unit.0 c.args.place read.request (length b.units) (omega arith) in
-    fill_line b t a list c.args.unit.0 c.args.place c.args.spill c.args.backing read entry lacks c.supplier-served.result.1 (bits_of c.on_load.result) c.is_first_use.result c.is_overtaken-overtaken.result (returns-clause-value c b t a read) c.on_load.ensures c.is_first_use.ensures passed
+    fill_line b t a list c.args.unit.0 c.args.place c.args.spill c.args.backing read (unread c) (uncopied c) c.supplier-served.result.1 (bits_of c.on_load.result) c.is_first_use.result c.is_overtaken-overtaken.result (returns-clause-value c b t a read) c.on_load.ensures c.is_first_use.ensures passed
