@@ -17,6 +17,7 @@ use Rattle.svc_vol.specs.Lines.{lines_in}
 use Rattle.svc_vol.specs.Versions.{version_at, unit_at, AreCommitted}
 use Rattle.svc_retire.specs.Caches.{no_cache, cache_at, line_in, numbered, SameSizes}
 use Rattle.svc_retire.specs.Purges.{keeps, line_after_purge, is_purged, purges, is_dirty_version, drops, CountsSearches}
+use Rattle.svc_retire.proofs.Bools.{or_true, or_false, and_false}
 use Rattle.svc_retire.proofs.Counts.{how_many_same, how_many_room, how_many_more, how_many_none}
 use Rattle.svc_retire.proofs.Settling.{HasV, line_valid}
 
@@ -117,10 +118,6 @@ drop_begins caches versions keep word probes = record {
     never true line = refl
     never false line = refl
 
-and_false : (x y : Bool) → y ≡ false → (x && y) ≡ false
-and_false true y e = e
-and_false false y e = refl
-
 -- the next version's line was not taken out yet
 fresh : (caches : List CacheValue) (word : ℕ) (versions : List Version) (keep : Option UnitId) (k : ℕ) → AreCommitted (lines_in caches word) (length caches) versions → k < length versions → is_taken versions keep k (unit_at versions k) ≡ false
 fresh caches word versions keep k list h = any_none k _ (λ j low. and_false (drops keep (version_at versions j)) _ (ne_eqb (unit_at versions j) (unit_at versions k) (λ e. apart j low e)))
@@ -140,14 +137,6 @@ one_more caches word versions keep k list h = elim (cases_Bool (drops keep (vers
   | inl drop ↦ rw drop (how_many_more (length caches) (is_taken versions keep k) (is_taken versions keep (suc k)) (unit_at versions k) (list.only k h).within (fresh caches word versions keep k list h) (here drop) (λ u ne. other u ne))
 ]
   where
-    or_false : (x y : Bool) → y ≡ false → (x || y) ≡ x
-    or_false true y e = refl
-    or_false false y e = e
-
-    or_true : (x y : Bool) → y ≡ true → (x || y) ≡ true
-    or_true true y e = refl
-    or_true false y e = e
-
     same : (u : ℕ) → drops keep (version_at versions k) ≡ false → is_taken versions keep (suc k) u ≡ is_taken versions keep k u
     same u kept = or_false (is_taken versions keep k u) _ (ap (λ x. x && (unit_at versions k == u)) kept)
 

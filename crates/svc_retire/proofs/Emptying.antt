@@ -1,5 +1,5 @@
 -- The spill table's words are taken up one by one: each spilled version goes to the memory, and its place is emptied.
-use Rattle.std.proofs.Common.{◌≡◌, ◌≢◌, ◌∙◌, refl, sym, ap, subst, ℕ, zero, suc, ◌+◌, ◌<◌, Bool, true, false, cond, ◌||◌, Option, Some, None, List, [], ◌∷◌, length, get_or, set, replicate, unwrap_or, inl, inr, arith, length-set, get_or-set_same, get_or-set_other, eq-eqb, ne_eqb, true≢false}
+use Rattle.std.proofs.Common.{◌≡◌, ◌≢◌, ◌∙◌, refl, sym, ap, subst, ℕ, zero, suc, ◌+◌, ◌<◌, Bool, true, false, cond, Option, Some, None, List, [], ◌∷◌, length, get_or, set, replicate, unwrap_or, inl, inr, arith, length-set, get_or-set_same, get_or-set_other, eq-eqb, ne_eqb, true≢false}
 use Rattle.std.specs.Prelude.{map}
 use Rattle.std.proofs.lemmas.Bool.{cases_Bool, cases_eq}
 use Rattle.std.proofs.lemmas.List.{length-map}
@@ -7,6 +7,7 @@ use Rattle.svc_retire.specs.declared.spill.Place.{Place}
 use Rattle.svc_retire.specs.declared.spill.Place.TheVariants.{Unlisted, Emptied, Spilled}
 use Rattle.svc_retire.specs.Memory.{with_version}
 use Rattle.svc_retire.specs.Spills.{spilled, is_listed, place_at, is_among, IsListed}
+use Rattle.svc_retire.proofs.Bools.{or_true, or_false}
 use Rattle.svc_retire.proofs.Counts.{how_many_within}
 
 -- the memory's word, over which a version has gone
@@ -22,14 +23,6 @@ pub record IsEmptied (words : List ℕ) (count : ℕ) (before now : List Place) 
 
 pub emptying_begins : (words : List ℕ) (places : List Place) (memory : List ℕ) → IsEmptied words 0 places places memory memory
 emptying_begins words places memory = record { size = refl; memory_size = refl; places = λ word. refl; memory = λ word. refl }
-
-or_true : (x : Bool) → (x || true) ≡ true
-or_true true = refl
-or_true false = refl
-
-or_false : (x y : Bool) → y ≡ false → (x || y) ≡ x
-or_false true y e = refl
-or_false false y e = e
 
 -- a word of the memory after a version of it
 pub version_same : (memory : List ℕ) (word : ℕ) (version : Option ℕ) → word < length memory → get_or (with_version memory word version) word 0 ≡ unwrap_or version (get_or memory word 0)
@@ -63,7 +56,7 @@ emptying_steps words k at before now memory_before memory_now is within in_memor
     next = omega arith
 
     here : (word : ℕ) → word ≡ at → is_among words (suc k) word ≡ true
-    here word e = ap (λ x. is_among words k word || x) (eq-eqb (get_or words k 0) word (is ∙ sym e)) ∙ or_true (is_among words k word)
+    here word e = or_true (is_among words k word) _ (eq-eqb (get_or words k 0) word (is ∙ sym e))
 
     there : (word : ℕ) → word ≢ at → is_among words (suc k) word ≡ is_among words k word
     there word ne = or_false (is_among words k word) _ (ne_eqb (get_or words k 0) word (λ e. ne (sym e ∙ is)))

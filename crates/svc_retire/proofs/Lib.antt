@@ -1,3 +1,4 @@
+pub mod Bools
 pub mod Counts
 pub mod Listing
 pub mod Settling
@@ -5,3 +6,4 @@ pub mod Squashing
 pub mod Emptying
 pub mod Dropping
 pub mod Newest
+pub mod Distinct

@@ -1,5 +1,5 @@
 -- The squash of one unit's lines after another's.
-use Rattle.std.proofs.Common.{◌≡◌, ◌∙◌, refl, sym, ap, subst, ℕ, suc, ◌+◌, ◌<◌, ◌≤◌, Bool, true, false, cond, ◌&&◌, ◌||◌, leb, leb-true, leb-false, Option, None, List, length, get_or, set, inl, inr, arith, length-set, get_or-set_same, get_or-set_other, eq-eqb, ne_eqb, le-leb}
+use Rattle.std.proofs.Common.{◌≡◌, ◌∙◌, refl, sym, ap, subst, ℕ, suc, ◌+◌, ◌<◌, ◌≤◌, Bool, true, false, cond, ◌&&◌, leb, leb-true, leb-false, Option, None, List, length, get_or, set, inl, inr, arith, length-set, get_or-set_same, get_or-set_other, eq-eqb, ne_eqb, le-leb}
 use Rattle.std.specs.Bool.{◌==◌}
 use Rattle.std.proofs.lemmas.Bool.{cases_Bool, cases_eq}
 use Rattle.svc_cache.specs.Lines.{LineMap, squash_line}
@@ -8,6 +8,7 @@ use Rattle.svc_bus_laws.specs.Search.{any_below}
 use Rattle.svc_bus_laws.specs.LineTable.{Line, is_active, is_cut}
 use Rattle.svc_bus_laws.proofs.Searches.{any_none}
 use Rattle.svc_retire.specs.Caches.{no_cache, cache_at, line_in, numbered, SameSizes}
+use Rattle.svc_retire.proofs.Bools.{or_true, or_false, and_false}
 use Rattle.svc_retire.proofs.Settling.{line_valid, squashed_line}
 
 -- the unit runs one of the tasks from a place on, among the first so many
@@ -71,18 +72,6 @@ squash_steps before now units from count new at within done lines sets ways = re
     unit : ℕ
     unit = get_or units count 0
 
-    or_true : (x : Bool) → (x || true) ≡ true
-    or_true true = refl
-    or_true false = refl
-
-    or_false : (x y : Bool) → y ≡ false → (x || y) ≡ x
-    or_false true y e = refl
-    or_false false y e = e
-
-    and_false : (x y : Bool) → y ≡ false → (x && y) ≡ false
-    and_false true y e = e
-    and_false false y e = refl
-
     own : (a : ℕ) → line_in (set now (get_or units count 0) new) (get_or units count 0) a ≡ line_after true (line_in before (get_or units count 0) a)
     own a =
         let u = get_or units count 0 in
@@ -96,7 +85,7 @@ squash_steps before now units from count new at within done lines sets ways = re
     stepped u a = elim (cases_eq u (get_or units count 0)) [
       | inl e ↦
           let passes : (leb from count && (get_or units count 0 == u)) ≡ true = rw (le-leb from count at, eq-eqb (get_or units count 0) u (sym e)) in
-          let cut : is_cut_below units from (suc count) u ≡ true = ap (λ x. is_cut_below units from count u || x) passes ∙ or_true (is_cut_below units from count u) in
+          let cut : is_cut_below units from (suc count) u ≡ true = or_true (is_cut_below units from count u) _ passes in
           ap (λ v. line_in (set now (get_or units count 0) new) v a) e ∙ own a ∙ ap (λ v. line_after true (line_in before v a)) (sym e) ∙ ap (λ x. line_after x (line_in before u a)) (sym cut)
       | inr ne ↦
           let fails : (leb from count && (get_or units count 0 == u)) ≡ false = and_false (leb from count) _ (ne_eqb (get_or units count 0) u (λ e. ne (sym e))) in
