@@ -2,10 +2,12 @@
 #![tactic(auto)]
 
 mod access;
+mod answer;
 mod burst;
+mod burst_reads;
+mod core_reads;
 mod core_state;
 mod numbers;
-mod step;
 mod turn;
 
 pub use access::{DATA_START, Place, load_place, loaded, store_place, stored};
