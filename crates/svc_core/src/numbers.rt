@@ -70,28 +70,29 @@ pub(crate) fn operate(op: Operation, a: u32, b: u32) -> u32
     }
 }
 
+// What an operation with an immediate gives. Each is called by its name, so that none is looked up twice.
 #[inline(always)]
-pub(crate) fn with_registers(op: ImmediateOperation) -> Operation
-    ensures { result ≡ on_registers op }
+pub(crate) fn operate_immediate(op: ImmediateOperation, a: u32, b: u32) -> u32
+    ensures { result ≡ operated (on_registers op) a b }
 {
     match op {
-        ImmediateOperation::Add => Operation::Add,
-        ImmediateOperation::SetLess => Operation::SetLess,
-        ImmediateOperation::SetLessUnsigned => Operation::SetLessUnsigned,
-        ImmediateOperation::Xor => Operation::Xor,
-        ImmediateOperation::Or => Operation::Or,
-        ImmediateOperation::And => Operation::And,
+        ImmediateOperation::Add => operate(Operation::Add, a, b),
+        ImmediateOperation::SetLess => operate(Operation::SetLess, a, b),
+        ImmediateOperation::SetLessUnsigned => operate(Operation::SetLessUnsigned, a, b),
+        ImmediateOperation::Xor => operate(Operation::Xor, a, b),
+        ImmediateOperation::Or => operate(Operation::Or, a, b),
+        ImmediateOperation::And => operate(Operation::And, a, b),
     }
 }
 
 #[inline(always)]
-pub(crate) fn shift_with_registers(op: ImmediateShift) -> Operation
-    ensures { result ≡ shift_on_registers op }
+pub(crate) fn shift_immediate(op: ImmediateShift, a: u32, by: u32) -> u32
+    ensures { result ≡ operated (shift_on_registers op) a by }
 {
     match op {
-        ImmediateShift::Left => Operation::ShiftLeft,
-        ImmediateShift::Right => Operation::ShiftRight,
-        ImmediateShift::RightArithmetic => Operation::ShiftRightArithmetic,
+        ImmediateShift::Left => operate(Operation::ShiftLeft, a, by),
+        ImmediateShift::Right => operate(Operation::ShiftRight, a, by),
+        ImmediateShift::RightArithmetic => operate(Operation::ShiftRightArithmetic, a, by),
     }
 }
 
