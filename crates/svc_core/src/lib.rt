@@ -7,12 +7,14 @@ mod burst;
 mod burst_reads;
 mod core_reads;
 mod core_state;
+mod effect;
 mod numbers;
 mod turn;
 
 pub use access::{DATA_START, Place, load_place, loaded, store_place, stored};
 pub use burst::{Burst, Lease, MAX_BURST_TURNS};
 pub use core_state::Core;
+pub use effect::Effect;
 pub use svc_core_laws::{Ask, End, Ending};
 
 #[cfg(test)]
