@@ -92,7 +92,11 @@ pub fn loaded(kind: LoadKind, lane: u32, word: u32) -> u32
     requires { lane + load_bytes kind ≤ 4 }
     ensures { result ≡ loaded kind lane word }
 {
-    extend(kind, lowest(kind, from_lane(lane, word)))
+    match kind {
+        // Its lane is 0.
+        LoadKind::Word => word,
+        _ => extend(kind, lowest(kind, from_lane(lane, word))),
+    }
 }
 
 /// The word with the lowest bytes of a value in place of its bytes from a lane on.

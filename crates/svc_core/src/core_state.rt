@@ -1,8 +1,8 @@
 // A core: where a task stands.
 
-ghost use Rattle.std.specs.Prelude.{◌≡◌, ◌≤◌, ◌<◌, ◌+◌, true, IsTrue, ◌↔◌, is_none};
+ghost use Rattle.std.specs.Prelude.{◌≡◌, ◌<◌, true, IsTrue, ◌↔◌, is_none};
 ghost use Rattle.svc_image.specs.Image.{is_entry};
-ghost use Rattle.svc_core_laws.specs.State.{value_of, start, ended};
+ghost use Rattle.svc_core_laws.specs.State.{value_of, start};
 ghost use Rattle.svc_core_laws.specs.Same.{same_end, same_words, same_state};
 
 use std::marker::Model;
@@ -57,14 +57,6 @@ impl Core {
         }
     }
 
-    /// The byte address of the next instruction.
-    #[inline(always)]
-    pub fn pc(&self) -> u32
-        ensures { result ≡ self.now.pc }
-    {
-        self.pc
-    }
-
     /// What stands in a register.
     #[inline(always)]
     pub fn value(&self, r: Register) -> u32
@@ -75,42 +67,6 @@ impl Core {
         } else {
             self.regs[r.number as usize]
         }
-    }
-
-    /// The turns so far: at most the limit, and one more where the task has ended.
-    #[inline]
-    pub fn count(&self) -> u32
-        ensures value { result ≡ self.now.count }
-        ensures few { self.now.count ≤ self.now.limit + ended self.now.done }
-    {
-        self.count
-    }
-
-    /// The words put out so far, at most 64.
-    #[inline]
-    pub fn emitted(&self) -> u8
-        ensures value { result ≡ self.now.emitted }
-        ensures few { self.now.emitted ≤ 64 }
-    {
-        self.emitted
-    }
-
-    /// The limit of turns, from 1 to 65,536.
-    #[inline]
-    pub fn limit(&self) -> u32
-        ensures value { result ≡ self.now.limit }
-        ensures some { 1 ≤ self.now.limit }
-        ensures few { self.now.limit ≤ 65536 }
-    {
-        self.limit
-    }
-
-    /// How the task has ended, where it has.
-    #[inline]
-    pub fn done(&self) -> Option<End>
-        ensures { result ≡ self.now.done }
-    {
-        self.done
     }
 
     /// Whether the task has not ended.

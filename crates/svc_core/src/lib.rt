@@ -2,15 +2,22 @@
 #![tactic(auto)]
 
 mod access;
+mod answer;
 mod burst;
+mod burst_reads;
+mod core_reads;
 mod core_state;
+mod effect;
 mod numbers;
-mod step;
 mod turn;
 
 pub use access::{DATA_START, Place, load_place, loaded, store_place, stored};
 pub use burst::{Burst, Lease, MAX_BURST_TURNS};
 pub use core_state::Core;
+pub use effect::Effect;
+pub use numbers::{
+    compare, offset_of_branch, offset_of_jump, operate, value_of_short, value_of_upper,
+};
 pub use svc_core_laws::{Ask, End, Ending};
 
 #[cfg(test)]

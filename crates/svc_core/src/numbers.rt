@@ -5,9 +5,9 @@ ghost use Rattle.svc_core_laws.specs.Numbers.{operated, on_registers, shift_on_r
 
 use svc_rv32i::{Comparison, ImmediateOperation, ImmediateShift, Long, Operation, Short};
 
-// The sign-extended immediate of a load, a store, a JALR or an operation.
+/// The sign-extended immediate of a load, a store, a JALR or an operation.
 #[inline(always)]
-pub(crate) fn value_of_short(imm: Short) -> u32
+pub fn value_of_short(imm: Short) -> u32
     ensures { result ≡ short_value imm }
 {
     let bits = imm.bits as u32;
@@ -18,8 +18,9 @@ pub(crate) fn value_of_short(imm: Short) -> u32
     }
 }
 
+/// The offset in bytes of a branch, which wraps.
 #[inline(always)]
-pub(crate) fn offset_of_branch(imm: Short) -> u32
+pub fn offset_of_branch(imm: Short) -> u32
     ensures { result ≡ branch_offset imm }
 {
     let offset = imm.bits as u32 * 2;
@@ -30,8 +31,9 @@ pub(crate) fn offset_of_branch(imm: Short) -> u32
     }
 }
 
+/// The offset in bytes of a JAL, which wraps.
 #[inline(always)]
-pub(crate) fn offset_of_jump(imm: Long) -> u32
+pub fn offset_of_jump(imm: Long) -> u32
     ensures { result ≡ jump_offset imm }
 {
     let offset = imm.bits * 2;
@@ -42,18 +44,19 @@ pub(crate) fn offset_of_jump(imm: Long) -> u32
     }
 }
 
+/// The number whose upper twenty bits are those of a LUI or an AUIPC.
 #[inline(always)]
-pub(crate) fn value_of_upper(imm: Long) -> u32
+pub fn value_of_upper(imm: Long) -> u32
     ensures { result ≡ upper_value imm }
 {
     let bits = imm.bits;
     bits << 12
 }
 
-// What an operation gives for its two numbers.
+/// What an operation gives for its two numbers; a shift takes the lowest five bits of the second.
 #[inline(always)]
 #[tactic(auto, unfolding(svc_core_laws::specs::Numbers::operated))]
-pub(crate) fn operate(op: Operation, a: u32, b: u32) -> u32
+pub fn operate(op: Operation, a: u32, b: u32) -> u32
     ensures { result ≡ operated op a b }
 {
     match op {
@@ -70,35 +73,36 @@ pub(crate) fn operate(op: Operation, a: u32, b: u32) -> u32
     }
 }
 
+// What an operation with an immediate gives. Each is called by its name, so that none is looked up twice.
 #[inline(always)]
-pub(crate) fn with_registers(op: ImmediateOperation) -> Operation
-    ensures { result ≡ on_registers op }
+pub(crate) fn operate_immediate(op: ImmediateOperation, a: u32, b: u32) -> u32
+    ensures { result ≡ operated (on_registers op) a b }
 {
     match op {
-        ImmediateOperation::Add => Operation::Add,
-        ImmediateOperation::SetLess => Operation::SetLess,
-        ImmediateOperation::SetLessUnsigned => Operation::SetLessUnsigned,
-        ImmediateOperation::Xor => Operation::Xor,
-        ImmediateOperation::Or => Operation::Or,
-        ImmediateOperation::And => Operation::And,
+        ImmediateOperation::Add => operate(Operation::Add, a, b),
+        ImmediateOperation::SetLess => operate(Operation::SetLess, a, b),
+        ImmediateOperation::SetLessUnsigned => operate(Operation::SetLessUnsigned, a, b),
+        ImmediateOperation::Xor => operate(Operation::Xor, a, b),
+        ImmediateOperation::Or => operate(Operation::Or, a, b),
+        ImmediateOperation::And => operate(Operation::And, a, b),
     }
 }
 
 #[inline(always)]
-pub(crate) fn shift_with_registers(op: ImmediateShift) -> Operation
-    ensures { result ≡ shift_on_registers op }
+pub(crate) fn shift_immediate(op: ImmediateShift, a: u32, by: u32) -> u32
+    ensures { result ≡ operated (shift_on_registers op) a by }
 {
     match op {
-        ImmediateShift::Left => Operation::ShiftLeft,
-        ImmediateShift::Right => Operation::ShiftRight,
-        ImmediateShift::RightArithmetic => Operation::ShiftRightArithmetic,
+        ImmediateShift::Left => operate(Operation::ShiftLeft, a, by),
+        ImmediateShift::Right => operate(Operation::ShiftRight, a, by),
+        ImmediateShift::RightArithmetic => operate(Operation::ShiftRightArithmetic, a, by),
     }
 }
 
-// Whether a branch is taken.
+/// Whether a branch is taken that tests these two numbers.
 #[inline(always)]
 #[tactic(auto, unfolding(svc_core_laws::specs::Numbers::compared))]
-pub(crate) fn compare(test: Comparison, a: u32, b: u32) -> bool
+pub fn compare(test: Comparison, a: u32, b: u32) -> bool
     ensures { result ≡ compared test a b }
 {
     match test {

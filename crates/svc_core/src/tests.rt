@@ -1,4 +1,4 @@
-// Tests of turns, accesses, traps, bursts and steps. Expected values stand in the manual's text, or come
+// Tests of turns, accesses, traps, bursts and tasks. Expected values stand in the manual's text, or come
 // from an emulator.
 
 ghost use Rattle.std.specs.Prelude.{◌≡◌, ◌<◌, None};
@@ -11,7 +11,7 @@ use svc_image::{Image, samples};
 mod accesses;
 mod bursts;
 mod instructions;
-mod steps;
+mod tasks;
 mod traps;
 
 // A core with these numbers in x5 and x6, at its first turn of 100.

@@ -2,6 +2,7 @@
 #![tactic(auto)]
 
 mod code;
+mod decoded;
 mod error;
 mod run;
 mod task;

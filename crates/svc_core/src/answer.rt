@@ -1,42 +1,18 @@
-// One turn on a memory of words, in place.
+// Asked turns, done on a memory of words in place.
 
 ghost use Rattle.std.specs.Prelude.{◌≡◌, ◌<◌, ◌≤◌, ℕ, None, length, slice_index, option_to_list};
-ghost use Rattle.svc_image.specs.Image.{fetched};
 ghost use Rattle.svc_core_laws.specs.Numbers.{load_bytes, store_bytes};
-ghost use Rattle.svc_core_laws.specs.Turns.{data_words, access_trap};
+ghost use Rattle.svc_core_laws.specs.Turns.{access_trap};
 ghost use Rattle.svc_core_laws.specs.Program.{over, wrote, output};
 ghost use Rattle.svc_core_laws.specs.Bursts.{IsReady};
-ghost use Rattle.svc_core_laws.specs.Steps.{step_of, answered, load_answer, store_answer};
+ghost use Rattle.svc_core_laws.specs.Steps.{answered, load_answer, store_answer};
 
 use crate::access::{load_place, loaded, store_place, stored};
 use crate::core_state::Core;
 use svc_core_laws::Ask;
-use svc_image::{Fetched, Image};
 use svc_rv32i::{LoadKind, Register, StoreKind};
 
 impl Core {
-    /// One turn of a running task on the words of the data, in place. `seen` is what the image has where the
-    /// core stands, before and after, so that each place is fetched once. The answer is the word that the
-    /// turn puts out, if any.
-    #[inline]
-    pub fn step(&mut self, image: &Image, seen: &mut Fetched, memory: &mut [u32]) -> Option<u32>
-        requires running { self.old.done ≡ None }
-        requires here { seen.old ≡ fetched image.now self.old.pc }
-        requires size { length memory.old ≡ data_words image.now }
-        requires few { length memory.old ≤ 65536 }
-        ensures core { self.new ≡ (step_of image.now self.old memory.old).core }
-        ensures memory { (a : ℕ) → slice_index memory.new a ≡ over (wrote (step_of image.now self.old memory.old).log) (slice_index memory.old) a }
-        ensures output { option_to_list result ≡ output (step_of image.now self.old memory.old).log }
-        ensures there { seen.new ≡ fetched image.now self.new.pc }
-    {
-        let ask = self.try_turn(seen.word);
-        let word = self.answer(ask, memory);
-        let next = image.fetch(self.pc());
-        self.arrive(next.entry);
-        *seen = next;
-        word
-    }
-
     /// Does an asked turn on a memory of words, up to the test for an entry; the answer is the word put out,
     /// if any.
     #[inline(always)]

@@ -1,25 +1,34 @@
 // Whole tasks on words, turn by turn.
 
-ghost use Rattle.std.specs.Prelude.{◌≡◌, ◌≤◌, length};
-ghost use Rattle.svc_core_laws.specs.Turns.{data_words};
+ghost use Rattle.std.specs.Prelude.{◌≡◌, ◌≤◌, None, length};
 
-use super::{changed, core_with};
+use super::changed;
 use crate::{Core, End};
 use std::test::Fail;
 use svc_image::Image;
 
+// One turn of a running task: tried, answered and tested for an entry. The answer is the word put out.
+fn turn(image: &Image, core: &mut Core, memory: &mut [u32]) -> Option<u32>
+    requires running { core.old.done ≡ None }
+    requires few { length memory.old ≤ 65536 }
+    ensures { length memory.new ≡ length memory.old }
+{
+    let ask = core.try_turn(image.fetch(core.pc()).word);
+    let word = core.answer(ask, memory);
+    core.arrive(image.fetch(core.pc()).entry);
+    word
+}
+
 // Runs a task to its end, and answers how many words it put out.
 fn run(image: &Image, core: &mut Core, memory: &mut [u32]) -> u32
-    requires size { length memory.old ≡ data_words image.now }
-    requires few { length memory.old ≤ 65536 }
+    requires { length memory.old ≤ 65536 }
 {
     let mut words = 0u32;
     for _turn in 0..200 {
         if !core.is_running() {
             return words;
         }
-        let mut seen = image.fetch(core.pc());
-        if core.step(image, &mut seen, memory).is_some() {
+        if turn(image, core, memory).is_some() {
             words = words.wrapping_add(1);
         }
     }
@@ -68,17 +77,5 @@ fn tasks_to_their_ends(rt: HostRuntime) -> Result<(), Fail> {
         );
         assert_eq!(rt; memory.as_slice(), after.as_slice());
     }
-    Ok(())
-}
-
-// A step hands on what the image has at its new place.
-#[test]
-fn a_step_fetches_once(rt: HostRuntime) -> Result<(), Fail> {
-    let image = changed(rt.alloc(), 100, &[])?;
-    let mut core = core_with(0, 0, 0);
-    let mut memory = image.data_words().to_vec(rt.alloc())?;
-    let mut seen = image.fetch(core.pc());
-    let word = core.step(&image, &mut seen, memory.as_mut_slice());
-    assert_eq!(rt; (word, seen), (None, image.fetch(4)));
     Ok(())
 }
