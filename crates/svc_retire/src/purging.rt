@@ -9,8 +9,8 @@ use svc_base::{UnitId, WordAddr};
 use svc_cache::{Cache, Probes};
 use svc_vol::{Version, VersionList};
 
-// The value of the newest version among committed lines, of which the oldest is the first.
-fn newest(committed: &[Version]) -> Option<u32>
+/// The value of the newest version among committed lines, of which the oldest is the first.
+pub fn newest(committed: &[Version]) -> Option<u32>
     ensures { IsNewest committed.now (length committed.now) result }
 {
     let mut newest = None;

@@ -1,0 +1,94 @@
+-- An opened bus's own table.
+use Rattle.std.proofs.Common.{◌≡◌, ◌∙◌, refl, sym, subst, ap, ℕ, zero, suc, ◌<◌, ◌≤◌, ◌^◌, Option, None, List, [], ◌∷◌, ◌++◌, ◌⊎◌, length, get_or, replicate, inl, inr, arith}
+use Rattle.std.proofs.lemmas.Bool.{cases_lt}
+use Rattle.std.proofs.lemmas.List.{length-replicate, get_or_past}
+use Rattle.svc_base.specs.declared.config.TheConstants.{MAX_WAYS}
+use Rattle.svc_vol.specs.declared.list.TheConstants.{CAPACITY}
+use Rattle.svc_cache.specs.Lines.{LineMap, no_lines}
+use Rattle.svc_cache.specs.Places.{CacheValue, found, line_of}
+use Rattle.svc_bus_laws.specs.LineTable.{opened}
+use Rattle.svc_bus_laws.specs.Sound.{IsSound}
+use Rattle.svc_bus_laws.specs.BusState.{Agrees}
+use Rattle.svc_bus_laws.proofs.OpenedLaws.{opened_sound}
+use Rattle.svc_retire.specs.Caches.{numbered, no_cache, cache_at}
+use Rattle.svc_bus.specs.Value.{BusValue, IsSoundBus, table_of}
+use Rattle.svc_bus.specs.Observed.{observed}
+use Rattle.svc_bus.specs.Opened.{AreEmpty}
+use Rattle.svc_bus.proofs.Agreeing.{same_table, own_agrees}
+use Rattle.svc_bus.proofs.Committing.{none_spilled}
+
+-- there is no line where there is no cache
+no_line : (a : ℕ) → line_of no_cache a ≡ None
+unfolding line_of found
+no_line a = refl
+
+pub none_empty : (sets ways : ℕ) → AreEmpty [] sets ways
+none_empty sets ways = record {
+  sets_are = λ u h. absurd (omega (arith, h));
+  ways_are = λ u h. absurd (omega (arith, h));
+  lines = λ u a. ap numbered (no_line a);
+}
+
+-- a cache of a list with one more
+pushed : (caches : List CacheValue) (new : CacheValue) (u : ℕ) → u < length (caches ++ new ∷ []) → (cache_at (caches ++ new ∷ []) u ≡ new) ⊎ ((u < length caches) × (cache_at (caches ++ new ∷ []) u ≡ cache_at caches u))
+pushed [] new zero h = inl refl
+pushed [] new (suc u) h = absurd (omega (arith, h))
+pushed (c ∷ cs) new zero h = inr (omega arith, refl)
+pushed (c ∷ cs) new (suc u) h = elim (pushed cs new u (omega (arith, h))) [
+  | inl e ↦ inl e
+  | inr (low, e) ↦ inr (omega (arith, low), e)
+]
+
+pub one_more_empty : (caches : List CacheValue) (new : CacheValue) (sets ways : ℕ) → AreEmpty caches sets ways → new.sets ≡ sets → new.ways ≡ ways → line_of new ≡ no_lines → AreEmpty (caches ++ new ∷ []) sets ways
+one_more_empty caches new sets ways empty has_sets has_ways has_lines = record {
+  sets_are = λ u h. elim (pushed caches new u h) [
+    | inl e ↦ ap (λ (c : CacheValue). c.sets) e ∙ has_sets
+    | inr (low, e) ↦ ap (λ (c : CacheValue). c.sets) e ∙ empty.sets_are u low
+  ];
+  ways_are = λ u h. elim (pushed caches new u h) [
+    | inl e ↦ ap (λ (c : CacheValue). c.ways) e ∙ has_ways
+    | inr (low, e) ↦ ap (λ (c : CacheValue). c.ways) e ∙ empty.ways_are u low
+  ];
+  lines = λ u a. elim (cases_lt u (length (caches ++ new ∷ []))) [
+    | inl low ↦ elim (pushed caches new u low) [
+      | inl e ↦ ap (λ (c : CacheValue). numbered (line_of c a)) e ∙ ap (λ (f : LineMap). numbered (f a)) has_lines
+      | inr (low, e) ↦ ap (λ (c : CacheValue). numbered (line_of c a)) e ∙ empty.lines u a
+    ]
+    | inr past ↦ ap (λ (c : CacheValue). numbered (line_of c a)) (get_or_past (caches ++ new ∷ []) u no_cache (omega (arith, past))) ∙ ap numbered (no_line a)
+  ];
+}
+
+module _ (b : BusValue) (units sets ways : ℕ) (some : 1 ≤ units) (few : units ≤ CAPACITY) (narrow : ways ≤ MAX_WAYS) (words : length b.backing < 2 ^ 32)
+    (count : length b.caches ≡ units) (empty : AreEmpty b.caches sets ways) (spill : b.spill ≡ replicate (length b.backing) None)
+    (no_commits : b.commits ≡ 0) (idle : b.units ≡ []) where
+  first : 0 < length b.caches
+  first = omega (arith, some, count)
+
+  own_opened : table_of b ≡ opened units sets ways b.backing
+  own_opened = same_table (table_of b) (opened units sets ways b.backing) (record {
+    caches = count;
+    sets = empty.sets_are 0 first;
+    ways = empty.ways_are 0 first;
+    words = refl;
+    lines = empty.lines;
+    spill = λ a. ap (λ (s : List (Option ℕ)). get_or s a None) spill ∙ none_spilled (length b.backing) a;
+    backing = λ a. refl;
+    commits = no_commits;
+    units = idle;
+  })
+
+  pub opened_bus : IsSoundBus b
+  opened_bus = record {
+    sound = subst IsSound (sym own_opened) (opened_sound units sets ways b.backing);
+    some_caches = first;
+    few_caches = subst (λ n. n ≤ CAPACITY) (sym count) few;
+    one_size = λ u h. empty.sets_are u h ∙ sym (empty.sets_are 0 first);
+    one_width = λ u h. empty.ways_are u h ∙ sym (empty.ways_are 0 first);
+    few_ways = subst (λ n. n ≤ MAX_WAYS) (sym (empty.ways_are 0 first)) narrow;
+    spills = ap length spill ∙ length-replicate (length b.backing) None;
+    few_words = words;
+    few_commits = omega (arith, no_commits);
+  }
+
+  pub opened_table : Agrees (observed b) (opened units sets ways b.backing)
+  opened_table = subst (Agrees (observed b)) own_opened (own_agrees b opened_bus.sound)

@@ -1,0 +1,167 @@
+-- One unit's line of a word is put, and the word is purged in the other caches: in either order.
+use Rattle.std.proofs.Common.{◌≡◌, ◌≢◌, ◌∙◌, refl, sym, ap, ap₂, subst, ℕ, ◌+◌, ◌<◌, ◌≤◌, Bool, true, false, cond, not, ◌&&◌, Option, Some, None, List, length, inl, inr, arith, eq-eqb, true≢false, Ok, Err, OnErr, MatchResult}
+use Rattle.std.specs.Prelude.{Result}
+use Rattle.std.specs.Bool.{◌==◌}
+use Rattle.std.proofs.lemmas.Bool.{cases_Bool, cases_eq}
+use Rattle.svc_base.specs.declared.ids.UnitId.{UnitId}
+use Rattle.svc_line.specs.Line.{SeenLine, seen}
+use Rattle.svc_cache.specs.declared.probes.Probes.{Probes}
+use Rattle.svc_cache.specs.declared.row.SetFull.{SetFull}
+use Rattle.svc_cache.specs.Lines.{LineMap, EndsBelow, full_address}
+use Rattle.svc_cache.specs.Lines as cache_lines
+use Rattle.svc_cache.specs.Places.{CacheValue, line_of}
+use Rattle.svc_bus_laws.specs.Search.{how_many}
+use Rattle.svc_bus_laws.specs.LineTable.{Line, is_committed_dirty}
+use Rattle.svc_bus_laws.specs.Steps.{with_line}
+use Rattle.svc_bus_laws.proofs.Tables.{SameCommitted, same_line, both_clean, committed_same}
+use Rattle.svc_vol.specs.declared.version.Version.{Version}
+use Rattle.svc_vol.specs.Lines.{lines_in, is_older_of}
+use Rattle.svc_vol.specs.Versions.{AreCommitted, unit_at, version_at}
+use Rattle.svc_retire.specs.Caches.{cache_at, line_in, numbered, SameSizes}
+use Rattle.svc_retire.specs.Purges.{keeps, line_after_purge, is_purged, purges, table_in, committed_in, CountsSearches}
+use Rattle.svc_retire.proofs.Counts.{how_many_same}
+use Rattle.svc_retire.proofs.Dropping.{lines_are}
+use Rattle.svc_retire.proofs.Settling.{HasV, line_valid}
+
+-- a version of the unit is listed, or none is
+abbrev pub HasOwn : List Version → ℕ → Type 0
+HasOwn versions unit = (k : ℕ) × (k < length versions) × (unit_at versions k ≡ unit)
+
+abbrev pub LacksOwn : List Version → ℕ → Type 0
+LacksOwn versions unit = (k : ℕ) → k < length versions → unit_at versions k ≢ unit
+
+-- ---- a line over the unit's own committed one
+
+-- a word that has a line finds room
+pub never_full : (sets ways bound : ℕ) (lines : LineMap) (word : ℕ) (line : SeenLine) → lines word ≡ Some line → full_address sets ways bound lines word ≡ None
+never_full sets ways bound lines word line is = rw is refl
+
+number_none : (line : Option SeenLine) → numbered line ≡ None → line ≡ None
+number_none None e = refl
+number_none (Some l) e = cc
+
+number_some : (line : Option SeenLine) (l : SeenLine) → numbered line ≡ numbered (Some l) → (m : SeenLine) × (line ≡ Some m)
+number_some None l e = cc
+number_some (Some m) l e = (m, refl)
+
+-- the unit keeps its own line where the word is purged
+own_kept : (before now : List CacheValue) (unit : UnitId) (word : ℕ) → ((u a : ℕ) → line_in now u a ≡ line_after_purge (Some unit) word u a (line_in before u a)) → (a : ℕ) → line_in now unit.0 a ≡ line_in before unit.0 a
+own_kept before now unit word lines a = lines unit.0 a ∙ rw (eq-eqb unit.0 unit.0 refl) (same (a == word))
+  where
+    same : (b : Bool) → cond b (line_in before unit.0 a) (line_in before unit.0 a) ≡ line_in before unit.0 a
+    same true = refl
+    same false = refl
+
+-- what the fill of the unit's cache answers where that has room for the word
+abbrev pub Answers : {A : Type 0} → Result A SetFull → CacheValue → (bound word : ℕ) → Type 0
+Answers r cache bound word = MatchResult r (λ _. full_address cache.sets cache.ways bound (line_of cache) word ≡ None) (λ e. full_address cache.sets cache.ways bound (line_of cache) word ≡ Some e.0.0)
+
+fits : {A : Type 0} (r : Result A SetFull) (cache : CacheValue) (bound word : ℕ) (line : SeenLine) → line_of cache word ≡ Some line → Answers r cache bound word → (x : A) × (r ≡ Ok x)
+fits (Ok x) cache bound word line is answers = (x, refl)
+fits (Err e) cache bound word line is answers = let none = never_full cache.sets cache.ways bound (line_of cache) word line is in cc
+
+module _ {A : Type 0} (r : Result A SetFull) (before now : List CacheValue) (versions : List Version) (unit : UnitId) (word bound : ℕ)
+    (listed : AreCommitted (lines_in before word) (length before) versions) (k : ℕ) (within : k < length versions) (own : unit_at versions k ≡ unit.0)
+    (ends : EndsBelow (line_of (cache_at before unit.0)) bound)
+    (lines : (u a : ℕ) → line_in now u a ≡ line_after_purge (Some unit) word u a (line_in before u a))
+    (answers : (b : ℕ) → EndsBelow (line_of (cache_at now unit.0)) b → Answers r (cache_at now unit.0) b word) where
+  line : SeenLine
+  line = seen (version_at versions k).line
+
+  there : line_of (cache_at before unit.0) word ≡ Some line
+  unfolding line
+  there = sym (lines_are before word unit.0) ∙ ap (lines_in before word) (sym own) ∙ (listed.only k within).held
+
+  still : (m : SeenLine) × (line_of (cache_at now unit.0) word ≡ Some m)
+  still = number_some (line_of (cache_at now unit.0) word) line (own_kept before now unit word lines word ∙ ap numbered there)
+
+  -- the fill that follows the purge is not refused
+  pub filled : (x : A) × (r ≡ Ok x)
+  filled = fits r (cache_at now unit.0) bound word still.0 still.1 (answers bound (record { ends = λ a past. number_none (line_of (cache_at now unit.0) a) (own_kept before now unit word lines a ∙ ap numbered (ends.ends a past)) }))
+
+  pub filled_answers : Answers r (cache_at before unit.0) bound word
+  filled_answers = subst (λ q. Answers q (cache_at before unit.0) bound word) (sym filled.1) (never_full (cache_at before unit.0).sets (cache_at before unit.0).ways bound (line_of (cache_at before unit.0)) word line there)
+
+  pub filled_not : (P : Type 0) → OnErr r P
+  filled_not P = subst (λ q. OnErr q P) (sym filled.1) tt
+
+-- ---- a line where the unit has no committed one
+
+-- a line with C clear is not committed
+not_committed : (line : Option SeenLine) (l : SeenLine) → numbered line ≡ numbered (Some l) → l.bits.commit ≡ false → cache_lines.is_committed_line line ≡ false
+not_committed None l e clear = refl
+not_committed (Some m) l e clear = ap (λ c. m.bits.valid && c) (bit ∙ clear) ∙ never m.bits.valid
+  where
+    bit : m.bits.commit ≡ l.bits.commit
+    bit = ap (λ (o : Option Line). elim o [ None ↦ false | Some x ↦ x.commit ]) e
+
+    never : (b : Bool) → (b && false) ≡ false
+    never true = refl
+    never false = refl
+
+-- a line that is not committed is no committed dirty one
+clean_of : (line : Option SeenLine) → HasV line → cache_lines.is_committed_line line ≡ false → is_committed_dirty (numbered line) ≡ false
+clean_of None valid e = refl
+clean_of (Some m) valid e = ap (λ c. c && m.bits.store) (sym (ap (λ v. v && m.bits.commit) valid) ∙ e)
+
+-- two counts after each other
+pub counts_both : (first second third : Probes) (m n both : ℕ) → both ≡ m + n → CountsSearches first second m → CountsSearches second third n → CountsSearches first third both
+counts_both first second third m n both is one two = record {
+  searches = omega (arith, is, one.searches, two.searches);
+  places = omega (arith, is, one.places, two.places);
+}
+
+module _ (before now : List CacheValue) (versions : List Version) (unit : UnitId) (word : ℕ) (line : SeenLine)
+    (listed : AreCommitted (lines_in before word) (length before) versions) (absent : (k : ℕ) → k < length versions → unit_at versions k ≢ unit.0) (known : unit.0 < length before)
+    (clear : line.bits.commit ≡ false)
+    (lines : (u a : ℕ) → line_in now u a ≡ with_line (line_in before) unit.0 word (numbered (Some line)) (λ other. other) u a)
+    (others : (u : ℕ) → u ≢ unit.0 → cache_at now u ≡ cache_at before u)
+    (sizes : SameSizes before now) where
+  own_now : line_in now unit.0 word ≡ numbered (Some line)
+  own_now = lines unit.0 word ∙ rw (eq-eqb word word refl, eq-eqb unit.0 unit.0 refl) refl
+
+  own_fresh : cache_lines.is_committed_line (lines_in now word unit.0) ≡ false
+  own_fresh = ap cache_lines.is_committed_line (lines_are now word unit.0) ∙ not_committed (line_of (cache_at now unit.0) word) line own_now clear
+
+  own_before : cache_lines.is_committed_line (lines_in before word unit.0) ≡ false
+  own_before = elim (cases_Bool (cache_lines.is_committed_line (lines_in before word unit.0))) [
+    | inr out ↦ out
+    | inl committed ↦ let place = listed.each unit.0 known committed in absurd (absent place.0 place.1 place.2)
+  ]
+
+  other_line : (u : ℕ) → u ≢ unit.0 → lines_in now word u ≡ lines_in before word u
+  other_line u ne = lines_are now word u ∙ ap (λ (cache : CacheValue). line_of cache word) (others u ne) ∙ sym (lines_are before word u)
+
+  -- the list still has the committed lines
+  pub still_listed : AreCommitted (lines_in now word) (length now) versions
+  still_listed = record {
+    few = subst (λ n. length versions ≤ n) (sym sizes.count) listed.few;
+    only = λ k h. let is = listed.only k h in record {
+      within = subst (λ n. unit_at versions k < n) (sym sizes.count) is.within;
+      held = other_line (unit_at versions k) (absent k h) ∙ is.held;
+      committed = is.committed;
+    };
+    each = λ u h committed. elim (cases_eq u unit.0) [
+      | inl e ↦ absurd (true≢false (sym committed ∙ ap (λ v. cache_lines.is_committed_line (lines_in now word v)) e ∙ own_fresh))
+      | inr ne ↦ listed.each u (subst (λ n. u < n) sizes.count h) (ap cache_lines.is_committed_line (sym (other_line u ne)) ∙ committed)
+    ];
+    once = listed.once;
+    oldest_first = λ i j less h.
+        ap₂ is_older_of (other_line (unit_at versions j) (absent j h)) (other_line (unit_at versions i) (absent i (omega (arith, less, h)))) ∙ listed.oldest_first i j less h;
+  }
+
+  same_committed : (u : ℕ) → SameCommitted (line_in now u word) (line_in before u word)
+  same_committed u = elim (cases_eq u unit.0) [
+    | inr ne ↦ same_line (line_in now u word) (line_in before u word) (ap (λ (cache : CacheValue). numbered (line_of cache word)) (others u ne))
+    | inl e ↦ both_clean (line_in now u word) (line_in before u word)
+        (ap (λ v. is_committed_dirty (line_in now v word)) e ∙ ap is_committed_dirty own_now ∙ ap (λ c. c && line.bits.store) clear)
+        (ap (λ v. is_committed_dirty (line_in before v word)) e ∙ clean_of (line_of (cache_at before unit.0) word) (line_valid (cache_at before unit.0) word) (ap cache_lines.is_committed_line (sym (lines_are before word unit.0)) ∙ own_before))
+  ]
+
+  -- so the committed value is the same
+  pub committed_kept : (memory : List ℕ) → committed_in now memory word ≡ committed_in before memory word
+  committed_kept memory = committed_same (table_in now memory) (table_in before memory) word sizes.count same_committed refl
+
+  -- and so many lines are to be taken out
+  pub purges_kept : purges now (Some unit) word ≡ purges before (Some unit) word
+  purges_kept = ap (λ n. how_many n (is_purged now (Some unit) word)) sizes.count ∙ how_many_same (length before) (is_purged before (Some unit) word) (is_purged now (Some unit) word) (λ u h. ap (λ d. d && not (keeps (Some unit) u)) (same_committed u).dirty)

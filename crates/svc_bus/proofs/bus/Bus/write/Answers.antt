@@ -1,0 +1,135 @@
+use Rattle.std.proofs.Common.{rules, ◌≡◌, ◌∙◌, ◌<◌, ◌+◌, refl, sym, ap, ap₂, subst, ℕ, Some, List, length, get_or, option_map}
+use Rattle.std.proofs.lemmas.List.{with_items_is}
+use Rattle.svc_base.specs.declared.ids.UnitId.{UnitId}
+use Rattle.svc_base.specs.declared.refusal.Refusal.TheVariants as refusal
+use Rattle.svc_line.specs.Bits.{bits_of}
+use Rattle.svc_line.specs.Line.{SeenLine}
+use Rattle.svc_cache.specs.Places.{CacheValue}
+use Rattle.svc_vol.specs.Lines.{CountsOneOfEach}
+use Rattle.svc_bus_laws.specs.Steps.{with_at}
+use Rattle.svc_retire.specs.Caches.{line_in, numbered, SameSizes}
+use Rattle.svc_retire.specs.Purges.{committed_in}
+use Rattle.svc_bus.specs.Value.{BusValue}
+use Rattle.svc_bus.specs.Observed.{observed}
+use Rattle.svc_bus.specs.Calls.{full_refusal}
+use Rattle.svc_bus.specs.Stores.{left_line, stored_line}
+use Rattle.svc_bus.proofs.Keeping.{KeepsSizes}
+use Rattle.svc_bus.proofs.Rooms.{room_for_each}
+use Rattle.svc_bus.proofs.Planning.{HasList, listed, room_to_store, refusal_is, unit_known, chosen_within, left_is, chosen_shown, shown_lines, once_each, planned, line_active}
+use Rattle.svc_bus.proofs.Writing.{IsPlanned, IsWritten, written_bus, written_agreed}
+use Rattle.svc_bus.proofs.bus.Bus.write.Goals as goal
+
+pub of-list-requires-clause-room : goal.of-list-requires-clause-room
+of-list-requires-clause-room c = room_for_each _ c.self.invariant c.new-probes.result c.deref.result.now c.new-probes.ensures.searches c.new-probes.ensures.places c.deref.ensures.value
+
+pub store_line-requires-clause-shown : goal.store_line-requires-clause-shown
+store_line-requires-clause-shown c =
+    let list = listed _ c.self.invariant c.args.word.0 c.of-list.result c.deref.result.now c.deref.ensures.value c.of-list.ensures.committed c.of-list.ensures.active in
+    rw c.deref-2.ensures.0 (shown_lines _ c.self.invariant c.args.unit.0 c.place_of-place.result c.args.word.0 c.place_of-place.ensures.within c.place_of-place.ensures.at_work c.of-list.result list c.plan_write-plan.result.stale.items c.plan_write-plan.ensures.stale c.deref_mut.result.now c.deref_mut.ensures.value)
+
+pub store_line-requires-clause-once : goal.store_line-requires-clause-once
+store_line-requires-clause-once c =
+    let list = listed _ c.self.invariant c.args.word.0 c.of-list.result c.deref.result.now c.deref.ensures.value c.of-list.ensures.committed c.of-list.ensures.active in
+    rw c.deref-2.ensures.0 (once_each _ c.self.invariant c.args.unit.0 c.place_of-place.result c.args.word.0 c.place_of-place.ensures.within c.place_of-place.ensures.at_work c.of-list.result list c.plan_write-plan.result.stale.items c.plan_write-plan.ensures.stale c.deref_mut.result.now c.deref_mut.ensures.value)
+
+pub store_line-requires-clause-active : goal.store_line-requires-clause-active
+unfolding observed
+store_line-requires-clause-active c =
+    let list = listed _ c.self.invariant c.args.word.0 c.of-list.result c.deref.result.now c.deref.ensures.value c.of-list.ensures.committed c.of-list.ensures.active in
+    let known : c.args.word.0 < length c.self.inside.backing.items = rw (← c.self.view_is) at c.requires.in_memory in
+    line_active _ c.self.invariant c.args.unit.0 c.place_of-place.result c.args.word.0 c.place_of-place.ensures.within c.place_of-place.ensures.at_work c.of-list.result list
+    c.plan_write-plan.result.stale.items c.plan_write-plan.ensures.stale c.args.value c.unwrap_or-left.result (bits_of c.plan_write-plan.result.bits)
+    (left_is _ c.self.invariant c.args.unit.0 c.place_of-place.result c.args.word.0 c.place_of-place.ensures.within c.place_of-place.ensures.at_work c.of-list.result list c.plan_write-plan.result.victim c.len-tasks.result c.len-tasks.ensures.count c.plan_write-plan.ensures.victim c.unwrap_or-left.result c.unwrap_or-left.ensures)
+    c.plan_write-plan.ensures.line known
+
+pub store_line-requires-clause-room : goal.store_line-requires-clause-room
+store_line-requires-clause-room c = room_to_store _ c.self.invariant c.deref_mut.result.now c.deref_mut.ensures.value c.new-probes.result c.of-list.new.probes c.new-probes.ensures.searches c.new-probes.ensures.places (subst (CountsOneOfEach c.new-probes.result c.of-list.new.probes) c.deref.ensures.value c.of-list.ensures.counted)
+
+pub returns-in_err-store_line-clause-refused : goal.returns-in_err-store_line-clause-refused
+unfolding observed
+returns-in_err-store_line-clause-refused c =
+    let known = unit_known _ c.self.invariant c.args.unit.0 c.place_of-place.result c.place_of-place.ensures.within c.place_of-place.ensures.at_work in
+    let answer = refusal_is _ c.self.invariant c.args.unit.0 c.args.word.0 known c.deref_mut.result.now c.deref_mut.ensures.value c.deref_mut-2.result.now c.deref_mut-2.ensures.value in
+    let refused : full_refusal (observed c.args.self.now) c.args.unit.0 c.args.word.0 ≡ Some c.in_err-store_line.field-0.0 = rw (← c.self.view_is) (sym answer ∙ c.in_err-store_line.ensures.refused) in
+    search rules
+
+pub victim_of-requires-clause-within : goal.victim_of-requires-clause-within
+victim_of-requires-clause-within c =
+    let list = listed _ c.self.invariant c.args.word.0 c.of-list.result c.deref.result.now c.deref.ensures.value c.of-list.ensures.committed c.of-list.ensures.active in
+    chosen_within _ c.self.invariant c.args.unit.0 c.place_of-place.result c.args.word.0 c.place_of-place.ensures.within c.place_of-place.ensures.at_work c.of-list.result list c.plan_write-plan.result.victim c.len-tasks.result c.len-tasks.ensures.count c.plan_write-plan.ensures.victim
+
+abbrev before : goal.After-victim_of → BusValue
+before c = let inside = c.self.inside in record { caches = inside.caches.items; spill = inside.spill; backing = inside.backing.items; units = inside.queue; commits = inside.commits; probes = inside.probes }
+
+abbrev after : goal.After-victim_of → BusValue
+after c = record (before c) { caches = c.store_line.new.caches; spill = c.empty_spill.new.spill; backing = c.store_line.new.backing; units = c.cut_from.new.self; probes = c.store_line.new.probes.searches }
+
+abbrev line : goal.After-victim_of → SeenLine
+line c = record { value = c.args.value; bits = bits_of c.plan_write-plan.result.bits; task = c.self.inside.commits + c.place_of-place.result }
+
+abbrev stale : goal.After-victim_of → List UnitId
+stale c = c.plan_write-plan.result.stale.items
+
+plan_of : (c : goal.After-victim_of) → IsPlanned (before c) c.place_of-place.result c.args.word.0 c.args.value (line c) (stale c) c.unwrap_or-left.result
+plan_of c =
+    let list : HasList (before c) c.args.word.0 c.of-list.result = listed (before c) c.self.invariant c.args.word.0 c.of-list.result c.deref.result.now c.deref.ensures.value c.of-list.ensures.committed c.of-list.ensures.active in
+    planned (before c) c.self.invariant c.args.unit.0 c.place_of-place.result c.args.word.0 c.place_of-place.ensures.within c.place_of-place.ensures.at_work c.of-list.result list
+    (stale c) c.plan_write-plan.ensures.stale c.args.value c.unwrap_or-left.result (bits_of c.plan_write-plan.result.bits)
+    (left_is (before c) c.self.invariant c.args.unit.0 c.place_of-place.result c.args.word.0 c.place_of-place.ensures.within c.place_of-place.ensures.at_work c.of-list.result list c.plan_write-plan.result.victim c.len-tasks.result c.len-tasks.ensures.count c.plan_write-plan.ensures.victim c.unwrap_or-left.result c.unwrap_or-left.ensures)
+    c.plan_write-plan.ensures.line
+
+sizes_are : (c : goal.After-victim_of) → KeepsSizes (before c) (after c)
+sizes_are c = record {
+  caches = subst (λ (xs : List CacheValue). SameSizes xs c.store_line.new.caches) c.deref_mut.ensures.value c.store_line.ensures.sizes;
+  spill = c.empty_spill.ensures.size;
+  backing = c.store_line.auto.backing ∙ ap (λ (xs : List ℕ). length xs) c.deref_mut-2.ensures.value;
+}
+
+written : (c : goal.After-victim_of) → IsWritten (before c) (after c) c.place_of-place.result c.args.word.0 (line c) (stale c) c.unwrap_or-left.result
+written c =
+    let caches : c.deref_mut.result.now ≡ (before c).caches = c.deref_mut.ensures.value in
+    let memory : c.deref_mut-2.result.now ≡ (before c).backing = c.deref_mut-2.ensures.value in
+    record {
+      lines = λ u a.
+          c.in_ok-store_line.ensures.lines u a
+          ∙ ap₂ (λ (xs : List CacheValue) (us : List UnitId). left_line (before c).units c.unwrap_or-left.result u (stored_line (line_in xs) c.args.unit.0 c.args.word.0 (numbered (Some (line c))) us u a)) caches c.deref-2.ensures.0
+          ∙ ap (λ unit. left_line (before c).units c.unwrap_or-left.result u (stored_line (line_in (before c).caches) unit c.args.word.0 (numbered (Some (line c))) (stale c) u a)) (sym c.place_of-place.ensures.at_work);
+      memory = λ a. c.in_ok-store_line.ensures.memory a ∙ ap₂ (λ (xs : List ℕ) (ys : List CacheValue). with_at (λ x. get_or xs x 0) c.args.word.0 (committed_in ys xs c.args.word.0) a) memory caches;
+      versions = c.empty_spill.ensures.versions;
+      sizes = sizes_are c;
+      commits = refl;
+      units = c.cut_from.ensures;
+    }
+
+pub invariant_of-self-2 : goal.invariant_of-self-2
+unfolding observed
+invariant_of-self-2 c =
+    let inside = c.self.inside in
+    let known : c.args.word.0 < length inside.backing.items = rw (← c.self.view_is) at c.requires.in_memory in
+    let count : length c.store_line.new.caches ≡ inside.caches.len = (sizes_are c).caches.count ∙ sym inside.caches.ok.0 in
+    let words : length c.store_line.new.backing ≡ inside.backing.len = (sizes_are c).backing ∙ sym inside.backing.ok.0 in
+    rw (with_items_is inside.caches c.store_line.new.caches count, with_items_is inside.backing c.store_line.new.backing words)
+    (written_bus (before c) c.self.invariant c.place_of-place.result c.args.word.0 c.args.value (line c) (stale c) c.unwrap_or-left.result c.place_of-place.ensures.within known (plan_of c) (after c) (written c))
+
+pub returns-clause-refused : goal.returns-clause-refused
+unfolding observed
+returns-clause-refused c =
+    let known = unit_known (before c) c.self.invariant c.args.unit.0 c.place_of-place.result c.place_of-place.ensures.within c.place_of-place.ensures.at_work in
+    let answer = refusal_is (before c) c.self.invariant c.args.unit.0 c.args.word.0 known c.deref_mut.result.now c.deref_mut.ensures.value c.deref_mut-2.result.now c.deref_mut-2.ensures.value in
+    rw (← c.self.view_is) (sym answer ∙ ap (option_map (λ (named : ℕ). refusal.SetFull (record { 0 = named }))) c.in_ok-store_line.ensures.refused)
+
+pub returns-clause-victim : goal.returns-clause-victim
+unfolding observed
+returns-clause-victim c =
+    let list : HasList (before c) c.args.word.0 c.of-list.result = listed (before c) c.self.invariant c.args.word.0 c.of-list.result c.deref.result.now c.deref.ensures.value c.of-list.ensures.committed c.of-list.ensures.active in
+    rw (← c.self.view_is) (λ s p agrees here is. c.victim_of.ensures ∙ chosen_shown (before c) c.self.invariant c.args.unit.0 c.place_of-place.result c.args.word.0 c.place_of-place.ensures.within c.place_of-place.ensures.at_work c.of-list.result list c.plan_write-plan.result.victim c.len-tasks.result c.len-tasks.ensures.count c.plan_write-plan.ensures.victim s p agrees here is)
+
+pub returns-clause-table : goal.returns-clause-table
+unfolding observed
+returns-clause-table c =
+    let inside = c.self.inside in
+    let known : c.args.word.0 < length inside.backing.items = rw (← c.self.view_is) at c.requires.in_memory in
+    let count : length c.store_line.new.caches ≡ inside.caches.len = (sizes_are c).caches.count ∙ sym inside.caches.ok.0 in
+    let words : length c.store_line.new.backing ≡ inside.backing.len = (sizes_are c).backing ∙ sym inside.backing.ok.0 in
+    rw (with_items_is inside.caches c.store_line.new.caches count, with_items_is inside.backing c.store_line.new.backing words, ← c.self.view_is)
+    (λ s p agrees here is. written_agreed (before c) c.self.invariant c.place_of-place.result c.args.word.0 c.args.value (line c) (stale c) c.unwrap_or-left.result c.place_of-place.ensures.within known (plan_of c) (after c) (written c) s p agrees here (is ∙ sym c.place_of-place.ensures.at_work))

@@ -1,0 +1,33 @@
+-- What a read does to the lines and the memory, by who supplied its value.
+use Rattle.std.specs.Prelude.{ℕ, Bool, true, false, Option}
+use Rattle.svc_bus_laws.specs.LineTable.{Line}
+use Rattle.svc_bus_laws.specs.Steps.{purged, with_at, with_line}
+use Rattle.svc_vcl.specs.declared.served.Served.{Served}
+use Rattle.svc_vcl.specs.declared.served.Served.TheVariants.{Hit, Reuse, Version, Spill, Committed, Memory}
+
+-- the unit's own active line supplied it
+abbrev pub is_hit : Served → Bool
+is_hit Hit = true
+is_hit Reuse = false
+is_hit (Version unit) = false
+is_hit Spill = false
+is_hit (Committed unit) = false
+is_hit Memory = false
+
+-- a hit changes no line, a reuse the unit's own; else there was a bus request, and the word's other lines are purged
+abbrev pub lines_after : Served → (ℕ → ℕ → Option Line) → (unit word : ℕ) → Option Line → ℕ → ℕ → Option Line
+lines_after Hit lines unit word line = lines
+lines_after Reuse lines unit word line = with_line lines unit word line (λ other. other)
+lines_after (Version supplier) lines unit word line = with_line lines unit word line purged
+lines_after Spill lines unit word line = with_line lines unit word line purged
+lines_after (Committed supplier) lines unit word line = with_line lines unit word line purged
+lines_after Memory lines unit word line = with_line lines unit word line purged
+
+-- a bus request leaves the committed value in the memory
+abbrev pub memory_after : Served → (ℕ → ℕ) → (word : ℕ) → (committed : ℕ) → ℕ → ℕ
+memory_after Hit memory word committed = memory
+memory_after Reuse memory word committed = memory
+memory_after (Version supplier) memory word committed = with_at memory word committed
+memory_after Spill memory word committed = with_at memory word committed
+memory_after (Committed supplier) memory word committed = with_at memory word committed
+memory_after Memory memory word committed = with_at memory word committed

@@ -1,0 +1,9 @@
+pub mod Value
+pub mod Observed
+pub mod Calls
+pub mod Opened
+pub mod Room
+pub mod Carried
+pub mod Listed
+pub mod Marks
+pub mod Stores

@@ -1,0 +1,114 @@
+ghost use Rattle.std.specs.Prelude.{◌≡◌, ℕ, ◌+◌, ◌<◌, ◌≤◌, ◌*◌, true, false, Some, None, length, get_or, IfOk, OnOk, OnErr, MatchResult};
+ghost use Rattle.svc_line.specs.Bits.{bits_of};
+ghost use Rattle.svc_line.specs.Line.{seen};
+ghost use Rattle.svc_cache.specs.Places.{line_of};
+ghost use Rattle.svc_cache.specs.Lines.{EndsBelow};
+ghost use Rattle.svc_vol.specs.Lines.{lines_in};
+ghost use Rattle.svc_vol.specs.Versions.{AreCommitted};
+ghost use Rattle.svc_retire.specs.Caches.{cache_at, line_in, numbered, SameSizes};
+ghost use Rattle.svc_retire.specs.Purges.{AreDistinct, committed_in, HasRoomFor};
+ghost use Rattle.svc_vcl.specs.Planned.{supplier_of};
+ghost use Rattle.svc_bus_laws.specs.Versioned.{view};
+ghost use Rattle.svc_bus_laws.specs.LineTable.{LineTable, unit_at, versioned};
+ghost use Rattle.svc_bus_laws.specs.Supplier.{supplier};
+ghost use Rattle.svc_bus_laws.specs.Steps.{read};
+ghost use Rattle.svc_bus_laws.specs.BusState.{Agrees};
+ghost use Rattle.svc_bus.specs.Observed.{observed};
+ghost use Rattle.svc_bus.specs.Room.{full_in};
+ghost use Rattle.svc_bus.specs.Carried.{is_hit, lines_after, memory_after};
+ghost use Rattle.svc_bus.specs.Calls.{IsAtWork, full_refusal};
+
+use crate::Bus;
+use crate::request::{fill_in, place_of, put_line};
+use svc_base::{Refusal, TaskNo, UnitId, WordAddr};
+use svc_cache::{Cache, Probes, SetFull};
+use svc_line::Line;
+use svc_vcl::{Served, plan_read};
+use svc_vol::VersionList;
+
+// What a read comes to: the unit's line after it, and who supplied the value.
+#[derive(Clone, Copy)]
+struct Outcome {
+    served: Served,
+    line: Line,
+}
+
+// The lines are changed as the read asks: by a hit none, by a reuse the unit's own.
+fn carry_out(
+    caches: &mut [Cache],
+    backing: &mut [u32],
+    list: &VersionList,
+    unit: UnitId,
+    word: WordAddr,
+    outcome: &Outcome,
+    probes: &mut Probes,
+) -> Result<(), SetFull>
+    requires known { unit.0 < length caches.old }
+    requires listed { AreCommitted (lines_in caches.old word.0) (length caches.old) list.now.committed }
+    requires distinct { AreDistinct caches.old word.0 }
+    requires in_memory { word.0 < length backing.old }
+    requires ends { EndsBelow (line_of (cache_at caches.old unit.0)) (length backing.old) }
+    requires valid { (bits_of outcome.now.line.bits).valid ≡ true }
+    requires active { (bits_of outcome.now.line.bits).commit ≡ false }
+    requires room { HasRoomFor probes.old caches.old (1 + length caches.old) }
+    ensures refused { MatchResult result (λ _. is_hit outcome.now.served ≡ false → full_in caches.old unit.0 (length backing.old) word.0 ≡ None) (λ e. full_in caches.old unit.0 (length backing.old) word.0 ≡ Some e.0.0) }
+    ensures same_caches { OnErr result (caches.new ≡ caches.old) }
+    ensures same_memory { OnErr result (backing.new ≡ backing.old) }
+    ensures lines { OnOk result ((u a : ℕ) → line_in caches.new u a ≡ lines_after outcome.now.served (line_in caches.old) unit.0 word.0 (numbered (Some (seen outcome.now.line))) u a) }
+    ensures memory { OnOk result ((a : ℕ) → get_or backing.new a 0 ≡ memory_after outcome.now.served (λ x. get_or backing.old x 0) word.0 (committed_in caches.old backing.old word.0) a) }
+    ensures sizes { SameSizes caches.old caches.new }
+    ensures searches { OnOk result (probes.new.searches ≤ probes.old.searches + length caches.old) }
+{
+    match outcome.served {
+        Served::Hit => Ok(()),
+        Served::Reuse => fill_in(caches, unit, word, outcome.line, probes),
+        Served::Version(_) | Served::Spill | Served::Committed(_) | Served::Memory => {
+            put_line(caches, backing, list, unit, word, outcome.line, probes)
+        }
+    }
+}
+
+impl Bus {
+    /// The unit's task reads the word: the value of the nearest earlier version, and who supplied it. It makes at most two
+    /// look-ups for each unit.
+    ///
+    /// Errors: [`Refusal::SetFull`] where the unit's cache has no line of the word and no room for one. Then nothing changes.
+    #[tactic(auto, unfolding(crate::specs::Observed::observed))]
+    pub fn read(&mut self, unit: UnitId, word: WordAddr) -> Result<(u32, Served), Refusal>
+        requires at_work { IsAtWork (observed self.old) unit.0 }
+        requires in_memory { word.0 < (observed self.old).words }
+        ensures refused { MatchResult result (λ _. full_refusal (observed self.old) unit.0 word.0 ≡ None) (λ e. full_refusal (observed self.old) unit.0 word.0 ≡ Some e) }
+        ensures unchanged { OnErr result (self.new ≡ self.old) }
+        ensures value { (t : LineTable) → (place : ℕ) → Agrees (observed self.old) t → place < length t.units → unit_at t place ≡ unit.0 → IfOk result (λ r. r.0 ≡ view (versioned t) place word.0) }
+        ensures served { (t : LineTable) → (place : ℕ) → Agrees (observed self.old) t → place < length t.units → unit_at t place ≡ unit.0 → IfOk result (λ r. supplier_of r.1 ≡ supplier t place word.0) }
+        ensures table { (t : LineTable) → (place : ℕ) → Agrees (observed self.old) t → place < length t.units → unit_at t place ≡ unit.0 → OnOk result (Agrees (observed self.new) (read t place word.0)) }
+        ensures probes { OnOk result ((observed self.new).probes ≤ 2 * (observed self.old).caches) }
+    {
+        let place = place_of(&self.queue, unit);
+        let mut probes = Probes::new();
+        let list = VersionList::of(&self.caches, &self.queue, word, &mut probes);
+        let backing = self.backing[word.0 as usize];
+        let plan = plan_read(&list, unit, place, self.spill.get(word), backing);
+        let outcome = Outcome {
+            served: plan.served,
+            line: Line {
+                value: plan.value,
+                bits: plan.bits,
+                task: TaskNo(self.commits + place as u64),
+            },
+        };
+        if let Err(SetFull(named)) = carry_out(
+            &mut self.caches,
+            &mut self.backing,
+            &list,
+            unit,
+            word,
+            &outcome,
+            &mut probes,
+        ) {
+            return Err(Refusal::SetFull(named));
+        }
+        self.probes = probes.searches;
+        Ok((plan.value, plan.served))
+    }
+}

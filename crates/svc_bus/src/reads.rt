@@ -1,0 +1,67 @@
+ghost use Rattle.std.specs.Prelude.{◌≡◌, ◌<◌, true, Option, option_map, IfSome};
+ghost use Rattle.svc_line.specs.Bits.{bits_of};
+ghost use Rattle.svc_bus_laws.specs.LineTable.{LineTable, committed_value};
+ghost use Rattle.svc_bus_laws.specs.BusState.{Agrees, unnumbered};
+ghost use Rattle.svc_bus_laws.specs.Refusals.{bus_cache, set_full};
+ghost use Rattle.svc_bus.specs.Observed.{observed};
+ghost use Rattle.svc_bus.specs.Calls.{line_shown};
+
+use crate::Bus;
+use svc_base::{UnitId, WordAddr};
+use svc_cache::Probes;
+use svc_line::LineBits;
+use svc_retire::purging::newest;
+use svc_vol::VersionList;
+
+impl Bus {
+    /// The word that the committed tasks have left: that of the newest committed dirty line, else the backing word.
+    #[tactic(auto, unfolding(crate::specs::Observed::observed))]
+    pub fn committed_memory(&self, word: WordAddr) -> u32
+        requires in_memory { word.0 < (observed self.now).words }
+        ensures value { (t : LineTable) → Agrees (observed self.now) t → result ≡ committed_value t word.0 }
+    {
+        let list = VersionList::of(&self.caches, &self.queue, word, &mut Probes::new());
+        match newest(list.committed()) {
+            Some(value) => value,
+            None => self.backing(word),
+        }
+    }
+
+    /// The word in the backing memory itself.
+    #[tactic(auto, unfolding(crate::specs::Observed::observed))]
+    pub fn backing(&self, word: WordAddr) -> u32
+        requires in_memory { word.0 < (observed self.now).words }
+        ensures value { (t : LineTable) → Agrees (observed self.now) t → result ≡ t.backing word.0 }
+    {
+        self.backing[word.0 as usize]
+    }
+
+    /// The bits and the value of the unit's valid line of the word.
+    #[tactic(auto, unfolding(crate::specs::Observed::observed))]
+    pub fn line_at(&self, unit: UnitId, word: WordAddr) -> Option<(LineBits, u32)>
+        requires known { unit.0 < (observed self.now).caches }
+        ensures line { (t : LineTable) → Agrees (observed self.now) t → option_map line_shown result ≡ unnumbered (t.lines unit.0 word.0) }
+        ensures valid { IfSome result (λ line. (bits_of line.0).valid ≡ true) }
+    {
+        let line = self.caches[unit.0 as usize].lookup(word, &mut Probes::new())?;
+        Some((line.bits, line.value))
+    }
+
+    /// The word that a read or a write of this word by the unit would name as the one to be replaced first, where its set is
+    /// full.
+    #[tactic(auto, unfolding(crate::specs::Observed::observed))]
+    pub fn set_full(&self, unit: UnitId, word: WordAddr) -> Option<WordAddr>
+        requires known { unit.0 < (observed self.now).caches }
+        ensures address { option_map (λ named. named.0) result ≡ set_full (bus_cache (observed self.now) unit.0) word.0 }
+    {
+        self.caches[unit.0 as usize].full(word, &mut Probes::new())
+    }
+
+    /// How many cache look-ups the last accepted read or write made, each the search of one cache's set; 0 before the first.
+    #[tactic(auto, unfolding(crate::specs::Observed::observed))]
+    pub fn last_probes(&self) -> u32
+        ensures count { result ≡ (observed self.now).probes }
+    {
+        self.probes
+    }
+}

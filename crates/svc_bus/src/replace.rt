@@ -1,0 +1,74 @@
+ghost use Rattle.std.specs.Prelude.{◌≡◌, ℕ, ◌<◌, true, not, ◌&&◌, Some, None, OnOk, OnErr, MatchResult, length, get_or};
+ghost use Rattle.std.specs.Option.{option_or};
+ghost use Rattle.svc_line.specs.Bits.{bits_of};
+ghost use Rattle.svc_line.specs.Line.{seen};
+ghost use Rattle.svc_bus_laws.specs.LineTable.{LineTable, version_in};
+ghost use Rattle.svc_bus_laws.specs.Refusals.{is_head};
+ghost use Rattle.svc_bus_laws.specs.Steps.{replace, with_at};
+ghost use Rattle.svc_retire.specs.Caches.{numbered};
+ghost use Rattle.svc_bus_laws.specs.BusState.{Agrees};
+ghost use Rattle.svc_bus.specs.Observed.{observed};
+ghost use Rattle.svc_bus.specs.Calls.{replace_refusal};
+
+use crate::Bus;
+use crate::request::{is_head, take_line};
+use svc_base::{Refusal, UnitId, WordAddr};
+use svc_cache::Probes;
+use svc_line::Line;
+use svc_order::TaskQueue;
+use svc_retire::Spill;
+use svc_vol::VersionList;
+
+// The line that was replaced goes to the spill table where it is an active task's version.
+fn spill_version(spill: &mut Spill, word: WordAddr, line: &Line)
+    requires known { word.0 < length spill.old }
+    requires valid { (bits_of line.now.bits).valid ≡ true }
+    ensures versions { (a : ℕ) → get_or spill.new a None ≡ with_at (λ x. get_or spill.old x None) word.0 (option_or (version_in (numbered (Some (seen line.now)))) (get_or spill.old word.0 None)) a }
+    ensures size { length spill.new ≡ length spill.old }
+{
+    if line.bits.is_active() && line.bits.is_dirty() {
+        spill.put(word, line.value);
+    }
+}
+
+// The line is active, and its unit doesn't run the head.
+fn is_pinned(queue: &TaskQueue, unit: UnitId, line: &Line) -> bool
+    requires { (bits_of line.now.bits).valid ≡ true }
+    ensures { result ≡ (not (bits_of line.now.bits).commit && not (is_head queue.now unit.0)) }
+{
+    line.bits.is_active() && !is_head(queue, unit)
+}
+
+impl Bus {
+    /// The unit's line of the word is taken out of its cache; a version of the head goes to the spill table.
+    ///
+    /// Errors: [`Refusal::NotResident`] where the unit has no valid line of the word; [`Refusal::Pinned`] where the line is
+    /// active and the unit doesn't run the head. Then nothing changes.
+    #[tactic(auto, unfolding(crate::specs::Observed::observed))]
+    pub fn replace(&mut self, unit: UnitId, word: WordAddr) -> Result<(), Refusal>
+        requires known { unit.0 < (observed self.old).caches }
+        ensures refused { MatchResult result (λ _. replace_refusal (observed self.old) unit.0 word.0 ≡ None) (λ e. replace_refusal (observed self.old) unit.0 word.0 ≡ Some e) }
+        ensures unchanged { OnErr result (self.new ≡ self.old) }
+        ensures table { (t : LineTable) → Agrees (observed self.old) t → OnOk result (Agrees (observed self.new) (replace t unit.0 word.0)) }
+        ensures probes { (observed self.new).probes ≡ (observed self.old).probes }
+    {
+        let mut probes = Probes::new();
+        let Some(line) = self.caches[unit.0 as usize].lookup(word, &mut probes) else {
+            return Err(Refusal::NotResident);
+        };
+        if is_pinned(&self.queue, unit, &line) {
+            return Err(Refusal::Pinned);
+        }
+        let list = VersionList::of(&self.caches, &self.queue, word, &mut probes);
+        take_line(
+            &mut self.caches,
+            &mut self.backing,
+            &list,
+            unit,
+            word,
+            &mut probes,
+        );
+        spill_version(&mut self.spill, word, &line);
+        Ok(())
+    }
+}

@@ -1,0 +1,96 @@
+ghost use Rattle.std.specs.Prelude.{◌≡◌, ℕ, ◌+◌, ◌<◌, ◌≤◌, ◌==◌, true, false, cond, Option, Some, None, length, get_or, option_map, IfOk, OnOk, OnErr, MatchResult};
+ghost use Rattle.svc_base.specs.declared.refusal.Refusal.TheVariants as refusal;
+ghost use Rattle.svc_line.specs.Bits.{bits_of};
+ghost use Rattle.svc_line.specs.Line.{seen};
+ghost use Rattle.svc_vol.specs.Lines.{lines_in};
+ghost use Rattle.svc_vol.specs.Versions.{AreCommitted};
+ghost use Rattle.svc_vol.specs.declared.list.TheConstants.{CAPACITY};
+ghost use Rattle.svc_bus_laws.specs.Steps.{with_at};
+ghost use Rattle.svc_retire.specs.Caches.{line_in, numbered, SameSizes};
+ghost use Rattle.svc_retire.specs.Purges.{AreDistinct, committed_in, HasRoomFor};
+ghost use Rattle.svc_bus.specs.Marks.{AreListed, EndBelow};
+ghost use Rattle.svc_bus.specs.Room.{full_in};
+ghost use Rattle.svc_bus.specs.Stores.{left_line, stored_line, ChangeOnce};
+
+use crate::marks::mark_stale;
+use crate::request::put_line;
+use svc_base::{Refusal, UnitId, WordAddr};
+use svc_cache::{Cache, Probes};
+use svc_line::Line;
+use svc_order::TaskQueue;
+use svc_retire::{Spill, squash_lines};
+use svc_vol::VersionList;
+
+/// What a store does to the lines of its word.
+#[derive(Clone, Copy)]
+pub(crate) struct Store<'a> {
+    /// The unit that stores.
+    pub unit: UnitId,
+    /// The word.
+    pub word: WordAddr,
+    /// The unit's line of the word after the store.
+    pub line: Line,
+    /// The units whose lines of the word it overtakes.
+    pub stale: &'a [UnitId],
+    /// How many tasks it leaves.
+    pub left: usize,
+}
+
+/// The unit's line of the word becomes the stored one, the word is purged in the other caches, T is set on the lines that
+/// were overtaken, and only the tasks that are left keep their lines. Where the unit's cache has no line of the word and
+/// no room for one, nothing changes.
+///
+/// `list` is the version list of the word. There are at most as many searches as caches.
+pub(crate) fn store_line(
+    caches: &mut [Cache],
+    backing: &mut [u32],
+    queue: &TaskQueue,
+    list: &VersionList,
+    store: &Store,
+    probes: &mut Probes,
+) -> Result<(), Refusal>
+    requires known { store.now.unit.0 < length caches.old }
+    requires few { length caches.old ≤ CAPACITY }
+    requires units { (p : ℕ) → p < length queue.now → get_or queue.now p 0 < length caches.old }
+    requires listed { AreCommitted (lines_in caches.old store.now.word.0) (length caches.old) list.now.committed }
+    requires places { length list.now.active ≡ length queue.now }
+    requires shown { AreListed caches.old store.now.word.0 list.now queue.now store.now.stale.now }
+    requires once { ChangeOnce caches.old store.now.unit.0 store.now.word.0 store.now.stale.now }
+    requires distinct { AreDistinct caches.old store.now.word.0 }
+    requires in_memory { store.now.word.0 < length backing.old }
+    requires ends { EndBelow caches.old (length backing.old) }
+    requires valid { (bits_of store.now.line.bits).valid ≡ true }
+    requires active { (bits_of store.now.line.bits).commit ≡ false }
+    requires room { HasRoomFor probes.old caches.old (1 + (length caches.old + length caches.old)) }
+    ensures refused { MatchResult result (λ _. full_in caches.old store.now.unit.0 (length backing.old) store.now.word.0 ≡ None) (λ e. option_map (λ named. refusal.SetFull (record { 0 = named })) (full_in caches.old store.now.unit.0 (length backing.old) store.now.word.0) ≡ Some e) }
+    ensures same_caches { OnErr result (caches.new ≡ caches.old) }
+    ensures same_memory { OnErr result (backing.new ≡ backing.old) }
+    ensures lines { OnOk result ((u a : ℕ) → line_in caches.new u a ≡ left_line queue.now store.now.left u (stored_line (line_in caches.old) store.now.unit.0 store.now.word.0 (numbered (Some (seen store.now.line))) store.now.stale.now u a)) }
+    ensures memory { OnOk result ((a : ℕ) → get_or backing.new a 0 ≡ with_at (λ x. get_or backing.old x 0) store.now.word.0 (committed_in caches.old backing.old store.now.word.0) a) }
+    ensures sizes { SameSizes caches.old caches.new }
+    ensures searches { OnOk result (probes.new.searches ≤ probes.old.searches + length caches.old) }
+{
+    let Store {
+        unit,
+        word,
+        line,
+        stale,
+        left,
+    } = *store;
+    let put = put_line(caches, backing, list, unit, word, line, probes);
+    put.map_err(|full| Refusal::SetFull(full.0))?;
+    mark_stale(caches, queue, list, stale, word, probes);
+    squash_lines(caches, queue, left);
+    Ok(())
+}
+
+/// The head's version of the word is no longer the spilled one, once the head has stored the word.
+pub(crate) fn empty_spill(spill: &mut Spill, place: usize, word: WordAddr)
+    requires { word.0 < length spill.old }
+    ensures versions { (a : ℕ) → get_or spill.new a None ≡ with_at (λ x. get_or spill.old x None) word.0 (cond (place == 0) None (get_or spill.old word.0 None)) a }
+    ensures size { length spill.new ≡ length spill.old }
+{
+    if place == 0 {
+        spill.clear(word);
+    }
+}

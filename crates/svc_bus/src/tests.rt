@@ -1,0 +1,224 @@
+ghost use Rattle.std.specs.Prelude.{◌≡◌, ◌<◌, ◌≤◌, true, false, length, IfOk, IsTrue};
+ghost use Rattle.std.specs.Int.{is_power_of_two};
+ghost use Rattle.svc_base.specs.declared.config.TheConstants.{MAX_SETS, MAX_WAYS};
+ghost use Rattle.svc_bus_laws.specs.Refusals.{is_head};
+ghost use Rattle.svc_bus.specs.Observed.{observed};
+ghost use Rattle.svc_bus.specs.Calls.{IsAtWork};
+
+use crate::{Bus, Served, Victim};
+use bitflags::Flags;
+use std::alloc::Global;
+use std::process::Abort;
+use std::test::Fail;
+use svc_base::{OpenError, Refusal, UnitId, WordAddr};
+
+mod map;
+mod plain;
+mod random;
+mod rows;
+
+// What the calls require, asked of a bus.
+#[tactic(auto, unfolding(crate::specs::Observed::observed))]
+impl Bus {
+    fn units(&self) -> usize
+        ensures { result ≡ (observed self.now).caches }
+    {
+        self.caches.len()
+    }
+
+    fn words(&self) -> usize
+        ensures { result ≡ (observed self.now).words }
+    {
+        self.backing.len()
+    }
+
+    fn tasks(&self) -> usize
+        ensures { result ≡ length (observed self.now).units }
+    {
+        self.queue.len()
+    }
+
+    fn committed_tasks(&self) -> u64
+        ensures { result ≡ (observed self.now).commits }
+    {
+        self.commits
+    }
+
+    fn runs_head(&self, unit: UnitId) -> bool
+        ensures { result ≡ is_head (observed self.now).units unit.0 }
+    {
+        match self.queue.head() {
+            Some(head) => head.0 == unit.0,
+            None => false,
+        }
+    }
+}
+
+#[tactic(auto, unfolding(crate::specs::Observed::observed))]
+fn is_at_work(bus: &Bus, unit: UnitId) -> bool
+    ensures yes { result ≡ true → IsAtWork (observed bus.now) unit.0 }
+    ensures no { result ≡ false → ¬ IsAtWork (observed bus.now) unit.0 }
+{
+    bus.queue.position(unit).is_some()
+}
+
+// A call of a bus.
+#[derive(Clone, Copy, Debug)]
+enum Step {
+    Begin(u8),
+    Read(u8, u32),
+    Write(u8, u32, u32),
+    Replace(u8, u32),
+    Commit,
+    Squash(u8),
+    Memory(u32),
+    Backing(u32),
+    Line(u8, u32),
+    Full(u8, u32),
+}
+
+// What it answers.
+#[derive(Clone, Copy, Debug, PartialEq, Eq)]
+enum Answer {
+    Done,
+    WasRead(Result<(u32, Served), Refusal>),
+    Written(Result<Option<Victim>, Refusal>),
+    Replaced(Result<(), Refusal>),
+    Word(u32),
+    // the bits and the value
+    Line(Option<(u8, u32)>),
+    Named(Option<WordAddr>),
+}
+
+// The bits of a line.
+const V: u8 = 1;
+
+const S: u8 = 2;
+
+const L: u8 = 4;
+
+const C: u8 = 8;
+
+const T: u8 = 16;
+
+const UNITS: u32 = 4;
+
+// A bus of four units.
+fn open(rt: &impl Abort, alloc: Global, sets: u32, ways: u32, words: &[u32]) -> Result<Bus, Fail>
+    requires few_sets { sets ≤ MAX_SETS }
+    requires some_ways { 1 ≤ ways }
+    requires few_ways { ways ≤ MAX_WAYS }
+{
+    assert!(rt; sets.is_power_of_two());
+    assert!(rt; words.len() < 100);
+    let memory = Vec::from_slice(alloc, words).map_err(|_| "memory")?;
+    Bus::open(alloc, UNITS, sets, ways, memory).map_err(|_| "memory".into())
+}
+
+fn begin(rt: &impl Abort, bus: &mut Bus, unit: UnitId) {
+    assert!(rt; usize::from(unit.0) < bus.units());
+    assert!(rt; !is_at_work(bus, unit));
+    bus.begin(unit);
+}
+
+fn commit(rt: &impl Abort, bus: &mut Bus) {
+    assert!(rt; bus.tasks() > 0);
+    assert!(rt; bus.committed_tasks() < 1_000_000_000);
+    bus.commit_head();
+}
+
+fn squash(rt: &impl Abort, bus: &mut Bus, unit: UnitId) {
+    assert!(rt; is_at_work(bus, unit));
+    assert!(rt; !bus.runs_head(unit));
+    bus.squash_from(unit);
+}
+
+fn read(
+    rt: &impl Abort,
+    bus: &mut Bus,
+    unit: UnitId,
+    word: WordAddr,
+) -> Result<(u32, Served), Refusal> {
+    assert!(rt; is_at_work(bus, unit));
+    assert!(rt; (word.0 as usize) < bus.words());
+    bus.read(unit, word)
+}
+
+fn write(
+    rt: &impl Abort,
+    bus: &mut Bus,
+    unit: UnitId,
+    word: WordAddr,
+    value: u32,
+) -> Result<Option<Victim>, Refusal> {
+    assert!(rt; is_at_work(bus, unit));
+    assert!(rt; (word.0 as usize) < bus.words());
+    bus.write(unit, word, value)
+}
+
+fn replace(rt: &impl Abort, bus: &mut Bus, unit: UnitId, word: WordAddr) -> Result<(), Refusal> {
+    assert!(rt; usize::from(unit.0) < bus.units());
+    bus.replace(unit, word)
+}
+
+fn committed(rt: &impl Abort, bus: &Bus, word: WordAddr) -> u32 {
+    assert!(rt; (word.0 as usize) < bus.words());
+    bus.committed_memory(word)
+}
+
+fn backing(rt: &impl Abort, bus: &Bus, word: WordAddr) -> u32 {
+    assert!(rt; (word.0 as usize) < bus.words());
+    bus.backing(word)
+}
+
+fn line(rt: &impl Abort, bus: &Bus, unit: UnitId, word: WordAddr) -> Option<(u8, u32)> {
+    assert!(rt; usize::from(unit.0) < bus.units());
+    let (bits, value) = bus.line_at(unit, word)?;
+    Some((bits.bits(), value))
+}
+
+fn named(rt: &impl Abort, bus: &Bus, unit: UnitId, word: WordAddr) -> Option<WordAddr> {
+    assert!(rt; usize::from(unit.0) < bus.units());
+    bus.set_full(unit, word)
+}
+
+// The call's answer.
+fn perform(rt: &impl Abort, bus: &mut Bus, step: Step) -> Answer {
+    match step {
+        Step::Begin(unit) => {
+            begin(rt, bus, UnitId(unit));
+            Answer::Done
+        }
+        Step::Read(unit, word) => Answer::WasRead(read(rt, bus, UnitId(unit), WordAddr(word))),
+        Step::Write(unit, word, value) => {
+            Answer::Written(write(rt, bus, UnitId(unit), WordAddr(word), value))
+        }
+        Step::Replace(unit, word) => Answer::Replaced(replace(
+            rt,
+            bus,
+            UnitId(unit),
+            WordAddr(word),
+        )),
+        Step::Commit => {
+            commit(rt, bus);
+            Answer::Done
+        }
+        Step::Squash(unit) => {
+            squash(rt, bus, UnitId(unit));
+            Answer::Done
+        }
+        Step::Memory(word) => Answer::Word(committed(rt, bus, WordAddr(word))),
+        Step::Backing(word) => Answer::Word(backing(rt, bus, WordAddr(word))),
+        Step::Line(unit, word) => Answer::Line(line(rt, bus, UnitId(unit), WordAddr(word))),
+        Step::Full(unit, word) => Answer::Named(named(rt, bus, UnitId(unit), WordAddr(word))),
+    }
+}
+
+// The step makes at most two look-ups for each unit where it is an accepted read or write, and else changes none of the
+// counted ones.
+fn check_probes(rt: &impl Abort, answer: Answer, before: u32, after: u32) {
+    match answer {
+        Answer::WasRead(Ok(_)) | Answer::Written(Ok(_)) => assert!(rt; after <= 2 * UNITS),
+        _ => assert_eq!(rt; before, after),
+    }
+}

@@ -1,0 +1,10 @@
+use svc_base::TaskNo;
+
+/// The tasks that a write squashed, since the first of them had read the word too early.
+#[derive(Clone, Copy, Debug, PartialEq, Eq)]
+pub struct Victim {
+    /// The first of them.
+    pub first: TaskNo,
+    /// How many they are: all that were active from the first on.
+    pub tasks: u32,
+}
