@@ -1,40 +1,131 @@
 #!/usr/bin/env bash
-# Runs one image of some 20 million turns, 400 tasks of 50,187 turns each, by the proved runner (`svcsim seq`)
-# and by the plain twin, in turn, and prints the best processor times and their ratio. Needs rustc and rt.
+# Runs the same images by svcsim and by the plain twins in unproved Rust, in turn, and prints one table of the best times.
+#
+#   bench/run.sh [ROUNDS [SVCSIM]]
+#
+# SVCSIM is the program to be measured; without it the proved one is built by `rt run`. Needs rustc, and rt without SVCSIM.
+# What both print of the tasks is compared with the sequential twin's, in each round.
 set -euo pipefail
 
 rounds=${1:-10}
 root=$(cd "$(dirname "${BASH_SOURCE[0]}")/.." && pwd)
 folder=$(mktemp -d)
 trap 'rm -rf "$folder"' EXIT
-image=$folder/loop.svci
-tasks=400
-proved=$root/crates/svcsim/out/svcsim
-twin=$folder/plain_twin
-
-rustc -O --edition 2024 -o "$twin" "$root/bench/plain_twin.rs"
-(cd "$root/crates/svcsim" && rt run > /dev/null)
-"$twin" make "$image" "$tasks"
-
-# The processor time of a command in milliseconds; its output goes into a file.
-milliseconds() {
-    local output=$1 seconds TIMEFORMAT=%3U
-    shift
-    seconds=$({ time "$@" > "$output"; } 2>&1)
-    echo "$((10#${seconds/./}))"
-}
-
-least() {
-    if [ -z "$1" ] || [ "$2" -lt "$1" ]; then echo "$2"; else echo "$1"; fi
-}
-
-best_proved=
-best_twin=
-for ((round = 0; round < rounds; round++)); do
-    best_proved=$(least "$best_proved" "$(milliseconds "$folder/proved" "$proved" seq "$image" --tasks 1000000)")
-    best_twin=$(least "$best_twin" "$(milliseconds "$folder/twin" "$twin" seq "$image" 1000000)")
-    cmp "$folder/proved" "$folder/twin"
+svcsim=${2:-}
+if [ -z "$svcsim" ]; then
+    svcsim=$root/crates/svcsim/out/svcsim
+    (cd "$root/crates/svcsim" && rt run > /dev/null)
+fi
+svcsim=$(realpath "$svcsim")
+for name in images plain_twin threads_twin; do
+    rustc -O -C codegen-units=1 --edition 2024 -o "$folder/$name" "$root/bench/$name.rs"
+done
+cd "$folder"
+for name in loop apart memory small large; do
+    ./images "$name" "$name.svci"
+    ./plain_twin "$name.svci" 1000000 > "$name.expected"
 done
 
-ratio=$((best_proved * 100 / best_twin))
-echo "proved $best_proved ms, twin $best_twin ms, ratio $((ratio / 100)).$(printf %02d $((ratio % 100)))"
+# Runs a command of a row, its output going to the file `printed`. Its times go to `times` once `amount` is known.
+timed() {
+    local TIMEFORMAT='%R %U %S'
+    { time "$@" > printed || [ $? -eq 2 ]; } 2> spent
+}
+
+# Notes the times of the last command: row, program, amount of what is counted.
+note() {
+    echo "$1 $2 $3 $(cat spent)" >> times
+}
+
+fail() {
+    echo "run.sh: $1" >&2
+    exit 1
+}
+
+# The rows of the tasks alone, and how many events there were.
+tasks_printed() { grep -E '^(out|tasks|exit|trap|full|open),' printed; }
+events_printed() { awk -F, '/^kind-/ { sum += $2 } END { print sum }' printed; }
+
+# The sequential runner: 400 tasks of 50,187 turns.
+race_seq() {
+    timed "$svcsim" seq loop.svci --tasks 1000000
+    cmp printed loop.expected
+    note seq proved 20074800
+    timed ./plain_twin loop.svci 1000000
+    cmp printed loop.expected
+    note seq twin 20074800
+}
+
+# The machine: image, units, row, and what is counted: events or so many tasks.
+race_run() {
+    local image=$1 units=$2 row=$3 tasks=${4:-}
+    timed "$svcsim" run "$image.svci" --units "$units" --events 1000000 --turns 10000000
+    tasks_printed | cmp - "$image.expected"
+    note "$row" proved "${tasks:-$(events_printed)}"
+    timed ./threads_twin run "$image.svci" "$units" 1000000 -
+    tasks_printed | cmp - "$image.expected"
+    note "$row" twin "${tasks:-$(events_printed)}"
+}
+
+# A history of 100,000 entries by one unit, written and checked. One unit leaves no choice, so the traces are the same.
+race_trace() {
+    timed "$svcsim" run memory.svci --units 1 --events 100000 --turns 10000000 --trace proved.csv
+    [ "$(events_printed)" = 100000 ] || fail "svcsim has not written 100,000 entries"
+    note trace proved 100000
+    timed ./threads_twin run memory.svci 1 100000 twin.csv
+    cmp proved.csv twin.csv
+    note trace twin 100000
+    timed "$svcsim" check memory.svci proved.csv --units 1 --events 100000
+    [ "$(cat printed)" = sound,100000 ] || fail "svcsim does not find the trace sound"
+    note check proved 100000
+    timed ./threads_twin check memory.svci 1 100000 proved.csv
+    [ "$(cat printed)" = sound,100000 ] || fail "the twin does not find the trace sound"
+    note check twin 100000
+}
+
+for ((round = 0; round < rounds; round++)); do
+    race_seq
+    for units in 1 2 4; do
+        race_run apart "$units" "apart-$units"
+        race_run memory "$units" "memory-$units"
+    done
+    race_trace
+    race_run small 1 commit-100 150000
+    race_run large 1 commit-65536 150000
+done
+
+# The least times for one of what is counted, and their ratios: below 1 svcsim is the faster one.
+awk -v rounds="$rounds" '
+    function least(key, value) { if (!(key in best) || value < best[key]) best[key] = value }
+    function row(name, text, scale, form,   cells, i, columns) {
+        columns = split("proved,cpu twin,cpu proved,wall twin,wall", keys, " ")
+        cells = ""
+        for (i = 1; i <= columns; i += 2) {
+            split(keys[i], key, ",")
+            a = best[name, "proved", key[2]]; b = best[name, "twin", key[2]]
+            cells = cells sprintf(" " form " | " form " | %5.2f |", value(a, scale), value(b, scale), a / b)
+        }
+        printf "| %-58s |%s\n", text, cells
+    }
+    # A scale below 0 asks for how many there are in a second, in millions.
+    function value(seconds, scale) { return scale < 0 ? 1 / seconds / 1000000 : seconds * scale }
+    { least($1 SUBSEP $2 SUBSEP "wall", $4 / $3); least($1 SUBSEP $2 SUBSEP "cpu", ($5 + $6) / $3) }
+    END {
+        print "Best of " rounds " rounds. Ratios are of times: below 1 svcsim is faster than the twin."
+        print ""
+        printf "| %-58s | svcsim  | twin    | ratio | svcsim  | twin    | ratio |\n", "by processor time, and by wall time"
+        print "|---|---|---|---|---|---|---|"
+        row("seq", "seq, million instructions a second", -1, "%7.2f")
+        for (i = 1; i <= 4; i *= 2)
+            row("apart-" i, "run, long bursts, units: " i ", million events a second", -1, "%7.3f")
+        for (i = 1; i <= 4; i *= 2)
+            row("memory-" i, "run, loads and stores, units: " i ", million events a second", -1, "%7.3f")
+        row("trace", "run --trace, seconds for 100,000 entries", 100000, "%7.3f")
+        row("check", "check, seconds for 100,000 entries", 100000, "%7.3f")
+        row("commit-100", "a task of two accesses over 100 words, ns", 1e9, "%7.0f")
+        row("commit-65536", "the same over 65,536 words, ns", 1e9, "%7.0f")
+        print ""
+        printf "A task over 65,536 words against one over 100, by processor time: svcsim %.2f, twin %.2f\n",
+            best["commit-65536", "proved", "cpu"] / best["commit-100", "proved", "cpu"],
+            best["commit-65536", "twin", "cpu"] / best["commit-100", "twin", "cpu"]
+    }' times

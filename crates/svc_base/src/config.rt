@@ -4,7 +4,7 @@ ghost use Rattle.svc_base.specs.declared.config.TheConstants.{MAX_EVENTS, MAX_SE
 ghost use Rattle.svc_base.specs.Limits.{config_fault, error_number};
 
 /// The greatest number of units of a configuration.
-pub const MAX_UNITS: u32 = 1;
+pub const MAX_UNITS: u32 = 16;
 
 /// The greatest number of sets of a cache.
 pub const MAX_SETS: u32 = 256;

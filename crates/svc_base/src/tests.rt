@@ -9,6 +9,7 @@ fn error_of(units: u32, sets: u32, ways: u32, events: u32, turns: u32) -> Option
 fn the_first_number_out_of_range_is_named(rt: HostRuntime) {
     assert_eq!(rt; error_of(1, 16, 2, 1_000_000, 1_000_000), None);
     assert_eq!(rt; error_of(1, 1, 1, 1, 1), None);
+    assert_eq!(rt; error_of(16, 1, 1, 1, 1), None);
     assert_eq!(rt; error_of(1, 256, 4, 1_000_000, 10_000_000), None);
     assert_eq!(rt; error_of(1, 16, 2, 1_000_001, 1), Some(ConfigError::Events));
     assert_eq!(rt; error_of(1, 3, 2, 1, 1), Some(ConfigError::Sets));

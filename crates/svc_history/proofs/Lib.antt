@@ -1,8 +1,3 @@
-pub mod WordLists
-pub mod Parts
-pub mod Cases
-pub mod Keeps
-pub mod Moves
-pub mod Readings
-pub mod Turns
-pub mod Legality
+mod Small
+mod Recording
+mod Tracing

@@ -1,9 +1,5 @@
-pub mod Words
-pub mod Plain
-pub mod Refusals
-pub mod Replies
-pub mod Steps
-pub mod Entries
-pub mod Asked
+pub mod Recorded
 pub mod Kept
-pub mod History
+pub mod Glances
+pub mod Faults
+pub mod Writing

@@ -1,17 +1,18 @@
-//! The machine of one unit, and the recorder that keeps its history.
+//! The recorder: a machine with the history of its accepted events, which is legal by its type, and the check of another's
+//! trace.
 #![tactic(auto)]
 
-mod bus;
-mod entry;
-mod event;
-mod machine;
-mod recorder;
-mod reply;
+pub mod glance;
+pub mod recorder;
+pub mod same;
+pub mod trace;
+mod writing;
 
-pub use entry::{Entry, Kind, ReplyKind, Slip};
-pub use event::Event;
+pub use glance::Glance;
 pub use recorder::Recorder;
-pub use reply::{Cause, Cut, Reply, What};
+pub use svc_history_laws::{CutKind, Entry, Kind, ReplyKind, ServedKind, Slip};
+pub use svc_machine::{Event, Machine};
+pub use trace::{TraceFault, TraceFaultKind, check_trace};
 
 #[cfg(test)]
 mod tests;

@@ -1,26 +1,24 @@
-// The recorder: a machine, and the history that leads to it.
+ghost use Rattle.std.specs.Prelude.{◌≡◌, ◌<◌, ◌≤◌, ◌++◌, ◌∷◌, [], length, None, Some, IfOk, OnErr, MatchResult};
+ghost use Rattle.svc_base.specs.declared.refusal.Refusal.TheVariants as refusal;
+ghost use Rattle.svc_machine_laws.specs.Standing.{refused, reply_to, after_event};
+ghost use Rattle.svc_machine.specs.Events.{event_of};
+ghost use Rattle.svc_machine.specs.Value.{IsSequentialMachine};
+ghost use Rattle.svc_history_laws.specs.Board.{board};
+ghost use Rattle.svc_history_laws.specs.Entries.{entry_of};
+ghost use Rattle.svc_history.specs.Recorded.{IsCounted, IsLegal, standing_of};
+ghost use Rattle.svc_history.specs.Glances.{IsGlance, is_full_ending};
 
-ghost use Rattle.std.specs.Prelude.{◌≡◌, ◌<◌, ◌++◌, ◌∷◌, [], length, IfOk, OnErr};
-ghost use Rattle.svc_core_laws.specs.Bytes.{word_at};
-ghost use Rattle.svc_core_laws.specs.Sequence.{plain_seq, ending_of};
-ghost use Rattle.svc_core_laws.specs.Turns.{data_words};
-ghost use Rattle.svc_history.specs.Plain.{Plain, opening};
-ghost use Rattle.svc_history.specs.Refusals.{refuse};
-ghost use Rattle.svc_history.specs.Steps.{stepped_by, refusal_of, lease_of, is_full, IsSequential};
-ghost use Rattle.svc_history.specs.Entries.{named, entry_of, telling, IsSmall, IsSound};
-ghost use Rattle.svc_history.specs.History.{IsLegal, commits_in};
-
-use crate::entry::{Entry, Kind, ReplyKind, Slip};
-use crate::event::Event;
-use crate::machine::Machine;
-use crate::reply::What;
+use crate::glance::Glance;
+use crate::writing::{named, telling};
 use std::alloc::Global;
 use std::marker::Model;
-use svc_base::{Config, OpenError, Refusal, UnitId, WordAddr};
-use svc_core::{End, Ending, Lease};
+use svc_base::{Config, OpenError, Refusal, UnitId};
+use svc_core_laws::Ending;
+use svc_history_laws::{Entry, Slip};
 use svc_image::Image;
+use svc_machine::{Event, Machine};
 
-/// A machine with its history. The history is legal, and the machine is where it leads.
+/// A machine with its history. By the type the history is legal, and the machine is where it leads.
 #[derive(Drop)]
 pub struct Recorder {
     machine: Machine,
@@ -28,26 +26,37 @@ pub struct Recorder {
 }
 
 impl Model for Recorder {
-    ghost use Rattle.std.specs.Prelude.{◌≤◌, ◌≡◌, length, vec_capacity};
-    ghost use Rattle.svc_image.specs.Image.{IsImage};
-    ghost use Rattle.svc_history.specs.History.{Recorded, IsLegal};
+    ghost use Rattle.std.specs.Prelude.{◌≤◌, vec_capacity};
+    ghost use Rattle.svc_history.specs.Recorded.{Recorded};
+    ghost use Rattle.svc_history.specs.Kept.{IsKept};
 
     ghost Value = { Recorded };
 
     ghost view = { λ r. record { machine = r.machine; entries = r.entries.items } };
 
-    ghost invariant = { λ r.
-        IsLegal (record { machine = r.machine; entries = r.entries.items })
-        × IsImage r.machine.image
-        × (length r.entries.items ≡ r.machine.plain.accepted)
-        × (r.machine.config.events ≤ vec_capacity r.entries) };
+    ghost invariant = { λ r. IsKept (record { machine = r.machine; entries = r.entries.items }) × (r.machine.config.events ≤ vec_capacity r.entries) };
+}
+
+// The ending is that of a full history.
+fn is_full(ending: Ending) -> bool
+    ensures { result ≡ is_full_ending ending }
+{
+    match ending {
+        Ending::Full(_) => true,
+        _ => false,
+    }
 }
 
 impl Recorder {
     /// A machine before any event. All the room is made that it and its history ever fill.
+    ///
+    /// Errors: [`OpenError::Memory`].
     pub fn open(alloc: Global, image: Image, config: Config) -> Result<Recorder, OpenError>
-        ensures { IfOk result (λ r. r ≡ record { machine = record { image = image; config = config; plain = opening }; entries = [] }) }
+        ensures image { IfOk result (λ r. r.machine.image ≡ image) }
+        ensures config { IfOk result (λ r. r.machine.config ≡ config) }
+        ensures entries { IfOk result (λ r. r.entries ≡ []) }
     {
+        let _start = image.start();
         let machine = Machine::open(alloc, image, config)?;
         let Ok(entries) = Vec::with_capacity(alloc, config.events as usize) else {
             return Err(OpenError::Memory);
@@ -55,106 +64,72 @@ impl Recorder {
         Ok(Recorder { machine, entries })
     }
 
-    /// One event. An accepted one appends exactly one entry, which is that event's with its reply, and a
-    /// refused one changes nothing. No memory is taken.
+    /// One event. An accepted one appends exactly one entry, which is that event's with its reply, and a refused one
+    /// changes nothing. No memory is taken.
     ///
-    /// After it, refused or not, the committed tasks are the first ones of the program's sequential order, as
-    /// many as the history has commits, and committed memory and output are exactly what the plain evaluator
-    /// gives by running those tasks one after another on one flat memory.
+    /// After it, refused or not, the committed tasks are the first ones of the program's sequential order, as many as the
+    /// history has commits, and committed memory and output are exactly what the plain evaluator gives by running those
+    /// tasks one after another on one flat memory.
     pub fn apply(&mut self, event: Event) -> Result<Slip, Refusal>
-        ensures refusal { refusal_of result ≡ refuse self.old.machine.image self.old.machine.config self.old.machine.plain event }
-        ensures slip { IfOk result (λ slip. (slip.index ≡ length self.old.entries)
-            × (slip.entry ≡ entry_of self.old.machine.image self.old.machine.plain event)
-            × (self.new.entries ≡ self.old.entries ++ slip.entry ∷ [])) }
-        ensures state { self.new.machine ≡ stepped_by self.old.machine event }
-        ensures err { OnErr result (self.new ≡ self.old) }
+        ensures refused { MatchResult result (λ _. refused self.old.machine.image self.old.machine.config (standing_of self.old) (event_of event) ≡ None) (λ e. refused self.old.machine.image self.old.machine.config (standing_of self.old) (event_of event) ≡ Some e) }
+        ensures index { IfOk result (λ slip. slip.index ≡ length self.old.entries) }
+        ensures entry { IfOk result (λ slip. slip.entry ≡ entry_of (event_of event) (reply_to self.old.machine.image (standing_of self.old) (event_of event))) }
+        ensures entries { IfOk result (λ slip. self.new.entries ≡ self.old.entries ++ slip.entry ∷ []) }
+        ensures standing { standing_of self.new ≡ after_event self.old.machine.image self.old.machine.config (standing_of self.old) (event_of event) }
+        ensures image { self.new.machine.image ≡ self.old.machine.image }
+        ensures config { self.new.machine.config ≡ self.old.machine.config }
+        ensures unchanged { OnErr result (self.new ≡ self.old) }
         ensures legal { IsLegal self.new }
-        ensures headline { IsSequential (commits_in self.new.entries) self.new.machine }
+        ensures counted { IsCounted self.new }
+        ensures headline { IsSequentialMachine (board self.new.entries).committed self.new.machine }
     {
-        let named = Entry::named(&event);
-        let reply = self.machine.step(&event)?;
-        let entry = named.telling(reply.what);
+        let named = named(&event);
+        let reply = self.machine.step(event)?;
+        let entry = telling(named, &reply);
         let index = self.entries.len();
         let _pushed = self.entries.push(entry);
         Ok(Slip { index, entry })
+    }
+
+    /// The machine where the history leads. Its reads tell what running the committed tasks one after another leaves.
+    pub fn machine(&self) -> &Machine
+        ensures machine { result.now ≡ self.now.machine }
+        ensures legal { IsLegal self.now }
+        ensures headline { IsSequentialMachine (board self.now.entries).committed self.now.machine }
+    {
+        let _entries = &self.entries;
+        &self.machine
     }
 
     /// The history, the oldest entry first.
     pub fn entries(&self) -> &[Entry]
         ensures entries { result.now ≡ self.now.entries }
         ensures legal { IsLegal self.now }
-        ensures headline { IsSequential (commits_in self.now.entries) self.now.machine }
+        ensures counted { IsCounted self.now }
+        ensures headline { IsSequentialMachine (board self.now.entries).committed self.now.machine }
     {
         self.entries.as_slice()
     }
-}
 
-// The reads of the machine. What they answer of committed tasks is what the plain evaluator leaves when it
-// runs those tasks one after another on one flat memory.
-impl Recorder {
-    /// The machine's image.
-    pub fn image(&self) -> &Image
-        ensures { result.now ≡ self.now.machine.image }
+    /// What the unit's thread needs to know for its next event.
+    ///
+    /// Errors: [`Refusal::NoSuchUnit`].
+    pub fn glance(&self, unit: UnitId) -> Result<Glance, Refusal>
+        ensures refused { MatchResult result (λ _. unit.0 < self.now.machine.config.units) (λ e. (e ≡ Refusal.NoSuchUnit) × (self.now.machine.config.units ≤ unit.0)) }
+        ensures glance { IfOk result (IsGlance self.now.machine unit.0) }
+        ensures legal { IsLegal self.now }
     {
-        self.machine.image()
-    }
-
-    /// The machine's configuration.
-    pub fn config(&self) -> Config
-        ensures { result ≡ self.now.machine.config }
-    {
-        self.machine.config()
-    }
-
-    /// How many tasks were committed.
-    pub fn committed_tasks(&self) -> u64
-        ensures tasks { result ≡ self.now.machine.plain.commits }
-        ensures history { result ≡ commits_in self.now.entries }
-    {
-        self.machine.committed_tasks()
-    }
-
-    /// The committed word at an address of the data.
-    pub fn committed_memory(&self, addr: WordAddr) -> u32
-        requires { addr.0 < data_words self.now.machine.image }
-        ensures { result ≡ word_at (plain_seq self.now.machine.image self.now.machine.plain.commits).memory addr.0 }
-    {
-        self.machine.committed_memory(addr)
-    }
-
-    /// The committed output, the oldest word first.
-    pub fn output(&self) -> &[u32]
-        ensures { result.now ≡ (plain_seq self.now.machine.image self.now.machine.plain.commits).output }
-    {
-        self.machine.output()
-    }
-
-    /// The entry of the next task to commit, until a committed task has stopped the run.
-    pub fn due(&self) -> Option<u32>
-        ensures { result ≡ (plain_seq self.now.machine.image self.now.machine.plain.commits).due }
-    {
-        self.machine.due()
-    }
-
-    /// The exit or trap of the committed task that stopped the run.
-    pub fn stopped(&self) -> Option<End>
-        ensures { result ≡ (plain_seq self.now.machine.image self.now.machine.plain.commits).stopped }
-    {
-        self.machine.stopped()
-    }
-
-    /// How the run has ended: by the exit or trap that stopped it, and else it is full where no further event
-    /// is accepted, or open, with the entry that is due.
-    pub fn ending(&self) -> Ending
-        ensures { result ≡ ending_of (is_full self.now.machine) (plain_seq self.now.machine.image self.now.machine.plain.commits).stopped (plain_seq self.now.machine.image self.now.machine.plain.commits).due }
-    {
-        self.machine.ending()
-    }
-
-    /// What a unit may run its task on from, without the machine; none where the unit has no task.
-    pub fn lease(&self, unit: UnitId) -> Option<Lease>
-        ensures { result ≡ lease_of self.now.machine unit.0 }
-    {
-        self.machine.lease(unit)
+        let _entries = &self.entries;
+        let machine = &self.machine;
+        let config = machine.config();
+        if u32::from(unit.0) >= config.units {
+            return Err(Refusal::NoSuchUnit);
+        }
+        Ok(Glance {
+            ended: machine.stopped().is_some() || is_full(machine.ending()),
+            lease: machine.lease(unit),
+            is_head: machine.is_head(unit),
+            guess: machine.guess(),
+        })
     }
 }

@@ -1,352 +1,201 @@
-// One unit's runs of the sample images, event by event, and each refusal. What is expected follows from the
+// Histories of the small sample images, entry by entry, and what is wrong with a trace. What is expected follows from the
 // programs' text by hand.
 
-use crate::{Entry, Event, Kind, Recorder, ReplyKind, Slip};
+use crate::{CutKind, Entry, Event, Kind, Recorder, ReplyKind, ServedKind, Slip};
 use std::alloc::Global;
+use std::process::Abort;
 use std::test::Fail;
 use svc_base::{Config, Refusal, UnitId, WordAddr};
-use svc_core::{End, Ending, Lease};
 use svc_image::Image;
-use svc_image::samples::{P, P1};
+use svc_image::samples::{P, R};
 
-const UNIT: UnitId = UnitId(0);
+mod events;
+mod glances;
+mod memory;
+mod traces;
 
-// A recorder of one unit over the image of these bytes.
+// A line of a script: a submission advances the unit's lease by so many turns.
+#[derive(Clone, Copy, Debug)]
+enum Line {
+    Assign(u8, u32),
+    Submit(u8, u32),
+    Replace(u8),
+    Cancel(u8),
+    Commit(u8),
+}
+
+// The answer to a line.
+type Answer = Result<Entry, Refusal>;
+
+// The ten events after which both tasks of the sample are committed: the second one loads too early, and is squashed.
+const TEN: [Line; 10] = [
+    Line::Assign(0, 0),
+    Line::Assign(1, 12),
+    Line::Submit(1, 63),
+    Line::Submit(0, 63),
+    Line::Commit(0),
+    Line::Assign(1, 0),
+    Line::Submit(1, 63),
+    Line::Submit(1, 63),
+    Line::Submit(1, 63),
+    Line::Commit(1),
+];
+
+// An entry without fields but these.
+const fn entry(kind: Kind, unit: u8, reply: ReplyKind) -> Entry {
+    Entry {
+        kind,
+        unit: UnitId(unit),
+        arg: None,
+        local: None,
+        ask: None,
+        reply,
+        addr: None,
+        word: None,
+        served: None,
+        from: None,
+        cause: None,
+        first: None,
+        squashed: None,
+    }
+}
+
+fn assigned(unit: u8, guess: u32, begins: u32) -> Entry {
+    Entry {
+        arg: Some(guess),
+        word: Some(begins),
+        ..entry(Kind::Assign, unit, ReplyKind::Assigned)
+    }
+}
+
+fn ran(unit: u8, local: u8) -> Entry {
+    Entry {
+        local: Some(local),
+        ask: Some(false),
+        ..entry(Kind::Submit, unit, ReplyKind::Ran)
+    }
+}
+
+fn emitted(unit: u8, local: u8, word: u32) -> Entry {
+    Entry {
+        local: Some(local),
+        ask: Some(true),
+        word: Some(word),
+        ..entry(Kind::Submit, unit, ReplyKind::Emitted)
+    }
+}
+
+fn loaded(unit: u8, word: u32, served: ServedKind, from: Option<u8>) -> Entry {
+    Entry {
+        local: Some(1),
+        ask: Some(true),
+        addr: Some(WordAddr(0)),
+        word: Some(word),
+        served: Some(served),
+        from: from.map(UnitId),
+        ..entry(Kind::Submit, unit, ReplyKind::Loaded)
+    }
+}
+
+fn stored(unit: u8, served: Option<ServedKind>) -> Entry {
+    Entry {
+        local: Some(2),
+        ask: Some(true),
+        addr: Some(WordAddr(0)),
+        word: Some(5),
+        served,
+        ..entry(Kind::Submit, unit, ReplyKind::Stored)
+    }
+}
+
+fn replaced(unit: u8) -> Entry {
+    Entry {
+        arg: Some(0),
+        addr: Some(WordAddr(0)),
+        ..entry(Kind::Replace, unit, ReplyKind::Replaced)
+    }
+}
+
+fn committed(unit: u8, task: u32) -> Entry {
+    Entry {
+        word: Some(task),
+        ..entry(Kind::Commit, unit, ReplyKind::Committed)
+    }
+}
+
+// The entry, with so many tasks cut from this one on.
+fn cutting(entry: Entry, cause: CutKind, first: u32, squashed: u32) -> Entry {
+    Entry {
+        cause: Some(cause),
+        first: Some(first),
+        squashed: Some(squashed),
+        ..entry
+    }
+}
+
+// The entries of the ten events.
+fn ten_entries() -> [Entry; 10] {
+    [
+        assigned(0, 0, 0),
+        assigned(1, 12, 12),
+        loaded(1, 0, ServedKind::Memory, None),
+        cutting(stored(0, None), CutKind::Violation, 1, 1),
+        committed(0, 0),
+        assigned(1, 0, 12),
+        loaded(1, 5, ServedKind::Committed, Some(0)),
+        emitted(1, 1, 5),
+        ran(1, 2),
+        committed(1, 1),
+    ]
+}
+
+fn four_units(events: u32) -> Result<Config, Fail> {
+    Ok(Config::new(4, 16, 2, events, 1)?)
+}
+
+// A recorder of four units on the image of these bytes.
 fn opened(alloc: Global, bytes: &[u8], events: u32) -> Result<Recorder, Fail> {
     let image = Image::read(alloc, bytes)?;
-    let config = Config::new(1, 16, 2, events, 1)?;
-    Ok(Recorder::open(alloc, image, config)?)
+    Ok(Recorder::open(alloc, image, four_units(events)?)?)
 }
 
-// The entry of an assignment.
-fn assigned(guess: u32, entry: u32) -> Entry {
-    Entry {
-        kind: Kind::Assign,
-        unit: UNIT,
-        arg: Some(guess),
-        local: None,
-        ask: None,
-        reply: ReplyKind::Assigned,
-        addr: None,
-        word: Some(entry),
-    }
-}
-
-// The entry of a submission.
-fn submitted(local: u8, reply: ReplyKind, addr: Option<u32>, word: Option<u32>) -> Entry {
-    Entry {
-        kind: Kind::Submit,
-        unit: UNIT,
-        arg: None,
-        local: Some(local),
-        ask: Some(word.is_some()),
-        reply,
-        addr: addr.map(WordAddr),
-        word,
-    }
-}
-
-// The entry of a commit.
-fn committed(task: u32) -> Entry {
-    Entry {
-        kind: Kind::Commit,
-        unit: UNIT,
-        arg: None,
-        local: None,
-        ask: None,
-        reply: ReplyKind::Committed,
-        addr: None,
-        word: Some(task),
-    }
-}
-
-fn assign(recorder: &mut Recorder, guess: u32) -> Result<Slip, Refusal> {
-    recorder.apply(Event::Assign { unit: UNIT, guess })
-}
-
-fn commit(recorder: &mut Recorder) -> Result<Slip, Refusal> {
-    recorder.apply(Event::Commit { by: UNIT })
-}
-
-// Advances the unit's lease by so many turns, and submits the burst.
-fn submit(recorder: &mut Recorder, max: u32) -> Result<Slip, Refusal> {
-    let Some(lease) = recorder.lease(UNIT) else {
-        return Err(Refusal::Idle);
-    };
-    let burst = lease.advance(recorder.image(), max);
-    recorder.apply(Event::Submit { burst })
-}
-
-fn entry(answer: Result<Slip, Refusal>) -> Result<Entry, Refusal> {
-    Ok(answer?.entry)
-}
-
-#[test]
-fn one_task_runs_to_its_exit(rt: HostRuntime) -> Result<(), Fail> {
-    let mut recorder = opened(rt.alloc(), &P1, 100)?;
-    assert_eq!(rt; entry(assign(&mut recorder, 4)), Ok(assigned(4, 0)));
-    assert_eq!(rt;
-        entry(submit(&mut recorder, 63)),
-        Ok(submitted(2, ReplyKind::Stored, Some(0), Some(5)))
-    );
-    assert_eq!(rt;
-        entry(submit(&mut recorder, 63)),
-        Ok(submitted(1, ReplyKind::Loaded, Some(0), Some(5)))
-    );
-    assert_eq!(rt;
-        entry(submit(&mut recorder, 63)),
-        Ok(submitted(1, ReplyKind::Emitted, None, Some(5)))
-    );
-    assert_eq!(rt;
-        entry(submit(&mut recorder, 63)),
-        Ok(submitted(2, ReplyKind::Ran, None, None))
-    );
-    assert_eq!(rt; recorder.output().len(), 0);
-    assert_eq!(rt; recorder.ending(), Ending::Open(0));
-    let slip = commit(&mut recorder)?;
-    assert_eq!(rt;
-        slip,
-        Slip {
-            index: 5,
-            entry: committed(0)
+// The event of a line; a line without a lease is refused as that of an idle unit.
+fn event(recorder: &Recorder, line: Line) -> Result<Event, Refusal> {
+    Ok(match line {
+        Line::Assign(unit, guess) => Event::Assign {
+            unit: UnitId(unit),
+            guess,
+        },
+        Line::Submit(unit, max) => {
+            let machine = recorder.machine();
+            let Some(lease) = machine.lease(UnitId(unit)) else {
+                return Err(Refusal::Idle);
+            };
+            Event::Submit {
+                burst: lease.advance(machine.image(), max),
+            }
         }
-    );
-    assert_eq!(rt; recorder.output(), [5].as_slice());
-    assert_eq!(rt; recorder.committed_tasks(), 1);
-    assert_eq!(rt; recorder.due(), None);
-    assert_eq!(rt; recorder.stopped(), Some(End::Exit(5)));
-    assert_eq!(rt; recorder.ending(), Ending::Exit(5));
-    assert_eq!(rt; recorder.entries().len(), 6);
-    let _words = recorder.image().data_words();
-    assert_eq!(rt; recorder.committed_memory(WordAddr(0)), 5);
-    Ok(())
+        Line::Replace(unit) => Event::Replace {
+            unit: UnitId(unit),
+            addr: WordAddr(0),
+        },
+        Line::Cancel(unit) => Event::Cancel { unit: UnitId(unit) },
+        Line::Commit(by) => Event::Commit { by: UnitId(by) },
+    })
 }
 
-// Nothing of a task is committed before it is.
-#[test]
-fn a_store_waits_for_its_commit(rt: HostRuntime) -> Result<(), Fail> {
-    let mut recorder = opened(rt.alloc(), &P, 100)?;
-    assign(&mut recorder, 0)?;
-    submit(&mut recorder, 63)?;
-    let _words = recorder.image().data_words();
-    assert_eq!(rt; recorder.committed_memory(WordAddr(0)), 0);
-    commit(&mut recorder)?;
-    let _words = recorder.image().data_words();
-    assert_eq!(rt; recorder.committed_memory(WordAddr(0)), 5);
-    assert_eq!(rt; recorder.ending(), Ending::Open(12));
-    Ok(())
+fn play(recorder: &mut Recorder, line: Line) -> Result<Slip, Refusal> {
+    let event = event(recorder, line)?;
+    recorder.apply(event)
 }
 
-// The second task begins where the first one ended, whatever the guess.
-#[test]
-fn two_tasks_run_one_after_another(rt: HostRuntime) -> Result<(), Fail> {
-    let mut recorder = opened(rt.alloc(), &P, 100)?;
-    assign(&mut recorder, 0)?;
-    assert_eq!(rt;
-        entry(submit(&mut recorder, 63)),
-        Ok(submitted(2, ReplyKind::Stored, Some(0), Some(5)))
-    );
-    assert_eq!(rt; entry(commit(&mut recorder)), Ok(committed(0)));
-    assert_eq!(rt; recorder.due(), Some(12));
-    assert_eq!(rt; entry(assign(&mut recorder, 0)), Ok(assigned(0, 12)));
-    assert_eq!(rt;
-        entry(submit(&mut recorder, 63)),
-        Ok(submitted(1, ReplyKind::Loaded, Some(0), Some(5)))
-    );
-    submit(&mut recorder, 63)?;
-    submit(&mut recorder, 63)?;
-    assert_eq!(rt; entry(commit(&mut recorder)), Ok(committed(1)));
-    assert_eq!(rt; recorder.output(), [5].as_slice());
-    assert_eq!(rt; recorder.ending(), Ending::Exit(5));
-    Ok(())
-}
-
-// Eight turns are one too few for the task, which keeps what it put out before.
-#[test]
-fn a_task_traps_at_its_limit(rt: HostRuntime) -> Result<(), Fail> {
-    let mut bytes = P1;
-    bytes[16] = 8;
-    let mut recorder = opened(rt.alloc(), &bytes, 100)?;
-    assign(&mut recorder, 0)?;
-    for _submission in 0..3 {
-        submit(&mut recorder, 63)?;
+// Plays each line, and compares its entry.
+fn expect(rt: &impl Abort, recorder: &mut Recorder, script: &[(Line, Answer)]) {
+    for (line, want) in script {
+        let got = match play(recorder, *line) {
+            Ok(slip) => Ok(slip.entry),
+            Err(refusal) => Err(refusal),
+        };
+        assert_eq!(rt; got, *want);
     }
-    assert_eq!(rt;
-        entry(submit(&mut recorder, 63)),
-        Ok(submitted(2, ReplyKind::Ran, None, None))
-    );
-    commit(&mut recorder)?;
-    assert_eq!(rt; recorder.output(), [5].as_slice());
-    assert_eq!(rt; recorder.committed_tasks(), 1);
-    assert_eq!(rt; recorder.ending(), Ending::Trap(1));
-    Ok(())
-}
-
-// The store goes to 2 bytes past the data's start, which no word's store may.
-#[test]
-fn an_asked_turn_traps(rt: HostRuntime) -> Result<(), Fail> {
-    let mut bytes = P1;
-    bytes[161] = 0xa1;
-    let mut recorder = opened(rt.alloc(), &bytes, 100)?;
-    assign(&mut recorder, 0)?;
-    assert_eq!(rt;
-        entry(submit(&mut recorder, 63)),
-        Ok(submitted(2, ReplyKind::Trapped, None, Some(5)))
-    );
-    commit(&mut recorder)?;
-    assert_eq!(rt; recorder.ending(), Ending::Trap(5));
-    Ok(())
-}
-
-#[test]
-fn a_full_history_takes_no_event(rt: HostRuntime) -> Result<(), Fail> {
-    let mut recorder = opened(rt.alloc(), &P1, 2)?;
-    assign(&mut recorder, 0)?;
-    submit(&mut recorder, 63)?;
-    assert_eq!(rt; entry(submit(&mut recorder, 63)), Err(Refusal::HistoryFull));
-    assert_eq!(rt; recorder.committed_tasks(), 0);
-    assert_eq!(rt; recorder.ending(), Ending::Full(0));
-    let mut recorder = opened(rt.alloc(), &P1, 1)?;
-    assign(&mut recorder, 0)?;
-    assert_eq!(rt; entry(submit(&mut recorder, 63)), Err(Refusal::HistoryFull));
-    assert_eq!(rt; recorder.entries().len(), 1);
-    Ok(())
-}
-
-#[test]
-fn units_and_tasks_are_refused(rt: HostRuntime) -> Result<(), Fail> {
-    let mut recorder = opened(rt.alloc(), &P1, 100)?;
-    let other = UnitId(1);
-    assert_eq!(rt;
-        entry(recorder.apply(Event::Assign {
-            unit: other,
-            guess: 0
-        })),
-        Err(Refusal::NoSuchUnit)
-    );
-    assert_eq!(rt;
-        entry(recorder.apply(Event::Commit { by: other })),
-        Err(Refusal::NoSuchUnit)
-    );
-    assert_eq!(rt; recorder.lease(UNIT), None);
-    assert_eq!(rt; entry(commit(&mut recorder)), Err(Refusal::NoTask));
-    assign(&mut recorder, 0)?;
-    assert_eq!(rt; recorder.lease(other), None);
-    assert_eq!(rt; entry(assign(&mut recorder, 0)), Err(Refusal::Busy));
-    assert_eq!(rt; entry(commit(&mut recorder)), Err(Refusal::HeadNotDone));
-    assert_eq!(rt; entry(submit(&mut recorder, 0)), Err(Refusal::EmptyBurst));
-    assert_eq!(rt; recorder.entries().len(), 1);
-    Ok(())
-}
-
-#[test]
-fn a_run_that_stopped_takes_no_task(rt: HostRuntime) -> Result<(), Fail> {
-    let mut recorder = opened(rt.alloc(), &P1, 100)?;
-    assign(&mut recorder, 0)?;
-    for _submission in 0..4 {
-        submit(&mut recorder, 63)?;
-    }
-    assert_eq!(rt; entry(submit(&mut recorder, 63)), Err(Refusal::Done));
-    commit(&mut recorder)?;
-    assert_eq!(rt; entry(assign(&mut recorder, 0)), Err(Refusal::Stopped));
-    assert_eq!(rt; entry(commit(&mut recorder)), Err(Refusal::Stopped));
-    assert_eq!(rt; entry(submit(&mut recorder, 63)), Err(Refusal::Idle));
-    Ok(())
-}
-
-// The lease of a unit's task, or one that no machine gave.
-fn lease_of(recorder: &Recorder) -> Result<Lease, Refusal> {
-    match recorder.lease(UNIT) {
-        Some(lease) => Ok(lease),
-        None => Err(Refusal::Idle),
-    }
-}
-
-#[test]
-fn a_burst_is_taken_once(rt: HostRuntime) -> Result<(), Fail> {
-    let mut recorder = opened(rt.alloc(), &P1, 100)?;
-    assign(&mut recorder, 0)?;
-    let lease = lease_of(&recorder)?;
-    let event = Event::Submit {
-        burst: lease.advance(recorder.image(), 63),
-    };
-    let again = event.copy();
-    let late = event.copy();
-    recorder.apply(event)?;
-    assert_eq!(rt; entry(recorder.apply(again)), Err(Refusal::Stale));
-    for _submission in 0..3 {
-        submit(&mut recorder, 63)?;
-    }
-    commit(&mut recorder)?;
-    assert_eq!(rt; entry(recorder.apply(late)), Err(Refusal::Idle));
-    Ok(())
-}
-
-// A burst of the task before is not of the unit's new one.
-#[test]
-fn an_old_burst_is_stale(rt: HostRuntime) -> Result<(), Fail> {
-    let mut recorder = opened(rt.alloc(), &P, 100)?;
-    assign(&mut recorder, 0)?;
-    let lease = lease_of(&recorder)?;
-    let burst = lease.advance(recorder.image(), 63);
-    submit(&mut recorder, 63)?;
-    commit(&mut recorder)?;
-    assign(&mut recorder, 12)?;
-    assert_eq!(rt;
-        entry(recorder.apply(Event::Submit { burst })),
-        Err(Refusal::Stale)
-    );
-    assert_eq!(rt;
-        entry(submit(&mut recorder, 63)),
-        Ok(submitted(1, ReplyKind::Loaded, Some(0), Some(5)))
-    );
-    Ok(())
-}
-
-#[test]
-fn a_burst_of_other_text_is_foreign(rt: HostRuntime) -> Result<(), Fail> {
-    let mut bytes = P;
-    bytes[162] = 0x60;
-    let other = Image::read(rt.alloc(), &bytes)?;
-    let mut recorder = opened(rt.alloc(), &P, 100)?;
-    assign(&mut recorder, 0)?;
-    let burst = lease_of(&recorder)?.advance(&other, 63);
-    assert_eq!(rt;
-        entry(recorder.apply(Event::Submit { burst })),
-        Err(Refusal::ForeignText)
-    );
-    assert_eq!(rt;
-        entry(submit(&mut recorder, 63)),
-        Ok(submitted(2, ReplyKind::Stored, Some(0), Some(5)))
-    );
-    Ok(())
-}
-
-// Another machine of the same image has the same unit, epoch and start core.
-#[test]
-fn a_burst_of_an_equal_machine_is_taken(rt: HostRuntime) -> Result<(), Fail> {
-    let mut one = opened(rt.alloc(), &P1, 100)?;
-    let mut other = opened(rt.alloc(), &P1, 100)?;
-    assign(&mut one, 0)?;
-    assign(&mut other, 0)?;
-    let burst = lease_of(&one)?.advance(one.image(), 63);
-    assert_eq!(rt;
-        entry(other.apply(Event::Submit { burst })),
-        Ok(submitted(2, ReplyKind::Stored, Some(0), Some(5)))
-    );
-    Ok(())
-}
-
-// A burst of another unit's lease.
-#[test]
-fn a_burst_of_no_unit_is_refused(rt: HostRuntime) -> Result<(), Fail> {
-    let mut recorder = opened(rt.alloc(), &P1, 100)?;
-    assign(&mut recorder, 0)?;
-    let lease = lease_of(&recorder)?;
-    let burst = Lease::new(UnitId(1), lease.epoch, lease.core).advance(recorder.image(), 63);
-    assert_eq!(rt;
-        entry(recorder.apply(Event::Submit { burst })),
-        Err(Refusal::NoSuchUnit)
-    );
-    Ok(())
 }

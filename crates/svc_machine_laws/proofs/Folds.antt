@@ -59,7 +59,7 @@ module _ (img : Image) (given : Given img) (config : Config) where
   commit_one s [] x h = absurd (none-some x h)
   commit_one s (t ∷ ts) x h = refl
 
-  step_commits : (s : Standing) (x : Event) → refused img config s x ≡ None → (stepped img s x).plain.commits ≡ is_commit x + s.plain.commits
+  pub step_commits : (s : Standing) (x : Event) → refused img config s x ≡ None → (stepped img s x).plain.commits ≡ is_commit x + s.plain.commits
   unfolding stepped plain_event
   step_commits s (Assign unit guess) h = sym (zero-add s.plain.commits)
   step_commits s (Submit b) h = let can = can_submit img config s b h in ap (λ o. (plain_submit img s.plain o b).commits) can.at ∙ sym (zero-add s.plain.commits)

@@ -1,3 +1,4 @@
-pub mod ReportLaws
-pub mod RowTexts
-pub mod TurnLaws
+pub mod Doing
+pub mod Playing
+pub mod Reported
+pub mod Scripted

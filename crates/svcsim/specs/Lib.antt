@@ -1,5 +1,4 @@
-pub mod Report
+pub mod Faults
 pub mod Requests
-pub mod Rows
-pub mod Summary
-pub mod Turns
+pub mod Runs
+pub mod Scripts

@@ -1,47 +1,79 @@
 -- What it means to do what a command line asks for.
-use Rattle.std.specs.Prelude.{◌≡◌, ◌≤◌, ◌↔◌, ⊤, ℕ, false, List, Option, IfSome}
+use Rattle.std.specs.Prelude.{◌≡◌, ◌≤◌, ◌↔◌, ⊤, ℕ, false, List, Option, Some, None, IfSome}
+use Rattle.std.specs.List.{AllByRecursion}
 use Rattle.svc_image.specs.Image.{Image}
 use Rattle.svc_image.specs.Format.{file_of}
 use Rattle.svc_image.specs.declared.samples.TheConstants.{P1}
 use Rattle.svc_base.specs.declared.config.Config.{Config}
 use Rattle.svc_plain.specs.Tasks.{tasks_run}
-use Rattle.svc_history.specs.Plain.{Shown, opening}
-use Rattle.svc_history.specs.Steps.{is_full}
+use Rattle.svc_history_laws.specs.declared.entry.Entry.{Entry}
+use Rattle.svc_history.specs.Recorded.{Recorded}
+use Rattle.svc_report.specs.declared.script.Step.{Step}
+use Rattle.svc_report.specs.Records.{IsText}
+use Rattle.svc_report.specs.Script.{HasStepRow, script_records}
+use Rattle.svc_report.specs.Trace.{HasRow, text_of, trace_records}
 use Rattle.svcsim.specs.declared.request.Source.{Source}
 use Rattle.svcsim.specs.declared.request.Source.TheVariants as source
 use Rattle.svcsim.specs.declared.request.Request.{Request}
 use Rattle.svcsim.specs.declared.request.Request.TheVariants as request
-use Rattle.svcsim.specs.Report.{Reports}
-use Rattle.svcsim.specs.Turns.{TakesTurns}
+use Rattle.svcsim.specs.declared.faults.Fault.{Fault}
+use Rattle.svcsim.specs.declared.faults.Fault.TheVariants as fault
+use Rattle.svcsim.specs.Runs.{FindsSound, IsRunOf, Reports, ReportsOn}
+use Rattle.svcsim.specs.Scripts.{PlaysScript}
 
 -- the image is the built-in one, or that of the named file, where it is known what that holds
 abbrev pub IsOfSource : (List ℕ → Option (List ℕ)) → Source → Image → Type 0
 IsOfSource held source.BuiltIn img = file_of img ≡ P1
 IsOfSource held (source.File name) img = IfSome (held name.now) (λ bytes. file_of img ≡ bytes)
 
+-- the steps are those of the named script, where it is known what that holds
+pub record IsScriptIn (held : List ℕ → Option (List ℕ)) (name : List ℕ) (steps : List Step) : Type 0 where
+  pub rows : AllByRecursion HasStepRow steps
+  pub text : IfSome (held name) (λ text. IsText text (script_records steps))
+
+-- the entries are those of the named trace, where it is known what that holds
+pub record IsTraceIn (held : List ℕ → Option (List ℕ)) (name : List ℕ) (es : List Entry) : Type 0 where
+  pub rows : AllByRecursion HasRow es
+  pub text : IfSome (held name) (λ text. IsText text (trace_records es))
+
+-- the named file, where it is known what it holds, is the text of this history
+abbrev pub SavesTrace : (List ℕ → Option (List ℕ)) → List ℕ → List Entry → Type 0
+SavesTrace held name es = IfSome (held name) (λ text. text ≡ text_of es)
+
 -- to run the built-in image
 abbrev pub IsBuiltInRun : Request → Type 0
 IsBuiltInRun (request.Help text) = ⊥
-IsBuiltInRun (request.Run source.BuiltIn config) = ⊤
-IsBuiltInRun (request.Run (source.File name) config) = ⊥
+IsBuiltInRun (request.Run source.BuiltIn config trace) = ⊤
+IsBuiltInRun (request.Run (source.File name) config trace) = ⊥
 IsBuiltInRun (request.Sequential from asked) = ⊥
+IsBuiltInRun (request.Script from config events) = ⊥
+IsBuiltInRun (request.Check from config trace) = ⊥
 
 -- what a line of so many words, the program's name among them, may ask for: the run of the built-in image, exactly where there is no other word. What other words ask for is the parser's to say
 abbrev pub MayAsk : ℕ → Request → Type 0
 MayAsk count asked = IsBuiltInRun asked ↔ (count ≤ 1)
 
--- a run of an image by one unit: the configured turns lead to this machine
-pub record RunsTo (img : Image) (config : Config) (m : Shown) : Type 0 where
-  pub image : m.image ≡ img
-  pub turns : TakesTurns config.turns (record { image = img; config = config; plain = opening }) m
+-- the request was done with this exit status, over files that held these bytes and hold those now, by a writer that held the one text and holds the other
+abbrev pub Does : Request → (held saved : List ℕ → Option (List ℕ)) → (old new : Option (List ℕ)) → ℕ → Type 0
+Does (request.Help text) held saved old new exit = exit ≡ 0
+Does (request.Run from config trace) held saved old new exit =
+    (img : Image) × IsOfSource held from img × (r : Recorded) × IsRunOf img config r × IfSome trace (λ name. SavesTrace saved name.now r.entries) × ReportsOn r old new exit
+Does (request.Sequential from k) held saved old new exit = (img : Image) × IsOfSource held from img × Reports img k (tasks_run img k) false None old new exit
+Does (request.Script from config events) held saved old new exit =
+    (img : Image) × IsOfSource held from img × (steps : List Step) × IsScriptIn held events.now steps × PlaysScript img config steps old new exit
+Does (request.Check from config trace) held saved old new exit =
+    (img : Image) × IsOfSource held from img × (es : List Entry) × IsTraceIn held trace.now es × FindsSound img config es old new exit
 
--- the report of a machine is that of its committed tasks
-abbrev pub ReportsOn : Shown → Option (List ℕ) → Option (List ℕ) → ℕ → Type 0
-ReportsOn m old new exit = Reports m.image m.plain.commits m.plain.commits (is_full m) old new exit
+-- there is the image that is asked for
+abbrev pub HasImage : Request → (held : List ℕ → Option (List ℕ)) → Type 0
+HasImage (request.Help text) held = ⊤
+HasImage (request.Run from config trace) held = (img : Image) × IsOfSource held from img
+HasImage (request.Sequential from k) held = (img : Image) × IsOfSource held from img
+HasImage (request.Script from config events) held = (img : Image) × IsOfSource held from img
+HasImage (request.Check from config trace) held = (img : Image) × IsOfSource held from img
 
--- the request was done with this exit status, over files that hold these bytes, by a writer that held the one text and holds the other
-abbrev pub Does : Request → (List ℕ → Option (List ℕ)) → Option (List ℕ) → Option (List ℕ) → ℕ → Type 0
-Does (request.Help text) held old new exit = exit ≡ 0
-Does (request.Run from config) held old new exit =
-    (img : Image) × IsOfSource held from img × ((m : Shown) × RunsTo img config m × ReportsOn m old new exit)
-Does (request.Sequential from k) held old new exit = (img : Image) × IsOfSource held from img × Reports img k (tasks_run img k) false old new exit
+-- a fault of the image's file
+abbrev pub IsEarly : Fault → Type 0
+IsEarly (fault.Image e) = ⊤
+IsEarly fault.File = ⊤
+IsEarly _ = ⊥

@@ -1,14 +1,15 @@
 //! `svcsim`: the command line over the simulator.
 #![tactic(auto)]
 
+mod check;
 mod command;
 mod disk;
 mod execute;
 mod faults;
 mod files;
 mod request;
-mod rows;
 mod run;
+mod script;
 mod sequential;
 mod summary;
 
@@ -21,6 +22,7 @@ fn main(rt: HostRuntime) -> ExitCode {
     let mut err = rt.stderr();
     let status = match words_of(&rt) {
         Ok(words) => execute(
+            &rt,
             rt.alloc(),
             &words,
             &mut Disk { rt: &rt },

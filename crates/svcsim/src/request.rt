@@ -18,15 +18,34 @@ pub enum Source<'a> {
     File(&'a str),
 }
 
-/// What a command line asks for.
+/// What a command line asks for. Files are known by their names.
 #[derive(Drop)]
 pub enum Request<'a> {
     /// To print this text: the help.
     Help(clap::Error),
-    /// To run an image on a machine of this configuration.
-    Run { image: Source<'a>, config: Config },
+    /// To run an image on a machine of this configuration, and to save its trace where a file is named for it.
+    Run {
+        image: Source<'a>,
+        config: Config,
+        trace: Option<&'a str>,
+    },
     /// To run this many tasks of an image in order, on one flat memory.
-    Sequential { image: Source<'a>, tasks: u32 },
+    Sequential {
+        image: Source<'a>,
+        tasks: u32,
+    },
+    /// To apply a script's events to a machine of this configuration.
+    Script {
+        image: Source<'a>,
+        config: Config,
+        events: &'a str,
+    },
+    /// To replay a trace on a machine of this configuration.
+    Check {
+        image: Source<'a>,
+        config: Config,
+        trace: &'a str,
+    },
 }
 
 /// What these words ask for, of which the first is the program's name. A mistake in the words is told
@@ -51,6 +70,7 @@ fn built_in<'a>() -> Result<Request<'a>, Fault>
     Ok(Request::Run {
         image: Source::BuiltIn,
         config: Config::new(1, 16, 2, 100_000, 1_000_000)?,
+        trace: None,
     })
 }
 
@@ -62,10 +82,21 @@ fn asked<'a>(matches: &ArgMatches<'a>) -> Result<Request<'a>, Fault>
         Some(("run", given)) => Ok(Request::Run {
             image: image(given)?,
             config: configuration(given)?,
+            trace: given.get_str("trace"),
         }),
         Some(("seq", given)) => Ok(Request::Sequential {
             image: image(given)?,
             tasks: number(given, "tasks")?,
+        }),
+        Some(("script", given)) => Ok(Request::Script {
+            image: image(given)?,
+            config: configuration(given)?,
+            events: given.get_str("EVENTS").ok_or(Fault::File)?,
+        }),
+        Some(("check", given)) => Ok(Request::Check {
+            image: image(given)?,
+            config: configuration(given)?,
+            trace: given.get_str("TRACE").ok_or(Fault::File)?,
         }),
         // The parser reads no other subcommand, and no line without one.
         _ => Err(Fault::File),

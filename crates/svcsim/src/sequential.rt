@@ -1,8 +1,9 @@
 //! `seq`: tasks of an image, one after another.
 
-ghost use Rattle.std.specs.Prelude.{◌≡◌, ◌⊎◌, false, IfOk, IfErr};
+ghost use Rattle.std.specs.Prelude.{◌≡◌, ◌⊎◌, false, None, IfOk, IfErr};
 ghost use Rattle.svc_plain.specs.Tasks.{tasks_run};
-ghost use Rattle.svcsim.specs.Report.{Reports};
+ghost use Rattle.svcsim.specs.Faults.{IsReportFault};
+ghost use Rattle.svcsim.specs.Runs.{Reports};
 
 use crate::faults::Fault;
 use crate::summary::print;
@@ -18,9 +19,16 @@ pub fn sequential<O: Write>(
     tasks: u32,
     out: &mut O,
 ) -> Result<u8, Fault>
-    ensures report { IfOk result (Reports image.now tasks (tasks_run image.now tasks) false (O.contents out.old) (O.contents out.new)) }
-    ensures silent { IfErr result (λ fault. (fault ≡ Fault.File) ⊎ (out.new ≡ out.old)) }
+    ensures report { IfOk result (Reports image.now tasks (tasks_run image.now tasks) false None (O.contents out.old) (O.contents out.new)) }
+    ensures silent { IfErr result (λ fault. IsReportFault fault ⊎ (out.new ≡ out.old)) }
 {
     let outcome = run_tasks(alloc, image, u64::from(tasks))?;
-    print(alloc, &outcome.output, outcome.tasks, outcome.ending, out)
+    print(
+        alloc,
+        &outcome.output,
+        outcome.tasks,
+        outcome.ending,
+        None,
+        out,
+    )
 }

@@ -1,35 +1,56 @@
 //! The summary of a run.
 
-ghost use Rattle.std.specs.Prelude.{◌≡◌, OnOk, IfOk, IfErr};
+ghost use Rattle.std.specs.Prelude.{◌≡◌, ◌⊎◌, OnOk, IfOk, IfErr, Some};
 ghost use Rattle.std.specs.Io.KnownBytes.{Appends};
-ghost use Rattle.csv.specs.Writing.{text_written};
-ghost use Rattle.svcsim.specs.Rows.{IsBetweenRows};
-ghost use Rattle.svcsim.specs.Summary.{ending_row, status_of, summary_of};
+ghost use Rattle.svc_report.specs.Summary.{summary_of};
+ghost use Rattle.svcsim.specs.Faults.{IsReportFault};
+ghost use Rattle.svcsim.specs.Runs.{ReportsOn, status_of};
 
 use crate::faults::Fault;
-use crate::rows::write_row;
-use csv::{Error, Writer, WriterBuilder};
-use std::alloc::{AllocError, Global};
+use std::alloc::Global;
 use std::io::Write;
 use svc_core::Ending;
+use svc_history::Recorder;
+use svc_report::{Counts, write_summary};
 
-/// Prints the summary of a run, all at once: the words put out, how many tasks were run or committed, and
-/// the ending. It answers the exit status.
+/// Prints the summary of a run: the words put out, how many tasks were run or committed, the ending, and the counts where
+/// they are given. It answers the exit status.
 pub fn print<O: Write>(
     alloc: Global,
     output: &[u32],
     tasks: u64,
     ending: Ending,
+    counts: Option<Counts>,
     out: &mut O,
 ) -> Result<u8, Fault>
     ensures status { IfOk result (λ status. status ≡ status_of ending) }
-    ensures fault { IfErr result (λ fault. fault ≡ Fault.File) }
-    ensures text { OnOk result (Appends (O.contents out.old) (O.contents out.new) (summary_of output.now tasks ending)) }
+    ensures fault { IfErr result IsReportFault }
+    ensures text { OnOk result (Appends (O.contents out.old) (O.contents out.new) (summary_of output.now tasks ending counts)) }
 {
-    let text = text_of(alloc, output, tasks, ending)?;
-    out.write_all(&text)?;
+    write_summary(alloc, output, tasks, ending, counts, out)?;
     out.flush()?;
     Ok(exit_status(ending))
+}
+
+/// Prints the summary of what was recorded, with its counts. It answers the exit status.
+pub fn print_recorded<O: Write>(
+    alloc: Global,
+    recorder: &Recorder,
+    out: &mut O,
+) -> Result<u8, Fault>
+    ensures report { IfOk result (ReportsOn recorder.now (O.contents out.old) (O.contents out.new)) }
+    ensures fault { IfErr result IsReportFault }
+{
+    let machine = recorder.machine();
+    let counts = Counts::of(recorder.entries());
+    print(
+        alloc,
+        machine.output(),
+        machine.committed_tasks(),
+        machine.ending(),
+        Some(counts),
+        out,
+    )
 }
 
 // The exit status of a run with this ending: 0 where the program came to its exit, else 2.
@@ -39,46 +60,5 @@ fn exit_status(ending: Ending) -> u8
     match ending {
         Ending::Exit(_) => 0,
         Ending::Trap(_) | Ending::Full(_) | Ending::Open(_) => 2,
-    }
-}
-
-// The text of a summary. A writer over memory fails only for want of memory.
-fn text_of(alloc: Global, output: &[u32], tasks: u64, ending: Ending) -> Result<Vec<u8>, AllocError>
-    ensures { IfOk result (λ text. text.items ≡ summary_of output.now tasks ending) }
-{
-    let mut rows = WriterBuilder::new().from_writer(Vec::new(alloc));
-    match write_rows(&mut rows, output, tasks, ending) {
-        Ok(()) => rows.into_inner().map_err(|_| AllocError),
-        Err(_) => Err(AllocError),
-    }
-}
-
-// Writes the rows of a summary.
-fn write_rows<W: Write + Drop>(
-    rows: &mut Writer<W>,
-    output: &[u32],
-    tasks: u64,
-    ending: Ending,
-) -> Result<(), Error>
-    requires { IsBetweenRows rows.old }
-    ensures { OnOk result (Appends (text_written W.contents rows.old) (text_written W.contents rows.new) (summary_of output.now tasks ending)) }
-{
-    for word in output {
-        write_row(rows, "out", u64::from(*word))?;
-    }
-    write_row(rows, "tasks", tasks)?;
-    write_ending(rows, ending)
-}
-
-// Writes the row of an ending.
-fn write_ending<W: Write + Drop>(rows: &mut Writer<W>, ending: Ending) -> Result<(), Error>
-    requires { IsBetweenRows rows.old }
-    ensures { OnOk result (Appends (text_written W.contents rows.old) (text_written W.contents rows.new) (ending_row ending)) }
-{
-    match ending {
-        Ending::Exit(code) => write_row(rows, "exit", u64::from(code)),
-        Ending::Trap(number) => write_row(rows, "trap", u64::from(number)),
-        Ending::Full(entry) => write_row(rows, "full", u64::from(entry)),
-        Ending::Open(entry) => write_row(rows, "open", u64::from(entry)),
     }
 }

@@ -1,10 +1,12 @@
 // The faults: each is told in its words, with status 1 and nothing on standard output.
 
-use super::{LIMIT, Memory, ran, with_word};
+use super::{LIMIT, Memory, ran, ran_with, with_word};
 use crate::execute::execute;
 use std::io::{self, ErrorKind, Write};
 use std::process::Abort;
+use std::sync::Wait;
 use std::test::Fail;
+use std::thread::Threads;
 use svc_image::samples::{P, P1};
 
 #[test]
@@ -33,7 +35,7 @@ fn a_line_that_is_not_read_is_told_by_the_parser(rt: HostRuntime) -> Result<(), 
         ),
     ];
     for (words, part) in lines {
-        let unread = ran(rt.alloc(), &P, words)?;
+        let unread = ran(&rt, &P, words)?;
         assert_eq!(rt; unread.status, 1, "{words:?}");
         assert_eq!(rt; unread.out(), Some(""), "{words:?}");
         let text = unread.err().ok_or("no text")?;
@@ -66,7 +68,7 @@ fn the_first_number_out_of_its_range_is_told(rt: HostRuntime) -> Result<(), Fail
     for (options, text) in rows {
         let mut words = Vec::from_slice(rt.alloc(), &["run", "image"])?;
         words.extend_from_slice(options)?;
-        let refused = ran(rt.alloc(), &P1, &words)?;
+        let refused = ran(&rt, &P1, &words)?;
         assert!(rt; refused.gave_up(text), "{options:?}");
     }
     Ok(())
@@ -74,7 +76,7 @@ fn the_first_number_out_of_its_range_is_told(rt: HostRuntime) -> Result<(), Fail
 
 // Asks both subcommands for what one fault has to be told of.
 fn both_tell(
-    rt: &(impl Abort + AllocGlobal),
+    rt: &(impl Abort + Threads + Wait + Sync + AllocGlobal),
     image: &[u8],
     name: &str,
     text: &str,
@@ -82,7 +84,7 @@ fn both_tell(
     let sequential = ["seq", name, "--tasks", "2"];
     let simulated = ["run", name, "--units", "1"];
     for words in [sequential, simulated] {
-        let refused = ran(rt.alloc(), image, &words)?;
+        let refused = ran(rt, image, &words)?;
         assert!(rt; refused.gave_up(text), "{words:?}");
     }
     Ok(())
@@ -117,10 +119,10 @@ fn a_file_that_is_not_there_is_told(rt: HostRuntime) -> Result<(), Fail> {
 
 #[test]
 fn the_configuration_is_told_before_the_image(rt: HostRuntime) -> Result<(), Fail> {
-    let refused = ran(rt.alloc(), &[], &["run", "missing"])?;
+    let refused = ran(&rt, &[], &["run", "missing", "--units", "0"])?;
     assert!(rt; refused.gave_up("svcsim: config fault 1\n"));
     let unread = ran(
-        rt.alloc(),
+        &rt,
         &[],
         &["run", "missing", "--units", "17", "--sets", "x"],
     )?;
@@ -156,6 +158,17 @@ impl Write for Narrow {
 }
 
 #[test]
+fn the_image_is_told_before_the_script_or_trace(rt: HostRuntime) -> Result<(), Fail> {
+    for subcommand in ["script", "check"] {
+        let no_image = ran_with(&rt, &[], "kind", &[subcommand, "image", "text"])?;
+        assert!(rt; no_image.gave_up("svcsim: image fault 1\n"), "{subcommand}");
+        let no_text = ran_with(&rt, &P, "", &[subcommand, "image", "missing"])?;
+        assert!(rt; no_text.gave_up("svcsim: file fault\n"), "{subcommand}");
+    }
+    Ok(())
+}
+
+#[test]
 fn output_that_fails_is_told(rt: HostRuntime) -> Result<(), Fail> {
     let alloc = rt.alloc();
     let name = String::from_str(alloc, "svcsim")?;
@@ -166,13 +179,18 @@ fn output_that_fails_is_told(rt: HostRuntime) -> Result<(), Fail> {
         (1000, false, 1),
         (1000, true, 0),
     ] {
-        let mut files = Memory { alloc, image: &[] };
+        let mut files = Memory {
+            alloc,
+            image: &[],
+            text: &[],
+            saved: Vec::new(alloc),
+        };
         let mut out = Narrow { room, flushes };
         let mut err = Vec::new(alloc);
-        let answered = execute(alloc, &words, &mut files, &mut out, &mut err);
+        let answered = execute(&rt, alloc, &words, &mut files, &mut out, &mut err);
         assert_eq!(rt; answered, status, "room {room}");
         if status == 1 {
-            assert_eq!(rt; err.as_slice(), b"svcsim: file fault\n".as_slice());
+            assert_eq!(rt; err.as_slice(), b"svcsim: report fault 2\n".as_slice());
         }
     }
     Ok(())

@@ -5,16 +5,18 @@ use std::test::Fail;
 
 #[test]
 fn help_is_no_fault(rt: HostRuntime) -> Result<(), Fail> {
-    let lines: [&[&str]; 6] = [
+    let lines: [&[&str]; 8] = [
         &["--help"],
         &["-h"],
         &["help"],
         &["help", "run"],
         &["run", "--help"],
         &["seq", "image", "-h"],
+        &["script", "--help"],
+        &["check", "--help"],
     ];
     for words in lines {
-        let asked = ran(rt.alloc(), &[], words)?;
+        let asked = ran(&rt, &[], words)?;
         assert_eq!(rt; asked.status, 0, "{words:?}");
         assert_eq!(rt; asked.err(), Some(""), "{words:?}");
         let text = asked.out().ok_or("no text")?;
@@ -25,8 +27,6 @@ fn help_is_no_fault(rt: HostRuntime) -> Result<(), Fail> {
 
 #[test]
 fn help_explains_each_option(rt: HostRuntime) -> Result<(), Fail> {
-    let asked = ran(rt.alloc(), &[], &["run", "--help"])?;
-    let text = asked.out().ok_or("no text")?;
     let options = [
         ("--units <N>", "[default: 4]"),
         ("--sets <N>", "[default: 16]"),
@@ -34,9 +34,13 @@ fn help_explains_each_option(rt: HostRuntime) -> Result<(), Fail> {
         ("--events <N>", "[default: 100000]"),
         ("--turns <N>", "[default: 1000000]"),
     ];
-    for (option, default) in options {
-        assert!(rt; text.contains(option), "{option}");
-        assert!(rt; text.contains(default), "{option}");
+    for subcommand in ["run", "script", "check"] {
+        let asked = ran(&rt, &[], &[subcommand, "--help"])?;
+        let text = asked.out().ok_or("no text")?;
+        for (option, default) in options {
+            assert!(rt; text.contains(option), "{subcommand} {option}");
+            assert!(rt; text.contains(default), "{subcommand} {option}");
+        }
     }
     Ok(())
 }

@@ -1,73 +1,107 @@
-use Rattle.std.proofs.Common.{◌≡◌, ◌<◌, ◌∙◌, [], ◌∷◌, ◌++◌, List, length, None, true, is_ok, sym, ap, ap₂, subst, arith, vec_len, vec_capacity, length-append}
-use Rattle.svc_image.specs.Image.{IsImage}
-use Rattle.svc_history.specs.Plain.{Shown}
-use Rattle.svc_history.specs.Refusals.{refuse}
-use Rattle.svc_history.specs.Steps.{refusal_of, stepped_by, IsSequential}
-use Rattle.svc_history.specs.declared.reply.Reply.{Reply}
-use Rattle.svc_history.specs.declared.entry.Entry.{Entry}
-use Rattle.svc_history.specs.Entries.{telling, entry_of}
-use Rattle.svc_history.specs.History.{Recorded, IsLegal, commits_in}
-use Rattle.svc_history.proofs.Legality.{recorded, sequential, room_of, one_more, entry_is}
+use Rattle.std.proofs.Common.{◌≡◌, ◌<◌, ◌∙◌, [], ◌∷◌, ◌++◌, None, true, is_ok, sym, ap, subst, arith, vec_len, vec_capacity}
+use Rattle.svc_machine_laws.specs.Standing.{Standing, after_event, refused, reply_to}
+use Rattle.svc_machine_laws.proofs.Given.{given}
+use Rattle.svc_machine.specs.Events.{event_of}
+use Rattle.svc_machine.specs.Value.{IsSequentialMachine}
+use Rattle.svc_history_laws.specs.Board.{board}
+use Rattle.svc_history_laws.specs.Entries.{entry_of}
+use Rattle.svc_history.specs.Recorded.{Recorded, IsCounted, standing_of}
+use Rattle.svc_history.specs.Kept.{IsKept}
+use Rattle.svc_history.proofs.Recording.{Follows, counts, recorded, sequential, leads_there, stays, entry_is, below_limit}
+use Rattle.svc_history.proofs.Small.{small}
 use Rattle.svc_history.proofs.recorder.Recorder.apply.Goals as goal
 
--- the event was accepted
-accepted : (c : goal.After-push-pushed) → refuse c.self.inside.machine.image c.self.inside.machine.config c.self.inside.machine.plain c.args.event ≡ None
-accepted c = sym c.step.ensures.refusal ∙ ap (refusal_of {T = Reply}) (c.in_ok-reply.was {u = tt})
+-- before the event
+abbrev before : goal.After-reply-2-1 → Recorded
+before c = record { machine = c.self.inside.machine; entries = c.self.inside.entries.items }
 
--- the entry is the event's
-written : (c : goal.After-push-pushed) → c.telling-entry.result ≡ entry_of c.self.inside.machine.image c.self.inside.machine.plain c.args.event
-written c =
-    let m = c.self.inside.machine in
-    entry_is m.image m.plain c.args.event c.telling-entry.result c.in_ok-reply.reply
-    (c.telling-entry.ensures ∙ ap (telling c.in_ok-reply.reply.what) c.named-named.ensures.entry) (c.in_ok-reply.ensures {u = tt}).reply
+kept : (c : goal.After-reply-2-1) → IsKept (before c)
+kept c = c.self.invariant.0
 
--- there was room for it
+accepted : (c : goal.After-reply-2-1) → refused (before c).machine.image (before c).machine.config (standing_of (before c)) (event_of c.args.event) ≡ None
+accepted c = (c.in_ok-reply.ensures {u = tt}).refused (standing_of (before c)) (kept c).legal.here
+
+answered : (c : goal.After-reply-2-1) → c.in_ok-reply.reply ≡ reply_to (before c).machine.image (standing_of (before c)) (event_of c.args.event)
+answered c = (c.in_ok-reply.ensures {u = tt}).reply (standing_of (before c)) (kept c).legal.here
+
+pub telling-entry-requires : goal.telling-entry-requires
+telling-entry-requires c =
+    let config = (before c).machine.config in
+    small (before c).machine.image (given (before c).machine.image (kept c).image) config config.few_events config.few_units (standing_of (before c)) (kept c).reached
+    (event_of c.args.event) c.named-named.ensures.sound (accepted c) c.in_ok-reply.reply (answered c)
+
+-- after it
+abbrev before_push : goal.After-push-pushed → Recorded
+before_push c = record { machine = c.self.inside.machine; entries = c.self.inside.entries.items }
+
+follows : (c : goal.After-push-pushed) → Follows (before_push c) (event_of c.args.event) c.step.new.self c.telling-entry.result
+follows c =
+    let here = c.self.invariant.0.legal.here in
+    let s : Standing = standing_of (before_push c) in
+    record {
+      event = c.named-named.ensures.sound;
+      accepted = (c.in_ok-reply.ensures {u = tt}).refused s here;
+      image = c.step.ensures.image;
+      config = c.step.ensures.config;
+      at = c.step.ensures.standing s here;
+      entry = entry_is (event_of c.args.event) c.in_ok-reply.reply _ c.named-named.result c.telling-entry.result c.named-named.ensures.entry ((c.in_ok-reply.ensures {u = tt}).reply s here) c.telling-entry.ensures;
+    }
+
+-- there was room for the entry
 fits : (c : goal.After-push-pushed) → is_ok c.push-pushed.result ≡ true
 fits c =
-    let m = c.self.inside.machine in
     let i = c.self.invariant in
-    let room = room_of m.image m.config m.plain c.args.event (accepted c) in
-    let free : vec_len c.self.inside.entries < vec_capacity c.self.inside.entries = omega (arith, room, i.2, i.3, c.self.inside.entries.ok.0) in
+    let room = below_limit (before_push c).machine.image (before_push c).machine.config (standing_of (before_push c)) (event_of c.args.event) (follows c).accepted in
+    let free : vec_len c.self.inside.entries < vec_capacity c.self.inside.entries = omega (arith, room, i.0.accepted, i.1, c.self.inside.entries.ok.0) in
     c.push-pushed.ensures.succeeds free
 
 pushed : (c : goal.After-push-pushed) → c.push-pushed.new.self.items ≡ c.self.inside.entries.items ++ c.telling-entry.result ∷ []
 pushed c = let ok = fits c in rw ok at c.push-pushed.ensures.items
 
-appended : (c : goal.After-push-pushed) → c.push-pushed.new.self.items ≡ c.self.inside.entries.items ++ entry_of c.self.inside.machine.image c.self.inside.machine.plain c.args.event ∷ []
-appended c = pushed c ∙ ap (λ (e : Entry). c.self.inside.entries.items ++ e ∷ []) (written c)
+abbrev after : goal.After-push-pushed → Recorded
+after c = record { machine = c.step.new.self; entries = c.push-pushed.new.self.items }
 
-lawful : (c : goal.After-push-pushed) → IsLegal (record { machine = c.step.new.self; entries = c.push-pushed.new.self.items })
-lawful c =
-    let m = c.self.inside.machine in
-    let same : ◌≡◌ {A = Recorded} (record { machine = stepped_by m c.args.event; entries = c.self.inside.entries.items ++ entry_of m.image m.plain c.args.event ∷ [] })
-    (record { machine = c.step.new.self; entries = c.push-pushed.new.self.items }) =
-    ap₂ (λ (n : Shown) (es : List Entry). let r : Recorded = record { machine = n; entries = es } in r) (sym c.step.ensures.state) (sym (appended c)) in
-    subst IsLegal same (recorded m c.self.inside.entries.items c.args.event c.self.invariant.0 c.named-named.ensures.sound (accepted c))
+kept_after : (c : goal.After-push-pushed) → IsKept (after c)
+kept_after c = subst (λ es. IsKept (record { machine = c.step.new.self; entries = es })) (sym (pushed c)) (recorded (before_push c) (event_of c.args.event) c.step.new.self c.telling-entry.result c.self.invariant.0 (follows c))
 
-sound : (c : goal.After-push-pushed) → IsImage c.step.new.self.image
-sound c = subst IsImage (sym (ap (λ (v : Shown). v.image) c.step.ensures.state)) c.self.invariant.1
+led : (c : goal.After-push-pushed) → standing_of (after c) ≡ after_event (before_push c).machine.image (before_push c).machine.config (standing_of (before_push c)) (event_of c.args.event)
+led c =
+    ap (λ es. standing_of (record { machine = c.step.new.self; entries = es })) (pushed c) ∙ leads_there (before_push c) (event_of c.args.event) c.step.new.self c.telling-entry.result c.self.invariant.0 (follows c)
+
+pub invariant_of-self-2 : goal.invariant_of-self-2
+invariant_of-self-2 c = (kept_after c, omega (arith, c.self.invariant.1, c.push-pushed.ensures.capacity, ap (λ g. g.events) c.step.ensures.config))
+
+pub returns-in_err-reply-clause-standing : goal.returns-in_err-reply-clause-standing
+returns-in_err-reply-clause-standing c =
+    let old : Recorded = record { machine = c.self.inside.machine; entries = c.self.inside.entries.items } in
+    let says = c.in_err-reply.ensures {u = tt} in
+    subst (λ (r : Recorded). standing_of (record { machine = c.step.new.self; entries = c.self.inside.entries.items }) ≡ after_event r.machine.image r.machine.config (standing_of r) (event_of c.args.event)) c.self.view_is
+    (stays old (event_of c.args.event) c.step.new.self _ (says.refused (standing_of old) c.self.invariant.0.legal.here) says.unchanged)
 
 pub returns-in_err-reply-clause-headline : goal.returns-in_err-reply-clause-headline
 returns-in_err-reply-clause-headline c =
-    let same : c.step.new.self ≡ c.self.inside.machine = (c.in_err-reply.ensures {u = tt}).err in
-    subst (λ m. IsSequential (commits_in c.self.inside.entries.items) m) (sym same) (sequential c.self.inside.machine c.self.inside.entries.items c.self.invariant.1 c.self.invariant.0)
+    let same : c.step.new.self ≡ c.self.inside.machine = (c.in_err-reply.ensures {u = tt}).unchanged in
+    subst (λ m. IsSequentialMachine (board c.self.inside.entries.items).committed m) (sym same) (sequential _ c.self.invariant.0)
 
-pub invariant_of-self-2 : goal.invariant_of-self-2
-invariant_of-self-2 c =
-    let m = c.self.inside.machine in
-    let i = c.self.invariant in
-    let one = one_more m.image m.config m.plain c.args.event (accepted c) in (
-      lawful c,
-      sound c,
-      omega (arith, i.2, one, ap (λ (v : Shown). v.plain.accepted) c.step.ensures.state, ap length (pushed c), length-append c.self.inside.entries.items (c.telling-entry.result ∷ [])),
-      omega (arith, i.3, c.push-pushed.ensures.capacity, ap (λ (v : Shown). v.config.events) c.step.ensures.state),
-    )
+pub returns-in_err-reply-clause-counted : goal.returns-in_err-reply-clause-counted
+returns-in_err-reply-clause-counted c =
+    let same : c.step.new.self ≡ c.self.inside.machine = (c.in_err-reply.ensures {u = tt}).unchanged in
+    subst (λ m. IsCounted (record { machine = m; entries = c.self.inside.entries.items })) (sym same) (counts _ c.self.invariant.0)
 
-pub returns-clause-slip : goal.returns-clause-slip
-returns-clause-slip c = rw (← c.self.view_is) (c.len-index.ensures ∙ c.self.inside.entries.ok.0, written c, pushed c)
+pub returns-clause-entry : goal.returns-clause-entry
+returns-clause-entry c = subst (λ (r : Recorded). c.telling-entry.result ≡ entry_of (event_of c.args.event) (reply_to r.machine.image (standing_of r) (event_of c.args.event))) c.self.view_is (follows c).entry
+
+pub returns-clause-entries : goal.returns-clause-entries
+returns-clause-entries c = subst (λ (r : Recorded). c.push-pushed.new.self.items ≡ r.entries ++ c.telling-entry.result ∷ []) c.self.view_is (pushed c)
+
+pub returns-clause-standing : goal.returns-clause-standing
+returns-clause-standing c = subst (λ (r : Recorded). standing_of (after c) ≡ after_event r.machine.image r.machine.config (standing_of r) (event_of c.args.event)) c.self.view_is (led c)
 
 pub returns-clause-legal : goal.returns-clause-legal
-returns-clause-legal c = lawful c
+returns-clause-legal c = (kept_after c).legal
 
 pub returns-clause-headline : goal.returns-clause-headline
-returns-clause-headline c = sequential c.step.new.self c.push-pushed.new.self.items (sound c) (lawful c)
+returns-clause-headline c = sequential (after c) (kept_after c)
+
+pub returns-clause-counted : goal.returns-clause-counted
+returns-clause-counted c = counts (after c) (kept_after c)

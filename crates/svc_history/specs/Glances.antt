@@ -1,0 +1,24 @@
+-- What a unit thread sees of a recorder at a glance.
+use Rattle.std.specs.Prelude.{Bool, true, false, ◌≡◌, ℕ, ◌||◌, is_some}
+use Rattle.svc_core_laws.specs.declared.end.Ending.{Ending}
+use Rattle.svc_core_laws.specs.declared.end.Ending.TheVariants as ending
+use Rattle.svc_core_laws.specs.Sequence.{plain_seq}
+use Rattle.svc_core_laws.specs.Words.{program}
+use Rattle.svc_machine_laws.specs.Guess.{guess}
+use Rattle.svc_machine.specs.Value.{MachineValue}
+use Rattle.svc_machine.specs.Reads.{is_full, lease_of, runs_head}
+use Rattle.svc_history.specs.declared.glance.Glance.{Glance}
+
+-- the ending is that of a full history
+abbrev pub is_full_ending : Ending → Bool
+is_full_ending (ending.Exit code) = false
+is_full_ending (ending.Trap number) = false
+is_full_ending (ending.Full due) = true
+is_full_ending (ending.Open due) = false
+
+-- the glance shows the machine as it stands
+pub record IsGlance (m : MachineValue) (unit : ℕ) (g : Glance) : Type 0 where
+  pub ended : g.ended ≡ (is_some (plain_seq m.image m.plain.commits).stopped || is_full m)
+  pub lease : g.lease ≡ lease_of m unit
+  pub head : g.is_head ≡ runs_head m unit
+  pub guess_is : g.guess ≡ guess (program m.image) m.image.entries m.plain

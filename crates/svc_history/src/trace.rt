@@ -1,0 +1,125 @@
+ghost use Rattle.std.specs.Prelude.{◌≡◌, ◌++◌, ◌∷◌, [], None, IfOk, IfErr, IfSome, OnOk};
+ghost use Rattle.svc_machine.specs.Events.{event_of};
+ghost use Rattle.svc_history_laws.specs.Replay.{IsReplay, Lacks};
+ghost use Rattle.svc_history.specs.Recorded.{IsLegal};
+ghost use Rattle.svc_history.specs.Faults.{IsFault, IsWrongThere};
+
+use crate::recorder::Recorder;
+use crate::same::is_same;
+use std::alloc::Global;
+use svc_base::{Config, WordAddr};
+use svc_history_laws::{Entry, Kind};
+use svc_image::Image;
+use svc_machine::{Event, Machine};
+
+/// What is wrong with an entry of a trace.
+#[derive(Clone, Copy, Debug, PartialEq, Eq)]
+pub enum TraceFaultKind {
+    /// The allocator refused memory; the index is 0.
+    Memory,
+    /// Its event is refused there, or it lacks what its event needs.
+    Refused,
+    /// Its event has another entry there.
+    Differs,
+}
+
+/// The first faulty entry of a trace.
+#[derive(Clone, Copy, Debug, PartialEq, Eq)]
+pub struct TraceFault {
+    /// How many entries stand before it.
+    pub index: usize,
+    /// What is wrong with it.
+    pub kind: TraceFaultKind,
+}
+
+// The event that an entry names, where its machine stands; none where it lacks what its event needs.
+fn replayed(machine: &Machine, entry: &Entry) -> Option<Event>
+    ensures replay { IfSome result (λ x. IsReplay machine.now.image machine.now.plain entry.now (event_of x)) }
+    ensures lacks { result ≡ None → Lacks entry.now.kind machine.now.image machine.now.plain entry.now }
+{
+    let unit = entry.unit;
+    match entry.kind {
+        Kind::Assign => Some(Event::Assign {
+            unit,
+            guess: entry.arg?,
+        }),
+        Kind::Submit => {
+            let lease = machine.lease(unit)?;
+            let turns = u32::from(entry.local?) + u32::from(entry.ask?);
+            Some(Event::Submit {
+                burst: lease.advance(machine.image(), turns),
+            })
+        }
+        Kind::Replace => Some(Event::Replace {
+            unit,
+            addr: WordAddr(entry.arg?),
+        }),
+        Kind::Cancel => Some(Event::Cancel { unit }),
+        Kind::Commit => Some(Event::Commit { by: unit }),
+    }
+}
+
+// Applies the event that the entry names, and compares what it comes to.
+fn replay(recorder: &mut Recorder, entry: &Entry) -> Result<(), TraceFaultKind>
+    ensures entries { OnOk result (recorder.new.entries ≡ recorder.old.entries ++ entry.now ∷ []) }
+    ensures image { recorder.new.machine.image ≡ recorder.old.machine.image }
+    ensures config { recorder.new.machine.config ≡ recorder.old.machine.config }
+    ensures fault { IfErr result (IsWrongThere recorder.old entry.now) }
+    ensures legal { IsLegal recorder.old }
+{
+    let Some(event) = replayed(recorder.machine(), entry) else {
+        return Err(TraceFaultKind::Refused);
+    };
+    match recorder.apply(event) {
+        Ok(slip) if is_same(&slip.entry, entry) => Ok(()),
+        Ok(_) => Err(TraceFaultKind::Differs),
+        Err(_) => Err(TraceFaultKind::Refused),
+    }
+}
+
+// A recorder before any event.
+fn opened(alloc: Global, image: &Image, config: Config) -> Result<Recorder, TraceFault>
+    ensures image { IfOk result (λ r. r.machine.image ≡ image.now) }
+    ensures config { IfOk result (λ r. r.machine.config ≡ config) }
+    ensures entries { IfOk result (λ r. r.entries ≡ []) }
+    ensures fault { IfErr result (λ fault. (fault.index ≡ 0) × (fault.kind ≡ TraceFaultKind.Memory)) }
+{
+    let no_memory = TraceFault {
+        index: 0,
+        kind: TraceFaultKind::Memory,
+    };
+    let Ok(image) = image.copy(alloc) else {
+        return Err(no_memory);
+    };
+    match Recorder::open(alloc, image, config) {
+        Ok(recorder) => Ok(recorder),
+        Err(_) => Err(no_memory),
+    }
+}
+
+/// A recorder with exactly these entries, replayed from before any event: it is answered exactly where they are legal,
+/// memory aside.
+///
+/// Errors: the first faulty entry, with what is wrong with it.
+pub fn check_trace(
+    alloc: Global,
+    image: &Image,
+    config: Config,
+    entries: &[Entry],
+) -> Result<Recorder, TraceFault>
+    ensures image { IfOk result (λ r. r.machine.image ≡ image.now) }
+    ensures config { IfOk result (λ r. r.machine.config ≡ config) }
+    ensures entries { IfOk result (λ r. r.entries ≡ entries.now) }
+    ensures legal { IfOk result IsLegal }
+    ensures fault { IfErr result (IsFault image.now config entries.now) }
+{
+    let mut recorder = opened(alloc, image, config)?;
+    for index in 0..entries.len() {
+        if let Err(kind) = replay(&mut recorder, &entries[index]) {
+            return Err(TraceFault { index, kind });
+        }
+    }
+    // what the type keeps: its history is legal
+    let _legal = recorder.entries();
+    Ok(recorder)
+}

@@ -1,0 +1,204 @@
+// How the entry of an event is written: its event's fields first, before the machine takes the event, and then its reply's.
+
+ghost use Rattle.std.specs.Prelude.{◌≡◌, ◌<◌, ◌^◌, IfSome, Option, option_map, option_and_then};
+ghost use Rattle.svc_machine_laws.specs.Events.{IsEvent};
+ghost use Rattle.svc_machine.specs.Events.{event_of};
+ghost use Rattle.svc_history_laws.specs.Entries.{cause_of, count_of, first_of, address_told, kind_served, named, plain_entry, reply_told, served_told, telling, unit_served, why_cut, word_told};
+ghost use Rattle.svc_history.specs.Writing.{IsSmall, task_told};
+
+use svc_base::{UnitId, WordAddr};
+use svc_history_laws::{CutKind, Entry, Kind, ReplyKind, ServedKind};
+use svc_machine::{Cause, Cut, Event, Reply, Served, What};
+
+// An entry without fields but these.
+fn plain_entry(
+    kind: Kind,
+    unit: UnitId,
+    arg: Option<u32>,
+    local: Option<u8>,
+    ask: Option<bool>,
+) -> Entry
+    ensures { result ≡ plain_entry kind unit arg local ask }
+{
+    Entry {
+        kind,
+        unit,
+        arg,
+        local,
+        ask,
+        reply: ReplyKind::Ran,
+        addr: None,
+        word: None,
+        served: None,
+        from: None,
+        cause: None,
+        first: None,
+        squashed: None,
+    }
+}
+
+/// The entry of an event, but for its reply.
+pub(crate) fn named(event: &Event) -> Entry
+    ensures entry { result ≡ named (event_of event.now) }
+    ensures sound { IsEvent (event_of event.now) }
+{
+    match event {
+        Event::Assign { unit, guess } => {
+            plain_entry(Kind::Assign, *unit, Some(*guess), None, None)
+        }
+        Event::Submit { burst } => {
+            let _end = burst.end();
+            let asks = !burst.ask().is_nothing();
+            plain_entry(
+                Kind::Submit,
+                burst.unit(),
+                None,
+                Some(burst.local() as u8),
+                Some(asks),
+            )
+        }
+        Event::Replace { unit, addr } => {
+            plain_entry(Kind::Replace, *unit, Some(addr.0), None, None)
+        }
+        Event::Cancel { unit } => plain_entry(Kind::Cancel, *unit, None, None, None),
+        Event::Commit { by } => plain_entry(Kind::Commit, *by, None, None, None),
+    }
+}
+
+// The name of what was done.
+fn reply_kind(what: What) -> ReplyKind
+    ensures { result ≡ reply_told what }
+{
+    match what {
+        What::Assigned { .. } => ReplyKind::Assigned,
+        What::Ran => ReplyKind::Ran,
+        What::Loaded { .. } => ReplyKind::Loaded,
+        What::Stored { .. } => ReplyKind::Stored,
+        What::Emitted(_) => ReplyKind::Emitted,
+        What::Trapped(_) => ReplyKind::Trapped,
+        What::Replaced { .. } => ReplyKind::Replaced,
+        What::Cancelled => ReplyKind::Cancelled,
+        What::Committed { .. } => ReplyKind::Committed,
+    }
+}
+
+// The word that it was done to.
+fn address(what: What) -> Option<WordAddr>
+    ensures { result ≡ address_told what }
+{
+    match what {
+        What::Loaded { addr, .. } => Some(addr),
+        What::Stored { addr, .. } => Some(addr),
+        What::Replaced { addr } => Some(addr),
+        _ => None,
+    }
+}
+
+// The number that it tells.
+fn word(what: What) -> Option<u32>
+    requires { task_told what < 2 ^ 32 }
+    ensures { result ≡ word_told what }
+{
+    match what {
+        What::Assigned { entry, .. } => Some(entry),
+        What::Loaded { value, .. } => Some(value),
+        What::Stored { word, .. } => Some(word),
+        What::Emitted(word) => Some(word),
+        What::Trapped(number) => Some(u32::from(number)),
+        What::Committed { task, .. } => Some(task.0 as u32),
+        _ => None,
+    }
+}
+
+// Who supplied the word that was read.
+fn served(what: What) -> Option<Served>
+    ensures { result ≡ served_told what }
+{
+    match what {
+        What::Loaded { served, .. } => Some(served),
+        What::Stored { served, .. } => served,
+        _ => None,
+    }
+}
+
+fn served_kind(served: Served) -> ServedKind
+    ensures { result ≡ kind_served served }
+{
+    match served {
+        Served::Hit => ServedKind::Hit,
+        Served::Reuse => ServedKind::Reuse,
+        Served::Version(_) => ServedKind::Version,
+        Served::Spill => ServedKind::Spill,
+        Served::Committed(_) => ServedKind::Committed,
+        Served::Memory => ServedKind::Memory,
+    }
+}
+
+fn served_unit(served: Served) -> Option<UnitId>
+    ensures { result ≡ unit_served served }
+{
+    match served {
+        Served::Version(unit) => Some(unit),
+        Served::Committed(unit) => Some(unit),
+        _ => None,
+    }
+}
+
+fn cut_kind(cause: Cause) -> CutKind
+    ensures { result ≡ why_cut cause }
+{
+    match cause {
+        Cause::Violation(_) => CutKind::Violation,
+        Cause::WrongGuess => CutKind::Guess,
+        Cause::Cancelled => CutKind::Cancel,
+    }
+}
+
+// Who supplied the word that was read, and from which unit.
+fn supply(what: What) -> (Option<ServedKind>, Option<UnitId>)
+    ensures kind { result.0 ≡ option_map kind_served (served_told what) }
+    ensures unit { result.1 ≡ option_and_then unit_served (served_told what) }
+{
+    match served(what) {
+        Some(served) => (Some(served_kind(served)), served_unit(served)),
+        None => (None, None),
+    }
+}
+
+// Why tasks were squashed, the first of them, and how many.
+fn cut_fields(cut: Option<Cut>) -> (Option<CutKind>, Option<u32>, Option<u32>)
+    requires { IfSome cut (λ c. first_of c < 2 ^ 32) }
+    ensures cause { result.0 ≡ option_map cause_of cut }
+    ensures first { result.1 ≡ option_map first_of cut }
+    ensures count { result.2 ≡ option_map count_of cut }
+{
+    match cut {
+        Some(cut) => (
+            Some(cut_kind(cut.cause)),
+            Some(cut.first.0 as u32),
+            Some(cut.tasks),
+        ),
+        None => (None, None, None),
+    }
+}
+
+/// The entry with what its event did.
+pub(crate) fn telling(entry: Entry, reply: &Reply) -> Entry
+    requires { IsSmall reply.now }
+    ensures { result ≡ telling reply.now entry }
+{
+    let what = reply.what;
+    let (served, from) = supply(what);
+    let (cause, first, squashed) = cut_fields(reply.cut);
+    Entry {
+        reply: reply_kind(what),
+        addr: address(what),
+        word: word(what),
+        served,
+        from,
+        cause,
+        first,
+        squashed,
+        ..entry
+    }
+}

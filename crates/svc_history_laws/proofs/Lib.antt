@@ -1,0 +1,9 @@
+pub mod Legality
+pub mod Replays
+pub mod Limits
+pub mod Leases
+pub mod Histories
+pub mod Blames
+pub mod Stories
+pub mod Supplied
+pub mod Readers

@@ -1,0 +1,9 @@
+pub mod Entries
+pub mod Submissions
+pub mod Legal
+pub mod Replay
+pub mod Board
+pub mod Histories
+pub mod Stories
+pub mod Causes
+pub mod Rows

@@ -1,0 +1,15 @@
+//! Histories of the machine: what an entry is, which lists of entries are legal, where they lead, and the laws of what they
+//! tell. Beside the types of an entry there is no code but functions with empty bodies, each of which has laws as its
+//! contract.
+#![tactic(auto)]
+
+pub mod entry;
+mod laws;
+mod rows;
+
+pub use entry::{CutKind, Entry, Kind, ReplyKind, ServedKind, Slip};
+pub use laws::{
+    cuts_are_blamed, entry_has_event, history_leads_on, numbers_are_in_order,
+    stories_are_sequential, violations_have_causes,
+};
+pub use rows::story_of_two_units;

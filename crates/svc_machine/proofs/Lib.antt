@@ -1,0 +1,14 @@
+mod AskedTurns
+pub mod Keeping
+pub mod Seats
+pub mod Reading
+pub mod Assigning
+pub mod Cancelling
+pub mod Replacing
+pub mod Driven
+mod Testing
+pub mod Settling
+pub mod Committing
+mod EditedSeats
+mod Submitting
+mod Opening

@@ -1,0 +1,157 @@
+use Rattle.std.proofs.Common.{ℕ, ◌≡◌, ◌+◌, ◌<◌, ◌++◌, List, true, cond, drop, length, get_or, ◌∙◌, ap, sym, subst, refl, arith}
+use Rattle.std.specs.Prelude.{is_ok, if◌then◌else◌, vec_capacity}
+use Rattle.std.proofs.lemmas.Option.{none-some}
+use Rattle.svc_bus_laws.specs.Steps.{squash}
+use Rattle.svc_machine_laws.specs.declared.reply.Reply.{Reply}
+use Rattle.svc_machine_laws.specs.declared.reply.What.TheVariants as what
+use Rattle.svc_machine_laws.specs.Events.{Event, Commit}
+use Rattle.svc_machine_laws.specs.Guide.{Guide, guide_committed, cuts_next}
+use Rattle.svc_machine_laws.specs.Standing.{Standing, reply_to, stepped}
+use Rattle.svc_machine.specs.declared.seat.Seat.{Seat}
+use Rattle.svc_machine.specs.Kept.{Parts, shown}
+use Rattle.svc_machine.specs.Seats.{head_end}
+use Rattle.svc_machine.specs.Value.{MachineValue, StandsAt}
+use Rattle.svc_machine.proofs.Keeping.{Accepts, parts_of, IsAccepted, Moved, kept_after, stands_after, replied}
+use Rattle.svc_machine.proofs.Committing.{HasHead, head_of, head_ends, lined, has_units, small_commits, small_seats, active_some, units_some, commits_small, settled_some, settled_first, output_room, accepted_room, commits_moved, commit_reply}
+use Rattle.svc_machine.proofs.machine.Machine.commit.Goals as goal
+
+pub unreachable-requires : goal.unreachable-requires
+unreachable-requires c =
+    let x : Event = Commit c.args.by.0 in
+    let ok : IsAccepted (parts_of c.self.inside) x = subst (λ (v : MachineValue). Accepts v x) (sym c.self.view_is) c.requires in
+    let items = c.self.inside.seats.items in
+    let has = head_ends (parts_of c.self.inside) c.self.invariant c.args.by.0 ok items refl in
+    none-some has.0 (sym c.in_default.is ∙ c.head_end.ensures ∙ ap head_end c.deref.ensures.value ∙ has.1)
+
+pub settle-cut-requires : goal.settle-cut-requires
+settle-cut-requires c =
+    let x : Event = Commit c.args.by.0 in
+    let ok : IsAccepted (parts_of c.self.inside) x = subst (λ (v : MachineValue). Accepts v x) (sym c.self.view_is) c.requires in
+    let items = c.self.inside.seats.items in
+    let few = small_commits (parts_of c.self.inside) c.self.invariant c.args.by.0 ok items refl c.self.inside.config.few_events in
+    record {
+      lined = lined (parts_of c.self.inside) c.self.invariant c.args.by.0 ok items refl;
+      units = has_units (parts_of c.self.inside) c.self.invariant c.args.by.0 ok items refl;
+      number = omega (arith, few);
+      few = small_seats (parts_of c.self.inside) c.self.invariant c.args.by.0 ok items refl c.self.inside.config.few_units;
+    }
+
+pub commit_head-requires : goal.commit_head-requires
+commit_head-requires c =
+    let x : Event = Commit c.args.by.0 in
+    let ok : IsAccepted (parts_of c.self.inside) x = subst (λ (v : MachineValue). Accepts v x) (sym c.self.view_is) c.requires in
+    let items = c.self.inside.seats.items in
+    let h : HasHead items c.in-Some.end = head_of items c.in-Some.end (ap head_end (sym c.deref.ensures.value) ∙ sym c.head_end.ensures ∙ c.in-Some.is) in
+    record {
+      head = units_some (parts_of c.self.inside) c.self.invariant c.args.by.0 ok items refl c.in-Some.end h c.settle-cut.new.bus c.settle-cut.ensures.lines;
+      few = commits_small (parts_of c.self.inside) c.self.invariant c.args.by.0 ok items refl c.in-Some.end h c.settle-cut.new.bus c.settle-cut.ensures.lines c.self.inside.config.few_events;
+    }
+
+pub commit-requires : goal.commit-requires
+commit-requires c =
+    let x : Event = Commit c.args.by.0 in
+    let ok : IsAccepted (parts_of c.self.inside) x = subst (λ (v : MachineValue). Accepts v x) (sym c.self.view_is) c.requires in
+    let items = c.self.inside.seats.items in
+    let h : HasHead items c.in-Some.end = head_of items c.in-Some.end (ap head_end (sym c.deref.ensures.value) ∙ sym c.head_end.ensures ∙ c.in-Some.is) in
+    subst (λ (g : Guide). 0 < length g.active) (sym c.settle-cut.ensures.guide) (active_some (parts_of c.self.inside) c.self.invariant c.args.by.0 ok items refl c.in-Some.end h)
+
+pub remove-head-requires : goal.remove-head-requires
+remove-head-requires c =
+    let x : Event = Commit c.args.by.0 in
+    let ok : IsAccepted (parts_of c.self.inside) x = subst (λ (v : MachineValue). Accepts v x) (sym c.self.view_is) c.requires in
+    let items = c.self.inside.seats.items in
+    let h : HasHead items c.in-Some.end = head_of items c.in-Some.end (ap head_end (sym c.deref.ensures.value) ∙ sym c.head_end.ensures ∙ c.in-Some.is) in
+    let some = settled_some (cuts_next c.in-Some.end (drop 1 c.self.inside.sequencer.active)) items h.head h.others h.are in
+    let n = c.settle-cut.new.seats.ok.0 in
+    let same = ap (λ (l : List Seat). length l) c.settle-cut.ensures.seats in
+    omega (arith, some, n, same)
+
+pub overflow_add-self : goal.overflow_add-self
+overflow_add-self c =
+    let x : Event = Commit c.args.by.0 in
+    let ok : IsAccepted (parts_of c.self.inside) x = subst (λ (v : MachineValue). Accepts v x) (sym c.self.view_is) c.requires in
+    let items = c.self.inside.seats.items in
+    let few = small_commits (parts_of c.self.inside) c.self.invariant c.args.by.0 ok items refl c.self.inside.config.few_events in
+    omega (arith, few)
+
+pub overflow_add-self-2 : goal.overflow_add-self-2
+overflow_add-self-2 c =
+    let x : Event = Commit c.args.by.0 in
+    let ok : IsAccepted (parts_of c.self.inside) x = subst (λ (v : MachineValue). Accepts v x) (sym c.self.view_is) c.requires in
+    let items = c.self.inside.seats.items in
+    let room = accepted_room (parts_of c.self.inside) c.self.invariant c.args.by.0 ok items refl in
+    let few = c.self.inside.config.few_events in
+    omega (arith, room, few)
+
+module _ (c : goal.After-self-3-1) where
+  abbrev m : Parts
+  m = parts_of c.self.inside
+
+  abbrev x : Event
+  x = Commit c.args.by.0
+
+  ok : IsAccepted (parts_of c.self.inside) (Commit c.args.by.0)
+  ok = let x : Event = Commit c.args.by.0 in subst (λ (v : MachineValue). Accepts v x) (sym c.self.view_is) c.requires
+
+  abbrev after : Parts
+  after = parts_of (record c.self.inside {
+    bus = c.commit_head.new.self;
+    sequencer = c.commit.new.self;
+    seats = c.remove-head.new.self;
+    output = c.extend_from_slice-room.new.self;
+    stopped = c.stopped_after-self-inside.result;
+    commits = c.self.inside.commits + 1;
+    accepted = c.self.inside.accepted + 1;
+  })
+
+  head : HasHead c.self.inside.seats.items c.in-Some.end
+  head = head_of c.self.inside.seats.items c.in-Some.end (ap head_end (sym c.deref.ensures.value) ∙ sym c.head_end.ensures ∙ c.in-Some.is)
+
+  removed : c.remove-head.result ≡ head.head
+  removed =
+      let r = c.remove-head.result in
+      settled_first (cuts_next c.in-Some.end (drop 1 c.self.inside.sequencer.active)) c.self.inside.seats.items head.head head.others head.are r
+      (c.remove-head.ensures.value ∙ ap (λ (l : List Seat). get_or l 0 r) c.settle-cut.ensures.seats)
+
+  words : c.as_slice.result.now ≡ head.head.waiting.items
+  words = c.as_slice.ensures.value ∙ ap (λ (s : Seat). s.waiting.items) removed
+
+  fits : is_ok c.extend_from_slice-room.result ≡ true
+  fits =
+      let few = output_room (parts_of c.self.inside) c.self.invariant c.args.by.0 ok c.self.inside.seats.items refl c.in-Some.end head in
+      let n = ap (λ (l : List ℕ). length l) words in
+      let k = c.self.inside.output.ok.0 in
+      c.extend_from_slice-room.ensures.succeeds (omega (arith, few, n, k))
+
+  put_out : c.extend_from_slice-room.new.self.items ≡ c.self.inside.output.items ++ head.head.waiting.items
+  put_out =
+      c.extend_from_slice-room.ensures.items
+      ∙ ap (λ b. if b then c.self.inside.output.items ++ c.as_slice.result.now else c.self.inside.output.items) fits
+      ∙ ap (λ (w : List ℕ). c.self.inside.output.items ++ w) words
+
+  moved : Moved m after x
+  moved =
+      let cap = c.remove-head.ensures.capacity ∙ c.settle-cut.ensures.capacity in
+      commits_moved (parts_of c.self.inside) c.self.invariant c.args.by.0 ok c.self.inside.seats.items refl c.in-Some.end head
+      c.remove-head.new.self.items (c.remove-head.ensures.by_index.2 ∙ ap (drop 1) c.settle-cut.ensures.seats)
+      c.commit.new.self (c.commit.ensures ∙ ap (guide_committed c.in-Some.end) c.settle-cut.ensures.guide)
+      c.commit_head.new.self (λ t agrees. c.commit_head.ensures.table (cond (cuts_next c.in-Some.end (drop 1 c.self.inside.sequencer.active)) (squash t 1) t) (c.settle-cut.ensures.lines t agrees))
+      c.extend_from_slice-room.new.self.items put_out
+      c.stopped_after-self-inside.result c.stopped_after-self-inside.ensures
+      (vec_capacity c.remove-head.new.self) (vec_capacity c.extend_from_slice-room.new.self)
+      (omega (arith, cap)) c.extend_from_slice-room.ensures.capacity
+
+pub invariant_of-self : goal.invariant_of-self
+invariant_of-self c = kept_after (m c) c.self.invariant (x c) tt (ok c) (after c) (moved c)
+
+pub returns-clause-reply : goal.returns-clause-reply
+returns-clause-reply c =
+    let r : Reply = record { what = what.Committed (record { 0 = c.self.inside.commits }) c.in-Some.end; cut = c.settle-cut.result } in
+    subst (λ (v : MachineValue). (s : Standing) → StandsAt v s → r ≡ reply_to v.image s (x c)) c.self.view_is
+    (replied (m c) c.self.invariant (x c) tt (ok c) r
+    (λ t agrees. commit_reply (m c) c.self.invariant c.args.by.0 (ok c) c.self.inside.seats.items refl c.in-Some.end (head c) c.settle-cut.result c.settle-cut.ensures.cut t))
+
+pub returns-clause-standing : goal.returns-clause-standing
+returns-clause-standing c =
+    subst (λ (v : MachineValue). (s : Standing) → StandsAt v s → StandsAt (shown (after c)) (stepped v.image s (x c))) c.self.view_is
+    (stands_after (m c) c.self.invariant (x c) tt (ok c) (after c) (moved c))

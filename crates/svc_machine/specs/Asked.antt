@@ -1,0 +1,97 @@
+-- What an asked turn does to its task's seat and to the lines, and what it is answered, over each line table that the bus agrees with.
+use Rattle.std.specs.Prelude.{◌≡◌, ◌<◌, ◌^◌, ◌%◌, ℕ, Option, Some, None, length, option_map}
+use Rattle.svc_rv32i.specs.declared.instr.StoreKind.{StoreKind}
+use Rattle.svc_rv32i.specs.declared.instr.StoreKind.TheVariants as store
+use Rattle.svc_image.specs.Image.{Image}
+use Rattle.svc_core_laws.specs.State.{State}
+use Rattle.svc_core_laws.specs.Program.{Memory, Want, Local, Load, Store, Narrow, Emit}
+use Rattle.svc_core_laws.specs.Words.{program, stored}
+use Rattle.svc_bus_laws.specs.Versioned.{Victim, view, victim_answer}
+use Rattle.svc_bus_laws.specs.LineTable.{LineTable, unit_at, versioned}
+use Rattle.svc_bus_laws.specs.Steps.{read}
+use Rattle.svc_bus_laws.specs.BusState.{BusState, Agrees}
+use Rattle.svc_bus_laws.specs.Refusals.{bus_cache, set_full}
+use Rattle.svc_machine_laws.specs.declared.reply.Served.{Served}
+use Rattle.svc_machine_laws.specs.declared.reply.Cause.TheVariants as cause
+use Rattle.svc_machine_laws.specs.declared.reply.Cut.{Cut}
+use Rattle.svc_machine_laws.specs.declared.reply.Reply.{Reply}
+use Rattle.svc_machine_laws.specs.WholeMachine.{Seat, seat_turn}
+use Rattle.svc_machine_laws.specs.LineEvents.{line_ask}
+use Rattle.svc_machine_laws.specs.Replies.{ran, serves_at, turn_done}
+
+-- the bus agrees with the line table, in which the unit runs the task at this place
+pub record RunsAt (b : BusState) (unit : ℕ) (t : LineTable) (place : ℕ) : Type 0 where
+  pub agrees : Agrees b t
+  pub within : place < length t.units
+  pub unit_is : unit_at t place ≡ unit
+
+-- there is such a line table, and such a place
+abbrev pub IsRunning : BusState → (unit : ℕ) → Type 0
+IsRunning b unit = (t : LineTable) × (place : ℕ) × RunsAt b unit t place
+
+-- the word to be replaced before the unit has room for this word, where there is one, and it has none
+abbrev pub full_for : BusState → (unit : ℕ) → Option ℕ → Option ℕ
+full_for b unit None = None
+full_for b unit (Some a) = set_full (bus_cache b unit) a
+
+-- what a read of the word leaves and gives
+pub record IsRead (t : LineTable) (place a : ℕ) (bus : BusState) (value : ℕ) (served : Served) : Type 0 where
+  pub value_is : value ≡ view (versioned t) place a
+  pub served_is : served ≡ serves_at t place a
+  pub table : Agrees bus (read t place a)
+
+-- what a store leaves of the lines before it writes: one of less than a word has read the word
+abbrev pub read_first : StoreKind → LineTable → (place a : ℕ) → LineTable
+read_first store.Byte t place a = read t place a
+read_first store.Half t place a = read t place a
+read_first store.Word t place a = t
+
+-- the whole word that it writes, where the word read so
+abbrev pub word_written : StoreKind → (lane value old : ℕ) → ℕ
+word_written store.Byte lane value old = stored store.Byte lane value old
+word_written store.Half lane value old = stored store.Half lane value old
+word_written store.Word lane value old = value % 2 ^ 32
+
+-- who served its read, where it made one
+abbrev pub served_first : StoreKind → LineTable → (place a : ℕ) → Option Served
+served_first store.Byte t place a = Some (serves_at t place a)
+served_first store.Half t place a = Some (serves_at t place a)
+served_first store.Word t place a = None
+
+-- a store of this value from this byte of the word on has its whole word
+pub record IsPrepared (t : LineTable) (unit place a : ℕ) (kind : StoreKind) (lane value : ℕ) (bus : BusState) (word : ℕ) (served : Option Served) : Type 0 where
+  pub runs : RunsAt bus unit (read_first kind t place a) place
+  pub word_is : word ≡ word_written kind lane value (view (versioned t) place a)
+  pub served_is : served ≡ served_first kind t place a
+  pub free : set_full (bus_cache bus unit) a ≡ None
+  pub words : bus.words ≡ t.words
+
+-- the tasks that a store of this word squashes, as a reply has them
+abbrev pub violated : (a : ℕ) → Victim → Cut
+violated a v = record { cause = cause.Violation (record { 0 = a }); first = record { 0 = v.first }; tasks = v.tasks }
+
+abbrev pub stored_cut : LineTable → (place a : ℕ) → Option Cut
+stored_cut t place a = option_map (violated a) (victim_answer (versioned t) place a)
+
+-- what such a turn squashes; a store of less than a word reads its word first
+abbrev pub asked_cut : Want State → LineTable → (place : ℕ) → Option Cut
+asked_cut (Local c) t place = None
+asked_cut (Load a value go) t place = None
+asked_cut (Store a w c) t place = stored_cut t place a
+asked_cut (Narrow a f c) t place = stored_cut (read t place a) place a
+asked_cut (Emit w c) t place = None
+
+-- the seat after it, and what it is answered, where a turn is asked
+abbrev pub seat_asked : Option (Want State) → Memory → Seat State → Seat State
+seat_asked None look seat = seat
+seat_asked (Some w) look seat = seat_turn w look seat
+
+abbrev pub asked_answer : Image → Option (Want State) → LineTable → (place : ℕ) → Reply
+asked_answer img None t place = ran
+asked_answer img (Some w) t place = record { what = turn_done (program img) w (view (versioned t) place) (serves_at t place); cut = asked_cut w t place }
+
+-- the asked turn that wants this was done
+pub record IsDone (img : Image) (want : Option (Want State)) (t : LineTable) (place : ℕ) (before after : Seat State) (bus : BusState) (reply : Reply) : Type 0 where
+  pub seat : after ≡ seat_asked want (view (versioned t) place) before
+  pub table : Agrees bus (line_ask want t place)
+  pub reply_is : reply ≡ asked_answer img want t place

@@ -1,0 +1,18 @@
+-- The seats of the active tasks, as the plain machine has them.
+use Rattle.std.specs.Prelude.{ℕ, List, [], ◌∷◌, map, Option, None}
+use Rattle.svc_core_laws.specs.declared.end.End.{End}
+use Rattle.svc_machine_laws.specs.PlainMachine.{Task, Plain}
+use Rattle.svc_machine.specs.declared.seat.Seat.{Seat}
+
+-- a seat's task: its core has counted its turns
+abbrev pub task_of : Seat → Task
+task_of seat = record { unit = seat.unit.0; epoch = seat.epoch; entry = seat.entry; turns = seat.core.count }
+
+-- the plain machine of these counts and seats, oldest task first
+abbrev pub plain_of : (commits accepted epoch : ℕ) → List Seat → Plain
+plain_of commits accepted epoch seats = record { commits = commits; accepted = accepted; epoch = epoch; tasks = map task_of seats }
+
+-- how the oldest of these tasks has ended, where there is one and it has
+abbrev pub head_end : List Seat → Option End
+head_end [] = None
+head_end (seat ∷ seats) = seat.core.done

@@ -1,0 +1,148 @@
+// The machine: the fields behind it, its opening, and its step.
+
+ghost use Rattle.std.specs.Prelude.{◌≡◌, None, Some, IfOk, OnErr, MatchResult};
+ghost use Rattle.svc_machine_laws.specs.Standing.{Standing, after_event, opened_at, refused, reply_to};
+ghost use Rattle.svc_machine.specs.Events.{event_of};
+ghost use Rattle.svc_machine.specs.Value.{StandsAt};
+
+use crate::event::Event;
+use crate::seat::Seat;
+use std::alloc::{AllocError, Global};
+use std::marker::Model;
+use svc_base::{Config, OpenError, Refusal};
+use svc_bus::Bus;
+use svc_core_laws::End;
+use svc_image::Image;
+use svc_machine_laws::Reply;
+use svc_sequencer::Sequencer;
+
+/// A machine of one to sixteen units that runs one program.
+#[derive(Drop)]
+pub struct Machine {
+    pub(crate) image: Image,
+    pub(crate) config: Config,
+    pub(crate) bus: Bus,
+    pub(crate) sequencer: Sequencer,
+    // the active tasks, the head first
+    pub(crate) seats: Vec<Seat>,
+    // the output of the committed tasks
+    pub(crate) output: Vec<u32>,
+    // how the run was stopped
+    pub(crate) stopped: Option<End>,
+    pub(crate) commits: u64,
+    pub(crate) accepted: u32,
+    // the next assignment's
+    pub(crate) epoch: u64,
+}
+
+impl Model for Machine {
+    ghost use Rattle.std.specs.Prelude.{map, vec_capacity};
+    ghost use Rattle.svc_machine.specs.Seats.{plain_of};
+    ghost use Rattle.svc_machine.specs.Value.{MachineValue};
+    ghost use Rattle.svc_machine.specs.Kept.{Kept, whole_seat};
+
+    ghost Value = { MachineValue };
+
+    ghost view = { λ m. record { image = m.image; config = m.config; plain = plain_of m.commits m.accepted m.epoch m.seats.items; bus = m.bus } };
+
+    ghost invariant = { λ m. Kept (record {
+      image = m.image;
+      config = m.config;
+      plain = plain_of m.commits m.accepted m.epoch m.seats.items;
+      bus = m.bus;
+      guide = m.sequencer;
+      seats = map whole_seat m.seats.items;
+      places = vec_capacity m.seats;
+      output = m.output.items;
+      room = vec_capacity m.output;
+      stopped = m.stopped;
+    }) };
+}
+
+impl Machine {
+    /// A machine before any event. It makes all the room that it ever fills; nothing else of it takes memory.
+    ///
+    /// Errors: [`OpenError::Memory`].
+    pub fn open(alloc: Global, image: Image, config: Config) -> Result<Machine, OpenError>
+        ensures image { IfOk result (λ m. m.image ≡ image) }
+        ensures config { IfOk result (λ m. m.config ≡ config) }
+        ensures standing { IfOk result (λ m. StandsAt m (opened_at image config 0)) }
+    {
+        Machine::open_from(alloc, image, config, 0)
+    }
+
+    /// The same, but the first assignment gets this epoch. (`u64::MAX` is never given: it is refused.)
+    ///
+    /// Errors: [`OpenError::Memory`].
+    pub fn open_from(
+        alloc: Global,
+        image: Image,
+        config: Config,
+        first: u64,
+    ) -> Result<Machine, OpenError>
+        ensures image { IfOk result (λ m. m.image ≡ image) }
+        ensures config { IfOk result (λ m. m.config ≡ config) }
+        ensures standing { IfOk result (λ m. StandsAt m (opened_at image config first)) }
+    {
+        let memory = Vec::from_slice(alloc, image.data_words()).map_err(no_memory)?;
+        let bus = Bus::open(alloc, config.units, config.sets, config.ways, memory)?;
+        let sequencer = Sequencer::open(alloc, &image)?;
+        let seats = Vec::with_capacity(alloc, config.units as usize).map_err(no_memory)?;
+        let output = Vec::with_capacity(alloc, config.events as usize).map_err(no_memory)?;
+        Ok(Machine {
+            image,
+            config,
+            bus,
+            sequencer,
+            seats,
+            output,
+            stopped: None,
+            commits: 0,
+            accepted: 0,
+            epoch: first,
+        })
+    }
+
+    /// One event. It is refused exactly where the table of refusals says, with the first refusal that applies, and then
+    /// nothing changes. No memory is taken.
+    ///
+    /// What it does and answers is said for every standing that the machine is at: the plain machine with any line table
+    /// that the bus agrees with.
+    pub fn step(&mut self, event: Event) -> Result<Reply, Refusal>
+        ensures refused { (s : Standing) → StandsAt self.old s → MatchResult result (λ _. refused self.old.image self.old.config s (event_of event) ≡ None) (λ e. refused self.old.image self.old.config s (event_of event) ≡ Some e) }
+        ensures reply { (s : Standing) → StandsAt self.old s → IfOk result (λ r. r ≡ reply_to self.old.image s (event_of event)) }
+        ensures standing { (s : Standing) → StandsAt self.old s → StandsAt self.new (after_event self.old.image self.old.config s (event_of event)) }
+        ensures image { self.new.image ≡ self.old.image }
+        ensures config { self.new.config ≡ self.old.config }
+        ensures unchanged { OnErr result (self.new ≡ self.old) }
+    {
+        self.apply(&event)
+    }
+
+    // The same, of an event that stays its owner's.
+    pub(crate) fn apply(&mut self, event: &Event) -> Result<Reply, Refusal>
+        ensures refused { (s : Standing) → StandsAt self.old s → MatchResult result (λ _. refused self.old.image self.old.config s (event_of event.now) ≡ None) (λ e. refused self.old.image self.old.config s (event_of event.now) ≡ Some e) }
+        ensures reply { (s : Standing) → StandsAt self.old s → IfOk result (λ r. r ≡ reply_to self.old.image s (event_of event.now)) }
+        ensures standing { (s : Standing) → StandsAt self.old s → StandsAt self.new (after_event self.old.image self.old.config s (event_of event.now)) }
+        ensures image { self.new.image ≡ self.old.image }
+        ensures config { self.new.config ≡ self.old.config }
+        ensures unchanged { OnErr result (self.new ≡ self.old) }
+    {
+        if let Some(refusal) = self.refusal(event) {
+            return Err(refusal);
+        }
+        Ok(match event {
+            Event::Assign { unit, guess } => self.assign(*unit, *guess),
+            Event::Submit { burst } => self.submit(burst),
+            Event::Replace { unit, addr } => self.replace(*unit, *addr),
+            Event::Cancel { unit } => self.cancel(*unit),
+            Event::Commit { by } => self.commit(*by),
+        })
+    }
+}
+
+fn no_memory(_refused: AllocError) -> OpenError
+    ensures { result ≡ OpenError.Memory }
+{
+    OpenError::Memory
+}

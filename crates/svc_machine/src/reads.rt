@@ -1,0 +1,140 @@
+// What a machine tells. What each read answers of the committed tasks is what running them one after another on one flat
+// memory leaves.
+
+ghost use Rattle.std.specs.Prelude.{◌≡◌, ◌<◌, true, IfSome, option_map};
+ghost use Rattle.svc_line.specs.Bits.{bits_of};
+ghost use Rattle.svc_core_laws.specs.Bytes.{word_at};
+ghost use Rattle.svc_core_laws.specs.Sequence.{plain_seq, ending_of};
+ghost use Rattle.svc_core_laws.specs.Turns.{data_words};
+ghost use Rattle.svc_core_laws.specs.Words.{program};
+ghost use Rattle.svc_bus_laws.specs.BusState.{unnumbered};
+ghost use Rattle.svc_bus.specs.Calls.{line_shown};
+ghost use Rattle.svc_machine_laws.specs.Guess.{guess};
+ghost use Rattle.svc_machine_laws.specs.Reached.{IsReached};
+ghost use Rattle.svc_machine_laws.specs.Standing.{Standing};
+ghost use Rattle.svc_machine.specs.Value.{StandsAt};
+ghost use Rattle.svc_machine.specs.Reads.{is_full, lease_of, runs_head};
+
+use crate::machine::Machine;
+use crate::seat::place;
+use svc_base::{Config, UnitId, WordAddr};
+use svc_core::Lease;
+use svc_core_laws::{End, Ending};
+use svc_image::Image;
+use svc_line::LineBits;
+
+impl Machine {
+    /// The image.
+    pub fn image(&self) -> &Image
+        ensures { result.now ≡ self.now.image }
+    {
+        &self.image
+    }
+
+    /// The configuration.
+    pub fn config(&self) -> Config
+        ensures config { result ≡ self.now.config }
+        ensures standing { (s : Standing) × StandsAt self.now s }
+        ensures reached { (s : Standing) → StandsAt self.now s → IsReached self.now.image self.now.config s }
+    {
+        self.config
+    }
+
+    /// Whether the unit runs the head, the oldest active task.
+    pub fn is_head(&self, unit: UnitId) -> bool
+        ensures { result ≡ runs_head self.now unit.0 }
+    {
+        match self.seats.first() {
+            Some(seat) => seat.unit.0 == unit.0,
+            None => false,
+        }
+    }
+
+    /// What the unit may run its task on from, without the machine; none where the unit has no task. Its core is that of
+    /// the task's part, run anew on what the tasks before it leave.
+    pub fn lease(&self, unit: UnitId) -> Option<Lease>
+        ensures { result ≡ lease_of self.now unit.0 }
+    {
+        match place(&self.seats, unit) {
+            Some(place) => {
+                let seat = &self.seats[place];
+                Some(Lease::new(seat.unit, seat.epoch, seat.core))
+            }
+            None => None,
+        }
+    }
+
+    /// The entry at which the next assignment should begin its task; none once the run has stopped.
+    pub fn guess(&self) -> Option<u32>
+        ensures { result ≡ guess (program self.now.image) self.now.image.entries self.now.plain }
+    {
+        self.sequencer.predict()
+    }
+
+    /// The entry of the next task to commit; none once the run has stopped.
+    pub fn due(&self) -> Option<u32>
+        ensures { result ≡ (plain_seq self.now.image self.now.plain.commits).due }
+    {
+        self.sequencer.due()
+    }
+
+    /// How many tasks were committed.
+    pub fn committed_tasks(&self) -> u64
+        ensures { result ≡ self.now.plain.commits }
+    {
+        self.commits
+    }
+
+    /// The word that the committed tasks have left: what running them one after another on one flat memory leaves.
+    pub fn committed_memory(&self, addr: WordAddr) -> u32
+        requires in_data { addr.0 < data_words self.now.image }
+        ensures { result ≡ word_at (plain_seq self.now.image self.now.plain.commits).memory addr.0 }
+    {
+        self.bus.committed_memory(addr)
+    }
+
+    /// The word in the backing memory itself.
+    pub fn backing(&self, addr: WordAddr) -> u32
+        requires in_data { addr.0 < data_words self.now.image }
+        ensures { (s : Standing) → StandsAt self.now s → result ≡ s.lines.backing addr.0 }
+    {
+        self.bus.backing(addr)
+    }
+
+    /// The bits and the value of the unit's valid line of the word.
+    pub fn line_at(&self, unit: UnitId, addr: WordAddr) -> Option<(LineBits, u32)>
+        ensures line { (s : Standing) → StandsAt self.now s → option_map line_shown result ≡ unnumbered (s.lines.lines unit.0 addr.0) }
+        ensures valid { IfSome result (λ line. (bits_of line.0).valid ≡ true) }
+    {
+        if u32::from(unit.0) >= self.config.units {
+            return None;
+        }
+        self.bus.line_at(unit, addr)
+    }
+
+    /// The words that the committed tasks have put out, the oldest first: what running them one after another puts out.
+    pub fn output(&self) -> &[u32]
+        ensures { result.now ≡ (plain_seq self.now.image self.now.plain.commits).output }
+    {
+        &self.output
+    }
+
+    /// The exit or trap of the committed task that stopped the run.
+    pub fn stopped(&self) -> Option<End>
+        ensures { result ≡ (plain_seq self.now.image self.now.plain.commits).stopped }
+    {
+        self.stopped
+    }
+
+    /// How the run has ended: by the exit or trap that stopped it; else it is full where no further event is accepted, or
+    /// open, with the entry that is due.
+    pub fn ending(&self) -> Ending
+        ensures { result ≡ ending_of (is_full self.now) (plain_seq self.now.image self.now.plain.commits).stopped (plain_seq self.now.image self.now.plain.commits).due }
+    {
+        Ending::of(
+            self.accepted >= self.config.events,
+            self.stopped,
+            self.due(),
+        )
+    }
+}

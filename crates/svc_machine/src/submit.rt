@@ -1,0 +1,69 @@
+// A burst.
+ghost use Rattle.std.specs.Prelude.{◌≡◌, ◌≤◌, ◌-◌, ℕ, None, length};
+ghost use Rattle.svc_core_laws.specs.Bursts.{IsReady};
+ghost use Rattle.svc_core_laws.specs.Turns.{data_words};
+ghost use Rattle.svc_bus_laws.specs.LineTable.{LineTable};
+ghost use Rattle.svc_bus.specs.Observed.{observed};
+ghost use Rattle.svc_machine_laws.specs.Blame.{tasks_cut};
+ghost use Rattle.svc_machine_laws.specs.Events.{Submit, want_of};
+ghost use Rattle.svc_machine_laws.specs.Refusals.{asked_word};
+ghost use Rattle.svc_machine_laws.specs.Standing.{Standing, refused, reply_to, stepped};
+ghost use Rattle.svc_machine_laws.specs.WholeMachine.{at_core};
+ghost use Rattle.svc_machine.specs.Asked.{IsDone, IsRunning, RunsAt, full_for};
+ghost use Rattle.svc_machine.specs.Kept.{whole_seat};
+ghost use Rattle.svc_machine.specs.Value.{StandsAt};
+
+use crate::asked::do_asked;
+use crate::machine::Machine;
+use crate::seat::{Seat, place};
+use svc_bus::Bus;
+use svc_core::{Burst, Core};
+use svc_core_laws::Ask;
+use svc_image::Image;
+use svc_machine_laws::{Cut, Reply};
+
+impl Machine {
+    // The burst's local turns are taken over, and then its asked turn, if it has one, is done.
+    pub(crate) fn submit(&mut self, burst: &Burst) -> Reply
+        requires { (s : Standing) → StandsAt self.old s → refused self.old.image self.old.config s (Submit burst.now) ≡ None }
+        ensures reply { (s : Standing) → StandsAt self.old s → result ≡ reply_to self.old.image s (Submit burst.now) }
+        ensures standing { (s : Standing) → StandsAt self.old s → StandsAt self.new (stepped self.old.image s (Submit burst.now)) }
+        ensures image { self.new.image ≡ self.old.image }
+        ensures config { self.new.config ≡ self.old.config }
+    {
+        let Some(place) = place(&self.seats, burst.unit()) else {
+            unreachable!()
+        };
+        let seat = &mut self.seats[place];
+        let reply = go_on(&self.image, &mut self.bus, seat, burst.end(), burst.ask());
+        let left = tasks_left(self.seats.len(), reply.cut);
+        self.seats.truncate(left);
+        self.sequencer.cut_from(left);
+        self.accepted += 1;
+        reply
+    }
+}
+
+// The task in the seat comes to this core, and then does the asked turn.
+fn go_on(image: &Image, bus: &mut Bus, seat: &mut Seat, core: &Core, ask: Ask) -> Reply
+    requires ready { IsReady core.now ask }
+    requires running { IsRunning (observed bus.old) seat.old.unit.0 }
+    requires size { (observed bus.old).words ≡ data_words image.now }
+    requires free { full_for (observed bus.old) seat.old.unit.0 (asked_word image.now ask) ≡ None }
+    requires waiting { length seat.old.waiting.items ≡ core.now.emitted }
+    ensures { (t : LineTable) → (place : ℕ) → RunsAt (observed bus.old) seat.old.unit.0 t place → IsDone image.now (want_of image.now core.now ask) t place (at_core core.now (whole_seat seat.old)) (whole_seat seat.new) (observed bus.new) result }
+{
+    seat.core = *core;
+    do_asked(image, bus, seat, ask)
+}
+
+// How many of so many tasks are left.
+fn tasks_left(count: usize, cut: Option<Cut>) -> usize
+    requires { tasks_cut cut ≤ count }
+    ensures { result ≡ count - tasks_cut cut }
+{
+    match cut {
+        Some(cut) => count - cut.tasks as usize,
+        None => count,
+    }
+}

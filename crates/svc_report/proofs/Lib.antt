@@ -1,0 +1,6 @@
+pub mod PlainLines
+pub mod Rows
+pub mod SameColumns
+pub mod RoundTrip
+pub mod Steps
+pub mod Tracks

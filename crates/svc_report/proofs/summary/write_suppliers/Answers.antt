@@ -1,0 +1,16 @@
+use Rattle.std.proofs.Common.{◌++◌, codes}
+use Rattle.svc_report.specs.Summary.{number_row}
+use Rattle.svc_report.proofs.PlainLines.{on_ok, then_appends}
+use Rattle.svc_report.proofs.summary.write_suppliers.Goals as goal
+
+pub returns-clause-ok : goal.returns-clause-ok
+returns-clause-ok g c =
+    let now = g.W.Write.contents in
+    let last = now c.write_number-6.new.w in
+    on_ok c.write_number-6.result (λ h.
+    then_appends (now c.args.w.now) (now c.write_number.new.w) last (number_row (codes "served-hit") c.args.counts.now.hit) ((number_row (codes "served-reuse") c.args.counts.now.reuse) ++ ((number_row (codes "served-version") c.args.counts.now.version) ++ ((number_row (codes "served-spill") c.args.counts.now.spill) ++ ((number_row (codes "served-committed") c.args.counts.now.committed) ++ (number_row (codes "served-memory") c.args.counts.now.memory))))) c.in_ok-buffer.ensures.ok (
+    then_appends (now c.write_number.new.w) (now c.write_number-2.new.w) last (number_row (codes "served-reuse") c.args.counts.now.reuse) ((number_row (codes "served-version") c.args.counts.now.version) ++ ((number_row (codes "served-spill") c.args.counts.now.spill) ++ ((number_row (codes "served-committed") c.args.counts.now.committed) ++ (number_row (codes "served-memory") c.args.counts.now.memory)))) c.in_ok-buffer-2.ensures.ok (
+    then_appends (now c.write_number-2.new.w) (now c.write_number-3.new.w) last (number_row (codes "served-version") c.args.counts.now.version) ((number_row (codes "served-spill") c.args.counts.now.spill) ++ ((number_row (codes "served-committed") c.args.counts.now.committed) ++ (number_row (codes "served-memory") c.args.counts.now.memory))) c.in_ok-buffer-3.ensures.ok (
+    then_appends (now c.write_number-3.new.w) (now c.write_number-4.new.w) last (number_row (codes "served-spill") c.args.counts.now.spill) ((number_row (codes "served-committed") c.args.counts.now.committed) ++ (number_row (codes "served-memory") c.args.counts.now.memory)) c.in_ok-buffer-4.ensures.ok (
+    then_appends (now c.write_number-4.new.w) (now c.write_number-5.new.w) last (number_row (codes "served-committed") c.args.counts.now.committed) (number_row (codes "served-memory") c.args.counts.now.memory) c.in_ok-buffer-5.ensures.ok (
+    h)))))) c.write_number-6.ensures.ok

@@ -1,0 +1,7 @@
+pub mod Faults
+pub mod Fields
+pub mod Lines
+pub mod Records
+pub mod Script
+pub mod Summary
+pub mod Trace

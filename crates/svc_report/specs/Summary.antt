@@ -1,0 +1,99 @@
+-- The text of a summary.
+use Rattle.std.specs.Prelude.{ℕ, List, [], ◌∷◌, ◌++◌, Option, Some, None, Bool, true, false, codes, decimal, flat_map, count_by}
+use Rattle.svc_core_laws.specs.declared.end.Ending.{Ending}
+use Rattle.svc_core_laws.specs.declared.end.Ending.TheVariants as ending
+use Rattle.svc_history_laws.specs.declared.entry.Kind.{Kind}
+use Rattle.svc_history_laws.specs.declared.entry.Kind.TheVariants as kind
+use Rattle.svc_history_laws.specs.declared.entry.ServedKind.{ServedKind}
+use Rattle.svc_history_laws.specs.declared.entry.ServedKind.TheVariants as served
+use Rattle.svc_history_laws.specs.declared.entry.CutKind.{CutKind}
+use Rattle.svc_history_laws.specs.declared.entry.CutKind.TheVariants as cause
+use Rattle.svc_history_laws.specs.declared.entry.Entry.{Entry}
+use Rattle.svc_report.specs.declared.summary.Counts.{Counts}
+use Rattle.svc_report.specs.Lines.{line}
+
+abbrev pub is_kind : Kind → Kind → Bool
+is_kind kind.Assign kind.Assign = true
+is_kind kind.Submit kind.Submit = true
+is_kind kind.Replace kind.Replace = true
+is_kind kind.Cancel kind.Cancel = true
+is_kind kind.Commit kind.Commit = true
+is_kind _ _ = false
+
+abbrev pub is_supplier : ServedKind → Option ServedKind → Bool
+is_supplier served.Hit (Some served.Hit) = true
+is_supplier served.Reuse (Some served.Reuse) = true
+is_supplier served.Version (Some served.Version) = true
+is_supplier served.Spill (Some served.Spill) = true
+is_supplier served.Committed (Some served.Committed) = true
+is_supplier served.Memory (Some served.Memory) = true
+is_supplier _ _ = false
+
+abbrev pub is_cause : CutKind → Option CutKind → Bool
+is_cause cause.Violation (Some cause.Violation) = true
+is_cause cause.Guess (Some cause.Guess) = true
+is_cause cause.Cancel (Some cause.Cancel) = true
+is_cause _ _ = false
+
+abbrev pub count_of_kind : Kind → List Entry → ℕ
+count_of_kind k h = count_by (λ e. is_kind k e.kind) h
+
+abbrev pub count_of_supplier : ServedKind → List Entry → ℕ
+count_of_supplier k h = count_by (λ e. is_supplier k e.served) h
+
+abbrev pub count_of_cause : CutKind → List Entry → ℕ
+count_of_cause k h = count_by (λ e. is_cause k e.cause) h
+
+-- how many entries of a history have each kind, each supplier and each cause
+abbrev pub counts_of : List Entry → Counts
+counts_of h = record {
+  assign = count_of_kind kind.Assign h;
+  submit = count_of_kind kind.Submit h;
+  replace = count_of_kind kind.Replace h;
+  cancel = count_of_kind kind.Cancel h;
+  commit = count_of_kind kind.Commit h;
+  hit = count_of_supplier served.Hit h;
+  reuse = count_of_supplier served.Reuse h;
+  version = count_of_supplier served.Version h;
+  spill = count_of_supplier served.Spill h;
+  committed = count_of_supplier served.Committed h;
+  memory = count_of_supplier served.Memory h;
+  violation = count_of_cause cause.Violation h;
+  guess = count_of_cause cause.Guess h;
+  cancelled = count_of_cause cause.Cancel h;
+}
+
+-- a row of a name and a number
+abbrev pub number_row : List ℕ → ℕ → List ℕ
+number_row name number = line (name ∷ decimal number ∷ [])
+
+-- a row for each word put out, in order
+abbrev pub output_rows : List ℕ → List ℕ
+output_rows output = flat_map (λ word. number_row (codes "out") word) output
+
+-- the row that says how a run ended
+abbrev pub ending_row : Ending → List ℕ
+ending_row (ending.Exit code) = number_row (codes "exit") code
+ending_row (ending.Trap number) = number_row (codes "trap") number
+ending_row (ending.Full entry) = number_row (codes "full") entry
+ending_row (ending.Open entry) = number_row (codes "open") entry
+
+abbrev pub kind_rows : Counts → List ℕ
+kind_rows c = number_row (codes "kind-assign") c.assign ++ (number_row (codes "kind-submit") c.submit ++ (number_row (codes "kind-replace") c.replace
+    ++ (number_row (codes "kind-cancel") c.cancel ++ number_row (codes "kind-commit") c.commit)))
+
+abbrev pub supplier_rows : Counts → List ℕ
+supplier_rows c = number_row (codes "served-hit") c.hit ++ (number_row (codes "served-reuse") c.reuse ++ (number_row (codes "served-version") c.version
+    ++ (number_row (codes "served-spill") c.spill ++ (number_row (codes "served-committed") c.committed ++ number_row (codes "served-memory") c.memory))))
+
+abbrev pub cause_rows : Counts → List ℕ
+cause_rows c = number_row (codes "cut-violation") c.violation ++ (number_row (codes "cut-guess") c.guess ++ number_row (codes "cut-cancel") c.cancelled)
+
+-- a row for each count, where they are given
+abbrev pub counts_rows : Option Counts → List ℕ
+counts_rows None = []
+counts_rows (Some c) = kind_rows c ++ (supplier_rows c ++ cause_rows c)
+
+-- the words put out, the number of tasks, the ending, and the counts where they are given
+abbrev pub summary_of : List ℕ → ℕ → Ending → Option Counts → List ℕ
+summary_of output tasks ending counts = output_rows output ++ (number_row (codes "tasks") tasks ++ (ending_row ending ++ counts_rows counts))

@@ -1,0 +1,19 @@
+//! The texts of histories: traces, summaries and scripts, over any writer or reader, as `csv` writes and reads records.
+#![tactic(auto)]
+
+mod error;
+mod lines;
+mod numbers;
+mod records;
+mod script;
+mod summary;
+mod trace;
+mod words;
+
+pub use error::ReportError;
+pub use script::{Step, StepKind, read_script};
+pub use summary::{Counts, write_summary};
+pub use trace::{read_trace, write_entry, write_trace};
+
+#[cfg(test)]
+mod tests;

@@ -1,0 +1,70 @@
+// Reads records of fields.
+
+ghost use Rattle.std.specs.Prelude.{◌≡◌, ◌≤◌, [], length, get_or, map, option_map, IfOk, IfErr, MatchResult};
+ghost use Rattle.csv.specs.Reading.{ReadRecord, source_of, reader_state, strip_bom};
+ghost use Rattle.csv.specs.Records.{fields_of};
+ghost use Rattle.csv.specs.declared.parser.State.TheVariants as st;
+ghost use Rattle.svc_report.specs.Faults.{IsStreamFault};
+ghost use Rattle.svc_report.specs.Records.{FirstOther, IsOpen};
+
+use crate::error::ReportError;
+use csv::{ByteRecord, ErrorKind, Reader, ReaderBuilder};
+use std::alloc::Global;
+use std::io::Read;
+
+/// A reader of records with the usual settings. A record may have any number of fields, since it is for the caller to
+/// name one that has another number.
+pub(crate) fn open<R: Read>(alloc: Global, reader: R) -> Reader<R>
+    ensures open { IsOpen result }
+    ensures state { reader_state result ≡ st.StartRecord }
+    ensures source { source_of R.remaining result ≡ option_map strip_bom (R.remaining reader) }
+{
+    ReaderBuilder::new()
+        .has_headers(false)
+        .flexible(true)
+        .from_reader(alloc, reader)
+}
+
+/// Reads the next record, and says whether there was one.
+pub(crate) fn next_row<R: Read>(
+    reader: &mut Reader<R>,
+    row: &mut ByteRecord,
+) -> Result<bool, ReportError>
+    requires { IsOpen reader.old }
+    ensures reads { IfOk result (λ found. IsOpen reader.new × ReadRecord R.remaining reader.old reader.new found (fields_of row.new)) }
+    ensures err { IfErr result IsStreamFault }
+{
+    match reader.read_byte_record(row) {
+        Ok(found) => Ok(found),
+        Err(error) => match error.into_kind() {
+            ErrorKind::OutOfMemory => Err(ReportError::Memory),
+            _ => Err(ReportError::Read),
+        },
+    }
+}
+
+/// A field of a record, which is empty past the record's end.
+pub(crate) fn field(row: &ByteRecord, place: usize) -> &[u8]
+    ensures { result.now ≡ get_or (fields_of row.now) place [] }
+{
+    match row.get(place) {
+        Some(field) => field,
+        None => &[],
+    }
+}
+
+/// Compares a record with names, and answers the first column that has another one.
+pub(crate) fn check_names(row: &ByteRecord, names: &[&[u8]]) -> Result<(), u8>
+    requires { length names.now ≤ 100 }
+    ensures { MatchResult result (λ _. fields_of row.now ≡ map (λ n. n.now) names.now) (λ c. FirstOther (fields_of row.now) (map (λ n. n.now) names.now) c) }
+{
+    if row.len() != names.len() {
+        return Err(0);
+    }
+    for place in 0..names.len() {
+        if field(row, place) != names[place] {
+            return Err(place as u8 + 1);
+        }
+    }
+    Ok(())
+}

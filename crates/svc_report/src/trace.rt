@@ -1,0 +1,173 @@
+// Traces: a text with a row for each entry of a history.
+
+ghost use Rattle.std.specs.Prelude.{◌≡◌, [], OnOk, IfOk, IfErr, IfSome, MatchResult, List, Some};
+ghost use Rattle.std.specs.List.{AllByRecursion};
+ghost use Rattle.std.specs.Io.KnownBytes.{Appends};
+ghost use Rattle.csv.specs.Records.{fields_of};
+ghost use Rattle.svc_history_laws.specs.declared.entry.Entry.{Entry};
+ghost use Rattle.svc_report.specs.Faults.{IsStreamFault, IsWriteFault};
+ghost use Rattle.svc_report.specs.Records.{IsText};
+ghost use Rattle.svc_report.specs.Trace.{FirstBad, HasRow, IsReadFault, columns, row_of, text_of, trace_records};
+
+use crate::error::ReportError;
+use crate::lines::{LineBuffer, write_line};
+use crate::numbers::{
+    address_text, number_text, optional_address_of, optional_number_of, optional_small_of,
+    optional_unit_of, small_text, unit_of, unit_text,
+};
+use crate::records::{check_names, field, next_row, open};
+use crate::words::{
+    ask_of, ask_text, cause_of, cause_text, kind_of, kind_text, reply_of, reply_text, served_of,
+    served_text,
+};
+use csv::ByteRecord;
+use itoa::Buffer;
+use std::alloc::Global;
+use std::io::{Read, Write};
+use svc_history_laws::Entry;
+
+// The names of the columns.
+const HEADER: [&[u8]; 13] = [
+    b"kind",
+    b"unit",
+    b"arg",
+    b"local",
+    b"ask",
+    b"reply",
+    b"addr",
+    b"word",
+    b"served",
+    b"from",
+    b"cause",
+    b"first",
+    b"squashed",
+];
+
+// The most local turns of a burst.
+const MOST_LOCAL: u8 = 63;
+
+// Writes the row of an entry by way of an empty buffer, which it gives back.
+fn write_row<W: Write>(
+    buffer: LineBuffer,
+    entry: &Entry,
+    w: &mut W,
+) -> Result<LineBuffer, ReportError>
+    requires { buffer.items ≡ [] }
+    ensures ok { OnOk result (Appends (W.contents w.old) (W.contents w.new) (row_of entry.now)) }
+    ensures empty { IfOk result (λ buffer. buffer.items ≡ []) }
+    ensures err { IfErr result IsWriteFault }
+{
+    let mut unit = Buffer::new();
+    let mut arg = Buffer::new();
+    let mut local = Buffer::new();
+    let mut addr = Buffer::new();
+    let mut word = Buffer::new();
+    let mut from = Buffer::new();
+    let mut first = Buffer::new();
+    let mut squashed = Buffer::new();
+    let fields = [
+        kind_text(entry.kind).as_bytes(),
+        unit_text(&mut unit, Some(entry.unit)).as_bytes(),
+        number_text(&mut arg, entry.arg).as_bytes(),
+        small_text(&mut local, entry.local).as_bytes(),
+        ask_text(entry.ask).as_bytes(),
+        reply_text(entry.reply).as_bytes(),
+        address_text(&mut addr, entry.addr).as_bytes(),
+        number_text(&mut word, entry.word).as_bytes(),
+        served_text(entry.served).as_bytes(),
+        unit_text(&mut from, entry.from).as_bytes(),
+        cause_text(entry.cause).as_bytes(),
+        number_text(&mut first, entry.first).as_bytes(),
+        number_text(&mut squashed, entry.squashed).as_bytes(),
+    ];
+    write_line(buffer, &fields, w)
+}
+
+/// Writes the row of an entry.
+pub fn write_entry<W: Write>(alloc: Global, entry: &Entry, w: &mut W) -> Result<(), ReportError>
+    ensures ok { OnOk result (Appends (W.contents w.old) (W.contents w.new) (row_of entry.now)) }
+    ensures err { IfErr result IsWriteFault }
+{
+    let _buffer = write_row(Vec::new(alloc), entry, w)?;
+    Ok(())
+}
+
+/// Writes the text of a history: the names of the columns, and a row for each entry.
+pub fn write_trace<W: Write>(alloc: Global, entries: &[Entry], w: &mut W) -> Result<(), ReportError>
+    ensures ok { OnOk result (Appends (W.contents w.old) (W.contents w.new) (text_of entries.now)) }
+    ensures err { IfErr result IsWriteFault }
+{
+    let mut buffer = write_line(Vec::new(alloc), &HEADER, w)?;
+    for entry in entries {
+        buffer = write_row(buffer, entry, w)?;
+    }
+    Ok(())
+}
+
+// The entry of a record, or the first bad column.
+fn entry_of(row: &ByteRecord) -> Result<Entry, u8>
+    ensures { MatchResult result (λ e. HasRow e × (fields_of row.now ≡ columns e)) (λ c. FirstBad (fields_of row.now) c) }
+{
+    if row.len() != HEADER.len() {
+        return Err(0);
+    }
+    Ok(Entry {
+        kind: kind_of(field(row, 0)).ok_or(1)?,
+        unit: unit_of(field(row, 1)).ok_or(2)?,
+        arg: optional_number_of(field(row, 2)).ok_or(3)?,
+        local: optional_small_of(field(row, 3), MOST_LOCAL).ok_or(4)?,
+        ask: ask_of(field(row, 4)).ok_or(5)?,
+        reply: reply_of(field(row, 5)).ok_or(6)?,
+        addr: optional_address_of(field(row, 6)).ok_or(7)?,
+        word: optional_number_of(field(row, 7)).ok_or(8)?,
+        served: served_of(field(row, 8)).ok_or(9)?,
+        from: optional_unit_of(field(row, 9)).ok_or(10)?,
+        cause: cause_of(field(row, 10)).ok_or(11)?,
+        first: optional_number_of(field(row, 11)).ok_or(12)?,
+        squashed: optional_number_of(field(row, 12)).ok_or(13)?,
+    })
+}
+
+// Reads a trace: what `read_trace` promises, but for the text of a history, which follows from this.
+fn entries_of<R: Read + Drop>(alloc: Global, reader: R) -> Result<Vec<Entry>, ReportError>
+    ensures ok { IfOk result (λ v. AllByRecursion HasRow v.items × IfSome (R.remaining reader) (λ text. IsText text (trace_records v.items))) }
+    ensures err { IfErr result (λ e. IsReadFault (R.remaining reader) e) }
+{
+    let mut reader = open(alloc, reader);
+    let mut row = ByteRecord::new(alloc);
+    if !next_row(&mut reader, &mut row)? {
+        return Err(ReportError::Row { row: 1, column: 0 });
+    }
+    if let Err(column) = check_names(&row, &HEADER) {
+        return Err(ReportError::Row { row: 1, column });
+    }
+    let mut entries = Vec::new(alloc);
+    for number in 2..u64::MAX {
+        if !next_row(&mut reader, &mut row)? {
+            return Ok(entries);
+        }
+        match entry_of(&row) {
+            Ok(entry) => entries.push(entry)?,
+            Err(column) => {
+                return Err(ReportError::Row {
+                    row: number,
+                    column,
+                });
+            }
+        }
+    }
+    // So many entries fit no memory.
+    Err(ReportError::Memory)
+}
+
+/// Reads the text of a history.
+pub fn read_trace<R: Read + Drop>(alloc: Global, reader: R) -> Result<Vec<Entry>, ReportError>
+    // The text is the names of the columns and the rows of these entries, and no other record.
+    ensures ok { IfOk result (λ v. AllByRecursion HasRow v.items × IfSome (R.remaining reader) (λ text. IsText text (trace_records v.items))) }
+    // The first bad record and its first bad column.
+    ensures err { IfErr result (λ e. IsReadFault (R.remaining reader) e) }
+    // The text of a history is read again, unless memory or the reader fails.
+    ensures back { (h : List Entry) → AllByRecursion HasRow h → R.remaining reader ≡ Some (text_of h) → MatchResult result (λ v. v.items ≡ h) IsStreamFault }
+{
+    entries_of(alloc, reader)
+}

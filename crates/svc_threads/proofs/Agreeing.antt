@@ -1,0 +1,115 @@
+-- Comparing a unit's slips with the history, entry by entry.
+use Rattle.std.proofs.Common.{◌≡◌, ◌≢◌, ℕ, zero, suc, ◌+◌, ◌<◌, ◌≤◌, ◌==◌, Bool, true, false, cond, List, [], ◌∷◌, length, drop, get_or, refl, sym, ap, ◌∙◌, arith, add-one, length-drop}
+use Rattle.std.proofs.lemmas.Bool.Decides.{nat_tests}
+use Rattle.std.proofs.lemmas.List.{drop_all}
+use Rattle.std.proofs.Math.Seq.{drop-cons}
+use Rattle.svc_history_laws.specs.declared.entry.Entry.{Entry}
+use Rattle.svc_history_laws.specs.declared.entry.Slip.{Slip}
+use Rattle.svc_threads.specs.Outcomes.{lists_from, slip_at, slips_from, slips_of}
+
+-- what is left to compare
+abbrev pub Left : ℕ → ℕ → List Entry → ℕ → List Slip → Type 0
+Left unit index entries next slips = drop next slips ≡ slips_from index unit (drop index entries)
+
+-- the slips agree exactly where what is left does
+abbrev pub Hangs : ℕ → ℕ → List Entry → ℕ → List Slip → Type 0
+Hangs unit index entries next slips = ((slips ≡ slips_of unit entries) → Left unit index entries next slips) × (Left unit index entries next slips → (slips ≡ slips_of unit entries))
+
+pub hangs_first : (unit : ℕ) (entries : List Entry) (slips : List Slip) → Hangs unit 0 entries 0 slips
+hangs_first unit entries slips = (λ e. e, λ e. e)
+
+skip : (unit i : ℕ) (e : Entry) (es : List Entry) → e.unit.0 ≢ unit → slips_from i unit (e ∷ es) ≡ slips_from (suc i) unit es
+skip unit i e es other = go (e.unit.0 == unit) refl
+  where
+    go : (b : Bool) → (e.unit.0 == unit) ≡ b → cond b (slip_at i e ∷ slips_from (suc i) unit es) (slips_from (suc i) unit es) ≡ slips_from (suc i) unit es
+    go true h = absurd (grind (arith, nat_tests))
+    go false h = refl
+
+take_one : (unit i : ℕ) (e : Entry) (es : List Entry) → e.unit.0 ≡ unit → slips_from i unit (e ∷ es) ≡ slip_at i e ∷ slips_from (suc i) unit es
+take_one unit i e es own = go (e.unit.0 == unit) refl
+  where
+    go : (b : Bool) → (e.unit.0 == unit) ≡ b → cond b (slip_at i e ∷ slips_from (suc i) unit es) (slips_from (suc i) unit es) ≡ slip_at i e ∷ slips_from (suc i) unit es
+    go true h = refl
+    go false h = absurd (grind (arith, nat_tests))
+
+-- the rest of the history at an entry of another unit, and at one of this
+rest_skips : (unit i : ℕ) (entries : List Entry) (d : Entry) → i < length entries → (get_or entries i d).unit.0 ≢ unit
+    → slips_from i unit (drop i entries) ≡ slips_from (i + 1) unit (drop (i + 1) entries)
+rest_skips unit i entries d inside other =
+    rw (add-one, drop-cons entries i d inside) (skip unit i (get_or entries i d) (drop (suc i) entries) other)
+
+rest_takes : (unit i : ℕ) (entries : List Entry) (d : Entry) → i < length entries → (get_or entries i d).unit.0 ≡ unit
+    → slips_from i unit (drop i entries) ≡ slip_at i (get_or entries i d) ∷ slips_from (i + 1) unit (drop (i + 1) entries)
+rest_takes unit i entries d inside own =
+    rw (add-one, drop-cons entries i d inside) (take_one unit i (get_or entries i d) (drop (suc i) entries) own)
+
+pub hangs_skip : (unit i : ℕ) (entries : List Entry) (next : ℕ) (slips : List Slip) (d : Entry) → Hangs unit i entries next slips → i < length entries → (get_or entries i d).unit.0 ≢ unit → Hangs unit (i + 1) entries next slips
+hangs_skip unit i entries next slips d h inside other =
+    let same = rest_skips unit i entries d inside other in (λ e. h.0 e ∙ same, λ l. h.1 (l ∙ sym same))
+
+pub hangs_take : (unit i : ℕ) (entries : List Entry) (next : ℕ) (slips : List Slip) (d : Entry) (s : Slip) → Hangs unit i entries next slips → i < length entries → (get_or entries i d).unit.0 ≡ unit
+    → next < length slips → get_or slips next s ≡ slip_at i (get_or entries i d) → Hangs unit (i + 1) entries (next + 1) slips
+hangs_take unit i entries next slips d s h inside own room same =
+    let now = rest_takes unit i entries d inside own in
+    let front : drop next slips ≡ get_or slips next s ∷ drop (next + 1) slips = rw add-one (drop-cons slips next s room) in (
+      (λ e. let all : get_or slips next s ∷ drop (next + 1) slips ≡ slip_at i (get_or entries i d) ∷ slips_from (i + 1) unit (drop (i + 1) entries) = sym front ∙ (h.0 e ∙ now) in cc (all)),
+      (λ l. h.1 (front ∙ (λ j. same j ∷ l j) ∙ sym now)),
+    )
+
+-- no list agrees that has too few slips, or another one
+pub hangs_short : (unit i : ℕ) (entries : List Entry) (next : ℕ) (slips : List Slip) (d : Entry) → Hangs unit i entries next slips → i < length entries → (get_or entries i d).unit.0 ≡ unit
+    → length slips ≤ next → slips ≡ slips_of unit entries → ⊥
+hangs_short unit i entries next slips d h inside own short e =
+    let none : drop next slips ≡ [] = drop_all next slips short in cc (none, h.0 e, rest_takes unit i entries d inside own)
+
+pub hangs_other : (unit i : ℕ) (entries : List Entry) (next : ℕ) (slips : List Slip) (d : Entry) (s : Slip) → Hangs unit i entries next slips → i < length entries → (get_or entries i d).unit.0 ≡ unit
+    → next < length slips → (get_or slips next s ≡ slip_at i (get_or entries i d) → ⊥) → slips ≡ slips_of unit entries → ⊥
+hangs_other unit i entries next slips d s h inside own room differs e =
+    let front : drop next slips ≡ get_or slips next s ∷ drop (next + 1) slips = rw add-one (drop-cons slips next s room) in
+    let all : get_or slips next s ∷ drop (next + 1) slips ≡ slip_at i (get_or entries i d) ∷ slips_from (i + 1) unit (drop (i + 1) entries) = sym front ∙ (h.0 e ∙ rest_takes unit i entries d inside own) in
+    differs (cc (all))
+
+-- at the end the slips agree exactly where none is left
+pub hangs_last : (unit i : ℕ) (entries : List Entry) (next : ℕ) (slips : List Slip) → Hangs unit i entries next slips → length entries ≤ i → next ≤ length slips
+    → ((length slips ≤ next) → slips ≡ slips_of unit entries) × (slips ≡ slips_of unit entries → length slips ≤ next)
+hangs_last unit i entries next slips h past within =
+    let done : drop i entries ≡ [] = drop_all i entries past in
+    let nothing : slips_from i unit (drop i entries) ≡ [] = ap (λ (es : List Entry). slips_from i unit es) done in (
+      (λ le. h.1 (drop_all next slips le ∙ sym nothing)),
+      (λ e. omega (arith, simp length-drop at (ap length (h.0 e ∙ nothing)))),
+    )
+
+-- ---- the lists of all units
+
+pub lists_length : (unit n : ℕ) (entries : List Entry) → length (lists_from unit n entries) ≡ n
+lists_length unit zero entries = omega arith
+lists_length unit (suc n) entries = let rest = lists_length (suc unit) n entries in omega (arith, rest)
+
+-- the lists of the units from one on are those that the history gives
+abbrev pub LeftLists : ℕ → ℕ → List Entry → List (List Slip) → Type 0
+LeftLists unit n entries lists = drop unit lists ≡ lists_from unit n entries
+
+abbrev pub HangsLists : ℕ → ℕ → ℕ → List Entry → List (List Slip) → Type 0
+HangsLists unit n units entries lists = ((lists ≡ lists_from 0 units entries) → LeftLists unit n entries lists) × (LeftLists unit n entries lists → (lists ≡ lists_from 0 units entries))
+
+pub lists_first : (units : ℕ) (entries : List Entry) (lists : List (List Slip)) → HangsLists 0 units units entries lists
+lists_first units entries lists = (λ e. e, λ e. e)
+
+-- one list agrees, and the rest decides
+pub lists_next : (unit n units : ℕ) (entries : List Entry) (lists : List (List Slip)) → HangsLists unit (suc n) units entries lists → unit < length lists → get_or lists unit [] ≡ slips_of unit entries → HangsLists (unit + 1) n units entries lists
+lists_next unit n units entries lists h inside same =
+    let front : drop unit lists ≡ get_or lists unit [] ∷ drop (unit + 1) lists = rw add-one (drop-cons lists unit [] inside) in
+    let up : suc unit ≡ unit + 1 = omega arith in
+    let more : lists_from unit (suc n) entries ≡ slips_of unit entries ∷ lists_from (unit + 1) n entries = ap (λ (k : ℕ). slips_of unit entries ∷ lists_from k n entries) up in (
+      (λ e. let all : get_or lists unit [] ∷ drop (unit + 1) lists ≡ slips_of unit entries ∷ lists_from (unit + 1) n entries = sym front ∙ (h.0 e ∙ more) in cc (all)),
+      (λ l. h.1 (front ∙ ((λ j. same j ∷ l j) ∙ sym more))),
+    )
+
+-- one list does not agree, so they do not
+pub lists_differ : (unit n units : ℕ) (entries : List Entry) (lists : List (List Slip)) → HangsLists unit (suc n) units entries lists → unit < length lists → (get_or lists unit [] ≡ slips_of unit entries → ⊥) → lists ≡ lists_from 0 units entries → ⊥
+lists_differ unit n units entries lists h inside other e =
+    let front : drop unit lists ≡ get_or lists unit [] ∷ drop (unit + 1) lists = rw add-one (drop-cons lists unit [] inside) in
+    let all : get_or lists unit [] ∷ drop (unit + 1) lists ≡ slips_of unit entries ∷ lists_from (suc unit) n entries = sym front ∙ h.0 e in other (cc (all))
+
+pub lists_last : (unit units : ℕ) (entries : List Entry) (lists : List (List Slip)) → HangsLists unit 0 units entries lists → length lists ≤ unit → lists ≡ lists_from 0 units entries
+lists_last unit units entries lists h past = h.1 (drop_all unit lists past)

@@ -1,0 +1,5 @@
+pub mod Rises
+pub mod Counting
+pub mod SameImages
+pub mod Agreeing
+pub mod Owning

@@ -1,0 +1,37 @@
+-- Which slips and which history make an outcome.
+use Rattle.std.specs.Prelude.{◌≡◌, ℕ, zero, suc, ◌==◌, cond, List, [], ◌∷◌}
+use Rattle.svc_base.specs.declared.config.Config.{Config}
+use Rattle.svc_image.specs.Image.{Image}
+use Rattle.svc_history_laws.specs.declared.entry.Entry.{Entry}
+use Rattle.svc_history_laws.specs.declared.entry.Slip.{Slip}
+use Rattle.svc_history.specs.Recorded.{Recorded, IsLegal}
+
+abbrev pub slip_at : (index : ℕ) → Entry → Slip
+slip_at index e = record { index = index; entry = e }
+
+-- the entries of one unit with their indexes, where the first entry has this index
+abbrev pub slips_from : (index unit : ℕ) → List Entry → List Slip
+slips_from index unit [] = []
+slips_from index unit (e ∷ es) = cond (e.unit.0 == unit) (slip_at index e ∷ slips_from (suc index) unit es) (slips_from (suc index) unit es)
+
+abbrev pub slips_of : (unit : ℕ) → List Entry → List Slip
+slips_of unit es = slips_from 0 unit es
+
+-- the same of so many units, from one on: a list for each
+abbrev pub lists_from : (unit units : ℕ) → List Entry → List (List Slip)
+lists_from unit zero es = []
+lists_from unit (suc n) es = slips_of unit es ∷ lists_from (suc unit) n es
+
+-- there is one list a unit, and it is that unit's entries with their indexes, in order
+abbrev pub AreTheUnits : Recorded → List (List Slip) → Type 0
+AreTheUnits r lists = lists ≡ lists_from 0 r.machine.config.units r.entries
+
+-- the recorder is one of this image and configuration
+abbrev pub IsGiven : Image → Config → Recorded → Type 0
+IsGiven image config r = (r.machine.image ≡ image) × (r.machine.config ≡ config)
+
+-- a legal history of this image and configuration, with each unit's slips as its entries
+pub record IsOutcome (image : Image) (config : Config) (r : Recorded) (lists : List (List Slip)) : Type 0 where
+  pub given : IsGiven image config r
+  pub legal : IsLegal r
+  pub units : AreTheUnits r lists

@@ -1,0 +1,155 @@
+// What lies under the bus lock.
+
+ghost use Rattle.std.specs.Prelude.{◌≡◌, ◌<◌, ◌≤◌, ◌++◌, ◌∷◌, [], true, length, None, Some, IfOk, OnErr, MatchResult};
+ghost use Rattle.std.specs.Arc.{arc_value};
+ghost use Rattle.svc_base.specs.declared.refusal.Refusal.TheVariants as refusal;
+ghost use Rattle.svc_machine_laws.specs.Standing.{refused, reply_to, after_event};
+ghost use Rattle.svc_machine.specs.Events.{event_of};
+ghost use Rattle.svc_history_laws.specs.Board.{assigns, board, commits};
+ghost use Rattle.svc_history_laws.specs.Entries.{entry_of};
+ghost use Rattle.svc_history.specs.Glances.{IsGlance};
+ghost use Rattle.svc_history.specs.Recorded.{IsLegal, standing_of};
+ghost use Rattle.svc_threads.specs.Boards.{knower, InOrder};
+ghost use Rattle.svc_threads.specs.Counts.{row_of_entries, with_entry, IsSmall};
+
+use crate::board::{Board, BoardPass, BoardRow};
+use std::marker::Model;
+use std::sync::{Arc, Wait};
+use svc_base::{Refusal, UnitId};
+use svc_history::{Entry, Event, Glance, Kind, Recorder, Slip};
+
+/// A recorder with the numbers of its history, and a board that shows them. By the type they are those numbers, and the
+/// pass is the one of that board that publishes and knows them.
+#[derive(Drop)]
+pub(crate) struct Locked {
+    recorder: Recorder,
+    counts: BoardRow,
+    publisher: BoardPass,
+    board: Arc<Board>,
+}
+
+impl Model for Locked {
+    ghost use Rattle.std.specs.Prelude.{◌≡◌, true};
+    ghost use Rattle.std.specs.Arc.{arc_value};
+    ghost use Rattle.svc_history.specs.Recorded.{Recorded};
+    ghost use Rattle.svc_threads.specs.Boards.{knower};
+    ghost use Rattle.svc_threads.specs.Counts.{row_of_entries};
+
+    ghost Value = { Recorded };
+
+    ghost view = { λ l. l.recorder };
+
+    ghost invariant = { λ l. (l.counts ≡ row_of_entries l.recorder.entries) × (l.publisher ≡ knower (arc_value l.board) true l.counts) };
+}
+
+impl Locked {
+    // Puts a recorder beside a board that shows its numbers already.
+    pub(crate) fn new(
+        recorder: Recorder,
+        board: Arc<Board>,
+        counts: BoardRow,
+        publisher: BoardPass,
+    ) -> Locked
+        requires counts { counts ≡ row_of_entries recorder.entries }
+        requires publisher { publisher ≡ knower (arc_value board) true counts }
+        ensures { result ≡ recorder }
+    {
+        Locked {
+            recorder,
+            counts,
+            publisher,
+            board,
+        }
+    }
+
+    // One event, as the recorder takes it. Where it is accepted the board shows the new numbers.
+    pub(crate) fn apply<R: Wait>(&mut self, rt: &R, event: Event) -> Result<Slip, Refusal>
+        ensures refused { MatchResult result (λ _. refused self.old.machine.image self.old.machine.config (standing_of self.old) (event_of event) ≡ None) (λ e. refused self.old.machine.image self.old.machine.config (standing_of self.old) (event_of event) ≡ Some e) }
+        ensures index { IfOk result (λ slip. slip.index ≡ length self.old.entries) }
+        ensures entry { IfOk result (λ slip. slip.entry ≡ entry_of (event_of event) (reply_to self.old.machine.image (standing_of self.old) (event_of event))) }
+        ensures entries { IfOk result (λ slip. self.new.entries ≡ self.old.entries ++ slip.entry ∷ []) }
+        ensures standing { standing_of self.new ≡ after_event self.old.machine.image self.old.machine.config (standing_of self.old) (event_of event) }
+        ensures image { self.new.machine.image ≡ self.old.machine.image }
+        ensures config { self.new.machine.config ≡ self.old.machine.config }
+        ensures unchanged { OnErr result (self.new ≡ self.old) }
+        ensures legal { IsLegal self.new }
+    {
+        let slip = self.recorder.apply(event)?;
+        let row = with_entry(self.counts, &slip.entry);
+        self.board.publish(rt, &mut self.publisher, row);
+        self.counts = row;
+        Ok(slip)
+    }
+
+    // What the recorder shows a unit's thread.
+    pub(crate) fn glance(&self, unit: UnitId) -> Result<Glance, Refusal>
+        ensures refused { MatchResult result (λ _. unit.0 < self.now.machine.config.units) (λ e. (e ≡ refusal.NoSuchUnit) × (self.now.machine.config.units ≤ unit.0)) }
+        ensures glance { IfOk result (IsGlance self.now.machine unit.0) }
+        ensures legal { IsLegal self.now }
+    {
+        self.recorder.glance(unit)
+    }
+
+    // The recorder.
+    pub(crate) fn into_recorder(self) -> Recorder
+        ensures { result ≡ self }
+    {
+        let Locked {
+            recorder,
+            counts: _,
+            publisher: _,
+            board: _,
+        } = self;
+        recorder
+    }
+}
+
+// Whether an entry is an assignment's, as a number.
+fn assigns(kind: Kind) -> u64
+    ensures { result ≡ assigns kind }
+{
+    match kind {
+        Kind::Assign => 1,
+        _ => 0,
+    }
+}
+
+// Whether an entry is a commit's, as a number.
+fn commits(kind: Kind) -> u64
+    ensures { result ≡ commits kind }
+{
+    match kind {
+        Kind::Commit => 1,
+        _ => 0,
+    }
+}
+
+// The numbers with one entry more.
+fn with_entry(counts: BoardRow, entry: &Entry) -> BoardRow
+    requires { IsSmall (with_entry counts entry.now) }
+    ensures { result ≡ with_entry counts entry.now }
+{
+    BoardRow {
+        events: counts.events + 1,
+        assigned: counts.assigned + assigns(entry.kind),
+        committed: counts.committed + commits(entry.kind),
+        squashed: counts.squashed + u64::from(entry.squashed.unwrap_or(0)),
+    }
+}
+
+// The numbers of a recorder's history.
+pub(crate) fn counts_of(recorder: &Recorder) -> BoardRow
+    ensures numbers { result ≡ row_of_entries recorder.now.entries }
+    ensures order { InOrder result }
+{
+    let mut counts = BoardRow {
+        events: 0,
+        assigned: 0,
+        committed: 0,
+        squashed: 0,
+    };
+    for entry in recorder.entries() {
+        counts = with_entry(counts, entry);
+    }
+    counts
+}

@@ -1,0 +1,121 @@
+// What a run of unit threads leaves, and how it is compared with the history.
+
+ghost use Rattle.std.specs.Prelude.{◌≡◌, ◌⊎◌, map, IfOk, IfErr, Decides};
+ghost use Rattle.svc_history.specs.Recorded.{IsLegal};
+ghost use Rattle.svc_threads.specs.Outcomes.{slip_at, slips_of, lists_from, AreTheUnits, IsGiven, IsOutcome};
+
+use crate::fault::RunError;
+use crate::sameness::is_same_image;
+use svc_base::Config;
+use svc_history::same::is_same;
+use svc_history::{Entry, Recorder, Slip};
+use svc_image::Image;
+
+/// A recorder, and the slips that each unit's thread brought back, the unit 0 first.
+#[derive(Drop)]
+pub struct Outcome {
+    /// The machine with its history.
+    pub recorder: Recorder,
+    /// The slips of each unit.
+    pub slips: Vec<Vec<Slip>>,
+}
+
+/// An outcome of exactly these slips. It takes no memory.
+///
+/// Errors: [`RunError::ForeignImage`] exactly where the recorder's image or configuration is not the given one; else
+/// [`RunError::Torn`] exactly where there is not one list a unit, or a unit's list is not that unit's entries with their
+/// indexes, in order.
+pub fn reconcile(
+    image: &Image,
+    config: Config,
+    recorder: Recorder,
+    slips: Vec<Vec<Slip>>,
+) -> Result<Outcome, RunError>
+    ensures kept { IfOk result (λ o. (o.recorder ≡ recorder) × (o.slips ≡ slips)) }
+    ensures ok { IfOk result (λ o. IsOutcome image.now config o.recorder (map (λ v. v.items) o.slips.items)) }
+    ensures err { IfErr result (λ e. ((e ≡ RunError.ForeignImage) × ¬ (IsGiven image.now config recorder)) ⊎ ((e ≡ RunError.Torn) × IsGiven image.now config recorder × ¬ (AreTheUnits recorder (map (λ v. v.items) slips.items)))) }
+{
+    judge(image, config, &recorder, slips.as_slice())?;
+    Ok(Outcome { recorder, slips })
+}
+
+// Whether they make an outcome, and if not, why.
+fn judge(
+    image: &Image,
+    config: Config,
+    recorder: &Recorder,
+    slips: &[Vec<Slip>],
+) -> Result<(), RunError>
+    ensures ok { IfOk result (λ _. IsOutcome image.now config recorder.now (map (λ v. v.items) slips.now)) }
+    ensures err { IfErr result (λ e. ((e ≡ RunError.ForeignImage) × ¬ (IsGiven image.now config recorder.now)) ⊎ ((e ≡ RunError.Torn) × IsGiven image.now config recorder.now × ¬ (AreTheUnits recorder.now (map (λ v. v.items) slips.now)))) }
+{
+    if !is_given(image, config, recorder) {
+        return Err(RunError::ForeignImage);
+    }
+    if !are_the_units(recorder, slips) {
+        return Err(RunError::Torn);
+    }
+    Ok(())
+}
+
+// The recorder is of this image and configuration.
+fn is_given(image: &Image, config: Config, recorder: &Recorder) -> bool
+    ensures given { Decides result (IsGiven image.now config recorder.now) }
+    ensures legal { IsLegal recorder.now }
+{
+    let machine = recorder.machine();
+    if machine.config() != config {
+        return false;
+    }
+    is_same_image(machine.image(), image)
+}
+
+// The lists are those of the recorder's units.
+fn are_the_units(recorder: &Recorder, slips: &[Vec<Slip>]) -> bool
+    ensures { Decides result (AreTheUnits recorder.now (map (λ v. v.items) slips.now)) }
+{
+    let units = recorder.machine().config().units;
+    all_agree(units, recorder.entries(), slips)
+}
+
+// There is a list for each unit, and each agrees.
+fn all_agree(units: u32, entries: &[Entry], lists: &[Vec<Slip>]) -> bool
+    ensures { Decides result (map (λ v. v.items) lists.now ≡ lists_from 0 units entries.now) }
+{
+    if lists.len() != units as usize {
+        return false;
+    }
+    for unit in 0..units {
+        if !agrees(unit, entries, lists[unit as usize].as_slice()) {
+            return false;
+        }
+    }
+    true
+}
+
+// The slip is this entry's, at this index.
+fn is_slip(slip: &Slip, index: usize, entry: &Entry) -> bool
+    ensures { Decides result (slip.now ≡ slip_at index entry.now) }
+{
+    slip.index == index && is_same(&slip.entry, entry)
+}
+
+// The list is the unit's entries with their indexes, in order.
+fn agrees(unit: u32, entries: &[Entry], slips: &[Slip]) -> bool
+    ensures { Decides result (slips.now ≡ slips_of unit entries.now) }
+{
+    let mut next = 0usize;
+    for index in 0..entries.len() {
+        let entry = &entries[index];
+        if u32::from(entry.unit.0) == unit {
+            if next >= slips.len() {
+                return false;
+            }
+            if !is_slip(&slips[next], index, entry) {
+                return false;
+            }
+            next += 1;
+        }
+    }
+    next == slips.len()
+}

@@ -1,0 +1,45 @@
+// What a unit's thread knows of the bus, and who is asked round its events.
+
+ghost use Rattle.std.specs.Prelude.{◌≡◌, IfOk, IfErr};
+ghost use Rattle.svc_threads.specs.Ports.{IsEntryOf};
+
+use crate::board::Board;
+use std::sync::Wait;
+use svc_base::{Refusal, UnitId};
+use svc_history::{Event, Glance, Slip};
+
+/// Where a unit's thread stands.
+#[derive(Clone, Copy)]
+pub enum Phase<'a> {
+    /// It is about to ask for this event; of a submit, its burst is made.
+    Before(&'a Event),
+    /// The event was accepted or refused.
+    After,
+}
+
+/// Is asked before and after each event of a unit's thread, which has no lock then, and may wait. Where it says no, that
+/// thread ends: before an event without it, and after one with its slip.
+pub trait Gate {
+    fn pass(&self, unit: UnitId, phase: Phase<'_>) -> bool;
+}
+
+/// What a unit's thread knows of the bus. No guard of a lock outlives a call, so a thread holds no lock while it takes turns.
+pub trait Port {
+    ghost use Rattle.atomic_table.specs.Seated.{TableId};
+
+    /// The board that shows the numbers.
+    ghost board_of: { Self → TableId };
+
+    /// What the unit's thread needs to know for its next event.
+    ///
+    /// Errors: [`Refusal::NoSuchUnit`].
+    fn lease<R: Wait>(&self, rt: &R, unit: UnitId) -> Result<Glance, Refusal>;
+
+    /// One event, in one step.
+    fn apply<R: Wait>(&self, rt: &R, event: Event) -> Result<Slip, Refusal>
+        ensures { IfOk result (λ slip. IsEntryOf event slip.entry) };
+
+    /// The board that shows the numbers.
+    fn board(&self) -> &Board
+        ensures { result.now ≡ board_of self.now };
+}

@@ -1,0 +1,194 @@
+// What one unit's thread does.
+
+ghost use Rattle.std.specs.Prelude.{◌≡◌, ◌<◌, All, IfOk, IfErr, IfSome, vec_len, vec_capacity};
+ghost use Rattle.svc_threads.specs.Ports.{IsOf, unit_of};
+
+use crate::board::{BoardPass, BoardRow};
+use crate::fault::RunError;
+use crate::port::{Gate, Phase, Port};
+use crossbeam_utils::Backoff;
+use std::alloc::Allocator;
+use std::sync::Wait;
+use svc_base::{Refusal, UnitId};
+use svc_core::{Lease, MAX_BURST_TURNS};
+use svc_history::{Event, Glance, Slip};
+use svc_image::Image;
+
+// How a turn of a unit's thread ended.
+#[derive(Clone, Copy)]
+enum Turn {
+    // It went on, or another turn may.
+    Went,
+    // It can't go on before another unit's event.
+    Stalled,
+    // The thread ends.
+    Left,
+}
+
+// What came of asking for an event.
+#[derive(Clone, Copy)]
+enum Tried {
+    Accepted,
+    Refused(Refusal),
+    // The gate said no.
+    Closed,
+}
+
+/// The body of a unit's thread: at most so many turns. A turn reads the board. Where the last turn stalled and the board
+/// shows the same numbers it stalls again, without the lock. Else the unit does its next event: it assigns with the guess
+/// where it has no task, commits its head where that has ended, and else runs its task by a burst, without the lock, and
+/// submits that. Where its cache is full it replaces a line in the same turn. It stalls where its task has ended and isn't
+/// the head, and where the line may not go.
+///
+/// The slips of the accepted events come back in order. Room for one is made before each event.
+///
+/// Errors: [`RunError::Memory`]; the events up to there stand and their slips are dropped.
+pub fn run_unit<P: Port, G: Gate, A: Allocator, R: Wait>(
+    rt: &R,
+    alloc: A,
+    port: &P,
+    unit: UnitId,
+    mut pass: BoardPass,
+    image: &Image,
+    turns: u32,
+    gate: &G,
+) -> Result<Vec<Slip, A>, RunError>
+    requires { pass.board ≡ P.board_of port.now }
+    ensures own { IfOk result (λ v. All (IsOf unit) v.items) }
+    ensures err { IfErr result (λ e. e ≡ RunError.Memory) }
+{
+    let mut slips = Vec::new(alloc);
+    let backoff = Backoff::new();
+    let mut stalled_at: Option<BoardRow> = None;
+    for _ in 0..turns {
+        let row = port.board().read(rt, &mut pass);
+        if stalled_at == Some(row) {
+            backoff.snooze();
+            continue;
+        }
+        match take_turn(rt, port, unit, image, gate, &mut slips)? {
+            Turn::Went => {
+                stalled_at = None;
+                backoff.reset();
+            }
+            Turn::Stalled => {
+                stalled_at = Some(row);
+                backoff.snooze();
+            }
+            Turn::Left => break,
+        }
+    }
+    Ok(slips)
+}
+
+// Takes a glance, and does what the unit has to do.
+fn take_turn<P: Port, G: Gate, A: Allocator, R: Wait>(
+    rt: &R,
+    port: &P,
+    unit: UnitId,
+    image: &Image,
+    gate: &G,
+    slips: &mut Vec<Slip, A>,
+) -> Result<Turn, RunError>
+    ensures own { All (IsOf unit) slips.old.items → All (IsOf unit) slips.new.items }
+    ensures err { IfErr result (λ e. e ≡ RunError.Memory) }
+{
+    let Ok(glance) = port.lease(rt, unit) else {
+        return Ok(Turn::Left);
+    };
+    if glance.ended {
+        return Ok(Turn::Left);
+    }
+    let Some(event) = next_event(unit, glance, image) else {
+        return Ok(Turn::Stalled);
+    };
+    let tried = match attempt(rt, port, unit, event, gate, slips)? {
+        Tried::Refused(Refusal::SetFull(addr)) => {
+            attempt(rt, port, unit, Event::Replace { unit, addr }, gate, slips)?
+        }
+        tried => tried,
+    };
+    Ok(ended(tried))
+}
+
+// The event that the unit does next; none where it has to wait for another unit's. A burst is made here, so without the lock.
+fn next_event(unit: UnitId, glance: Glance, image: &Image) -> Option<Event>
+    ensures { IfSome result (λ event. unit_of event ≡ unit) }
+{
+    let Glance {
+        ended: _,
+        lease,
+        is_head,
+        guess,
+    } = glance;
+    let Some(lease) = lease else {
+        return guess.map(|guess| Event::Assign { unit, guess });
+    };
+    if lease.core.is_running() {
+        let lease = Lease::new(unit, lease.epoch, lease.core);
+        let burst = lease.advance(image, MAX_BURST_TURNS);
+        Some(Event::Submit { burst })
+    } else if is_head {
+        Some(Event::Commit { by: unit })
+    } else {
+        None
+    }
+}
+
+// Asks for one event, for whose slip room is made first. The gate is asked before and after.
+fn attempt<P: Port, G: Gate, A: Allocator, R: Wait>(
+    rt: &R,
+    port: &P,
+    unit: UnitId,
+    event: Event,
+    gate: &G,
+    slips: &mut Vec<Slip, A>,
+) -> Result<Tried, RunError>
+    requires { unit_of event ≡ unit }
+    ensures own { All (IsOf unit) slips.old.items → All (IsOf unit) slips.new.items }
+    ensures err { IfErr result (λ e. e ≡ RunError.Memory) }
+{
+    slips.reserve(1)?;
+    if !gate.pass(unit, Phase::Before(&event)) {
+        return Ok(Tried::Closed);
+    }
+    let tried = ask(rt, port, unit, event, slips);
+    if gate.pass(unit, Phase::After) {
+        Ok(tried)
+    } else {
+        Ok(Tried::Closed)
+    }
+}
+
+// Asks for one event, and keeps its slip in the room that there is.
+fn ask<P: Port, A: Allocator, R: Wait>(
+    rt: &R,
+    port: &P,
+    unit: UnitId,
+    event: Event,
+    slips: &mut Vec<Slip, A>,
+) -> Tried
+    requires unit { unit_of event ≡ unit }
+    requires room { vec_len slips.old < vec_capacity slips.old }
+    ensures own { All (IsOf unit) slips.old.items → All (IsOf unit) slips.new.items }
+{
+    match port.apply(rt, event) {
+        Ok(slip) => {
+            let Ok(()) = slips.push(slip) else {
+                unreachable!()
+            };
+            Tried::Accepted
+        }
+        Err(refusal) => Tried::Refused(refusal),
+    }
+}
+
+// How the turn ends: a line that may not go lets the unit wait for another one's event.
+fn ended(tried: Tried) -> Turn {
+    match tried {
+        Tried::Accepted => Turn::Went,
+        Tried::Refused(Refusal::Pinned) => Turn::Stalled,
+        Tried::Refused(_) => Turn::Went,
+        Tried::Closed => Turn::Left,
+    }
+}

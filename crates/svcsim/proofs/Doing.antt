@@ -1,0 +1,16 @@
+-- A run that was reported is the run that was asked for.
+use Rattle.std.specs.Prelude.{IfOk, IfSome}
+use Rattle.std.proofs.Common.{ℕ, List, Option, Result, Ok, Err, Bor}
+use Rattle.svc_base.specs.declared.config.Config.{Config}
+use Rattle.svc_image.specs.Image.{Image}
+use Rattle.svc_history.specs.Recorded.{Recorded}
+use Rattle.svcsim.specs.declared.request.Source.{Source}
+use Rattle.svcsim.specs.declared.request.Request.TheVariants as request
+use Rattle.svcsim.specs.Requests.{Does, IsOfSource, SavesTrace}
+use Rattle.svcsim.specs.Runs.{IsRunOf, ReportsOn}
+
+pub run_done : {E : Type 0} (r : Result ℕ E) (from : Source) (config : Config) (trace : Option (Bor (List ℕ))) (img : Image) (run : Recorded) (held saved : List ℕ → Option (List ℕ)) (old new : Option (List ℕ))
+    → IsOfSource held from img → IsRunOf img config run → IfSome trace (λ name. SavesTrace saved name.now run.entries) → IfOk r (ReportsOn run old new)
+    → IfOk r (Does (request.Run from config trace) held saved old new)
+run_done (Ok exit) from config trace img run held saved old new image is_run trace_saved report = (img, image, run, is_run, trace_saved, report)
+run_done (Err e) from config trace img run held saved old new image is_run trace_saved report = tt
