@@ -113,5 +113,10 @@ fn is_same_end(a: Option<End>, b: Option<End>) -> bool
 fn are_same_words(a: &[u32; 32], b: &[u32; 32]) -> bool
     ensures { result ≡ same_words a.now b.now }
 {
-    *a == *b
+    for place in 0..a.len() {
+        if a[place] != b[place] {
+            return false;
+        }
+    }
+    true
 }

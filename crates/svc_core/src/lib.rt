@@ -8,6 +8,7 @@ mod burst_reads;
 mod core_reads;
 mod core_state;
 mod effect;
+mod finish;
 mod numbers;
 mod turn;
 

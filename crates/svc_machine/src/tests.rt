@@ -158,18 +158,18 @@ fn violation() -> Option<Cut> {
     cut(Cause::Violation(WordAddr(0)), 1, 1)
 }
 
-// What the ten events answer.
-fn ten_answers() -> [Answer; 10] {
-    [
-        assigned(0, 0, 0),
-        assigned(1, 12, 1),
-        loaded(0, Served::Memory),
-        stored(None, violation()),
-        committed(0, End::Next(12), None),
-        assigned(1, 12, 2),
-        loaded(5, Served::Committed(UnitId(0))),
-        answer(What::Emitted(5), None),
-        answer(What::Ran, None),
-        committed(1, End::Exit(5), None),
-    ]
+// What the event at this index of the ten answers.
+fn ten_answer(index: usize) -> Answer {
+    match index {
+        0 => assigned(0, 0, 0),
+        1 => assigned(1, 12, 1),
+        2 => loaded(0, Served::Memory),
+        3 => stored(None, violation()),
+        4 => committed(0, End::Next(12), None),
+        5 => assigned(1, 12, 2),
+        6 => loaded(5, Served::Committed(UnitId(0))),
+        7 => answer(What::Emitted(5), None),
+        8 => answer(What::Ran, None),
+        _ => committed(1, End::Exit(5), None),
+    }
 }

@@ -12,16 +12,21 @@ ghost use Rattle.svc_threads.specs.Ports.{IsEntryOf, IsGlanceOfSome};
 use crate::board::{Board, BoardPass};
 use crate::locked::{Locked, counts_of};
 use crate::port::Port;
+use crossbeam_utils::{Backoff, CachePadded};
 use std::alloc::Global;
 use std::marker::Model;
-use std::sync::{Arc, Mutex, Wait};
+use std::sync::{Arc, Mutex, MutexGuard, Wait};
 use svc_base::{OpenError, Refusal, UnitId};
 use svc_history::{Event, Glance, Recorder, Slip};
+
+// How often a thread looks for the lock before it sleeps.
+const LOOKS: u32 = 64;
 
 /// One recorder under one lock, for all units, and the board that shows the numbers of its history.
 #[derive(Drop)]
 pub struct SharedBus {
-    lock: Mutex<Locked>,
+    // The lock's word has a line to itself, so threads that look for it leave the holder's lines alone.
+    lock: Mutex<CachePadded<Locked>>,
     board: Arc<Board>,
 }
 
@@ -59,7 +64,8 @@ impl SharedBus {
         let Ok(theirs) = Arc::try_clone(&board) else {
             return Err(OpenError::Memory);
         };
-        let lock = Mutex::new(Locked::new(recorder, theirs, counts, publisher));
+        let locked = Locked::new(recorder, theirs, counts, publisher);
+        let lock = Mutex::new(CachePadded::new(locked));
         Ok((SharedBus { lock, board }, reader))
     }
 
@@ -77,7 +83,7 @@ impl SharedBus {
         ensures glance { IfOk result (λ glance. IsGlanceOfSome unit glance) }
         ensures refused { IfErr result (λ e. e ≡ refusal.NoSuchUnit) }
     {
-        self.lock.lock(rt).glance(unit)
+        self.taken(rt).glance(unit)
     }
 
     /// One event, as the recorder takes it, under the lock. The board shows the new numbers after an accepted event, and is
@@ -85,13 +91,26 @@ impl SharedBus {
     pub fn apply<R: Wait>(&self, rt: &R, event: Event) -> Result<Slip, Refusal>
         ensures { IfOk result (λ slip. IsEntryOf event slip.entry) }
     {
-        self.lock.lock(rt).apply(rt, event)
+        self.taken(rt).apply(rt, event)
+    }
+
+    // The lock, taken. An event is shorter than it takes to put a thread to sleep and to wake it, so the thread looks for
+    // the lock a while before it sleeps.
+    fn taken<R: Wait>(&self, rt: &R) -> MutexGuard<'_, CachePadded<Locked>> {
+        let backoff = Backoff::new();
+        for _ in 0..LOOKS {
+            if let Some(guard) = self.lock.try_lock() {
+                return guard;
+            }
+            backoff.snooze();
+        }
+        self.lock.lock(rt)
     }
 
     /// The recorder, when no thread shares it any more.
     pub fn into_recorder(self) -> Recorder {
         let SharedBus { lock, board: _ } = self;
-        lock.into_inner().into_recorder()
+        lock.into_inner().into_inner().into_recorder()
     }
 }
 

@@ -102,9 +102,8 @@ fn each_refusal_of_an_assignment(rt: HostRuntime) -> Result<(), Fail> {
 #[test]
 fn a_stopped_run_takes_no_event(rt: HostRuntime) -> Result<(), Fail> {
     let mut machine = opened(rt.alloc())?;
-    let wants = ten_answers();
     for i in 0..10_usize {
-        assert_eq!(rt; play(&mut machine, TEN[i]), wants[i], "at {i}");
+        assert_eq!(rt; play(&mut machine, TEN[i]), ten_answer(i), "at {i}");
     }
     expect(
         &rt,

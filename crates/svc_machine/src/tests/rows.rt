@@ -6,9 +6,8 @@ use super::*;
 fn a_load_too_early_is_squashed(rt: HostRuntime) -> Result<(), Fail> {
     let mut machine = opened(rt.alloc())?;
     assert_eq!(rt; machine.guess(), Some(0));
-    let wants = ten_answers();
     for i in 0..10 {
-        assert_eq!(rt; play(&mut machine, TEN[i]), wants[i], "at {i}");
+        assert_eq!(rt; play(&mut machine, TEN[i]), ten_answer(i), "at {i}");
         let guess = match i {
             0 => Some(12),
             5 => Some(0),
@@ -88,7 +87,6 @@ fn a_version_is_read(rt: HostRuntime) -> Result<(), Fail> {
 fn a_burst_of_a_squashed_task_is_refused(rt: HostRuntime) -> Result<(), Fail> {
     for after in [5, 6] {
         let mut machine = opened(rt.alloc())?;
-        let wants = ten_answers();
         let mut early = None;
         for i in 0..10 {
             if i == 3 {
@@ -109,7 +107,7 @@ fn a_burst_of_a_squashed_task_is_refused(rt: HostRuntime) -> Result<(), Fail> {
                 };
                 assert_eq!(rt; machine.step(event), Err(refusal));
             }
-            assert_eq!(rt; play(&mut machine, TEN[i]), wants[i]);
+            assert_eq!(rt; play(&mut machine, TEN[i]), ten_answer(i));
         }
     }
     Ok(())

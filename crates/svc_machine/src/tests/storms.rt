@@ -19,7 +19,6 @@ const LIMITED: [([u8; 10], u64, Ending); 10] = [
 
 #[test]
 fn each_limit_of_events(rt: HostRuntime) -> Result<(), Fail> {
-    let wants = ten_answers();
     for limit in 1..11_usize {
         let (refusals, tasks, ending) = LIMITED[limit - 1];
         let image = Image::read(rt.alloc(), &P)?;
@@ -28,7 +27,7 @@ fn each_limit_of_events(rt: HostRuntime) -> Result<(), Fail> {
             match play(&mut machine, TEN[i]) {
                 Ok(reply) => {
                     assert_eq!(rt; refusals[i], 0, "at {i} of {limit}");
-                    assert_eq!(rt; Ok(reply), wants[i]);
+                    assert_eq!(rt; Ok(reply), ten_answer(i));
                 }
                 Err(refusal) => assert_eq!(rt; refusal.number(), refusals[i], "at {i} of {limit}"),
             }
@@ -65,11 +64,10 @@ fn cancels_after_each_event(rt: HostRuntime) -> Result<(), Fail> {
 #[test]
 fn replacements_after_each_event(rt: HostRuntime) -> Result<(), Fail> {
     let mut machine = opened(rt.alloc())?;
-    let wants = ten_answers();
     for i in 0..10 {
         let want = match i {
             6 => loaded(5, Served::Memory),
-            _ => wants[i],
+            _ => ten_answer(i),
         };
         assert_eq!(rt; play(&mut machine, TEN[i]), want, "at {i}");
         for unit in [0, 1, 2, 3] {
