@@ -4,3 +4,4 @@ pub mod SameColumns
 pub mod RoundTrip
 pub mod Steps
 pub mod Tracks
+pub mod LegalRows

@@ -2,6 +2,7 @@
 #![tactic(auto)]
 
 mod error;
+mod laws;
 mod lines;
 mod numbers;
 mod records;
@@ -11,6 +12,7 @@ mod trace;
 mod words;
 
 pub use error::ReportError;
+pub use laws::legal_history_has_rows;
 pub use script::{Step, StepKind, read_script};
 pub use summary::{Counts, write_summary};
 pub use trace::{read_trace, write_entry, write_trace};
