@@ -1,5 +1,5 @@
 #!/usr/bin/env bash
-# Runs the same images by svcsim and by the plain twins in unproved Rust, in turn, and prints one table of the best times.
+# Runs the same images by svcsim and by the plain twins in unproved Rust, in turn, and prints one table of the median times.
 #
 #   bench/run.sh [ROUNDS [SVCSIM]]
 #
@@ -94,24 +94,32 @@ for ((round = 0; round < rounds; round++)); do
     race_run large 1 commit-65536 150000
 done
 
-# The least times for one of what is counted, and their ratios: below 1 svcsim is the faster one.
+# The median times for one of what is counted, and their ratios: below 1 svcsim is the faster one.
 awk -v rounds="$rounds" '
-    function least(key, value) { if (!(key in best) || value < best[key]) best[key] = value }
+    # Keeps the values of a key in rising order.
+    function keep(key, value,   i) {
+        for (i = ++count[key]; i > 1 && kept[key, i - 1] > value; i--) kept[key, i] = kept[key, i - 1]
+        kept[key, i] = value
+    }
+    function median(name, program, clock,   key) {
+        key = name SUBSEP program SUBSEP clock
+        return kept[key, int((count[key] + 1) / 2)]
+    }
     function row(name, text, scale, form,   cells, i, columns) {
         columns = split("proved,cpu twin,cpu proved,wall twin,wall", keys, " ")
         cells = ""
         for (i = 1; i <= columns; i += 2) {
             split(keys[i], key, ",")
-            a = best[name, "proved", key[2]]; b = best[name, "twin", key[2]]
+            a = median(name, "proved", key[2]); b = median(name, "twin", key[2])
             cells = cells sprintf(" " form " | " form " | %5.2f |", value(a, scale), value(b, scale), a / b)
         }
         printf "| %-58s |%s\n", text, cells
     }
     # A scale below 0 asks for how many there are in a second, in millions.
     function value(seconds, scale) { return scale < 0 ? 1 / seconds / 1000000 : seconds * scale }
-    { least($1 SUBSEP $2 SUBSEP "wall", $4 / $3); least($1 SUBSEP $2 SUBSEP "cpu", ($5 + $6) / $3) }
+    { keep($1 SUBSEP $2 SUBSEP "wall", $4 / $3); keep($1 SUBSEP $2 SUBSEP "cpu", ($5 + $6) / $3) }
     END {
-        print "Best of " rounds " rounds. Ratios are of times: below 1 svcsim is faster than the twin."
+        print "Medians of " rounds " rounds. Ratios are of times: below 1 svcsim is faster than the twin."
         print ""
         printf "| %-58s | svcsim  | twin    | ratio | svcsim  | twin    | ratio |\n", "by processor time, and by wall time"
         print "|---|---|---|---|---|---|---|"
@@ -126,6 +134,6 @@ awk -v rounds="$rounds" '
         row("commit-65536", "the same over 65,536 words, ns", 1e9, "%7.0f")
         print ""
         printf "A task over 65,536 words against one over 100, by processor time: svcsim %.2f, twin %.2f\n",
-            best["commit-65536", "proved", "cpu"] / best["commit-100", "proved", "cpu"],
-            best["commit-65536", "twin", "cpu"] / best["commit-100", "twin", "cpu"]
+            median("commit-65536", "proved", "cpu") / median("commit-100", "proved", "cpu"),
+            median("commit-65536", "twin", "cpu") / median("commit-100", "twin", "cpu")
     }' times

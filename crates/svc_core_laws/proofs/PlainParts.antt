@@ -1,10 +1,10 @@
 -- A part of a task on flat memories of bytes depends on its exposed words alone.
-use Rattle.std.proofs.Common.{ℕ, ◌≡◌, true, List, Option, Some, refl, sym, ap, subst, ◌∙◌, unwrap_or}
+use Rattle.std.proofs.Common.{ℕ, ◌≡◌, true, List, Option, Some, sym, ap, ◌∙◌, unwrap_or}
 use Rattle.svc_image.specs.Image.{Image}
 use Rattle.svc_core_laws.specs.Bytes.{IsMemory, word_at}
 use Rattle.svc_core_laws.specs.State.{State}
 use Rattle.svc_core_laws.specs.Turns.{Turn, data_words}
-use Rattle.svc_core_laws.specs.Program.{Memory, Words, Run, part, exposed, wrote, over, output}
+use Rattle.svc_core_laws.specs.Program.{Memory, Run, part, exposed, wrote, output}
 use Rattle.svc_core_laws.specs.Words.{program}
 use Rattle.svc_core_laws.specs.Sequence.{plain_part, IsSame, IsSamePart}
 use Rattle.svc_core_laws.proofs.Central.{part_agrees}

@@ -1,12 +1,11 @@
 -- The row of a longer history, of a beginning, and of a recorder's.
-use Rattle.std.proofs.Common.{◌≡◌, ℕ, ◌+◌, ◌<◌, ◌≤◌, List, [], ◌∷◌, ◌++◌, length, take, drop, get_or, refl, sym, ap, ◌∙◌, subst, arith, unwrap_or}
+use Rattle.std.proofs.Common.{◌≡◌, ℕ, ◌+◌, ◌<◌, ◌≤◌, List, [], ◌∷◌, ◌++◌, length, take, drop, get_or, refl, sym, ap, ◌∙◌, subst, arith}
 use Rattle.std.proofs.lemmas.List.{take_more, take-append-drop}
-use Rattle.svc_base.specs.declared.config.Config.{Config}
 use Rattle.svc_history_laws.specs.declared.entry.Entry.{Entry}
-use Rattle.svc_history_laws.specs.Board.{Tally, IsInOrder, board, counted, counted_on, no_events}
+use Rattle.svc_history_laws.specs.Board.{Tally, board, counted, counted_on, no_events}
 use Rattle.svc_history.specs.Recorded.{Recorded, IsCounted}
 use Rattle.svc_threads.specs.declared.board.BoardRow.{BoardRow}
-use Rattle.svc_threads.specs.Boards.{InOrder, AtMost, row_of, tally_of, zeros}
+use Rattle.svc_threads.specs.Boards.{AtMost, row_of, zeros}
 use Rattle.svc_threads.specs.Counts.{row_of_entries, with_entry, IsSmall}
 
 counted_on-append : (t : Tally) (es fs : List Entry) → counted_on t (es ++ fs) ≡ counted_on (counted_on t es) fs

@@ -1,9 +1,8 @@
 -- What makes two images the same.
-use Rattle.std.proofs.Common.{◌≡◌, ℕ, zero, suc, ◌+◌, ◌*◌, ◌/◌, ◌%◌, ◌<◌, ◌≤◌, ◌==◌, Bool, true, false, List, [], ◌∷◌, length, Option, Some, None, refl, sym, ap, ◌∙◌, ⊎_elim, arith, slice_get}
+use Rattle.std.proofs.Common.{◌≡◌, ℕ, zero, suc, ◌+◌, ◌*◌, ◌/◌, ◌%◌, ◌<◌, ◌≤◌, ◌==◌, Bool, true, false, List, [], ◌∷◌, length, Some, None, refl, sym, ap, ◌∙◌, arith, slice_get}
 use Rattle.std.specs.Prelude.{if◌then◌else◌}
-use Rattle.std.proofs.Math.Nat.{mul-mod_right}
 use Rattle.std.proofs.lemmas.Bool.Decides.{nat_tests}
-use Rattle.svc_image.specs.Image.{Image, IsImage, fetch, fetched, is_entry, limit_at}
+use Rattle.svc_image.specs.Image.{Image, IsImage, fetch, fetched, limit_at}
 
 -- what is fetched at the place of a word of the text
 pub fetched_at : (img : Image) (k : ℕ) → (fetched img (4 * k)).word ≡ slice_get img.text k

@@ -1,5 +1,5 @@
 -- Faults of the program.
-use Rattle.std.specs.Prelude.{◌≡◌, ⊤, ℕ, List}
+use Rattle.std.specs.Prelude.{⊤, ℕ, List}
 use Rattle.svc_base.specs.declared.config.Config.{Config}
 use Rattle.svc_image.specs.Image.{Image}
 use Rattle.svc_history_laws.specs.declared.entry.Entry.{Entry}

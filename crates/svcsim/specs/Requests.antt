@@ -1,10 +1,9 @@
 -- What it means to do what a command line asks for.
-use Rattle.std.specs.Prelude.{◌≡◌, ◌≤◌, ◌↔◌, ⊤, ℕ, false, List, Option, Some, None, IfSome}
+use Rattle.std.specs.Prelude.{◌≡◌, ◌≤◌, ◌↔◌, ⊤, ℕ, false, List, Option, None, IfSome}
 use Rattle.std.specs.List.{AllByRecursion}
 use Rattle.svc_image.specs.Image.{Image}
 use Rattle.svc_image.specs.Format.{file_of}
 use Rattle.svc_image.specs.declared.samples.TheConstants.{P1}
-use Rattle.svc_base.specs.declared.config.Config.{Config}
 use Rattle.svc_plain.specs.Tasks.{tasks_run}
 use Rattle.svc_history_laws.specs.declared.entry.Entry.{Entry}
 use Rattle.svc_history.specs.Recorded.{Recorded}

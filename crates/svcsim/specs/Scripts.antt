@@ -1,5 +1,5 @@
 -- What a script does, and what is printed of it.
-use Rattle.std.specs.Prelude.{◌≡◌, ◌<◌, ℕ, zero, suc, Bool, true, false, not, cond, nat_lt, List, [], ◌∷◌, ◌++◌, Option, Some, None, codes, decimal, slice_get, slice_set, Result, Ok, Err, IfOk, IsOk, replicate, length, unwrap_or}
+use Rattle.std.specs.Prelude.{◌≡◌, ℕ, zero, suc, not, cond, nat_lt, List, [], ◌∷◌, ◌++◌, Option, Some, None, codes, decimal, slice_get, slice_set, Result, Err, IfOk, IsOk, replicate, length, unwrap_or}
 use Rattle.std.specs.Io.KnownBytes.{Appends}
 use Rattle.svc_base.specs.declared.config.Config.{Config}
 use Rattle.svc_base.specs.declared.ids.UnitId.{UnitId}

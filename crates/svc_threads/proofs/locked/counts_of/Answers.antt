@@ -3,7 +3,6 @@ use Rattle.std.proofs.lemmas.List.{take_all}
 use Rattle.svc_history_laws.specs.declared.entry.Entry.{Entry}
 use Rattle.svc_history_laws.specs.declared.entry.Kind.TheVariants.{Assign}
 use Rattle.svc_history_laws.specs.declared.entry.ReplyKind.TheVariants.{Assigned}
-use Rattle.svc_history.specs.Recorded.{Recorded, IsCounted}
 use Rattle.svc_threads.specs.declared.board.BoardRow.{BoardRow}
 use Rattle.svc_threads.specs.Boards.{InOrder}
 use Rattle.svc_threads.specs.Counts.{row_of_entries, with_entry, IsSmall}

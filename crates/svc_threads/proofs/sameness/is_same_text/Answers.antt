@@ -1,4 +1,4 @@
-use Rattle.std.proofs.Common.{rules, arith, refl, sym, ap, ◌∙◌, ◌≡◌, ◌≢◌, ◌≤◌, ℕ, ◌*◌, List, Option, None, length, slice_get}
+use Rattle.std.proofs.Common.{rules, arith, refl, sym, ap, ◌∙◌, ◌≡◌, ◌≢◌, ◌≤◌, ℕ, ◌*◌, List, None, length, slice_get}
 use Rattle.svc_image.specs.declared.fetched.Fetched.{Fetched}
 use Rattle.svc_image.specs.Image.{Image, fetched}
 use Rattle.svc_threads.proofs.SameImages.{fetched_at, agree_first, agree_next, same_ended, same_lists}
