@@ -119,8 +119,8 @@ impl Machine {
         self.apply(&event)
     }
 
-    // The same, of an event that stays its owner's.
-    pub(crate) fn apply(&mut self, event: &Event) -> Result<Reply, Refusal>
+    /// The same, of an event that stays where it is: a burst is some 1,400 bytes, which nobody need move for it.
+    pub fn apply(&mut self, event: &Event) -> Result<Reply, Refusal>
         ensures refused { (s : Standing) → StandsAt self.old s → MatchResult result (λ _. refused self.old.image self.old.config s (event_of event.now) ≡ None) (λ e. refused self.old.image self.old.config s (event_of event.now) ≡ Some e) }
         ensures reply { (s : Standing) → StandsAt self.old s → IfOk result (λ r. r ≡ reply_to self.old.image s (event_of event.now)) }
         ensures standing { (s : Standing) → StandsAt self.old s → StandsAt self.new (after_event self.old.image self.old.config s (event_of event.now)) }

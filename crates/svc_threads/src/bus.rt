@@ -20,7 +20,7 @@ use svc_base::{OpenError, Refusal, UnitId};
 use svc_history::{Event, Glance, Recorder, Slip};
 
 // How often a thread looks for the lock before it sleeps.
-const LOOKS: u32 = 64;
+const LOOKS: u32 = 32;
 
 /// One recorder under one lock, for all units, and the board that shows the numbers of its history.
 #[derive(Drop)]
@@ -91,7 +91,7 @@ impl SharedBus {
     pub fn apply<R: Wait>(&self, rt: &R, event: Event) -> Result<Slip, Refusal>
         ensures { IfOk result (λ slip. IsEntryOf event slip.entry) }
     {
-        self.taken(rt).apply(rt, event)
+        self.taken(rt).apply(rt, &event)
     }
 
     // The lock, taken. An event is shorter than it takes to put a thread to sleep and to wake it, so the thread looks for
@@ -102,7 +102,7 @@ impl SharedBus {
             if let Some(guard) = self.lock.try_lock() {
                 return guard;
             }
-            backoff.snooze();
+            backoff.spin();
         }
         self.lock.lock(rt)
     }

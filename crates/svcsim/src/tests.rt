@@ -1,5 +1,6 @@
 // The program over memory: its files, its streams, and what a run of it left.
 
+mod disk;
 mod faults;
 mod help;
 mod rows;
