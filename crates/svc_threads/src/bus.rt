@@ -20,7 +20,7 @@ use svc_base::{OpenError, Refusal, UnitId};
 use svc_history::{Event, Glance, Recorder, Slip};
 
 // How often a thread looks for the lock before it sleeps.
-const LOOKS: u32 = 32;
+const LOOKS: u32 = 1_000;
 
 /// One recorder under one lock, for all units, and the board that shows the numbers of its history.
 #[derive(Drop)]
@@ -102,7 +102,7 @@ impl SharedBus {
             if let Some(guard) = self.lock.try_lock() {
                 return guard;
             }
-            backoff.spin();
+            backoff.snooze();
         }
         self.lock.lock(rt)
     }
