@@ -22,6 +22,9 @@ use svc_history::{Event, Glance, Recorder, Slip};
 // How often a thread looks for the lock before it sleeps.
 const LOOKS: u32 = 1_000;
 
+// After so many of its looks it lets other threads run in between.
+const QUICK_LOOKS: u32 = 64;
+
 /// One recorder under one lock, for all units, and the board that shows the numbers of its history.
 #[derive(Drop)]
 pub struct SharedBus {
@@ -98,11 +101,15 @@ impl SharedBus {
     // the lock a while before it sleeps.
     fn taken<R: Wait>(&self, rt: &R) -> MutexGuard<'_, CachePadded<Locked>> {
         let backoff = Backoff::new();
-        for _ in 0..LOOKS {
+        for look in 0..LOOKS {
             if let Some(guard) = self.lock.try_lock() {
                 return guard;
             }
-            backoff.snooze();
+            if look < QUICK_LOOKS {
+                backoff.spin();
+            } else {
+                backoff.snooze();
+            }
         }
         self.lock.lock(rt)
     }
