@@ -1,14 +1,16 @@
-//! The numbers that every part of the simulator speaks of: units, tasks, word addresses, the
-//! configuration of a run, and the reasons for which a call is refused.
+//! What every part of the simulator speaks of: units, tasks, word addresses, the configuration of a
+//! run, the reasons for which a call is refused, and who supplies a read.
 #![tactic(auto)]
 
 pub mod config;
 pub mod ids;
 pub mod refusal;
+pub mod served;
 
 pub use config::{Config, ConfigError};
 pub use ids::{TaskNo, UnitId, WordAddr};
 pub use refusal::{OpenError, Refusal};
+pub use served::Served;
 
 #[cfg(test)]
 mod tests;

@@ -2,6 +2,8 @@
 use Rattle.std.proofs.Common.{◌≡◌, ◌∙◌, refl, sym, ap, ap₂, subst, ℕ, ◌+◌, ◌<◌, ◌≤◌, ◌^◌, Bool, true, false, cond, not, Option, Some, None, is_some, List, length, get_or, inl, inr, arith, eq-eqb, true≢false, Ok, Err, MatchResult}
 use Rattle.std.specs.Prelude.{Result}
 use Rattle.std.proofs.lemmas.Bool.{cases_Bool}
+use Rattle.svc_base.specs.declared.served.Served.{Served}
+use Rattle.svc_base.specs.declared.served.Served.TheVariants.{Hit, Reuse, Version, Spill, Committed, Memory}
 use Rattle.svc_line.specs.Bits.{Bits}
 use Rattle.svc_line.specs.Line.{SeenLine}
 use Rattle.svc_cache.specs.declared.row.SetFull.{SetFull}
@@ -21,8 +23,6 @@ use Rattle.svc_bus_laws.proofs.ReadLaws.{reusable_parts}
 use Rattle.svc_bus_laws.proofs.SeenLaws.{active_line_is, supplier_seen, view_seen}
 use Rattle.svc_bus_laws.proofs.AgreeReads.{read_agrees}
 use Rattle.svc_vol.specs.Versions.{Versions}
-use Rattle.svc_vcl.specs.declared.served.Served.{Served}
-use Rattle.svc_vcl.specs.declared.served.Served.TheVariants.{Hit, Reuse, Version, Spill, Committed, Memory}
 use Rattle.svc_vcl.specs.Described.{Describes, IsReadRequest, line_with}
 use Rattle.svc_vcl.specs.Planned.{supplier_of}
 use Rattle.svc_retire.specs.Caches.{cache_at, line_in, numbered}

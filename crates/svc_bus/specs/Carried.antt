@@ -1,9 +1,9 @@
 -- What a read does to the lines and the memory, by who supplied its value.
 use Rattle.std.specs.Prelude.{ℕ, Bool, true, false, Option}
+use Rattle.svc_base.specs.declared.served.Served.{Served}
+use Rattle.svc_base.specs.declared.served.Served.TheVariants.{Hit, Reuse, Version, Spill, Committed, Memory}
 use Rattle.svc_bus_laws.specs.LineTable.{Line}
 use Rattle.svc_bus_laws.specs.Steps.{purged, with_at, with_line}
-use Rattle.svc_vcl.specs.declared.served.Served.{Served}
-use Rattle.svc_vcl.specs.declared.served.Served.TheVariants.{Hit, Reuse, Version, Spill, Committed, Memory}
 
 -- the unit's own active line supplied it
 abbrev pub is_hit : Served → Bool

@@ -20,7 +20,7 @@ pub mod victim;
 mod write;
 
 pub use bus::Bus;
-pub use svc_vcl::Served;
+pub use svc_base::Served;
 pub use victim::Victim;
 
 #[cfg(test)]

@@ -20,10 +20,10 @@ ghost use Rattle.svc_bus.specs.Calls.{IsAtWork, full_refusal};
 
 use crate::Bus;
 use crate::request::{fill_in, place_of, put_line};
-use svc_base::{Refusal, TaskNo, UnitId, WordAddr};
+use svc_base::{Refusal, Served, TaskNo, UnitId, WordAddr};
 use svc_cache::{Cache, Probes, SetFull};
 use svc_line::Line;
-use svc_vcl::{Served, plan_read};
+use svc_vcl::plan_read;
 use svc_vol::VersionList;
 
 // What a read comes to: the unit's line after it, and who supplied the value.

@@ -3,6 +3,7 @@ use Rattle.std.proofs.Common.{ℕ, ◌≡◌, ◌+◌, ◌<◌, ◌≤◌, ◌^�
 use Rattle.std.specs.Prelude.{IfSome}
 use Rattle.svc_base.specs.declared.config.Config.{Config}
 use Rattle.svc_base.specs.declared.config.TheConstants.{MAX_EVENTS, MAX_UNITS}
+use Rattle.svc_base.specs.declared.served.Served.{Served}
 use Rattle.svc_image.specs.Image.{Image}
 use Rattle.svc_core_laws.specs.Program.{Memory, Want, Local, Load, Store, Narrow, Emit, Run, wrote, over, part, seq}
 use Rattle.svc_core_laws.specs.State.{State}
@@ -11,7 +12,6 @@ use Rattle.svc_bus_laws.specs.Versioned.{Row, with_head}
 use Rattle.svc_machine_laws.specs.declared.reply.Cut.{Cut}
 use Rattle.svc_machine_laws.specs.declared.reply.Cause.{Cause}
 use Rattle.svc_machine_laws.specs.declared.reply.Cause.TheVariants as cause
-use Rattle.svc_machine_laws.specs.declared.reply.Served.{Served}
 use Rattle.svc_machine_laws.specs.declared.reply.Reply.{Reply}
 use Rattle.svc_machine_laws.specs.PlainMachine.{memory_at, Plain, Task, running, row_of, unit_of}
 use Rattle.svc_machine_laws.specs.WholeMachine.{seat_of}

@@ -2,12 +2,12 @@
 use Rattle.std.proofs.Common.{ℕ, ◌≡◌, List, Option, Some, None, refl, sym, ap, ◌∙◌, subst, option_map, slice_get, take}
 use Rattle.svc_base.specs.declared.config.Config.{Config}
 use Rattle.svc_base.specs.declared.ids.WordAddr.{WordAddr}
+use Rattle.svc_base.specs.declared.served.Served.{Served}
 use Rattle.svc_image.specs.Image.{Image}
 use Rattle.svc_core_laws.specs.State.{State}
 use Rattle.svc_core_laws.specs.Program.{Memory, Program, Want, Local, Load, Store, Narrow, Emit}
 use Rattle.svc_core_laws.specs.Words.{program}
 use Rattle.svc_core_laws.specs.Bursts.{Advance}
-use Rattle.svc_machine_laws.specs.declared.reply.Served.{Served}
 use Rattle.svc_machine_laws.specs.declared.reply.What.{What}
 use Rattle.svc_machine_laws.specs.declared.reply.Cause.{Cause}
 use Rattle.svc_machine_laws.specs.declared.reply.Cause.TheVariants as cause

@@ -8,6 +8,7 @@ use borrow.Author.Tests.{both_ways}
 use Rattle.svc_base.specs.declared.config.Config.{Config}
 use Rattle.svc_base.specs.declared.ids.UnitId.{UnitId}
 use Rattle.svc_base.specs.declared.ids.WordAddr.{WordAddr}
+use Rattle.svc_base.specs.declared.served.Served.{Served}
 use Rattle.svc_image.specs.Image.{Image}
 use Rattle.svc_core_laws.specs.State.{State}
 use Rattle.svc_core_laws.specs.Program.{Action, Loaded, Stored, Replaced, Emitted, Memory, Program, Want, Local, Load, Store, Narrow, Emit, wrote, exposed}
@@ -20,7 +21,6 @@ use Rattle.svc_bus_laws.specs.MapLaws.{IsVictim}
 use Rattle.svc_bus_laws.specs.LineTable.{LineTable, version_in, unit_at, line_at}
 use Rattle.svc_bus_laws.specs.Supplier.{supplier}
 use Rattle.svc_bus_laws.proofs.Searches.{cases_below}
-use Rattle.svc_machine_laws.specs.declared.reply.Served.{Served}
 use Rattle.svc_machine_laws.specs.declared.reply.What.{What}
 use Rattle.svc_machine_laws.specs.declared.reply.What.TheVariants as what
 use Rattle.svc_machine_laws.specs.declared.reply.Reply.{Reply}

@@ -2,10 +2,10 @@
 use Rattle.std.specs.Prelude.{ℕ, Bool, not, Option, Some, None, option_map, option_and_then}
 use Rattle.svc_base.specs.declared.ids.UnitId.{UnitId}
 use Rattle.svc_base.specs.declared.ids.WordAddr.{WordAddr}
+use Rattle.svc_base.specs.declared.served.Served.{Served}
+use Rattle.svc_base.specs.declared.served.Served.TheVariants as served
 use Rattle.svc_core_laws.specs.Bursts.{is_nothing}
 use Rattle.svc_machine_laws.specs.Events.{Event, Assign as AssignEvent, Submit as SubmitEvent, Replace as ReplaceEvent, Cancel as CancelEvent, Commit as CommitEvent}
-use Rattle.svc_machine_laws.specs.declared.reply.Served.{Served}
-use Rattle.svc_machine_laws.specs.declared.reply.Served.TheVariants as served
 use Rattle.svc_machine_laws.specs.declared.reply.What.{What}
 use Rattle.svc_machine_laws.specs.declared.reply.What.TheVariants as what
 use Rattle.svc_machine_laws.specs.declared.reply.Cause.{Cause}

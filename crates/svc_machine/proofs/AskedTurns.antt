@@ -1,6 +1,7 @@
 -- An asked turn on the bus, step by step.
 use Rattle.std.proofs.Common.{ℕ, ◌≡◌, ◌^◌, ◌%◌, ◌+◌, Bool, true, false, cond, Option, Some, None, length, refl, sym, ap, ap₂, ◌∙◌, subst, is_none, arith}
 use Rattle.std.proofs.lemmas.Bool.{eq-eqb}
+use Rattle.svc_base.specs.declared.served.Served.{Served}
 use Rattle.svc_rv32i.specs.declared.instr.StoreKind.{StoreKind}
 use Rattle.svc_rv32i.specs.declared.instr.StoreKind.TheVariants as store
 use Rattle.svc_image.specs.Image.{Image}
@@ -15,7 +16,6 @@ use Rattle.svc_bus_laws.specs.Steps.{read, write, reuse, fill, with_line, reused
 use Rattle.svc_bus_laws.specs.BusState.{BusState, Agrees, unnumbered}
 use Rattle.svc_bus_laws.specs.Refusals.{bus_cache, set_full}
 use Rattle.svc_bus_laws.proofs.ReadLaws.{active_parts, reusable_parts}
-use Rattle.svc_machine_laws.specs.declared.reply.Served.{Served}
 use Rattle.svc_machine_laws.specs.declared.reply.Cut.{Cut}
 use Rattle.svc_machine_laws.specs.declared.reply.Reply.{Reply}
 use Rattle.svc_machine_laws.specs.declared.reply.What.TheVariants as what

@@ -1,5 +1,6 @@
 -- What an asked turn does to its task's seat and to the lines, and what it is answered, over each line table that the bus agrees with.
 use Rattle.std.specs.Prelude.{◌≡◌, ◌<◌, ◌^◌, ◌%◌, ℕ, Option, Some, None, length, option_map}
+use Rattle.svc_base.specs.declared.served.Served.{Served}
 use Rattle.svc_rv32i.specs.declared.instr.StoreKind.{StoreKind}
 use Rattle.svc_rv32i.specs.declared.instr.StoreKind.TheVariants as store
 use Rattle.svc_image.specs.Image.{Image}
@@ -11,7 +12,6 @@ use Rattle.svc_bus_laws.specs.LineTable.{LineTable, unit_at, versioned}
 use Rattle.svc_bus_laws.specs.Steps.{read}
 use Rattle.svc_bus_laws.specs.BusState.{BusState, Agrees}
 use Rattle.svc_bus_laws.specs.Refusals.{bus_cache, set_full}
-use Rattle.svc_machine_laws.specs.declared.reply.Served.{Served}
 use Rattle.svc_machine_laws.specs.declared.reply.Cause.TheVariants as cause
 use Rattle.svc_machine_laws.specs.declared.reply.Cut.{Cut}
 use Rattle.svc_machine_laws.specs.declared.reply.Reply.{Reply}

@@ -8,7 +8,6 @@ ghost use Rattle.svc_core_laws.specs.Numbers.{load_bytes, store_bytes};
 ghost use Rattle.svc_core_laws.specs.Program.{Want, Emit};
 ghost use Rattle.svc_core_laws.specs.Turns.{access_trap, arrives, data_words, puts_out};
 ghost use Rattle.svc_core_laws.specs.Words.{wants_load, wants_store};
-ghost use Rattle.svc_vcl.specs.Planned.{supplier_of};
 ghost use Rattle.svc_bus_laws.specs.LineTable.{LineTable};
 ghost use Rattle.svc_bus_laws.specs.Steps.{write};
 ghost use Rattle.svc_bus_laws.specs.BusState.{Agrees};
@@ -18,32 +17,17 @@ ghost use Rattle.svc_bus.specs.Observed.{observed};
 ghost use Rattle.svc_machine_laws.specs.WholeMachine.{seat_turn};
 ghost use Rattle.svc_machine_laws.specs.Events.{want_of};
 ghost use Rattle.svc_machine_laws.specs.Refusals.{asked_word};
-ghost use Rattle.svc_machine_laws.specs.Replies.{served_by};
 ghost use Rattle.svc_machine.specs.Asked.{IsDone, IsPrepared, IsRead, IsRunning, RunsAt, full_for, stored_cut, violated};
 ghost use Rattle.svc_machine.specs.Kept.{whole_seat};
 
 use crate::seat::Seat;
-use svc_base::{UnitId, WordAddr};
+use svc_base::{Served, UnitId, WordAddr};
 use svc_bus::{Bus, Victim};
 use svc_core::{Core, Place, load_place, loaded, store_place, stored};
 use svc_core_laws::Ask;
 use svc_image::Image;
-use svc_machine_laws::{Cause, Cut, Reply, Served, What};
+use svc_machine_laws::{Cause, Cut, Reply, What};
 use svc_rv32i::{LoadKind, Register, StoreKind};
-
-// Who served a read, as a reply has it.
-pub(crate) fn served_by(served: svc_bus::Served) -> Served
-    ensures { result ≡ served_by (supplier_of served) }
-{
-    match served {
-        svc_bus::Served::Hit => Served::Hit,
-        svc_bus::Served::Reuse => Served::Reuse,
-        svc_bus::Served::Version(unit) => Served::Version(unit),
-        svc_bus::Served::Spill => Served::Spill,
-        svc_bus::Served::Committed(unit) => Served::Committed(unit),
-        svc_bus::Served::Memory => Served::Memory,
-    }
-}
 
 /// Does the asked turn, if there is one: a load or store that is misaligned or outside the data traps; a store of less than
 /// a word reads its word and writes it; a word that is put out waits in the seat. The tasks that a store squashes stay in
@@ -188,7 +172,7 @@ fn read(bus: &mut Bus, unit: UnitId, addr: WordAddr) -> (u32, Served)
     ensures { (t : LineTable) → (place : ℕ) → RunsAt (observed bus.old) unit.0 t place → IsRead t place addr.0 (observed bus.new) result.0 result.1 }
 {
     match bus.read(unit, addr) {
-        Ok((word, served)) => (word, served_by(served)),
+        Ok(answer) => answer,
         Err(_) => unreachable!(),
     }
 }

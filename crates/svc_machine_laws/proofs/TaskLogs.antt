@@ -2,6 +2,7 @@
 use Rattle.std.proofs.Common.{ℕ, ◌≡◌, Bool, true, false, cond, List, [], ◌∷◌, ◌++◌, map, take, Option, Some, None, refl, sym, ap, ◌∙◌, subst, is_some, slice_get}
 use Rattle.std.proofs.lemmas.Option.{none-some}
 use Rattle.svc_base.specs.declared.config.Config.{Config}
+use Rattle.svc_base.specs.declared.served.Served.{Served}
 use Rattle.svc_image.specs.Image.{Image}
 use Rattle.svc_core_laws.specs.declared.end.End.{End}
 use Rattle.svc_core_laws.specs.State.{State}
@@ -10,7 +11,6 @@ use Rattle.svc_core_laws.specs.Words.{program}
 use Rattle.svc_bus_laws.specs.Versioned.{Row}
 use Rattle.svc_bus_laws.specs.ByRows.{view_of, edit}
 use Rattle.svc_bus_laws.specs.LineTable.{LineTable}
-use Rattle.svc_machine_laws.specs.declared.reply.Served.{Served}
 use Rattle.svc_machine_laws.specs.declared.reply.Reply.{Reply}
 use Rattle.svc_machine_laws.specs.PlainMachine.{Task, Plain, Running, IsDue, runs_of, running, row_of, cut_by, entry_of, entry_for, stays, settled}
 use Rattle.svc_machine_laws.specs.PlainMachine as plain

@@ -1,5 +1,7 @@
 -- What the machine answers to an accepted event.
 use Rattle.std.specs.Prelude.{ℕ, suc, ◌+◌, ◌-◌, Bool, true, false, cond, List, [], ◌∷◌, length, map, Option, Some, None, unwrap_or, option_map, is_some, slice_get}
+use Rattle.svc_base.specs.declared.served.Served.{Served}
+use Rattle.svc_base.specs.declared.served.Served.TheVariants as served
 use Rattle.svc_image.specs.Image.{Image}
 use Rattle.svc_core_laws.specs.declared.end.End.{End}
 use Rattle.svc_core_laws.specs.declared.end.End.TheVariants as end
@@ -11,8 +13,6 @@ use Rattle.svc_bus_laws.specs.ByRows.{victim_after}
 use Rattle.svc_bus_laws.specs.LineTable.{LineTable}
 use Rattle.svc_bus_laws.specs.Supplier.{Supplier, supplier}
 use Rattle.svc_bus_laws.specs.Supplier as supply
-use Rattle.svc_machine_laws.specs.declared.reply.Served.{Served}
-use Rattle.svc_machine_laws.specs.declared.reply.Served.TheVariants as served
 use Rattle.svc_machine_laws.specs.declared.reply.What.{What}
 use Rattle.svc_machine_laws.specs.declared.reply.What.TheVariants as what
 use Rattle.svc_machine_laws.specs.declared.reply.Cause.{Cause}

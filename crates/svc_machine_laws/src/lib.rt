@@ -20,5 +20,6 @@ pub use lists::{
     whole_machine_anew,
 };
 pub use machine::{machine_steps, task_anew};
-pub use reply::{Cause, Cut, Reply, Served, What};
+pub use reply::{Cause, Cut, Reply, What};
 pub use rows::first_assignment;
+pub use svc_base::Served;

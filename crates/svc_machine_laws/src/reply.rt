@@ -1,24 +1,7 @@
 // What the machine answers to an accepted event.
 
-use svc_base::{TaskNo, UnitId, WordAddr};
+use svc_base::{Served, TaskNo, WordAddr};
 use svc_core_laws::End;
-
-/// Who supplied the value of a read.
-#[derive(Clone, Copy, Debug, PartialEq, Eq)]
-pub enum Served {
-    /// The unit's own uncommitted line.
-    Hit,
-    /// The unit's own committed line, which is clean and not stale.
-    Reuse,
-    /// The nearest earlier task's version, in this unit's cache.
-    Version(UnitId),
-    /// A version of the head that a replacement took out of its cache.
-    Spill,
-    /// The newest committed version, in this unit's cache.
-    Committed(UnitId),
-    /// The backing memory.
-    Memory,
-}
 
 /// What an accepted event did.
 #[derive(Clone, Copy, Debug, PartialEq, Eq)]

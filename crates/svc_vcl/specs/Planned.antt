@@ -2,6 +2,8 @@
 use Rattle.std.specs.Prelude.{ℕ, Bool, false, not, ◌&&◌, ◌||◌, ◌==◌, Option, Some, None, List, get_or}
 use Rattle.std.specs.List.{list_any}
 use Rattle.svc_base.specs.declared.ids.UnitId.{UnitId}
+use Rattle.svc_base.specs.declared.served.Served.{Served}
+use Rattle.svc_base.specs.declared.served.Served.TheVariants.{Hit, Reuse, Version as FromVersion, Spill, Committed, Memory}
 use Rattle.svc_line.specs.Bits.{Bits, bits_of, is_dirty, no_bits}
 use Rattle.svc_bus_laws.specs.Search.{any_below}
 use Rattle.svc_bus_laws.specs.Supplier as bus
@@ -10,8 +12,6 @@ use Rattle.svc_bus_laws.specs.BusState.{BusState}
 use Rattle.svc_bus_laws.specs.BusSteps.{is_below}
 use Rattle.svc_vol.specs.declared.version.Version.{Version}
 use Rattle.svc_vol.specs.Versions.{version_at, unit_at}
-use Rattle.svc_vcl.specs.declared.served.Served.{Served}
-use Rattle.svc_vcl.specs.declared.served.Served.TheVariants.{Hit, Reuse, Version as FromVersion, Spill, Committed, Memory}
 use Rattle.svc_vcl.specs.Listed.{entry_at}
 
 -- the supplier by its unit's number

@@ -4,11 +4,10 @@
 
 pub mod read;
 mod search;
-pub mod served;
 pub mod write;
 
 pub use read::{ReadPlan, plan_read};
-pub use served::Served;
+pub use svc_base::Served;
 pub use write::{STALE_CAPACITY, WritePlan, plan_write};
 
 #[cfg(test)]

@@ -10,8 +10,7 @@ ghost use Rattle.svc_vcl.specs.Described.{IsReadRequest, line_with};
 ghost use Rattle.svc_vcl.specs.Planned.{supplier_of};
 
 use crate::search::{is_overtaken, nearest, newest, reusable};
-use crate::served::Served;
-use svc_base::UnitId;
+use svc_base::{Served, UnitId};
 use svc_line::LineBits;
 use svc_vol::VersionList;
 

@@ -1,10 +1,9 @@
-use Rattle.std.proofs.Common.{◌≡◌, ◌∙◌, ◌<◌, sym, subst, Some, None, List, length, get_or}
+use Rattle.std.proofs.Common.{◌≡◌, ◌∙◌, subst, Some, None, List, length}
 use Rattle.svc_cache.specs.Places.{CacheValue}
 use Rattle.svc_vol.specs.declared.version.Version.{Version}
 use Rattle.svc_vol.specs.Lines.{lines_in}
 use Rattle.svc_vol.specs.Versions.{AreCommitted}
 use Rattle.svc_retire.specs.Purges.{IsNewest}
-use Rattle.svc_retire.proofs.Listing.{read_item}
 use Rattle.svc_bus_laws.specs.LineTable.{LineTable}
 use Rattle.svc_bus_laws.specs.BusState.{Agrees}
 use Rattle.svc_bus.specs.Value.{BusValue, table_of}
