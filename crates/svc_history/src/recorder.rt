@@ -100,10 +100,10 @@ impl Recorder {
         ensures counted { IsCounted self.new }
         ensures headline { IsSequentialMachine (board self.new.entries).committed self.new.machine }
     {
+        let index = self.entries.len();
         let named = named(event);
         let reply = self.machine.apply(event)?;
         let entry = telling(named, &reply);
-        let index = self.entries.len();
         let _pushed = self.entries.push(entry);
         Ok(Slip { index, entry })
     }

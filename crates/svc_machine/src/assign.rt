@@ -30,6 +30,7 @@ impl Machine {
             entry,
             core: Core::start(&self.image, entry),
             waiting: ArrayVec::new(),
+            apart: [0; 8],
         });
         self.epoch += 1;
         self.accepted += 1;

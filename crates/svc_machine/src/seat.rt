@@ -19,10 +19,13 @@ pub(crate) struct Seat {
     pub(crate) epoch: u64,
     /// The entry at which it began.
     pub(crate) entry: u32,
-    /// Where it stands.
-    pub(crate) core: Core,
     /// The words that it has put out, which wait for its commit.
     pub(crate) waiting: ArrayVec<u32, MAX_WAITING>,
+    // The core changes with each event of the unit. What the other units' events look for, `unit`, lies on other lines of
+    // the cache: fields lie in the order of the source.
+    /// Where it stands.
+    pub(crate) core: Core,
+    pub(crate) apart: [u64; 8],
 }
 
 /// The place of the unit's task, counted from the oldest.

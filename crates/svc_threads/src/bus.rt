@@ -14,6 +14,7 @@ use crate::locked::{Locked, counts_of};
 use crate::port::Port;
 use crossbeam_utils::{Backoff, CachePadded};
 use std::alloc::Global;
+use std::hint;
 use std::marker::Model;
 use std::sync::{Arc, Mutex, MutexGuard, Wait};
 use svc_base::{OpenError, Refusal, UnitId};
@@ -24,6 +25,10 @@ const LOOKS: u32 = 1_000;
 
 // After so many of its looks it lets other threads run in between.
 const QUICK_LOOKS: u32 = 64;
+
+// How long it waits between two quick looks, some tenths of a microsecond. A look that fails takes the line of the lock's
+// word from the processor that will write it next, so fewer of them are better.
+const PAUSES: u32 = 32;
 
 /// One recorder under one lock, for all units, and the board that shows the numbers of its history.
 #[derive(Drop)]
@@ -106,7 +111,7 @@ impl SharedBus {
                 return guard;
             }
             if look < QUICK_LOOKS {
-                backoff.spin();
+                pause();
             } else {
                 backoff.snooze();
             }
@@ -118,6 +123,13 @@ impl SharedBus {
     pub fn into_recorder(self) -> Recorder {
         let SharedBus { lock, board: _ } = self;
         lock.into_inner().into_inner().into_recorder()
+    }
+}
+
+// Waits between two quick looks.
+fn pause() {
+    for _ in 0..PAUSES {
+        hint::spin_loop();
     }
 }
 

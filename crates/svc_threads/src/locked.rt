@@ -74,10 +74,11 @@ impl Locked {
         ensures unchanged { OnErr result (self.new ≡ self.old) }
         ensures legal { IsLegal self.new }
     {
+        let counts = self.counts;
         let slip = self.recorder.record(event)?;
-        let row = with_entry(self.counts, &slip.entry);
-        self.board.publish(rt, &mut self.publisher, row);
+        let row = with_entry(counts, &slip.entry);
         self.counts = row;
+        self.board.publish(rt, &mut self.publisher, row);
         Ok(slip)
     }
 

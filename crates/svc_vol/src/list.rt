@@ -1,4 +1,4 @@
-ghost use Rattle.std.specs.Prelude.{◌≡◌, ◌<◌, ◌≤◌, ◌+◌, ℕ, true, false, Some, length, map, get_or, option_map};
+ghost use Rattle.std.specs.Prelude.{◌≡◌, ◌<◌, ◌≤◌, ◌+◌, ℕ, [], true, false, Some, length, map, get_or, option_map};
 ghost use Rattle.svc_line.specs.Line.{seen};
 ghost use Rattle.svc_cache.specs.Places.{CacheValue, line_of};
 ghost use Rattle.svc_vol.specs.Lines.{CountsOneOfEach, HasRoomForEach, UnitLines, is_older_of, lines_at, lines_in};
@@ -33,22 +33,23 @@ impl Model for VersionList {
     ghost view = { λ list. record { committed = list.committed.items; active = list.active.items } };
 }
 
-// One look into each cache: the word's line in it.
-fn found_in(
+// One look into each cache: the word's line in it. A list is filled where it stays: to hand one on costs more than to fill
+// it.
+fn find(
+    found: &mut ArrayVec<Option<Line>, CAPACITY>,
     caches: &[Cache],
     word: WordAddr,
     probes: &mut Probes,
-) -> ArrayVec<Option<Line>, CAPACITY>
+)
+    requires empty { found.old.items ≡ [] }
     requires few { length caches.now ≤ CAPACITY }
     requires room { HasRoomForEach probes.old caches.now }
-    ensures lines { map (option_map seen) result.items ≡ map (λ (cache : CacheValue). line_of cache word.0) caches.now }
+    ensures lines { map (option_map seen) found.new.items ≡ map (λ (cache : CacheValue). line_of cache word.0) caches.now }
     ensures counted { CountsOneOfEach probes.old probes.new caches.now }
 {
-    let mut found = ArrayVec::new();
     for cache in caches {
         found.push(cache.lookup(word, probes));
     }
-    found
 }
 
 // The first place whose version is newer, which is the new one's place.
@@ -80,28 +81,30 @@ fn enter(committed: &mut ArrayVec<Version, CAPACITY>, unit: UnitId, line: Option
 }
 
 // The committed lines among those that were found, in order.
-fn committed_of(found: &[Option<Line>]) -> ArrayVec<Version, CAPACITY>
+fn list_committed(committed: &mut ArrayVec<Version, CAPACITY>, found: &[Option<Line>])
+    requires empty { committed.old.items ≡ [] }
     requires few { length found.now ≤ CAPACITY }
-    ensures { AreCommitted (lines_at (map (option_map seen) found.now)) (length found.now) result.items }
+    ensures { AreCommitted (lines_at (map (option_map seen) found.now)) (length found.now) committed.new.items }
 {
-    let mut committed = ArrayVec::new();
     for unit in 0..found.len() {
-        enter(&mut committed, UnitId(unit as u8), found[unit]);
+        enter(committed, UnitId(unit as u8), found[unit]);
     }
-    committed
 }
 
 // The active lines among those that were found, by the places of their tasks.
-fn active_of(found: &[Option<Line>], queue: &TaskQueue) -> ArrayVec<Option<Version>, CAPACITY>
+fn list_active(
+    active: &mut ArrayVec<Option<Version>, CAPACITY>,
+    found: &[Option<Line>],
+    queue: &TaskQueue,
+)
+    requires empty { active.old.items ≡ [] }
     requires known { (place : ℕ) → place < length queue.now → get_or queue.now place 0 < length found.now }
-    ensures { map (option_map seen_version) result.items ≡ active_versions (lines_at (map (option_map seen) found.now)) queue.now }
+    ensures { map (option_map seen_version) active.new.items ≡ active_versions (lines_at (map (option_map seen) found.now)) queue.now }
 {
-    let mut active = ArrayVec::new();
     for place in 0..queue.len() {
         let unit = queue.unit_at(place);
         active.push(Version::active(unit, found[unit.0 as usize]));
     }
-    active
 }
 
 impl VersionList {
@@ -119,11 +122,15 @@ impl VersionList {
         ensures active { map (option_map seen_version) result.active ≡ active_versions (lines_in caches.now word.0) queue.now }
         ensures counted { CountsOneOfEach probes.old probes.new caches.now }
     {
-        let found = found_in(caches, word, probes);
-        VersionList {
-            committed: committed_of(&found),
-            active: active_of(&found, queue),
-        }
+        let mut found = ArrayVec::new();
+        find(&mut found, caches, word, probes);
+        let mut list = VersionList {
+            committed: ArrayVec::new(),
+            active: ArrayVec::new(),
+        };
+        list_committed(&mut list.committed, &found);
+        list_active(&mut list.active, &found, queue);
+        list
     }
 
     /// The committed lines. Of those that were stored to, the oldest is the first.

@@ -1,5 +1,5 @@
 use Rattle.std.proofs.Common.{◌≡◌, ◌≢◌, ◌+◌, ◌-◌, ◌^◌, ℕ, None, ◌∷◌, ◌++◌, [], List, true, ◌∙◌, ap, ap₂, sym, subst, refl, arith}
-use Rattle.std.specs.Prelude.{is_ok, if◌then◌else◌, vec_capacity}
+use Rattle.std.specs.Prelude.{replicate, is_ok, if◌then◌else◌, vec_capacity}
 use Rattle.svc_core_laws.specs.State.{State}
 use Rattle.svc_machine_laws.specs.declared.reply.Reply.{Reply}
 use Rattle.svc_machine_laws.specs.declared.reply.What.TheVariants as what
@@ -54,7 +54,7 @@ module _ (c : goal.After-self-2-1) where
   ok = let x : Event = Assign c.args.unit.0 c.args.guess in subst (λ (v : MachineValue). Accepts v x) (sym c.self.view_is) c.requires
 
   abbrev seat : Seat
-  seat = record { unit = c.args.unit; epoch = c.self.inside.epoch; entry = c.assign-entry.result; core = c.start.result; waiting = c.new.result }
+  seat = record { unit = c.args.unit; epoch = c.self.inside.epoch; entry = c.assign-entry.result; waiting = c.new.result; core = c.start.result; apart = replicate 8 0 }
 
   abbrev after : Parts
   after = parts_of (record c.self.inside { bus = c.begin.new.self; sequencer = c.assign-entry.new.self; seats = c.push-room.new.self; accepted = c.self.inside.accepted + 1; epoch = c.self.inside.epoch + 1 })

@@ -7,4 +7,4 @@ use Rattle.svc_vol.proofs.list.VersionList.of.Goals as goal
 
 pub returns-clause-active : goal.returns-clause-active
 returns-clause-active c =
-    c.active_of.ensures ∙ ap (λ (lines : List (Option SeenLine)). active_versions (lines_at lines) c.args.queue.now) (ap (λ (found : List (Option Line)). map (option_map seen) found) c.deref-2.ensures.0 ∙ c.found_in-found.ensures.lines)
+    c.list_active.ensures ∙ ap (λ (lines : List (Option SeenLine)). active_versions (lines_at lines) c.args.queue.now) (ap (λ (found : List (Option Line)). map (option_map seen) found) c.deref-2.ensures.0 ∙ c.find.ensures.lines)

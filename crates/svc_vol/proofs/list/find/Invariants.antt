@@ -2,7 +2,7 @@ use Rattle.std.proofs.Common.{◌≡◌, ◌≤◌, ◌+◌, map, option_map, ta
 use Rattle.svc_line.specs.Line.{seen}
 use Rattle.svc_cache.specs.Places.{CacheValue, line_of}
 use Rattle.svc_vol.specs.Lines.{ways_in}
-use Rattle.svc_vol.proofs.list.found_in.Given as goal
+use Rattle.svc_vol.proofs.list.find.Given as goal
 
 abbrev pub invariant-loop-cache : goal.invariant-loop-cache
 invariant-loop-cache l = record {

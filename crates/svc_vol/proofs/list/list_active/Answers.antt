@@ -3,7 +3,7 @@ use Rattle.svc_line.specs.Line.{seen}
 use Rattle.svc_vol.specs.Lines.{lines_at}
 use Rattle.svc_vol.specs.Versions.{active_version}
 use Rattle.svc_vol.proofs.Finding.{active_more, line_of_unit}
-use Rattle.svc_vol.proofs.list.active_of.Goals as goal
+use Rattle.svc_vol.proofs.list.list_active.Goals as goal
 
 pub loop-place-preserved : goal.loop-place-preserved
 loop-place-preserved c =

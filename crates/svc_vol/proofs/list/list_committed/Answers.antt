@@ -2,7 +2,7 @@ use Rattle.std.proofs.Common.{◌<◌, length, map, option_map, arith}
 use Rattle.svc_line.specs.Line.{seen}
 use Rattle.svc_vol.specs.Lines.{lines_at}
 use Rattle.svc_vol.proofs.Finding.{line_of_unit}
-use Rattle.svc_vol.proofs.list.committed_of.Goals as goal
+use Rattle.svc_vol.proofs.list.list_committed.Goals as goal
 
 pub loop-unit-preserved : goal.loop-unit-preserved
 loop-unit-preserved c =
