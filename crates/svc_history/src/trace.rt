@@ -70,7 +70,7 @@ fn replay(recorder: &mut Recorder, entry: &Entry) -> Result<(), TraceFaultKind>
     let Some(event) = replayed(recorder.machine(), entry) else {
         return Err(TraceFaultKind::Refused);
     };
-    match recorder.apply(event) {
+    match recorder.record(&event) {
         Ok(slip) if is_same(&slip.entry, entry) => Ok(()),
         Ok(_) => Err(TraceFaultKind::Differs),
         Err(_) => Err(TraceFaultKind::Refused),
