@@ -1,21 +1,16 @@
 -- Steps of a script and their columns.
-use Rattle.std.proofs.Common.{◌≡◌, ◌∷◌, ◌++◌, ◌+◌, ◌<◌, ◌≤◌, ◌^◌, ◌∙◌, [], ℕ, List, Option, Some, None, refl, sym, ap, arith, get_or, length, take, inl, inr}
+use Rattle.std.proofs.Common.{◌≡◌, ◌∷◌, ◌<◌, ◌≤◌, ◌^◌, ◌∙◌, [], ℕ, List, Option, Some, None, refl, sym, ap, arith, get_or, length, take}
 use Rattle.std.specs.Prelude.{IfSome}
-use Rattle.std.specs.List.{AllByRecursion}
 use Rattle.std.specs.Fmt.{decimal}
 use Rattle.std.specs.Cmp.Lexicographic.{other_text}
-use Rattle.std.proofs.lemmas.List.{map-append, get_or-take}
-use Rattle.csv.specs.declared.reader.Reader.{Reader}
+use Rattle.std.proofs.lemmas.List.{get_or-take}
 use Rattle.svc_report.specs.Fields.{optional}
-use Rattle.svc_report.specs.Records.{FirstOther, IsText}
-use Rattle.svc_report.specs.Script.{FirstBadStep, HasStepRow, IsScriptFault, arg_of, kind_with, script_header, script_records, step_columns, word_of, word_text}
+use Rattle.svc_report.specs.Script.{HasStepRow, arg_of, kind_with, word_of, word_text}
 use Rattle.svc_report.specs.declared.script.StepKind.{StepKind}
 use Rattle.svc_report.specs.declared.script.StepKind.TheVariants as kind
 use Rattle.svc_report.specs.declared.script.StepWord.{StepWord}
 use Rattle.svc_report.specs.declared.script.StepWord.TheVariants as word
 use Rattle.svc_report.specs.declared.script.Step.{Step}
-use Rattle.svc_report.specs.declared.error.ReportError.TheVariants as fault
-use Rattle.svc_report.proofs.Tracks.{Tracks, begins}
 use Rattle.svc_report.proofs.SameColumns.{number_same, wide}
 
 -- a record of three fields is its fields, one by one
@@ -107,19 +102,3 @@ no_step w arg s low row none words args =
     let found = kind_found s.kind in
     let other = rw (same, number) at none in
     cc (found, other)
-
-pub no_script : (known : Option (List ℕ)) → IfSome known (λ text. IsText text []) → IsScriptFault known (fault.Row 1 0)
-no_script None h = tt
-no_script (Some text) h = inl (refl, inl (h, refl))
-
-pub other_script : {R : Type 0} (rem : R → Option (List ℕ)) (known : Option (List ℕ)) (a : Reader R) (f : List (List ℕ)) (c : ℕ) → Tracks rem known a (f ∷ []) → FirstOther f script_header c → IsScriptFault known (fault.Row 1 c)
-other_script rem None a f c h other = tt
-other_script rem (Some text) a f c h other = inl (refl, inr (f, begins rem text a (f ∷ []) h, other))
-
-pub bad_step : {R : Type 0} (rem : R → Option (List ℕ)) (known : Option (List ℕ)) (a : Reader R) (steps : List Step) (f : List (List ℕ)) (row c : ℕ) → Tracks rem known a (script_records steps ++ (f ∷ []))
-    → AllByRecursion HasStepRow steps → row ≡ length steps + 2 → FirstBadStep f c → IsScriptFault known (fault.Row row c)
-bad_step rem None a steps f row c h all at bad = tt
-bad_step rem (Some text) a steps f row c h all at bad = inr (steps, all, at, f, begins rem text a (script_records steps ++ (f ∷ [])) h, bad)
-
-pub steps_more : (steps : List Step) (s : Step) → script_records steps ++ (step_columns s ∷ []) ≡ script_records (steps ++ (s ∷ []))
-steps_more steps s = rw (map-append step_columns steps (s ∷ [])) refl

@@ -7,9 +7,8 @@ use Rattle.csv.specs.Reading.{ReadRecord, Reached, default_config, reader_config
 use Rattle.csv.specs.declared.parser.State.TheVariants as st
 use Rattle.csv.specs.declared.reader.Reader.{Reader}
 use Rattle.csv.proofs.ReadFacts.{rows-end, rows-more}
-use Rattle.svc_history_laws.specs.declared.entry.Entry.{Entry}
 use Rattle.svc_report.specs.Records.{BeginsWith, FirstOther, IsText}
-use Rattle.svc_report.specs.Trace.{FirstBad, HasRow, IsReadFault, columns, header, trace_records}
+use Rattle.svc_report.specs.Rows.{IsRowsFault, records_of}
 use Rattle.svc_report.specs.declared.error.ReportError.TheVariants as fault
 
 -- the records that a reader took from the known text
@@ -35,22 +34,25 @@ pub begins : {R : Type 0} (rem : R → Option (List ℕ)) (text : List ℕ) (a :
 begins rem text a rows h = (reader_state a, h.0, h.2)
 
 -- the text has no record
-pub no_header : (known : Option (List ℕ)) → IfSome known (λ text. IsText text []) → IsReadFault known (fault.Row 1 0)
-no_header None h = tt
-no_header (Some text) h = inl (refl, inl (h, refl))
+pub no_header : {A : Type 0} (names : List (List ℕ)) (columns : A → List (List ℕ)) (HasRow : A → Type 0) (FirstBad : List (List ℕ) → ℕ → Type 0) (known : Option (List ℕ))
+    → IfSome known (λ text. IsText text []) → IsRowsFault names columns HasRow FirstBad known (fault.Row 1 0)
+no_header names columns HasRow FirstBad None h = tt
+no_header names columns HasRow FirstBad (Some text) h = inl (refl, inl (h, refl))
 
-pub other_header : {R : Type 0} (rem : R → Option (List ℕ)) (known : Option (List ℕ)) (a : Reader R) (f : List (List ℕ)) (c : ℕ) → Tracks rem known a (f ∷ []) → FirstOther f header c → IsReadFault known (fault.Row 1 c)
-other_header rem None a f c h other = tt
-other_header rem (Some text) a f c h other = inl (refl, inr (f, begins rem text a (f ∷ []) h, other))
+pub other_header : {A R : Type 0} (names : List (List ℕ)) (columns : A → List (List ℕ)) (HasRow : A → Type 0) (FirstBad : List (List ℕ) → ℕ → Type 0) (rem : R → Option (List ℕ)) (known : Option (List ℕ)) (a : Reader R)
+    (f : List (List ℕ)) (c : ℕ) → Tracks rem known a (f ∷ []) → FirstOther f names c → IsRowsFault names columns HasRow FirstBad known (fault.Row 1 c)
+other_header names columns HasRow FirstBad rem None a f c h other = tt
+other_header names columns HasRow FirstBad rem (Some text) a f c h other = inl (refl, inr (f, begins rem text a (f ∷ []) h, other))
 
-pub bad_entry : {R : Type 0} (rem : R → Option (List ℕ)) (known : Option (List ℕ)) (a : Reader R) (es : List Entry) (f : List (List ℕ)) (row c : ℕ) → Tracks rem known a (trace_records es ++ (f ∷ []))
-    → AllByRecursion HasRow es → row ≡ length es + 2 → FirstBad f c → IsReadFault known (fault.Row row c)
-bad_entry rem None a es f row c h all at bad = tt
-bad_entry rem (Some text) a es f row c h all at bad = inr (es, all, at, f, begins rem text a (trace_records es ++ (f ∷ [])) h, bad)
+pub bad_row : {A R : Type 0} (names : List (List ℕ)) (columns : A → List (List ℕ)) (HasRow : A → Type 0) (FirstBad : List (List ℕ) → ℕ → Type 0) (rem : R → Option (List ℕ)) (known : Option (List ℕ)) (a : Reader R)
+    (items : List A) (f : List (List ℕ)) (row c : ℕ) → Tracks rem known a (records_of names columns items ++ (f ∷ [])) → AllByRecursion HasRow items → row ≡ length items + 2 → FirstBad f c
+    → IsRowsFault names columns HasRow FirstBad known (fault.Row row c)
+bad_row names columns HasRow FirstBad rem None a items f row c h all at bad = tt
+bad_row names columns HasRow FirstBad rem (Some text) a items f row c h all at bad = inr (items, all, at, f, begins rem text a (records_of names columns items ++ (f ∷ [])) h, bad)
 
 pub all_more : {A : Type 0} (P : A → Type 0) (xs : List A) (x : A) → AllByRecursion P xs → P x → AllByRecursion P (xs ++ (x ∷ []))
 all_more P [] x all p = (p, tt)
 all_more P (y ∷ ys) x all p = (all.0, all_more P ys x all.1 p)
 
-pub rows_more : (es : List Entry) (e : Entry) → trace_records es ++ (columns e ∷ []) ≡ trace_records (es ++ (e ∷ []))
-rows_more es e = rw (map-append columns es (e ∷ [])) refl
+pub rows_more : {A : Type 0} (names : List (List ℕ)) (columns : A → List (List ℕ)) (items : List A) (x : A) → records_of names columns items ++ (columns x ∷ []) ≡ records_of names columns (items ++ (x ∷ []))
+rows_more names columns items x = rw (map-append columns items (x ∷ [])) refl

@@ -1,15 +1,13 @@
 -- The text of a script.
-use Rattle.std.specs.Prelude.{ℕ, zero, suc, List, [], ◌∷◌, ◌++◌, ◌+◌, Option, Some, None, IfSome, codes, decimal, length, map, take, ◌≡◌, ◌≢◌, ◌<◌, ◌≤◌, ◌^◌, ◌⊎◌}
-use Rattle.std.specs.List.{AllByRecursion}
+use Rattle.std.specs.Prelude.{ℕ, zero, suc, List, [], ◌∷◌, Option, Some, None, IfSome, codes, decimal, length, take, ◌≡◌, ◌≢◌, ◌<◌, ◌≤◌, ◌^◌}
 use Rattle.svc_report.specs.declared.script.StepKind.{StepKind}
 use Rattle.svc_report.specs.declared.script.StepKind.TheVariants as kind
 use Rattle.svc_report.specs.declared.script.StepWord.{StepWord}
 use Rattle.svc_report.specs.declared.script.StepWord.TheVariants as word
 use Rattle.svc_report.specs.declared.script.Step.{Step}
 use Rattle.svc_report.specs.declared.error.ReportError.{ReportError}
-use Rattle.svc_report.specs.declared.error.ReportError.TheVariants as fault
 use Rattle.svc_report.specs.Fields.{optional, unit_text}
-use Rattle.svc_report.specs.Records.{BeginsWith, IsBadHeader}
+use Rattle.svc_report.specs.Rows.{IsRowsFault, records_of}
 
 -- the word of a step
 abbrev pub word_text : StepWord → List ℕ
@@ -61,7 +59,7 @@ step_columns s = word_text (word_of s.kind) ∷ unit_text s.unit ∷ optional de
 
 -- the records of a script of these steps
 abbrev pub script_records : List Step → List (List (List ℕ))
-script_records steps = script_header ∷ map step_columns steps
+script_records steps = records_of script_header step_columns steps
 
 -- the numbers of a step are in the ranges of their columns
 pub record HasStepRow (s : Step) : Type 0 where
@@ -74,15 +72,6 @@ FirstBadStep fields zero = length fields ≢ 3
 FirstBadStep fields (suc k) = (length fields ≡ 3) × ((s : Step) × HasStepRow s × (take k fields ≡ take k (step_columns s)))
     × ((s : Step) → HasStepRow s → take (suc k) fields ≢ take (suc k) (step_columns s))
 
--- after the rows of some steps comes a record that is bad
-abbrev pub IsBadStep : List ℕ → ℕ → ℕ → Type 0
-IsBadStep text row column =
-    (steps : List Step) × AllByRecursion HasStepRow steps × (row ≡ length steps + 2) × (fields : List (List ℕ)) × BeginsWith text (script_records steps ++ (fields ∷ [])) × FirstBadStep fields column
-
 -- a reading fails for memory or the reader, or names the first bad record of the text, where that is known, with its first bad column
 abbrev pub IsScriptFault : Option (List ℕ) → ReportError → Type 0
-IsScriptFault known fault.Memory = Unit {0}
-IsScriptFault known fault.Read = Unit {0}
-IsScriptFault known fault.Write = ⊥
-IsScriptFault None (fault.Row row column) = Unit {0}
-IsScriptFault (Some text) (fault.Row row column) = IsBadHeader text script_header row column ⊎ IsBadStep text row column
+IsScriptFault known error = IsRowsFault script_header step_columns HasStepRow FirstBadStep known error

@@ -1,12 +1,10 @@
 -- The text of a trace.
-use Rattle.std.specs.Prelude.{ℕ, zero, suc, List, [], ◌∷◌, ◌++◌, ◌+◌, Option, Some, None, IfSome, codes, decimal, flat_map, map, length, take, get_or, ◌<◌, ◌≤◌, ◌^◌, ◌≡◌, ◌≢◌, ◌⊎◌}
-use Rattle.std.specs.List.{AllByRecursion}
+use Rattle.std.specs.Prelude.{ℕ, zero, suc, List, [], ◌∷◌, ◌++◌, Option, IfSome, codes, decimal, flat_map, length, take, get_or, ◌<◌, ◌≤◌, ◌^◌, ◌≡◌, ◌≢◌}
 use Rattle.svc_history_laws.specs.declared.entry.Entry.{Entry}
 use Rattle.svc_report.specs.declared.error.ReportError.{ReportError}
-use Rattle.svc_report.specs.declared.error.ReportError.TheVariants as fault
 use Rattle.svc_report.specs.Fields.{address_text, ask_word, cause_word, kind_word, optional, reply_word, served_word, unit_text}
 use Rattle.svc_report.specs.Lines.{line}
-use Rattle.svc_report.specs.Records.{BeginsWith, IsBadHeader}
+use Rattle.svc_report.specs.Rows.{IsBadRow, IsRowsFault, records_of}
 
 -- the names of the columns
 abbrev pub header : List (List ℕ)
@@ -29,7 +27,7 @@ text_of h = line header ++ flat_map row_of h
 
 -- the records of that text
 abbrev pub trace_records : List Entry → List (List (List ℕ))
-trace_records h = header ∷ map columns h
+trace_records h = records_of header columns h
 
 -- the numbers of an entry are in the ranges of their columns
 pub record HasRow (e : Entry) : Type 0 where
@@ -53,13 +51,8 @@ FirstBad fields (suc k) = (length fields ≡ 13) × ((e : Entry) × HasRow e × 
 
 -- after the rows of some entries comes a record that is bad
 abbrev pub IsBadEntry : List ℕ → ℕ → ℕ → Type 0
-IsBadEntry text row column =
-    (es : List Entry) × AllByRecursion HasRow es × (row ≡ length es + 2) × (fields : List (List ℕ)) × BeginsWith text (trace_records es ++ (fields ∷ [])) × FirstBad fields column
+IsBadEntry text row column = IsBadRow header columns HasRow FirstBad text row column
 
 -- a reading fails for memory or the reader, or names the first bad record of the text, where that is known, with its first bad column
 abbrev pub IsReadFault : Option (List ℕ) → ReportError → Type 0
-IsReadFault known fault.Memory = Unit {0}
-IsReadFault known fault.Read = Unit {0}
-IsReadFault known fault.Write = ⊥
-IsReadFault None (fault.Row row column) = Unit {0}
-IsReadFault (Some text) (fault.Row row column) = IsBadHeader text header row column ⊎ IsBadEntry text row column
+IsReadFault known error = IsRowsFault header columns HasRow FirstBad known error

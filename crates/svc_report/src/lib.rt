@@ -5,6 +5,7 @@ mod error;
 mod laws;
 mod lines;
 mod numbers;
+mod reading;
 mod records;
 mod script;
 mod summary;

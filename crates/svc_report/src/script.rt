@@ -9,7 +9,8 @@ ghost use Rattle.svc_report.specs.Script.{FirstBadStep, HasStepRow, IsScriptFaul
 
 use crate::error::ReportError;
 use crate::numbers::{optional_number_of, unit_of};
-use crate::records::{check_names, field, next_row, open};
+use crate::reading::{Row, read_rows};
+use crate::records::field;
 use csv::ByteRecord;
 use std::alloc::Global;
 use std::io::Read;
@@ -106,6 +107,18 @@ fn step_of(row: &ByteRecord) -> Result<Step, u8>
     Ok(Step { unit, kind })
 }
 
+impl Row for Step {
+    ghost columns = { step_columns };
+
+    ghost has_row = { HasStepRow };
+
+    ghost first_bad = { FirstBadStep };
+
+    fn of(row: &ByteRecord) -> Result<Step, u8> {
+        step_of(row)
+    }
+}
+
 /// Reads a script.
 pub fn read_script<R: Read + Drop>(alloc: Global, reader: R) -> Result<Vec<Step>, ReportError>
     // The text is the names of the columns and the rows of these steps, and no other record.
@@ -113,29 +126,5 @@ pub fn read_script<R: Read + Drop>(alloc: Global, reader: R) -> Result<Vec<Step>
     // The first bad record and its first bad column.
     ensures err { IfErr result (λ e. IsScriptFault (R.remaining reader) e) }
 {
-    let mut reader = open(alloc, reader);
-    let mut row = ByteRecord::new(alloc);
-    if !next_row(&mut reader, &mut row)? {
-        return Err(ReportError::Row { row: 1, column: 0 });
-    }
-    if let Err(column) = check_names(&row, &HEADER) {
-        return Err(ReportError::Row { row: 1, column });
-    }
-    let mut steps = Vec::new(alloc);
-    for number in 2..u64::MAX {
-        if !next_row(&mut reader, &mut row)? {
-            return Ok(steps);
-        }
-        match step_of(&row) {
-            Ok(step) => steps.push(step)?,
-            Err(column) => {
-                return Err(ReportError::Row {
-                    row: number,
-                    column,
-                });
-            }
-        }
-    }
-    // So many steps fit no memory.
-    Err(ReportError::Memory)
+    read_rows(alloc, reader, &HEADER)
 }

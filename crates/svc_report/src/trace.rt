@@ -15,7 +15,8 @@ use crate::numbers::{
     address_text, number_text, optional_address_of, optional_number_of, optional_small_of,
     optional_unit_of, small_text, unit_of, unit_text,
 };
-use crate::records::{check_names, field, next_row, open};
+use crate::reading::{Row, read_rows};
+use crate::records::field;
 use crate::words::{
     ask_of, ask_text, cause_of, cause_text, kind_of, kind_text, reply_of, reply_text, served_of,
     served_text,
@@ -128,36 +129,16 @@ fn entry_of(row: &ByteRecord) -> Result<Entry, u8>
     })
 }
 
-// Reads a trace: what `read_trace` promises, but for the text of a history, which follows from this.
-fn entries_of<R: Read + Drop>(alloc: Global, reader: R) -> Result<Vec<Entry>, ReportError>
-    ensures ok { IfOk result (λ v. AllByRecursion HasRow v.items × IfSome (R.remaining reader) (λ text. IsText text (trace_records v.items))) }
-    ensures err { IfErr result (λ e. IsReadFault (R.remaining reader) e) }
-{
-    let mut reader = open(alloc, reader);
-    let mut row = ByteRecord::new(alloc);
-    if !next_row(&mut reader, &mut row)? {
-        return Err(ReportError::Row { row: 1, column: 0 });
+impl Row for Entry {
+    ghost columns = { columns };
+
+    ghost has_row = { HasRow };
+
+    ghost first_bad = { FirstBad };
+
+    fn of(row: &ByteRecord) -> Result<Entry, u8> {
+        entry_of(row)
     }
-    if let Err(column) = check_names(&row, &HEADER) {
-        return Err(ReportError::Row { row: 1, column });
-    }
-    let mut entries = Vec::new(alloc);
-    for number in 2..u64::MAX {
-        if !next_row(&mut reader, &mut row)? {
-            return Ok(entries);
-        }
-        match entry_of(&row) {
-            Ok(entry) => entries.push(entry)?,
-            Err(column) => {
-                return Err(ReportError::Row {
-                    row: number,
-                    column,
-                });
-            }
-        }
-    }
-    // So many entries fit no memory.
-    Err(ReportError::Memory)
 }
 
 /// Reads the text of a history.
@@ -169,5 +150,5 @@ pub fn read_trace<R: Read + Drop>(alloc: Global, reader: R) -> Result<Vec<Entry>
     // The text of a history is read again, unless memory or the reader fails.
     ensures back { (h : List Entry) → AllByRecursion HasRow h → R.remaining reader ≡ Some (text_of h) → MatchResult result (λ v. v.items ≡ h) IsStreamFault }
 {
-    entries_of(alloc, reader)
+    read_rows(alloc, reader, &HEADER)
 }

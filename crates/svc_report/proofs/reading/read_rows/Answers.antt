@@ -1,37 +1,44 @@
-use Rattle.std.proofs.Common.{◌≡◌, [], refl, true, rules, arith}
+use Rattle.std.proofs.Common.{◌≡◌, [], refl, true, rules, arith, Bor, List, ℕ, map}
 use Rattle.std.specs.Result.{is_ok}
 use Rattle.std.proofs.lemmas.List.{length-append}
-use Rattle.svc_report.specs.Script.{HasStepRow}
-use Rattle.svc_report.proofs.Tracks.{all_more, begun, ended, went_on}
-use Rattle.svc_report.proofs.Steps.{bad_step, steps_more, no_script, other_script}
-use Rattle.svc_report.proofs.script.read_script.Goals as goal
+use Rattle.svc_report.proofs.Tracks.{all_more, bad_row, begun, ended, no_header, other_header, rows_more, went_on}
+use Rattle.svc_report.proofs.reading.read_rows.Goals as goal
+
+abbrev texts : List (Bor (List ℕ)) → List (List ℕ)
+texts ns = map (λ n. n.now) ns
 
 pub returns-then-not-branch-clause-err : goal.returns-then-not-branch-clause-err
 returns-then-not-branch-clause-err g c =
     let rem = g.R.Read.remaining in
+    let t = g.T.Row in
+    let names = texts c.args.names.now in
     let known = rem c.args.reader in
     let o = c.open-reader.ensures in
     let start = begun rem known c.open-reader.result o.state o.source in
     let read = rw c.if-not-branch.true at c.in_ok-next_row.ensures.reads in
-    no_script known (ended rem known c.open-reader.result c.next_row.new.reader [] _ o.open.2 start read.1)
+    no_header names t.columns t.has_row t.first_bad known (ended rem known c.open-reader.result c.next_row.new.reader [] _ o.open.2 start read.1)
 
 pub returns-in-Err-clause-err : goal.returns-in-Err-clause-err
 returns-in-Err-clause-err g c =
     let rem = g.R.Read.remaining in
+    let t = g.T.Row in
+    let names = texts c.args.names.now in
     let known = rem c.args.reader in
     let o = c.open-reader.ensures in
     let start = begun rem known c.open-reader.result o.state o.source in
     let read = rw c.if-not-branch.false at c.in_ok-next_row.ensures.reads in
-    other_script rem known c.next_row.new.reader _ _ (went_on rem known c.open-reader.result c.next_row.new.reader [] _ o.open.2 start read.1) c.in-Err.ensures
+    other_header names t.columns t.has_row t.first_bad rem known c.next_row.new.reader _ _ (went_on rem known c.open-reader.result c.next_row.new.reader [] _ o.open.2 start read.1) c.in-Err.ensures
 
 pub loop-number-init : goal.loop-number-init
 loop-number-init g c =
     let rem = g.R.Read.remaining in
+    let t = g.T.Row in
+    let names = texts c.args.names.now in
     let known = rem c.args.reader in
     let o = c.open-reader.ensures in
     let start = begun rem known c.open-reader.result o.state o.source in
     let read = rw c.if-not-branch.false at c.in_ok-next_row.ensures.reads in
-    rw (c.new-steps.ensures.items) (record {
+    rw (c.new-items.ensures.items) (record {
       is_open = read.0;
       in_range = tt;
       count = refl;
@@ -41,23 +48,29 @@ loop-number-init g c =
 pub returns-then-not-branch-2-clause-ok : goal.returns-then-not-branch-2-clause-ok
 returns-then-not-branch-2-clause-ok g c =
     let rem = g.R.Read.remaining in
+    let t = g.T.Row in
+    let names = texts c.args.names.now in
     let known = rem c.args.reader in
     let inv = c.loop-number.invariant in
     let read = rw c.if-not-branch-2.true at c.in_ok-next_row-2.ensures.reads in
     (inv.in_range, ended rem known c.loop-number.reader c.next_row-in-loop-number.new.reader _ _ inv.is_open.2 inv.tracks read.1)
 
-pub returns-in-Err-step_of-clause-err : goal.returns-in-Err-step_of-clause-err
-returns-in-Err-step_of-clause-err g c =
+pub returns-in-Err-of-clause-err : goal.returns-in-Err-of-clause-err
+returns-in-Err-of-clause-err g c =
     let rem = g.R.Read.remaining in
+    let t = g.T.Row in
+    let names = texts c.args.names.now in
     let known = rem c.args.reader in
     let inv = c.loop-number.invariant in
     let read = rw c.if-not-branch-2.false at c.in_ok-next_row-2.ensures.reads in
-    bad_step rem known c.next_row-in-loop-number.new.reader c.loop-number.steps.items _ _ _
-    (went_on rem known c.loop-number.reader c.next_row-in-loop-number.new.reader _ _ inv.is_open.2 inv.tracks read.1) inv.in_range inv.count c.in-Err-step_of.ensures
+    bad_row names t.columns t.has_row t.first_bad rem known c.next_row-in-loop-number.new.reader c.loop-number.items.items _ _ _
+    (went_on rem known c.loop-number.reader c.next_row-in-loop-number.new.reader _ _ inv.is_open.2 inv.tracks read.1) inv.in_range inv.count c.in-Err-of.ensures
 
 pub loop-number-preserved : goal.loop-number-preserved
 loop-number-preserved g c =
     let rem = g.R.Read.remaining in
+    let t = g.T.Row in
+    let names = texts c.args.names.now in
     let known = rem c.args.reader in
     let inv = c.loop-number.invariant in
     let read = rw c.if-not-branch-2.false at c.in_ok-next_row-2.ensures.reads in
@@ -66,7 +79,7 @@ loop-number-preserved g c =
     let next = went_on rem known c.loop-number.reader c.next_row-in-loop-number.new.reader _ _ inv.is_open.2 inv.tracks read.1 in
     rw items (record {
       is_open = read.0;
-      in_range = all_more HasStepRow c.loop-number.steps.items c.in-Ok.step inv.in_range c.in-Ok.ensures.0;
+      in_range = all_more t.has_row c.loop-number.items.items c.in-Ok.item inv.in_range c.in-Ok.ensures.0;
       count = simp (length-append) (omega (arith, inv.count));
-      tracks = rw (c.in-Ok.ensures.1, steps_more c.loop-number.steps.items c.in-Ok.step) at next;
+      tracks = rw (c.in-Ok.ensures.1, rows_more names t.columns c.loop-number.items.items c.in-Ok.item) at next;
     })

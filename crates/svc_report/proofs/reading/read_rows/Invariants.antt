@@ -1,0 +1,14 @@
+use Rattle.std.proofs.Common.{◌≡◌, ◌+◌, length, map}
+use Rattle.std.specs.List.{AllByRecursion}
+use Rattle.svc_report.specs.Records.{IsOpen}
+use Rattle.svc_report.specs.Rows.{records_of}
+use Rattle.svc_report.proofs.Tracks.{Tracks}
+use Rattle.svc_report.proofs.reading.read_rows.Given as goal
+
+abbrev pub invariant-loop-number : goal.invariant-loop-number
+invariant-loop-number g l = record {
+  is_open : IsOpen l.reader;
+  in_range : AllByRecursion g.T.Row.has_row l.items.items;
+  count : l.number ≡ length l.items.items + 2;
+  tracks : Tracks g.R.Read.remaining (g.R.Read.remaining l.fn.reader) l.reader (records_of (map (λ n. n.now) l.names) g.T.Row.columns l.items.items);
+}

@@ -1,0 +1,68 @@
+// Reads a text of a row for each item: what traces and scripts share.
+
+ghost use Rattle.std.specs.Prelude.{◌≡◌, ◌≤◌, ℕ, List, length, map, IfOk, IfErr, IfSome, MatchResult};
+ghost use Rattle.std.specs.List.{AllByRecursion};
+ghost use Rattle.csv.specs.Records.{fields_of};
+ghost use Rattle.svc_report.specs.Records.{IsText};
+ghost use Rattle.svc_report.specs.Rows.{IsRowsFault, records_of};
+
+use crate::error::ReportError;
+use crate::records::{check_names, next_row, open};
+use csv::ByteRecord;
+use std::alloc::Global;
+use std::io::Read;
+
+/// An item that has a row in a text.
+pub(crate) trait Row: Drop {
+    // The columns of an item.
+    ghost columns: { Self → List (List ℕ) };
+
+    // Holds of the items that have a row.
+    ghost has_row: { Self → Type 0 };
+
+    // Holds of a record that is no item's row, and its first bad column.
+    ghost first_bad: { List (List ℕ) → ℕ → Type 0 };
+
+    /// The item of a record, or the first bad column.
+    fn of(row: &ByteRecord) -> Result<Self, u8>
+        ensures { MatchResult result (λ item. has_row item × (fields_of row.now ≡ columns item)) (λ c. first_bad (fields_of row.now) c) };
+}
+
+/// Reads a text with these names of columns.
+pub(crate) fn read_rows<T: Row, R: Read + Drop>(
+    alloc: Global,
+    reader: R,
+    names: &[&[u8]],
+) -> Result<Vec<T>, ReportError>
+    requires { length names.now ≤ 100 }
+    // The text is the names of the columns and the rows of these items, and no other record.
+    ensures ok { IfOk result (λ v. AllByRecursion T.has_row v.items × IfSome (R.remaining reader) (λ text. IsText text (records_of (map (λ n. n.now) names.now) T.columns v.items))) }
+    // The first bad record and its first bad column.
+    ensures err { IfErr result (λ e. IsRowsFault (map (λ n. n.now) names.now) T.columns T.has_row T.first_bad (R.remaining reader) e) }
+{
+    let mut reader = open(alloc, reader);
+    let mut row = ByteRecord::new(alloc);
+    if !next_row(&mut reader, &mut row)? {
+        return Err(ReportError::Row { row: 1, column: 0 });
+    }
+    if let Err(column) = check_names(&row, names) {
+        return Err(ReportError::Row { row: 1, column });
+    }
+    let mut items = Vec::new(alloc);
+    for number in 2..u64::MAX {
+        if !next_row(&mut reader, &mut row)? {
+            return Ok(items);
+        }
+        match T::of(&row) {
+            Ok(item) => items.push(item)?,
+            Err(column) => {
+                return Err(ReportError::Row {
+                    row: number,
+                    column,
+                });
+            }
+        }
+    }
+    // So many items fit no memory.
+    Err(ReportError::Memory)
+}
