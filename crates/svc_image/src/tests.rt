@@ -125,8 +125,10 @@ fn the_greatest_counts_may_be_a_lie(rt: HostRuntime) {
     LittleEndian::write_u16(&mut header[6..], 1024);
     LittleEndian::write_u32(&mut header[8..], 65_536);
     LittleEndian::write_u32(&mut header[12..], 65_536);
-    LittleEndian::write_u32(&mut header[16..], 65_536);
-    assert_eq!(rt; fault(rt.alloc(), &header), 1);
+    for limit in [1, 65_536] {
+        LittleEndian::write_u32(&mut header[16..], limit);
+        assert_eq!(rt; fault(rt.alloc(), &header), 1);
+    }
 }
 
 #[test]

@@ -1,26 +1,28 @@
 -- Each accepted event adds its answer to the log of its task, and a committed log is the sequential answers.
-use Rattle.std.proofs.Common.{ℕ, ◌≡◌, Bool, true, false, cond, List, [], ◌∷◌, ◌++◌, map, take, Option, Some, None, refl, sym, ap, ◌∙◌, subst, is_some, slice_get}
+use Rattle.std.proofs.Common.{ℕ, ◌≡◌, Bool, true, false, cond, List, [], ◌∷◌, ◌++◌, map, take, Option, Some, None, refl, sym, ap, ◌∙◌, subst, is_some, slice_get, unwrap_or}
 use Rattle.std.proofs.lemmas.Option.{none-some}
 use Rattle.svc_base.specs.declared.config.Config.{Config}
 use Rattle.svc_base.specs.declared.served.Served.{Served}
 use Rattle.svc_image.specs.Image.{Image}
 use Rattle.svc_core_laws.specs.declared.end.End.{End}
 use Rattle.svc_core_laws.specs.State.{State}
-use Rattle.svc_core_laws.specs.Program.{Memory, Program, Want, Local, Load, Store, Narrow, Emit, Run, Action, act, wrote, over, part, task, seq, said, due_run, log_of_run, locals, IsProgram}
+use Rattle.svc_core_laws.specs.Program.{Memory, Program, Want, Local, Load, Store, Narrow, Emit, Run, Action, act, wrote, over, part, task, seq, said, due_run, end_of_run, log_of_run, locals, IsProgram}
 use Rattle.svc_core_laws.specs.Words.{program}
 use Rattle.svc_bus_laws.specs.Versioned.{Row}
 use Rattle.svc_bus_laws.specs.ByRows.{view_of, edit}
 use Rattle.svc_bus_laws.specs.LineTable.{LineTable}
+use Rattle.svc_core_laws.specs.declared.end.End.TheVariants as end
 use Rattle.svc_machine_laws.specs.declared.reply.Reply.{Reply}
+use Rattle.svc_machine_laws.specs.declared.reply.What.TheVariants as what
 use Rattle.svc_machine_laws.specs.PlainMachine.{Task, Plain, Running, IsDue, runs_of, running, row_of, cut_by, entry_of, entry_for, stays, settled}
 use Rattle.svc_machine_laws.specs.PlainMachine as plain
 use Rattle.svc_machine_laws.specs.WholeMachine.{machine_of, seen}
 use Rattle.svc_machine_laws.specs.MachineLaws.{Taken, HasEnded}
 use Rattle.svc_machine_laws.specs.Events.{Event, Assign, Submit, Replace, Cancel, Commit, IsEvent, task_place, asked_want, plain_event, plain_submit, plain_cancel}
-use Rattle.svc_machine_laws.specs.Replies.{turn_done, serves_at, whole_asked, whole_submitted, whole_reply, plain_reply}
+use Rattle.svc_machine_laws.specs.Replies.{turn_done, serves_at, whole_asked, whole_submitted, whole_reply, plain_committed, plain_reply}
 use Rattle.svc_machine_laws.specs.Standing.{Standing, refused, stepped, reply_to}
 use Rattle.svc_machine_laws.specs.Reached.{IsReached}
-use Rattle.svc_machine_laws.specs.Logs.{TaskLog, log_of, logs_of, told, plus, adds, AddsItsAnswer, CommitsAnswers, LogsFollow}
+use Rattle.svc_machine_laws.specs.Logs.{TaskLog, log_of, logs_of, told, plus, adds, AddsItsAnswer, CommitsAnswers, LogsFollow, TellsTheEnd}
 use Rattle.svc_machine_laws.proofs.Given.{Given}
 use Rattle.svc_machine_laws.proofs.Accepted.{can_submit, can_cancel, can_commit, seat_places}
 use Rattle.svc_machine_laws.proofs.Answering.{reply_is}
@@ -118,3 +120,26 @@ logs_follow img given config s reached (Commit by) is ok =
     let can = can_commit img config s by ok in
     let done : HasEnded (program img) s.plain = head_ended img given config s can in
     commit_tasks_logs (program img) given.is_program s.plain.commits s.plain.accepted s.plain.epoch s.plain.tasks can.run done.end can.here reached.due done.is
+
+commit_tasks_end : {C : Type 0} (p : Program C) → IsProgram p → (k : ℕ) (ts : List Task) (x : Running C) (ended : End)
+    → slice_get (runs_of p (seq p k).memory ts) 0 ≡ Some x
+    → IsDue (seq p k).due ts → ((y : Running C) → slice_get (runs_of p (seq p k).memory ts) 0 ≡ Some y → p.done y.run.core ≡ Some ended)
+    → TellsTheEnd p k (plain_committed p k ts).what
+commit_tasks_end p good k [] x ended here due done = absurd (none-some x here)
+commit_tasks_end {C} p good k (t ∷ ts) x ended here due done =
+    let r : Run C = part p t.entry t.turns (seq p k).memory in
+    let over_is : p.done r.core ≡ Some ended = done (record { task = t; run = r }) refl in
+    let whole : task p t.entry (seq p k).memory ≡ r = part_whole p good t.entry t.turns (seq p k).memory ended over_is in
+    record {
+      end = ended;
+      ends = ap (λ o. end_of_run p (due_run p (seq p k).memory o)) due ∙ ap (λ (q : Run C). p.done q.core) whole ∙ over_is;
+      tells = ap (λ o. what.Committed (record { 0 = k }) (unwrap_or o (end.Next 0))) over_is;
+    }
+
+pub commit_tells_the_end : (img : Image) → Given img → (config : Config) (s : Standing) → IsReached img config s → (by : ℕ) → refused img config s (Commit by) ≡ None
+    → TellsTheEnd (program img) s.plain.commits (reply_to img s (Commit by)).what
+unfolding reply_to plain_reply
+commit_tells_the_end img given config s reached by ok =
+    let can = can_commit img config s by ok in
+    let done : HasEnded (program img) s.plain = head_ended img given config s can in
+    commit_tasks_end (program img) given.is_program s.plain.commits s.plain.tasks can.run done.end can.here reached.due done.is

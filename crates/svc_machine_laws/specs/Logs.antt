@@ -1,6 +1,7 @@
 -- What the active tasks have done with memory and output so far, and what each accepted event adds to it.
 use Rattle.std.specs.Prelude.{ℕ, ◌≡◌, Bool, cond, List, [], ◌∷◌, ◌++◌, map, take, Option, Some, None}
-use Rattle.svc_core_laws.specs.Program.{Program, Action, Loaded, Stored, Replaced, Emitted, said}
+use Rattle.svc_core_laws.specs.declared.end.End.{End}
+use Rattle.svc_core_laws.specs.Program.{Program, Action, Loaded, Stored, Replaced, Emitted, end_at, said}
 use Rattle.svc_bus_laws.specs.ByRows.{edit}
 use Rattle.svc_machine_laws.specs.declared.reply.What.{What}
 use Rattle.svc_machine_laws.specs.declared.reply.What.TheVariants as what
@@ -67,3 +68,9 @@ LogsFollow p before after (Submit b) done = AddsItsAnswer p before after b.unit.
 LogsFollow p before after (Replace unit address) done = logs_of p after ≡ logs_of p before
 LogsFollow p before after (Cancel unit) done = LeavesEarlier p before after unit
 LogsFollow p before after (Commit by) done = CommitsAnswers p before after
+
+-- a commit tells the number of the task committed, and how that task ends in the sequential order
+pub record TellsTheEnd {C : Type 0} (p : Program C) (k : ℕ) (done : What) : Type 0 where
+  pub end : End
+  pub ends : end_at p k ≡ Some end
+  pub tells : done ≡ what.Committed (record { 0 = k }) end

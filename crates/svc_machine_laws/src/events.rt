@@ -12,7 +12,7 @@ ghost use Rattle.svc_core_laws.specs.Turns.{data_words};
 ghost use Rattle.svc_core_laws.specs.Words.{program};
 ghost use Rattle.svc_machine_laws.specs.declared.reply.Cut.{Cut};
 ghost use Rattle.svc_machine_laws.specs.WholeMachine.{machine_of};
-ghost use Rattle.svc_machine_laws.specs.Events.{Event, IsEvent, want_of, whole_event};
+ghost use Rattle.svc_machine_laws.specs.Events.{Commit, Event, IsEvent, want_of, whole_event};
 ghost use Rattle.svc_machine_laws.specs.LineEvents.{word_of};
 ghost use Rattle.svc_machine_laws.specs.MachineLaws.{IsWithin};
 ghost use Rattle.svc_machine_laws.specs.Refusals.{asked_word};
@@ -20,7 +20,7 @@ ghost use Rattle.svc_machine_laws.specs.Replies.{whole_reply};
 ghost use Rattle.svc_machine_laws.specs.Standing.{Standing, refused, stepped, reply_to, after_event, is_commit};
 ghost use Rattle.svc_machine_laws.specs.Reached.{IsReached};
 ghost use Rattle.svc_machine_laws.specs.Blame.{IsBlamed, tasks_cut, begun};
-ghost use Rattle.svc_machine_laws.specs.Logs.{LogsFollow};
+ghost use Rattle.svc_machine_laws.specs.Logs.{LogsFollow, TellsTheEnd};
 
 /// An accepted event of the whole machine is the plain machine's, and so is the reply to it, with all
 /// that it cuts.
@@ -63,4 +63,10 @@ pub fn tasks_are_counted()
 /// the sequential run answers it, in order.
 pub fn logs_follow()
     ensures { (img : Image) → IsImage img → (config : Config) → (s : Standing) → IsReached img config s → (x : Event) → IsEvent x → refused img config s x ≡ None → LogsFollow (program img) s.plain (stepped img s x).plain x (reply_to img s x).what }
+{}
+
+/// An accepted commit answers the number of the committed task, which is how many tasks were committed before it, and how
+/// that task ends in the sequential order.
+pub fn commit_tells_the_end()
+    ensures { (img : Image) → IsImage img → (config : Config) → (s : Standing) → IsReached img config s → (by : ℕ) → refused img config s (Commit by) ≡ None → TellsTheEnd (program img) s.plain.commits (reply_to img s (Commit by)).what }
 {}

@@ -11,8 +11,8 @@ mod reply;
 mod rows;
 
 pub use events::{
-    accepted_event, asked_word_is_wanted, cut_is_blamed, empty_burst_has_no_turn, event_keeps,
-    logs_follow, tasks_are_counted,
+    accepted_event, asked_word_is_wanted, commit_tells_the_end, cut_is_blamed,
+    empty_burst_has_no_turn, event_keeps, logs_follow, tasks_are_counted,
 };
 pub use guides::{guess_is_entry, guess_is_guided, guide_steps};
 pub use lists::{

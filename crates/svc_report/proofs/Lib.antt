@@ -1,3 +1,4 @@
+pub mod Pending
 pub mod PlainLines
 pub mod Rows
 pub mod SameColumns

@@ -37,7 +37,7 @@ plain_digits (d ∷ ds) h =
     let parts = (tells_digits).parts d ds h in
     rw (plain_byte d (omega (arith, parts.0))) (plain_digits ds parts.1)
 
-plain_decimal : (n : ℕ) → n < 2 ^ 64 → IsPlain (decimal n)
+pub plain_decimal : (n : ℕ) → n < 2 ^ 64 → IsPlain (decimal n)
 plain_decimal n h = plain_digits (decimal n) (digits_decimal (numerals_by_value (AllDigits 10) tells_digits) n h)
 
 plain_rest : (x : List ℕ) (ys : List (List ℕ)) → AllByRecursion IsPlain ys → x ++ fields_text default_writer ys ≡ joined (x ∷ ys)
@@ -46,7 +46,7 @@ plain_rest x [] h = append-nil x
 plain_rest x (y ∷ ys) h = rw h.0 (ap (λ (t : List ℕ). x ++ (44 ∷ t)) (plain_rest y ys h.1))
 
 -- a row of two fields or more
-row_is_line : (x y : List ℕ) (ys : List (List ℕ)) → IsPlain x → AllByRecursion IsPlain (y ∷ ys) → row_text default_writer (x ∷ y ∷ ys) ≡ line (x ∷ y ∷ ys)
+pub row_is_line : (x y : List ℕ) (ys : List (List ℕ)) → IsPlain x → AllByRecursion IsPlain (y ∷ ys) → row_text default_writer (x ∷ y ∷ ys) ≡ line (x ∷ y ∷ ys)
 unfolding is_blank
 row_is_line x y ys p h = rw p (ap (λ (t : List ℕ). t ++ (10 ∷ [])) (plain_rest x (y ∷ ys) h))
 

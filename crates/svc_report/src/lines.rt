@@ -1,50 +1,102 @@
 // Writes lines of fields.
 
-ghost use Rattle.std.specs.Prelude.{◌≡◌, [], OnOk, IfOk, IfErr, map};
-ghost use Rattle.std.specs.Io.KnownBytes.{Appends};
-ghost use Rattle.csv.specs.Writing.{default_writer, row_text};
+ghost use Rattle.std.specs.Prelude.{◌≡◌, ◌++◌, [], false, OnOk, IfErr, map};
+ghost use Rattle.std.specs.Io.KnownBytes.{Appends, Keeps, append_known};
+ghost use Rattle.csv.specs.Writing.{default_writer, fields_written, has_written, row_text, writer_setup};
 ghost use Rattle.svc_report.specs.Faults.{IsWriteFault};
 
 use crate::error::ReportError;
-use csv::WriterBuilder;
-use std::alloc::AllocError;
+use csv::{Writer, WriterBuilder};
+use std::alloc::{AllocError, Global};
 use std::io::Write;
+use std::marker::Model;
+use std::mem;
 
-/// The buffer of one line, which is empty between two lines. It grows to the longest line and is used again for the next.
-pub(crate) type LineBuffer = Vec<u8>;
+// So many bytes are gathered before they are written: a call of the writer costs more than a line, and so does a new
+// writer of `csv`, which has a buffer of its own.
+const ENOUGH: usize = 4096;
 
-// The fields as `csv` writes them. A writer over memory fails only for want of memory.
-fn line_of(buffer: LineBuffer, fields: &[&[u8]]) -> Result<Vec<u8>, AllocError>
-    requires { buffer.items ≡ [] }
-    ensures { IfOk result (λ text. text.items ≡ row_text default_writer (map (λ f. f.now) fields.now)) }
-{
-    let mut writer = WriterBuilder::new().from_writer(buffer);
-    if writer.write_fields(fields).is_err() {
-        return Err(AllocError);
-    }
-    match writer.into_inner() {
-        Ok(text) => Ok(text),
-        Err(_) => Err(AllocError),
-    }
+/// Lines that are still to be written.
+#[derive(Drop)]
+pub(crate) struct Pending {
+    alloc: Global,
+    lines: Writer<Vec<u8>>,
 }
 
-/// Writes a line of these fields, and gives the buffer back.
-pub(crate) fn write_line<W: Write>(
-    buffer: LineBuffer,
-    fields: &[&[u8]],
-    w: &mut W,
-) -> Result<LineBuffer, ReportError>
-    requires { buffer.items ≡ [] }
-    ensures ok { OnOk result (Appends (W.contents w.old) (W.contents w.new) (row_text default_writer (map (λ f. f.now) fields.now))) }
-    ensures empty { IfOk result (λ buffer. buffer.items ≡ []) }
-    ensures err { IfErr result IsWriteFault }
+impl Model for Pending {
+    ghost use Rattle.std.specs.Prelude.{◌≡◌, ◌++◌, ℕ, List, false};
+    ghost use Rattle.csv.specs.Writing.{default_writer, fields_written, has_written, writer_pending, writer_setup, writer_under};
+
+    // The text of the lines.
+    ghost Value = { List ℕ };
+
+    ghost view = { λ p. (writer_under p.lines).items ++ writer_pending p.lines };
+
+    ghost invariant = { λ p. (writer_setup p.lines ≡ default_writer) × (fields_written p.lines ≡ 0) × (has_written p.lines ≡ false) };
+}
+
+// Begins anew. (It stands by itself because room for the new writer would be made at each line else.)
+fn renew(lines: &mut Writer<Vec<u8>>, alloc: Global)
+    ensures setup { writer_setup lines.new ≡ default_writer }
+    ensures fields { fields_written lines.new ≡ 0 }
+    ensures wrote { has_written lines.new ≡ false }
 {
-    let mut text = line_of(buffer, fields)?;
-    match w.write_all(text.as_slice()) {
-        Ok(()) => {
-            text.clear();
-            Ok(text)
+    *lines = WriterBuilder::new().from_writer(Vec::new(alloc));
+}
+
+impl Pending {
+    /// No lines.
+    pub(crate) fn new(alloc: Global) -> Pending
+        ensures { result ≡ [] }
+    {
+        Pending {
+            alloc,
+            lines: WriterBuilder::new().from_writer(Vec::new(alloc)),
         }
-        Err(_) => Err(ReportError::Write),
+    }
+
+    // Adds a line of these fields, as `csv` writes them. A writer over memory fails only for want of memory.
+    fn push(&mut self, fields: &[&[u8]]) -> Result<(), AllocError>
+        ensures { OnOk result (self.new ≡ self.old ++ row_text default_writer (map (λ f. f.now) fields.now)) }
+    {
+        match self.lines.write_fields(fields) {
+            Ok(()) => Ok(()),
+            Err(_) => {
+                renew(&mut self.lines, self.alloc);
+                Err(AllocError)
+            }
+        }
+    }
+
+    /// Adds a line of these fields, and writes all lines once there is enough.
+    pub(crate) fn write_line<W: Write>(
+        &mut self,
+        fields: &[&[u8]],
+        w: &mut W,
+    ) -> Result<(), ReportError>
+        ensures ok { OnOk result (Appends (append_known (W.contents w.old) self.old) (append_known (W.contents w.new) self.new) (row_text default_writer (map (λ f. f.now) fields.now))) }
+        ensures err { IfErr result IsWriteFault }
+    {
+        self.push(fields)?;
+        if self.lines.get_ref().len() >= ENOUGH {
+            return self.write_all(w);
+        }
+        Ok(())
+    }
+
+    /// Writes all lines.
+    pub(crate) fn write_all<W: Write>(&mut self, w: &mut W) -> Result<(), ReportError>
+        ensures ok { OnOk result (Keeps (append_known (W.contents w.old) self.old) (W.contents w.new)) }
+        ensures empty { OnOk result (self.new ≡ []) }
+        ensures err { IfErr result IsWriteFault }
+    {
+        let Pending { alloc: _, lines } = mem::replace(self, Pending::new(self.alloc));
+        let Ok(text) = lines.into_inner() else {
+            return Err(ReportError::Memory);
+        };
+        match w.write_all(text.as_slice()) {
+            Ok(()) => Ok(()),
+            Err(_) => Err(ReportError::Write),
+        }
     }
 }

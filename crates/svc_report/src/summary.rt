@@ -1,13 +1,13 @@
 // Summaries of runs.
 
-ghost use Rattle.std.specs.Prelude.{◌≡◌, [], OnOk, IfOk, IfErr};
-ghost use Rattle.std.specs.Io.KnownBytes.{Appends};
+ghost use Rattle.std.specs.Prelude.{◌≡◌, OnOk, IfErr};
+ghost use Rattle.std.specs.Io.KnownBytes.{Appends, append_known};
 ghost use Rattle.svc_report.specs.Faults.{IsWriteFault};
 ghost use Rattle.svc_report.specs.Lines.{IsPlain};
-ghost use Rattle.svc_report.specs.Summary.{count_of_kind, count_of_supplier, count_of_cause, counts_of, number_row, output_rows, ending_row, kind_rows, supplier_rows, cause_rows, summary_of};
+ghost use Rattle.svc_report.specs.Summary.{count_of_kind, count_of_supplier, count_of_cause, counts_of, number_row, output_rows, ending_row, kind_rows, supplier_rows, cause_rows, counts_rows, summary_of};
 
 use crate::error::ReportError;
-use crate::lines::{LineBuffer, write_line};
+use crate::lines::Pending;
 use itoa::Buffer;
 use std::alloc::Global;
 use std::io::Write;
@@ -89,111 +89,116 @@ impl Counts {
     }
 }
 
-// Writes a row of a name and a number by way of an empty buffer, which it gives back.
+// Writes a row of a name and a number, by way of what is pending.
 fn write_number<W: Write>(
-    buffer: LineBuffer,
+    pending: &mut Pending,
     name: &str,
     number: u64,
     w: &mut W,
-) -> Result<LineBuffer, ReportError>
-    requires empty { buffer.items ≡ [] }
-    requires plain { IsPlain name.now }
-    ensures ok { OnOk result (Appends (W.contents w.old) (W.contents w.new) (number_row name.now number)) }
-    ensures empty { IfOk result (λ buffer. buffer.items ≡ []) }
+) -> Result<(), ReportError>
+    requires { IsPlain name.now }
+    ensures ok { OnOk result (Appends (append_known (W.contents w.old) pending.old) (append_known (W.contents w.new) pending.new) (number_row name.now number)) }
     ensures err { IfErr result IsWriteFault }
 {
     let mut text = Buffer::new();
     let fields = [name.as_bytes(), text.format(number).as_bytes()];
-    write_line(buffer, &fields, w)
+    pending.write_line(&fields, w)
 }
 
 // Writes a row for each word that was put out.
 fn write_output<W: Write>(
-    mut buffer: LineBuffer,
+    pending: &mut Pending,
     output: &[u32],
     w: &mut W,
-) -> Result<LineBuffer, ReportError>
-    requires { buffer.items ≡ [] }
-    ensures ok { OnOk result (Appends (W.contents w.old) (W.contents w.new) (output_rows output.now)) }
-    ensures empty { IfOk result (λ buffer. buffer.items ≡ []) }
+) -> Result<(), ReportError>
+    ensures ok { OnOk result (Appends (append_known (W.contents w.old) pending.old) (append_known (W.contents w.new) pending.new) (output_rows output.now)) }
     ensures err { IfErr result IsWriteFault }
 {
     for word in output {
-        buffer = write_number(buffer, "out", u64::from(*word), w)?;
+        write_number(pending, "out", u64::from(*word), w)?;
     }
-    Ok(buffer)
+    Ok(())
 }
 
 // Writes the row of an ending.
 fn write_ending<W: Write>(
-    buffer: LineBuffer,
+    pending: &mut Pending,
     ending: Ending,
     w: &mut W,
-) -> Result<LineBuffer, ReportError>
-    requires { buffer.items ≡ [] }
-    ensures ok { OnOk result (Appends (W.contents w.old) (W.contents w.new) (ending_row ending)) }
-    ensures empty { IfOk result (λ buffer. buffer.items ≡ []) }
+) -> Result<(), ReportError>
+    ensures ok { OnOk result (Appends (append_known (W.contents w.old) pending.old) (append_known (W.contents w.new) pending.new) (ending_row ending)) }
     ensures err { IfErr result IsWriteFault }
 {
     match ending {
-        Ending::Exit(code) => write_number(buffer, "exit", u64::from(code), w),
-        Ending::Trap(number) => write_number(buffer, "trap", u64::from(number), w),
-        Ending::Full(entry) => write_number(buffer, "full", u64::from(entry), w),
-        Ending::Open(entry) => write_number(buffer, "open", u64::from(entry), w),
+        Ending::Exit(code) => write_number(pending, "exit", u64::from(code), w),
+        Ending::Trap(number) => write_number(pending, "trap", u64::from(number), w),
+        Ending::Full(entry) => write_number(pending, "full", u64::from(entry), w),
+        Ending::Open(entry) => write_number(pending, "open", u64::from(entry), w),
     }
 }
 
 // Writes the counts of kinds.
 fn write_kinds<W: Write>(
-    buffer: LineBuffer,
+    pending: &mut Pending,
     counts: &Counts,
     w: &mut W,
-) -> Result<LineBuffer, ReportError>
-    requires { buffer.items ≡ [] }
-    ensures ok { OnOk result (Appends (W.contents w.old) (W.contents w.new) (kind_rows counts.now)) }
-    ensures empty { IfOk result (λ buffer. buffer.items ≡ []) }
+) -> Result<(), ReportError>
+    ensures ok { OnOk result (Appends (append_known (W.contents w.old) pending.old) (append_known (W.contents w.new) pending.new) (kind_rows counts.now)) }
     ensures err { IfErr result IsWriteFault }
 {
-    let buffer = write_number(buffer, "kind-assign", counts.assign, w)?;
-    let buffer = write_number(buffer, "kind-submit", counts.submit, w)?;
-    let buffer = write_number(buffer, "kind-replace", counts.replace, w)?;
-    let buffer = write_number(buffer, "kind-cancel", counts.cancel, w)?;
-    write_number(buffer, "kind-commit", counts.commit, w)
+    write_number(pending, "kind-assign", counts.assign, w)?;
+    write_number(pending, "kind-submit", counts.submit, w)?;
+    write_number(pending, "kind-replace", counts.replace, w)?;
+    write_number(pending, "kind-cancel", counts.cancel, w)?;
+    write_number(pending, "kind-commit", counts.commit, w)
 }
 
 // Writes the counts of suppliers.
 fn write_suppliers<W: Write>(
-    buffer: LineBuffer,
+    pending: &mut Pending,
     counts: &Counts,
     w: &mut W,
-) -> Result<LineBuffer, ReportError>
-    requires { buffer.items ≡ [] }
-    ensures ok { OnOk result (Appends (W.contents w.old) (W.contents w.new) (supplier_rows counts.now)) }
-    ensures empty { IfOk result (λ buffer. buffer.items ≡ []) }
+) -> Result<(), ReportError>
+    ensures ok { OnOk result (Appends (append_known (W.contents w.old) pending.old) (append_known (W.contents w.new) pending.new) (supplier_rows counts.now)) }
     ensures err { IfErr result IsWriteFault }
 {
-    let buffer = write_number(buffer, "served-hit", counts.hit, w)?;
-    let buffer = write_number(buffer, "served-reuse", counts.reuse, w)?;
-    let buffer = write_number(buffer, "served-version", counts.version, w)?;
-    let buffer = write_number(buffer, "served-spill", counts.spill, w)?;
-    let buffer = write_number(buffer, "served-committed", counts.committed, w)?;
-    write_number(buffer, "served-memory", counts.memory, w)
+    write_number(pending, "served-hit", counts.hit, w)?;
+    write_number(pending, "served-reuse", counts.reuse, w)?;
+    write_number(pending, "served-version", counts.version, w)?;
+    write_number(pending, "served-spill", counts.spill, w)?;
+    write_number(pending, "served-committed", counts.committed, w)?;
+    write_number(pending, "served-memory", counts.memory, w)
 }
 
 // Writes the counts of causes.
 fn write_causes<W: Write>(
-    buffer: LineBuffer,
+    pending: &mut Pending,
     counts: &Counts,
     w: &mut W,
-) -> Result<LineBuffer, ReportError>
-    requires { buffer.items ≡ [] }
-    ensures ok { OnOk result (Appends (W.contents w.old) (W.contents w.new) (cause_rows counts.now)) }
-    ensures empty { IfOk result (λ buffer. buffer.items ≡ []) }
+) -> Result<(), ReportError>
+    ensures ok { OnOk result (Appends (append_known (W.contents w.old) pending.old) (append_known (W.contents w.new) pending.new) (cause_rows counts.now)) }
     ensures err { IfErr result IsWriteFault }
 {
-    let buffer = write_number(buffer, "cut-violation", counts.violation, w)?;
-    let buffer = write_number(buffer, "cut-guess", counts.guess, w)?;
-    write_number(buffer, "cut-cancel", counts.cancelled, w)
+    write_number(pending, "cut-violation", counts.violation, w)?;
+    write_number(pending, "cut-guess", counts.guess, w)?;
+    write_number(pending, "cut-cancel", counts.cancelled, w)
+}
+
+// Writes the counts, where they are given.
+fn write_counts<W: Write>(
+    pending: &mut Pending,
+    counts: Option<Counts>,
+    w: &mut W,
+) -> Result<(), ReportError>
+    ensures ok { OnOk result (Appends (append_known (W.contents w.old) pending.old) (append_known (W.contents w.new) pending.new) (counts_rows counts)) }
+    ensures err { IfErr result IsWriteFault }
+{
+    let Some(counts) = counts else {
+        return Ok(());
+    };
+    write_kinds(pending, &counts, w)?;
+    write_suppliers(pending, &counts, w)?;
+    write_causes(pending, &counts, w)
 }
 
 /// Writes the summary of a run: the words put out, how many tasks were run or committed, the ending, and the counts
@@ -209,13 +214,10 @@ pub fn write_summary<W: Write>(
     ensures ok { OnOk result (Appends (W.contents w.old) (W.contents w.new) (summary_of output.now tasks ending counts)) }
     ensures err { IfErr result IsWriteFault }
 {
-    let buffer = write_output(Vec::new(alloc), output, w)?;
-    let buffer = write_number(buffer, "tasks", tasks, w)?;
-    let buffer = write_ending(buffer, ending, w)?;
-    if let Some(counts) = counts {
-        let buffer = write_kinds(buffer, &counts, w)?;
-        let buffer = write_suppliers(buffer, &counts, w)?;
-        let _buffer = write_causes(buffer, &counts, w)?;
-    }
-    Ok(())
+    let mut pending = Pending::new(alloc);
+    write_output(&mut pending, output, w)?;
+    write_number(&mut pending, "tasks", tasks, w)?;
+    write_ending(&mut pending, ending, w)?;
+    write_counts(&mut pending, counts, w)?;
+    pending.write_all(w)
 }

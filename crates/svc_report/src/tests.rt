@@ -6,6 +6,8 @@ mod rows;
 mod scripts;
 mod streams;
 
+use std::alloc::Global;
+use std::test::*;
 use svc_base::{UnitId, WordAddr};
 use svc_history_laws::{CutKind, Entry, Kind, ReplyKind, ServedKind};
 
@@ -113,4 +115,17 @@ fn entries() -> [Entry; 10] {
         submit(1, 2, false, ReplyKind::Ran),
         commit(1, 1),
     ]
+}
+
+// The run a hundred times over, and the text of that.
+fn long(alloc: Global) -> Result<(Vec<Entry>, Vec<u8>), Fail> {
+    let (header, rows) = TRACE.split_once('\n').unwrap_or(("", ""));
+    let mut history = Vec::new(alloc);
+    let mut text = Vec::from_slice(alloc, header.as_bytes())?;
+    text.push(b'\n')?;
+    for _ in 0..100 {
+        history.extend_from_slice(&entries())?;
+        text.extend_from_slice(rows.as_bytes())?;
+    }
+    Ok((history, text))
 }

@@ -1,8 +1,8 @@
 // Traces: a text with a row for each entry of a history.
 
-ghost use Rattle.std.specs.Prelude.{◌≡◌, [], OnOk, IfOk, IfErr, IfSome, MatchResult, List, Some};
+ghost use Rattle.std.specs.Prelude.{◌≡◌, OnOk, IfOk, IfErr, IfSome, MatchResult, List, Some};
 ghost use Rattle.std.specs.List.{AllByRecursion};
-ghost use Rattle.std.specs.Io.KnownBytes.{Appends};
+ghost use Rattle.std.specs.Io.KnownBytes.{Appends, append_known};
 ghost use Rattle.csv.specs.Records.{fields_of};
 ghost use Rattle.svc_history_laws.specs.declared.entry.Entry.{Entry};
 ghost use Rattle.svc_report.specs.Faults.{IsStreamFault, IsWriteFault};
@@ -10,7 +10,7 @@ ghost use Rattle.svc_report.specs.Records.{IsText};
 ghost use Rattle.svc_report.specs.Trace.{FirstBad, HasRow, IsReadFault, columns, row_of, text_of, trace_records};
 
 use crate::error::ReportError;
-use crate::lines::{LineBuffer, write_line};
+use crate::lines::Pending;
 use crate::numbers::{
     address_text, number_text, optional_address_of, optional_number_of, optional_small_of,
     optional_unit_of, small_text, unit_of, unit_text,
@@ -47,15 +47,9 @@ const HEADER: [&[u8]; 13] = [
 // The most local turns of a burst.
 const MOST_LOCAL: u8 = 63;
 
-// Writes the row of an entry by way of an empty buffer, which it gives back.
-fn write_row<W: Write>(
-    buffer: LineBuffer,
-    entry: &Entry,
-    w: &mut W,
-) -> Result<LineBuffer, ReportError>
-    requires { buffer.items ≡ [] }
-    ensures ok { OnOk result (Appends (W.contents w.old) (W.contents w.new) (row_of entry.now)) }
-    ensures empty { IfOk result (λ buffer. buffer.items ≡ []) }
+// Writes the row of an entry, by way of what is pending.
+fn write_row<W: Write>(pending: &mut Pending, entry: &Entry, w: &mut W) -> Result<(), ReportError>
+    ensures ok { OnOk result (Appends (append_known (W.contents w.old) pending.old) (append_known (W.contents w.new) pending.new) (row_of entry.now)) }
     ensures err { IfErr result IsWriteFault }
 {
     let mut unit = Buffer::new();
@@ -81,7 +75,7 @@ fn write_row<W: Write>(
         number_text(&mut first, entry.first).as_bytes(),
         number_text(&mut squashed, entry.squashed).as_bytes(),
     ];
-    write_line(buffer, &fields, w)
+    pending.write_line(&fields, w)
 }
 
 /// Writes the row of an entry.
@@ -89,8 +83,9 @@ pub fn write_entry<W: Write>(alloc: Global, entry: &Entry, w: &mut W) -> Result<
     ensures ok { OnOk result (Appends (W.contents w.old) (W.contents w.new) (row_of entry.now)) }
     ensures err { IfErr result IsWriteFault }
 {
-    let _buffer = write_row(Vec::new(alloc), entry, w)?;
-    Ok(())
+    let mut row = Pending::new(alloc);
+    write_row(&mut row, entry, w)?;
+    row.write_all(w)
 }
 
 /// Writes the text of a history: the names of the columns, and a row for each entry.
@@ -98,11 +93,12 @@ pub fn write_trace<W: Write>(alloc: Global, entries: &[Entry], w: &mut W) -> Res
     ensures ok { OnOk result (Appends (W.contents w.old) (W.contents w.new) (text_of entries.now)) }
     ensures err { IfErr result IsWriteFault }
 {
-    let mut buffer = write_line(Vec::new(alloc), &HEADER, w)?;
+    let mut pending = Pending::new(alloc);
+    pending.write_line(&HEADER, w)?;
     for entry in entries {
-        buffer = write_row(buffer, entry, w)?;
+        write_row(&mut pending, entry, w)?;
     }
-    Ok(())
+    pending.write_all(w)
 }
 
 // The entry of a record, or the first bad column.

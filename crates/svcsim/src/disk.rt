@@ -1,5 +1,8 @@
 //! What the program takes from the system: the words of its command line, and the files of the disk.
 
+ghost use Rattle.std.specs.Prelude.{◌≡◌, IfErr};
+ghost use Rattle.svcsim.specs.declared.faults.Fault.TheVariants.{File};
+
 use crate::faults::Fault;
 use crate::files::{FileFault, Files};
 use std::rt::{self, Env};
@@ -22,9 +25,16 @@ impl<R: rt::Files + AllocGlobal> Files for Disk<'_, R> {
 }
 
 /// The words of the command line, the program's name first.
-pub fn words_of<R: Env + AllocGlobal>(rt: &R) -> Result<Vec<String>, Fault> {
+///
+/// Errors: [`Fault::File`], where a word isn't UTF-8 or memory was refused.
+pub fn words_of<R: Env + AllocGlobal>(rt: &R) -> Result<Vec<String>, Fault>
+    ensures { IfErr result (λ fault. fault ≡ File) }
+{
+    let Ok(given) = env::args(rt) else {
+        return Err(Fault::File);
+    };
     let mut words = Vec::new(rt.alloc());
-    for word in env::args(rt)? {
+    for word in given {
         words.push(word)?;
     }
     Ok(words)

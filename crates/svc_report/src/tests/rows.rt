@@ -1,6 +1,6 @@
 // Rows that are written, and read again.
 
-use crate::tests::{SUMMARY, TRACE, entries, plain};
+use crate::tests::{SUMMARY, TRACE, entries, long, plain};
 use crate::{Counts, read_trace, write_entry, write_summary, write_trace};
 use std::alloc::Global;
 use std::str;
@@ -36,6 +36,17 @@ fn a_trace_without_entries_is_written(rt: HostRuntime) -> Result<(), Fail> {
         str::from_utf8(&text)
             == Ok("kind,unit,arg,local,ask,reply,addr,word,served,from,cause,first,squashed\n")
     );
+    Ok(())
+}
+
+// A text that is written in several pieces.
+#[test]
+fn a_long_trace_is_written(rt: HostRuntime) -> Result<(), Fail> {
+    let (history, expected) = long(rt.alloc())?;
+    assert!(rt; expected.len() > 3 * 8192);
+    let mut text = Vec::new(rt.alloc());
+    write_trace(rt.alloc(), &history, &mut text)?;
+    assert!(rt; text == expected);
     Ok(())
 }
 

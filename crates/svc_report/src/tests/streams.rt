@@ -1,6 +1,6 @@
 // Writers and readers that fail.
 
-use crate::tests::{SUMMARY, TRACE, entries};
+use crate::tests::{SUMMARY, TRACE, entries, long};
 use crate::{Counts, ReportError, read_script, read_trace, write_summary, write_trace};
 use std::io;
 use std::io::{Read, Write};
@@ -85,6 +85,26 @@ fn a_trace_over_a_writer_that_fails(rt: HostRuntime) -> Result<(), Fail> {
     let mut text = Vec::new(rt.alloc());
     write_trace(rt.alloc(), &history, &mut text)?;
     assert!(rt; text.as_slice() == TRACE.as_bytes());
+    Ok(())
+}
+
+#[test]
+fn a_long_trace_over_a_writer_that_fails(rt: HostRuntime) -> Result<(), Fail> {
+    let (history, text) = long(rt.alloc())?;
+    for left in [
+        0,
+        8191,
+        8192,
+        8193,
+        16384,
+        24000,
+        text.len().saturating_sub(1),
+    ] {
+        let mut writer = FailingWriter::after(left);
+        assert!(rt; write_trace(rt.alloc(), &history, &mut writer) == Err(ReportError::Write));
+    }
+    let mut writer = FailingWriter::after(text.len());
+    assert!(rt; write_trace(rt.alloc(), &history, &mut writer) == Ok(()));
     Ok(())
 }
 

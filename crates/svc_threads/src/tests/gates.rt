@@ -213,10 +213,24 @@ fn a_unit_ends_with_the_run_or_for_want_of_memory(rt: HostRuntime) -> Result<(),
         }
         Err(fault) => {
             assert_eq!(rt; fault, crate::fault::RunError::Memory);
-            assert!(rt; bus.into_recorder().entries().len() < 6);
+            let cut_short = bus.into_recorder();
+            let ample = ample_run(&rt, rt.alloc(), &image)?;
+            assert!(rt; cut_short.entries().len() < 6);
+            assert!(rt; ample.entries().starts_with(cut_short.entries()));
         }
     }
     Ok(())
+}
+
+// The one unit's run, with memory enough.
+fn ample_run<R: Wait>(rt: &R, alloc: Global, image: &Image) -> Result<Recorder, Fail> {
+    let (bus, pass) = SharedBus::open(rt, alloc, recorder(alloc, image, config(1, 16, 100, 50)?)?)
+        .ok()
+        .ok_or("memory")?;
+    let _slips = run_unit(rt, alloc, &bus, UnitId(0), pass, image, 50, &Open)
+        .ok()
+        .ok_or("memory")?;
+    Ok(bus.into_recorder())
 }
 
 // The entries of slips.

@@ -1,18 +1,24 @@
-use Rattle.std.proofs.Common.{◌++◌, codes, Some}
-use Rattle.svc_report.specs.Summary.{cause_rows, counts_rows, ending_row, kind_rows, number_row, output_rows, supplier_rows}
-use Rattle.svc_report.proofs.PlainLines.{then_appends}
+use Rattle.std.proofs.Common.{◌++◌, codes}
+use Rattle.std.specs.Io.KnownBytes.{append_known}
+use Rattle.std.proofs.KnownBytes.{Appends-kept}
+use Rattle.svc_report.specs.Summary.{counts_rows, ending_row, number_row, output_rows, summary_of}
+use Rattle.svc_report.proofs.Pending.{before_any}
+use Rattle.svc_report.proofs.PlainLines.{on_ok, then_appends}
 use Rattle.svc_report.proofs.summary.write_summary.Goals as goal
 
-pub returns-in_ok-_buffer-clause-ok : goal.returns-in_ok-_buffer-clause-ok
-returns-in_ok-_buffer-clause-ok g c =
+pub returns-clause-ok : goal.returns-clause-ok
+returns-clause-ok g c =
     let now = g.W.Write.contents in
-    let last = now c.write_causes.new.w in
-    let counts = c.in-Some.counts in
-    let rows = counts_rows (Some counts) in
-    rw c.in-Some.is (
-    then_appends (now c.args.w.now) (now c.write_output.new.w) last (output_rows c.args.output.now) (number_row (codes "tasks") c.args.tasks ++ (ending_row c.args.ending ++ rows)) c.in_ok-buffer.ensures.ok (
-    then_appends (now c.write_output.new.w) (now c.write_number.new.w) last (number_row (codes "tasks") c.args.tasks) (ending_row c.args.ending ++ rows) c.in_ok-buffer-2.ensures.ok (
-    then_appends (now c.write_number.new.w) (now c.write_ending.new.w) last (ending_row c.args.ending) rows c.in_ok-buffer-3.ensures.ok (
-    then_appends (now c.write_ending.new.w) (now c.write_kinds.new.w) last (kind_rows counts) (supplier_rows counts ++ cause_rows counts) c.in_ok-buffer-4.ensures.ok (
-    then_appends (now c.write_kinds.new.w) (now c.write_suppliers.new.w) last (supplier_rows counts) (cause_rows counts) c.in_ok-buffer-5.ensures.ok
-    c.in_ok-_buffer.ensures.ok)))))
+    let tasks = number_row (codes "tasks") c.args.tasks in
+    let ending = ending_row c.args.ending in
+    let counts = counts_rows c.args.counts in
+    let a = append_known (now c.args.w.now) c.new-pending.result in
+    let b = append_known (now c.write_output.new.w) c.write_output.new.pending in
+    let d = append_known (now c.write_number.new.w) c.write_number.new.pending in
+    let e = append_known (now c.write_ending.new.w) c.write_ending.new.pending in
+    let f = append_known (now c.write_counts.new.w) c.write_counts.new.pending in
+    let all = then_appends a b f (output_rows c.args.output.now) (tasks ++ (ending ++ counts)) c.in_ok-write_output.ensures.ok (
+    then_appends b d f tasks (ending ++ counts) c.in_ok-write_number.ensures.ok (
+    then_appends d e f ending counts c.in_ok-write_ending.ensures.ok c.in_ok-write_counts.ensures.ok)) in
+    let start = before_any (now c.args.w.now) f c.new-pending.result (summary_of c.args.output.now c.args.tasks c.args.ending c.args.counts) c.new-pending.ensures all in
+    on_ok c.write_all.result (λ kept. Appends-kept (now c.args.w.now) f (now c.write_all.new.w) (summary_of c.args.output.now c.args.tasks c.args.ending c.args.counts) start kept) c.write_all.ensures.ok
