@@ -3,6 +3,8 @@ ghost use Rattle.std.specs.Int.{is_power_of_two};
 ghost use Rattle.svc_base.specs.declared.config.TheConstants.{MAX_EVENTS, MAX_SETS, MAX_TURNS, MAX_UNITS, MAX_WAYS};
 ghost use Rattle.svc_base.specs.Limits.{config_fault, error_number};
 
+use thiserror::Error;
+
 /// The greatest number of units of a configuration.
 pub const MAX_UNITS: u32 = 16;
 
@@ -45,17 +47,22 @@ pub struct Config {
 }
 
 /// Which number of a configuration is out of its range.
-#[derive(Clone, Copy, Debug, PartialEq, Eq)]
+#[derive(Clone, Copy, Debug, PartialEq, Eq, Error)]
 pub enum ConfigError {
     /// The units are not 1 to [`MAX_UNITS`].
+    #[error("the units are not 1 to 16")]
     Units,
     /// The sets are not a power of two from 1 to [`MAX_SETS`].
+    #[error("the sets are not a power of two from 1 to 256")]
     Sets,
     /// The ways are not 1 to [`MAX_WAYS`].
+    #[error("the ways are not 1 to 4")]
     Ways,
     /// The event limit is not 1 to [`MAX_EVENTS`].
+    #[error("the event limit is not 1 to 1000000")]
     Events,
     /// The turns are not 1 to [`MAX_TURNS`].
+    #[error("the turns are not 1 to 10000000")]
     Turns,
 }
 

@@ -2,11 +2,13 @@ ghost use Rattle.std.specs.Prelude.{◌≡◌};
 ghost use Rattle.svc_base.specs.Refusals.{number_of};
 
 use crate::ids::WordAddr;
+use thiserror::Error;
 
 /// Why a value could not be opened.
-#[derive(Clone, Copy, Debug, PartialEq, Eq)]
+#[derive(Clone, Copy, Debug, PartialEq, Eq, Error)]
 pub enum OpenError {
     /// The allocator refused memory.
+    #[error("out of memory")]
     Memory,
 }
 

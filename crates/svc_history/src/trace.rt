@@ -11,20 +11,25 @@ use svc_base::{Config, WordAddr};
 use svc_history_laws::{Entry, Kind};
 use svc_image::Image;
 use svc_machine::{Event, Machine};
+use thiserror::Error;
 
 /// What is wrong with an entry of a trace.
-#[derive(Clone, Copy, Debug, PartialEq, Eq)]
+#[derive(Clone, Copy, Debug, PartialEq, Eq, Error)]
 pub enum TraceFaultKind {
     /// The allocator refused memory; the index is 0.
+    #[error("out of memory")]
     Memory,
     /// Its event is refused there, or it lacks what its event needs.
+    #[error("its event is refused there, or lacks what it needs")]
     Refused,
     /// Its event has another entry there.
+    #[error("its event has another entry there")]
     Differs,
 }
 
 /// The first faulty entry of a trace.
-#[derive(Clone, Copy, Debug, PartialEq, Eq)]
+#[derive(Clone, Copy, Debug, PartialEq, Eq, Error)]
+#[error("entry {index}: {kind}")]
 pub struct TraceFault {
     /// How many entries stand before it.
     pub index: usize,

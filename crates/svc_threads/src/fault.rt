@@ -3,17 +3,22 @@ ghost use Rattle.svc_threads.specs.Faults.{error_number};
 
 use std::alloc::{AllocError, AllocFailed};
 use svc_base::OpenError;
+use thiserror::Error;
 
 /// Why a run of unit threads gave no outcome.
-#[derive(Clone, Copy, Debug, PartialEq, Eq)]
+#[derive(Clone, Copy, Debug, PartialEq, Eq, Error)]
 pub enum RunError {
     /// The allocator refused memory.
+    #[error("out of memory")]
     Memory,
     /// A thread could not be started.
+    #[error("a thread could not be started")]
     NotStarted,
     /// The recorder is of another image or configuration.
+    #[error("the recorder is of another image or configuration")]
     ForeignImage,
     /// What the threads brought back is not the history.
+    #[error("what the threads brought back is not the history")]
     Torn,
 }
 
