@@ -1,6 +1,6 @@
 // A core: where a task stands.
 
-ghost use Rattle.std.specs.Prelude.{◌≡◌, ◌<◌, true, IsTrue, ◌↔◌, is_none};
+ghost use Rattle.std.specs.Prelude.{◌≡◌, ◌<◌, true, false, IsTrue, ◌↔◌, is_none};
 ghost use Rattle.svc_image.specs.Image.{is_entry};
 ghost use Rattle.svc_core_laws.specs.State.{value_of, start};
 ghost use Rattle.svc_core_laws.specs.Same.{same_end, same_words, same_state};
@@ -54,6 +54,20 @@ impl Core {
             emitted: 0,
             limit,
             done: None,
+        }
+    }
+
+    // The core of some task that has ended.
+    pub(crate) fn ended() -> Core
+        ensures { is_none result.done ≡ false }
+    {
+        Core {
+            pc: 0,
+            regs: [0; 32],
+            count: 0,
+            emitted: 0,
+            limit: 1,
+            done: Some(End::Exit(0)),
         }
     }
 

@@ -6,6 +6,7 @@ mod error;
 mod fetched;
 mod header;
 mod image;
+mod instructions;
 mod laws;
 mod layout;
 mod marks;

@@ -5,6 +5,7 @@ use crate::{Fetched, Image, ImageError};
 use byteorder::{ByteOrder, LittleEndian};
 use std::alloc::{AllocError, Global};
 use std::test::Fail;
+use svc_rv32i::{ImmediateOperation, Instr, Register, Short};
 
 // The number of the fault that these bytes have, or 0.
 fn fault(alloc: Global, bytes: &[u8]) -> u8 {
@@ -151,6 +152,29 @@ fn words_are_fetched(rt: HostRuntime) -> Result<(), Fail> {
     assert_eq!(rt; image.fetch(12), fetched(12, Some(0x0010_02b7), true));
     assert_eq!(rt; image.fetch(14), fetched(14, None, false));
     assert_eq!(rt; image.fetch(36), fetched(36, None, false));
+    Ok(())
+}
+
+#[test]
+fn words_are_decoded(rt: HostRuntime) -> Result<(), Fail> {
+    let alloc = rt.alloc();
+    let image = Image::read(alloc, &P)?;
+    let five = Instr::OpImm {
+        op: ImmediateOperation::Add,
+        rd: Register { number: 1 },
+        rs1: Register { number: 0 },
+        imm: Short { bits: 5 },
+    };
+    assert_eq!(rt; image.instruction_at(4), Some(Some(five)));
+    assert_eq!(rt; image.copy(alloc)?.instruction_at(4), Some(Some(five)));
+    assert_eq!(rt; image.instruction_at(6), None);
+    assert_eq!(rt; image.instruction_at(36), None);
+    let mut reserved = Vec::from_slice(alloc, &P)?;
+    if reserved.len() == 200 {
+        LittleEndian::write_u32(&mut reserved[160..], 0);
+    }
+    let image = Image::read(alloc, &reserved)?;
+    assert_eq!(rt; image.instruction_at(4), Some(None));
     Ok(())
 }
 

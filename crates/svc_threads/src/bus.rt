@@ -7,27 +7,33 @@ ghost use Rattle.svc_history.specs.Glances.{IsGlance};
 ghost use Rattle.svc_history.specs.Recorded.{Recorded, IsLegal};
 ghost use Rattle.svc_threads.specs.Boards.{knower};
 ghost use Rattle.svc_threads.specs.Counts.{row_of_entries};
-ghost use Rattle.svc_threads.specs.Ports.{IsEntryOf, IsGlanceOfSome};
+ghost use Rattle.svc_threads.specs.Ports.{IsEntryOf, IsGlanceOfSome, unit_of};
 
+use crate::baton::{Baton, rest};
 use crate::board::{Board, BoardPass};
 use crate::locked::{Locked, counts_of};
 use crate::port::Port;
 use crossbeam_utils::{Backoff, CachePadded};
 use std::alloc::Global;
-use std::hint;
 use std::marker::Model;
 use std::sync::{Arc, Mutex, MutexGuard, Wait};
 use svc_base::{OpenError, Refusal, UnitId};
-use svc_history::{Event, Glance, Recorder, Slip};
+use svc_history::{Event, Glance, Kind, Recorder, Slip};
 
-// How often a thread looks for the lock before it sleeps.
-const LOOKS: u32 = 1_000;
+// How many events a unit's spell at the lock lasts for at most.
+const EVENTS_OF_A_SPELL: usize = 128;
+
+// How often a thread looks for the baton before it tries for the lock all the same: the one that has it may be held up, or
+// have ended.
+const PATIENCE: u32 = 1_000;
+
+// How often it looks before it sleeps.
+const LOOKS: u32 = 10_000;
 
 // After so many of its looks it lets other threads run in between.
-const QUICK_LOOKS: u32 = 64;
+const QUICK_LOOKS: u32 = 500;
 
-// How long it waits between two quick looks, some tenths of a microsecond. A look that fails takes the line of the lock's
-// word from the processor that will write it next, so fewer of them are better.
+// How long it waits between two quick looks, some tenths of a microsecond.
 const PAUSES: u32 = 32;
 
 /// One recorder under one lock, for all units, and the board that shows the numbers of its history.
@@ -35,6 +41,7 @@ const PAUSES: u32 = 32;
 pub struct SharedBus {
     // The lock's word has a line to itself, so threads that look for it leave the holder's lines alone.
     lock: Mutex<CachePadded<Locked>>,
+    baton: CachePadded<Baton>,
     board: Arc<Board>,
 }
 
@@ -64,6 +71,7 @@ impl SharedBus {
             return Err(OpenError::Memory);
         };
         let counts = counts_of(&recorder);
+        let units = recorder.machine().config().units;
         board.publish(rt, &mut publisher, counts);
         let reader = board.split(&mut publisher);
         let Ok(board) = Arc::new(alloc, board) else {
@@ -74,7 +82,8 @@ impl SharedBus {
         };
         let locked = Locked::new(recorder, theirs, counts, publisher);
         let lock = Mutex::new(CachePadded::new(locked));
-        Ok((SharedBus { lock, board }, reader))
+        let baton = CachePadded::new(Baton::new(units));
+        Ok((SharedBus { lock, baton, board }, reader))
     }
 
     /// The board that shows the numbers of the history.
@@ -91,7 +100,9 @@ impl SharedBus {
         ensures glance { IfOk result (λ glance. IsGlanceOfSome unit glance) }
         ensures refused { IfErr result (λ e. e ≡ refusal.NoSuchUnit) }
     {
-        self.taken(rt).glance(unit)
+        let glance = self.taken(rt, unit).glance(unit);
+        self.baton.pass_on(has_to_wait(&glance));
+        glance
     }
 
     /// One event, as the recorder takes it, under the lock. The board shows the new numbers after an accepted event, and is
@@ -99,19 +110,41 @@ impl SharedBus {
     pub fn apply<R: Wait>(&self, rt: &R, event: Event) -> Result<Slip, Refusal>
         ensures { IfOk result (λ slip. IsEntryOf event slip.entry) }
     {
-        self.taken(rt).apply(rt, &event)
+        self.record(rt, &event)
+    }
+
+    /// The same, of an event that stays where it is: a burst is some 1,400 bytes, which nobody need move for it.
+    pub fn record<R: Wait>(&self, rt: &R, event: &Event) -> Result<Slip, Refusal>
+        ensures { IfOk result (λ slip. IsEntryOf event.now slip.entry) }
+    {
+        let unit = unit_of(event);
+        let (answer, has_idle_unit) = self.asked(rt, unit, event);
+        self.baton.pass_on(ends_a_spell(&answer, has_idle_unit));
+        answer
+    }
+
+    // What the recorder answers to an event, and whether a unit has no task then.
+    fn asked<R: Wait>(&self, rt: &R, unit: UnitId, event: &Event) -> (Result<Slip, Refusal>, bool)
+        ensures { IfOk result.0 (λ slip. IsEntryOf event.now slip.entry) }
+    {
+        let mut locked = self.taken(rt, unit);
+        let answer = locked.apply(rt, event);
+        (answer, locked.has_idle_unit())
     }
 
     // The lock, taken. An event is shorter than it takes to put a thread to sleep and to wake it, so the thread looks for
-    // the lock a while before it sleeps.
-    fn taken<R: Wait>(&self, rt: &R) -> MutexGuard<'_, CachePadded<Locked>> {
+    // the baton a while before it sleeps.
+    fn taken<R: Wait>(&self, rt: &R, unit: UnitId) -> MutexGuard<'_, CachePadded<Locked>> {
         let backoff = Backoff::new();
-        for look in 0..LOOKS {
-            if let Some(guard) = self.lock.try_lock() {
-                return guard;
+        for look in 1..LOOKS {
+            if self.baton.is_for(unit) || look % PATIENCE == 0 {
+                if let Some(guard) = self.lock.try_lock() {
+                    self.baton.take(unit);
+                    return guard;
+                }
             }
             if look < QUICK_LOOKS {
-                pause();
+                rest(PAUSES);
             } else {
                 backoff.snooze();
             }
@@ -121,15 +154,41 @@ impl SharedBus {
 
     /// The recorder, when no thread shares it any more.
     pub fn into_recorder(self) -> Recorder {
-        let SharedBus { lock, board: _ } = self;
+        let SharedBus { lock, .. } = self;
         lock.into_inner().into_inner().into_recorder()
     }
 }
 
-// Waits between two quick looks.
-fn pause() {
-    for _ in 0..PAUSES {
-        hint::spin_loop();
+// Whether a unit can't go on before another one does, by what it sees.
+fn has_to_wait(glance: &Result<Glance, Refusal>) -> bool {
+    let Ok(glance) = glance else {
+        return true;
+    };
+    match &glance.lease {
+        Some(lease) => glance.ended || !lease.core.is_running() && !glance.is_head,
+        None => glance.ended || glance.guess.is_none(),
+    }
+}
+
+// Whether a unit's spell at the lock ends with this answer: it has begun a task, so that another unit may begin one beside
+// it; the spell was long; or it can't go on before another unit does.
+fn ends_a_spell(answer: &Result<Slip, Refusal>, has_idle_unit: bool) -> bool {
+    match answer {
+        Ok(slip) => {
+            has_idle_unit && slip.entry.kind == Kind::Assign || slip.index % EVENTS_OF_A_SPELL == 0
+        }
+        Err(refusal) => *refusal == Refusal::Pinned,
+    }
+}
+
+// The unit whose thread asks for an event.
+fn unit_of(event: &Event) -> UnitId
+    ensures { result ≡ unit_of event.now }
+{
+    match event {
+        Event::Assign { unit, .. } | Event::Replace { unit, .. } | Event::Cancel { unit } => *unit,
+        Event::Submit { burst } => burst.unit(),
+        Event::Commit { by } => *by,
     }
 }
 
@@ -142,6 +201,10 @@ impl Port for SharedBus {
 
     fn apply<R: Wait>(&self, rt: &R, event: Event) -> Result<Slip, Refusal> {
         SharedBus::apply(self, rt, event)
+    }
+
+    fn record<R: Wait>(&self, rt: &R, event: &Event) -> Result<Slip, Refusal> {
+        SharedBus::record(self, rt, event)
     }
 
     fn board(&self) -> &Board {

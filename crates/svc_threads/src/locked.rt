@@ -82,6 +82,13 @@ impl Locked {
         Ok(slip)
     }
 
+    // Whether a unit has no task.
+    pub(crate) fn has_idle_unit(&self) -> bool {
+        let counts = self.counts;
+        let ended = counts.committed.wrapping_add(counts.squashed);
+        counts.assigned.wrapping_sub(ended) < u64::from(self.recorder.machine().config().units)
+    }
+
     // What the recorder shows a unit's thread.
     pub(crate) fn glance(&self, unit: UnitId) -> Result<Glance, Refusal>
         ensures refused { MatchResult result (λ _. unit.0 < self.now.machine.config.units) (λ e. (e ≡ refusal.NoSuchUnit) × (self.now.machine.config.units ≤ unit.0)) }

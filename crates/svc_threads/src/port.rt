@@ -39,6 +39,13 @@ pub trait Port {
     fn apply<R: Wait>(&self, rt: &R, event: Event) -> Result<Slip, Refusal>
         ensures { IfOk result (λ slip. IsEntryOf event slip.entry) };
 
+    /// The same, of an event that stays where it is.
+    fn record<R: Wait>(&self, rt: &R, event: &Event) -> Result<Slip, Refusal>
+        ensures { IfOk result (λ slip. IsEntryOf event.now slip.entry) }
+    {
+        self.apply(rt, event.copy())
+    }
+
     /// The board that shows the numbers.
     fn board(&self) -> &Board
         ensures { result.now ≡ board_of self.now };

@@ -1,6 +1,6 @@
 // What one unit's thread does.
 
-ghost use Rattle.std.specs.Prelude.{◌≡◌, ◌<◌, All, IfOk, IfErr, IfSome, vec_len, vec_capacity};
+ghost use Rattle.std.specs.Prelude.{◌≡◌, ◌<◌, All, IfOk, IfErr, IsTrue, vec_len, vec_capacity};
 ghost use Rattle.svc_threads.specs.Ports.{IsOf, unit_of};
 
 use crate::board::{BoardPass, BoardRow};
@@ -60,13 +60,15 @@ pub fn run_unit<P: Port, G: Gate, A: Allocator, R: Wait>(
     let mut slips = Vec::new(alloc);
     let backoff = Backoff::new();
     let mut stalled_at: Option<BoardRow> = None;
+    // It stays where it is, so that each burst is made in the place of the last one.
+    let mut event = Event::Commit { by: unit };
     for _ in 0..turns {
         let row = port.board().read(rt, &mut pass);
         if stalled_at == Some(row) {
             backoff.snooze();
             continue;
         }
-        match take_turn(rt, port, unit, image, gate, &mut slips)? {
+        match take_turn(rt, port, unit, image, gate, &mut event, &mut slips)? {
             Turn::Went => {
                 stalled_at = None;
                 backoff.reset();
@@ -81,13 +83,14 @@ pub fn run_unit<P: Port, G: Gate, A: Allocator, R: Wait>(
     Ok(slips)
 }
 
-// Takes a glance, and does what the unit has to do.
+// Takes a glance, and does what the unit has to do. The event is made in the place of another one.
 fn take_turn<P: Port, G: Gate, A: Allocator, R: Wait>(
     rt: &R,
     port: &P,
     unit: UnitId,
     image: &Image,
     gate: &G,
+    event: &mut Event,
     slips: &mut Vec<Slip, A>,
 ) -> Result<Turn, RunError>
     ensures own { All (IsOf unit) slips.old.items → All (IsOf unit) slips.new.items }
@@ -99,39 +102,52 @@ fn take_turn<P: Port, G: Gate, A: Allocator, R: Wait>(
     if glance.ended {
         return Ok(Turn::Left);
     }
-    let Some(event) = next_event(unit, glance, image) else {
+    if !next_event(unit, &glance, image, event) {
         return Ok(Turn::Stalled);
-    };
+    }
     let tried = match attempt(rt, port, unit, event, gate, slips)? {
         Tried::Refused(Refusal::SetFull(addr)) => {
-            attempt(rt, port, unit, Event::Replace { unit, addr }, gate, slips)?
+            attempt(rt, port, unit, &Event::Replace { unit, addr }, gate, slips)?
         }
         tried => tried,
     };
     Ok(ended(tried))
 }
 
-// The event that the unit does next; none where it has to wait for another unit's. A burst is made here, so without the lock.
-fn next_event(unit: UnitId, glance: Glance, image: &Image) -> Option<Event>
-    ensures { IfSome result (λ event. unit_of event ≡ unit) }
+// Makes the event that the unit does next, and answers whether there is one: it may have to wait for another unit's. A burst
+// is made here, so without the lock.
+fn next_event(unit: UnitId, glance: &Glance, image: &Image, event: &mut Event) -> bool
+    ensures { IsTrue result → unit_of event.new ≡ unit }
 {
-    let Glance {
-        ended: _,
-        lease,
-        is_head,
-        guess,
-    } = glance;
-    let Some(lease) = lease else {
-        return guess.map(|guess| Event::Assign { unit, guess });
+    let Some(lease) = &glance.lease else {
+        let Some(guess) = glance.guess else {
+            return false;
+        };
+        *event = Event::Assign { unit, guess };
+        return true;
     };
     if lease.core.is_running() {
         let lease = Lease::new(unit, lease.epoch, lease.core);
-        let burst = lease.advance(image, MAX_BURST_TURNS);
-        Some(Event::Submit { burst })
-    } else if is_head {
-        Some(Event::Commit { by: unit })
-    } else {
-        None
+        make_burst(&lease, image, event);
+        return true;
+    }
+    if glance.is_head {
+        *event = Event::Commit { by: unit };
+    }
+    glance.is_head
+}
+
+// The burst of a lease, in the place of the last one where there is one.
+fn make_burst(lease: &Lease, image: &Image, event: &mut Event)
+    ensures { unit_of event.new ≡ lease.now.unit }
+{
+    match event {
+        Event::Submit { burst } => burst.refill(lease, image, MAX_BURST_TURNS),
+        _ => {
+            *event = Event::Submit {
+                burst: lease.advance(image, MAX_BURST_TURNS),
+            };
+        }
     }
 }
 
@@ -140,16 +156,16 @@ fn attempt<P: Port, G: Gate, A: Allocator, R: Wait>(
     rt: &R,
     port: &P,
     unit: UnitId,
-    event: Event,
+    event: &Event,
     gate: &G,
     slips: &mut Vec<Slip, A>,
 ) -> Result<Tried, RunError>
-    requires { unit_of event ≡ unit }
+    requires { unit_of event.now ≡ unit }
     ensures own { All (IsOf unit) slips.old.items → All (IsOf unit) slips.new.items }
     ensures err { IfErr result (λ e. e ≡ RunError.Memory) }
 {
     slips.reserve(1)?;
-    if !gate.pass(unit, Phase::Before(&event)) {
+    if !gate.pass(unit, Phase::Before(event)) {
         return Ok(Tried::Closed);
     }
     let tried = ask(rt, port, unit, event, slips);
@@ -165,14 +181,14 @@ fn ask<P: Port, A: Allocator, R: Wait>(
     rt: &R,
     port: &P,
     unit: UnitId,
-    event: Event,
+    event: &Event,
     slips: &mut Vec<Slip, A>,
 ) -> Tried
-    requires unit { unit_of event ≡ unit }
+    requires unit { unit_of event.now ≡ unit }
     requires room { vec_len slips.old < vec_capacity slips.old }
     ensures own { All (IsOf unit) slips.old.items → All (IsOf unit) slips.new.items }
 {
-    match port.apply(rt, event) {
+    match port.record(rt, event) {
         Ok(slip) => {
             let Ok(()) = slips.push(slip) else {
                 unreachable!()

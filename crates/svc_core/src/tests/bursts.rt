@@ -89,3 +89,17 @@ fn a_burst_is_of_its_image(rt: HostRuntime) -> Result<(), Fail> {
     assert!(rt; copy.end().is_same(burst.end()) && copy.start().is_same(burst.start()));
     Ok(())
 }
+
+#[test]
+fn a_burst_is_made_in_the_place_of_another(rt: HostRuntime) -> Result<(), Fail> {
+    // JAL x0, 0 in place of the store
+    let long = changed(rt.alloc(), 100, &[(2, 0x0000006F)])?;
+    let image = changed(rt.alloc(), 100, &[])?;
+    let mut burst = advance(&long, core_with(0, 0, 0), 63);
+    let lease = Lease::new(UnitId(2), 8, core_with(12, 0, 0));
+    burst.refill(&lease, &image, 63);
+    assert_eq!(rt; shape(&burst), (1, 2, true, None));
+    assert_eq!(rt; (burst.unit(), burst.epoch()), (UnitId(2), 8));
+    assert!(rt; burst.is_of(&image) && burst.start().is_same(&lease.core));
+    Ok(())
+}
