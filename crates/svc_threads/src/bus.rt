@@ -24,17 +24,14 @@ use svc_history::{Event, Glance, Kind, Recorder, Slip};
 const EVENTS_OF_A_SPELL: usize = 128;
 
 // How often a thread looks for the baton before it tries for the lock all the same: the one that has it may be held up, or
-// have ended.
-const PATIENCE: u32 = 1_000;
+// have ended. From then on it lets other threads run in between.
+const PATIENCE: u32 = 20_000;
 
 // How often it looks before it sleeps.
-const LOOKS: u32 = 10_000;
+const LOOKS: u32 = 21_000;
 
-// After so many of its looks it lets other threads run in between.
-const QUICK_LOOKS: u32 = 500;
-
-// How long it waits between two quick looks, some tenths of a microsecond.
-const PAUSES: u32 = 32;
+// How long it waits between two looks.
+const PAUSES: u32 = 8;
 
 /// One recorder under one lock, for all units, and the board that shows the numbers of its history.
 #[derive(Drop)]
@@ -136,14 +133,14 @@ impl SharedBus {
     // the baton a while before it sleeps.
     fn taken<R: Wait>(&self, rt: &R, unit: UnitId) -> MutexGuard<'_, CachePadded<Locked>> {
         let backoff = Backoff::new();
-        for look in 1..LOOKS {
-            if self.baton.is_for(unit) || look % PATIENCE == 0 {
+        for look in 0..LOOKS {
+            if self.baton.is_for(unit) || look >= PATIENCE {
                 if let Some(guard) = self.lock.try_lock() {
                     self.baton.take(unit);
                     return guard;
                 }
             }
-            if look < QUICK_LOOKS {
+            if look < PATIENCE {
                 rest(PAUSES);
             } else {
                 backoff.snooze();
