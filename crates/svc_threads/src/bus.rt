@@ -196,6 +196,10 @@ impl Port for SharedBus {
         SharedBus::lease(self, rt, unit)
     }
 
+    fn is_free_for(&self, unit: UnitId) -> bool {
+        self.baton.is_for(unit)
+    }
+
     fn apply<R: Wait>(&self, rt: &R, event: Event) -> Result<Slip, Refusal> {
         SharedBus::apply(self, rt, event)
     }

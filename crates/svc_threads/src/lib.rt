@@ -1,6 +1,7 @@
 //! Units on real threads, over one recorder under a lock, and a board that shows how far it has come.
 #![tactic(auto)]
 
+mod ahead;
 mod baton;
 pub mod board;
 pub mod bus;

@@ -35,6 +35,11 @@ pub trait Port {
     /// Errors: [`Refusal::NoSuchUnit`].
     fn lease<R: Wait>(&self, rt: &R, unit: UnitId) -> Result<Glance, Refusal>;
 
+    /// Whether the unit's thread would come in at once. This is a hint: a thread that would wait has time to make bursts.
+    fn is_free_for(&self, _unit: UnitId) -> bool {
+        true
+    }
+
     /// One event, in one step.
     fn apply<R: Wait>(&self, rt: &R, event: Event) -> Result<Slip, Refusal>
         ensures { IfOk result (λ slip. IsEntryOf event slip.entry) };

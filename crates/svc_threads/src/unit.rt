@@ -3,6 +3,7 @@
 ghost use Rattle.std.specs.Prelude.{◌≡◌, ◌<◌, All, IfOk, IfErr, IsTrue, vec_len, vec_capacity};
 ghost use Rattle.svc_threads.specs.Ports.{IsOf, unit_of};
 
+use crate::ahead::{Ahead, MOST_AHEAD};
 use crate::board::{BoardPass, BoardRow};
 use crate::fault::RunError;
 use crate::port::{Gate, Phase, Port};
@@ -10,7 +11,7 @@ use crossbeam_utils::Backoff;
 use std::alloc::Allocator;
 use std::sync::Wait;
 use svc_base::{Refusal, UnitId};
-use svc_core::{Lease, MAX_BURST_TURNS};
+use svc_core::Lease;
 use svc_history::{Event, Glance, Slip};
 use svc_image::Image;
 
@@ -32,18 +33,33 @@ enum Tried {
     Refused(Refusal),
     // The gate said no.
     Closed,
+    // There is nothing that the unit can do.
+    Waits,
+}
+
+// What a unit does next.
+#[derive(Clone, Copy)]
+enum Step<'a> {
+    // It starts a task at the guess.
+    Begin(u32),
+    // It runs its task on.
+    GoOn(&'a Lease),
+    // It commits the head, which is its own.
+    Commit,
+    // It has to wait for another unit's event.
+    Wait,
 }
 
 /// The body of a unit's thread: at most so many turns. A turn reads the board. Where the last turn stalled and the board
 /// shows the same numbers it stalls again, without the lock. Else the unit does its next event: it assigns with the guess
 /// where it has no task, commits its head where that has ended, and else runs its task by a burst, without the lock, and
-/// submits that. Where its cache is full it replaces a line in the same turn. It stalls where its task has ended and isn't
+/// submits that; while the lock is another unit's it makes the bursts that follow, too. Where its cache is full it replaces a line in the same turn. It stalls where its task has ended and isn't
 /// the head, and where the line may not go.
 ///
 /// The slips of the accepted events come back in order. Room for one is made before each event.
 ///
 /// Errors: [`RunError::Memory`]; the events up to there stand and their slips are dropped.
-pub fn run_unit<P: Port, G: Gate, A: Allocator, R: Wait>(
+pub fn run_unit<P: Port, G: Gate, A: Allocator + Copy, R: Wait>(
     rt: &R,
     alloc: A,
     port: &P,
@@ -60,15 +76,14 @@ pub fn run_unit<P: Port, G: Gate, A: Allocator, R: Wait>(
     let mut slips = Vec::new(alloc);
     let backoff = Backoff::new();
     let mut stalled_at: Option<BoardRow> = None;
-    // It stays where it is, so that each burst is made in the place of the last one.
-    let mut event = Event::Commit { by: unit };
+    let mut ahead = Ahead::new(alloc, unit)?;
     for _ in 0..turns {
         let row = port.board().read(rt, &mut pass);
         if stalled_at == Some(row) {
             backoff.snooze();
             continue;
         }
-        match take_turn(rt, port, unit, image, gate, &mut event, &mut slips)? {
+        match take_turn(rt, port, unit, image, gate, &mut ahead, &mut slips)? {
             Turn::Went => {
                 stalled_at = None;
                 backoff.reset();
@@ -83,29 +98,27 @@ pub fn run_unit<P: Port, G: Gate, A: Allocator, R: Wait>(
     Ok(slips)
 }
 
-// Takes a glance, and does what the unit has to do. The event is made in the place of another one.
+// Takes a glance, and does what the unit has to do.
 fn take_turn<P: Port, G: Gate, A: Allocator, R: Wait>(
     rt: &R,
     port: &P,
     unit: UnitId,
     image: &Image,
     gate: &G,
-    event: &mut Event,
+    ahead: &mut Ahead<A>,
     slips: &mut Vec<Slip, A>,
 ) -> Result<Turn, RunError>
     ensures own { All (IsOf unit) slips.old.items → All (IsOf unit) slips.new.items }
     ensures err { IfErr result (λ e. e ≡ RunError.Memory) }
 {
+    prepare(port, unit, image, ahead);
     let Ok(glance) = port.lease(rt, unit) else {
         return Ok(Turn::Left);
     };
     if glance.ended {
         return Ok(Turn::Left);
     }
-    if !next_event(unit, &glance, image, event) {
-        return Ok(Turn::Stalled);
-    }
-    let tried = match attempt(rt, port, unit, event, gate, slips)? {
+    let tried = match take_step(rt, port, unit, image, gate, &glance, ahead, slips)? {
         Tried::Refused(Refusal::SetFull(addr)) => {
             attempt(rt, port, unit, &Event::Replace { unit, addr }, gate, slips)?
         }
@@ -114,40 +127,51 @@ fn take_turn<P: Port, G: Gate, A: Allocator, R: Wait>(
     Ok(ended(tried))
 }
 
-// Makes the event that the unit does next, and answers whether there is one: it may have to wait for another unit's. A burst
-// is made here, so without the lock.
-fn next_event(unit: UnitId, glance: &Glance, image: &Image, event: &mut Event) -> bool
-    ensures { IsTrue result → unit_of event.new ≡ unit }
-{
-    let Some(lease) = &glance.lease else {
-        let Some(guess) = glance.guess else {
-            return false;
-        };
-        *event = Event::Assign { unit, guess };
-        return true;
-    };
-    if lease.core.is_running() {
-        let lease = Lease::new(unit, lease.epoch, lease.core);
-        make_burst(&lease, image, event);
-        return true;
+// Makes bursts ahead while other units have the lock.
+fn prepare<P: Port, A: Allocator>(port: &P, unit: UnitId, image: &Image, ahead: &mut Ahead<A>) {
+    for _ in 0..MOST_AHEAD {
+        if port.is_free_for(unit) || !ahead.prepare(image) {
+            return;
+        }
     }
-    if glance.is_head {
-        *event = Event::Commit { by: unit };
-    }
-    glance.is_head
 }
 
-// The burst of a lease, in the place of the last one where there is one.
-fn make_burst(lease: &Lease, image: &Image, event: &mut Event)
-    ensures { unit_of event.new ≡ lease.now.unit }
+// Asks for the event that the unit does next, if there is one: it may have to wait for another unit's. A burst is made
+// without the lock.
+fn take_step<P: Port, G: Gate, A: Allocator, R: Wait>(
+    rt: &R,
+    port: &P,
+    unit: UnitId,
+    image: &Image,
+    gate: &G,
+    glance: &Glance,
+    ahead: &mut Ahead<A>,
+    slips: &mut Vec<Slip, A>,
+) -> Result<Tried, RunError>
+    ensures own { All (IsOf unit) slips.old.items → All (IsOf unit) slips.new.items }
+    ensures err { IfErr result (λ e. e ≡ RunError.Memory) }
 {
-    match event {
-        Event::Submit { burst } => burst.refill(lease, image, MAX_BURST_TURNS),
-        _ => {
-            *event = Event::Submit {
-                burst: lease.advance(image, MAX_BURST_TURNS),
-            };
+    match next_step(glance) {
+        Step::Wait => Ok(Tried::Waits),
+        Step::Begin(guess) => attempt(rt, port, unit, &Event::Assign { unit, guess }, gate, slips),
+        Step::Commit => attempt(rt, port, unit, &Event::Commit { by: unit }, gate, slips),
+        Step::GoOn(lease) => {
+            let lease = Lease::new(unit, lease.epoch, lease.core);
+            attempt(rt, port, unit, ahead.submit(&lease, image), gate, slips)
         }
+    }
+}
+
+// What a unit does next, by what it sees.
+fn next_step(glance: &Glance) -> Step<'_> {
+    match &glance.lease {
+        None => match glance.guess {
+            Some(guess) => Step::Begin(guess),
+            None => Step::Wait,
+        },
+        Some(lease) if lease.core.is_running() => Step::GoOn(lease),
+        Some(_) if glance.is_head => Step::Commit,
+        Some(_) => Step::Wait,
     }
 }
 
@@ -203,7 +227,7 @@ fn ask<P: Port, A: Allocator, R: Wait>(
 fn ended(tried: Tried) -> Turn {
     match tried {
         Tried::Accepted => Turn::Went,
-        Tried::Refused(Refusal::Pinned) => Turn::Stalled,
+        Tried::Refused(Refusal::Pinned) | Tried::Waits => Turn::Stalled,
         Tried::Refused(_) => Turn::Went,
         Tried::Closed => Turn::Left,
     }
