@@ -10,7 +10,7 @@ use crate::port::{Gate, Phase, Port};
 use crossbeam_utils::Backoff;
 use std::alloc::Allocator;
 use std::sync::Wait;
-use svc_base::{Refusal, UnitId};
+use svc_base::{Refusal, UnitId, WordAddr};
 use svc_core::Lease;
 use svc_history::{Event, Glance, Slip};
 use svc_image::Image;
@@ -112,16 +112,15 @@ fn take_turn<P: Port, G: Gate, A: Allocator, R: Wait>(
     ensures err { IfErr result (λ e. e ≡ RunError.Memory) }
 {
     prepare(port, unit, image, ahead);
-    let Ok(glance) = port.lease(rt, unit) else {
+    let glance = port.lease(rt, unit);
+    let Ok(glance) = &glance else {
         return Ok(Turn::Left);
     };
     if glance.ended {
         return Ok(Turn::Left);
     }
-    let tried = match take_step(rt, port, unit, image, gate, &glance, ahead, slips)? {
-        Tried::Refused(Refusal::SetFull(addr)) => {
-            attempt(rt, port, unit, &Event::Replace { unit, addr }, gate, slips)?
-        }
+    let tried = match take_step(rt, port, unit, image, gate, glance, ahead, slips)? {
+        Tried::Refused(Refusal::SetFull(addr)) => replace(rt, port, unit, addr, gate, slips)?,
         tried => tried,
     };
     Ok(ended(tried))
@@ -153,8 +152,8 @@ fn take_step<P: Port, G: Gate, A: Allocator, R: Wait>(
 {
     match next_step(glance) {
         Step::Wait => Ok(Tried::Waits),
-        Step::Begin(guess) => attempt(rt, port, unit, &Event::Assign { unit, guess }, gate, slips),
-        Step::Commit => attempt(rt, port, unit, &Event::Commit { by: unit }, gate, slips),
+        Step::Begin(guess) => begin(rt, port, unit, guess, gate, slips),
+        Step::Commit => commit(rt, port, unit, gate, slips),
         Step::GoOn(lease) => {
             let lease = Lease::new(unit, lease.epoch, lease.core);
             attempt(rt, port, unit, ahead.submit(&lease, image), gate, slips)
@@ -173,6 +172,53 @@ fn next_step(glance: &Glance) -> Step<'_> {
         Some(_) if glance.is_head => Step::Commit,
         Some(_) => Step::Wait,
     }
+}
+
+// An event is as large as a burst, so each of the small ones is made in a function of its own: a turn that asks for none of
+// them makes room for none.
+
+// Starts a task at the guess.
+fn begin<P: Port, G: Gate, A: Allocator, R: Wait>(
+    rt: &R,
+    port: &P,
+    unit: UnitId,
+    guess: u32,
+    gate: &G,
+    slips: &mut Vec<Slip, A>,
+) -> Result<Tried, RunError>
+    ensures own { All (IsOf unit) slips.old.items → All (IsOf unit) slips.new.items }
+    ensures err { IfErr result (λ e. e ≡ RunError.Memory) }
+{
+    attempt(rt, port, unit, &Event::Assign { unit, guess }, gate, slips)
+}
+
+// Commits the head.
+fn commit<P: Port, G: Gate, A: Allocator, R: Wait>(
+    rt: &R,
+    port: &P,
+    unit: UnitId,
+    gate: &G,
+    slips: &mut Vec<Slip, A>,
+) -> Result<Tried, RunError>
+    ensures own { All (IsOf unit) slips.old.items → All (IsOf unit) slips.new.items }
+    ensures err { IfErr result (λ e. e ≡ RunError.Memory) }
+{
+    attempt(rt, port, unit, &Event::Commit { by: unit }, gate, slips)
+}
+
+// Takes a line out of the unit's cache.
+fn replace<P: Port, G: Gate, A: Allocator, R: Wait>(
+    rt: &R,
+    port: &P,
+    unit: UnitId,
+    addr: WordAddr,
+    gate: &G,
+    slips: &mut Vec<Slip, A>,
+) -> Result<Tried, RunError>
+    ensures own { All (IsOf unit) slips.old.items → All (IsOf unit) slips.new.items }
+    ensures err { IfErr result (λ e. e ≡ RunError.Memory) }
+{
+    attempt(rt, port, unit, &Event::Replace { unit, addr }, gate, slips)
 }
 
 // Asks for one event, for whose slip room is made first. The gate is asked before and after.
