@@ -19,3 +19,4 @@ pub mod Storing
 pub mod Overtaking
 pub mod Writing
 pub mod Planning
+pub mod Hitting

@@ -42,7 +42,7 @@ or_hit (Err x) hit full e = e
 
 -- ---- the three kinds of read, by the unit's own line
 
-read_hit : (t : LineTable) (p a : ℕ) → is_active (line_at t p a) ≡ true → read t p a ≡ t
+pub read_hit : (t : LineTable) (p a : ℕ) → is_active (line_at t p a) ≡ true → read t p a ≡ t
 read_hit t p a active = ap (λ x. cond x t (cond (is_reusable (line_at t p a)) (reuse t p a) (fill t p a))) active
 
 read_reuse : (t : LineTable) (p a : ℕ) → is_active (line_at t p a) ≡ false → is_reusable (line_at t p a) ≡ true → read t p a ≡ reuse t p a

@@ -27,7 +27,7 @@ pub record AreFew (probes : Probes) : Type 0 where
 
 -- ---- a line of a cache, as callers of the bus see it
 
-shown_is : (line : Option SeenLine) → HasV line → unnumbered (numbered line) ≡ bus_line_of line
+pub shown_is : (line : Option SeenLine) → HasV line → unnumbered (numbered line) ≡ bus_line_of line
 shown_is None valid = refl
 shown_is (Some l) valid = rw valid refl
 

@@ -7,3 +7,4 @@ pub mod Carried
 pub mod Listed
 pub mod Marks
 pub mod Stores
+pub mod Looking

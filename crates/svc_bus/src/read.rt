@@ -1,4 +1,4 @@
-ghost use Rattle.std.specs.Prelude.{◌≡◌, ℕ, ◌+◌, ◌<◌, ◌≤◌, ◌*◌, true, false, Some, None, length, get_or, IfOk, OnOk, OnErr, MatchResult};
+ghost use Rattle.std.specs.Prelude.{◌≡◌, ℕ, ◌+◌, ◌<◌, ◌≤◌, ◌*◌, true, false, Some, None, length, get_or, option_map, IfOk, IfSome, OnOk, OnErr, MatchResult};
 ghost use Rattle.svc_line.specs.Bits.{bits_of};
 ghost use Rattle.svc_line.specs.Line.{seen};
 ghost use Rattle.svc_cache.specs.Places.{line_of};
@@ -17,6 +17,7 @@ ghost use Rattle.svc_bus.specs.Observed.{observed};
 ghost use Rattle.svc_bus.specs.Room.{full_in};
 ghost use Rattle.svc_bus.specs.Carried.{is_hit, lines_after, memory_after};
 ghost use Rattle.svc_bus.specs.Calls.{IsAtWork, full_refusal};
+ghost use Rattle.svc_bus.specs.Looking.{IsOne};
 
 use crate::Bus;
 use crate::request::{fill_in, place_of, put_line};
@@ -69,8 +70,8 @@ fn carry_out(
 }
 
 impl Bus {
-    /// The unit's task reads the word: the value of the nearest earlier version, and who supplied it. It makes at most two
-    /// look-ups for each unit.
+    /// The unit's task reads the word: the value of the nearest earlier version, and who supplied it. A hit makes one look-up,
+    /// and another read at most two for each unit.
     ///
     /// Errors: [`Refusal::SetFull`] where the unit's cache has no line of the word and no room for one. Then nothing changes.
     #[tactic(auto, unfolding(crate::specs::Observed::observed))]
@@ -84,9 +85,51 @@ impl Bus {
         ensures table { (t : LineTable) → (place : ℕ) → Agrees (observed self.old) t → place < length t.units → unit_at t place ≡ unit.0 → OnOk result (Agrees (observed self.new) (read t place word.0)) }
         ensures probes { OnOk result ((observed self.new).probes ≤ 2 * (observed self.old).caches) }
     {
-        let place = place_of(&self.queue, unit);
         let mut probes = Probes::new();
-        let list = VersionList::of(&self.caches, &self.queue, word, &mut probes);
+        match self.own_line(unit, word, &mut probes) {
+            Some(line) if line.bits.is_active() => {
+                self.probes = probes.searches;
+                Ok((line.value, Served::Hit))
+            }
+            line => self.read_beside(unit, word, line, probes),
+        }
+    }
+
+    // The unit's line of the word.
+    #[tactic(auto, unfolding(crate::specs::Observed::observed))]
+    fn own_line(&self, unit: UnitId, word: WordAddr, probes: &mut Probes) -> Option<Line>
+        requires known { unit.0 < (observed self.now).caches }
+        requires none { (probes.old.searches ≡ 0) × (probes.old.places ≡ 0) }
+        ensures line { lines_in self.now.caches word.0 unit.0 ≡ option_map seen result }
+        ensures valid { IfSome result (λ line. (bits_of line.bits).valid ≡ true) }
+        ensures one { IsOne probes.new }
+    {
+        self.caches[unit.0 as usize].lookup(word, probes)
+    }
+
+    // A read where the unit's line is known and may not hit: the other caches are searched.
+    #[tactic(auto, unfolding(crate::specs::Observed::observed))]
+    fn read_beside(
+        &mut self,
+        unit: UnitId,
+        word: WordAddr,
+        line: Option<Line>,
+        mut probes: Probes,
+    ) -> Result<(u32, Served), Refusal>
+        requires at_work { IsAtWork (observed self.old) unit.0 }
+        requires in_memory { word.0 < (observed self.old).words }
+        requires line { lines_in self.old.caches word.0 unit.0 ≡ option_map seen line }
+        requires one { IsOne probes }
+        ensures refused { MatchResult result (λ _. full_refusal (observed self.old) unit.0 word.0 ≡ None) (λ e. full_refusal (observed self.old) unit.0 word.0 ≡ Some e) }
+        ensures unchanged { OnErr result (self.new ≡ self.old) }
+        ensures value { (t : LineTable) → (place : ℕ) → Agrees (observed self.old) t → place < length t.units → unit_at t place ≡ unit.0 → IfOk result (λ r. r.0 ≡ view (versioned t) place word.0) }
+        ensures served { (t : LineTable) → (place : ℕ) → Agrees (observed self.old) t → place < length t.units → unit_at t place ≡ unit.0 → IfOk result (λ r. supplier_of r.1 ≡ supplier t place word.0) }
+        ensures table { (t : LineTable) → (place : ℕ) → Agrees (observed self.old) t → place < length t.units → unit_at t place ≡ unit.0 → OnOk result (Agrees (observed self.new) (read t place word.0)) }
+        ensures probes { OnOk result ((observed self.new).probes ≤ 2 * (observed self.old).caches) }
+    {
+        let place = place_of(&self.queue, unit);
+        let list =
+            VersionList::beside(&self.caches, &self.queue, word, unit, line, &mut probes);
         let backing = self.backing[word.0 as usize];
         let plan = plan_read(&list, unit, place, self.spill.get(word), backing);
         let outcome = Outcome {

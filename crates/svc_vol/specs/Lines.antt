@@ -41,3 +41,8 @@ pub record HasRoomForEach (probes : Probes) (caches : List CacheValue) : Type 0 
 pub record CountsOneOfEach (before after : Probes) (caches : List CacheValue) : Type 0 where
   pub searches : after.searches ≡ before.searches + length caches
   pub places : after.places ≤ before.places + ways_in caches
+
+-- the same, where one of the caches isn't searched
+pub record CountsEachOther (before after : Probes) (caches : List CacheValue) : Type 0 where
+  pub searches : after.searches + 1 ≡ before.searches + length caches
+  pub places : after.places ≤ before.places + ways_in caches

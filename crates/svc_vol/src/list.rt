@@ -1,7 +1,8 @@
-ghost use Rattle.std.specs.Prelude.{◌≡◌, ◌<◌, ◌≤◌, ◌+◌, ℕ, [], true, false, Some, length, map, get_or, option_map};
+ghost use Rattle.std.specs.Prelude.{◌≡◌, ◌<◌, ◌≤◌, ◌+◌, ℕ, [], true, false, Some, IsTrue, IsFalse, length, map, get_or, option_map};
 ghost use Rattle.svc_line.specs.Line.{seen};
 ghost use Rattle.svc_cache.specs.Places.{CacheValue, line_of};
-ghost use Rattle.svc_vol.specs.Lines.{CountsOneOfEach, HasRoomForEach, UnitLines, is_older_of, lines_at, lines_in};
+ghost use Rattle.svc_cache.specs.Probes.{CountsOneSearch, HasRoom};
+ghost use Rattle.svc_vol.specs.Lines.{CountsEachOther, CountsOneOfEach, HasRoomForEach, UnitLines, is_older_of, lines_at, lines_in};
 ghost use Rattle.svc_vol.specs.Versions.{AreCommitted, active_versions, seen_version, version_at};
 
 use crate::version::Version;
@@ -49,6 +50,48 @@ fn find(
 {
     for cache in caches {
         found.push(cache.lookup(word, probes));
+    }
+}
+
+// The word's line in a cache, which is searched where the line isn't known.
+fn line_beside(
+    cache: &Cache,
+    word: WordAddr,
+    is_known: bool,
+    line: Option<Line>,
+    probes: &mut Probes,
+) -> Option<Line>
+    requires room { HasRoom probes.old cache.now.ways }
+    ensures known { IsTrue is_known → (result ≡ line) × (probes.new ≡ probes.old) }
+    ensures found { IsFalse is_known → (option_map seen result ≡ line_of cache.now word.0) × CountsOneSearch probes.old probes.new cache.now.ways }
+{
+    if is_known {
+        line
+    } else {
+        cache.lookup(word, probes)
+    }
+}
+
+// The same of all caches but the unit's, whose line is known.
+fn find_others(
+    found: &mut ArrayVec<Option<Line>, CAPACITY>,
+    caches: &[Cache],
+    word: WordAddr,
+    unit: UnitId,
+    line: Option<Line>,
+    probes: &mut Probes,
+)
+    requires empty { found.old.items ≡ [] }
+    requires few { length caches.now ≤ CAPACITY }
+    requires known { unit.0 < length caches.now }
+    requires line { lines_in caches.now word.0 unit.0 ≡ option_map seen line }
+    requires room { HasRoomForEach probes.old caches.now }
+    ensures lines { map (option_map seen) found.new.items ≡ map (λ (cache : CacheValue). line_of cache word.0) caches.now }
+    ensures counted { CountsEachOther probes.old probes.new caches.now }
+{
+    for cache in caches {
+        let is_known = found.len() == unit.0 as usize;
+        found.push(line_beside(cache, word, is_known, line, probes));
     }
 }
 
@@ -124,12 +167,45 @@ impl VersionList {
     {
         let mut found = ArrayVec::new();
         find(&mut found, caches, word, probes);
+        VersionList::of_found(&found, queue)
+    }
+
+    /// The same, where the unit's line is known already. Each other cache is searched once.
+    pub fn beside(
+        caches: &[Cache],
+        queue: &TaskQueue,
+        word: WordAddr,
+        unit: UnitId,
+        line: Option<Line>,
+        probes: &mut Probes,
+    ) -> VersionList
+        requires few { length caches.now ≤ CAPACITY }
+        requires known { (place : ℕ) → place < length queue.now → get_or queue.now place 0 < length caches.now }
+        requires cached { unit.0 < length caches.now }
+        requires line { lines_in caches.now word.0 unit.0 ≡ option_map seen line }
+        requires room { HasRoomForEach probes.old caches.now }
+        ensures committed { AreCommitted (lines_in caches.now word.0) (length caches.now) result.committed }
+        ensures active { map (option_map seen_version) result.active ≡ active_versions (lines_in caches.now word.0) queue.now }
+        ensures counted { CountsEachOther probes.old probes.new caches.now }
+    {
+        let mut found = ArrayVec::new();
+        find_others(&mut found, caches, word, unit, line, probes);
+        VersionList::of_found(&found, queue)
+    }
+
+    // The valid lines among those that were found, in order.
+    fn of_found(found: &[Option<Line>], queue: &TaskQueue) -> VersionList
+        requires few { length found.now ≤ CAPACITY }
+        requires known { (place : ℕ) → place < length queue.now → get_or queue.now place 0 < length found.now }
+        ensures committed { AreCommitted (lines_at (map (option_map seen) found.now)) (length found.now) result.committed }
+        ensures active { map (option_map seen_version) result.active ≡ active_versions (lines_at (map (option_map seen) found.now)) queue.now }
+    {
         let mut list = VersionList {
             committed: ArrayVec::new(),
             active: ArrayVec::new(),
         };
-        list_committed(&mut list.committed, &found);
-        list_active(&mut list.active, &found, queue);
+        list_committed(&mut list.committed, found);
+        list_active(&mut list.active, found, queue);
         list
     }
 

@@ -1,183 +1,23 @@
-use Rattle.std.proofs.Common.{◌≡◌, ◌∙◌, refl, sym, ap, ap₂, subst, ℕ, ◌+◌, ◌<◌, false, Some, None, List, Option, length, get_or, option_map, arith}
-use Rattle.std.proofs.lemmas.List.{with_items_is}
-use Rattle.svc_base.specs.declared.refusal.Refusal.TheVariants as refusal
-use Rattle.svc_line.specs.Bits.{bits_of}
-use Rattle.svc_cache.specs.Places.{CacheValue, line_of}
-use Rattle.svc_cache.specs.Lines.{EndsBelow}
-use Rattle.svc_vol.specs.Lines.{HasRoomForEach, CountsOneOfEach}
-use Rattle.svc_bus_laws.specs.LineTable.{Line}
-use Rattle.svc_retire.specs.Caches.{cache_at, line_in, numbered, SameSizes}
-use Rattle.svc_retire.specs.Purges.{HasRoomFor, committed_in}
-use Rattle.svc_retire.proofs.Listing.{read_item}
-use Rattle.svc_bus.specs.Value.{BusValue, table_of}
+use Rattle.std.proofs.Common.{◌≡◌, refl, sym, true, Some}
+use Rattle.svc_line.specs.Bits.{bits_of, is_active}
+use Rattle.svc_vcl.specs.Described.{line_with}
 use Rattle.svc_bus.specs.Observed.{observed}
-use Rattle.svc_bus.specs.Room.{full_in}
-use Rattle.svc_bus.specs.Carried.{lines_after, memory_after, is_hit}
-use Rattle.svc_bus.proofs.Full.{lines_end, full_shown}
-use Rattle.svc_bus.proofs.Keeping.{KeepsSizes}
-use Rattle.svc_bus.proofs.Requests.{AreFew, listed_describes, room_to_list, room_to_change, task_fits, units_known}
-use Rattle.svc_bus.proofs.Reading.{IsPlanned, never_refused, plan_clear, IsLookedUp, asked, own_asked, planned_read, read_bus, read_kept, served_seen, value_seen}
+use Rattle.svc_bus.proofs.Hitting.{found_is, hit_kept, hit_served, hit_value}
 use Rattle.svc_bus.proofs.bus.Bus.read.Goals as goal
 
-pub of-list-requires-clause-room : goal.of-list-requires-clause-room
-of-list-requires-clause-room c =
-    let inside = c.self.inside in
-    let old : BusValue = record { caches = inside.caches.items; spill = inside.spill; backing = inside.backing.items; units = inside.queue; commits = inside.commits; probes = inside.probes } in
-    let few : AreFew c.new-probes.result = record { searches = omega (arith, c.new-probes.ensures.searches); places = omega (arith, c.new-probes.ensures.places) } in
-    subst (HasRoomForEach c.new-probes.result) (sym c.deref.ensures.value) (room_to_list old c.self.invariant c.new-probes.result few)
-
-pub overflow_add-outcome : goal.overflow_add-outcome
-overflow_add-outcome c =
-    let inside = c.self.inside in
-    let old : BusValue = record { caches = inside.caches.items; spill = inside.spill; backing = inside.backing.items; units = inside.queue; commits = inside.commits; probes = inside.probes } in
-    let fits = task_fits old c.self.invariant c.place_of-place.result c.place_of-place.ensures.within in
-    omega (arith, fits)
-
-pub carry_out-requires-clause-ends : goal.carry_out-requires-clause-ends
-carry_out-requires-clause-ends c =
-    let inside = c.self.inside in
-    let old : BusValue = record { caches = inside.caches.items; spill = inside.spill; backing = inside.backing.items; units = inside.queue; commits = inside.commits; probes = inside.probes } in
-    let cached : c.args.unit.0 < length old.caches = subst (λ u. u < length old.caches) c.place_of-place.ensures.at_work (units_known old c.self.invariant c.place_of-place.result c.place_of-place.ensures.within) in
-    subst (λ (xs : List CacheValue). EndsBelow (line_of (cache_at xs c.args.unit.0)) (length c.deref_mut-2.result.now)) (sym c.deref_mut.ensures.value)
-    (subst (λ (ws : List ℕ). EndsBelow (line_of (cache_at old.caches c.args.unit.0)) (length ws)) (sym c.deref_mut-2.ensures.value) (lines_end old c.args.unit.0 c.self.invariant cached))
-
--- the bus before, and the plan
-abbrev old : goal.After-probes-2-1 → BusValue
-old c = let inside = c.self.inside in record { caches = inside.caches.items; spill = inside.spill; backing = inside.backing.items; units = inside.queue; commits = inside.commits; probes = inside.probes }
-
-looked : (c : goal.After-probes-2-1) → c.args.word.0 < length (old c).backing → IsLookedUp (old c) c.of-list.result c.place_of-place.result c.args.word.0 c.args.unit.0 c.index-backing.result.now c.get.result
-looked c known = record {
-  in_memory = known;
-  described = listed_describes (old c) c.self.invariant c.deref.result.now c.deref.ensures.value c.args.word.0 c.of-list.result c.of-list.ensures.committed c.of-list.ensures.active;
-  within = c.place_of-place.ensures.within;
-  at_work = c.place_of-place.ensures.at_work;
-  spill_is = c.get.ensures;
-  backing_is = sym (read_item (old c).backing c.args.word.0 c.index-backing.result.now 0 c.index-backing.ensures known);
-}
-
-looked_plan : (c : goal.After-probes-2-1) → c.args.word.0 < length (old c).backing → IsPlanned (old c) c.place_of-place.result c.args.word.0 c.plan_read-plan.result.served c.plan_read-plan.result.value (bits_of c.plan_read-plan.result.bits)
-looked_plan c known =
-    planned_read (old c) c.of-list.result c.place_of-place.result c.args.word.0 c.args.unit.0 c.index-backing.result.now c.get.result c.plan_read-plan.result.served c.plan_read-plan.result.value (bits_of c.plan_read-plan.result.bits)
-    c.self.invariant (looked c known) c.plan_read-plan.ensures.served c.plan_read-plan.ensures.line
-
-pub carry_out-requires-clause-valid : goal.carry_out-requires-clause-valid
+held : (c : goal.After-self-1) → (observed c.args.self.now).lines c.args.unit.0 c.args.word.0 ≡ Some (line_with c.in-Some.line.value (bits_of c.in-Some.line.bits))
 unfolding observed
-carry_out-requires-clause-valid c =
-    let known : c.args.word.0 < length (old c).backing = rw (← c.self.view_is) at c.requires.in_memory in
-    c.plan_read-plan.ensures.valid (observed (old c)) (table_of (old c)) c.args.word.0
-    (own_asked (old c) c.of-list.result c.place_of-place.result c.args.word.0 c.args.unit.0 c.index-backing.result.now c.get.result c.self.invariant (looked c known))
+held c = found_is c.args.self.now.caches c.args.word.0 c.args.unit.0 c.in-Some.line c.in-Some.ensures.line c.in-Some.ensures.valid
 
-pub carry_out-requires-clause-active : goal.carry_out-requires-clause-active
+active : (c : goal.After-self-1) → is_active (bits_of c.in-Some.line.bits) ≡ true
+active c = sym c.if-is_active.ensures
+
+pub returns-in-Some-clause-value : goal.returns-in-Some-clause-value
+returns-in-Some-clause-value c = λ t place agrees within at. hit_value (observed c.args.self.now) t place c.args.word.0 c.args.unit.0 agrees within at c.in-Some.line (held c) (active c)
+
+pub returns-in-Some-clause-served : goal.returns-in-Some-clause-served
+returns-in-Some-clause-served c = λ t place agrees within at. hit_served (observed c.args.self.now) t place c.args.word.0 c.args.unit.0 agrees within at c.in-Some.line (held c) (active c)
+
+pub returns-in-Some-clause-table : goal.returns-in-Some-clause-table
 unfolding observed
-carry_out-requires-clause-active c =
-    let known : c.args.word.0 < length (old c).backing = rw (← c.self.view_is) at c.requires.in_memory in
-    plan_clear (old c) c.self.invariant c.place_of-place.result c.args.word.0 c.plan_read-plan.result.served c.plan_read-plan.result.value (bits_of c.plan_read-plan.result.bits) (looked_plan c known)
-
-pub carry_out-requires-clause-room : goal.carry_out-requires-clause-room
-carry_out-requires-clause-room c =
-    let few : AreFew c.new-probes.result = record { searches = omega (arith, c.new-probes.ensures.searches); places = omega (arith, c.new-probes.ensures.places) } in
-    let counted : CountsOneOfEach c.new-probes.result c.of-list.new.probes (old c).caches = subst (CountsOneOfEach c.new-probes.result c.of-list.new.probes) c.deref.ensures.value c.of-list.ensures.counted in
-    subst (λ (xs : List CacheValue). HasRoomFor c.of-list.new.probes xs (1 + length xs)) (sym c.deref_mut.ensures.value) (room_to_change (old c) c.self.invariant c.new-probes.result c.of-list.new.probes few counted)
-
-pub returns-in-Err-clause-refused : goal.returns-in-Err-clause-refused
-unfolding observed
-returns-in-Err-clause-refused c =
-    let inside = c.self.inside in
-    let old : BusValue = record { caches = inside.caches.items; spill = inside.spill; backing = inside.backing.items; units = inside.queue; commits = inside.commits; probes = inside.probes } in
-    let unit : ℕ = c.args.unit.0 in
-    let cached : unit < length old.caches = subst (λ u. u < length old.caches) c.place_of-place.ensures.at_work (units_known old c.self.invariant c.place_of-place.result c.place_of-place.ensures.within) in
-    let named : full_in old.caches unit (length old.backing) c.args.word.0 ≡ Some c.in-Err.field-0.0.0 = ap₂ (λ (xs : List CacheValue) (ws : List ℕ). full_in xs unit (length ws) c.args.word.0) (sym c.deref_mut.ensures.value) (sym c.deref_mut-2.ensures.value) ∙ c.in-Err.ensures.refused in
-    rw (← c.self.view_is) (ap (option_map (λ word. refusal.SetFull (record { 0 = word }))) (sym (full_shown old unit c.self.invariant cached c.args.word.0) ∙ named))
-
--- the bus before and after
-abbrev before : goal.After-self-3-1 → BusValue
-before c = let inside = c.self.inside in record { caches = inside.caches.items; spill = inside.spill; backing = inside.backing.items; units = inside.queue; commits = inside.commits; probes = inside.probes }
-
-abbrev after : goal.After-self-3-1 → BusValue
-after c = record (before c) { caches = c.carry_out.new.caches; backing = c.carry_out.new.backing; probes = c.carry_out.new.probes.searches }
-
-seen : (c : goal.After-self-3-1) → c.args.word.0 < length (before c).backing → IsLookedUp (before c) c.of-list.result c.place_of-place.result c.args.word.0 c.args.unit.0 c.index-backing.result.now c.get.result
-seen c known = record {
-  in_memory = known;
-  described = listed_describes (before c) c.self.invariant c.deref.result.now c.deref.ensures.value c.args.word.0 c.of-list.result c.of-list.ensures.committed c.of-list.ensures.active;
-  within = c.place_of-place.ensures.within;
-  at_work = c.place_of-place.ensures.at_work;
-  spill_is = c.get.ensures;
-  backing_is = sym (read_item (before c).backing c.args.word.0 c.index-backing.result.now 0 c.index-backing.ensures known);
-}
-
-seen_plan : (c : goal.After-self-3-1) → c.args.word.0 < length (before c).backing → IsPlanned (before c) c.place_of-place.result c.args.word.0 c.plan_read-plan.result.served c.plan_read-plan.result.value (bits_of c.plan_read-plan.result.bits)
-seen_plan c known =
-    planned_read (before c) c.of-list.result c.place_of-place.result c.args.word.0 c.args.unit.0 c.index-backing.result.now c.get.result c.plan_read-plan.result.served c.plan_read-plan.result.value (bits_of c.plan_read-plan.result.bits)
-    c.self.invariant (seen c known) c.plan_read-plan.ensures.served c.plan_read-plan.ensures.line
-
-sizes_are : (c : goal.After-self-3-1) → KeepsSizes (before c) (after c)
-sizes_are c = record {
-  caches = subst (λ (xs : List CacheValue). SameSizes xs c.carry_out.new.caches) c.deref_mut.ensures.value c.in_default.ensures.sizes;
-  spill = refl;
-  backing = c.carry_out.auto.backing ∙ ap (λ (xs : List ℕ). length xs) c.deref_mut-2.ensures.value;
-}
-
--- the unit's line after the read
-abbrev line_after : goal.After-self-3-1 → Option Line
-line_after c = numbered (Some (record { value = c.plan_read-plan.result.value; bits = bits_of c.plan_read-plan.result.bits; task = (before c).commits + c.place_of-place.result }))
-
-lines_are : (c : goal.After-self-3-1) (u a : ℕ) → line_in (after c).caches u a ≡ lines_after c.plan_read-plan.result.served (line_in (before c).caches) (get_or (before c).units c.place_of-place.result 0) c.args.word.0 (line_after c) u a
-lines_are c u a =
-    c.in_default.ensures.lines u a
-    ∙ ap₂ (λ (xs : List CacheValue) (unit : ℕ). lines_after c.plan_read-plan.result.served (line_in xs) unit c.args.word.0 (line_after c) u a) c.deref_mut.ensures.value (sym c.place_of-place.ensures.at_work)
-
-memory_is : (c : goal.After-self-3-1) (a : ℕ) → get_or (after c).backing a 0 ≡ memory_after c.plan_read-plan.result.served (λ x. get_or (before c).backing x 0) c.args.word.0 (committed_in (before c).caches (before c).backing c.args.word.0) a
-memory_is c a =
-    c.in_default.ensures.memory a
-    ∙ ap₂ (λ (xs : List CacheValue) (ws : List ℕ). memory_after c.plan_read-plan.result.served (λ x. get_or ws x 0) c.args.word.0 (committed_in xs ws c.args.word.0) a) c.deref_mut.ensures.value c.deref_mut-2.ensures.value
-
-pub invariant_of-self-2 : goal.invariant_of-self-2
-unfolding observed
-invariant_of-self-2 c =
-    let inside = c.self.inside in
-    let known : c.args.word.0 < length (before c).backing = rw (← c.self.view_is) at c.requires.in_memory in
-    let count : length c.carry_out.new.caches ≡ inside.caches.len = (sizes_are c).caches.count ∙ sym inside.caches.ok.0 in
-    let words : length c.carry_out.new.backing ≡ inside.backing.len = (sizes_are c).backing ∙ sym inside.backing.ok.0 in
-    rw (with_items_is inside.caches c.carry_out.new.caches count, with_items_is inside.backing c.carry_out.new.backing words)
-    (read_bus (before c) c.self.invariant c.place_of-place.result c.args.word.0 c.plan_read-plan.result.served c.plan_read-plan.result.value (bits_of c.plan_read-plan.result.bits) (seen_plan c known) (after c) (sizes_are c) refl refl refl (lines_are c) (memory_is c))
-
-pub returns-clause-refused : goal.returns-clause-refused
-unfolding observed
-returns-clause-refused c =
-    let unit : ℕ = get_or (before c).units c.place_of-place.result 0 in
-    let known : c.args.word.0 < length (before c).backing = rw (← c.self.view_is) at c.requires.in_memory in
-    let room : is_hit c.plan_read-plan.result.served ≡ false → full_in (before c).caches unit (length (before c).backing) c.args.word.0 ≡ None = λ other.
-    ap₂ (λ (xs : List CacheValue) (ws : List ℕ). full_in xs unit (length ws) c.args.word.0) (sym c.deref_mut.ensures.value) (sym c.deref_mut-2.ensures.value)
-    ∙ ap (λ u. full_in c.deref_mut.result.now u (length c.deref_mut-2.result.now) c.args.word.0) c.place_of-place.ensures.at_work ∙ c.in_default.ensures.refused other in
-    let none : full_in (before c).caches unit (length (before c).backing) c.args.word.0 ≡ None =
-    never_refused (before c) c.self.invariant c.place_of-place.result c.args.word.0 c.plan_read-plan.result.served c.plan_read-plan.result.value (bits_of c.plan_read-plan.result.bits) (seen_plan c known) room in
-    let shown = full_shown (before c) unit c.self.invariant (units_known (before c) c.self.invariant c.place_of-place.result c.place_of-place.ensures.within) c.args.word.0 in
-    rw (← c.self.view_is, ← c.place_of-place.ensures.at_work) (ap (option_map (λ word. refusal.SetFull (record { 0 = word }))) (sym shown ∙ none))
-
-pub returns-clause-value : goal.returns-clause-value
-unfolding observed
-returns-clause-value c =
-    let known : c.args.word.0 < length (before c).backing = rw (← c.self.view_is) at c.requires.in_memory in
-    rw (← c.self.view_is) (λ t place agrees within at.
-    value_seen (before c) c.self.invariant t agrees c.place_of-place.result place c.args.word.0 c.place_of-place.ensures.within within (at ∙ sym c.place_of-place.ensures.at_work) c.plan_read-plan.result.value
-    (c.plan_read-plan.ensures.value (observed (before c)) t c.args.word.0 (asked (before c) t c.of-list.result c.place_of-place.result c.args.word.0 c.args.unit.0 c.index-backing.result.now c.get.result agrees (seen c known))))
-
-pub returns-clause-served : goal.returns-clause-served
-unfolding observed
-returns-clause-served c =
-    let known : c.args.word.0 < length (before c).backing = rw (← c.self.view_is) at c.requires.in_memory in
-    rw (← c.self.view_is) (λ t place agrees within at.
-    served_seen (before c) c.self.invariant t agrees c.place_of-place.result place c.args.word.0 c.place_of-place.ensures.within within (at ∙ sym c.place_of-place.ensures.at_work) c.plan_read-plan.result.served
-    (c.plan_read-plan.ensures.served (observed (before c)) t c.args.word.0 (asked (before c) t c.of-list.result c.place_of-place.result c.args.word.0 c.args.unit.0 c.index-backing.result.now c.get.result agrees (seen c known))))
-
-pub returns-clause-table : goal.returns-clause-table
-unfolding observed
-returns-clause-table c =
-    let inside = c.self.inside in
-    let known : c.args.word.0 < length (before c).backing = rw (← c.self.view_is) at c.requires.in_memory in
-    let count : length c.carry_out.new.caches ≡ inside.caches.len = (sizes_are c).caches.count ∙ sym inside.caches.ok.0 in
-    let words : length c.carry_out.new.backing ≡ inside.backing.len = (sizes_are c).backing ∙ sym inside.backing.ok.0 in
-    rw (with_items_is inside.caches c.carry_out.new.caches count, with_items_is inside.backing c.carry_out.new.backing words, ← c.self.view_is) (λ t place agrees within at.
-    read_kept (before c) c.self.invariant c.place_of-place.result c.args.word.0 c.plan_read-plan.result.served c.plan_read-plan.result.value (bits_of c.plan_read-plan.result.bits) (seen_plan c known) (after c) (sizes_are c) refl refl refl (lines_are c) (memory_is c)
-    t place agrees within (at ∙ sym c.place_of-place.ensures.at_work))
+returns-in-Some-clause-table c = λ t place agrees within at. hit_kept (observed c.args.self.now) t place c.args.word.0 c.args.unit.0 agrees within at c.in-Some.line (held c) (active c) _ (rw (← c.self.view_is) (record { caches = refl; sets = refl; ways = refl; words = refl; lines = λ u a. refl; order = λ a u v. refl; spill = λ a. refl; backing = λ a. refl; commits = refl; units = refl }))

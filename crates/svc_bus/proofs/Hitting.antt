@@ -1,0 +1,60 @@
+-- A read that the unit's own active line serves.
+use Rattle.std.proofs.Common.{◌≡◌, ◌∙◌, refl, sym, ap, subst, ℕ, ◌<◌, true, not, Option, Some, List, length, get_or}
+use Rattle.std.proofs.lemmas.Bool.{and_parts}
+use Rattle.svc_line.specs.Bits.{bits_of, is_active}
+use Rattle.svc_line.specs.Line.{SeenLine, seen}
+use Rattle.svc_line.specs.declared.line.Line.{Line}
+use Rattle.svc_cache.specs.Places.{CacheValue}
+use Rattle.svc_vol.specs.Lines.{lines_in}
+use Rattle.svc_vcl.specs.Described.{bus_line_of, line_with}
+use Rattle.svc_retire.specs.Caches.{cache_at, line_in, numbered}
+use Rattle.svc_retire.proofs.Dropping.{lines_are}
+use Rattle.svc_retire.proofs.Settling.{HasV, line_valid}
+use Rattle.svc_bus_laws.specs.Versioned.{view}
+use Rattle.svc_bus_laws.specs.LineTable.{LineTable, unit_at, line_at, versioned}
+use Rattle.svc_bus_laws.specs.LineTable as table
+use Rattle.svc_bus_laws.specs.Supplier.{Hit, supplier}
+use Rattle.svc_bus_laws.specs.Steps.{read}
+use Rattle.svc_bus_laws.specs.BusLine.{BusLine, is_active_line, value_of_line}
+use Rattle.svc_bus_laws.specs.BusState.{BusState, Agrees, SameBus, unnumbered}
+use Rattle.svc_bus_laws.specs.BusView.{bus_line_at, bus_supplied, bus_supplier, bus_view}
+use Rattle.svc_bus_laws.proofs.Searches.{some_is}
+use Rattle.svc_bus_laws.proofs.SeenLaws.{active_line_is, supplier_seen, view_seen}
+use Rattle.svc_bus_laws.proofs.SoundSeen.{same_agrees, supplied_seen}
+use Rattle.svc_bus.proofs.Requests.{shown_is}
+use Rattle.svc_bus.proofs.Reading.{read_hit}
+
+-- a valid line that was found in a unit's cache, as callers of the bus see it
+pub found_is : (caches : List CacheValue) (word unit : ℕ) (line : Line) → lines_in caches word unit ≡ Some (seen line) → (bits_of line.bits).valid ≡ true
+    → unnumbered (line_in caches unit word) ≡ Some (line_with line.value (bits_of line.bits))
+found_is caches word unit line found valid =
+    ap (λ (l : Option SeenLine). unnumbered (numbered l)) (sym (lines_are caches word unit))
+    ∙ shown_is (lines_in caches word unit) (subst HasV (sym (lines_are caches word unit)) (line_valid (cache_at caches unit) word))
+    ∙ ap bus_line_of found ∙ rw valid refl
+
+module _ (b : BusState) (t : LineTable) (place word unit : ℕ) (agrees : Agrees b t) (within : place < length t.units) (at : unit_at t place ≡ unit)
+    (line : Line) (held : b.lines unit word ≡ Some (line_with line.value (bits_of line.bits))) (active : is_active (bits_of line.bits) ≡ true) where
+  own : bus_line_at b place word ≡ Some (line_with line.value (bits_of line.bits))
+  own = ap (λ u. b.lines u word) (ap (λ (us : List ℕ). get_or us place 0) agrees.units ∙ at) ∙ held
+
+  is_own : is_active_line (bus_line_at b place word) ≡ true
+  is_own = ap is_active_line own ∙ (and_parts (bits_of line.bits).valid (not (bits_of line.bits).commit) active).1
+
+  hits : Hit ≡ bus_supplier b place word
+  hits = rw is_own refl
+
+  pub hit_served : Hit ≡ supplier t place word
+  hit_served = hits ∙ supplier_seen b t place word agrees
+
+  pub hit_value : line.value ≡ view (versioned t) place word
+  hit_value =
+      some_is line.value (bus_view b place word)
+      (sym (ap (λ (l : Option BusLine). Some (value_of_line l)) own) ∙ ap (bus_supplied b place word) hits ∙ supplied_seen b t place word agrees (subst (λ (us : List ℕ). place < length us) (sym agrees.units) within))
+      ∙ view_seen b t place word agrees
+
+  -- it changes nothing that callers see but the count of look-ups
+  pub hit_kept : (new : BusState) → SameBus b new → Agrees new (read t place word)
+  hit_kept new same = subst (Agrees new) (sym (read_hit t place word here)) (same_agrees b new t same agrees)
+    where
+      here : table.is_active (line_at t place word) ≡ true
+      here = sym (active_line_is (line_at t place word)) ∙ ap is_active_line (sym (agrees.lines (unit_at t place) word) ∙ ap (λ u. b.lines u word) at ∙ held) ∙ sym (ap is_active_line own) ∙ is_own
