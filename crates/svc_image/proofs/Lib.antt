@@ -6,3 +6,4 @@ pub mod Decoding
 pub mod Files
 pub mod Building
 pub mod FilesBack
+pub mod Shown

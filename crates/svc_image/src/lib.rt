@@ -9,6 +9,7 @@ mod image;
 mod instructions;
 mod laws;
 mod layout;
+mod looks;
 mod marks;
 pub mod samples;
 mod words;
