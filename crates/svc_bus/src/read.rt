@@ -128,8 +128,7 @@ impl Bus {
         ensures probes { OnOk result ((observed self.new).probes ≤ 2 * (observed self.old).caches) }
     {
         let place = place_of(&self.queue, unit);
-        let list =
-            VersionList::beside(&self.caches, &self.queue, word, unit, line, &mut probes);
+        let list = VersionList::beside(&self.caches, &self.queue, word, unit, line, &mut probes);
         let backing = self.backing[word.0 as usize];
         let plan = plan_read(&list, unit, place, self.spill.get(word), backing);
         let outcome = Outcome {
