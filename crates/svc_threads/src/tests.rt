@@ -10,6 +10,7 @@ use svc_core::MAX_BURST_TURNS;
 use svc_history::{Event, Recorder, Slip};
 use svc_image::{Image, samples};
 
+mod ahead;
 mod boards;
 mod full_sets;
 mod gates;

@@ -110,3 +110,28 @@ fn an_idle_machine_has_no_versions(rt: HostRuntime) -> Result<(), Fail> {
     assert_eq!(rt; probes.searches, 1);
     Ok(())
 }
+
+#[test]
+fn a_line_that_is_known_is_not_looked_for(rt: HostRuntime) -> Result<(), Fail> {
+    let mut queue = TaskQueue::new();
+    queue.push(UnitId(1));
+    let mut settled = cache_with(&rt, rt.alloc(), stored(20, 4)).map_err(|_| "memory")?;
+    settled.for_commit();
+    let active = cache_with(&rt, rt.alloc(), stored(40, 6)).map_err(|_| "memory")?;
+    let caches = [settled, active];
+    let mut probes = Probes::new();
+    let line = caches[0].lookup(WORD, &mut probes);
+    let list = VersionList::beside(&caches, &queue, WORD, UnitId(0), line, &mut probes);
+    assert_eq!(rt;
+        list.active().first().copied(),
+        Some(Some(version(1, stored(40, 6))))
+    );
+    assert_eq!(rt;
+        list.committed().first().copied(),
+        line.map(|line| version(0, line))
+    );
+    assert_eq!(rt; list.committed().len(), 1);
+    assert_eq!(rt; probes.searches, 2);
+    assert_eq!(rt; probes.places, 2);
+    Ok(())
+}
