@@ -101,9 +101,20 @@ awk -v rounds="$rounds" '
         for (i = ++count[key]; i > 1 && kept[key, i - 1] > value; i--) kept[key, i] = kept[key, i - 1]
         kept[key, i] = value
     }
-    function median(name, program, clock,   key) {
+    function median(name, program, clock) { return quantile(name, program, clock, 0.5) }
+    # The value below which such a share of the values lies.
+    function quantile(name, program, clock, share,   key) {
         key = name SUBSEP program SUBSEP clock
-        return kept[key, int((count[key] + 1) / 2)]
+        return kept[key, int(1 + share * (count[key] - 1))]
+    }
+    # The quartiles of the wall times of svcsim for a whole run, as shares of the median with one unit.
+    function spread(image, text,   units, one, cells, i) {
+        one = median(image "-1", "proved", "whole")
+        for (units = 1; units <= 4; units *= 2) {
+            cells = ""
+            for (i = 1; i <= 3; i++) cells = cells sprintf(" %5.2f |", quantile(image "-" units, "proved", "whole", i / 4) / one)
+            printf "| %-58s |%s\n", text ", units: " units, cells
+        }
     }
     function row(name, text, scale, form,   cells, i, columns) {
         columns = split("proved,cpu twin,cpu proved,wall twin,wall", keys, " ")
@@ -117,7 +128,11 @@ awk -v rounds="$rounds" '
     }
     # A scale below 0 asks for how many there are in a second, in millions.
     function value(seconds, scale) { return scale < 0 ? 1 / seconds / 1000000 : seconds * scale }
-    { keep($1 SUBSEP $2 SUBSEP "wall", $4 / $3); keep($1 SUBSEP $2 SUBSEP "cpu", ($5 + $6) / $3) }
+    {
+        keep($1 SUBSEP $2 SUBSEP "wall", $4 / $3)
+        keep($1 SUBSEP $2 SUBSEP "cpu", ($5 + $6) / $3)
+        keep($1 SUBSEP $2 SUBSEP "whole", $4)
+    }
     END {
         print "Medians of " rounds " rounds. Ratios are of times: below 1 svcsim is faster than the twin."
         print ""
@@ -136,4 +151,11 @@ awk -v rounds="$rounds" '
         printf "A task over 65,536 words against one over 100, by processor time: svcsim %.2f, twin %.2f\n",
             median("commit-65536", "proved", "cpu") / median("commit-100", "proved", "cpu"),
             median("commit-65536", "twin", "cpu") / median("commit-100", "twin", "cpu")
+        print ""
+        print "The wall time of a run by svcsim, as a share of the median with one unit:"
+        print ""
+        printf "| %-58s | quarter | median | three quarters |\n", ""
+        print "|---|---|---|---|"
+        spread("apart", "long bursts")
+        spread("memory", "loads and stores")
     }' times
