@@ -1,3 +1,4 @@
+pub mod Counting
 pub mod Pending
 pub mod PlainLines
 pub mod Rows

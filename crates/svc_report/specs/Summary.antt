@@ -9,7 +9,7 @@ use Rattle.svc_history_laws.specs.declared.entry.ServedKind.TheVariants as serve
 use Rattle.svc_history_laws.specs.declared.entry.CutKind.{CutKind}
 use Rattle.svc_history_laws.specs.declared.entry.CutKind.TheVariants as cause
 use Rattle.svc_history_laws.specs.declared.entry.Entry.{Entry}
-use Rattle.svc_report.specs.declared.summary.Counts.{Counts}
+use Rattle.svc_report.specs.declared.counts.Counts.{Counts}
 use Rattle.svc_report.specs.Lines.{line}
 
 abbrev pub is_kind : Kind → Kind → Bool

@@ -1,6 +1,7 @@
 //! The texts of histories: traces, summaries and scripts, over any writer or reader, as `csv` writes and reads records.
 #![tactic(auto)]
 
+mod counts;
 mod error;
 mod laws;
 mod lines;
@@ -12,10 +13,11 @@ mod summary;
 mod trace;
 mod words;
 
+pub use counts::Counts;
 pub use error::ReportError;
 pub use laws::legal_history_has_rows;
 pub use script::{Step, StepKind, read_script};
-pub use summary::{Counts, write_summary};
+pub use summary::write_summary;
 pub use trace::{read_trace, write_entry, write_trace};
 
 #[cfg(test)]

@@ -1,93 +1,18 @@
 // Summaries of runs.
 
-ghost use Rattle.std.specs.Prelude.{◌≡◌, OnOk, IfErr};
+ghost use Rattle.std.specs.Prelude.{OnOk, IfErr};
 ghost use Rattle.std.specs.Io.KnownBytes.{Appends, append_known};
 ghost use Rattle.svc_report.specs.Faults.{IsWriteFault};
 ghost use Rattle.svc_report.specs.Lines.{IsPlain};
-ghost use Rattle.svc_report.specs.Summary.{count_of_kind, count_of_supplier, count_of_cause, counts_of, number_row, output_rows, ending_row, kind_rows, supplier_rows, cause_rows, counts_rows, summary_of};
+ghost use Rattle.svc_report.specs.Summary.{number_row, output_rows, ending_row, kind_rows, supplier_rows, cause_rows, counts_rows, summary_of};
 
+use crate::counts::Counts;
 use crate::error::ReportError;
 use crate::lines::Pending;
 use itoa::Buffer;
 use std::alloc::Global;
 use std::io::Write;
 use svc_core_laws::Ending;
-use svc_history_laws::{CutKind, Entry, Kind, ServedKind};
-
-/// How many entries of a history have each kind, each supplier and each cause of a cut.
-#[derive(Clone, Copy, Debug, PartialEq, Eq)]
-pub struct Counts {
-    /// Tasks that were begun.
-    pub assign: u64,
-    /// Bursts that were taken over.
-    pub submit: u64,
-    /// Lines that were taken out.
-    pub replace: u64,
-    /// Tasks that were cancelled.
-    pub cancel: u64,
-    /// Tasks that were committed.
-    pub commit: u64,
-    /// Reads from the unit's own uncommitted line.
-    pub hit: u64,
-    /// Reads from the unit's own committed line.
-    pub reuse: u64,
-    /// Reads of an earlier task's version.
-    pub version: u64,
-    /// Reads of a version of the head that a replacement took out of its cache.
-    pub spill: u64,
-    /// Reads of the newest committed version.
-    pub committed: u64,
-    /// Reads from the backing memory.
-    pub memory: u64,
-    /// Stores to a word which a later task had read too early.
-    pub violation: u64,
-    /// Commits after which another entry was due than the next task's, or after which the run had stopped.
-    pub guess: u64,
-    /// Cancels.
-    pub cancelled: u64,
-}
-
-fn count_kind(entries: &[Entry], kind: Kind) -> u64
-    ensures { result ≡ count_of_kind kind entries.now }
-{
-    entries.iter().filter(|e| e.kind == kind).count() as u64
-}
-
-fn count_supplier(entries: &[Entry], served: ServedKind) -> u64
-    ensures { result ≡ count_of_supplier served entries.now }
-{
-    entries.iter().filter(|e| e.served == Some(served)).count() as u64
-}
-
-fn count_cause(entries: &[Entry], cause: CutKind) -> u64
-    ensures { result ≡ count_of_cause cause entries.now }
-{
-    entries.iter().filter(|e| e.cause == Some(cause)).count() as u64
-}
-
-impl Counts {
-    /// The counts of a history.
-    pub fn of(entries: &[Entry]) -> Counts
-        ensures { result ≡ counts_of entries.now }
-    {
-        Counts {
-            assign: count_kind(entries, Kind::Assign),
-            submit: count_kind(entries, Kind::Submit),
-            replace: count_kind(entries, Kind::Replace),
-            cancel: count_kind(entries, Kind::Cancel),
-            commit: count_kind(entries, Kind::Commit),
-            hit: count_supplier(entries, ServedKind::Hit),
-            reuse: count_supplier(entries, ServedKind::Reuse),
-            version: count_supplier(entries, ServedKind::Version),
-            spill: count_supplier(entries, ServedKind::Spill),
-            committed: count_supplier(entries, ServedKind::Committed),
-            memory: count_supplier(entries, ServedKind::Memory),
-            violation: count_cause(entries, CutKind::Violation),
-            guess: count_cause(entries, CutKind::Guess),
-            cancelled: count_cause(entries, CutKind::Cancel),
-        }
-    }
-}
 
 // Writes a row of a name and a number, by way of what is pending.
 fn write_number<W: Write>(

@@ -4,7 +4,7 @@ use Rattle.std.specs.Io.KnownBytes.{Appends}
 use Rattle.std.proofs.Common.{◌≡◌, ℕ, Bool, List, Option, Result, Ok, Err}
 use Rattle.svc_core_laws.specs.Sequence.{plain_seq}
 use Rattle.svc_image.specs.Image.{Image}
-use Rattle.svc_report.specs.declared.summary.Counts.{Counts}
+use Rattle.svc_report.specs.declared.counts.Counts.{Counts}
 use Rattle.svc_report.specs.Summary.{summary_of}
 use Rattle.svcsim.specs.Runs.{Reports, ending_after, status_of}
 

@@ -11,7 +11,7 @@ use Rattle.svc_history_laws.specs.declared.entry.Entry.{Entry}
 use Rattle.svc_history_laws.specs.Board.{board}
 use Rattle.svc_history_laws.specs.Legal.{LegalHistory}
 use Rattle.svc_history.specs.Recorded.{Recorded, IsLegal}
-use Rattle.svc_report.specs.declared.summary.Counts.{Counts}
+use Rattle.svc_report.specs.declared.counts.Counts.{Counts}
 use Rattle.svc_report.specs.Summary.{counts_of, summary_of}
 
 -- the exit status of a run: 0 where the program came to its exit, else 2

@@ -1,0 +1,132 @@
+// How many entries of a history have each kind, supplier and cause.
+
+ghost use Rattle.std.specs.Prelude.{◌≡◌, [], Some};
+ghost use Rattle.svc_report.specs.Counting.{with_kind, with_supplier, with_cause, with_entry, HaveRoomForKind, HaveRoomForSupplier, HaveRoomForCause};
+ghost use Rattle.svc_report.specs.Summary.{counts_of};
+
+use svc_history_laws::{CutKind, Entry, Kind, ServedKind};
+
+/// How many entries of a history have each kind, each supplier and each cause of a cut.
+#[derive(Clone, Copy, Debug, PartialEq, Eq)]
+pub struct Counts {
+    /// Tasks that were begun.
+    pub assign: u64,
+    /// Bursts that were taken over.
+    pub submit: u64,
+    /// Lines that were taken out.
+    pub replace: u64,
+    /// Tasks that were cancelled.
+    pub cancel: u64,
+    /// Tasks that were committed.
+    pub commit: u64,
+    /// Reads from the unit's own uncommitted line.
+    pub hit: u64,
+    /// Reads from the unit's own committed line.
+    pub reuse: u64,
+    /// Reads of an earlier task's version.
+    pub version: u64,
+    /// Reads of a version of the head that a replacement took out of its cache.
+    pub spill: u64,
+    /// Reads of the newest committed version.
+    pub committed: u64,
+    /// Reads from the backing memory.
+    pub memory: u64,
+    /// Stores to a word which a later task had read too early.
+    pub violation: u64,
+    /// Commits after which another entry was due than the next task's, or after which the run had stopped.
+    pub guess: u64,
+    /// Cancels.
+    pub cancelled: u64,
+}
+
+impl Counts {
+    /// The counts of a history.
+    pub fn of(entries: &[Entry]) -> Counts
+        ensures { result ≡ counts_of entries.now }
+    {
+        let mut counts = Counts::none();
+        for entry in entries {
+            counts.add(entry);
+        }
+        counts
+    }
+
+    // The counts of no entries.
+    fn none() -> Counts
+        ensures { result ≡ counts_of [] }
+    {
+        Counts {
+            assign: 0,
+            submit: 0,
+            replace: 0,
+            cancel: 0,
+            commit: 0,
+            hit: 0,
+            reuse: 0,
+            version: 0,
+            spill: 0,
+            committed: 0,
+            memory: 0,
+            violation: 0,
+            guess: 0,
+            cancelled: 0,
+        }
+    }
+
+    // One entry more.
+    fn add(&mut self, entry: &Entry)
+        requires kinds { HaveRoomForKind self.old }
+        requires suppliers { HaveRoomForSupplier self.old }
+        requires causes { HaveRoomForCause self.old }
+        ensures { self.new ≡ with_entry self.old entry.now }
+    {
+        self.add_kind(entry.kind);
+        if let Some(served) = entry.served {
+            self.add_supplier(served);
+        }
+        if let Some(cause) = entry.cause {
+            self.add_cause(cause);
+        }
+    }
+
+    // One entry of a kind more.
+    fn add_kind(&mut self, kind: Kind)
+        requires { HaveRoomForKind self.old }
+        ensures { self.new ≡ with_kind self.old kind }
+    {
+        match kind {
+            Kind::Assign => self.assign += 1,
+            Kind::Submit => self.submit += 1,
+            Kind::Replace => self.replace += 1,
+            Kind::Cancel => self.cancel += 1,
+            Kind::Commit => self.commit += 1,
+        }
+    }
+
+    // One entry more whose read has that supplier.
+    fn add_supplier(&mut self, served: ServedKind)
+        requires { HaveRoomForSupplier self.old }
+        ensures { self.new ≡ with_supplier self.old (Some served) }
+    {
+        match served {
+            ServedKind::Hit => self.hit += 1,
+            ServedKind::Reuse => self.reuse += 1,
+            ServedKind::Version => self.version += 1,
+            ServedKind::Spill => self.spill += 1,
+            ServedKind::Committed => self.committed += 1,
+            ServedKind::Memory => self.memory += 1,
+        }
+    }
+
+    // One entry more whose cut has that cause.
+    fn add_cause(&mut self, cause: CutKind)
+        requires { HaveRoomForCause self.old }
+        ensures { self.new ≡ with_cause self.old (Some cause) }
+    {
+        match cause {
+            CutKind::Violation => self.violation += 1,
+            CutKind::Guess => self.guess += 1,
+            CutKind::Cancel => self.cancelled += 1,
+        }
+    }
+}
