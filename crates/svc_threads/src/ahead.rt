@@ -55,6 +55,17 @@ impl<A: Allocator> Ahead<A> {
         &self.submits[0]
     }
 
+    /// Makes a lease's burst, unless it was made ahead.
+    pub(crate) fn start(&mut self, lease: &Lease, image: &Image) {
+        let place = self.next;
+        if place < self.end && is_burst_of(&self.submits[place], lease) {
+            return;
+        }
+        self.next = 0;
+        self.end = 1;
+        make_burst(lease, image, &mut self.submits[0]);
+    }
+
     /// Makes the burst that follows the last one, and answers whether it has: one has to follow, and there has to be room.
     pub(crate) fn prepare(&mut self, image: &Image) -> bool {
         let are_used = self.next == self.end;

@@ -18,10 +18,7 @@ use std::alloc::Global;
 use std::marker::Model;
 use std::sync::{Arc, Mutex, MutexGuard, Wait};
 use svc_base::{OpenError, Refusal, UnitId};
-use svc_history::{Event, Glance, Kind, Recorder, Slip};
-
-// How many events a unit's spell at the lock lasts for at most.
-const EVENTS_OF_A_SPELL: usize = 128;
+use svc_history::{Event, Glance, Recorder, Slip};
 
 // How often a thread looks for the baton before it tries for the lock all the same: the one that has it may be held up, or
 // have ended. From then on it lets other threads run in between.
@@ -32,6 +29,9 @@ const LOOKS: u32 = 21_000;
 
 // How long it waits between two looks.
 const PAUSES: u32 = 8;
+
+// How often it sees the baton unclaimed by the unit that it was passed on to, before it tries for the lock all the same.
+const GRACE: u32 = 64;
 
 /// One recorder under one lock, for all units, and the board that shows the numbers of its history.
 #[derive(Drop)]
@@ -98,8 +98,17 @@ impl SharedBus {
         ensures refused { IfErr result (λ e. e ≡ refusal.NoSuchUnit) }
     {
         let glance = self.taken(rt, unit).glance(unit);
-        self.baton.pass_on(has_to_wait(&glance));
+        self.go_on_after(rt, unit, &glance);
         glance
+    }
+
+    // The unit's spell ends, or goes on.
+    fn go_on_after<R: Wait>(&self, rt: &R, unit: UnitId, glance: &Result<Glance, Refusal>) {
+        if has_to_wait(glance) {
+            self.pass_to_head(rt, unit);
+        } else if self.baton.is_due() {
+            self.baton.pass_on(None);
+        }
     }
 
     /// One event, as the recorder takes it, under the lock. The board shows the new numbers after an accepted event, and is
@@ -115,30 +124,57 @@ impl SharedBus {
         ensures { IfOk result (λ slip. IsEntryOf event.now slip.entry) }
     {
         let unit = unit_of(event);
-        let (answer, has_idle_unit) = self.asked(rt, unit, event);
-        self.baton.pass_on(ends_a_spell(&answer, has_idle_unit));
+        let (answer, is_over) = self.asked(rt, unit, event);
+        self.go_on_with(rt, unit, &answer, is_over);
         answer
     }
 
-    // What the recorder answers to an event, and whether a unit has no task then.
+    // The spell is over with the glance after this answer, or ends with it, or goes on.
+    fn go_on_with<R: Wait>(
+        &self,
+        rt: &R,
+        unit: UnitId,
+        answer: &Result<Slip, Refusal>,
+        is_over: bool,
+    ) {
+        if is_over {
+            self.baton.set_due();
+        } else if is_pinned(answer) {
+            self.pass_to_head(rt, unit);
+        }
+    }
+
+    // What the recorder answers to an event, and whether another unit should go on then.
     fn asked<R: Wait>(&self, rt: &R, unit: UnitId, event: &Event) -> (Result<Slip, Refusal>, bool)
         ensures { IfOk result.0 (λ slip. IsEntryOf event.now slip.entry) }
     {
         let mut locked = self.taken(rt, unit);
         let answer = locked.apply(rt, event);
-        (answer, locked.has_idle_unit())
+        (answer, locked.spell_is_over())
+    }
+
+    // The unit has to wait for the one that runs the head.
+    fn pass_to_head<R: Wait>(&self, rt: &R, unit: UnitId) {
+        let head = self.taken(rt, unit).head();
+        self.baton.pass_on(head);
     }
 
     // The lock, taken. An event is shorter than it takes to put a thread to sleep and to wake it, so the thread looks for
     // the baton a while before it sleeps.
     fn taken<R: Wait>(&self, rt: &R, unit: UnitId) -> MutexGuard<'_, CachePadded<Locked>> {
         let backoff = Backoff::new();
+        let mut unclaimed: u32 = 0;
         for look in 0..LOOKS {
-            if self.baton.is_for(unit) || look >= PATIENCE {
-                if let Some(guard) = self.lock.try_lock() {
-                    self.baton.take(unit);
+            if self.baton.is_for(unit) || unclaimed >= GRACE || look >= PATIENCE {
+                if let Some(mut guard) = self.lock.try_lock() {
+                    if self.baton.take(unit) {
+                        guard.begin_spell();
+                    }
                     return guard;
                 }
+            }
+            if self.baton.is_unclaimed() {
+                unclaimed = unclaimed.wrapping_add(1);
             }
             if look < PATIENCE {
                 rest(PAUSES);
@@ -167,14 +203,11 @@ fn has_to_wait(glance: &Result<Glance, Refusal>) -> bool {
     }
 }
 
-// Whether a unit's spell at the lock ends with this answer: it has begun a task, so that another unit may begin one beside
-// it; the spell was long; or it can't go on before another unit does.
-fn ends_a_spell(answer: &Result<Slip, Refusal>, has_idle_unit: bool) -> bool {
+// Whether a line may not go before another unit's event.
+fn is_pinned(answer: &Result<Slip, Refusal>) -> bool {
     match answer {
-        Ok(slip) => {
-            has_idle_unit && slip.entry.kind == Kind::Assign || slip.index % EVENTS_OF_A_SPELL == 0
-        }
         Err(refusal) => *refusal == Refusal::Pinned,
+        Ok(_) => false,
     }
 }
 

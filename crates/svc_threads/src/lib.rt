@@ -11,6 +11,7 @@ pub mod outcome;
 pub mod port;
 pub mod run;
 mod sameness;
+mod spell;
 #[cfg(test)]
 mod tests;
 pub mod unit;

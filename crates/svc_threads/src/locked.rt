@@ -13,10 +13,14 @@ ghost use Rattle.svc_threads.specs.Boards.{knower, InOrder};
 ghost use Rattle.svc_threads.specs.Counts.{row_of_entries, with_entry, IsSmall};
 
 use crate::board::{Board, BoardPass, BoardRow};
+use crate::spell::Spell;
 use std::marker::Model;
 use std::sync::{Arc, Wait};
 use svc_base::{Refusal, UnitId};
 use svc_history::{Entry, Event, Glance, Kind, Recorder, Slip};
+
+// How many units there are at most.
+const MOST_UNITS: u8 = 16;
 
 /// A recorder with the numbers of its history, and a board that shows them. By the type they are those numbers, and the
 /// pass is the one of that board that publishes and knows them.
@@ -26,6 +30,8 @@ pub(crate) struct Locked {
     counts: BoardRow,
     publisher: BoardPass,
     board: Arc<Board>,
+    // what happened since a unit's thread took the lock from another's
+    spell: Spell,
 }
 
 impl Model for Locked {
@@ -59,6 +65,7 @@ impl Locked {
             counts,
             publisher,
             board,
+            spell: Spell::new(),
         }
     }
 
@@ -79,11 +86,33 @@ impl Locked {
         let row = with_entry(counts, &slip.entry);
         self.counts = row;
         self.board.publish(rt, &mut self.publisher, row);
+        self.spell.count(&slip.entry);
         Ok(slip)
     }
 
+    // The spell of a unit begins.
+    pub(crate) fn begin_spell(&mut self) {
+        self.spell.begin();
+    }
+
+    // Whether another unit should go on: the spell is long, or a task has begun and a unit has none.
+    pub(crate) fn spell_is_over(&self) -> bool {
+        self.spell.is_long() || self.spell.begins_task() && self.has_idle_unit()
+    }
+
+    // The unit that runs the head.
+    pub(crate) fn head(&self) -> Option<UnitId> {
+        let machine = self.recorder.machine();
+        for unit in 0..MOST_UNITS {
+            if machine.is_head(UnitId(unit)) {
+                return Some(UnitId(unit));
+            }
+        }
+        None
+    }
+
     // Whether a unit has no task.
-    pub(crate) fn has_idle_unit(&self) -> bool {
+    fn has_idle_unit(&self) -> bool {
         let counts = self.counts;
         let ended = counts.committed.wrapping_add(counts.squashed);
         counts.assigned.wrapping_sub(ended) < u64::from(self.recorder.machine().config().units)
@@ -107,6 +136,7 @@ impl Locked {
             counts: _,
             publisher: _,
             board: _,
+            spell: _,
         } = self;
         recorder
     }

@@ -156,6 +156,10 @@ fn take_step<P: Port, G: Gate, A: Allocator, R: Wait>(
         Step::Commit => commit(rt, port, unit, gate, slips),
         Step::GoOn(lease) => {
             let lease = Lease::new(unit, lease.epoch, lease.core);
+            if !port.is_free_for(unit) {
+                ahead.start(&lease, image);
+                prepare(port, unit, image, ahead);
+            }
             attempt(rt, port, unit, ahead.submit(&lease, image), gate, slips)
         }
     }
