@@ -1,21 +1,17 @@
 -- Comparing a unit's slips with the history, entry by entry.
-use Rattle.std.proofs.Common.{◌≡◌, ◌≢◌, ℕ, zero, suc, ◌+◌, ◌<◌, ◌≤◌, ◌==◌, Bool, true, false, cond, List, [], ◌∷◌, length, drop, get_or, refl, sym, ap, ◌∙◌, arith, add-one, length-drop}
+use Rattle.std.proofs.Common.{◌≡◌, ◌≢◌, ℕ, zero, suc, ◌+◌, ◌<◌, ◌≤◌, ◌==◌, Bool, true, false, cond, List, [], ◌∷◌, length, drop, get_or, set, refl, sym, ap, subst, ◌∙◌, arith, add-one, length-drop}
 use Rattle.std.proofs.lemmas.Bool.Decides.{nat_tests}
-use Rattle.std.proofs.lemmas.List.{drop_all}
+use Rattle.std.proofs.lemmas.List.{drop_all, get_or-set_same, get_or-set_other}
 use Rattle.std.proofs.Math.Seq.{drop-cons}
 use Rattle.svc_history_laws.specs.declared.entry.Entry.{Entry}
 use Rattle.svc_history_laws.specs.declared.entry.Slip.{Slip}
-use Rattle.svc_threads.specs.Outcomes.{lists_from, slip_at, slips_from, slips_of}
-
--- what is left to compare
-abbrev pub Left : ℕ → ℕ → List Entry → ℕ → List Slip → Type 0
-Left unit index entries next slips = drop next slips ≡ slips_from index unit (drop index entries)
+use Rattle.svc_threads.specs.Outcomes.{Left, AgreesTo, AllAgreeTo, lists_from, slip_at, slips_from, slips_of}
 
 -- the slips agree exactly where what is left does
 abbrev pub Hangs : ℕ → ℕ → List Entry → ℕ → List Slip → Type 0
 Hangs unit index entries next slips = ((slips ≡ slips_of unit entries) → Left unit index entries next slips) × (Left unit index entries next slips → (slips ≡ slips_of unit entries))
 
-pub hangs_first : (unit : ℕ) (entries : List Entry) (slips : List Slip) → Hangs unit 0 entries 0 slips
+hangs_first : (unit : ℕ) (entries : List Entry) (slips : List Slip) → Hangs unit 0 entries 0 slips
 hangs_first unit entries slips = (λ e. e, λ e. e)
 
 skip : (unit i : ℕ) (e : Entry) (es : List Entry) → e.unit.0 ≢ unit → slips_from i unit (e ∷ es) ≡ slips_from (suc i) unit es
@@ -43,11 +39,11 @@ rest_takes : (unit i : ℕ) (entries : List Entry) (d : Entry) → i < length en
 rest_takes unit i entries d inside own =
     rw (add-one, drop-cons entries i d inside) (take_one unit i (get_or entries i d) (drop (suc i) entries) own)
 
-pub hangs_skip : (unit i : ℕ) (entries : List Entry) (next : ℕ) (slips : List Slip) (d : Entry) → Hangs unit i entries next slips → i < length entries → (get_or entries i d).unit.0 ≢ unit → Hangs unit (i + 1) entries next slips
+hangs_skip : (unit i : ℕ) (entries : List Entry) (next : ℕ) (slips : List Slip) (d : Entry) → Hangs unit i entries next slips → i < length entries → (get_or entries i d).unit.0 ≢ unit → Hangs unit (i + 1) entries next slips
 hangs_skip unit i entries next slips d h inside other =
     let same = rest_skips unit i entries d inside other in (λ e. h.0 e ∙ same, λ l. h.1 (l ∙ sym same))
 
-pub hangs_take : (unit i : ℕ) (entries : List Entry) (next : ℕ) (slips : List Slip) (d : Entry) (s : Slip) → Hangs unit i entries next slips → i < length entries → (get_or entries i d).unit.0 ≡ unit
+hangs_take : (unit i : ℕ) (entries : List Entry) (next : ℕ) (slips : List Slip) (d : Entry) (s : Slip) → Hangs unit i entries next slips → i < length entries → (get_or entries i d).unit.0 ≡ unit
     → next < length slips → get_or slips next s ≡ slip_at i (get_or entries i d) → Hangs unit (i + 1) entries (next + 1) slips
 hangs_take unit i entries next slips d s h inside own room same =
     let now = rest_takes unit i entries d inside own in
@@ -57,12 +53,12 @@ hangs_take unit i entries next slips d s h inside own room same =
     )
 
 -- no list agrees that has too few slips, or another one
-pub hangs_short : (unit i : ℕ) (entries : List Entry) (next : ℕ) (slips : List Slip) (d : Entry) → Hangs unit i entries next slips → i < length entries → (get_or entries i d).unit.0 ≡ unit
+hangs_short : (unit i : ℕ) (entries : List Entry) (next : ℕ) (slips : List Slip) (d : Entry) → Hangs unit i entries next slips → i < length entries → (get_or entries i d).unit.0 ≡ unit
     → length slips ≤ next → slips ≡ slips_of unit entries → ⊥
 hangs_short unit i entries next slips d h inside own short e =
     let none : drop next slips ≡ [] = drop_all next slips short in cc (none, h.0 e, rest_takes unit i entries d inside own)
 
-pub hangs_other : (unit i : ℕ) (entries : List Entry) (next : ℕ) (slips : List Slip) (d : Entry) (s : Slip) → Hangs unit i entries next slips → i < length entries → (get_or entries i d).unit.0 ≡ unit
+hangs_other : (unit i : ℕ) (entries : List Entry) (next : ℕ) (slips : List Slip) (d : Entry) (s : Slip) → Hangs unit i entries next slips → i < length entries → (get_or entries i d).unit.0 ≡ unit
     → next < length slips → (get_or slips next s ≡ slip_at i (get_or entries i d) → ⊥) → slips ≡ slips_of unit entries → ⊥
 hangs_other unit i entries next slips d s h inside own room differs e =
     let front : drop next slips ≡ get_or slips next s ∷ drop (next + 1) slips = rw add-one (drop-cons slips next s room) in
@@ -70,7 +66,7 @@ hangs_other unit i entries next slips d s h inside own room differs e =
     differs (cc (all))
 
 -- at the end the slips agree exactly where none is left
-pub hangs_last : (unit i : ℕ) (entries : List Entry) (next : ℕ) (slips : List Slip) → Hangs unit i entries next slips → length entries ≤ i → next ≤ length slips
+hangs_last : (unit i : ℕ) (entries : List Entry) (next : ℕ) (slips : List Slip) → Hangs unit i entries next slips → length entries ≤ i → next ≤ length slips
     → ((length slips ≤ next) → slips ≡ slips_of unit entries) × (slips ≡ slips_of unit entries → length slips ≤ next)
 hangs_last unit i entries next slips h past within =
     let done : drop i entries ≡ [] = drop_all i entries past in
@@ -78,6 +74,74 @@ hangs_last unit i entries next slips h past within =
       (λ le. h.1 (drop_all next slips le ∙ sym nothing)),
       (λ e. omega (arith, simp length-drop at (ap length (h.0 e ∙ nothing)))),
     )
+
+-- ---- all lists at once
+
+agrees_first : (unit : ℕ) (entries : List Entry) (next : ℕ) (slips : List Slip) → next ≡ 0 → AgreesTo unit 0 entries next slips
+agrees_first unit entries next slips e =
+    subst (λ (n : ℕ). AgreesTo unit 0 entries n slips) (sym e) record { within = omega arith; hangs = hangs_first unit entries slips }
+
+pub all_first : (entries : List Entry) (ends : List ℕ) (lists : List (List Slip)) → ((unit : ℕ) → get_or ends unit 0 ≡ 0) → AllAgreeTo 0 entries ends lists
+all_first entries ends lists zeros unit inside = agrees_first unit entries (get_or ends unit 0) (get_or lists unit []) (zeros unit)
+
+agrees_skip : (unit i : ℕ) (entries : List Entry) (next : ℕ) (slips : List Slip) (d : Entry) → AgreesTo unit i entries next slips → i < length entries → (get_or entries i d).unit.0 ≢ unit → AgreesTo unit (i + 1) entries next slips
+agrees_skip unit i entries next slips d h inside other = record { within = h.within; hangs = hangs_skip unit i entries next slips d h.hangs inside other }
+
+-- an entry of no list
+pub all_skip : (i : ℕ) (entries : List Entry) (ends : List ℕ) (lists : List (List Slip)) (d : Entry) → AllAgreeTo i entries ends lists → i < length entries → length lists ≤ (get_or entries i d).unit.0 → AllAgreeTo (i + 1) entries ends lists
+all_skip i entries ends lists d h inside none unit listed =
+    agrees_skip unit i entries (get_or ends unit 0) (get_or lists unit []) d (h unit listed) inside (λ e. omega (arith, e))
+
+-- an entry that stands at its place in its unit's list
+pub all_take : (i unit : ℕ) (entries : List Entry) (ends : List ℕ) (lists : List (List Slip)) (d : Entry) (s : Slip) → AllAgreeTo i entries ends lists → i < length entries → (get_or entries i d).unit.0 ≡ unit
+    → unit < length lists → unit < length ends → get_or ends unit 0 < length (get_or lists unit []) → get_or (get_or lists unit []) (get_or ends unit 0) s ≡ slip_at i (get_or entries i d)
+    → AllAgreeTo (i + 1) entries (set ends unit (get_or ends unit 0 + 1)) lists
+all_take i unit entries ends lists d s h inside own listed counted room same other there = go (other == unit) refl
+  where
+    go : (b : Bool) → (other == unit) ≡ b → AgreesTo other (i + 1) entries (get_or (set ends unit (get_or ends unit 0 + 1)) other 0) (get_or lists other [])
+    go true e =
+        let is : unit ≡ other = grind (arith, nat_tests) in
+        subst (λ (u : ℕ). AgreesTo u (i + 1) entries (get_or (set ends unit (get_or ends unit 0 + 1)) u 0) (get_or lists u [])) is
+        (subst (λ (n : ℕ). AgreesTo unit (i + 1) entries n (get_or lists unit [])) (sym (get_or-set_same ends unit (get_or ends unit 0 + 1) 0 counted)) record {
+          within = omega (arith, room);
+          hangs = hangs_take unit i entries (get_or ends unit 0) (get_or lists unit []) d s (h unit listed).hangs inside own room same;
+        })
+    go false e =
+        let differs : other ≢ unit = grind (arith, nat_tests) in
+        subst (λ (n : ℕ). AgreesTo other (i + 1) entries n (get_or lists other [])) (sym (get_or-set_other ends unit other (get_or ends unit 0 + 1) 0 differs))
+        (agrees_skip other i entries (get_or ends other 0) (get_or lists other []) d (h other there) inside (λ e. differs (sym e ∙ own)))
+
+-- the list of one unit
+lists_at : (k u n : ℕ) (entries : List Entry) → u < n → get_or (lists_from k n entries) u [] ≡ slips_of (k + u) entries
+lists_at k u zero entries inside = absurd (omega arith)
+lists_at k zero (suc n) entries inside = let same : k ≡ k + 0 = omega arith in ap (λ (v : ℕ). slips_of v entries) same
+lists_at k (suc u) (suc n) entries inside =
+    let same : suc k + u ≡ k + suc u = omega arith in
+    lists_at (suc k) u n entries (omega arith) ∙ ap (λ (v : ℕ). slips_of v entries) same
+
+pub list_of : (unit n : ℕ) (entries : List Entry) (lists : List (List Slip)) → unit < n → lists ≡ lists_from 0 n entries → get_or lists unit [] ≡ slips_of unit entries
+list_of unit n entries lists inside e =
+    let same : 0 + unit ≡ unit = omega arith in
+    ap (λ (ls : List (List Slip)). get_or ls unit []) e ∙ (lists_at 0 unit n entries inside ∙ ap (λ (u : ℕ). slips_of u entries) same)
+
+-- whoever has a list that is too short, or has another slip, has not the lists of the history
+pub all_short : (i unit n : ℕ) (entries : List Entry) (ends : List ℕ) (lists : List (List Slip)) (d : Entry) → AllAgreeTo i entries ends lists → i < length entries → (get_or entries i d).unit.0 ≡ unit
+    → unit < length lists → unit < n → length (get_or lists unit []) ≤ get_or ends unit 0 → lists ≡ lists_from 0 n entries → ⊥
+all_short i unit n entries ends lists d h inside own listed one short e =
+    hangs_short unit i entries (get_or ends unit 0) (get_or lists unit []) d (h unit listed).hangs inside own short (list_of unit n entries lists one e)
+
+pub all_other : (i unit n : ℕ) (entries : List Entry) (ends : List ℕ) (lists : List (List Slip)) (d : Entry) (s : Slip) → AllAgreeTo i entries ends lists → i < length entries → (get_or entries i d).unit.0 ≡ unit
+    → unit < length lists → unit < n → get_or ends unit 0 < length (get_or lists unit []) → (get_or (get_or lists unit []) (get_or ends unit 0) s ≡ slip_at i (get_or entries i d) → ⊥) → lists ≡ lists_from 0 n entries → ⊥
+all_other i unit n entries ends lists d s h inside own listed one room differs e =
+    hangs_other unit i entries (get_or ends unit 0) (get_or lists unit []) d s (h unit listed).hangs inside own room differs (list_of unit n entries lists one e)
+
+-- a list agrees that has no slip more, and no other one
+pub whole : (unit : ℕ) (entries : List Entry) (next : ℕ) (slips : List Slip) → AgreesTo unit (length entries) entries next slips → next ≡ length slips → slips ≡ slips_of unit entries
+whole unit entries next slips h all = (hangs_last unit (length entries) entries next slips h.hangs (omega arith) h.within).0 (omega (arith, all))
+
+pub not_whole : (unit : ℕ) (entries : List Entry) (next : ℕ) (slips : List Slip) → AgreesTo unit (length entries) entries next slips → next ≢ length slips → slips ≡ slips_of unit entries → ⊥
+not_whole unit entries next slips h more e =
+    let le : length slips ≤ next = (hangs_last unit (length entries) entries next slips h.hangs (omega arith) h.within).1 e in more (omega (arith, le, h.within))
 
 -- ---- the lists of all units
 

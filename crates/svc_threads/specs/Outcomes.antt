@@ -1,5 +1,5 @@
 -- Which slips and which history make an outcome.
-use Rattle.std.specs.Prelude.{◌≡◌, ℕ, zero, suc, ◌==◌, cond, List, [], ◌∷◌}
+use Rattle.std.specs.Prelude.{◌≡◌, ℕ, zero, suc, ◌==◌, ◌≤◌, ◌<◌, cond, List, [], ◌∷◌, length, drop, get_or}
 use Rattle.svc_base.specs.declared.config.Config.{Config}
 use Rattle.svc_image.specs.Image.{Image}
 use Rattle.svc_history_laws.specs.declared.entry.Entry.{Entry}
@@ -35,3 +35,16 @@ pub record IsOutcome (image : Image) (config : Config) (r : Recorded) (lists : L
   pub given : IsGiven image config r
   pub legal : IsLegal r
   pub units : AreTheUnits r lists
+
+-- what is left of a unit's slips from a place on is what is left of the history from an index on
+abbrev pub Left : ℕ → ℕ → List Entry → ℕ → List Slip → Type 0
+Left unit index entries next slips = drop next slips ≡ slips_from index unit (drop index entries)
+
+-- the slips up to a place are the unit's entries up to an index: so all agree exactly where what is left does
+pub record AgreesTo (unit index : ℕ) (entries : List Entry) (next : ℕ) (slips : List Slip) : Type 0 where
+  pub within : next ≤ length slips
+  pub hangs : ((slips ≡ slips_of unit entries) → Left unit index entries next slips) × (Left unit index entries next slips → (slips ≡ slips_of unit entries))
+
+-- the same of each unit's list
+abbrev pub AllAgreeTo : ℕ → List Entry → List ℕ → List (List Slip) → Type 0
+AllAgreeTo index entries ends lists = (unit : ℕ) → unit < length lists → AgreesTo unit index entries (get_or ends unit 0) (get_or lists unit [])

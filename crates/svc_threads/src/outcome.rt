@@ -1,8 +1,8 @@
 // What a run of unit threads leaves, and how it is compared with the history.
 
-ghost use Rattle.std.specs.Prelude.{◌≡◌, ◌⊎◌, map, IfOk, IfErr, Decides};
+ghost use Rattle.std.specs.Prelude.{◌≡◌, ◌≢◌, ◌<◌, ◌^◌, ◌⊎◌, length, map, None, IfOk, IfErr, IfSome, Decides};
 ghost use Rattle.svc_history.specs.Recorded.{IsLegal};
-ghost use Rattle.svc_threads.specs.Outcomes.{slip_at, slips_of, lists_from, AreTheUnits, IsGiven, IsOutcome};
+ghost use Rattle.svc_threads.specs.Outcomes.{slip_at, lists_from, AllAgreeTo, AreTheUnits, IsGiven, IsOutcome};
 
 use crate::fault::RunError;
 use crate::sameness::is_same_image;
@@ -78,15 +78,20 @@ fn are_the_units(recorder: &Recorder, slips: &[Vec<Slip>]) -> bool
     all_agree(units, recorder.entries(), slips)
 }
 
-// There is a list for each unit, and each agrees.
+// There is a list for each unit, and each is that unit's entries with their indexes, in order.
 fn all_agree(units: u32, entries: &[Entry], lists: &[Vec<Slip>]) -> bool
+    requires few { units < 2 ^ 8 }
     ensures { Decides result (map (λ v. v.items) lists.now ≡ lists_from 0 units entries.now) }
 {
     if lists.len() != units as usize {
         return false;
     }
+    let Some(ends) = agreeing(entries, lists) else {
+        return false;
+    };
     for unit in 0..units {
-        if !agrees(unit, entries, lists[unit as usize].as_slice()) {
+        let slips = lists[unit as usize].as_slice();
+        if ends[unit as usize] != slips.len() {
             return false;
         }
     }
@@ -100,22 +105,24 @@ fn is_slip(slip: &Slip, index: usize, entry: &Entry) -> bool
     slip.index == index && is_same(&slip.entry, entry)
 }
 
-// The list is the unit's entries with their indexes, in order.
-fn agrees(unit: u32, entries: &[Entry], slips: &[Slip]) -> bool
-    ensures { Decides result (slips.now ≡ slips_of unit entries.now) }
+// How many slips of each list are its unit's entries with their indexes, in order; nothing where a list has too few, or
+// another one.
+fn agreeing(entries: &[Entry], lists: &[Vec<Slip>]) -> Option<[usize; 256]>
+    ensures some { IfSome result (λ ends. AllAgreeTo (length entries.now) entries.now ends (map (λ v. v.items) lists.now)) }
+    ensures none { result ≡ None → map (λ v. v.items) lists.now ≢ lists_from 0 (length lists.now) entries.now }
 {
-    let mut next = 0usize;
+    let mut ends = [0usize; 256];
     for index in 0..entries.len() {
         let entry = &entries[index];
-        if u32::from(entry.unit.0) == unit {
-            if next >= slips.len() {
-                return false;
+        let unit = usize::from(entry.unit.0);
+        if unit < lists.len() {
+            let slips = lists[unit].as_slice();
+            let next = ends[unit];
+            if next >= slips.len() || !is_slip(&slips[next], index, entry) {
+                return None;
             }
-            if !is_slip(&slips[next], index, entry) {
-                return false;
-            }
-            next += 1;
+            ends[unit] = next + 1;
         }
     }
-    next == slips.len()
+    Some(ends)
 }

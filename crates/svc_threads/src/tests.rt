@@ -15,6 +15,7 @@ mod boards;
 mod full_sets;
 mod gates;
 mod outcomes;
+mod spells;
 mod stalls;
 
 // One step of a script: a unit assigns at a guess, submits a burst of its task, or asks for a commit.

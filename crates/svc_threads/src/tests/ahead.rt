@@ -47,6 +47,28 @@ fn a_burst_made_ahead_is_used_where_it_starts(rt: HostRuntime) -> Result<(), Fai
     Ok(())
 }
 
+// A burst that was started is the one that is submitted, and those that follow it were made ahead.
+#[test]
+fn a_burst_that_was_started_is_submitted(rt: HostRuntime) -> Result<(), Fail> {
+    let image = changed(rt.alloc(), 6_300, 0x0000_006F)?;
+    let other = changed(rt.alloc(), 6_300, 0xFF9F_F06F)?;
+    let lease = first_lease(rt.alloc(), &image)?;
+    let mut ahead = Ahead::new(rt.alloc(), UnitId(0))?;
+    ahead.start(&lease, &image);
+    assert!(rt; ahead.prepare(&image));
+    ahead.start(&lease, &other);
+    let burst = burst_of(ahead.submit(&lease, &other)).ok_or("a submit")?;
+    assert!(rt; burst.start().is_same(&lease.core));
+    assert!(rt; burst.is_of(&image));
+    let next = Lease::new(UnitId(0), lease.epoch, *burst.end());
+    let burst = burst_of(ahead.submit(&next, &other)).ok_or("a submit")?;
+    assert!(rt; burst.is_of(&image));
+    ahead.start(&lease, &other);
+    let burst = burst_of(ahead.submit(&lease, &image)).ok_or("a submit")?;
+    assert!(rt; burst.is_of(&other));
+    Ok(())
+}
+
 // A burst that asks doesn't tell where the next one starts.
 #[test]
 fn nothing_is_made_after_a_burst_that_asks(rt: HostRuntime) -> Result<(), Fail> {
