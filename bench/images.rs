@@ -3,6 +3,7 @@
 //! - `loop`: 400 tasks of 50,187 turns each, one after another at one entry, over registers and a table of 64 words.
 //! - `apart`: 512 tasks, each with an entry and eight data words of its own, of some 8,000 turns that touch registers
 //!   alone, 16 loads, 16 stores and a word put out. No task touches a word that another stores.
+//! - `local`: the same with one load and one store, which come after the other turns.
 //! - `memory`: the same with 200 loads and 100 stores and few other turns; half of the loads are of words that all share.
 //! - `small`, `large`: 150,000 tasks of four turns, with a load and a store, over 100 and over 65,536 data words.
 
@@ -165,10 +166,11 @@ fn put_out(text: &mut Vec<u32>, sum: X) {
     text.extend([addi(10, sum, 0), addi(17, 0, EMIT), ECALL, jalr(0, 1)]);
 }
 
-fn apart() -> Vec<u8> {
-    let mut text = vec![addi(6, 5, 0), addi(28, 0, 16)];
+/// Tasks of so many rounds. A round draws so many numbers, and adds the last one to a word of the task's own.
+fn tasks_that_draw(rounds: i32, draws: i32) -> Vec<u8> {
+    let mut text = vec![addi(6, 5, 0), addi(28, 0, rounds)];
     let round = text.len();
-    text.push(addi(29, 0, 64));
+    text.push(addi(29, 0, draws));
     let number = text.len();
     text.extend(draw(6, 30));
     repeat(&mut text, 29, number);
@@ -204,7 +206,8 @@ fn main() {
     };
     let bytes = match name.as_str() {
         "loop" => long_loop(),
-        "apart" => apart(),
+        "apart" => tasks_that_draw(16, 64),
+        "local" => tasks_that_draw(1, 1_024),
         "memory" => memory(),
         "small" => many_commits(100),
         "large" => many_commits(65_536),

@@ -21,7 +21,7 @@ for name in images plain_twin threads_twin; do
     rustc -O -C codegen-units=1 --edition 2024 -o "$folder/$name" "$root/bench/$name.rs"
 done
 cd "$folder"
-for name in loop apart memory small large; do
+for name in loop local apart memory small large; do
     ./images "$name" "$name.svci"
     ./plain_twin "$name.svci" 1000000 > "$name.expected"
 done
@@ -86,6 +86,7 @@ race_trace() {
 for ((round = 0; round < rounds; round++)); do
     race_seq
     for units in 1 2 4; do
+        race_run local "$units" "local-$units"
         race_run apart "$units" "apart-$units"
         race_run memory "$units" "memory-$units"
     done
@@ -140,6 +141,8 @@ awk -v rounds="$rounds" '
         print "|---|---|---|---|---|---|---|"
         row("seq", "seq, million instructions a second", -1, "%7.2f")
         for (i = 1; i <= 4; i *= 2)
+            row("local-" i, "run, local turns, units: " i ", million events a second", -1, "%7.3f")
+        for (i = 1; i <= 4; i *= 2)
             row("apart-" i, "run, long bursts, units: " i ", million events a second", -1, "%7.3f")
         for (i = 1; i <= 4; i *= 2)
             row("memory-" i, "run, loads and stores, units: " i ", million events a second", -1, "%7.3f")
@@ -156,6 +159,7 @@ awk -v rounds="$rounds" '
         print ""
         printf "| %-58s | quarter | median | three quarters |\n", ""
         print "|---|---|---|---|"
+        spread("local", "local turns")
         spread("apart", "long bursts")
         spread("memory", "loads and stores")
     }' times
