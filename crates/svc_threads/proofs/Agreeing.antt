@@ -1,7 +1,8 @@
 -- Comparing a unit's slips with the history, entry by entry.
-use Rattle.std.proofs.Common.{◌≡◌, ◌≢◌, ℕ, zero, suc, ◌+◌, ◌<◌, ◌≤◌, ◌==◌, Bool, true, false, cond, List, [], ◌∷◌, length, drop, get_or, set, refl, sym, ap, subst, ◌∙◌, arith, add-one, length-drop}
+use Rattle.std.proofs.Common.{◌≡◌, ◌≢◌, ℕ, zero, suc, ◌+◌, ◌<◌, ◌≤◌, ◌==◌, Bool, true, false, cond, Global, List, [], ◌∷◌, map, length, drop, get_or, set, refl, sym, ap, subst, ◌∙◌, arith, add-one, length-drop}
+use Rattle.std.specs.Prelude.{Vec}
 use Rattle.std.proofs.lemmas.Bool.Decides.{nat_tests}
-use Rattle.std.proofs.lemmas.List.{drop_all, get_or-set_same, get_or-set_other}
+use Rattle.std.proofs.lemmas.List.{drop_all, get_or-map, get_or-set_same, get_or-set_other}
 use Rattle.std.proofs.Math.Seq.{drop-cons}
 use Rattle.svc_history_laws.specs.declared.entry.Entry.{Entry}
 use Rattle.svc_history_laws.specs.declared.entry.Slip.{Slip}
@@ -74,6 +75,13 @@ hangs_last unit i entries next slips h past within =
       (λ le. h.1 (drop_all next slips le ∙ sym nothing)),
       (λ e. omega (arith, simp length-drop at (ap length (h.0 e ∙ nothing)))),
     )
+
+abbrev pub items_of : Vec Slip Global → List Slip
+items_of v = v.items
+
+-- the unit's list is the slice that was compared
+pub listed : (lists : List (Vec Slip Global)) (unit : ℕ) (v : Vec Slip Global) (slice : List Slip) → unit < length lists → v ≡ get_or lists unit v → slice ≡ v.items → get_or (map items_of lists) unit [] ≡ slice
+listed lists unit v slice inside is value = get_or-map items_of lists unit v [] inside ∙ (ap items_of (sym is) ∙ sym value)
 
 -- ---- all lists at once
 

@@ -1,13 +1,12 @@
-use Rattle.std.proofs.Common.{arith, rules, Global, refl, ℕ, ◌≡◌, ◌<◌, ◌≤◌, ◌+◌, length, get_or, sym, ap, ◌∙◌, subst, List, [], map, None, Bool, true, false, nat_lt, replicate}
-use Rattle.std.specs.Prelude.{Vec}
+use Rattle.std.proofs.Common.{arith, rules, refl, ℕ, ◌≡◌, ◌<◌, ◌≤◌, ◌+◌, length, get_or, sym, ap, ◌∙◌, subst, List, map, None, Bool, true, false, nat_lt, replicate}
 use Rattle.std.proofs.lemmas.Bool.Decides.{nat_tests}
-use Rattle.std.proofs.lemmas.List.{get_or-map, length-map, get_or-replicate, get_or_past, length-set}
+use Rattle.std.proofs.lemmas.List.{length-map, get_or-replicate, get_or_past, length-set}
 use Rattle.svc_history_laws.specs.declared.entry.Entry.{Entry}
 use Rattle.svc_history_laws.specs.declared.entry.Slip.{Slip}
 use Rattle.svc_history_laws.specs.declared.entry.Kind.TheVariants.{Assign}
 use Rattle.svc_history_laws.specs.declared.entry.ReplyKind.TheVariants.{Assigned}
 use Rattle.svc_threads.specs.Outcomes.{slip_at, AllAgreeTo}
-use Rattle.svc_threads.proofs.Agreeing.{all_first, all_skip, all_take, all_short, all_other}
+use Rattle.svc_threads.proofs.Agreeing.{items_of, listed, all_first, all_skip, all_take, all_short, all_other}
 use Rattle.svc_threads.proofs.outcome.agreeing.Goals as goal
 use Rattle.svc_threads.proofs.outcome.agreeing.Goals.{then-unit-lists+else-next-slips+else-not-is_slip, else-unit-lists, then-next-slips-via-then-next-slips, then-next-slips-via-else-next-slips+then-not-is_slip}
 
@@ -16,13 +15,6 @@ nothing = record { kind = Assign; unit = record { 0 = 0 }; arg = None; local = N
 
 abbrev no_slip : Slip
 no_slip = slip_at 0 nothing
-
-abbrev items_of : Vec Slip Global → List Slip
-items_of v = v.items
-
--- the unit's list is the slice that was compared
-listed : (lists : List (Vec Slip Global)) (unit : ℕ) (v : Vec Slip Global) (slice : List Slip) → unit < length lists → v ≡ get_or lists unit v → slice ≡ v.items → get_or (map items_of lists) unit [] ≡ slice
-listed lists unit v slice inside is value = get_or-map items_of lists unit v [] inside ∙ (ap items_of (sym is) ∙ sym value)
 
 zeros : (unit : ℕ) → ◌≡◌ {A = ℕ} (get_or (replicate 256 0) unit 0) 0
 zeros unit = go (nat_lt unit 256) refl

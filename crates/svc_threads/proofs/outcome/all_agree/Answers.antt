@@ -1,16 +1,7 @@
-use Rattle.std.proofs.Common.{arith, Global, ℕ, suc, ◌≡◌, ◌+◌, ◌-◌, ◌<◌, length, get_or, sym, ap, ◌∙◌, subst, List, [], map}
-use Rattle.std.specs.Prelude.{Vec}
-use Rattle.std.proofs.lemmas.List.{get_or-map, length-map}
-use Rattle.svc_history_laws.specs.declared.entry.Slip.{Slip}
-use Rattle.svc_threads.proofs.Agreeing.{HangsLists, lists_length, lists_next, lists_differ, whole, not_whole}
+use Rattle.std.proofs.Common.{arith, ℕ, suc, ◌≡◌, ◌+◌, ◌-◌, ◌<◌, length, get_or, sym, ap, ◌∙◌, subst, [], map}
+use Rattle.std.proofs.lemmas.List.{length-map}
+use Rattle.svc_threads.proofs.Agreeing.{items_of, listed, HangsLists, lists_length, lists_next, lists_differ, whole, not_whole}
 use Rattle.svc_threads.proofs.outcome.all_agree.Goals as goal
-
-abbrev items_of : Vec Slip Global → List Slip
-items_of v = v.items
-
--- the unit's list is the slice that was compared
-listed : (lists : List (Vec Slip Global)) (unit : ℕ) (v : Vec Slip Global) (slice : List Slip) → unit < length lists → v ≡ get_or lists unit v → slice ≡ v.items → get_or (map items_of lists) unit [] ≡ slice
-listed lists unit v slice inside is value = get_or-map items_of lists unit v [] inside ∙ (ap items_of (sym is) ∙ sym value)
 
 pub returns-then-lists-units : goal.returns-then-lists-units
 returns-then-lists-units c = (
