@@ -9,6 +9,7 @@ pub mod fault;
 mod locked;
 pub mod outcome;
 pub mod port;
+mod room;
 pub mod run;
 mod sameness;
 mod spell;

@@ -7,6 +7,7 @@ use crate::ahead::{Ahead, MOST_AHEAD};
 use crate::board::{BoardPass, BoardRow};
 use crate::fault::RunError;
 use crate::port::{Gate, Phase, Port};
+use crate::room;
 use crossbeam_utils::Backoff;
 use std::alloc::Allocator;
 use std::sync::Wait;
@@ -112,6 +113,9 @@ fn take_turn<P: Port, G: Gate, A: Allocator, R: Wait>(
     ensures err { IfErr result (λ e. e ≡ RunError.Memory) }
 {
     prepare(port, unit, image, ahead);
+    if !port.is_free_for(unit) {
+        room::touch(slips);
+    }
     let glance = port.lease(rt, unit);
     let Ok(glance) = &glance else {
         return Ok(Turn::Left);
