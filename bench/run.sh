@@ -108,13 +108,19 @@ awk -v rounds="$rounds" '
         key = name SUBSEP program SUBSEP clock
         return kept[key, int(1 + share * (count[key] - 1))]
     }
+    # The geometric mean of what a run took, as a share of what one with one unit took in the same round.
+    function paired(image, units,   sum, i) {
+        sum = 0
+        for (i = 1; i <= rounds; i++) sum += log(whole[image "-" units, i] / whole[image "-1", i])
+        return exp(sum / rounds)
+    }
     # The quartiles of the wall times of svcsim for a whole run, as shares of the median with one unit.
     function spread(image, text,   units, one, cells, i) {
         one = median(image "-1", "proved", "whole")
         for (units = 1; units <= 4; units *= 2) {
             cells = ""
             for (i = 1; i <= 3; i++) cells = cells sprintf(" %5.2f |", quantile(image "-" units, "proved", "whole", i / 4) / one)
-            printf "| %-58s |%s\n", text ", units: " units, cells
+            printf "| %-58s |%s %5.2f |\n", text ", units: " units, cells, paired(image, units)
         }
     }
     function row(name, text, scale, form,   cells, i, columns) {
@@ -133,6 +139,7 @@ awk -v rounds="$rounds" '
         keep($1 SUBSEP $2 SUBSEP "wall", $4 / $3)
         keep($1 SUBSEP $2 SUBSEP "cpu", ($5 + $6) / $3)
         keep($1 SUBSEP $2 SUBSEP "whole", $4)
+        if ($2 == "proved") whole[$1, ++seen[$1]] = $4
     }
     END {
         print "Medians of " rounds " rounds. Ratios are of times: below 1 svcsim is faster than the twin."
@@ -155,10 +162,10 @@ awk -v rounds="$rounds" '
             median("commit-65536", "proved", "cpu") / median("commit-100", "proved", "cpu"),
             median("commit-65536", "twin", "cpu") / median("commit-100", "twin", "cpu")
         print ""
-        print "The wall time of a run by svcsim, as a share of the median with one unit:"
+        print "The wall time of a run by svcsim, as a share of the median with one unit, and of the same round with one unit:"
         print ""
-        printf "| %-58s | quarter | median | three quarters |\n", ""
-        print "|---|---|---|---|"
+        printf "| %-58s | quarter | median | three quarters | by rounds |\n", ""
+        print "|---|---|---|---|---|"
         spread("local", "local turns")
         spread("apart", "long bursts")
         spread("memory", "loads and stores")
