@@ -194,7 +194,7 @@ impl Machine {
     }
 
     // The seat of the unit's task.
-    fn seat_of(&self, unit: UnitId) -> Option<&Seat>
+    pub(crate) fn seat_of(&self, unit: UnitId) -> Option<&Seat>
         ensures seat { option_map (λ r. whole_seat r.now) result ≡ seat_at (machine_at self.now) unit.0 }
         ensures idle { is_none result ≡ is_none (seat_place (machine_at self.now) unit.0) }
     {
@@ -247,7 +247,7 @@ fn is_entry(image: &Image, entry: u32) -> bool
 }
 
 // The burst is of the task in the seat, and begins where it stands.
-fn is_current(burst: &Burst, seat: &Seat) -> bool
+pub(crate) fn is_current(burst: &Burst, seat: &Seat) -> bool
     ensures { result ≡ is_current burst.now (Some (whole_seat seat.now)) }
 {
     burst.epoch() == seat.epoch && burst.start().is_same(&seat.core)

@@ -1,13 +1,13 @@
 // One recorder for all units, under its lock.
 
-ghost use Rattle.std.specs.Prelude.{◌≡◌, false, IfOk, IfErr};
+ghost use Rattle.std.specs.Prelude.{◌≡◌, false, IfOk, IfErr, IsTrue};
 ghost use Rattle.std.specs.Arc.{arc_value};
 ghost use Rattle.svc_base.specs.declared.refusal.Refusal.TheVariants as refusal;
 ghost use Rattle.svc_history.specs.Glances.{IsGlance};
 ghost use Rattle.svc_history.specs.Recorded.{Recorded, IsLegal};
 ghost use Rattle.svc_threads.specs.Boards.{knower};
 ghost use Rattle.svc_threads.specs.Counts.{row_of_entries};
-ghost use Rattle.svc_threads.specs.Ports.{IsEntryOf, IsGlanceOfSome, unit_of};
+ghost use Rattle.svc_threads.specs.Ports.{GoesOnInSome, IsEntryOf, IsGlanceOfSome, unit_of};
 
 use crate::baton::{Baton, rest};
 use crate::board::{Board, BoardPass};
@@ -18,6 +18,7 @@ use std::alloc::Global;
 use std::marker::Model;
 use std::sync::{Arc, Mutex, MutexGuard, Wait};
 use svc_base::{OpenError, Refusal, UnitId};
+use svc_core::Burst;
 use svc_history::{Event, Glance, Recorder, Slip};
 
 // How often a thread looks for the baton before it tries for the lock all the same: the one that has it may be held up, or
@@ -107,8 +108,18 @@ impl SharedBus {
         if has_to_wait(glance) {
             self.pass_to_head(rt, unit);
         } else if self.baton.is_due() {
-            self.baton.pass_on(None);
+            let next = self.taken(rt, unit).successor(unit);
+            self.baton.pass_on(next);
         }
+    }
+
+    /// Whether the burst's unit may go on with it, under the lock. The answer is no, too, where the unit's spell ends with its
+    /// next glance.
+    pub fn goes_on<R: Wait>(&self, rt: &R, burst: &Burst) -> bool
+        ensures { IsTrue result → GoesOnInSome burst.now }
+    {
+        let goes_on = self.taken(rt, burst.unit()).goes_on(burst);
+        goes_on && !self.baton.is_due()
     }
 
     /// One event, as the recorder takes it, under the lock. The board shows the new numbers after an accepted event, and is
@@ -231,6 +242,10 @@ impl Port for SharedBus {
 
     fn is_free_for(&self, unit: UnitId) -> bool {
         self.baton.is_for(unit)
+    }
+
+    fn goes_on<R: Wait>(&self, rt: &R, burst: &Burst) -> bool {
+        SharedBus::goes_on(self, rt, burst)
     }
 
     fn apply<R: Wait>(&self, rt: &R, event: Event) -> Result<Slip, Refusal> {

@@ -6,6 +6,7 @@ mod baton;
 pub mod board;
 pub mod bus;
 pub mod fault;
+mod foresight;
 mod locked;
 pub mod outcome;
 pub mod port;

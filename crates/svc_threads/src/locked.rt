@@ -7,7 +7,7 @@ ghost use Rattle.svc_machine_laws.specs.Standing.{refused, reply_to, after_event
 ghost use Rattle.svc_machine.specs.Events.{event_of};
 ghost use Rattle.svc_history_laws.specs.Board.{assigns, board, commits};
 ghost use Rattle.svc_history_laws.specs.Entries.{entry_of};
-ghost use Rattle.svc_history.specs.Glances.{IsGlance};
+ghost use Rattle.svc_history.specs.Glances.{IsGlance, goes_on};
 ghost use Rattle.svc_history.specs.Recorded.{IsLegal, standing_of};
 ghost use Rattle.svc_threads.specs.Boards.{knower, InOrder};
 ghost use Rattle.svc_threads.specs.Counts.{row_of_entries, with_entry, IsSmall};
@@ -17,6 +17,7 @@ use crate::spell::Spell;
 use std::marker::Model;
 use std::sync::{Arc, Wait};
 use svc_base::{Refusal, UnitId};
+use svc_core::Burst;
 use svc_history::{Entry, Event, Glance, Kind, Recorder, Slip};
 
 // How many units there are at most.
@@ -111,6 +112,30 @@ impl Locked {
         None
     }
 
+    // The unit that should go on after this one: one that has no task, and else the one that runs the head.
+    pub(crate) fn successor(&self, unit: UnitId) -> Option<UnitId> {
+        let next = if self.has_idle_unit() {
+            self.idle_unit()
+        } else {
+            self.head()
+        };
+        match next {
+            Some(next) if next != unit => Some(next),
+            _ => None,
+        }
+    }
+
+    // The first unit that has no task.
+    fn idle_unit(&self) -> Option<UnitId> {
+        let machine = self.recorder.machine();
+        for unit in 0..MOST_UNITS {
+            if u32::from(unit) < machine.config().units && machine.lease(UnitId(unit)).is_none() {
+                return Some(UnitId(unit));
+            }
+        }
+        None
+    }
+
     // Whether a unit has no task.
     fn has_idle_unit(&self) -> bool {
         let counts = self.counts;
@@ -125,6 +150,14 @@ impl Locked {
         ensures legal { IsLegal self.now }
     {
         self.recorder.glance(unit)
+    }
+
+    // Whether the burst's unit may go on with it.
+    pub(crate) fn goes_on(&self, burst: &Burst) -> bool
+        ensures goes_on { result ≡ goes_on self.now.machine burst.now }
+        ensures legal { IsLegal self.now }
+    {
+        self.recorder.goes_on(burst)
     }
 
     // The recorder.

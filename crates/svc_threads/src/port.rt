@@ -6,6 +6,7 @@ ghost use Rattle.svc_threads.specs.Ports.{IsEntryOf};
 use crate::board::Board;
 use std::sync::Wait;
 use svc_base::{Refusal, UnitId};
+use svc_core::Burst;
 use svc_history::{Event, Glance, Slip};
 
 /// Where a unit's thread stands.
@@ -38,6 +39,12 @@ pub trait Port {
     /// Whether the unit's thread would come in at once. This is a hint: a thread that would wait has time to make bursts.
     fn is_free_for(&self, _unit: UnitId) -> bool {
         true
+    }
+
+    /// Whether the burst's unit may go on with it without a glance. This is a hint: a burst is submitted only where it is so,
+    /// and a port that never says so is asked for a glance each time.
+    fn goes_on<R: Wait>(&self, _rt: &R, _burst: &Burst) -> bool {
+        false
     }
 
     /// One event, in one step.

@@ -8,8 +8,8 @@ const MOST_EVENTS: u32 = 1_024;
 // How many bursts in a row that ask nothing: another unit can make as many ahead meanwhile.
 const MOST_LOCAL: u32 = 64;
 
-// From how many of them in a row on it takes longer to make them than to pass the lock on.
-const MANY_LOCAL: u32 = 32;
+// From how many turns of a task on it takes longer to make its bursts than to pass the lock on.
+const MANY_TURNS: u32 = 500;
 
 /// What has happened in the spell of a unit.
 #[derive(Drop)]
@@ -20,7 +20,9 @@ pub(crate) struct Spell {
     begins_task: bool,
     // its last bursts, as far as they asked nothing
     local: u32,
-    // the most of these in a row, in this spell and in the one before
+    // the turns of its task
+    turns: u32,
+    // the most turns of a task, in this spell and in the one before
     longest: u32,
     longest_before: u32,
 }
@@ -32,6 +34,7 @@ impl Spell {
             events: 0,
             begins_task: false,
             local: 0,
+            turns: 0,
             longest: 0,
             longest_before: 0,
         }
@@ -42,6 +45,7 @@ impl Spell {
         self.events = 0;
         self.begins_task = false;
         self.local = 0;
+        self.turns = 0;
         self.longest_before = self.longest;
         self.longest = 0;
     }
@@ -55,8 +59,12 @@ impl Spell {
         } else {
             self.local = 0;
         }
-        if self.longest < self.local {
-            self.longest = self.local;
+        if self.begins_task {
+            self.turns = 0;
+        }
+        self.turns = self.turns.wrapping_add(turns_of(entry));
+        if self.longest < self.turns {
+            self.longest = self.turns;
         }
     }
 
@@ -65,13 +73,25 @@ impl Spell {
         self.begins_task
     }
 
-    /// Whether another unit should go on: the spell is long, or its unit has just begun a task and can make many bursts of
-    /// it meanwhile.
+    /// Whether another unit should go on: the spell is long, or its unit has just begun a task, whose bursts it can make
+    /// meanwhile, among tasks of many turns.
     pub(crate) fn is_long(&self) -> bool {
         if self.begins_task {
-            self.longest >= MANY_LOCAL || self.longest_before >= MANY_LOCAL
+            self.longest >= MANY_TURNS || self.longest_before >= MANY_TURNS
         } else {
             self.events >= MOST_EVENTS || self.local >= MOST_LOCAL
         }
+    }
+}
+
+// The turns that an entry tells of, the asked one among them.
+fn turns_of(entry: &Entry) -> u32 {
+    let asked = match entry.ask {
+        Some(true) => 1,
+        _ => 0,
+    };
+    match entry.local {
+        Some(local) => u32::from(local).wrapping_add(asked),
+        None => asked,
     }
 }

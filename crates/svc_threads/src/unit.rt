@@ -36,6 +36,8 @@ enum Tried {
     Closed,
     // There is nothing that the unit can do.
     Waits,
+    // The run has ended.
+    Ended,
 }
 
 // What a unit does next.
@@ -54,8 +56,9 @@ enum Step<'a> {
 /// The body of a unit's thread: at most so many turns. A turn reads the board. Where the last turn stalled and the board
 /// shows the same numbers it stalls again, without the lock. Else the unit does its next event: it assigns with the guess
 /// where it has no task, commits its head where that has ended, and else runs its task by a burst, without the lock, and
-/// submits that; while the lock is another unit's it makes the bursts that follow, too. Where its cache is full it replaces a line in the same turn. It stalls where its task has ended and isn't
-/// the head, and where the line may not go.
+/// submits that; while the lock is another unit's it makes the bursts that follow, too, and submits one of those where the port
+/// says that the task still stands where it begins. Where its cache is full it replaces a line in the same turn. It stalls where
+/// its task has ended and isn't the head, and where the line may not go.
 ///
 /// The slips of the accepted events come back in order. Room for one is made before each event.
 ///
@@ -99,7 +102,7 @@ pub fn run_unit<P: Port, G: Gate, A: Allocator + Copy, R: Wait>(
     Ok(slips)
 }
 
-// Takes a glance, and does what the unit has to do.
+// Does what the unit has to do.
 fn take_turn<P: Port, G: Gate, A: Allocator, R: Wait>(
     rt: &R,
     port: &P,
@@ -116,18 +119,43 @@ fn take_turn<P: Port, G: Gate, A: Allocator, R: Wait>(
     if !port.is_free_for(unit) {
         room::touch(slips);
     }
-    let glance = port.lease(rt, unit);
-    let Ok(glance) = &glance else {
-        return Ok(Turn::Left);
-    };
-    if glance.ended {
-        return Ok(Turn::Left);
-    }
-    let tried = match take_step(rt, port, unit, image, gate, glance, ahead, slips)? {
-        Tried::Refused(Refusal::SetFull(addr)) => replace(rt, port, unit, addr, gate, slips)?,
+    let tried = match go_on(rt, port, unit, image, gate, ahead, slips)? {
+        Tried::Refused(Refusal::SetFull(addr)) => {
+            ahead.take_back();
+            replace(rt, port, unit, addr, gate, slips)?
+        }
         tried => tried,
     };
     Ok(ended(tried))
+}
+
+// Goes on with a burst that was made ahead, where the port confirms it, and else by a glance.
+fn go_on<P: Port, G: Gate, A: Allocator, R: Wait>(
+    rt: &R,
+    port: &P,
+    unit: UnitId,
+    image: &Image,
+    gate: &G,
+    ahead: &mut Ahead<A>,
+    slips: &mut Vec<Slip, A>,
+) -> Result<Tried, RunError>
+    ensures own { All (IsOf unit) slips.old.items → All (IsOf unit) slips.new.items }
+    ensures err { IfErr result (λ e. e ≡ RunError.Memory) }
+{
+    if let Some(event) = ahead.confirmed(rt, port, unit) {
+        return attempt(rt, port, unit, event, gate, slips);
+    }
+    if let Some(slip) = slips.last() {
+        ahead.learn(&slip.entry);
+    }
+    let glance = port.lease(rt, unit);
+    let Ok(glance) = &glance else {
+        return Ok(Tried::Ended);
+    };
+    if glance.ended {
+        return Ok(Tried::Ended);
+    }
+    take_step(rt, port, unit, image, gate, glance, ahead, slips)
 }
 
 // Makes bursts ahead while other units have the lock.
@@ -283,6 +311,6 @@ fn ended(tried: Tried) -> Turn {
         Tried::Accepted => Turn::Went,
         Tried::Refused(Refusal::Pinned) | Tried::Waits => Turn::Stalled,
         Tried::Refused(_) => Turn::Went,
-        Tried::Closed => Turn::Left,
+        Tried::Closed | Tried::Ended => Turn::Left,
     }
 }

@@ -4,9 +4,9 @@ use crate::spell::Spell;
 use std::test::*;
 use svc_history::{Entry, Kind, ReplyKind};
 
-// Counts so many entries of unit 0 with a reply.
-fn count(spell: &mut Spell, entries: u32, kind: Kind, reply: ReplyKind) {
-    let entry = Entry {
+// An entry of unit 0 with a reply.
+fn entry(kind: Kind, reply: ReplyKind) -> Entry {
+    Entry {
         kind,
         unit: UnitId(0),
         arg: None,
@@ -20,7 +20,12 @@ fn count(spell: &mut Spell, entries: u32, kind: Kind, reply: ReplyKind) {
         cause: None,
         first: None,
         squashed: None,
-    };
+    }
+}
+
+// Counts so many of them.
+fn count(spell: &mut Spell, entries: u32, kind: Kind, reply: ReplyKind) {
+    let entry = entry(kind, reply);
     for _ in 0..entries {
         spell.count(&entry);
     }
@@ -50,17 +55,29 @@ fn many_events_are_a_long_spell(rt: HostRuntime) -> Result<(), Fail> {
     Ok(())
 }
 
-// What counts is the longest row of local bursts in this spell and in the one before.
+// Counts so many submits of five turns.
+fn run(spell: &mut Spell, entries: u32) {
+    let mut entry = entry(Kind::Submit, ReplyKind::Loaded);
+    entry.local = Some(4);
+    entry.ask = Some(true);
+    for _ in 0..entries {
+        spell.count(&entry);
+    }
+}
+
+// What counts is the task of the most turns in this spell and in the one before.
 #[test]
-fn a_task_begins_among_tasks_that_run_for_long(rt: HostRuntime) -> Result<(), Fail> {
+fn a_task_begins_among_tasks_of_many_turns(rt: HostRuntime) -> Result<(), Fail> {
     let mut spell = Spell::new();
-    count(&mut spell, 31, Kind::Submit, ReplyKind::Ran);
-    count(&mut spell, 1, Kind::Assign, ReplyKind::Assigned);
-    assert!(rt; spell.begins_task());
-    assert!(rt; !spell.is_long());
-    count(&mut spell, 32, Kind::Submit, ReplyKind::Ran);
+    for _ in 0..2 {
+        run(&mut spell, 99);
+        count(&mut spell, 1, Kind::Assign, ReplyKind::Assigned);
+        assert!(rt; spell.begins_task());
+        assert!(rt; !spell.is_long());
+    }
+    run(&mut spell, 100);
     assert!(rt; !spell.begins_task());
-    count(&mut spell, 1, Kind::Submit, ReplyKind::Emitted);
+    assert!(rt; !spell.is_long());
     count(&mut spell, 1, Kind::Assign, ReplyKind::Assigned);
     assert!(rt; spell.is_long());
     spell.begin();
