@@ -88,14 +88,18 @@ fn lease_of<R: Wait>(rt: &R, bus: &SharedBus, unit: u8) -> Result<Lease, Fail> {
     Ok(glance.lease.ok_or("a task")?)
 }
 
+// More bursts than the tasks here have.
+const MOST: u32 = 9;
+
 // Makes the bursts that follow a lease's, and counts them.
 fn made_ahead(ahead: &mut Ahead<Global>, lease: &Lease, image: &Image) -> u32 {
     ahead.start(lease, image);
-    let mut made: u32 = 0;
-    while made < 9 && ahead.prepare(image) {
-        made += 1;
+    for made in 0..MOST {
+        if !ahead.prepare(image) {
+            return made;
+        }
     }
-    made
+    MOST
 }
 
 // The sample of one task, with other words in place of its store and its load.
