@@ -41,8 +41,8 @@ pub trait Port {
         true
     }
 
-    /// Whether the burst's unit may go on with it without a glance. This is a hint: a burst is submitted only where it is so,
-    /// and a port that never says so is asked for a glance each time.
+    /// Whether the burst's unit may go on with it without a glance. This is a hint: where the answer is no, the unit's thread
+    /// takes a glance, and where it was wrong to say yes, the burst is refused.
     fn goes_on<R: Wait>(&self, _rt: &R, _burst: &Burst) -> bool {
         false
     }
