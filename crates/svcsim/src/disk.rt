@@ -1,12 +1,11 @@
 //! What the program takes from the system: the words of its command line, and the files of the disk.
 
 ghost use Rattle.std.specs.Prelude.{◌≡◌, IfErr};
-ghost use Rattle.svcsim.specs.declared.faults.Fault.TheVariants.{File};
+ghost use Rattle.svc_program.specs.declared.faults.Fault.TheVariants.{File};
 
-use crate::faults::Fault;
-use crate::files::{FileFault, Files};
 use std::rt::{self, Env};
 use std::{env, fs};
+use svc_program::{Fault, FileFault, Files};
 
 /// The files of the disk. A name is a path.
 #[derive(Drop)]

@@ -1,22 +1,12 @@
-//! `svcsim`: the command line over the simulator.
+//! `svcsim`: the program over the words of its command line, the disk and the standard streams.
 #![tactic(auto)]
 
-mod check;
-mod command;
 mod disk;
-mod execute;
-mod faults;
-mod files;
-mod request;
-mod run;
-mod script;
-mod sequential;
-mod summary;
 
 use disk::{Disk, words_of};
-use execute::execute;
-use faults::tell;
 use std::process::ExitCode;
+use svc_command::execute;
+use svc_program::tell;
 
 fn main(rt: HostRuntime) -> ExitCode {
     let mut err = rt.stderr();

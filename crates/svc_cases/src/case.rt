@@ -1,0 +1,94 @@
+//! A line of the list of cases.
+
+use crate::error::CaseError;
+use crate::outcome::Outcome;
+use std::alloc::{AllocError, Global};
+use std::fs;
+use std::rt::Files;
+
+/// One run of the program, and what is wanted of it: the fields of a line of the list.
+#[derive(Clone, Copy)]
+pub struct Case<'a> {
+    /// What the case is called.
+    pub name: &'a str,
+    // The wanted status, the file of the wanted standard output, the wanted standard error without its last line feed,
+    // and, as NAME=FILE, the name of the saved file and the file that has its wanted text. An empty field wants nothing.
+    status: &'a str,
+    out: &'a str,
+    err: &'a str,
+    saved: &'a str,
+    // The command line after the program's name.
+    words: &'a str,
+}
+
+impl<'a> Case<'a> {
+    /// The case of a line, which has six fields.
+    pub fn of(line: &'a str) -> Option<Case<'a>> {
+        let mut fields = line.split(',');
+        let case = Case {
+            name: fields.next()?,
+            status: fields.next()?,
+            out: fields.next()?,
+            err: fields.next()?,
+            saved: fields.next()?,
+            words: fields.next()?,
+        };
+        match fields.next() {
+            None => Some(case),
+            Some(_) => None,
+        }
+    }
+
+    /// The words of the command line, the program's name first.
+    pub fn line(&self, alloc: Global) -> Result<Vec<String>, AllocError> {
+        let mut words = Vec::new(alloc);
+        words.push(String::from_str(alloc, "svcsim")?)?;
+        for word in self.words.split_whitespace() {
+            words.push(String::from_str(alloc, word)?)?;
+        }
+        Ok(words)
+    }
+
+    /// What is wanted of the run.
+    ///
+    /// Errors: [`CaseError::List`], where the status is no number; else a file that isn't read, or want of memory.
+    pub fn wanted<R: Files + AllocGlobal>(&self, rt: &R) -> Result<Outcome, CaseError> {
+        let Ok(status) = self.status.parse::<u8>() else {
+            return Err(CaseError::List);
+        };
+        Ok(Outcome {
+            status,
+            out: text_of(rt, self.out)?,
+            err: line_of(rt.alloc(), self.err)?,
+            saved: saved_of(rt, self.saved)?,
+        })
+    }
+}
+
+// The bytes of a file, none of no name.
+fn text_of<R: Files + AllocGlobal>(rt: &R, name: &str) -> Result<Vec<u8>, CaseError> {
+    if name.is_empty() {
+        return Ok(Vec::new(rt.alloc()));
+    }
+    let bytes = fs::read(rt, name)?;
+    Ok(bytes)
+}
+
+// A text as a line, no bytes of no text.
+fn line_of(alloc: Global, text: &str) -> Result<Vec<u8>, AllocError> {
+    let mut line = Vec::from_slice(alloc, text.as_bytes())?;
+    if !text.is_empty() {
+        line.push(b'\n')?;
+    }
+    Ok(line)
+}
+
+// What is to be saved, as a saved file is shown: its name as a line, and then its text.
+fn saved_of<R: Files + AllocGlobal>(rt: &R, saved: &str) -> Result<Vec<u8>, CaseError> {
+    let Some((name, file)) = saved.split_once('=') else {
+        return Ok(Vec::new(rt.alloc()));
+    };
+    let mut shown = line_of(rt.alloc(), name)?;
+    shown.extend_from_slice(&fs::read(rt, file)?)?;
+    Ok(shown)
+}

@@ -1,0 +1,33 @@
+//! Why the cases can't be run.
+
+use std::alloc::{AllocError, AllocFailed};
+use std::io;
+
+/// Why the cases can't be run.
+#[derive(Debug, Drop)]
+pub enum CaseError {
+    /// A line of a list isn't one of its form.
+    List,
+    /// A file of the folder isn't read, or standard output fails.
+    File,
+    /// Memory ran out.
+    Memory,
+}
+
+impl From<io::Error> for CaseError {
+    fn from(_error: io::Error) -> CaseError {
+        CaseError::File
+    }
+}
+
+impl From<AllocError> for CaseError {
+    fn from(_error: AllocError) -> CaseError {
+        CaseError::Memory
+    }
+}
+
+impl<T: Drop> From<AllocFailed<T>> for CaseError {
+    fn from(_error: AllocFailed<T>) -> CaseError {
+        CaseError::Memory
+    }
+}

@@ -1,0 +1,48 @@
+//! The files of a case: those of the folder, which are only read, and what the run saves, which stays in memory.
+
+use crate::images::image;
+use std::rt;
+use svc_program::{FileFault, Files};
+
+/// The files of one run.
+#[derive(Drop)]
+pub struct Folder<'a, R> {
+    rt: &'a R,
+    images: &'a str,
+    saved: Vec<u8>,
+}
+
+impl<'a, R: AllocGlobal> Folder<'a, R> {
+    /// The files of the folder and the images of this list, before anything is saved.
+    pub fn new(rt: &'a R, images: &'a str) -> Folder<'a, R> {
+        Folder {
+            rt,
+            images,
+            saved: Vec::new(rt.alloc()),
+        }
+    }
+
+    /// What was saved: each file's name as a line, and then its text.
+    pub fn saved(self) -> Vec<u8> {
+        let Folder { saved, .. } = self;
+        saved
+    }
+}
+
+impl<R: rt::Files + AllocGlobal> Files for Folder<'_, R> {
+    fn load(&mut self, name: &str) -> Result<Vec<u8>, FileFault> {
+        image(self.rt, self.images, name).map_err(|_| FileFault)
+    }
+
+    fn save(&mut self, name: &str, bytes: &[u8]) -> Result<(), FileFault> {
+        // A folder that isn't there takes no file.
+        if name.contains('/') {
+            return Err(FileFault);
+        }
+        self.saved
+            .extend_from_slice(name.as_bytes())
+            .map_err(|_| FileFault)?;
+        self.saved.push(b'\n').map_err(|_| FileFault)?;
+        self.saved.extend_from_slice(bytes).map_err(|_| FileFault)
+    }
+}

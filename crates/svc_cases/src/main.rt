@@ -1,0 +1,92 @@
+//! Runs each case of a list through the program, over files in memory, and says of each that it is as wanted, or where
+//! it first differs.
+#![tactic(auto)]
+
+mod case;
+mod error;
+mod folder;
+mod images;
+mod outcome;
+
+use case::Case;
+use error::CaseError;
+use folder::Folder;
+use outcome::{Outcome, Part};
+use std::fs;
+use std::rt::Files;
+use std::sync::Wait;
+use std::thread::Threads;
+use svc_command::execute;
+
+fn main(rt: HostRuntime) -> Result<(), CaseError> {
+    let list = fs::read_to_string(&rt, "cases.csv")?;
+    let images = fs::read_to_string(&rt, "images.csv")?;
+    for line in list.lines().skip(1) {
+        let Some(case) = Case::of(line) else {
+            return Err(CaseError::List);
+        };
+        let wanted = case.wanted(&rt)?;
+        let found = run(&rt, &case, &images)?;
+        tell(&rt, case.name, &found, &wanted)?;
+    }
+    Ok(())
+}
+
+// Runs the program by the case's words.
+fn run<R: Files + Threads + Wait + Sync + AllocGlobal>(
+    rt: &R,
+    case: &Case<'_>,
+    images: &str,
+) -> Result<Outcome, CaseError> {
+    let alloc = rt.alloc();
+    let words = case.line(alloc)?;
+    let mut files = Folder::new(rt, images);
+    let mut out = Vec::new(alloc);
+    let mut err = Vec::new(alloc);
+    let status = execute(rt, alloc, &words, &mut files, &mut out, &mut err);
+    Ok(Outcome {
+        status,
+        out,
+        err,
+        saved: files.saved(),
+    })
+}
+
+// Says that a case is as wanted, or the first part and line in which it isn't.
+fn tell<R: Print>(rt: &R, name: &str, found: &Outcome, wanted: &Outcome) -> Result<(), CaseError> {
+    match found.first_other_part(wanted) {
+        None => println!(rt; "{name} ok")?,
+        Some(Part::Status) => println!(rt;
+            "{name}: status {} and not {}",
+            found.status, wanted.status
+        )?,
+        Some(Part::Out) => tell_line(rt, name, "standard output", &found.out, &wanted.out)?,
+        Some(Part::Err) => tell_line(rt, name, "standard error", &found.err, &wanted.err)?,
+        Some(Part::Saved) => tell_line(rt, name, "the saved file", &found.saved, &wanted.saved)?,
+    }
+    Ok(())
+}
+
+// Tells the first line in which two texts differ.
+fn tell_line<R: Print>(
+    rt: &R,
+    name: &str,
+    part: &str,
+    found: &[u8],
+    wanted: &[u8],
+) -> Result<(), CaseError> {
+    let found = std::str::from_utf8(found).unwrap_or("(no text)");
+    let wanted = std::str::from_utf8(wanted).unwrap_or("(no text)");
+    let mut others = wanted.lines();
+    for line in found.lines() {
+        let other = others.next();
+        if other != Some(line) {
+            let other = other.unwrap_or("(its end)");
+            println!(rt; "{name}: {part} has '{line}' and not '{other}'")?;
+            return Ok(());
+        }
+    }
+    let other = others.next().unwrap_or("(its end)");
+    println!(rt; "{name}: {part} ends, and lacks '{other}'")?;
+    Ok(())
+}

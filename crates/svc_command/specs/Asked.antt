@@ -1,0 +1,46 @@
+-- What the words of a command line may ask for.
+use Rattle.std.specs.Prelude.{◌≡◌, ◌≤◌, ◌↔◌, ◌⊎◌, ⊤, ℕ, List, Some, length, map, codes, slice_get, string_bytes}
+use Rattle.std.specs.declared.string.String.{String}
+use Rattle.svc_program.specs.declared.request.Source.TheVariants as source
+use Rattle.svc_program.specs.declared.request.Request.{Request}
+use Rattle.svc_program.specs.declared.request.Request.TheVariants as request
+
+-- the texts of words, the program's name first
+abbrev pub texts : List String → List (List ℕ)
+texts words = map string_bytes words
+
+-- a word by which help is asked for
+abbrev pub IsHelpWord : List ℕ → Type 0
+IsHelpWord word = (word ≡ codes "help") ⊎ (word ≡ codes "-h") ⊎ (word ≡ codes "--help")
+
+-- a word by which the version is asked for
+abbrev pub IsVersionWord : List ℕ → Type 0
+IsVersionWord word = (word ≡ codes "-V") ⊎ (word ≡ codes "--version")
+
+-- one of the words is of this kind
+abbrev pub Has : (List ℕ → Type 0) → List (List ℕ) → Type 0
+Has kind words = (k : ℕ) × (word : List ℕ) × (slice_get words k ≡ Some word) × kind word
+
+-- the first word after the program's name is this one
+abbrev pub IsNamed : List ℕ → List (List ℕ) → Type 0
+IsNamed name words = slice_get words 1 ≡ Some name
+
+-- to run the built-in image
+abbrev pub IsBuiltInRun : Request → Type 0
+IsBuiltInRun (request.Run source.BuiltIn config trace) = ⊤
+IsBuiltInRun _ = ⊥
+
+-- the words name what is asked for: help or the version by a word of its own, and else the subcommand
+abbrev pub Names : List (List ℕ) → Request → Type 0
+Names words (request.Help text) = Has IsHelpWord words
+Names words request.Version = Has IsVersionWord words
+Names words (request.Run source.BuiltIn config trace) = length words ≤ 1
+Names words (request.Run (source.File name) config trace) = IsNamed (codes "run") words
+Names words (request.Sequential from tasks) = IsNamed (codes "seq") words
+Names words (request.Script from config events) = IsNamed (codes "script") words
+Names words (request.Check from config trace) = IsNamed (codes "check") words
+
+-- what the words of a line may ask for: what they name, and the run of the built-in image exactly where there is none but the program's name
+pub record MayAsk (words : List (List ℕ)) (asked : Request) : Type 0 where
+  pub named : Names words asked
+  pub built_in : IsBuiltInRun asked ↔ (length words ≤ 1)

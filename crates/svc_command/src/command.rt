@@ -1,0 +1,170 @@
+//! The command line, as `clap` reads it: its subcommands, arguments and options, and their help.
+
+use clap::{Arg, ArgAction, Command};
+use std::alloc::{AllocError, Global};
+use svc_program::VERSION;
+
+/// The greatest number of tasks that may be asked of the plain runner.
+const MAX_TASKS: i64 = 1_000_000;
+
+const ABOUT: &str =
+    "Simulates processing units that run the tasks of one sequential program at once, over caches that
+keep speculative versions of its data.
+
+The program is an image: its instructions (RV32I), its data, and the entries at which its run is cut
+into tasks. A run prints a summary, one row of two fields a line:
+
+  out,W      a word that the program put out, in order
+  tasks,K    how many tasks were done, from the first on
+  exit,C     the program exited with this code; or
+  trap,T     its last task trapped with this number; or
+  full,E     no more events were allowed, and the task at this address was next; or
+  open,E     the run could go on: the tasks or turns that were asked for are spent, and the task at
+             this address is next
+
+Without any words, svcsim runs an image of one task that it brings along.";
+
+const STATUSES: &str =
+    "Exit status: 0 where the image's program came to its exit, or a trace is sound; 2 at any other ending;
+and 1 at a fault, which standard error names.";
+
+const RUN: &str = "Runs an image on the simulated machine, and prints the summary.
+
+The machine has units with private caches. A task is assigned to a unit, takes its turns in bursts, and
+is committed when it is the oldest and has ended. Each of these is one event. The summary is that of the
+committed tasks. After it stand counts of the events: of each kind, of each supplier of a word that was
+read, and of each cause for which tasks were squashed.";
+
+const SEQ: &str = "Runs an image's tasks one after another on plain memory, and prints the summary.
+
+There are no units, caches or events. This is what any run of the same image has to agree with.";
+
+const SCRIPT: &str =
+    "Applies the events of a script to a machine in their order, and prints a line for each, and then the
+summary.
+
+A script is a CSV text with the header kind,unit,arg. Its rows are:
+
+  assign,U,E    begins a task on unit U at the entry E
+  submit,U,T    takes U's task on by at most T turns (and 63), and submits that burst
+  replace,U,A   takes the line of data word A out of U's cache
+  cancel,U,     squashes U's task and all after it
+  commit,U,     commits the oldest task; U asks for it
+  take,U,T      takes U's task on, and keeps that burst, so that it can be submitted late
+  give,U,       submits the burst that is kept for U
+
+An accepted event prints its row of a trace, a refused one refused,N with the number of the refusal. A
+burst that is kept prints taken,L,A: its local turns, and 1 where it asks for the bus, else 0. Where there
+is nothing to keep or to give, none is printed.";
+
+const CHECK: &str = "Replays a trace from a machine before any event, and compares each of its rows.
+
+It prints sound,N for the N rows of a sound trace. Else it names the first faulty row, counted from 0, as
+trace fault K at entry I. K is 1 where memory ran out, 2 where the row's event is refused there, and 3
+where the event is answered otherwise. Give the options that the trace was made with.";
+
+/// The whole command line.
+pub fn command<'a>(alloc: Global) -> Result<Command<'a>, AllocError> {
+    Command::new(alloc, "svcsim")
+        .bin_name("svcsim")?
+        .version(VERSION)
+        .about("Simulates a multiprocessor with speculative versioning caches")
+        .long_about(ABOUT)
+        .after_help(STATUSES)
+        .subcommand_required(true)
+        .subcommand(run(alloc)?)?
+        .subcommand(sequential(alloc)?)?
+        .subcommand(script(alloc)?)?
+        .subcommand(check(alloc)?)
+}
+
+// `run`: the simulator.
+fn run<'a>(alloc: Global) -> Result<Command<'a>, AllocError> {
+    let trace = Arg::new(alloc, "trace")
+        .long("trace")
+        .value_name("FILE")
+        .action(ArgAction::Set)
+        .help("Saves the trace in this file: a CSV text with a row for each event");
+    let command = Command::new(alloc, "run")
+        .about("Runs an image on the simulated machine, and prints the summary")
+        .long_about(RUN)
+        .after_help(STATUSES)
+        .arg(image(alloc))?
+        .arg(trace)?;
+    with_configuration(alloc, command)
+}
+
+// `script`: the simulator, one given event after another.
+fn script<'a>(alloc: Global) -> Result<Command<'a>, AllocError> {
+    let command = Command::new(alloc, "script")
+        .about("Applies the events of a script, and prints a line for each, and the summary")
+        .long_about(SCRIPT)
+        .after_help(STATUSES)
+        .arg(image(alloc))?
+        .arg(file(alloc, "EVENTS").help("The script's file"))?;
+    with_configuration(alloc, command)
+}
+
+// `check`: a trace, replayed.
+fn check<'a>(alloc: Global) -> Result<Command<'a>, AllocError> {
+    let command = Command::new(alloc, "check")
+        .about("Replays a trace, and says whether it is sound")
+        .long_about(CHECK)
+        .after_help(STATUSES)
+        .arg(image(alloc))?
+        .arg(file(alloc, "TRACE").help("The trace's file"))?;
+    with_configuration(alloc, command)
+}
+
+// `seq`: the plain runner.
+fn sequential<'a>(alloc: Global) -> Result<Command<'a>, AllocError> {
+    let tasks = Arg::new(alloc, "tasks")
+        .long("tasks")
+        .value_name("K")
+        .required(true)
+        .action(ArgAction::Set)
+        .value_parser(clap::value_parser!(u32).range(..=MAX_TASKS))
+        .help("How many tasks are run at most, from the first on: 0 to 1000000");
+    Command::new(alloc, "seq")
+        .about("Runs an image's tasks one after another on plain memory, and prints the summary")
+        .long_about(SEQ)
+        .after_help(STATUSES)
+        .arg(image(alloc))?
+        .arg(tasks)
+}
+
+// The image's file.
+fn image<'a>(alloc: Global) -> Arg<'a> {
+    file(alloc, "IMAGE").help("The image's file")
+}
+
+// A file that has to be named.
+fn file<'a>(alloc: Global, name: &'a str) -> Arg<'a> {
+    Arg::new(alloc, name).required(true).action(ArgAction::Set)
+}
+
+// A command with an option for each number of a configuration.
+fn with_configuration<'a>(alloc: Global, command: Command<'a>) -> Result<Command<'a>, AllocError> {
+    let units = "How many processing units there are: 1 to 16";
+    let sets = "How many sets each unit's cache has: a power of two, 1 to 256";
+    let ways = "How many lines a set holds: 1 to 4";
+    let events = "How many events are accepted at most: 1 to 1000000";
+    let turns =
+        "How many turns each unit takes at most, with an event or two in each: 1 to 10000000";
+    command
+        .arg(number(alloc, "units", "4").help(units))?
+        .arg(number(alloc, "sets", "16").help(sets))?
+        .arg(number(alloc, "ways", "2").help(ways))?
+        .arg(number(alloc, "events", "100000").help(events))?
+        .arg(number(alloc, "turns", "1000000").help(turns))
+}
+
+// An option that takes a number.
+fn number<'a>(alloc: Global, name: &'a str, default: &'a str) -> Arg<'a> {
+    Arg::new(alloc, name)
+        .long(name)
+        .value_name("N")
+        .action(ArgAction::Set)
+        .value_parser(clap::value_parser!(u32))
+        .default_value(default)
+}

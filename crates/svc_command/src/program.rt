@@ -1,0 +1,49 @@
+//! The program over any words, files and streams.
+
+ghost use Rattle.std.specs.Prelude.{◌≡◌, ◌≢◌, ◌⊎◌, ◌≤◌, IfOk, IfErr};
+ghost use Rattle.svc_program.specs.Faults.{IsReportFault};
+ghost use Rattle.svc_program.specs.Requests.{Does};
+ghost use Rattle.svc_command.specs.Asked.{MayAsk, texts};
+
+use crate::reading::request_of;
+use std::alloc::Global;
+use std::io::Write;
+use std::sync::Wait;
+use std::thread::Threads;
+use svc_program::{Fault, Files, Request, perform, tell};
+
+/// Does what the words of a command line ask for, of which the first is the program's name, and answers
+/// the exit status: 0 where the run came to the program's exit, a trace was sound, or help or the version was asked for,
+/// 1 at a fault, which is told on `err`, and 2 at any other ending. The first fault is told, looked for in this order:
+/// the words, the configuration, the image, the script or trace, the opening of the machine, the run, the output.
+pub fn execute<R: Threads + Wait + Sync, F: Files, O: Write, E: Write>(
+    rt: &R,
+    alloc: Global,
+    words: &[String],
+    files: &mut F,
+    out: &mut O,
+    err: &mut E,
+) -> u8
+    ensures done { result ≢ 1 → (request : Request) × MayAsk (texts words.now) request × Does request (F.held files.old) (F.held files.new) (O.contents out.old) (O.contents out.new) result }
+    ensures status { result ≤ 2 }
+{
+    match answer(rt, alloc, words, files, out) {
+        Ok(status) => status,
+        Err(fault) => tell(&fault, err),
+    }
+}
+
+// Does what the words ask for.
+fn answer<R: Threads + Wait + Sync, F: Files, O: Write>(
+    rt: &R,
+    alloc: Global,
+    words: &[String],
+    files: &mut F,
+    out: &mut O,
+) -> Result<u8, Fault>
+    ensures done { IfOk result (λ status. (request : Request) × MayAsk (texts words.now) request × Does request (F.held files.old) (F.held files.new) (O.contents out.old) (O.contents out.new) status) }
+    ensures silent { IfErr result (λ fault. IsReportFault fault ⊎ (out.new ≡ out.old)) }
+{
+    let request = request_of(alloc, words)?;
+    perform(rt, alloc, request, files, out)
+}

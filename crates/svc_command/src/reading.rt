@@ -1,0 +1,140 @@
+//! What the words of a command line ask for.
+
+ghost use Rattle.std.specs.Prelude.{◌≡◌, ◌≢◌, ◌<◌, ◌≤◌, IfOk, IfErr, IsTrue, length, codes};
+ghost use Rattle.svc_program.specs.Faults.{IsReportFault};
+ghost use Rattle.svc_command.specs.Asked.{Has, IsBuiltInRun, IsHelpWord, IsNamed, IsVersionWord, MayAsk, Names, texts};
+
+use crate::command::command;
+use clap::error::ErrorKind;
+use clap::{ArgMatches, Error};
+use std::alloc::Global;
+use svc_base::Config;
+use svc_program::{Fault, Request, Source};
+
+/// What these words ask for, of which the first is the program's name.
+///
+/// Errors: a mistake in the words, told by the text of their parser, before one in the configuration.
+pub fn request_of<'a>(alloc: Global, words: &'a [String]) -> Result<Request<'a>, Fault>
+    ensures { IfOk result (MayAsk (texts words.now)) }
+{
+    if words.len() <= 1 {
+        return built_in();
+    }
+    match command(alloc)?.try_get_matches_from(words) {
+        Ok(matches) => asked(words, &matches),
+        Err(error) => unread(alloc, words, &error),
+    }
+}
+
+// The run of the built-in image, by one unit.
+fn built_in<'a>() -> Result<Request<'a>, Fault>
+    ensures { IfOk result IsBuiltInRun }
+{
+    Ok(Request::Run {
+        image: Source::BuiltIn,
+        config: Config::new(1, 16, 2, 100_000, 1_000_000)?,
+        trace: None,
+    })
+}
+
+// What the parser answers without a subcommand: the help or the version, or a mistake.
+fn unread<'a>(alloc: Global, words: &[String], error: &Error) -> Result<Request<'a>, Fault>
+    ensures named { IfOk result (Names (texts words.now)) }
+    ensures other { IfOk result (λ asked. ¬ (IsBuiltInRun asked)) }
+{
+    let text = format!(in alloc; "{error}")?;
+    match error.kind() {
+        ErrorKind::DisplayHelp if asks_for_help(words) => Ok(Request::Help(text)),
+        ErrorKind::DisplayVersion if asks_for_version(words) => Ok(Request::Version),
+        _ => Err(Fault::CommandLine(text)),
+    }
+}
+
+// One of the words asks for help.
+fn asks_for_help(words: &[String]) -> bool
+    ensures { IsTrue result → Has IsHelpWord (texts words.now) }
+{
+    for word in words {
+        if matches!(word.as_str(), "help" | "-h" | "--help") {
+            return true;
+        }
+    }
+    false
+}
+
+// One of the words asks for the version.
+fn asks_for_version(words: &[String]) -> bool
+    ensures { IsTrue result → Has IsVersionWord (texts words.now) }
+{
+    for word in words {
+        if matches!(word.as_str(), "-V" | "--version") {
+            return true;
+        }
+    }
+    false
+}
+
+// The first word after the program's name is this one.
+fn is_named(words: &[String], name: &str) -> bool
+    ensures { IsTrue result → IsNamed name.now (texts words.now) }
+{
+    match words.get(1) {
+        Some(word) => word.as_str() == name,
+        None => false,
+    }
+}
+
+// What the subcommand asks for.
+fn asked<'a>(words: &[String], matches: &ArgMatches<'a>) -> Result<Request<'a>, Fault>
+    ensures named { IfOk result (Names (texts words.now)) }
+    ensures other { IfOk result (λ asked. ¬ (IsBuiltInRun asked)) }
+{
+    match matches.subcommand() {
+        Some(("run", given)) if is_named(words, "run") => Ok(Request::Run {
+            image: image(given)?,
+            config: configuration(given)?,
+            trace: given.get_str("trace"),
+        }),
+        Some(("seq", given)) if is_named(words, "seq") => Ok(Request::Sequential {
+            image: image(given)?,
+            tasks: number(given, "tasks")?,
+        }),
+        Some(("script", given)) if is_named(words, "script") => Ok(Request::Script {
+            image: image(given)?,
+            config: configuration(given)?,
+            events: given.get_str("EVENTS").ok_or(Fault::File)?,
+        }),
+        Some(("check", given)) if is_named(words, "check") => Ok(Request::Check {
+            image: image(given)?,
+            config: configuration(given)?,
+            trace: given.get_str("TRACE").ok_or(Fault::File)?,
+        }),
+        // The parser reads no other subcommand, and no line that begins otherwise.
+        _ => Err(Fault::File),
+    }
+}
+
+// The image's file.
+fn image<'a>(given: &ArgMatches<'a>) -> Result<Source<'a>, Fault>
+    ensures { IfOk result (λ source. source ≢ Source.BuiltIn) }
+{
+    let name = given.get_str("IMAGE").ok_or(Fault::File)?;
+    Ok(Source::File(name))
+}
+
+// The configuration that the options give.
+fn configuration(given: &ArgMatches<'_>) -> Result<Config, Fault> {
+    let config = Config::new(
+        number(given, "units")?,
+        number(given, "sets")?,
+        number(given, "ways")?,
+        number(given, "events")?,
+        number(given, "turns")?,
+    )?;
+    Ok(config)
+}
+
+// The number of an option. Each is required or has a default, so a line that was read has it.
+fn number(given: &ArgMatches<'_>, name: &str) -> Result<u32, Fault> {
+    given.get_one::<u32>(name).ok_or(Fault::File)
+}

@@ -1,0 +1,126 @@
+-- What a script does, and what is printed of it.
+use Rattle.std.specs.Prelude.{◌≡◌, ℕ, zero, suc, not, cond, nat_lt, List, [], ◌∷◌, ◌++◌, Option, Some, None, codes, decimal, slice_get, slice_set, Result, Err, IfOk, IsOk, replicate, length, unwrap_or}
+use Rattle.std.specs.Io.KnownBytes.{Appends}
+use Rattle.svc_base.specs.declared.config.Config.{Config}
+use Rattle.svc_base.specs.declared.ids.UnitId.{UnitId}
+use Rattle.svc_base.specs.declared.refusal.Refusal.{Refusal}
+use Rattle.svc_base.specs.declared.refusal.Refusal.TheVariants as refusal
+use Rattle.svc_base.specs.Refusals.{number_of}
+use Rattle.svc_image.specs.Image.{Image}
+use Rattle.svc_core_laws.specs.Bursts.{Advance, IsAdvance, is_nothing}
+use Rattle.svc_core.specs.declared.burst.Lease.{Lease}
+use Rattle.svc_machine_laws.specs.Standing.{refused, reply_to}
+use Rattle.svc_machine.specs.declared.event.Event.{Event}
+use Rattle.svc_machine.specs.declared.event.Event.TheVariants as event
+use Rattle.svc_machine.specs.Events.{event_of}
+use Rattle.svc_machine.specs.Reads.{lease_of}
+use Rattle.svc_history_laws.specs.Entries.{entry_of}
+use Rattle.svc_history.specs.Recorded.{Recorded, standing_of}
+use Rattle.svc_report.specs.declared.script.Step.{Step}
+use Rattle.svc_report.specs.declared.script.StepKind.{StepKind}
+use Rattle.svc_report.specs.declared.script.StepKind.TheVariants as step
+use Rattle.svc_report.specs.Fields.{ask_word}
+use Rattle.svc_report.specs.Trace.{row_of}
+use Rattle.svc_program.specs.declared.script.Answer.{Answer}
+use Rattle.svc_program.specs.declared.script.Answer.TheVariants as answer
+use Rattle.svc_program.specs.Runs.{IsRunOf, ReportsOn}
+
+-- the line that tells an answer: an accepted event's row of a trace, a refusal's number, or the local turns of a burst that is kept and whether it asks
+abbrev pub answer_row : Answer → List ℕ
+answer_row (answer.Accepted e) = row_of e
+answer_row (answer.Refused why) = codes "refused," ++ (decimal (number_of why) ++ codes "\n")
+answer_row (answer.Taken local ask) = codes "taken," ++ (decimal local ++ (codes "," ++ (ask_word ask ++ codes "\n")))
+answer_row answer.Nothing = codes "none\n"
+
+-- the bursts that are kept, by unit
+abbrev pub Kept : Type 0
+Kept = List (Option Advance)
+
+abbrev pub kept_for : Kept → UnitId → Option Advance
+kept_for kept unit = unwrap_or (slice_get kept unit.0) None
+
+-- an event is tried: it is accepted with its entry, or refused and changes nothing
+abbrev pub Tries : Recorded → Event → Answer → Recorded → Type 0
+Tries r x (answer.Accepted e) next =
+    (refused r.machine.image r.machine.config (standing_of r) (event_of x) ≡ None)
+    × (e ≡ entry_of (event_of x) (reply_to r.machine.image (standing_of r) (event_of x))) × (next.entries ≡ r.entries ++ e ∷ [])
+Tries r x (answer.Refused why) next = (refused r.machine.image r.machine.config (standing_of r) (event_of x) ≡ Some why) × (next ≡ r)
+Tries r x (answer.Taken local ask) next = ⊥
+Tries r x answer.Nothing next = ⊥
+
+-- why no task is there: there is no such unit, or it is idle
+abbrev pub no_task : Recorded → UnitId → Refusal
+no_task r unit = cond (nat_lt unit.0 r.machine.config.units) refusal.Idle refusal.NoSuchUnit
+
+-- the burst takes the leased task on by at most so many turns
+pub record TakesOn (img : Image) (lease : Lease) (turns : ℕ) (burst : Advance) : Type 0 where
+  pub unit : burst.unit ≡ lease.unit
+  pub epoch : burst.epoch ≡ lease.epoch
+  pub start : burst.start ≡ lease.core
+  pub advance : IsAdvance img turns burst
+
+-- what a unit's task may be taken on by: a burst, or the refusal where there is no task
+abbrev pub HasBurst : Recorded → UnitId → (turns : ℕ) → Option Lease → Result Advance Refusal → Type 0
+HasBurst r unit turns None result = result ≡ Err (no_task r unit)
+HasBurst r unit turns (Some lease) result = IfOk result (TakesOn r.machine.image lease turns) × IsOk result
+
+-- a unit's task is taken on and the burst submitted; without a task this is refused
+abbrev pub Submits : Option Lease → (turns : ℕ) → UnitId → Recorded → Answer → Recorded → Type 0
+Submits None turns unit r a next = (a ≡ answer.Refused (no_task r unit)) × (next ≡ r)
+Submits (Some lease) turns unit r a next = (b : Advance) × TakesOn r.machine.image lease turns b × Tries r (event.Submit b) a next
+
+-- a unit's task is taken on and the burst kept; without a task nothing is
+abbrev pub Takes : Option Lease → (turns : ℕ) → UnitId → Recorded → Kept → Answer → Kept → Type 0
+Takes None turns unit r kept a after = (a ≡ answer.Nothing) × (after ≡ kept)
+Takes (Some lease) turns unit r kept a after =
+    (b : Advance) × TakesOn r.machine.image lease turns b × (a ≡ answer.Taken b.local (not (is_nothing b.ask))) × (after ≡ slice_set kept unit.0 (Some b))
+
+-- the burst that is kept for a unit is submitted, and kept no more; without one nothing is
+abbrev pub Gives : Option Advance → Recorded → Answer → Recorded → Type 0
+Gives None r a next = (a ≡ answer.Nothing) × (next ≡ r)
+Gives (Some b) r a next = Tries r (event.Submit b) a next
+
+-- a step of this kind is done
+abbrev pub DoesKind : StepKind → UnitId → Recorded → Kept → Answer → Recorded → Kept → Type 0
+DoesKind (step.Assign guess) unit r kept a next after = Tries r (event.Assign unit guess) a next × (after ≡ kept)
+DoesKind (step.Submit turns) unit r kept a next after = Submits (lease_of r.machine unit.0) turns unit r a next × (after ≡ kept)
+DoesKind (step.Replace addr) unit r kept a next after = Tries r (event.Replace unit addr) a next × (after ≡ kept)
+DoesKind step.Cancel unit r kept a next after = Tries r (event.Cancel unit) a next × (after ≡ kept)
+DoesKind step.Commit unit r kept a next after = Tries r (event.Commit unit) a next × (after ≡ kept)
+DoesKind (step.Take turns) unit r kept a next after = Takes (lease_of r.machine unit.0) turns unit r kept a after × (next ≡ r)
+DoesKind step.Give unit r kept a next after = Gives (kept_for kept unit) r a next × (after ≡ slice_set kept unit.0 None)
+
+-- a script under way: the run, the bursts that are kept, and the text printed so far
+pub record Play : Type 0 where
+  pub run : Recorded
+  pub kept : Kept
+  pub text : List ℕ
+
+-- a step leads on, and its line is printed
+abbrev pub Plays : Step → Play → Play → Type 0
+Plays s p next = (a : Answer) × DoesKind s.kind s.unit p.run p.kept a next.run next.kept × (next.text ≡ p.text ++ answer_row a)
+
+-- the first steps of a script, so many, lead on
+abbrev pub PlaysTo : List Step → ℕ → Play → Play → Type 0
+PlaysTo steps zero p next = next ≡ p
+PlaysTo steps (suc n) p next = (between : Play) × PlaysTo steps n p between × (s : Step) × (slice_get steps n ≡ Some s) × Plays s between next
+
+-- so many first steps of a script lead from one run to another of the same machine, and what a writer holds has grown by their lines
+pub record HasPlayed (steps : List Step) (n : ℕ) (r : Recorded) (kept : Kept) (next : Recorded) (after : Kept) (old new : Option (List ℕ)) : Type 0 where
+  pub text : List ℕ
+  pub steps_done : PlaysTo steps n (record { run = r; kept = kept; text = [] }) (record { run = next; kept = after; text = text })
+  pub lines : Appends old new text
+  pub image : next.machine.image ≡ r.machine.image
+  pub config_is : next.machine.config ≡ r.machine.config
+
+-- from a machine before any event the script leads to a run; the line of each step was printed, and then the report of that run
+pub record PlaysScript (img : Image) (config : Config) (steps : List Step) (old new : Option (List ℕ)) (exit : ℕ) : Type 0 where
+  pub start : Recorded
+  pub started : IsRunOf img config start
+  pub none_yet : start.entries ≡ []
+  pub last : Recorded
+  pub run : IsRunOf img config last
+  pub kept : Kept
+  pub between : Option (List ℕ)
+  pub played : HasPlayed steps (length steps) start (replicate config.units None) last kept old between
+  pub report : ReportsOn last between new exit

@@ -1,0 +1,94 @@
+//! What is asked for, done over any files and streams.
+
+ghost use Rattle.std.specs.Prelude.{◌≡◌, ◌⊎◌, IfOk, IfErr};
+ghost use Rattle.svc_program.specs.Faults.{IsEarly, IsReportFault};
+ghost use Rattle.svc_program.specs.Requests.{Does, HasImage, KeepsFiles, Shows, version_row};
+
+use crate::check::check;
+use crate::faults::Fault;
+use crate::files::Files;
+use crate::load::{load_image, load_script, load_trace, save_trace};
+use crate::request::{Request, VERSION};
+use crate::run::run_image;
+use crate::script::script;
+use crate::sequential::sequential;
+use crate::summary::print_recorded;
+use std::alloc::Global;
+use std::io::Write;
+use std::sync::Wait;
+use std::thread::Threads;
+
+/// Does what is asked for. It answers the exit status: 0 where the run came to the program's exit, a trace was sound,
+/// or help or the version was asked for, and 2 at any other ending.
+///
+/// Errors: the first fault, looked for in this order: the image, the script or trace, the opening of the machine, the
+/// run, the output. Before a fault that isn't one of a text nothing was printed.
+pub fn perform<R: Threads + Wait + Sync, F: Files, O: Write>(
+    rt: &R,
+    alloc: Global,
+    request: Request<'_>,
+    files: &mut F,
+    out: &mut O,
+) -> Result<u8, Fault>
+    ensures done { IfOk result (Does request.entry (F.held files.old) (F.held files.new) (O.contents out.old) (O.contents out.new)) }
+    ensures silent { IfErr result (λ fault. IsReportFault fault ⊎ (out.new ≡ out.old)) }
+    ensures order { IfErr result (λ fault. IsEarly fault ⊎ HasImage request.entry (F.held files.old)) }
+    ensures kept { KeepsFiles request.entry (F.held files.old) (F.held files.new) }
+{
+    match request {
+        Request::Help(text) => show_help(&text, out),
+        Request::Version => show_version(out),
+        Request::Run {
+            image,
+            config,
+            trace,
+        } => {
+            let image = load_image(alloc, image, files)?;
+            let recorder = run_image(rt, alloc, &image, config)?;
+            save_trace(alloc, recorder.entries(), trace, files)?;
+            print_recorded(alloc, &recorder, out)
+        }
+        Request::Sequential { image, tasks } => {
+            let image = load_image(alloc, image, files)?;
+            sequential(alloc, &image, tasks, out)
+        }
+        Request::Script {
+            image,
+            config,
+            events,
+        } => {
+            let image = load_image(alloc, image, files)?;
+            let steps = load_script(alloc, events, files)?;
+            script(alloc, image, config, &steps, out)
+        }
+        Request::Check {
+            image,
+            config,
+            trace,
+        } => {
+            let image = load_image(alloc, image, files)?;
+            let entries = load_trace(alloc, trace, files)?;
+            check(alloc, &image, config, &entries, out)
+        }
+    }
+}
+
+// Prints the help.
+fn show_help<O: Write>(text: &str, out: &mut O) -> Result<u8, Fault>
+    ensures shown { IfOk result (Shows text.now (O.contents out.old) (O.contents out.new)) }
+    ensures fault { IfErr result IsReportFault }
+{
+    out.write_all(text.as_bytes())?;
+    out.flush()?;
+    Ok(0)
+}
+
+// Prints the program's name and version.
+fn show_version<O: Write>(out: &mut O) -> Result<u8, Fault>
+    ensures shown { IfOk result (Shows version_row (O.contents out.old) (O.contents out.new)) }
+    ensures fault { IfErr result IsReportFault }
+{
+    writeln!(out, "svcsim {VERSION}")?;
+    out.flush()?;
+    Ok(0)
+}

@@ -1,0 +1,21 @@
+//! The program as a library: what may be asked of it, and how each request is done over any files and streams.
+#![tactic(auto)]
+
+mod check;
+mod dispatch;
+mod faults;
+mod files;
+mod load;
+mod request;
+mod run;
+mod script;
+mod sequential;
+mod summary;
+
+pub use dispatch::perform;
+pub use faults::{Fault, tell};
+pub use files::{FileFault, Files};
+pub use request::{Request, Source, VERSION};
+
+#[cfg(test)]
+mod tests;

@@ -1,0 +1,227 @@
+//! `script`: the events of a script, one after another.
+
+ghost use Rattle.std.specs.Prelude.{ℕ, List, Option, ◌≡◌, ◌⊎◌, ◌<◌, length, replicate, slice_set, None, Some, IfOk, IfErr, OnOk, MatchResult};
+ghost use Rattle.std.specs.Io.KnownBytes.{Appends};
+ghost use Rattle.svc_base.specs.declared.refusal.Refusal.TheVariants as refusal;
+ghost use Rattle.svc_machine.specs.Reads.{lease_of};
+ghost use Rattle.svc_history.specs.Recorded.{IsLegal};
+ghost use Rattle.svc_program.specs.Runs.{ReportsOn};
+ghost use Rattle.svc_program.specs.Faults.{IsReportFault, IsRunFault};
+ghost use Rattle.svc_program.specs.Scripts.{DoesKind, Gives, HasBurst, HasPlayed, PlaysScript, Submits, Takes, Tries, answer_row, kept_for};
+
+use crate::faults::Fault;
+use crate::summary::print_recorded;
+use std::alloc::Global;
+use std::io::Write;
+use svc_base::{Config, OpenError, Refusal, UnitId};
+use svc_core::Burst;
+use svc_history::{Entry, Event, Recorder};
+use svc_image::Image;
+use svc_report::{Step, StepKind, write_entry};
+
+/// What a step of a script is answered.
+#[derive(Clone, Copy, Debug, PartialEq, Eq)]
+pub enum Answer {
+    /// Its event was accepted.
+    Accepted(Entry),
+    /// Its event was refused, and changed nothing.
+    Refused(Refusal),
+    /// A burst of so many local turns is kept, and asks or doesn't.
+    Taken { local: u32, ask: bool },
+    /// There was no task to take on, or no burst to give.
+    Nothing,
+}
+
+/// The bursts that are kept, by unit.
+type Kept = Vec<Option<Burst>>;
+
+/// Does the steps of a script, and prints a line for each, and then the summary. It answers the exit status.
+pub fn script<O: Write>(
+    alloc: Global,
+    image: Image,
+    config: Config,
+    steps: &[Step],
+    out: &mut O,
+) -> Result<u8, Fault>
+    ensures script { IfOk result (PlaysScript image config steps.now (O.contents out.old) (O.contents out.new)) }
+    ensures silent { IfErr result (λ fault. IsReportFault fault ⊎ (IsRunFault fault × (out.new ≡ out.old))) }
+{
+    let mut recorder = Recorder::open(alloc, image, config)?;
+    let mut kept = no_bursts(alloc, config.units)?;
+    play_all(alloc, &mut recorder, &mut kept, steps, out)
+}
+
+// Does all the steps, and prints a line for each, and then the summary.
+fn play_all<O: Write>(
+    alloc: Global,
+    recorder: &mut Recorder,
+    kept: &mut Kept,
+    steps: &[Step],
+    out: &mut O,
+) -> Result<u8, Fault>
+    ensures start { IsLegal recorder.old }
+    ensures last { OnOk result (IsLegal recorder.new) }
+    ensures played { IfOk result (λ exit. (between : Option (List ℕ)) × HasPlayed steps.now (length steps.now) recorder.old kept.old.items recorder.new kept.new.items (O.contents out.old) between × ReportsOn recorder.new between (O.contents out.new) exit) }
+    ensures fault { IfErr result IsReportFault }
+{
+    let _start = recorder.entries();
+    play(alloc, recorder, kept, steps, out)?;
+    let _last = recorder.entries();
+    print_recorded(alloc, recorder, out)
+}
+
+// A place for each unit, with no burst in it.
+fn no_bursts(alloc: Global, units: u32) -> Result<Kept, OpenError>
+    ensures { IfOk result (λ kept. kept.items ≡ replicate units None) }
+{
+    let mut kept = Vec::new(alloc);
+    for _unit in 0..units {
+        if kept.push(None).is_err() {
+            return Err(OpenError::Memory);
+        }
+    }
+    Ok(kept)
+}
+
+// Does the steps, and prints a line for each.
+fn play<O: Write>(
+    alloc: Global,
+    recorder: &mut Recorder,
+    kept: &mut Kept,
+    steps: &[Step],
+    out: &mut O,
+) -> Result<(), Fault>
+    ensures played { OnOk result (HasPlayed steps.now (length steps.now) recorder.old kept.old.items recorder.new kept.new.items (O.contents out.old) (O.contents out.new)) }
+    ensures fault { IfErr result IsReportFault }
+{
+    for step in steps {
+        let answer = done(recorder, kept, step);
+        write_answer(alloc, &answer, out)?;
+    }
+    Ok(())
+}
+
+// Does a step.
+fn done(recorder: &mut Recorder, kept: &mut Kept, step: &Step) -> Answer
+    ensures step { DoesKind step.now.kind step.now.unit recorder.old kept.old.items result recorder.new kept.new.items }
+    ensures image { recorder.new.machine.image ≡ recorder.old.machine.image }
+    ensures config { recorder.new.machine.config ≡ recorder.old.machine.config }
+{
+    let unit = step.unit;
+    match step.kind {
+        StepKind::Assign(guess) => tried(recorder, Event::Assign { unit, guess }),
+        StepKind::Submit(turns) => submitted(recorder, unit, turns),
+        StepKind::Replace(addr) => tried(recorder, Event::Replace { unit, addr }),
+        StepKind::Cancel => tried(recorder, Event::Cancel { unit }),
+        StepKind::Commit => tried(recorder, Event::Commit { by: unit }),
+        StepKind::Take(turns) => taken(recorder, kept, unit, turns),
+        StepKind::Give => given(recorder, kept, unit),
+    }
+}
+
+// Tries an event.
+fn tried(recorder: &mut Recorder, event: Event) -> Answer
+    ensures tries { Tries recorder.old event result recorder.new }
+    ensures image { recorder.new.machine.image ≡ recorder.old.machine.image }
+    ensures config { recorder.new.machine.config ≡ recorder.old.machine.config }
+{
+    match recorder.apply(event) {
+        Ok(slip) => Answer::Accepted(slip.entry),
+        Err(refusal) => Answer::Refused(refusal),
+    }
+}
+
+// The burst that takes the unit's task on by at most so many turns.
+fn burst(recorder: &Recorder, unit: UnitId, turns: u32) -> Result<Burst, Refusal>
+    ensures { HasBurst recorder.now unit turns (lease_of recorder.now.machine unit.0) result }
+{
+    let machine = recorder.machine();
+    match machine.lease(unit) {
+        Some(lease) => Ok(lease.advance(machine.image(), turns)),
+        None if u32::from(unit.0) < machine.config().units => Err(Refusal::Idle),
+        None => Err(Refusal::NoSuchUnit),
+    }
+}
+
+// Takes the unit's task on, and submits that burst.
+fn submitted(recorder: &mut Recorder, unit: UnitId, turns: u32) -> Answer
+    ensures submits { Submits (lease_of recorder.old.machine unit.0) turns unit recorder.old result recorder.new }
+    ensures image { recorder.new.machine.image ≡ recorder.old.machine.image }
+    ensures config { recorder.new.machine.config ≡ recorder.old.machine.config }
+{
+    match burst(recorder, unit, turns) {
+        Ok(burst) => tried(recorder, Event::Submit { burst }),
+        Err(refusal) => Answer::Refused(refusal),
+    }
+}
+
+// Takes the unit's task on, and keeps that burst.
+fn taken(recorder: &Recorder, kept: &mut Kept, unit: UnitId, turns: u32) -> Answer
+    ensures { Takes (lease_of recorder.now.machine unit.0) turns unit recorder.now kept.old.items result kept.new.items }
+{
+    let Ok(burst) = burst(recorder, unit, turns) else {
+        return Answer::Nothing;
+    };
+    let local = burst.local();
+    let ask = !burst.ask().is_nothing();
+    let place = unit.0 as usize;
+    if place < kept.len() {
+        kept[place] = Some(burst);
+    }
+    Answer::Taken { local, ask }
+}
+
+// Submits the burst that is kept for the unit, which is kept no more.
+fn given(recorder: &mut Recorder, kept: &mut Kept, unit: UnitId) -> Answer
+    ensures gives { Gives (kept_for kept.old.items unit) recorder.old result recorder.new }
+    ensures kept { kept.new.items ≡ slice_set kept.old.items unit.0 None }
+    ensures image { recorder.new.machine.image ≡ recorder.old.machine.image }
+    ensures config { recorder.new.machine.config ≡ recorder.old.machine.config }
+{
+    match given_up(kept, unit) {
+        Some(burst) => tried(recorder, Event::Submit { burst }),
+        None => Answer::Nothing,
+    }
+}
+
+// Takes the unit's burst out of its place.
+fn given_up(kept: &mut Kept, unit: UnitId) -> Option<Burst>
+    ensures burst { result ≡ kept_for kept.old.items unit }
+    ensures kept { kept.new.items ≡ slice_set kept.old.items unit.0 None }
+{
+    let place = unit.0 as usize;
+    if place < kept.len() {
+        kept[place].take()
+    } else {
+        None
+    }
+}
+
+// Prints the line of an answer.
+fn write_answer<O: Write>(alloc: Global, answer: &Answer, out: &mut O) -> Result<(), Fault>
+    ensures text { OnOk result (Appends (O.contents out.old) (O.contents out.new) (answer_row answer.now)) }
+    ensures fault { IfErr result IsReportFault }
+{
+    match answer {
+        Answer::Accepted(entry) => {
+            write_entry(alloc, entry, out)?;
+            Ok(())
+        }
+        Answer::Refused(refusal) => {
+            writeln!(out, "refused,{}", refusal.number())?;
+            Ok(())
+        }
+        Answer::Taken { local, ask: true } => {
+            writeln!(out, "taken,{local},1")?;
+            Ok(())
+        }
+        Answer::Taken { local, ask: false } => {
+            writeln!(out, "taken,{local},0")?;
+            Ok(())
+        }
+        Answer::Nothing => {
+            writeln!(out, "none")?;
+            Ok(())
+        }
+    }
+}

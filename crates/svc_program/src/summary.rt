@@ -1,0 +1,64 @@
+//! The summary of a run.
+
+ghost use Rattle.std.specs.Prelude.{◌≡◌, ◌⊎◌, OnOk, IfOk, IfErr, Some};
+ghost use Rattle.std.specs.Io.KnownBytes.{Appends};
+ghost use Rattle.svc_report.specs.Summary.{summary_of};
+ghost use Rattle.svc_program.specs.Faults.{IsReportFault};
+ghost use Rattle.svc_program.specs.Runs.{ReportsOn, status_of};
+
+use crate::faults::Fault;
+use std::alloc::Global;
+use std::io::Write;
+use svc_core::Ending;
+use svc_history::Recorder;
+use svc_report::{Counts, write_summary};
+
+/// Prints the summary of a run: the words put out, how many tasks were run or committed, the ending, and the counts where
+/// they are given. It answers the exit status.
+pub fn print<O: Write>(
+    alloc: Global,
+    output: &[u32],
+    tasks: u64,
+    ending: Ending,
+    counts: Option<Counts>,
+    out: &mut O,
+) -> Result<u8, Fault>
+    ensures status { IfOk result (λ status. status ≡ status_of ending) }
+    ensures fault { IfErr result IsReportFault }
+    ensures text { OnOk result (Appends (O.contents out.old) (O.contents out.new) (summary_of output.now tasks ending counts)) }
+{
+    write_summary(alloc, output, tasks, ending, counts, out)?;
+    out.flush()?;
+    Ok(exit_status(ending))
+}
+
+/// Prints the summary of what was recorded, with its counts. It answers the exit status.
+pub fn print_recorded<O: Write>(
+    alloc: Global,
+    recorder: &Recorder,
+    out: &mut O,
+) -> Result<u8, Fault>
+    ensures report { IfOk result (ReportsOn recorder.now (O.contents out.old) (O.contents out.new)) }
+    ensures fault { IfErr result IsReportFault }
+{
+    let machine = recorder.machine();
+    let counts = Counts::of(recorder.entries());
+    print(
+        alloc,
+        machine.output(),
+        machine.committed_tasks(),
+        machine.ending(),
+        Some(counts),
+        out,
+    )
+}
+
+// The exit status of a run with this ending: 0 where the program came to its exit, else 2.
+fn exit_status(ending: Ending) -> u8
+    ensures { result ≡ status_of ending }
+{
+    match ending {
+        Ending::Exit(_) => 0,
+        Ending::Trap(_) | Ending::Full(_) | Ending::Open(_) => 2,
+    }
+}
