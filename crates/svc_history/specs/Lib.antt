@@ -3,3 +3,4 @@ pub mod Kept
 pub mod Glances
 pub mod Faults
 pub mod Writing
+pub mod Moves

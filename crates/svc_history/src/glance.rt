@@ -1,3 +1,6 @@
+ghost use Rattle.std.specs.Prelude.{◌≡◌};
+ghost use Rattle.svc_history.specs.Moves.{next_move};
+
 use svc_core::Lease;
 
 /// What a unit thread needs to know for its next event.
@@ -11,4 +14,40 @@ pub struct Glance {
     pub is_head: bool,
     /// The entry at which the next task should begin, until the run has stopped.
     pub guess: Option<u32>,
+}
+
+/// What a unit does next.
+#[derive(Clone, Copy, Debug, PartialEq, Eq)]
+pub enum Move {
+    /// It starts a task at the guess.
+    Begin { guess: u32 },
+    /// It runs its task on from the lease.
+    RunOn(Lease),
+    /// It commits the head, which is its own.
+    Commit,
+    /// It can do nothing before another unit's event.
+    Wait,
+    /// The run has ended.
+    Ended,
+}
+
+impl Glance {
+    /// What the unit does next, by what it sees: nothing more in a run that has ended; without a task it begins one at the
+    /// guess; it runs a task on that has not ended, and commits one that has where that is the head. Else it waits.
+    pub fn next_move(&self) -> Move
+        ensures { result ≡ next_move self.now }
+    {
+        if self.ended {
+            return Move::Ended;
+        }
+        match self.lease {
+            None => match self.guess {
+                Some(guess) => Move::Begin { guess },
+                None => Move::Wait,
+            },
+            Some(lease) if lease.core.is_running() => Move::RunOn(lease),
+            Some(_) if self.is_head => Move::Commit,
+            Some(_) => Move::Wait,
+        }
+    }
 }

@@ -8,7 +8,7 @@ pub mod same;
 pub mod trace;
 mod writing;
 
-pub use glance::Glance;
+pub use glance::{Glance, Move};
 pub use recorder::Recorder;
 pub use svc_history_laws::{CutKind, Entry, Kind, ReplyKind, ServedKind, Slip};
 pub use svc_machine::{Event, Machine};
