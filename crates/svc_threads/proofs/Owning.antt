@@ -1,10 +1,9 @@
 -- Whose slips they are.
 use Rattle.std.proofs.Common.{◌≡◌, zero, suc, List, [], ◌∷◌, ◌++◌, refl, sym, ap, ◌∙◌, subst, arith}
-use Rattle.std.specs.Prelude.{All, Bool, IfOk, IsTrue, Result, Ok, Err}
+use Rattle.std.specs.Prelude.{All, IfOk, Result, Ok, Err}
 use Rattle.std.proofs.lemmas.List.Elements.{All-append}
 use Rattle.svc_base.specs.declared.ids.UnitId.{UnitId}
 use Rattle.svc_base.specs.declared.refusal.Refusal.{Refusal}
-use Rattle.svc_core_laws.specs.Bursts.{Advance}
 use Rattle.svc_machine.specs.declared.event.Event.{Event}
 use Rattle.svc_machine.specs.declared.event.Event.TheVariants.{Assign, Submit, Replace, Cancel, Commit}
 use Rattle.svc_machine.specs.Events.{event_of}
@@ -13,9 +12,9 @@ use Rattle.svc_history_laws.specs.declared.entry.Entry.{Entry}
 use Rattle.svc_history_laws.specs.declared.entry.Slip.{Slip}
 use Rattle.svc_history_laws.specs.Entries.{entry_of}
 use Rattle.svc_history.specs.declared.glance.Glance.{Glance}
-use Rattle.svc_history.specs.Glances.{IsGlance, goes_on}
+use Rattle.svc_history.specs.Glances.{IsGlance}
 use Rattle.svc_history.specs.Recorded.{Recorded, IsLegal}
-use Rattle.svc_threads.specs.Ports.{GoesOnInSome, IsEntryOf, IsGlanceOfSome, IsOf, unit_of}
+use Rattle.svc_threads.specs.Ports.{IsEntryOf, IsGlanceOfSome, IsOf, unit_of}
 
 entry_unit : (x : Event) (r : Reply) → (entry_of (event_of x) r).unit ≡ unit_of x
 unfolding entry_of
@@ -33,10 +32,6 @@ owns x unit s asks is = ap (λ (e : Entry). e.unit) is.1 ∙ (entry_unit x is.0 
 pub glanced : (r : Recorded) (unit : UnitId) (o : Result Glance Refusal) → IsLegal r → IfOk o (IsGlance r.machine unit.0) → IfOk o (λ g. IsGlanceOfSome unit g)
 glanced r unit (Ok g) legal is = (r, legal, is)
 glanced r unit (Err e) legal is = tt
-
--- a burst that goes on in some recorder
-pub confirmed : (r : Recorded) (burst : Advance) (b : Bool) → IsLegal r → b ≡ goes_on r.machine burst → IsTrue b → GoesOnInSome burst
-confirmed r burst b legal is confirms = (r, legal, sym is ∙ confirms)
 
 one : (P : Slip → Type 0) (s : Slip) → P s → All P (s ∷ [])
 one P s holds zero d below = holds

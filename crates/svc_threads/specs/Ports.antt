@@ -1,7 +1,6 @@
 -- What a unit's thread is answered, and what it brings back.
-use Rattle.std.specs.Prelude.{◌≡◌, true}
+use Rattle.std.specs.Prelude.{◌≡◌}
 use Rattle.svc_base.specs.declared.ids.UnitId.{UnitId}
-use Rattle.svc_core_laws.specs.Bursts.{Advance}
 use Rattle.svc_machine.specs.declared.event.Event.{Event}
 use Rattle.svc_machine.specs.declared.event.Event.TheVariants.{Assign, Submit, Replace, Cancel, Commit}
 use Rattle.svc_machine.specs.Events.{event_of}
@@ -10,7 +9,7 @@ use Rattle.svc_history_laws.specs.declared.entry.Entry.{Entry}
 use Rattle.svc_history_laws.specs.declared.entry.Slip.{Slip}
 use Rattle.svc_history_laws.specs.Entries.{entry_of}
 use Rattle.svc_history.specs.declared.glance.Glance.{Glance}
-use Rattle.svc_history.specs.Glances.{IsGlance, goes_on}
+use Rattle.svc_history.specs.Glances.{IsGlance}
 use Rattle.svc_history.specs.Recorded.{Recorded, IsLegal}
 
 -- the entry is this event's, with some reply
@@ -32,7 +31,3 @@ IsOf unit s = s.entry.unit ≡ unit
 -- the glance shows the unit some machine with a legal history
 abbrev pub IsGlanceOfSome : UnitId → Glance → Type 0
 IsGlanceOfSome unit glance = (r : Recorded) × IsLegal r × IsGlance r.machine unit.0 glance
-
--- the burst's unit may go on with it in some machine with a legal history
-abbrev pub GoesOnInSome : Advance → Type 0
-GoesOnInSome burst = (r : Recorded) × IsLegal r × (goes_on r.machine burst ≡ true)

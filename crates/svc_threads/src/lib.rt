@@ -1,19 +1,14 @@
 //! Units on real threads, over one recorder under a lock, and a board that shows how far it has come.
 #![tactic(auto)]
 
-mod ahead;
-mod baton;
 pub mod board;
 pub mod bus;
 pub mod fault;
-mod foresight;
 mod locked;
 pub mod outcome;
 pub mod port;
-mod room;
 pub mod run;
 mod sameness;
-mod spell;
 #[cfg(test)]
 mod tests;
 pub mod unit;

@@ -7,21 +7,16 @@ ghost use Rattle.svc_machine_laws.specs.Standing.{refused, reply_to, after_event
 ghost use Rattle.svc_machine.specs.Events.{event_of};
 ghost use Rattle.svc_history_laws.specs.Board.{assigns, board, commits};
 ghost use Rattle.svc_history_laws.specs.Entries.{entry_of};
-ghost use Rattle.svc_history.specs.Glances.{IsGlance, goes_on};
+ghost use Rattle.svc_history.specs.Glances.{IsGlance};
 ghost use Rattle.svc_history.specs.Recorded.{IsLegal, standing_of};
 ghost use Rattle.svc_threads.specs.Boards.{knower, InOrder};
 ghost use Rattle.svc_threads.specs.Counts.{row_of_entries, with_entry, IsSmall};
 
 use crate::board::{Board, BoardPass, BoardRow};
-use crate::spell::Spell;
 use std::marker::Model;
 use std::sync::{Arc, Wait};
 use svc_base::{Refusal, UnitId};
-use svc_core::Burst;
 use svc_history::{Entry, Event, Glance, Kind, Recorder, Slip};
-
-// How many units there are at most.
-const MOST_UNITS: u8 = 16;
 
 /// A recorder with the numbers of its history, and a board that shows them. By the type they are those numbers, and the
 /// pass is the one of that board that publishes and knows them.
@@ -31,8 +26,6 @@ pub(crate) struct Locked {
     counts: BoardRow,
     publisher: BoardPass,
     board: Arc<Board>,
-    // what happened since a unit's thread took the lock from another's
-    spell: Spell,
 }
 
 impl Model for Locked {
@@ -66,7 +59,6 @@ impl Locked {
             counts,
             publisher,
             board,
-            spell: Spell::new(),
         }
     }
 
@@ -87,60 +79,7 @@ impl Locked {
         let row = with_entry(counts, &slip.entry);
         self.counts = row;
         self.board.publish(rt, &mut self.publisher, row);
-        self.spell.count(&slip.entry);
         Ok(slip)
-    }
-
-    // The spell of a unit begins.
-    pub(crate) fn begin_spell(&mut self) {
-        self.spell.begin();
-    }
-
-    // Whether another unit should go on: the spell is long, or a task has begun and a unit has none.
-    pub(crate) fn spell_is_over(&self) -> bool {
-        self.spell.is_long() || self.spell.begins_task() && self.has_idle_unit()
-    }
-
-    // The unit that runs the head.
-    pub(crate) fn head(&self) -> Option<UnitId> {
-        let machine = self.recorder.machine();
-        for unit in 0..MOST_UNITS {
-            if machine.is_head(UnitId(unit)) {
-                return Some(UnitId(unit));
-            }
-        }
-        None
-    }
-
-    // The unit that should go on after this one: one that has no task, and else the one that runs the head.
-    pub(crate) fn successor(&self, unit: UnitId) -> Option<UnitId> {
-        let next = if self.has_idle_unit() {
-            self.idle_unit()
-        } else {
-            self.head()
-        };
-        match next {
-            Some(next) if next != unit => Some(next),
-            _ => None,
-        }
-    }
-
-    // The first unit that has no task.
-    fn idle_unit(&self) -> Option<UnitId> {
-        let machine = self.recorder.machine();
-        for unit in 0..MOST_UNITS {
-            if u32::from(unit) < machine.config().units && machine.lease(UnitId(unit)).is_none() {
-                return Some(UnitId(unit));
-            }
-        }
-        None
-    }
-
-    // Whether a unit has no task.
-    fn has_idle_unit(&self) -> bool {
-        let counts = self.counts;
-        let ended = counts.committed.wrapping_add(counts.squashed);
-        counts.assigned.wrapping_sub(ended) < u64::from(self.recorder.machine().config().units)
     }
 
     // What the recorder shows a unit's thread.
@@ -152,14 +91,6 @@ impl Locked {
         self.recorder.glance(unit)
     }
 
-    // Whether the burst's unit may go on with it.
-    pub(crate) fn goes_on(&self, burst: &Burst) -> bool
-        ensures goes_on { result ≡ goes_on self.now.machine burst.now }
-        ensures legal { IsLegal self.now }
-    {
-        self.recorder.goes_on(burst)
-    }
-
     // The recorder.
     pub(crate) fn into_recorder(self) -> Recorder
         ensures { result ≡ self }
@@ -169,7 +100,6 @@ impl Locked {
             counts: _,
             publisher: _,
             board: _,
-            spell: _,
         } = self;
         recorder
     }

@@ -1,12 +1,11 @@
 // What a unit's thread knows of the bus, and who is asked round its events.
 
-ghost use Rattle.std.specs.Prelude.{◌≡◌, IfOk, IfErr};
+ghost use Rattle.std.specs.Prelude.{◌≡◌, IfOk};
 ghost use Rattle.svc_threads.specs.Ports.{IsEntryOf};
 
 use crate::board::Board;
 use std::sync::Wait;
 use svc_base::{Refusal, UnitId};
-use svc_core::Burst;
 use svc_history::{Event, Glance, Slip};
 
 /// Where a unit's thread stands.
@@ -36,27 +35,9 @@ pub trait Port {
     /// Errors: [`Refusal::NoSuchUnit`].
     fn lease<R: Wait>(&self, rt: &R, unit: UnitId) -> Result<Glance, Refusal>;
 
-    /// Whether the unit's thread would come in at once. This is a hint: a thread that would wait has time to make bursts.
-    fn is_free_for(&self, _unit: UnitId) -> bool {
-        true
-    }
-
-    /// Whether the burst's unit may go on with it without a glance. This is a hint: where the answer is no, the unit's thread
-    /// takes a glance, and where it was wrong to say yes, the burst is refused.
-    fn goes_on<R: Wait>(&self, _rt: &R, _burst: &Burst) -> bool {
-        false
-    }
-
-    /// One event, in one step.
-    fn apply<R: Wait>(&self, rt: &R, event: Event) -> Result<Slip, Refusal>
-        ensures { IfOk result (λ slip. IsEntryOf event slip.entry) };
-
-    /// The same, of an event that stays where it is.
-    fn record<R: Wait>(&self, rt: &R, event: &Event) -> Result<Slip, Refusal>
-        ensures { IfOk result (λ slip. IsEntryOf event.now slip.entry) }
-    {
-        self.apply(rt, event.copy())
-    }
+    /// One event, in one step. It is lent: a burst is some 1,400 bytes, and its thread makes the next one in its place.
+    fn apply<R: Wait>(&self, rt: &R, event: &Event) -> Result<Slip, Refusal>
+        ensures { IfOk result (λ slip. IsEntryOf event.now slip.entry) };
 
     /// The board that shows the numbers.
     fn board(&self) -> &Board

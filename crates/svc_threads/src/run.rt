@@ -17,6 +17,17 @@ use svc_base::{Config, UnitId};
 use svc_history::{Recorder, Slip};
 use svc_image::Image;
 
+/// A port whose recorder can be had when no thread shares it any more.
+pub(crate) trait Shared: Port + Sync + Drop {
+    fn into_recorder(self) -> Recorder;
+}
+
+impl Shared for SharedBus {
+    fn into_recorder(self) -> Recorder {
+        SharedBus::into_recorder(self)
+    }
+}
+
 /// Runs the image's tasks on all units, each in a thread of its own, and compares what the threads bring back with the
 /// history. Each thread takes the configuration's turns.
 ///
@@ -35,8 +46,25 @@ pub fn run_units<G: Gate + Sync, R: Threads + Wait + Sync>(
     };
     let recorder = Recorder::open(alloc, own, config)?;
     let (bus, reader) = SharedBus::open(rt, alloc, recorder)?;
-    let slips = run_all(rt, alloc, &bus, reader, image, config, gate)?;
-    reconcile(image, config, bus.into_recorder(), slips)
+    run_over(rt, alloc, bus, reader, image, config, gate)
+}
+
+// Runs all units over a port, and compares what their threads bring back with the history that it leaves. A test hands in a
+// port that tells its threads another thing than it records.
+pub(crate) fn run_over<P: Shared, G: Gate + Sync, R: Threads + Wait + Sync>(
+    rt: &R,
+    alloc: Global,
+    port: P,
+    reader: BoardPass,
+    image: &Image,
+    config: Config,
+    gate: &G,
+) -> Result<Outcome, RunError>
+    requires { reader.board ≡ P.board_of port }
+    ensures { IfOk result (λ o. IsOutcome image.now config o.recorder (map (λ v. v.items) o.slips.items)) }
+{
+    let slips = run_all(rt, alloc, &port, reader, image, config, gate)?;
+    reconcile(image, config, port.into_recorder(), slips)
 }
 
 // Runs each unit in a thread of its own, and gives what each brought back.

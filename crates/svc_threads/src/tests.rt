@@ -10,13 +10,12 @@ use svc_core::MAX_BURST_TURNS;
 use svc_history::{Event, Recorder, Slip};
 use svc_image::{Image, samples};
 
-mod ahead;
 mod boards;
 mod full_sets;
 mod gates;
 mod outcomes;
-mod spells;
 mod stalls;
+mod torn;
 
 // One step of a script: a unit assigns at a guess, submits a burst of its task, or asks for a commit.
 #[derive(Clone, Copy)]
@@ -95,7 +94,7 @@ fn take<R: Wait>(rt: &R, bus: &SharedBus, image: &Image, step: Step) -> Result<S
         }
         Step::Commit(unit) => Event::Commit { by: UnitId(unit) },
     };
-    Ok(bus.apply(rt, event).ok().ok_or("an accepted event")?)
+    Ok(bus.apply(rt, &event).ok().ok_or("an accepted event")?)
 }
 
 fn row(events: u64, assigned: u64, committed: u64, squashed: u64) -> BoardRow {

@@ -1,25 +1,23 @@
 // What one unit's thread does.
 
-ghost use Rattle.std.specs.Prelude.{◌≡◌, ◌<◌, All, IfOk, IfErr, IsTrue, vec_len, vec_capacity};
+ghost use Rattle.std.specs.Prelude.{◌≡◌, ◌<◌, All, IfOk, IfErr, vec_len, vec_capacity};
 ghost use Rattle.svc_threads.specs.Ports.{IsOf, unit_of};
 
-use crate::ahead::{Ahead, MOST_AHEAD};
 use crate::board::{BoardPass, BoardRow};
 use crate::fault::RunError;
 use crate::port::{Gate, Phase, Port};
-use crate::room;
 use crossbeam_utils::Backoff;
 use std::alloc::Allocator;
 use std::sync::Wait;
 use svc_base::{Refusal, UnitId, WordAddr};
-use svc_core::Lease;
-use svc_history::{Event, Glance, Slip};
+use svc_core::{Lease, MAX_BURST_TURNS};
+use svc_history::{Event, Move, Slip};
 use svc_image::Image;
 
 // How a turn of a unit's thread ended.
 #[derive(Clone, Copy)]
 enum Turn {
-    // It went on, or another turn may.
+    // Another turn may follow.
     Went,
     // It can't go on before another unit's event.
     Stalled,
@@ -40,30 +38,24 @@ enum Tried {
     Ended,
 }
 
-// What a unit does next.
+// An event without a burst.
 #[derive(Clone, Copy)]
-enum Step<'a> {
-    // It starts a task at the guess.
-    Begin(u32),
-    // It runs its task on.
-    GoOn(&'a Lease),
-    // It commits the head, which is its own.
+enum Other {
+    Assign(u32),
+    Replace(WordAddr),
     Commit,
-    // It has to wait for another unit's event.
-    Wait,
 }
 
 /// The body of a unit's thread: at most so many turns. A turn reads the board. Where the last turn stalled and the board
-/// shows the same numbers it stalls again, without the lock. Else the unit does its next event: it assigns with the guess
-/// where it has no task, commits its head where that has ended, and else runs its task by a burst, without the lock, and
-/// submits that; while the lock is another unit's it makes the bursts that follow, too, and submits one of those where the port
-/// says that the task still stands where it begins. Where its cache is full it replaces a line in the same turn. It stalls where
-/// its task has ended and isn't the head, and where the line may not go.
+/// shows the same numbers it stalls again, without the lock. Else the unit takes a glance and does its next move: it begins
+/// a task at the guess, runs its task by a burst, without the lock, and submits that, or commits its head. Where its cache is
+/// full it replaces a line in the same turn. It stalls where it has to wait, and where the line may not go, and ends where
+/// the run has.
 ///
 /// The slips of the accepted events come back in order. Room for one is made before each event.
 ///
 /// Errors: [`RunError::Memory`]; the events up to there stand and their slips are dropped.
-pub fn run_unit<P: Port, G: Gate, A: Allocator + Copy, R: Wait>(
+pub fn run_unit<P: Port, G: Gate, A: Allocator, R: Wait>(
     rt: &R,
     alloc: A,
     port: &P,
@@ -78,16 +70,16 @@ pub fn run_unit<P: Port, G: Gate, A: Allocator + Copy, R: Wait>(
     ensures err { IfErr result (λ e. e ≡ RunError.Memory) }
 {
     let mut slips = Vec::new(alloc);
+    let mut submit = Event::Commit { by: unit };
     let backoff = Backoff::new();
     let mut stalled_at: Option<BoardRow> = None;
-    let mut ahead = Ahead::new(alloc, unit)?;
     for _ in 0..turns {
         let row = port.board().read(rt, &mut pass);
         if stalled_at == Some(row) {
             backoff.snooze();
             continue;
         }
-        match take_turn(rt, port, unit, image, gate, &mut ahead, &mut slips)? {
+        match take_turn(rt, port, unit, image, gate, &mut submit, &mut slips)? {
             Turn::Went => {
                 stalled_at = None;
                 backoff.reset();
@@ -102,159 +94,89 @@ pub fn run_unit<P: Port, G: Gate, A: Allocator + Copy, R: Wait>(
     Ok(slips)
 }
 
-// Does what the unit has to do.
+// Does the unit's next move, and replaces a line in the same turn where there is no room for it.
 fn take_turn<P: Port, G: Gate, A: Allocator, R: Wait>(
     rt: &R,
     port: &P,
     unit: UnitId,
     image: &Image,
     gate: &G,
-    ahead: &mut Ahead<A>,
+    submit: &mut Event,
     slips: &mut Vec<Slip, A>,
 ) -> Result<Turn, RunError>
     ensures own { All (IsOf unit) slips.old.items → All (IsOf unit) slips.new.items }
     ensures err { IfErr result (λ e. e ≡ RunError.Memory) }
 {
-    prepare(port, unit, image, ahead);
-    if !port.is_free_for(unit) {
-        room::touch(slips);
-    }
-    let tried = match go_on(rt, port, unit, image, gate, ahead, slips)? {
+    let tried = match make_move(rt, port, unit, image, gate, submit, slips)? {
         Tried::Refused(Refusal::SetFull(addr)) => {
-            ahead.take_back();
-            replace(rt, port, unit, addr, gate, slips)?
+            attempt_other(rt, port, unit, Other::Replace(addr), gate, slips)?
         }
         tried => tried,
     };
     Ok(ended(tried))
 }
 
-// Goes on with a burst that was made ahead, where the port confirms it, and else by a glance.
-fn go_on<P: Port, G: Gate, A: Allocator, R: Wait>(
+// Asks for the event that the unit does next, by a glance. A burst is made in the place of the last one, without the lock.
+fn make_move<P: Port, G: Gate, A: Allocator, R: Wait>(
     rt: &R,
     port: &P,
     unit: UnitId,
     image: &Image,
     gate: &G,
-    ahead: &mut Ahead<A>,
+    submit: &mut Event,
     slips: &mut Vec<Slip, A>,
 ) -> Result<Tried, RunError>
     ensures own { All (IsOf unit) slips.old.items → All (IsOf unit) slips.new.items }
     ensures err { IfErr result (λ e. e ≡ RunError.Memory) }
 {
-    if let Some(event) = ahead.confirmed(rt, port, unit) {
-        return attempt(rt, port, unit, event, gate, slips);
-    }
-    if let Some(slip) = slips.last() {
-        ahead.learn(&slip.entry);
-    }
-    let glance = port.lease(rt, unit);
-    let Ok(glance) = &glance else {
+    let Ok(glance) = port.lease(rt, unit) else {
         return Ok(Tried::Ended);
     };
-    if glance.ended {
-        return Ok(Tried::Ended);
-    }
-    take_step(rt, port, unit, image, gate, glance, ahead, slips)
-}
-
-// Makes bursts ahead while other units have the lock.
-fn prepare<P: Port, A: Allocator>(port: &P, unit: UnitId, image: &Image, ahead: &mut Ahead<A>) {
-    for _ in 0..MOST_AHEAD {
-        if port.is_free_for(unit) || !ahead.prepare(image) {
-            return;
+    match glance.next_move() {
+        Move::Ended => Ok(Tried::Ended),
+        Move::Wait => Ok(Tried::Waits),
+        Move::Begin { guess } => attempt_other(rt, port, unit, Other::Assign(guess), gate, slips),
+        Move::Commit => attempt_other(rt, port, unit, Other::Commit, gate, slips),
+        Move::RunOn(lease) => {
+            make_submit(&Lease::new(unit, lease.epoch, lease.core), image, submit);
+            attempt(rt, port, unit, submit, gate, slips)
         }
     }
 }
 
-// Asks for the event that the unit does next, if there is one: it may have to wait for another unit's. A burst is made
-// without the lock.
-fn take_step<P: Port, G: Gate, A: Allocator, R: Wait>(
-    rt: &R,
-    port: &P,
-    unit: UnitId,
-    image: &Image,
-    gate: &G,
-    glance: &Glance,
-    ahead: &mut Ahead<A>,
-    slips: &mut Vec<Slip, A>,
-) -> Result<Tried, RunError>
-    ensures own { All (IsOf unit) slips.old.items → All (IsOf unit) slips.new.items }
-    ensures err { IfErr result (λ e. e ≡ RunError.Memory) }
+// The submit of a lease's burst, in the place of the last one.
+fn make_submit(lease: &Lease, image: &Image, submit: &mut Event)
+    ensures { unit_of submit.new ≡ lease.now.unit }
 {
-    match next_step(glance) {
-        Step::Wait => Ok(Tried::Waits),
-        Step::Begin(guess) => begin(rt, port, unit, guess, gate, slips),
-        Step::Commit => commit(rt, port, unit, gate, slips),
-        Step::GoOn(lease) => {
-            let lease = Lease::new(unit, lease.epoch, lease.core);
-            if !port.is_free_for(unit) {
-                ahead.start(&lease, image);
-                prepare(port, unit, image, ahead);
+    match submit {
+        Event::Submit { burst } => burst.refill(lease, image, MAX_BURST_TURNS),
+        _ => {
+            *submit = Event::Submit {
+                burst: lease.advance(image, MAX_BURST_TURNS),
             }
-            attempt(rt, port, unit, ahead.submit(&lease, image), gate, slips)
         }
     }
 }
 
-// What a unit does next, by what it sees.
-fn next_step(glance: &Glance) -> Step<'_> {
-    match &glance.lease {
-        None => match glance.guess {
-            Some(guess) => Step::Begin(guess),
-            None => Step::Wait,
-        },
-        Some(lease) if lease.core.is_running() => Step::GoOn(lease),
-        Some(_) if glance.is_head => Step::Commit,
-        Some(_) => Step::Wait,
-    }
-}
-
-// An event is as large as a burst, so each of the small ones is made in a function of its own: a turn that asks for none of
-// them makes room for none.
-
-// Starts a task at the guess.
-fn begin<P: Port, G: Gate, A: Allocator, R: Wait>(
+// Asks for one event without a burst. An event has room for one, so these are made here: a turn that submits pays for none
+// of them.
+fn attempt_other<P: Port, G: Gate, A: Allocator, R: Wait>(
     rt: &R,
     port: &P,
     unit: UnitId,
-    guess: u32,
+    other: Other,
     gate: &G,
     slips: &mut Vec<Slip, A>,
 ) -> Result<Tried, RunError>
     ensures own { All (IsOf unit) slips.old.items → All (IsOf unit) slips.new.items }
     ensures err { IfErr result (λ e. e ≡ RunError.Memory) }
 {
-    attempt(rt, port, unit, &Event::Assign { unit, guess }, gate, slips)
-}
-
-// Commits the head.
-fn commit<P: Port, G: Gate, A: Allocator, R: Wait>(
-    rt: &R,
-    port: &P,
-    unit: UnitId,
-    gate: &G,
-    slips: &mut Vec<Slip, A>,
-) -> Result<Tried, RunError>
-    ensures own { All (IsOf unit) slips.old.items → All (IsOf unit) slips.new.items }
-    ensures err { IfErr result (λ e. e ≡ RunError.Memory) }
-{
-    attempt(rt, port, unit, &Event::Commit { by: unit }, gate, slips)
-}
-
-// Takes a line out of the unit's cache.
-fn replace<P: Port, G: Gate, A: Allocator, R: Wait>(
-    rt: &R,
-    port: &P,
-    unit: UnitId,
-    addr: WordAddr,
-    gate: &G,
-    slips: &mut Vec<Slip, A>,
-) -> Result<Tried, RunError>
-    ensures own { All (IsOf unit) slips.old.items → All (IsOf unit) slips.new.items }
-    ensures err { IfErr result (λ e. e ≡ RunError.Memory) }
-{
-    attempt(rt, port, unit, &Event::Replace { unit, addr }, gate, slips)
+    let event = match other {
+        Other::Assign(guess) => Event::Assign { unit, guess },
+        Other::Replace(addr) => Event::Replace { unit, addr },
+        Other::Commit => Event::Commit { by: unit },
+    };
+    attempt(rt, port, unit, &event, gate, slips)
 }
 
 // Asks for one event, for whose slip room is made first. The gate is asked before and after.
@@ -294,7 +216,7 @@ fn ask<P: Port, A: Allocator, R: Wait>(
     requires room { vec_len slips.old < vec_capacity slips.old }
     ensures own { All (IsOf unit) slips.old.items → All (IsOf unit) slips.new.items }
 {
-    match port.record(rt, event) {
+    match port.apply(rt, event) {
         Ok(slip) => {
             let Ok(()) = slips.push(slip) else {
                 unreachable!()

@@ -1,0 +1,96 @@
+// A port that tells its threads another thing than it records.
+
+use super::gates::Open;
+use super::*;
+use crate::board::Board;
+use crate::fault::RunError;
+use crate::port::Port;
+use crate::run::{Shared, run_over};
+use std::test::*;
+use std::thread::Threads;
+use svc_base::Refusal;
+use svc_history::Glance;
+
+// What becomes of the slips of these indexes on their way to the thread.
+#[derive(Clone, Copy)]
+enum Damage {
+    Nothing,
+    Lost(usize),
+    Changed(usize),
+    Exchanged(usize, usize),
+}
+
+/// A bus whose slips are damaged.
+#[derive(Drop)]
+struct Damaged {
+    bus: SharedBus,
+    damage: Damage,
+}
+
+impl Port for Damaged {
+    ghost board_of = { λ d. d.bus };
+
+    fn lease<R: Wait>(&self, rt: &R, unit: UnitId) -> Result<Glance, Refusal> {
+        self.bus.lease(rt, unit)
+    }
+
+    fn apply<R: Wait>(&self, rt: &R, event: &Event) -> Result<Slip, Refusal> {
+        let Slip { index, entry } = self.bus.apply(rt, event)?;
+        let index = match self.damage {
+            Damage::Lost(lost) if lost == index => return Err(Refusal::Stale),
+            Damage::Changed(changed) if changed == index => 1_000,
+            Damage::Exchanged(one, other) if one == index => other,
+            Damage::Exchanged(one, other) if other == index => one,
+            _ => index,
+        };
+        Ok(Slip { index, entry })
+    }
+
+    fn board(&self) -> &Board {
+        self.bus.board()
+    }
+}
+
+impl Shared for Damaged {
+    fn into_recorder(self) -> Recorder {
+        let Damaged { bus, .. } = self;
+        bus.into_recorder()
+    }
+}
+
+// What a run on one unit over such a bus ends with.
+fn ending<R: Threads + Wait + Sync>(
+    rt: &R,
+    alloc: Global,
+    damage: Damage,
+) -> Result<Option<RunError>, Fail> {
+    let image = Image::read(alloc, &samples::P1)?;
+    let config = config(1, 16, 100, 50)?;
+    let recorder = recorder(alloc, &image, config)?;
+    let (bus, pass) = SharedBus::open(rt, alloc, recorder).ok().ok_or("memory")?;
+    let port = Damaged { bus, damage };
+    Ok(run_over(rt, alloc, port, pass, &image, config, &Open).err())
+}
+
+// The run has six events: the assignment, four submits and the commit.
+#[test]
+fn a_damaged_slip_tears_the_run(rt: HostRuntime) -> Result<(), Fail> {
+    assert_eq!(rt; ending(&rt, rt.alloc(), Damage::Nothing)?, None);
+    assert_eq!(rt; ending(&rt, rt.alloc(), Damage::Lost(6))?, None);
+    for index in 0..6 {
+        assert_eq!(rt;
+            ending(&rt, rt.alloc(), Damage::Lost(index))?,
+            Some(RunError::Torn)
+        );
+        assert_eq!(rt;
+            ending(&rt, rt.alloc(), Damage::Changed(index))?,
+            Some(RunError::Torn)
+        );
+        let other = (index + 1) % 6;
+        assert_eq!(rt;
+            ending(&rt, rt.alloc(), Damage::Exchanged(index, other))?,
+            Some(RunError::Torn)
+        );
+    }
+    Ok(())
+}
