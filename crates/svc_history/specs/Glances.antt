@@ -1,13 +1,12 @@
 -- What a unit thread sees of a recorder at a glance.
-use Rattle.std.specs.Prelude.{Bool, true, false, not, ◌≡◌, ℕ, ◌&&◌, ◌||◌, is_some}
+use Rattle.std.specs.Prelude.{Bool, true, false, ◌≡◌, ℕ, ◌||◌, is_some}
 use Rattle.svc_core_laws.specs.declared.end.Ending.{Ending}
 use Rattle.svc_core_laws.specs.declared.end.Ending.TheVariants as ending
-use Rattle.svc_core_laws.specs.Bursts.{Advance}
 use Rattle.svc_core_laws.specs.Sequence.{plain_seq}
 use Rattle.svc_core_laws.specs.Words.{program}
 use Rattle.svc_machine_laws.specs.Guess.{guess}
 use Rattle.svc_machine.specs.Value.{MachineValue}
-use Rattle.svc_machine.specs.Reads.{fits, is_full, lease_of, runs_head}
+use Rattle.svc_machine.specs.Reads.{is_full, lease_of, runs_head}
 use Rattle.svc_history.specs.declared.glance.Glance.{Glance}
 
 -- the ending is that of a full history
@@ -20,10 +19,6 @@ is_full_ending (ending.Open due) = false
 -- no further event of the run is accepted: it has stopped, or the history is full
 abbrev pub has_ended : MachineValue → Bool
 has_ended m = is_some (plain_seq m.image m.plain.commits).stopped || is_full m
-
--- the burst's unit may go on with it: the run hasn't ended, and its task stands where the burst begins
-abbrev pub goes_on : MachineValue → Advance → Bool
-goes_on m burst = not (has_ended m) && fits m burst
 
 -- the glance shows the machine as it stands
 pub record IsGlance (m : MachineValue) (unit : ℕ) (g : Glance) : Type 0 where

@@ -6,14 +6,13 @@ ghost use Rattle.svc_machine.specs.Value.{IsSequentialMachine};
 ghost use Rattle.svc_history_laws.specs.Board.{board};
 ghost use Rattle.svc_history_laws.specs.Entries.{entry_of};
 ghost use Rattle.svc_history.specs.Recorded.{IsCounted, IsLegal, standing_of};
-ghost use Rattle.svc_history.specs.Glances.{IsGlance, goes_on, has_ended, is_full_ending};
+ghost use Rattle.svc_history.specs.Glances.{IsGlance, has_ended, is_full_ending};
 
 use crate::glance::Glance;
 use crate::writing::{named, telling};
 use std::alloc::Global;
 use std::marker::Model;
 use svc_base::{Config, OpenError, Refusal, UnitId};
-use svc_core::Burst;
 use svc_core_laws::Ending;
 use svc_history_laws::{Entry, Slip};
 use svc_image::Image;
@@ -156,16 +155,5 @@ impl Recorder {
             is_head: machine.is_head(unit),
             guess: machine.guess(),
         })
-    }
-
-    /// Whether the burst's unit may go on with it: the run hasn't ended, and the unit's task stands where the burst begins.
-    /// A thread that has made such a burst already needs no glance before it submits it.
-    pub fn goes_on(&self, burst: &Burst) -> bool
-        ensures goes_on { result ≡ goes_on self.now.machine burst.now }
-        ensures legal { IsLegal self.now }
-    {
-        let _entries = &self.entries;
-        let machine = &self.machine;
-        !has_ended(machine) && machine.fits(burst)
     }
 }

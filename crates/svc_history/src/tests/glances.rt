@@ -1,7 +1,7 @@
 // What a unit's thread sees.
 
 use super::*;
-use crate::Glance;
+use crate::{Glance, Move};
 use svc_core::Lease;
 
 // All but the lease, of which only the entry is told where its task stands.
@@ -68,32 +68,66 @@ fn a_full_history_has_ended(rt: HostRuntime) -> Result<(), Fail> {
     Ok(())
 }
 
-// A burst goes on until it is taken, and none goes on where the history is full.
+// A unit begins at the guess, runs its task on, and commits it once that has ended and is the head; until then it waits.
 #[test]
-fn a_burst_goes_on_until_it_is_taken_or_the_history_is_full(rt: HostRuntime) -> Result<(), Fail> {
-    let mut recorder = opened(rt.alloc(), &P, 3)?;
+fn a_unit_moves_by_what_it_sees(rt: HostRuntime) -> Result<(), Fail> {
+    let mut recorder = opened(rt.alloc(), &P, 1_000)?;
+    assert_eq!(rt; next(&recorder, 1)?, Move::Begin { guess: 0 });
     play(&mut recorder, TEN[0])?;
     play(&mut recorder, TEN[1])?;
-    let first = lease(&recorder, 0)?.advance(recorder.machine().image(), 63);
-    let second = lease(&recorder, 1)?.advance(recorder.machine().image(), 63);
-    assert!(rt; recorder.goes_on(&first));
-    assert!(rt; recorder.goes_on(&second));
-    play(&mut recorder, TEN[2])?;
-    assert!(rt; !recorder.goes_on(&first));
-    assert!(rt; !recorder.goes_on(&second));
+    assert_eq!(rt; next(&recorder, 3)?, Move::Begin { guess: 0 });
+    assert_eq!(rt; next(&recorder, 1)?, Move::RunOn(lease(&recorder, 1)?));
+    for i in 2..4_usize {
+        play(&mut recorder, TEN[i])?;
+    }
+    assert_eq!(rt; next(&recorder, 0)?, Move::Commit);
+    for i in 4..9_usize {
+        play(&mut recorder, TEN[i])?;
+    }
+    assert_eq!(rt; next(&recorder, 1)?, Move::Commit);
+    play(&mut recorder, TEN[9])?;
+    for unit in 0..4 {
+        assert_eq!(rt; next(&recorder, unit)?, Move::Ended);
+    }
     Ok(())
 }
 
-// A burst that was submitted goes on no more.
+// Each field that the move hangs on, where it alone is turned.
 #[test]
-fn a_burst_goes_on_once(rt: HostRuntime) -> Result<(), Fail> {
+fn the_first_case_that_holds_tells_the_move(rt: HostRuntime) -> Result<(), Fail> {
     let mut recorder = opened(rt.alloc(), &P, 1_000)?;
-    play(&mut recorder, TEN[0])?;
-    let burst = lease(&recorder, 0)?.advance(recorder.machine().image(), 63);
-    assert!(rt; recorder.goes_on(&burst));
-    play(&mut recorder, TEN[3])?;
-    assert!(rt; !recorder.goes_on(&burst));
+    for i in 0..4_usize {
+        play(&mut recorder, TEN[i])?;
+    }
+    let glance = recorder.glance(UnitId(0)).ok().ok_or("a unit")?;
+    assert_eq!(rt; glance.next_move(), Move::Commit);
+    let later = Glance {
+        is_head: false,
+        ..glance
+    };
+    assert_eq!(rt; later.next_move(), Move::Wait);
+    let idle = Glance {
+        lease: None,
+        guess: Some(12),
+        ..glance
+    };
+    assert_eq!(rt; idle.next_move(), Move::Begin { guess: 12 });
+    let lost = Glance {
+        guess: None,
+        ..idle
+    };
+    assert_eq!(rt; lost.next_move(), Move::Wait);
+    let over = Glance {
+        ended: true,
+        ..glance
+    };
+    assert_eq!(rt; over.next_move(), Move::Ended);
     Ok(())
+}
+
+fn next(recorder: &Recorder, unit: u8) -> Result<Move, Fail> {
+    let glance = recorder.glance(UnitId(unit)).ok().ok_or("a unit")?;
+    Ok(glance.next_move())
 }
 
 fn lease(recorder: &Recorder, unit: u8) -> Result<Lease, Fail> {
