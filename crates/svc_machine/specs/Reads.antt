@@ -3,13 +3,11 @@ use Rattle.std.specs.Prelude.{ℕ, Bool, nat_le, Option, map, option_map}
 use Rattle.svc_core.specs.declared.burst.Lease.{Lease}
 use Rattle.svc_core_laws.specs.State.{State}
 use Rattle.svc_core_laws.specs.Words.{program}
-use Rattle.svc_core_laws.specs.Bursts.{Advance}
 use Rattle.svc_machine_laws.specs.PlainMachine.{unit_of}
 use Rattle.svc_machine_laws.specs.WholeMachine.{Seat, machine_of}
-use Rattle.svc_machine_laws.specs.Refusals.{is_current, seat_at}
+use Rattle.svc_machine_laws.specs.Refusals.{seat_at}
 use Rattle.svc_bus_laws.specs.Refusals as bus
 use Rattle.svc_machine.specs.Value.{MachineValue}
-use Rattle.svc_machine.specs.Refusing.{machine_at}
 
 -- the unit runs the head
 abbrev pub runs_head : MachineValue → (unit : ℕ) → Bool
@@ -22,10 +20,6 @@ lease_from seat = record { unit = record { 0 = seat.unit }; epoch = seat.epoch; 
 -- that of the unit's task, whose core is its part's, run anew
 abbrev pub lease_of : MachineValue → (unit : ℕ) → Option Lease
 lease_of m unit = option_map lease_from (seat_at (machine_of (program m.image) m.plain) unit)
-
--- the burst is of the task that its unit runs, and begins where that stands
-abbrev pub fits : MachineValue → Advance → Bool
-fits m burst = is_current burst (seat_at (machine_at m) burst.unit.0)
 
 -- no further event is accepted
 abbrev pub is_full : MachineValue → Bool

@@ -13,13 +13,12 @@ ghost use Rattle.svc_machine_laws.specs.Guess.{guess};
 ghost use Rattle.svc_machine_laws.specs.Reached.{IsReached};
 ghost use Rattle.svc_machine_laws.specs.Standing.{Standing};
 ghost use Rattle.svc_machine.specs.Value.{StandsAt};
-ghost use Rattle.svc_machine.specs.Reads.{fits, is_full, lease_of, runs_head};
+ghost use Rattle.svc_machine.specs.Reads.{is_full, lease_of, runs_head};
 
 use crate::machine::Machine;
-use crate::refuse::is_current;
 use crate::seat::place;
 use svc_base::{Config, UnitId, WordAddr};
-use svc_core::{Burst, Lease};
+use svc_core::Lease;
 use svc_core_laws::{End, Ending};
 use svc_image::Image;
 use svc_line::LineBits;
@@ -62,16 +61,6 @@ impl Machine {
                 Some(Lease::new(seat.unit, seat.epoch, seat.core))
             }
             None => None,
-        }
-    }
-
-    /// Whether the burst is of the task that its unit runs, and begins where that stands: submitted now it isn't stale.
-    pub fn fits(&self, burst: &Burst) -> bool
-        ensures { result ≡ fits self.now burst.now }
-    {
-        match self.seat_of(burst.unit()) {
-            Some(seat) => is_current(burst, seat),
-            None => false,
         }
     }
 
