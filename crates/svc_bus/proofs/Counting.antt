@@ -1,13 +1,17 @@
 -- Room to count the look-ups of one request, and how many they are.
-use Rattle.std.proofs.Common.{◌≡◌, refl, Bool, ℕ, ◌+◌, ◌<◌, ◌≤◌, true, false, ◌&&◌, Option, Some, List, length, arith, eq-eqb, Ok, Err, OnOk}
+use Rattle.std.proofs.Common.{◌≡◌, refl, Bool, ℕ, ◌+◌, ◌<◌, ◌≤◌, true, false, ◌&&◌, Option, Some, List, length, arith, eq-eqb, true≢false, Ok, Err, OnOk}
 use Rattle.std.specs.Prelude.{Result}
 use Rattle.svc_base.specs.declared.ids.UnitId.{UnitId}
+use Rattle.svc_base.specs.declared.served.Served.{Served}
+use Rattle.svc_base.specs.declared.served.Served.TheVariants.{Hit, Reuse, Version, Spill, Committed, Memory}
 use Rattle.svc_cache.specs.declared.probes.Probes.{Probes}
 use Rattle.svc_cache.specs.Places.{CacheValue}
 use Rattle.svc_bus_laws.specs.LineTable.{is_committed_dirty}
 use Rattle.svc_retire.specs.Caches.{line_in, SameSizes}
 use Rattle.svc_retire.specs.Purges.{is_purged, purges, HasRoomFor, CountsSearches}
 use Rattle.svc_retire.proofs.Counts.{how_many_within, how_many_room}
+use Rattle.svc_bus.specs.Carried.{is_hit}
+use Rattle.svc_bus.specs.Looking.{CountsUpTo, LookUps}
 
 -- a purge takes out no more lines than there are caches
 pub purges_few : (caches : List CacheValue) (keep : Option UnitId) (word : ℕ) → purges caches keep word ≤ length caches
@@ -40,6 +44,15 @@ room_less caches probes more fewer h room = record {
 
 -- one more look-up than a purge makes, which leaves the unit's line
 pub few_counted : {A E : Type 0} (r : Result A E) (caches : List CacheValue) (unit : UnitId) (word : ℕ) (first later : Probes) → unit.0 < length caches
-    → OnOk r (CountsSearches first later (purges caches (Some unit) word + 1)) → OnOk r (later.searches ≤ first.searches + length caches)
-few_counted (Ok x) caches unit word first later known counts = let fewer = purges_fewer caches unit word known in omega (arith, counts.searches, fewer)
+    → OnOk r (CountsSearches first later (purges caches (Some unit) word + 1)) → OnOk r (CountsUpTo first later (length caches))
+few_counted (Ok x) caches unit word first later known counts = let fewer = purges_fewer caches unit word known in record { kept = omega (arith, counts.searches); few = omega (arith, counts.searches, fewer) }
 few_counted (Err e) caches unit word first later known counts = tt
+
+-- the look-ups of a read that is no hit: one into each cache, and some for the changes
+pub look_ups : (served : Served) (caches : ℕ) (listed later : Probes) → is_hit served ≡ false → 0 < caches → listed.searches ≡ caches → CountsUpTo listed later caches → LookUps served later.searches caches
+look_ups Hit caches listed later miss some each counts = absurd (true≢false miss)
+look_ups Reuse caches listed later miss some each counts = record { some = omega (arith, some, each, counts.kept); few = omega (arith, each, counts.few) }
+look_ups (Version unit) caches listed later miss some each counts = record { some = omega (arith, each, counts.kept); few = omega (arith, each, counts.few) }
+look_ups Spill caches listed later miss some each counts = record { some = omega (arith, each, counts.kept); few = omega (arith, each, counts.few) }
+look_ups (Committed unit) caches listed later miss some each counts = record { some = omega (arith, each, counts.kept); few = omega (arith, each, counts.few) }
+look_ups Memory caches listed later miss some each counts = record { some = omega (arith, each, counts.kept); few = omega (arith, each, counts.few) }

@@ -1,10 +1,13 @@
 -- A read that the unit's own active line serves.
-use Rattle.std.proofs.Common.{◌≡◌, ◌∙◌, refl, sym, ap, subst, ℕ, ◌<◌, true, not, Option, Some, List, length, get_or}
+use Rattle.std.proofs.Common.{◌≡◌, ◌∙◌, refl, sym, ap, subst, ℕ, ◌<◌, Bool, true, false, not, ◌&&◌, true≢false, Option, Some, None, List, length, get_or, option_map}
+use Rattle.std.specs.Option.{ForSome}
 use Rattle.std.proofs.lemmas.Bool.{and_parts}
-use Rattle.svc_line.specs.Bits.{bits_of, is_active}
+use Rattle.svc_base.specs.declared.served.Served.{Served}
+use Rattle.svc_base.specs.declared.served.Served.TheVariants.{Hit as by_hit, Reuse, Version, Spill, Committed, Memory}
+use Rattle.svc_line.specs.Bits.{Bits, bits_of, is_active}
 use Rattle.svc_line.specs.Line.{SeenLine, seen}
 use Rattle.svc_line.specs.declared.line.Line.{Line}
-use Rattle.svc_cache.specs.Places.{CacheValue}
+use Rattle.svc_cache.specs.Places.{CacheValue, line_of}
 use Rattle.svc_vol.specs.Lines.{lines_in}
 use Rattle.svc_vcl.specs.Described.{bus_line_of, line_with}
 use Rattle.svc_retire.specs.Caches.{cache_at, line_in, numbered}
@@ -22,7 +25,9 @@ use Rattle.svc_bus_laws.proofs.Searches.{some_is}
 use Rattle.svc_bus_laws.proofs.SeenLaws.{active_line_is, supplier_seen, view_seen}
 use Rattle.svc_bus_laws.proofs.SoundSeen.{same_agrees, supplied_seen}
 use Rattle.svc_bus.proofs.Requests.{shown_is}
-use Rattle.svc_bus.proofs.Reading.{read_hit}
+use Rattle.svc_bus.specs.Value.{BusValue, IsSoundBus, table_of}
+use Rattle.svc_bus.specs.Carried.{is_hit}
+use Rattle.svc_bus.proofs.Reading.{IsPlanned, TellsKind, read_hit, told}
 
 -- a valid line that was found in a unit's cache, as callers of the bus see it
 pub found_is : (caches : List CacheValue) (word unit : ℕ) (line : Line) → lines_in caches word unit ≡ Some (seen line) → (bits_of line.bits).valid ≡ true
@@ -58,3 +63,26 @@ module _ (b : BusState) (t : LineTable) (place word unit : ℕ) (agrees : Agrees
     where
       here : table.is_active (line_at t place word) ≡ true
       here = sym (active_line_is (line_at t place word)) ∙ ap is_active_line (sym (agrees.lines (unit_at t place) word) ∙ ap (λ u. b.lines u word) at ∙ held) ∙ sym (ap is_active_line own) ∙ is_own
+
+-- a read of a unit without an active line of the word is no hit
+module _ (b : BusValue) (sound : IsSoundBus b) (p a : ℕ) (served : Served) (value : ℕ) (bits : Bits) (planned : IsPlanned b p a served value bits) (line : Option Line)
+    (found : lines_in b.caches a (get_or b.units p 0) ≡ option_map seen line) (idle : ForSome line (λ own. is_active (bits_of own.bits) ≡ false)) where
+  not_active : (valid commit : Bool) → valid ≡ true → (valid && not commit) ≡ false → not commit ≡ false
+  not_active true commit h e = e
+  not_active false commit h e = absurd (true≢false (sym h))
+
+  is_idle : (held : Option SeenLine) → HasV held → (own : Option Line) → held ≡ option_map seen own → ForSome own (λ (l : Line). is_active (bits_of l.bits) ≡ false) → table.is_active (numbered held) ≡ false
+  is_idle held valid None is none = ap (λ (l : Option SeenLine). table.is_active (numbered l)) is
+  is_idle held valid (Some line) is idle = ap (λ (l : Option SeenLine). table.is_active (numbered l)) is ∙ not_active (bits_of line.bits).valid (bits_of line.bits).commit (subst HasV is valid) (idle line refl)
+
+  misses : (s : Served) (active reusable : Bool) → TellsKind s active reusable → active ≡ false → is_hit s ≡ false
+  misses by_hit active reusable tells e = absurd (true≢false (sym tells ∙ e))
+  misses Reuse active reusable tells e = refl
+  misses (Version u) active reusable tells e = refl
+  misses Spill active reusable tells e = refl
+  misses (Committed u) active reusable tells e = refl
+  misses Memory active reusable tells e = refl
+
+  pub never_hit : is_hit served ≡ false
+  never_hit = misses served (table.is_active (line_at (table_of b) p a)) (table.is_reusable (line_at (table_of b) p a)) (told b sound p a served value bits planned)
+      (is_idle (line_of (cache_at b.caches (get_or b.units p 0)) a) (line_valid (cache_at b.caches (get_or b.units p 0)) a) line (sym (lines_are b.caches a (get_or b.units p 0)) ∙ found) idle)

@@ -143,13 +143,13 @@ pub record IsPlanned (b : BusValue) (p a : ℕ) (served : Served) (value : ℕ) 
   pub line : (bus_read (observed b) p a).lines (get_or b.units p 0) a ≡ Some (line_with value bits)
 
 module _ (b : BusValue) (sound : IsSoundBus b) (p a : ℕ) (served : Served) (value : ℕ) (bits : Bits) (planned : IsPlanned b p a served value bits) where
-  abbrev t : LineTable
+  abbrev pub t : LineTable
   t = table_of b
 
   own : Agrees (observed b) t
   own = own_agrees b sound.sound
 
-  told : TellsKind served (is_active (line_at t p a)) (is_reusable (line_at t p a))
+  pub told : TellsKind served (is_active (line_at t p a)) (is_reusable (line_at t p a))
   told = tells served (is_active (line_at t p a)) (is_reusable (line_at t p a)) (by_version t a (greatest p (λ q. is_some (version_in (line_at t q a))))) (requested t a _) (planned.served_by ∙ supplier_seen (observed b) t p a own)
 
   -- the unit's line after the read, as callers see it

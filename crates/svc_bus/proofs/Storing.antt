@@ -12,6 +12,7 @@ use Rattle.svc_vcl.specs.Planned.{is_named}
 use Rattle.svc_retire.specs.Caches.{line_in, SameSizes}
 use Rattle.svc_retire.specs.Purges.{keeps, is_purged, purges, CountsSearches, HasRoomFor}
 use Rattle.svc_retire.proofs.Counts.{how_many_within, how_many_room}
+use Rattle.svc_bus.specs.Looking.{CountsUpTo}
 use Rattle.svc_bus.specs.Marks.{EndBelow}
 use Rattle.svc_bus.specs.Stores.{ChangeOnce}
 
@@ -75,13 +76,13 @@ room_left before now probes_before probes_now unit word sizes counted room =
     }
 
 pub searches_few : (before now : List CacheValue) (first second third : Probes) (unit : UnitId) (word : ℕ) (stale : List UnitId) → unit.0 < length before → ChangeOnce before unit.0 word stale → SameSizes before now
-    → CountsSearches first second (purges before (Some unit) word + 1) → CountsSearches second third (how_many (length now) (is_named stale)) → third.searches ≤ first.searches + length before
+    → CountsSearches first second (purges before (Some unit) word + 1) → CountsSearches second third (how_many (length now) (is_named stale)) → CountsUpTo first third (length before)
 searches_few before now first second third unit word stale known once sizes put marked =
     let few = changes_few before unit word stale known once in
     let a = put.searches in
     let b = marked.searches in
     let same : how_many (length now) (is_named stale) ≡ how_many (length before) (is_named stale) = ap (λ n. how_many n (is_named stale)) sizes.count in
-    omega (arith, few, a, b, same)
+    record { kept = omega (arith, a, b); few = omega (arith, few, a, b, same) }
 
 -- ---- no line past the memory
 

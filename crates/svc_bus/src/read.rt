@@ -1,5 +1,6 @@
-ghost use Rattle.std.specs.Prelude.{◌≡◌, ℕ, ◌+◌, ◌<◌, ◌≤◌, ◌*◌, true, false, Some, None, length, get_or, option_map, IfOk, IfSome, OnOk, OnErr, MatchResult};
-ghost use Rattle.svc_line.specs.Bits.{bits_of};
+ghost use Rattle.std.specs.Option.{ForSome};
+ghost use Rattle.std.specs.Prelude.{◌≡◌, ℕ, ◌+◌, ◌<◌, true, false, Some, None, length, get_or, option_map, IfOk, IfSome, OnOk, OnErr, MatchResult};
+ghost use Rattle.svc_line.specs.Bits.{bits_of, is_active};
 ghost use Rattle.svc_line.specs.Line.{seen};
 ghost use Rattle.svc_cache.specs.Places.{line_of};
 ghost use Rattle.svc_cache.specs.Lines.{EndsBelow};
@@ -17,7 +18,7 @@ ghost use Rattle.svc_bus.specs.Observed.{observed};
 ghost use Rattle.svc_bus.specs.Room.{full_in};
 ghost use Rattle.svc_bus.specs.Carried.{is_hit, lines_after, memory_after};
 ghost use Rattle.svc_bus.specs.Calls.{IsAtWork, full_refusal};
-ghost use Rattle.svc_bus.specs.Looking.{IsOne};
+ghost use Rattle.svc_bus.specs.Looking.{CountsUpTo, IsOne, LookUps};
 
 use crate::Bus;
 use crate::request::{fill_in, place_of, put_line};
@@ -58,7 +59,7 @@ fn carry_out(
     ensures lines { OnOk result ((u a : ℕ) → line_in caches.new u a ≡ lines_after outcome.now.served (line_in caches.old) unit.0 word.0 (numbered (Some (seen outcome.now.line))) u a) }
     ensures memory { OnOk result ((a : ℕ) → get_or backing.new a 0 ≡ memory_after outcome.now.served (λ x. get_or backing.old x 0) word.0 (committed_in caches.old backing.old word.0) a) }
     ensures sizes { SameSizes caches.old caches.new }
-    ensures searches { OnOk result (probes.new.searches ≤ probes.old.searches + length caches.old) }
+    ensures searches { OnOk result (CountsUpTo probes.old probes.new (length caches.old)) }
 {
     match outcome.served {
         Served::Hit => Ok(()),
@@ -83,7 +84,7 @@ impl Bus {
         ensures value { (t : LineTable) → (place : ℕ) → Agrees (observed self.old) t → place < length t.units → unit_at t place ≡ unit.0 → IfOk result (λ r. r.0 ≡ view (versioned t) place word.0) }
         ensures served { (t : LineTable) → (place : ℕ) → Agrees (observed self.old) t → place < length t.units → unit_at t place ≡ unit.0 → IfOk result (λ r. supplier_of r.1 ≡ supplier t place word.0) }
         ensures table { (t : LineTable) → (place : ℕ) → Agrees (observed self.old) t → place < length t.units → unit_at t place ≡ unit.0 → OnOk result (Agrees (observed self.new) (read t place word.0)) }
-        ensures probes { OnOk result ((observed self.new).probes ≤ 2 * (observed self.old).caches) }
+        ensures probes { IfOk result (λ r. LookUps r.1 (observed self.new).probes (observed self.old).caches) }
     {
         let mut probes = Probes::new();
         match self.own_line(unit, word, &mut probes) {
@@ -119,13 +120,14 @@ impl Bus {
         requires at_work { IsAtWork (observed self.old) unit.0 }
         requires in_memory { word.0 < (observed self.old).words }
         requires line { lines_in self.old.caches word.0 unit.0 ≡ option_map seen line }
+        requires idle { ForSome line (λ own. is_active (bits_of own.bits) ≡ false) }
         requires one { IsOne probes }
         ensures refused { MatchResult result (λ _. full_refusal (observed self.old) unit.0 word.0 ≡ None) (λ e. full_refusal (observed self.old) unit.0 word.0 ≡ Some e) }
         ensures unchanged { OnErr result (self.new ≡ self.old) }
         ensures value { (t : LineTable) → (place : ℕ) → Agrees (observed self.old) t → place < length t.units → unit_at t place ≡ unit.0 → IfOk result (λ r. r.0 ≡ view (versioned t) place word.0) }
         ensures served { (t : LineTable) → (place : ℕ) → Agrees (observed self.old) t → place < length t.units → unit_at t place ≡ unit.0 → IfOk result (λ r. supplier_of r.1 ≡ supplier t place word.0) }
         ensures table { (t : LineTable) → (place : ℕ) → Agrees (observed self.old) t → place < length t.units → unit_at t place ≡ unit.0 → OnOk result (Agrees (observed self.new) (read t place word.0)) }
-        ensures probes { OnOk result ((observed self.new).probes ≤ 2 * (observed self.old).caches) }
+        ensures probes { IfOk result (λ r. LookUps r.1 (observed self.new).probes (observed self.old).caches) }
     {
         let place = place_of(&self.queue, unit);
         let list = VersionList::beside(&self.caches, &self.queue, word, unit, line, &mut probes);

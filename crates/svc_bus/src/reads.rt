@@ -57,6 +57,16 @@ impl Bus {
         self.caches[unit.0 as usize].full(word, &mut Probes::new())
     }
 
+    /// How many tasks were committed. Some line table agrees with the bus, so that a caller who is handed it can use the
+    /// clauses of its calls.
+    #[tactic(auto, unfolding(crate::specs::Observed::observed))]
+    pub fn committed_tasks(&self) -> u64
+        ensures count { result ≡ (observed self.now).commits }
+        ensures agrees { (t : LineTable) × Agrees (observed self.now) t }
+    {
+        self.commits
+    }
+
     /// How many cache look-ups the last accepted read or write made, each the search of one cache's set; 0 before the first.
     #[tactic(auto, unfolding(crate::specs::Observed::observed))]
     pub fn last_probes(&self) -> u32

@@ -8,6 +8,7 @@ ghost use Rattle.svc_vol.specs.declared.list.TheConstants.{CAPACITY};
 ghost use Rattle.svc_bus_laws.specs.Steps.{with_at};
 ghost use Rattle.svc_retire.specs.Caches.{line_in, numbered, SameSizes};
 ghost use Rattle.svc_retire.specs.Purges.{AreDistinct, committed_in, HasRoomFor};
+ghost use Rattle.svc_bus.specs.Looking.{CountsUpTo};
 ghost use Rattle.svc_bus.specs.Marks.{AreListed, EndBelow};
 ghost use Rattle.svc_bus.specs.Room.{full_in};
 ghost use Rattle.svc_bus.specs.Stores.{left_line, stored_line, ChangeOnce};
@@ -68,7 +69,7 @@ pub(crate) fn store_line(
     ensures lines { OnOk result ((u a : ℕ) → line_in caches.new u a ≡ left_line queue.now store.now.left u (stored_line (line_in caches.old) store.now.unit.0 store.now.word.0 (numbered (Some (seen store.now.line))) store.now.stale.now u a)) }
     ensures memory { OnOk result ((a : ℕ) → get_or backing.new a 0 ≡ with_at (λ x. get_or backing.old x 0) store.now.word.0 (committed_in caches.old backing.old store.now.word.0) a) }
     ensures sizes { SameSizes caches.old caches.new }
-    ensures searches { OnOk result (probes.new.searches ≤ probes.old.searches + length caches.old) }
+    ensures searches { OnOk result (CountsUpTo probes.old probes.new (length caches.old)) }
 {
     let Store {
         unit,

@@ -38,12 +38,6 @@ impl Bus {
         self.queue.len()
     }
 
-    fn committed_tasks(&self) -> u64
-        ensures { result ≡ (observed self.now).commits }
-    {
-        self.commits
-    }
-
     fn runs_head(&self, unit: UnitId) -> bool
         ensures { result ≡ is_head (observed self.now).units unit.0 }
     {

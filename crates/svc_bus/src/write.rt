@@ -1,4 +1,4 @@
-ghost use Rattle.std.specs.Prelude.{◌≡◌, ℕ, ◌+◌, ◌-◌, ◌*◌, ◌^◌, ◌<◌, ◌≤◌, Option, Some, None, length, option_map, IfOk, IfSome, OnOk, OnErr, MatchResult};
+ghost use Rattle.std.specs.Prelude.{◌≡◌, ℕ, ◌+◌, ◌-◌, ◌^◌, ◌<◌, ◌≤◌, Option, Some, None, length, option_map, IfOk, IfSome, OnOk, OnErr, MatchResult};
 ghost use Rattle.svc_vol.specs.declared.list.TheConstants.{CAPACITY};
 ghost use Rattle.svc_bus_laws.specs.Versioned.{victim_answer};
 ghost use Rattle.svc_bus_laws.specs.LineTable.{LineTable, unit_at, versioned};
@@ -6,6 +6,7 @@ ghost use Rattle.svc_bus_laws.specs.Steps.{write};
 ghost use Rattle.svc_bus_laws.specs.BusState.{Agrees};
 ghost use Rattle.svc_bus.specs.Observed.{observed};
 ghost use Rattle.svc_bus.specs.Calls.{IsAtWork, full_refusal, victim_shown};
+ghost use Rattle.svc_bus.specs.Looking.{LookUpsFrom};
 
 use crate::Bus;
 use crate::request::place_of;
@@ -51,7 +52,7 @@ impl Bus {
         ensures unchanged { OnErr result (self.new ≡ self.old) }
         ensures victim { (t : LineTable) → (place : ℕ) → Agrees (observed self.old) t → place < length t.units → unit_at t place ≡ unit.0 → IfOk result (λ v. option_map victim_shown v ≡ victim_answer (versioned t) place word.0) }
         ensures table { (t : LineTable) → (place : ℕ) → Agrees (observed self.old) t → place < length t.units → unit_at t place ≡ unit.0 → OnOk result (Agrees (observed self.new) (write t place word.0 value)) }
-        ensures probes { OnOk result ((observed self.new).probes ≤ 2 * (observed self.old).caches) }
+        ensures probes { OnOk result (LookUpsFrom (observed self.old).caches (observed self.new).probes (observed self.old).caches) }
     {
         let place = place_of(&self.queue, unit);
         let mut probes = Probes::new();

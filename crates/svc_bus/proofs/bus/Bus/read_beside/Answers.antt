@@ -2,23 +2,26 @@ use Rattle.std.proofs.Common.{◌≡◌, ◌∙◌, refl, sym, ap, ap₂, subst,
 use Rattle.std.proofs.lemmas.List.{with_items_is}
 use Rattle.svc_base.specs.declared.refusal.Refusal.TheVariants as refusal
 use Rattle.svc_line.specs.Bits.{bits_of}
+use Rattle.svc_line.specs.Line.{seen as seen_of}
 use Rattle.svc_cache.specs.Places.{CacheValue, line_of}
 use Rattle.svc_cache.specs.Lines.{EndsBelow}
 use Rattle.svc_cache.specs.declared.probes.Probes.{Probes}
-use Rattle.svc_vol.specs.Lines.{HasRoomForEach, CountsEachOther, CountsOneOfEach}
+use Rattle.svc_vol.specs.Lines.{HasRoomForEach, CountsEachOther, CountsOneOfEach, lines_in}
 use Rattle.svc_bus_laws.specs.LineTable.{Line}
 use Rattle.svc_retire.specs.Caches.{cache_at, line_in, numbered, SameSizes}
 use Rattle.svc_retire.specs.Purges.{HasRoomFor, committed_in}
 use Rattle.svc_retire.proofs.Listing.{read_item}
 use Rattle.svc_bus.specs.Value.{BusValue, table_of}
 use Rattle.svc_bus.specs.Observed.{observed}
-use Rattle.svc_bus.specs.Looking.{IsOne}
+use Rattle.svc_bus.specs.Looking.{CountsUpTo, IsOne}
 use Rattle.svc_bus.specs.Room.{full_in}
 use Rattle.svc_bus.specs.Carried.{lines_after, memory_after, is_hit}
 use Rattle.svc_bus.proofs.Full.{lines_end, full_shown}
 use Rattle.svc_bus.proofs.Keeping.{KeepsSizes}
 use Rattle.svc_bus.proofs.Requests.{AreFew, listed_describes, room_to_list, room_to_change, task_fits, units_known}
 use Rattle.svc_bus.proofs.Reading.{IsPlanned, never_refused, plan_clear, IsLookedUp, asked, own_asked, planned_read, read_bus, read_kept, served_seen, value_seen}
+use Rattle.svc_bus.proofs.Counting.{look_ups}
+use Rattle.svc_bus.proofs.Hitting.{never_hit}
 use Rattle.svc_bus.proofs.bus.Bus.read_beside.Goals as goal
 
 pub beside-list-requires-clause-room : goal.beside-list-requires-clause-room
@@ -188,3 +191,14 @@ returns-clause-table c =
     rw (with_items_is inside.caches c.carry_out.new.caches count, with_items_is inside.backing c.carry_out.new.backing words, ← c.self.view_is) (λ t place agrees within at.
     read_kept (before c) c.self.invariant c.place_of-place.result c.args.word.0 c.plan_read-plan.result.served c.plan_read-plan.result.value (bits_of c.plan_read-plan.result.bits) (seen_plan c known) (after c) (sizes_are c) refl refl refl (lines_are c) (memory_is c)
     t place agrees within (at ∙ sym c.place_of-place.ensures.at_work))
+
+pub returns-clause-probes : goal.returns-clause-probes
+unfolding observed
+returns-clause-probes c =
+    let known : c.args.word.0 < length (before c).backing = rw (← c.self.view_is) at c.requires.in_memory in
+    let one : IsOne c.args.probes = c.requires.one in
+    let each : CountsEachOther c.args.probes c.beside-list.new.probes (before c).caches = subst (CountsEachOther c.args.probes c.beside-list.new.probes) c.deref.ensures.value c.beside-list.ensures.counted in
+    let changed : CountsUpTo c.beside-list.new.probes c.carry_out.new.probes (length (before c).caches) = subst (λ (xs : List CacheValue). CountsUpTo c.beside-list.new.probes c.carry_out.new.probes (length xs)) c.deref_mut.ensures.value c.in_default.ensures.searches in
+    let found : lines_in (before c).caches c.args.word.0 (get_or (before c).units c.place_of-place.result 0) ≡ option_map seen_of c.args.line = rw (← c.self.view_is, ← c.place_of-place.ensures.at_work) at c.requires.line in
+    let miss = never_hit (before c) c.self.invariant c.place_of-place.result c.args.word.0 c.plan_read-plan.result.served c.plan_read-plan.result.value (bits_of c.plan_read-plan.result.bits) (seen_plan c known) c.args.line found c.requires.idle in
+    rw (← c.self.view_is) (look_ups c.plan_read-plan.result.served (length (before c).caches) c.beside-list.new.probes c.carry_out.new.probes miss c.self.invariant.some_caches (omega (arith, each.searches, one.searches)) changed)

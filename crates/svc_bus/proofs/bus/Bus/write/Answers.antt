@@ -1,4 +1,4 @@
-use Rattle.std.proofs.Common.{rules, ◌≡◌, ◌∙◌, ◌<◌, ◌+◌, refl, sym, ap, ap₂, subst, ℕ, Some, List, length, get_or, option_map}
+use Rattle.std.proofs.Common.{rules, ◌≡◌, ◌∙◌, ◌<◌, ◌+◌, refl, sym, ap, ap₂, subst, ℕ, Some, List, length, get_or, option_map, arith}
 use Rattle.std.proofs.lemmas.List.{with_items_is}
 use Rattle.svc_base.specs.declared.ids.UnitId.{UnitId}
 use Rattle.svc_base.specs.declared.refusal.Refusal.TheVariants as refusal
@@ -12,6 +12,7 @@ use Rattle.svc_retire.specs.Purges.{committed_in}
 use Rattle.svc_bus.specs.Value.{BusValue}
 use Rattle.svc_bus.specs.Observed.{observed}
 use Rattle.svc_bus.specs.Calls.{full_refusal}
+use Rattle.svc_bus.specs.Looking.{CountsUpTo}
 use Rattle.svc_bus.specs.Stores.{left_line, stored_line}
 use Rattle.svc_bus.proofs.Keeping.{KeepsSizes}
 use Rattle.svc_bus.proofs.Rooms.{room_for_each}
@@ -133,3 +134,13 @@ returns-clause-table c =
     let words : length c.store_line.new.backing ≡ inside.backing.len = (sizes_are c).backing ∙ sym inside.backing.ok.0 in
     rw (with_items_is inside.caches c.store_line.new.caches count, with_items_is inside.backing c.store_line.new.backing words, ← c.self.view_is)
     (λ s p agrees here is. written_agreed (before c) c.self.invariant c.place_of-place.result c.args.word.0 c.args.value (line c) (stale c) c.unwrap_or-left.result c.place_of-place.ensures.within known (plan_of c) (after c) (written c) s p agrees here (is ∙ sym c.place_of-place.ensures.at_work))
+
+pub returns-clause-probes : goal.returns-clause-probes
+unfolding observed
+returns-clause-probes c =
+    let each : CountsOneOfEach c.new-probes.result c.of-list.new.probes (before c).caches = subst (CountsOneOfEach c.new-probes.result c.of-list.new.probes) c.deref.ensures.value c.of-list.ensures.counted in
+    let changed : CountsUpTo c.of-list.new.probes c.store_line.new.probes (length (before c).caches) = subst (λ (xs : List CacheValue). CountsUpTo c.of-list.new.probes c.store_line.new.probes (length xs)) c.deref_mut.ensures.value c.in_ok-store_line.ensures.searches in
+    rw (← c.self.view_is) (record {
+      some = omega (arith, c.new-probes.ensures.searches, each.searches, changed.kept);
+      few = omega (arith, c.new-probes.ensures.searches, each.searches, changed.few);
+    })
