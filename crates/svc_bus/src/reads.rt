@@ -36,15 +36,16 @@ impl Bus {
         self.backing[word.0 as usize]
     }
 
-    /// The bits and the value of the unit's valid line of the word.
+    /// The bits and the value of the unit's valid line of the word. No other bit is set than those of the line that have names.
     #[tactic(auto, unfolding(crate::specs::Observed::observed))]
     pub fn line_at(&self, unit: UnitId, word: WordAddr) -> Option<(LineBits, u32)>
         requires known { unit.0 < (observed self.now).caches }
         ensures line { (t : LineTable) → Agrees (observed self.now) t → option_map line_shown result ≡ unnumbered (t.lines unit.0 word.0) }
         ensures valid { IfSome result (λ line. (bits_of line.0).valid ≡ true) }
+        ensures named { IfSome result (λ line. (bits_of line.0).unnamed ≡ 0) }
     {
         let line = self.caches[unit.0 as usize].lookup(word, &mut Probes::new())?;
-        Some((line.bits, line.value))
+        Some((line.bits.named(), line.value))
     }
 
     /// The word that a read or a write of this word by the unit would name as the one to be replaced first, where its set is

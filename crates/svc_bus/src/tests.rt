@@ -208,11 +208,15 @@ fn perform(rt: &impl Abort, bus: &mut Bus, step: Step) -> Answer {
     }
 }
 
-// The step makes at most two look-ups for each unit where it is an accepted read or write, and else changes none of the
-// counted ones.
+// A hit makes one look-up, a reuse at least one, any other accepted read or write at least one for each unit, and none more
+// than two for each; what is no accepted read or write leaves the number.
 fn check_probes(rt: &impl Abort, answer: Answer, before: u32, after: u32) {
     match answer {
-        Answer::WasRead(Ok(_)) | Answer::Written(Ok(_)) => assert!(rt; after <= 2 * UNITS),
+        Answer::WasRead(Ok((_, Served::Hit))) => assert_eq!(rt; after, 1),
+        Answer::WasRead(Ok((_, Served::Reuse))) => assert!(rt; after >= 1 && after <= 2 * UNITS),
+        Answer::WasRead(Ok(_)) | Answer::Written(Ok(_)) => {
+            assert!(rt; after >= UNITS && after <= 2 * UNITS);
+        }
         _ => assert_eq!(rt; before, after),
     }
 }

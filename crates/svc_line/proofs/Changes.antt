@@ -67,6 +67,20 @@ clear_commit n byte = λ i. record {
   unnamed = unnamed_by_mask n byte i;
 }
 
+-- the bits with a name stay, and the others go
+pub keep_named : (n : ℕ) → bits_in (bit_and n 31) ≡ record (bits_in n) { unnamed = 0 }
+keep_named n = λ i. record {
+  valid = kept_by_mask n 1 31 refl i;
+  store = kept_by_mask n 2 31 refl i;
+  load = kept_by_mask n 4 31 refl i;
+  commit = kept_by_mask n 8 31 refl i;
+  stale = kept_by_mask n 16 31 refl i;
+  unnamed = unnamed_gone i;
+}
+  where
+    unnamed_gone : bit_and n 31 / 32 ≡ 0
+    unnamed_gone = and_shr n 31 5 ∙ and_zero_r (n / 32)
+
 -- the same for lines
 pub with_commit : (line next : LineBits) → next.0 ≡ bit_or line.0 8 → bits_of next ≡ record (bits_of line) { commit = true }
 unfolding bits_of
@@ -79,3 +93,7 @@ with_stale line next set = ap bits_in set ∙ set_stale line.0
 pub with_reuse : (line cleared next : LineBits) → line.0 < 256 → cleared.0 ≡ bit_and line.0 247 → next.0 ≡ bit_or cleared.0 4 → bits_of next ≡ record (bits_of line) { commit = false; load = true }
 unfolding bits_of
 with_reuse line cleared next byte clear set = ap bits_in set ∙ set_load cleared.0 ∙ ap (λ n. record (bits_in n) { load = true }) clear ∙ ap (λ (b : Bits). record b { load = true }) (clear_commit line.0 byte)
+
+pub with_names : (line next : LineBits) → next.0 ≡ bit_and line.0 31 → bits_of next ≡ record (bits_of line) { unnamed = 0 }
+unfolding bits_of
+with_names line next kept = ap bits_in kept ∙ keep_named line.0

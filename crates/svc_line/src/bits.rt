@@ -22,6 +22,9 @@ bitflag_items! {
     }
 }
 
+// The bits that have names.
+const NAMED: u8 = 31;
+
 impl Flags for LineBits {
     type Bits = u8;
 
@@ -144,5 +147,12 @@ impl LineBits {
         ensures { bits_of result ≡ overtaken_now (bits_of self) }
     {
         self.union(LineBits::STALE)
+    }
+
+    /// The bits that have names, as they are.
+    pub fn named(self) -> LineBits
+        ensures { bits_of result ≡ record (bits_of self) { unnamed = 0 } }
+    {
+        LineBits(self.0 & NAMED)
     }
 }

@@ -13,6 +13,7 @@ fn the_bits_have_their_weights(rt: HostRuntime) {
     assert_eq!(rt; LineBits::LOAD, bits(4));
     assert_eq!(rt; LineBits::COMMIT, bits(8));
     assert_eq!(rt; LineBits::STALE, bits(16));
+    assert_eq!(rt; bits(255).named(), bits(1 + 2 + 4 + 8 + 16));
 }
 
 #[test]

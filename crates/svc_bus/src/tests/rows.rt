@@ -285,3 +285,34 @@ fn a_squash_in_the_middle_keeps_the_order(rt: HostRuntime) -> Result<(), Fail> {
         ],
     )
 }
+
+// One look into each of the four caches, one for the line that is put in, and one for each line that is purged or marked
+// stale; a hit looks into its own cache alone.
+#[test]
+fn the_look_ups_of_each_call_are_told(rt: HostRuntime) -> Result<(), Fail> {
+    let calls = [
+        (Begin(0), 0),
+        // from memory, and then a hit
+        (Read(0, 0), 5),
+        (Read(0, 0), 1),
+        (Commit, 1),
+        // over a committed copy, which is marked stale
+        (Begin(1), 1),
+        (Write(1, 0, 9), 6),
+        (Commit, 6),
+        // a committed version is purged
+        (Begin(2), 6),
+        (Read(2, 0), 6),
+        (Commit, 6),
+        // the committed copy is reused
+        (Begin(2), 6),
+        (Read(2, 0), 5),
+        (Replace(3, 0), 5),
+    ];
+    let mut bus = open(&rt, rt.alloc(), 16, 2, &[7, 0, 0, 0])?;
+    for (step, look_ups) in &calls {
+        perform(&rt, &mut bus, *step);
+        assert_eq!(&rt; bus.last_probes(), *look_ups, "at {step:?}");
+    }
+    Ok(())
+}
