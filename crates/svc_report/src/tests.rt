@@ -1,9 +1,7 @@
-// Texts as they are to be, byte for byte, and streams that fail.
+// Texts that no run of the program writes or reads, and streams that fail. The other texts are cases of `svc_cases`.
 
-mod bad_texts;
 mod round_trips;
 mod rows;
-mod scripts;
 mod streams;
 
 use std::alloc::Global;

@@ -1,7 +1,7 @@
 // Rows that are written, and read again.
 
-use crate::tests::{SUMMARY, TRACE, entries, long, plain};
-use crate::{Counts, read_trace, write_entry, write_summary, write_trace};
+use crate::tests::{long, plain};
+use crate::{ReportError, read_trace, write_entry, write_summary, write_trace};
 use std::alloc::Global;
 use std::str;
 use std::test::*;
@@ -18,14 +18,6 @@ fn is_row(alloc: Global, entry: Entry, row: &str) -> Result<bool, Fail> {
     )?;
     let read = read_trace(alloc, trace.as_bytes())?;
     Ok(text.as_slice() == row.as_bytes() && read.as_slice() == [entry].as_slice())
-}
-
-#[test]
-fn a_trace_is_written(rt: HostRuntime) -> Result<(), Fail> {
-    let mut text = Vec::new(rt.alloc());
-    write_trace(rt.alloc(), &entries(), &mut text)?;
-    assert!(rt; str::from_utf8(&text) == Ok(TRACE));
-    Ok(())
 }
 
 #[test]
@@ -50,37 +42,9 @@ fn a_long_trace_is_written(rt: HostRuntime) -> Result<(), Fail> {
     Ok(())
 }
 
+// No run that the program plays has these numbers.
 #[test]
-fn a_trace_is_read(rt: HostRuntime) -> Result<(), Fail> {
-    let read = read_trace(rt.alloc(), TRACE.as_bytes())?;
-    assert!(rt; read.as_slice() == entries().as_slice());
-    Ok(())
-}
-
-// Each kind, each reply, each supplier, each cause, and the greatest number of each column.
-#[test]
-fn rows_of_every_word(rt: HostRuntime) -> Result<(), Fail> {
-    let alloc = rt.alloc();
-    let mut replaced = plain(Kind::Replace, 15, ReplyKind::Replaced);
-    replaced.arg = Some(65535);
-    replaced.addr = Some(WordAddr(65535));
-    assert!(rt; is_row(alloc, replaced, "replace,15,65535,,,replaced,65535,,,,,,\n")?);
-    let mut cancelled = plain(Kind::Cancel, 3, ReplyKind::Cancelled);
-    cancelled.cause = Some(CutKind::Cancel);
-    cancelled.first = Some(7);
-    cancelled.squashed = Some(2);
-    assert!(rt; is_row(alloc, cancelled, "cancel,3,,,,cancelled,,,,,cancel,7,2\n")?);
-    let mut committed = plain(Kind::Commit, 0, ReplyKind::Committed);
-    committed.word = Some(10);
-    committed.cause = Some(CutKind::Guess);
-    committed.first = Some(11);
-    committed.squashed = Some(4);
-    assert!(rt; is_row(alloc, committed, "commit,0,,,,committed,,10,,,guess,11,4\n")?);
-    let mut trapped = plain(Kind::Submit, 2, ReplyKind::Trapped);
-    trapped.local = Some(0);
-    trapped.ask = Some(true);
-    trapped.word = Some(6);
-    assert!(rt; is_row(alloc, trapped, "submit,2,,0,1,trapped,,6,,,,,\n")?);
+fn a_row_of_the_greatest_numbers(rt: HostRuntime) -> Result<(), Fail> {
     let mut greatest = plain(Kind::Submit, 255, ReplyKind::Stored);
     greatest.arg = Some(u32::MAX);
     greatest.local = Some(63);
@@ -94,7 +58,7 @@ fn rows_of_every_word(rt: HostRuntime) -> Result<(), Fail> {
     greatest.squashed = Some(u32::MAX);
     assert!(rt;
         is_row(
-            alloc,
+            rt.alloc(),
             greatest,
             "submit,255,4294967295,63,0,stored,4294967295,4294967295,version,255,violation,4294967295,4294967295\n"
         )?
@@ -102,85 +66,39 @@ fn rows_of_every_word(rt: HostRuntime) -> Result<(), Fail> {
     Ok(())
 }
 
+// What stands there already stays.
 #[test]
-fn rows_of_every_supplier(rt: HostRuntime) -> Result<(), Fail> {
+fn a_summary_of_the_greatest_numbers(rt: HostRuntime) -> Result<(), Fail> {
     let alloc = rt.alloc();
-    let mut read = plain(Kind::Submit, 1, ReplyKind::Loaded);
-    read.served = Some(ServedKind::Hit);
-    assert!(rt; is_row(alloc, read, "submit,1,,,,loaded,,,hit,,,,\n")?);
-    read.served = Some(ServedKind::Reuse);
-    assert!(rt; is_row(alloc, read, "submit,1,,,,loaded,,,reuse,,,,\n")?);
-    read.served = Some(ServedKind::Version);
-    assert!(rt; is_row(alloc, read, "submit,1,,,,loaded,,,version,,,,\n")?);
-    read.served = Some(ServedKind::Spill);
-    assert!(rt; is_row(alloc, read, "submit,1,,,,loaded,,,spill,,,,\n")?);
-    read.served = Some(ServedKind::Committed);
-    assert!(rt; is_row(alloc, read, "submit,1,,,,loaded,,,committed,,,,\n")?);
-    read.served = Some(ServedKind::Memory);
-    assert!(rt; is_row(alloc, read, "submit,1,,,,loaded,,,memory,,,,\n")?);
-    Ok(())
-}
-
-#[test]
-fn the_counts_of_a_trace(rt: HostRuntime) -> Result<(), Fail> {
-    let counts = Counts::of(&entries());
-    let expected = Counts {
-        assign: 3,
-        submit: 5,
-        replace: 0,
-        cancel: 0,
-        commit: 2,
-        hit: 0,
-        reuse: 0,
-        version: 0,
-        spill: 0,
-        committed: 1,
-        memory: 1,
-        violation: 1,
-        guess: 0,
-        cancelled: 0,
-    };
-    assert!(rt; counts == expected);
-    Ok(())
-}
-
-#[test]
-fn a_summary_with_counts(rt: HostRuntime) -> Result<(), Fail> {
-    let mut text = Vec::new(rt.alloc());
-    let counts = Counts::of(&entries());
-    write_summary(
-        rt.alloc(),
-        &[5],
-        2,
-        Ending::Exit(5),
-        Some(counts),
-        &mut text,
-    )?;
-    assert!(rt; str::from_utf8(&text) == Ok(SUMMARY));
-    Ok(())
-}
-
-#[test]
-fn summaries_without_counts(rt: HostRuntime) -> Result<(), Fail> {
-    let alloc = rt.alloc();
-    let mut text = Vec::new(alloc);
-    write_summary(alloc, &[], 0, Ending::Open(0), None, &mut text)?;
-    assert!(rt; str::from_utf8(&text) == Ok("tasks,0\nopen,0\n"));
-    // What stands there already stays.
+    let mut text = Vec::from_slice(alloc, b"before\n")?;
     write_summary(
         alloc,
         &[7, u32::MAX],
         u64::MAX,
-        Ending::Trap(9),
+        Ending::Full(u32::MAX),
         None,
         &mut text,
     )?;
     assert!(rt;
         str::from_utf8(&text)
-            == Ok("tasks,0\nopen,0\nout,7\nout,4294967295\ntasks,18446744073709551615\ntrap,9\n")
+            == Ok("before\nout,7\nout,4294967295\ntasks,18446744073709551615\nfull,4294967295\n")
     );
-    let mut text = Vec::new(alloc);
-    write_summary(alloc, &[], 1, Ending::Full(12), None, &mut text)?;
-    assert!(rt; str::from_utf8(&text) == Ok("tasks,1\nfull,12\n"));
+    Ok(())
+}
+
+// A field that is no text is a bad field.
+#[test]
+fn bytes_that_are_no_text(rt: HostRuntime) -> Result<(), Fail> {
+    let mut text = Vec::new(rt.alloc());
+    text.extend_from_slice(
+        b"kind,unit,arg,local,ask,reply,addr,word,served,from,cause,first,squashed\n",
+    )?;
+    text.extend_from_slice(b"assign,\xff,0,,,assigned,,0,,,,,\n")?;
+    assert!(rt;
+        matches!(
+            read_trace(rt.alloc(), text.as_slice()),
+            Err(ReportError::Row { row: 2, column: 2 })
+        )
+    );
     Ok(())
 }
