@@ -6,7 +6,7 @@ use Rattle.svc_program.specs.declared.request.Request.{Request}
 use Rattle.svc_program.specs.declared.request.Request.TheVariants as request
 
 -- the texts of words, the program's name first
-abbrev pub texts : List String → List (List ℕ)
+abbrev pub texts : {A : Type 0} → List (String A) → List (List ℕ)
 texts words = map string_bytes words
 
 -- a word by which help is asked for

@@ -1,7 +1,6 @@
 //! What the words of a command line ask for.
 
-ghost use Rattle.std.specs.Prelude.{◌≡◌, ◌≢◌, ◌<◌, ◌≤◌, IfOk, IfErr, IsTrue, length, codes};
-ghost use Rattle.svc_program.specs.Faults.{IsReportFault};
+ghost use Rattle.std.specs.Prelude.{◌≡◌, ◌≢◌, IfOk, IsTrue};
 ghost use Rattle.svc_command.specs.Asked.{Has, IsBuiltInRun, IsHelpWord, IsNamed, IsVersionWord, MayAsk, Names, texts};
 
 use crate::command::command;
