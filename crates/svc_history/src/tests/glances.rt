@@ -2,92 +2,113 @@
 
 use super::*;
 use crate::{Glance, Move};
-use svc_core::Lease;
 
-// All but the lease, of which only the entry is told where its task stands.
-fn seen(glance: Glance) -> (bool, Option<u32>, bool, Option<u32>) {
-    let at = match &glance.lease {
-        Some(lease) => Some(lease.core.pc()),
-        None => None,
-    };
-    (glance.ended, at, glance.is_head, glance.guess)
+// All of a glance but the lease, of which only the place where its task stands is told.
+type Seen = (bool, Option<u32>, bool, Option<u32>);
+
+// A move, with the guess of the task that it begins, or the place of the task that it runs on.
+#[derive(Clone, Copy, Debug, PartialEq, Eq)]
+enum Step {
+    Begin(u32),
+    RunOn(u32),
+    Commit,
+    Wait,
+    Ended,
 }
 
-fn glance(
-    recorder: &Recorder,
-    unit: u8,
-) -> Result<(bool, Option<u32>, bool, Option<u32>), Refusal> {
-    match recorder.glance(UnitId(unit)) {
-        Ok(glance) => Ok(seen(glance)),
-        Err(refusal) => Err(refusal),
+// A recorder with room for so many entries, after so many of the ten events.
+fn after(alloc: Global, room: u32, count: usize) -> Result<Recorder, Fail> {
+    let mut recorder = opened(alloc, &P, room)?;
+    for line in TEN.iter().take(count) {
+        play(&mut recorder, *line)?;
     }
+    Ok(recorder)
+}
+
+// The unit's glance then.
+fn glance(
+    alloc: Global,
+    room: u32,
+    count: usize,
+    unit: u8,
+) -> Result<Result<Glance, Refusal>, Fail> {
+    let recorder = after(alloc, room, count)?;
+    Ok(recorder.glance(UnitId(unit)))
+}
+
+fn seen(alloc: Global, room: u32, count: usize, unit: u8) -> Result<Result<Seen, Refusal>, Fail> {
+    Ok(match glance(alloc, room, count, unit)? {
+        Ok(glance) => {
+            let at = match &glance.lease {
+                Some(lease) => Some(lease.core.pc()),
+                None => None,
+            };
+            Ok((glance.ended, at, glance.is_head, glance.guess))
+        }
+        Err(refusal) => Err(refusal),
+    })
 }
 
 #[test]
 fn glances_follow_the_events(rt: HostRuntime) -> Result<(), Fail> {
-    let mut recorder = opened(rt.alloc(), &P, 1_000)?;
-    assert_eq!(rt; glance(&recorder, 9), Err(Refusal::NoSuchUnit));
-    assert_eq!(rt; glance(&recorder, 4), Err(Refusal::NoSuchUnit));
-    assert_eq!(rt; glance(&recorder, 3), Ok((false, None, false, Some(0))));
-    play(&mut recorder, TEN[0])?;
-    assert_eq!(rt; glance(&recorder, 0), Ok((false, Some(0), true, Some(12))));
-    play(&mut recorder, TEN[1])?;
-    assert_eq!(rt;
-        glance(&recorder, 0).map(|(_, at, head, _)| (at, head)),
-        Ok((Some(0), true))
-    );
-    assert_eq!(rt;
-        glance(&recorder, 1).map(|(_, at, head, _)| (at, head)),
-        Ok((Some(12), false))
-    );
-    for i in 2..5_usize {
-        play(&mut recorder, TEN[i])?;
-    }
-    assert_eq!(rt; glance(&recorder, 0), Ok((false, None, false, Some(12))));
-    for i in 5..10_usize {
-        play(&mut recorder, TEN[i])?;
-    }
-    for unit in 0..4 {
-        assert_eq!(rt; glance(&recorder, unit), Ok((true, None, false, None)));
+    let rows: [(usize, u8, Result<Seen, Refusal>); 9] = [
+        (0, 9, Err(Refusal::NoSuchUnit)),
+        (0, 4, Err(Refusal::NoSuchUnit)),
+        (0, 3, Ok((false, None, false, Some(0)))),
+        (1, 0, Ok((false, Some(0), true, Some(12)))),
+        (2, 0, Ok((false, Some(0), true, Some(0)))),
+        (2, 1, Ok((false, Some(12), false, Some(0)))),
+        (5, 0, Ok((false, None, false, Some(12)))),
+        (10, 0, Ok((true, None, false, None))),
+        (10, 3, Ok((true, None, false, None))),
+    ];
+    for (count, unit, wanted) in rows {
+        let found = seen(rt.alloc(), 1_000, count, unit)?;
+        assert_eq!(rt; found, wanted, "{count} events, unit {unit}");
     }
     Ok(())
 }
 
 #[test]
 fn a_full_history_has_ended(rt: HostRuntime) -> Result<(), Fail> {
-    let mut recorder = opened(rt.alloc(), &P, 5)?;
-    for i in 0..4_usize {
-        play(&mut recorder, TEN[i])?;
+    for (count, ended) in [(4, false), (5, true)] {
+        let found = seen(rt.alloc(), 5, count, 1)?;
+        assert_eq!(rt; found, Ok((ended, None, false, Some(12))), "{count} events");
     }
-    assert_eq!(rt;
-        glance(&recorder, 1).map(|(ended, _, _, _)| ended),
-        Ok(false)
-    );
-    play(&mut recorder, TEN[4])?;
-    assert_eq!(rt; glance(&recorder, 1), Ok((true, None, false, Some(12))));
     Ok(())
+}
+
+fn told(next: Move) -> Step {
+    match next {
+        Move::Begin { guess } => Step::Begin(guess),
+        Move::RunOn(lease) => Step::RunOn(lease.core.pc()),
+        Move::Commit => Step::Commit,
+        Move::Wait => Step::Wait,
+        Move::Ended => Step::Ended,
+    }
 }
 
 // A unit begins at the guess, runs its task on, and commits it once that has ended and is the head; until then it waits.
 #[test]
 fn a_unit_moves_by_what_it_sees(rt: HostRuntime) -> Result<(), Fail> {
-    let mut recorder = opened(rt.alloc(), &P, 1_000)?;
-    assert_eq!(rt; next(&recorder, 1)?, Move::Begin { guess: 0 });
-    play(&mut recorder, TEN[0])?;
-    play(&mut recorder, TEN[1])?;
-    assert_eq!(rt; next(&recorder, 3)?, Move::Begin { guess: 0 });
-    assert_eq!(rt; next(&recorder, 1)?, Move::RunOn(lease(&recorder, 1)?));
-    for i in 2..4_usize {
-        play(&mut recorder, TEN[i])?;
-    }
-    assert_eq!(rt; next(&recorder, 0)?, Move::Commit);
-    for i in 4..9_usize {
-        play(&mut recorder, TEN[i])?;
-    }
-    assert_eq!(rt; next(&recorder, 1)?, Move::Commit);
-    play(&mut recorder, TEN[9])?;
-    for unit in 0..4 {
-        assert_eq!(rt; next(&recorder, unit)?, Move::Ended);
+    let rows = [
+        (0, 1, Step::Begin(0)),
+        (2, 3, Step::Begin(0)),
+        (2, 1, Step::RunOn(12)),
+        (4, 0, Step::Commit),
+        (9, 1, Step::Commit),
+        (10, 0, Step::Ended),
+        (10, 3, Step::Ended),
+    ];
+    for (count, unit, wanted) in rows {
+        let glance = glance(rt.alloc(), 1_000, count, unit)?
+            .ok()
+            .ok_or("a unit")?;
+        assert_eq!(rt;
+            told(glance.next_move()),
+            wanted,
+            "{count} events, unit {unit}"
+        );
     }
     Ok(())
 }
@@ -95,42 +116,33 @@ fn a_unit_moves_by_what_it_sees(rt: HostRuntime) -> Result<(), Fail> {
 // Each field that the move hangs on, where it alone is turned.
 #[test]
 fn the_first_case_that_holds_tells_the_move(rt: HostRuntime) -> Result<(), Fail> {
-    let mut recorder = opened(rt.alloc(), &P, 1_000)?;
-    for i in 0..4_usize {
-        play(&mut recorder, TEN[i])?;
-    }
-    let glance = recorder.glance(UnitId(0)).ok().ok_or("a unit")?;
-    assert_eq!(rt; glance.next_move(), Move::Commit);
+    let glance = glance(rt.alloc(), 1_000, 4, 0)?.ok().ok_or("a unit")?;
     let later = Glance {
         is_head: false,
         ..glance
     };
-    assert_eq!(rt; later.next_move(), Move::Wait);
     let idle = Glance {
         lease: None,
         guess: Some(12),
         ..glance
     };
-    assert_eq!(rt; idle.next_move(), Move::Begin { guess: 12 });
     let lost = Glance {
         guess: None,
         ..idle
     };
-    assert_eq!(rt; lost.next_move(), Move::Wait);
     let over = Glance {
         ended: true,
         ..glance
     };
-    assert_eq!(rt; over.next_move(), Move::Ended);
+    let rows = [
+        (glance, Step::Commit),
+        (later, Step::Wait),
+        (idle, Step::Begin(12)),
+        (lost, Step::Wait),
+        (over, Step::Ended),
+    ];
+    for (glance, wanted) in rows {
+        assert_eq!(rt; told(glance.next_move()), wanted);
+    }
     Ok(())
-}
-
-fn next(recorder: &Recorder, unit: u8) -> Result<Move, Fail> {
-    let glance = recorder.glance(UnitId(unit)).ok().ok_or("a unit")?;
-    Ok(glance.next_move())
-}
-
-fn lease(recorder: &Recorder, unit: u8) -> Result<Lease, Fail> {
-    let glance = recorder.glance(UnitId(unit)).ok().ok_or("a unit")?;
-    Ok(glance.lease.ok_or("a task")?)
 }
