@@ -39,10 +39,6 @@ guess_after entries due successor (Some e) = Some (unwrap_or (successor e) (entr
 abbrev pub guess : {C : Type 0} → Program C → List ℕ → Plain → Option ℕ
 guess p entries s = guess_after entries (seq p s.commits).due (successor_at p s.commits) (youngest (map entry_of s.tasks))
 
--- the entry of the next task to commit
-abbrev pub due_of : {C : Type 0} → Program C → Plain → Option ℕ
-due_of p s = (seq p s.commits).due
-
 -- once the run has stopped there is no guess; until then there is one, and it is an entry
 pub record IsGuess (img : Image) (s : Plain) : Type 0 where
   pub stopped : is_some (seq (program img) s.commits).stopped ≡ true → guess (program img) img.entries s ≡ None
