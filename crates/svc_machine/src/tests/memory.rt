@@ -24,13 +24,18 @@ fn opened_at_last(rt: &impl Abort, alloc: Global) -> Result<Machine, Fail> {
     Err(Fail::from("memory"))
 }
 
-#[test]
-fn events_take_no_memory(rt: HostRuntime) -> Result<(), Fail> {
-    let mut machine = opened_at_last(&rt, rt.alloc())?;
+// What the last of the ten events is answered, and the first word put out.
+fn played(rt: &impl Abort, alloc: Global) -> Result<(What, Option<u32>), Fail> {
+    let mut machine = opened_at_last(rt, alloc)?;
     first_six(&mut machine)?;
     let last = last_four(&mut machine)?;
+    Ok((last.what, machine.output().first().copied()))
+}
+
+#[test]
+fn events_take_no_memory(rt: HostRuntime) -> Result<(), Fail> {
     let (task, end) = (TaskNo(1), End::Exit(5));
-    assert_eq!(rt; last.what, What::Committed { task, end });
-    assert_eq!(rt; machine.output(), [5].as_slice());
+    let wanted = (What::Committed { task, end }, Some(5));
+    assert_eq!(rt; played(&rt, rt.alloc())?, wanted);
     Ok(())
 }
