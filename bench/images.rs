@@ -6,6 +6,8 @@
 //! - `local`: the same with one load and one store, which come after the other turns.
 //! - `memory`: the same with 200 loads and 100 stores and few other turns; half of the loads are of words that all share.
 //! - `small`, `large`: 150,000 tasks of four turns, with a load and a store, over 100 and over 65,536 data words.
+//! - `short`: tasks of one turn each, one after another at one entry, without an end.
+//! - `spin`: 960 tasks of 65,000 turns each that touch registers alone and ask nothing, each at an entry of its own.
 
 use std::{env, fs, process};
 
@@ -198,6 +200,25 @@ fn many_commits(words: usize) -> Vec<u8> {
     image(&[0], &text, &data)
 }
 
+/// Each task is one jump to its own entry.
+fn one_turn() -> Vec<u8> {
+    image(&[0], &[jal(0, 0)], &[0])
+}
+
+/// Each task counts down from 32,499 and goes on to the next entry; the last one exits.
+fn spin() -> Vec<u8> {
+    const SPINNING: u32 = 960;
+    let mut text = Vec::new();
+    for _ in 0..SPINNING {
+        text.extend([lui(28, 8), addi(28, 28, -269)]);
+        let round = text.len();
+        repeat(&mut text, 28, round);
+    }
+    text.push(ECALL);
+    let entries: Vec<u32> = (0..=SPINNING).map(|task| 16 * task).collect();
+    image(&entries, &text, &[0])
+}
+
 fn main() {
     let words: Vec<String> = env::args().skip(1).collect();
     let [name, file] = words.as_slice() else {
@@ -211,6 +232,8 @@ fn main() {
         "memory" => memory(),
         "small" => many_commits(100),
         "large" => many_commits(65_536),
+        "short" => one_turn(),
+        "spin" => spin(),
         _ => process::exit(1),
     };
     fs::write(file, bytes).expect("the image is written");

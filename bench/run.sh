@@ -21,7 +21,8 @@ for name in images plain_twin threads_twin; do
     rustc -O -C codegen-units=1 --edition 2024 -o "$folder/$name" "$root/bench/$name.rs"
 done
 cd "$folder"
-for name in loop local apart memory small large; do
+./images short short.svci
+for name in loop local apart memory small large spin; do
     ./images "$name" "$name.svci"
     ./plain_twin "$name.svci" 1000000 > "$name.expected"
 done
@@ -67,6 +68,16 @@ race_run() {
     note "$row" twin "${tasks:-$(events_printed)}"
 }
 
+# A million events of tasks of one turn, which no run ends: what both print is compared with each other.
+race_short() {
+    timed "$svcsim" run short.svci --units 1 --events 1000000 --turns 10000000
+    cp printed short.expected
+    note short proved 1000000
+    timed ./threads_twin run short.svci 1 1000000 -
+    cmp printed short.expected
+    note short twin 1000000
+}
+
 # A history of 100,000 entries by one unit, written and checked. One unit leaves no choice, so the traces are the same.
 race_trace() {
     timed "$svcsim" run memory.svci --units 1 --events 100000 --turns 10000000 --trace proved.csv
@@ -90,6 +101,8 @@ for ((round = 0; round < rounds; round++)); do
         race_run apart "$units" "apart-$units"
         race_run memory "$units" "memory-$units"
     done
+    race_short
+    race_run spin 1 spin
     race_trace
     race_run small 1 commit-100 150000
     race_run large 1 commit-65536 150000
@@ -153,6 +166,8 @@ awk -v rounds="$rounds" '
             row("apart-" i, "run, long bursts, units: " i ", million events a second", -1, "%7.3f")
         for (i = 1; i <= 4; i *= 2)
             row("memory-" i, "run, loads and stores, units: " i ", million events a second", -1, "%7.3f")
+        row("short", "run, tasks of one turn, units: 1, million events a second", -1, "%7.3f")
+        row("spin", "run, turns that ask nothing, units: 1, million events a second", -1, "%7.3f")
         row("trace", "run --trace, seconds for 100,000 entries", 100000, "%7.3f")
         row("check", "check, seconds for 100,000 entries", 100000, "%7.3f")
         row("commit-100", "a task of two accesses over 100 words, ns", 1e9, "%7.0f")
