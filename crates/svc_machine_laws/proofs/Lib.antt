@@ -29,4 +29,4 @@ pub mod Guessing
 pub mod Suppliers
 pub mod EmptyBursts
 pub mod Room
-mod Checks
+pub mod Checks
