@@ -1,5 +1,5 @@
 -- The cut of each entry of a legal history has its blame.
-use Rattle.std.proofs.Common.{inl, inr, ℕ, suc, ◌≡◌, Bool, true, false, length, is_some, List, Option, Some, None, refl, sym, ap, ◌∙◌, subst, option_map, slice_get, take}
+use Rattle.std.proofs.Common.{inl, inr, ℕ, suc, ◌≡◌, length, is_some, List, Option, Some, None, refl, sym, ap, ◌∙◌, subst, option_map, slice_get, take}
 use Rattle.svc_base.specs.declared.config.Config.{Config}
 use Rattle.svc_base.specs.declared.ids.WordAddr.{WordAddr}
 use Rattle.svc_base.specs.declared.served.Served.{Served}
@@ -18,7 +18,7 @@ use Rattle.svc_machine_laws.specs.PlainMachine.{Plain, running, run_done, run_en
 use Rattle.svc_machine_laws.specs.WholeMachine as whole
 use Rattle.svc_machine_laws.specs.WholeMachine.{Machine, is_misled, machine_of, seen}
 use Rattle.svc_machine_laws.specs.Events.{Event, IsEvent, Submit, task_place, asked_want}
-use Rattle.svc_machine_laws.specs.Replies.{checked, turn_done, serves_at, whole_asked, whole_submitted, whole_reply, plain_reply}
+use Rattle.svc_machine_laws.specs.Replies.{turn_done, serves_at, whole_asked, whole_submitted, whole_reply, plain_reply}
 use Rattle.svc_machine_laws.specs.Standing.{Standing, opened_at, refused, reply_to}
 use Rattle.svc_machine_laws.specs.Reached.{IsReached}
 use Rattle.svc_machine_laws.specs.Blame.{Writes, IsCutAt, IsBlamedOn, Misleads}
@@ -26,6 +26,7 @@ use Rattle.svc_machine_laws.proofs.Given.{Given}
 use Rattle.svc_machine_laws.proofs.Accepted.{can_submit, seat_places}
 use Rattle.svc_machine_laws.proofs.Answering.{reply_is}
 use Rattle.svc_machine_laws.proofs.Blames.{blamed}
+use Rattle.svc_machine_laws.proofs.TaskLogs.{checked_what}
 use Rattle.svc_history_laws.specs.declared.entry.ReplyKind.TheVariants as reply
 use Rattle.svc_history_laws.specs.declared.entry.Entry.{Entry}
 use Rattle.svc_history_laws.specs.Entries.{entry_of, named, reply_told, address_told, why_cut, cause_of, first_of, count_of}
@@ -38,11 +39,7 @@ use Rattle.svc_history_laws.proofs.Histories.{Stands, stands, tallies}
 
 -- the check of a guess leaves what a submit is answered
 pub submitted_what : (p : Program State) (m : Machine State) (t : LineTable) (place : ℕ) (end : State) (w : Option (Want State)) → (whole_submitted p m t (Some place) end w).what ≡ (whole_asked p m t place w).what
-submitted_what p m t place end w = of (is_misled p (whole.submit m place end w).seats place)
-  where
-    of : (c : Bool) → (checked c m.versioned.commits (length m.seats) place (whole_asked p m t place w)).what ≡ (whole_asked p m t place w).what
-    of true = refl
-    of false = refl
+submitted_what p m t place end w = checked_what (is_misled p (whole.submit m place end w).seats place) m.versioned.commits (length m.seats) place (whole_asked p m t place w)
 
 -- what a turn that writes is answered
 record IsStored (a : ℕ) (w : What) : Type 0 where

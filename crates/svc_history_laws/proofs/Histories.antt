@@ -1,5 +1,5 @@
 -- Where legal histories lead.
-use Rattle.std.proofs.Common.{◌∙◌, Bool, true, false, cond, is_some, ℕ, zero, suc, ◌≡◌, ◌+◌, ◌≤◌, List, [], ◌∷◌, Option, Some, None, refl, sym, ap, subst, arith, length, slice_get, take, option_map, unwrap_or}
+use Rattle.std.proofs.Common.{◌∙◌, is_some, ℕ, zero, suc, ◌≡◌, ◌+◌, ◌≤◌, List, [], ◌∷◌, Option, Some, None, refl, sym, ap, subst, arith, length, slice_get, take, option_map, unwrap_or}
 use Rattle.std.proofs.lemmas.Option.{none-some, same_Some}
 use Rattle.svc_base.specs.declared.config.Config.{Config}
 use Rattle.svc_image.specs.Image.{Image}
@@ -13,6 +13,7 @@ use Rattle.svc_machine_laws.specs.Reached.{IsReached}
 use Rattle.svc_machine_laws.specs.Blame.{tasks_cut, begun}
 use Rattle.svc_machine_laws.proofs.Given.{Given}
 use Rattle.svc_machine_laws.proofs.Accepted.{can_submit, can_cancel}
+use Rattle.svc_machine_laws.proofs.Checks.{check_accepted}
 use Rattle.svc_machine_laws.proofs.Folds.{step_commits, opened_reached}
 use Rattle.svc_machine_laws.proofs.Numbers.{all_counted}
 use Rattle.svc_machine_laws.proofs.Standings.{step_reached}
@@ -84,13 +85,6 @@ commit_accepted p s = of s.tasks
     of : (ts : List plain.Task) → (plain.commit_tasks p s ts).accepted ≡ suc s.accepted
     of [] = refl
     of (t ∷ ts) = refl
-
-check_accepted : (p : Program State) (s : Plain) (place : ℕ) → (plain.check p s place).accepted ≡ s.accepted
-check_accepted p s place = of (plain.is_misled p s place)
-  where
-    of : (c : Bool) → (cond c (plain.keep (suc place) s) s).accepted ≡ s.accepted
-    of true = refl
-    of false = refl
 
 step_accepted : (img : Image) (config : Config) (s : Standing) (x : Event) → refused img config s x ≡ None → (stepped img s x).plain.accepted ≡ suc s.plain.accepted
 unfolding stepped plain_event

@@ -48,6 +48,13 @@ check_commits p s place = of (is_misled p s place)
     of true = refl
     of false = refl
 
+pub check_accepted : {C : Type 0} (p : Program C) (s : Plain) (place : ℕ) → (check p s place).accepted ≡ s.accepted
+check_accepted p s place = of (is_misled p s place)
+  where
+    of : (b : Bool) → (cond b (keep (suc place) s) s).accepted ≡ s.accepted
+    of true = refl
+    of false = refl
+
 -- a check that cuts has a next task
 none_cut : (o : Option End) → cuts_after o [] ≡ false
 none_cut None = refl

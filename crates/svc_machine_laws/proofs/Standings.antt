@@ -80,7 +80,7 @@ module _ (img : Image) (given : Given img) (config : Config) (s : Standing) (rea
       first [] m = refl
       first (t ∷ ts) m = refl
 
-  after_submit : (b : Advance) → Follows b → (can : CanSubmit img config s b) → IsReached img config (record { plain = plain.submit p s.plain can.place b.local (is_some (asked_want img b)); lines = line_ask (asked_want img b) s.lines can.place })
+  pub after_submit : (b : Advance) → Follows b → (can : CanSubmit img config s b) → IsReached img config (record { plain = plain.submit p s.plain can.place b.local (is_some (asked_want img b)); lines = line_ask (asked_want img b) s.lines can.place })
   after_submit b follows can =
       let q = seq p s.plain.commits in
       let t : Taken p s.plain can.place b.local b.end (asked_want img b) = taken img given config s b follows can in

@@ -92,7 +92,7 @@ check_logs {C} p s a unit done r = of (plain.is_misled p a r.place)
       logs = cancel_logs p a (suc r.place) ∙ ap (take (suc r.place)) r.logs ∙ take_edit r.place (adds (told done)) r.cut (logs_of p s);
     }
 
-checked_what : (b : Bool) (k n place : ℕ) (r : Reply) → (checked b k n place r).what ≡ r.what
+pub checked_what : (b : Bool) (k n place : ℕ) (r : Reply) → (checked b k n place r).what ≡ r.what
 checked_what true k n place r = refl
 checked_what false k n place r = refl
 
