@@ -237,6 +237,7 @@ impl<'a> Recorder<'a> {
     /// The entry at which the next task should begin.
     fn guess(&self) -> Option<u32> {
         match (self.seats.last(), self.stopped) {
+            (Some(Seat { core: Core { done: Some(End::Next(entry)), .. }, .. }), _) => Some(*entry),
             (Some(youngest), _) => {
                 let table = &self.image.table;
                 let next = table[(youngest.entry + 1) % table.len()];
@@ -332,9 +333,26 @@ impl<'a> Recorder<'a> {
         if burst.local == 0 && burst.ask.is_none() {
             return Err(Refusal::EmptyBurst);
         }
+        let count = self.seats.len();
         self.seats[place].core = burst.end;
-        let Some(ask) = burst.ask else { return Ok((Reply::Ran, None)) };
-        Ok(self.do_asked(place, ask))
+        let (reply, cut) = match burst.ask {
+            Some(ask) => self.do_asked(place, ask),
+            None => (Reply::Ran, None),
+        };
+        let wrong = self.seats[place].core.done.and_then(|end| self.settle(place, end, count));
+        Ok((reply, wrong.or(cut)))
+    }
+
+    /// Of a task at a place that ended so, drops the seats after it where the next one was guessed wrongly. The cut counts
+    /// them among so many, those that the same event has dropped before too.
+    fn settle(&mut self, place: usize, end: End, count: usize) -> Option<Cut> {
+        let next = place + 1;
+        let began = self.image.table[self.seats.get(next)?.entry];
+        if matches!(end, End::Next(entry) if entry == began) {
+            return None;
+        }
+        self.bus.squash_from(next);
+        Some(self.cut(Cause::Guess, next, count))
     }
 
     /// The asked turn of the task at a place.
@@ -358,7 +376,8 @@ impl<'a> Recorder<'a> {
         if core.task.is_at_entry(self.image) {
             core.done = Some(End::Next(core.task.pc));
         }
-        (reply, victim.map(|victim| self.cut(Cause::Violation, victim)))
+        let count = self.seats.len();
+        (reply, victim.map(|victim| self.cut(Cause::Violation, victim, count)))
     }
 
     fn emit(&mut self, place: usize, value: u32) -> Reply {
@@ -394,11 +413,10 @@ impl<'a> Recorder<'a> {
         Ok((Reply::Stored { word, value, served }, victim))
     }
 
-    /// Drops the seats from a place on.
-    fn cut(&mut self, cause: Cause, from: usize) -> Cut {
-        let tasks = self.seats.len() - from;
+    /// Drops the seats from a place on, of so many.
+    fn cut(&mut self, cause: Cause, from: usize, count: usize) -> Cut {
         self.seats.truncate(from);
-        Cut { cause, first: self.commits + from as u64, tasks }
+        Cut { cause, first: self.commits + from as u64, tasks: count - from }
     }
 
     fn replace(&mut self, unit: usize, word: u32) -> Result<Reply, Refusal> {
@@ -421,15 +439,7 @@ impl<'a> Recorder<'a> {
         let head = self.seats.first().ok_or(Refusal::NoTask)?;
         let end = head.core.done.ok_or(Refusal::HeadNotDone)?;
         self.refuse_if_full()?;
-        let next = self.seats.get(1).map(|seat| self.image.table[seat.entry]);
-        let cut = match (next, end) {
-            (None, _) => None,
-            (Some(next), End::Next(entry)) if next == entry => None,
-            (Some(_), _) => {
-                self.bus.squash_from(1);
-                Some(self.cut(Cause::Guess, 1))
-            }
-        };
+        let cut = self.settle(0, end, self.seats.len());
         self.bus.commit_head();
         let head = self.seats.remove(0);
         self.output.extend(head.waiting);

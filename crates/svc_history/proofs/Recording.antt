@@ -1,5 +1,5 @@
 -- What the type of a recorder keeps is kept by every event, and says what the committed tasks have left.
-use Rattle.std.proofs.Common.{ℕ, ◌≡◌, ◌+◌, ◌<◌, ◌≤◌, List, [], ◌∷◌, ◌++◌, length, Option, Some, None, refl, sym, ap, ap₂, ◌∙◌, subst, arith, length-append, option_map, unwrap_or}
+use Rattle.std.proofs.Common.{ℕ, ◌≡◌, ◌+◌, ◌<◌, ◌≤◌, List, [], ◌∷◌, ◌++◌, length, Option, Some, None, refl, sym, ap, ap₂, ◌∙◌, subst, arith, length-append, is_some, option_map, unwrap_or}
 use Rattle.svc_base.specs.declared.config.Config.{Config}
 use Rattle.svc_base.specs.declared.refusal.Refusal.{Refusal}
 use Rattle.svc_image.specs.Image.{Image, IsImage}
@@ -10,14 +10,15 @@ use Rattle.svc_bus.specs.Observed.{observed}
 use Rattle.svc_machine_laws.specs.Blame.{begun, tasks_cut}
 use Rattle.svc_machine_laws.specs.declared.reply.Cut.{Cut}
 use Rattle.svc_machine_laws.specs.declared.reply.Reply.{Reply}
-use Rattle.svc_machine_laws.specs.PlainMachine.{Plain, Task, commit_tasks}
-use Rattle.svc_machine_laws.specs.Events.{plain_event, plain_submit, plain_cancel, Event, Assign, Submit, Replace, Cancel, Commit, IsEvent}
+use Rattle.svc_machine_laws.specs.PlainMachine.{Plain, Task, commit_tasks, submit}
+use Rattle.svc_machine_laws.specs.Events.{asked_want, plain_event, plain_submit, plain_cancel, Event, Assign, Submit, Replace, Cancel, Commit, IsEvent}
 use Rattle.svc_machine_laws.specs.Standing.{Standing, opened_at, refused, stepped, after_event, reply_to, is_commit, whole_of, unless}
 use Rattle.svc_machine_laws.specs.Headline.{IsSequential}
 use Rattle.svc_machine_laws.specs.Reached.{IsReached}
 use Rattle.svc_machine_laws.proofs.Folds.{reached_is, step_commits, opened_reached}
 use Rattle.svc_machine_laws.proofs.Given.{given}
 use Rattle.svc_machine_laws.proofs.Accepted.{can_assign, can_submit, can_replace, can_cancel, can_commit}
+use Rattle.svc_machine_laws.proofs.Checks.{check_accepted}
 use Rattle.svc_machine_laws.proofs.Numbers.{all_counted}
 use Rattle.svc_machine_laws.proofs.Standings.{event_reached}
 use Rattle.svc_machine.specs.Value.{MachineValue, StandsAt, IsSequentialMachine}
@@ -80,7 +81,11 @@ refused_step img config s x r h = ap (λ o. unless o s (stepped img s x)) h
 one_more : (img : Image) (config : Config) (s : Standing) (x : Event) → refused img config s x ≡ None → (stepped img s x).plain.accepted ≡ s.plain.accepted + 1
 unfolding stepped plain_event
 one_more img config s (Assign unit guess) h = omega arith
-one_more img config s (Submit b) h = let e = ap (λ o. (plain_submit img s.plain o b).accepted) (can_submit img config s b h).at in omega (arith, e)
+one_more img config s (Submit b) h =
+    let can = can_submit img config s b h in
+    let e = ap (λ o. (plain_submit img s.plain o b).accepted) can.at in
+    let checked = check_accepted (program img) (submit (program img) s.plain can.place b.local (is_some (asked_want img b))) can.place in
+    omega (arith, e, checked)
 one_more img config s (Replace unit a) h = omega arith
 one_more img config s (Cancel unit) h = let e = ap (λ o. (plain_cancel s.plain o).accepted) (can_cancel img config s unit h).at in omega (arith, e)
 one_more img config s (Commit by) h = of s.plain.tasks

@@ -1,5 +1,5 @@
 -- The numbers of tasks that a reply tells fit 32 bits.
-use Rattle.std.proofs.Common.{ℕ, ◌≡◌, ◌+◌, ◌<◌, ◌≤◌, ◌^◌, List, [], ◌∷◌, length, map, Option, Some, None, refl, sym, ap, ◌∙◌, arith, true, false, Bool, slice_get, is_some}
+use Rattle.std.proofs.Common.{inl, inr, subst, ℕ, ◌≡◌, ◌+◌, ◌<◌, ◌≤◌, ◌^◌, List, [], ◌∷◌, length, map, Option, Some, None, refl, sym, ap, ◌∙◌, arith, true, false, Bool, slice_get, is_some}
 use Rattle.std.specs.Prelude.{IfSome}
 use Rattle.svc_base.specs.declared.config.Config.{Config}
 use Rattle.svc_base.specs.declared.config.TheConstants.{MAX_EVENTS, MAX_UNITS}
@@ -13,11 +13,12 @@ use Rattle.svc_machine_laws.specs.declared.reply.Cut.{Cut}
 use Rattle.svc_machine_laws.specs.declared.reply.Cause.{Cause}
 use Rattle.svc_machine_laws.specs.declared.reply.Cause.TheVariants as cause
 use Rattle.svc_machine_laws.specs.declared.reply.Reply.{Reply}
+use Rattle.svc_machine_laws.specs.PlainMachine as plain
 use Rattle.svc_machine_laws.specs.PlainMachine.{memory_at, Plain, Task, running, row_of, unit_of}
 use Rattle.svc_machine_laws.specs.WholeMachine.{seat_of}
 use Rattle.svc_machine_laws.specs.Events.{task_place, asked_want, Event, Assign, Submit, Replace, Cancel, Commit, IsEvent}
 use Rattle.svc_machine_laws.specs.Blame.{IsBlamedOn}
-use Rattle.svc_machine_laws.specs.Replies.{plain_reply, plain_committed, plain_cancelled, plain_submitted, plain_asked_of, turn_done, serves_at}
+use Rattle.svc_machine_laws.specs.Replies.{plain_reply, plain_committed, plain_cancelled, plain_submitted, plain_asked, plain_asked_of, turn_done, serves_at}
 use Rattle.svc_machine_laws.specs.Standing.{Standing, refused, reply_to}
 use Rattle.svc_machine_laws.specs.Reached.{IsReached}
 use Rattle.svc_machine_laws.proofs.Blames.{blamed}
@@ -25,6 +26,7 @@ use Rattle.svc_machine_laws.proofs.Given.{Given}
 use Rattle.svc_machine_laws.proofs.Followed.{map_count}
 use Rattle.svc_machine_laws.proofs.Places.{found, within}
 use Rattle.svc_machine_laws.proofs.Room.{tasks_few}
+use Rattle.svc_machine_laws.proofs.TaskLogs.{checked_what}
 use Rattle.svc_machine_laws.proofs.Answering.{count}
 use Rattle.svc_history_laws.specs.Entries.{first_of}
 use Rattle.svc_history.specs.Writing.{IsSmall, task_told}
@@ -40,7 +42,11 @@ first_within img s x cut (cause.Violation a) b =
     let rows = row_count (map row_of (running p s)) ∙ map_count row_of (running p s) ∙ sym (map_count seat_of (running p s)) ∙ count p (seq p s.commits).memory s.tasks in
     let active = b.is_victim.active in
     omega (arith, active, rows, b.cut_at.first)
-first_within img s x cut cause.WrongGuess b = let n = ap length b.tasks in omega (arith, b.cut_at.first, n)
+first_within img s x cut cause.WrongGuess (inl b) = let n = ap length b.tasks in omega (arith, b.cut_at.first, n)
+first_within img s x cut cause.WrongGuess (inr b) =
+    let units = map_count unit_of s.tasks in
+    let spot = within (map unit_of s.tasks) b.place b.burst.unit.0 (found (map unit_of s.tasks) b.burst.unit.0 b.place b.at) in
+    omega (arith, b.cut_at.first, units, spot)
 first_within img s x cut cause.Cancelled b =
     let units = map_count unit_of s.tasks in
     let spot = within (map unit_of s.tasks) b.place b.unit (found (map unit_of s.tasks) b.unit b.place b.at) in
@@ -67,10 +73,17 @@ told_commits img config s (Submit b) ok = asked_tells (task_place s.plain b.unit
         let none = turn_tells ((program img).want run.core) (over (wrote run.log) m) (serves_at s.lines place) in
         omega (arith, none)
 
+    turns_tell : (place : ℕ) (ask : Bool) → task_told (plain_asked (program img) s.plain s.lines place b.local ask).what ≤ s.plain.commits
+    turns_tell place false = omega arith
+    turns_tell place true = task_tells place (slice_get s.plain.tasks place)
+
     asked_tells : (o : Option ℕ) (ask : Bool) → task_told (plain_submitted (program img) s.plain s.lines o b.local ask).what ≤ s.plain.commits
     asked_tells None ask = omega arith
-    asked_tells (Some place) false = omega arith
-    asked_tells (Some place) true = task_tells place (slice_get s.plain.tasks place)
+    asked_tells (Some place) ask =
+        let p = program img in
+        let same =
+        checked_what (plain.is_misled p (plain.submit p s.plain place b.local ask) place) s.plain.commits (length s.plain.tasks) place (plain_asked p s.plain s.lines place b.local ask) in
+        subst (λ w. task_told w ≤ s.plain.commits) (sym same) (turns_tell place ask)
 told_commits img config s (Replace unit a) ok = omega arith
 told_commits img config s (Cancel unit) ok = cancel_tells (task_place s.plain unit)
   where

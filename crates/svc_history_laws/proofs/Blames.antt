@@ -1,5 +1,5 @@
 -- The cut of each entry of a legal history has its blame.
-use Rattle.std.proofs.Common.{ℕ, ◌≡◌, List, Option, Some, None, refl, sym, ap, ◌∙◌, subst, option_map, slice_get, take}
+use Rattle.std.proofs.Common.{inl, inr, ℕ, suc, ◌≡◌, length, is_some, List, Option, Some, None, refl, sym, ap, ◌∙◌, subst, option_map, slice_get, take}
 use Rattle.svc_base.specs.declared.config.Config.{Config}
 use Rattle.svc_base.specs.declared.ids.WordAddr.{WordAddr}
 use Rattle.svc_base.specs.declared.served.Served.{Served}
@@ -13,24 +13,33 @@ use Rattle.svc_machine_laws.specs.declared.reply.Cause.{Cause}
 use Rattle.svc_machine_laws.specs.declared.reply.Cause.TheVariants as cause
 use Rattle.svc_machine_laws.specs.declared.reply.Cut.{Cut}
 use Rattle.svc_machine_laws.specs.declared.reply.Reply.{Reply}
-use Rattle.svc_machine_laws.specs.WholeMachine.{machine_of, seen}
+use Rattle.svc_bus_laws.specs.LineTable.{LineTable}
+use Rattle.svc_machine_laws.specs.PlainMachine.{Plain, running, run_done, run_entry, submit}
+use Rattle.svc_machine_laws.specs.WholeMachine as whole
+use Rattle.svc_machine_laws.specs.WholeMachine.{Machine, is_misled, machine_of, seen}
 use Rattle.svc_machine_laws.specs.Events.{Event, IsEvent, Submit, task_place, asked_want}
 use Rattle.svc_machine_laws.specs.Replies.{turn_done, serves_at, whole_asked, whole_submitted, whole_reply, plain_reply}
 use Rattle.svc_machine_laws.specs.Standing.{Standing, opened_at, refused, reply_to}
 use Rattle.svc_machine_laws.specs.Reached.{IsReached}
-use Rattle.svc_machine_laws.specs.Blame.{Writes, IsCutAt, IsBlamedOn}
+use Rattle.svc_machine_laws.specs.Blame.{Writes, IsCutAt, IsBlamedOn, Misleads}
 use Rattle.svc_machine_laws.proofs.Given.{Given}
 use Rattle.svc_machine_laws.proofs.Accepted.{can_submit, seat_places}
 use Rattle.svc_machine_laws.proofs.Answering.{reply_is}
 use Rattle.svc_machine_laws.proofs.Blames.{blamed}
+use Rattle.svc_machine_laws.proofs.TaskLogs.{checked_what}
 use Rattle.svc_history_laws.specs.declared.entry.ReplyKind.TheVariants as reply
 use Rattle.svc_history_laws.specs.declared.entry.Entry.{Entry}
 use Rattle.svc_history_laws.specs.Entries.{entry_of, named, reply_told, address_told, why_cut, cause_of, first_of, count_of}
-use Rattle.svc_history_laws.specs.Legal.{LegalHistory, LegalEntry, led_to}
+use Rattle.svc_history_laws.specs.Legal.{the_ask, the_local, LegalHistory, LegalEntry, led_to}
 use Rattle.svc_history_laws.specs.Causes.{CutsFrom, HasCause, CutsBy, IsBlamed}
 use Rattle.svc_history_laws.specs.Histories.{HasEvent}
 use Rattle.svc_history_laws.proofs.Leases.{has_event}
+use Rattle.svc_history_laws.proofs.Legality.{wants_where_asks}
 use Rattle.svc_history_laws.proofs.Histories.{Stands, stands, tallies}
+
+-- the check of a guess leaves what a submit is answered
+pub submitted_what : (p : Program State) (m : Machine State) (t : LineTable) (place : ℕ) (end : State) (w : Option (Want State)) → (whole_submitted p m t (Some place) end w).what ≡ (whole_asked p m t place w).what
+submitted_what p m t place end w = checked_what (is_misled p (whole.submit m place end w).seats place) m.versioned.commits (length m.seats) place (whole_asked p m t place w)
 
 -- what a turn that writes is answered
 record IsStored (a : ℕ) (w : What) : Type 0 where
@@ -53,7 +62,8 @@ stored img given config s b is ok w asked a wrote =
     let place = seat_places img config s b.unit.0 ∙ can.at in
     let answer =
     ap (λ o. (whole_asked p (machine_of p s.plain) s.lines can.place o).what) (sym asked)
-    ∙ ap (λ o. (whole_submitted p (machine_of p s.plain) s.lines o (asked_want img b)).what) (sym place)
+    ∙ sym (submitted_what p (machine_of p s.plain) s.lines can.place b.end (asked_want img b))
+    ∙ ap (λ o. (whole_submitted p (machine_of p s.plain) s.lines o b.end (asked_want img b)).what) (sym place)
     ∙ ap (λ (r : Reply). r.what) (reply_is img given config s (Submit b) is ok) in
     subst (IsStored a) answer (write_stored p w a (seen (machine_of p s.plain).versioned can.place) (serves_at s.lines can.place) wrote)
 
@@ -85,7 +95,7 @@ module _ (img : Image) (given : Given img) (config : Config) (s : Standing) (rea
         is_victim = b.is_victim;
         cuts = cuts_from cut b.victim h b.cut_at;
       }
-  caused cut h cause.WrongGuess b = record {
+  caused cut h cause.WrongGuess (inl b) = inl (record {
     kind = ap (λ (y : Event). (named y).kind) b.event;
     head = b.head;
     next = b.next;
@@ -93,7 +103,20 @@ module _ (img : Image) (given : Given img) (config : Config) (s : Standing) (rea
     tasks = b.tasks;
     wrong = b.wrong;
     cuts = cuts_from cut 1 h b.cut_at;
-  }
+  })
+  caused cut h cause.WrongGuess (inr b) =
+      let p : Program State = program img in
+      let turned : Plain = submit p s.plain b.place b.burst.local (is_some (asked_want img b.burst)) in
+      let same : turned ≡ submit p s.plain b.place (the_local e) (the_ask e) =
+      ap (submit p s.plain b.place b.burst.local) (wants_where_asks img b.burst)
+      ∙ sym (ap (λ (y : Event). submit p s.plain b.place (the_local (named y)) (the_ask (named y))) b.event) in
+      inr (record {
+        kind = ap (λ (y : Event). (named y).kind) b.event;
+        place = b.place;
+        at = ap (λ (y : Event). task_place s.plain (named y).unit.0) b.event ∙ b.at;
+        misleads = subst (λ (n : Plain). Misleads (run_done p) run_entry (running p n) b.place) same b.misleads;
+        cuts = cuts_from cut (suc b.place) h b.cut_at;
+      })
   caused cut h cause.Cancelled b = record {
     kind = ap (λ (y : Event). (named y).kind) b.event;
     place = b.place;

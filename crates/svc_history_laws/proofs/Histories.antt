@@ -1,18 +1,19 @@
 -- Where legal histories lead.
-use Rattle.std.proofs.Common.{ℕ, zero, suc, ◌≡◌, ◌+◌, ◌≤◌, List, [], ◌∷◌, Option, Some, None, refl, sym, ap, subst, arith, length, slice_get, take, option_map, unwrap_or}
+use Rattle.std.proofs.Common.{◌∙◌, is_some, ℕ, zero, suc, ◌≡◌, ◌+◌, ◌≤◌, List, [], ◌∷◌, Option, Some, None, refl, sym, ap, subst, arith, length, slice_get, take, option_map, unwrap_or}
 use Rattle.std.proofs.lemmas.Option.{none-some, same_Some}
 use Rattle.svc_base.specs.declared.config.Config.{Config}
 use Rattle.svc_image.specs.Image.{Image}
 use Rattle.svc_machine_laws.specs.declared.reply.Cut.{Cut}
 use Rattle.svc_machine_laws.specs.declared.reply.Reply.{Reply}
 use Rattle.svc_machine_laws.specs.PlainMachine.{Plain}
-use Rattle.svc_machine_laws.specs.Events.{Event, IsEvent, Assign, Submit, Replace, Cancel, Commit, plain_event, plain_submit, plain_cancel}
+use Rattle.svc_machine_laws.specs.Events.{Event, IsEvent, Assign, Submit, Replace, Cancel, Commit, asked_want, plain_event, plain_submit, plain_cancel}
 use Rattle.svc_machine_laws.specs.PlainMachine as plain
 use Rattle.svc_machine_laws.specs.Standing.{Standing, opened_at, refused, stepped, reply_to, is_commit}
 use Rattle.svc_machine_laws.specs.Reached.{IsReached}
 use Rattle.svc_machine_laws.specs.Blame.{tasks_cut, begun}
 use Rattle.svc_machine_laws.proofs.Given.{Given}
 use Rattle.svc_machine_laws.proofs.Accepted.{can_submit, can_cancel}
+use Rattle.svc_machine_laws.proofs.Checks.{check_accepted}
 use Rattle.svc_machine_laws.proofs.Folds.{step_commits, opened_reached}
 use Rattle.svc_machine_laws.proofs.Numbers.{all_counted}
 use Rattle.svc_machine_laws.proofs.Standings.{step_reached}
@@ -88,7 +89,8 @@ commit_accepted p s = of s.tasks
 step_accepted : (img : Image) (config : Config) (s : Standing) (x : Event) → refused img config s x ≡ None → (stepped img s x).plain.accepted ≡ suc s.plain.accepted
 unfolding stepped plain_event
 step_accepted img config s (Assign unit guess) h = refl
-step_accepted img config s (Submit b) h = let can = can_submit img config s b h in ap (λ o. (plain_submit img s.plain o b).accepted) can.at
+step_accepted img config s (Submit b) h = let can = can_submit img config s b h in
+    ap (λ o. (plain_submit img s.plain o b).accepted) can.at ∙ check_accepted (program img) (plain.submit (program img) s.plain can.place b.local (is_some (asked_want img b))) can.place
 step_accepted img config s (Replace unit a) h = refl
 step_accepted img config s (Cancel unit) h = let can = can_cancel img config s unit h in ap (λ o. (plain_cancel s.plain o).accepted) can.at
 step_accepted img config s (Commit by) h = commit_accepted (program img) s.plain

@@ -16,9 +16,11 @@ use Rattle.svc_core_laws.proofs.Means.{all_locals, taken, are_of_looks}
 use Rattle.svc_bus_laws.specs.LineTable.{LineTable}
 use Rattle.svc_machine_laws.specs.PlainMachine.{Task, Plain, Running, running, run_of, runs_of, memory_at}
 use Rattle.svc_machine_laws.specs.PlainMachine as plain
-use Rattle.svc_machine_laws.specs.WholeMachine.{machine_of}
+use Rattle.svc_machine_laws.specs.WholeMachine as whole
+use Rattle.svc_machine_laws.specs.WholeMachine.{Machine, machine_of}
+use Rattle.svc_machine_laws.specs.MachineLaws.{Taken}
 use Rattle.svc_machine_laws.specs.Events.{Event, Assign, Submit, Replace, Cancel, Commit, IsEvent, asked_want, want_of, task_place, seat_place, plain_submit, plain_event}
-use Rattle.svc_machine_laws.specs.LineEvents.{line_turn, line_ask, line_submit, line_event, word_of}
+use Rattle.svc_machine_laws.specs.LineEvents.{line_turn, line_ask, line_check, line_submit, line_event, word_of}
 use Rattle.svc_machine_laws.specs.Refusals.{cases_of, refuse, full_set, asked_word}
 use Rattle.svc_machine_laws.specs.Replies.{plain_reply, plain_submitted}
 use Rattle.svc_machine_laws.specs.Standing.{Standing, refused, stepped, reply_to}
@@ -26,13 +28,16 @@ use Rattle.svc_machine_laws.proofs.Cases.{no_case}
 use Rattle.svc_machine_laws.proofs.Given.{Given}
 use Rattle.svc_machine_laws.proofs.Accepted.{CanSubmit, can_submit, seat_places}
 use Rattle.svc_machine_laws.proofs.Anew.{runs_at}
+use Rattle.svc_machine_laws.proofs.Checks.{same_check}
 use Rattle.svc_machine_laws.proofs.EmptyBursts.{empty_burst}
+use Rattle.svc_machine_laws.proofs.MachineEvents.{taken as turns_taken}
+use Rattle.svc_machine_laws.proofs.Submits.{submit_step}
 use Rattle.svc_machine_laws.proofs.Parts.{part_locals}
 use Rattle.svc_machine_laws.proofs.Wants.{asked_next, asked_word_is}
 use Rattle.svc_history_laws.specs.declared.entry.Kind.TheVariants as kind
 use Rattle.svc_history_laws.specs.declared.entry.Entry.{Entry}
 use Rattle.svc_history_laws.specs.Entries.{entry_of, telling, plain_entry}
-use Rattle.svc_history_laws.specs.Submissions.{turns_of, core_on, word_wanted, IsLocalAt, IsAskedAt, IsSubmission, lines_asked, submitted_at, after_submission, submission}
+use Rattle.svc_history_laws.specs.Submissions.{turns_of, core_on, word_wanted, IsLocalAt, IsAskedAt, IsSubmission, checked_at, lines_asked, submitted_at, after_submission, submission}
 use Rattle.svc_history_laws.specs.Legal.{LegalEntry, after_entry, Legal, last}
 
 -- the task of a run, and the run from its task
@@ -156,6 +161,7 @@ pub record Submits (img : Image) (config : Config) (s : Standing) (b : Advance) 
   pub task_is : slice_get s.plain.tasks place ≡ Some task
   pub starts : StartsAt img s.plain place task b
   pub means : Means img b
+  pub taken : Taken (program img) s.plain place b.local b.end (asked_want img b)
   pub turns : IsSubmission img s b.unit.0 place task b.local (not (is_nothing b.ask))
 
 pub submits : (img : Image) → Given img → (config : Config) (s : Standing) (b : Advance) → Follows b → b.unit.0 < config.units → refused img config s (Submit b) ≡ None → Submits img config s b
@@ -179,6 +185,7 @@ submits img given config s b follows known h =
       task_is = here.task_is;
       starts = starts;
       means = means;
+      taken = turns_taken img given config s b follows can;
       turns = submission_of img given s can.place here.task b starts means going can.free some;
     }
   where
@@ -210,14 +217,23 @@ submission_leads img given config s b sub =
     let p = program img in
     let there : core_on img s.plain sub.place sub.task b.local ≡ b.end = core_after img s.plain sub.place sub.task b sub.starts b.local (omega arith) ∙ sym sub.starts.follows.end in
     let ask : Bool = not (is_nothing b.ask) in
-    let left : after_submission img s b.unit.0 b.local ask ≡ record { plain = plain.submit p s.plain sub.place b.local ask; lines = cond ask (line_turn (p.want (core_on img s.plain sub.place sub.task b.local)) s.lines sub.place) s.lines } =
-    ap (λ o. submitted_at img s o b.local ask) sub.at
-    ∙ ap (λ o. record (lines_asked img s sub.place b.local o ask) { plain = plain.submit p s.plain sub.place b.local ask }) sub.task_is in
-    let right_plain : plain_submit img s.plain (task_place s.plain b.unit.0) b ≡ plain.submit p s.plain sub.place b.local ask =
-    ap (λ o. plain_submit img s.plain o b) sub.at ∙ ap (plain.submit p s.plain sub.place b.local) (wants_where_asks img b) in
-    let right_lines : line_submit (asked_want img b) s.lines (seat_place (machine_of p s.plain) b.unit.0) ≡ line_ask (asked_want img b) s.lines sub.place =
-    ap (line_submit (asked_want img b) s.lines) (seat_places img config s b.unit.0 ∙ sub.at) in
-    left ∙ ap₂ {C = Standing} (λ q t. record { plain = q; lines = t }) (sym right_plain) (lines_turned img b s.lines sub.place (core_on img s.plain sub.place sub.task b.local) sub.means there ∙ sym right_lines)
+    let turned : Plain = plain.submit p s.plain sub.place b.local ask in
+    let want : Option (Want State) = asked_want img b in
+    let m : Machine State = machine_of p s.plain in
+    let left : after_submission img s b.unit.0 b.local ask ≡ checked_at img sub.place turned (cond ask (line_turn (p.want (core_on img s.plain sub.place sub.task b.local)) s.lines sub.place) s.lines) =
+    ap (λ o. submitted_at img s o b.local ask) sub.at ∙ ap (λ o. checked_at img sub.place turned (lines_asked img s sub.place b.local o ask)) sub.task_is in
+    let turns : plain.submit p s.plain sub.place b.local (is_some want) ≡ turned = ap (plain.submit p s.plain sub.place b.local) (wants_where_asks img b) in
+    let right_plain : plain_submit img s.plain (task_place s.plain b.unit.0) b ≡ plain.check p turned sub.place =
+    ap (λ o. plain_submit img s.plain o b) sub.at ∙ ap (λ q. plain.check p q sub.place) turns in
+    let misled : whole.is_misled p (whole.submit m sub.place b.end want).seats sub.place ≡ plain.is_misled p turned sub.place =
+    ap (λ (n : Machine State). whole.is_misled p n.seats sub.place) (sym (submit_step p s.plain sub.place b.local b.end want sub.taken))
+    ∙ same_check p (plain.submit p s.plain sub.place b.local (is_some want)) sub.place
+    ∙ ap (λ q. plain.is_misled p q sub.place) turns in
+    let right_lines : line_submit p m b.end want s.lines (seat_place m b.unit.0) ≡ line_check (plain.is_misled p turned sub.place) (line_ask want s.lines sub.place) sub.place =
+    ap (line_submit p m b.end want s.lines) (seat_places img config s b.unit.0 ∙ sub.at) ∙ ap (λ c. line_check c (line_ask want s.lines sub.place) sub.place) misled in
+    left
+    ∙ ap (checked_at img sub.place turned) (lines_turned img b s.lines sub.place (core_on img s.plain sub.place sub.task b.local) sub.means there)
+    ∙ ap₂ {C = Standing} (λ q t. record { plain = q; lines = t }) (sym right_plain) (sym right_lines)
 
 pub submission_is : (img : Image) (s : Standing) (b : Advance) → submission img s b.unit b.local (not (is_nothing b.ask)) ≡ entry_of (Submit b) (reply_to img s (Submit b))
 unfolding entry_of reply_to plain_reply

@@ -46,7 +46,7 @@ use Rattle.svc_history_laws.specs.Causes.{IsRead, IsFrom, IsCaused, IsViolation,
 use Rattle.svc_history_laws.specs.Entries.{entry_of, address_told, served_told, kind_served, unit_served}
 use Rattle.svc_history_laws.specs.Histories.{HasEvent}
 use Rattle.svc_history_laws.specs.Legal.{LegalHistory, last, led_to}
-use Rattle.svc_history_laws.proofs.Blames.{is_blamed}
+use Rattle.svc_history_laws.proofs.Blames.{is_blamed, submitted_what}
 use Rattle.svc_history_laws.proofs.Histories.{Stands, stands, tallies, last_take}
 use Rattle.svc_history_laws.proofs.Leases.{has_event}
 use Rattle.svc_history_laws.proofs.Stories.{get_one_more, get_taken, IsEdited, get_edited, unit_at_log, one_place}
@@ -177,7 +177,8 @@ unfolding reply_to plain_reply whole_reply
 served_reply img given config s b is ok place at =
     let p : Program State = program img in
     let answer =
-    ap (λ o. (whole_submitted p (machine_of p s.plain) s.lines o (asked_want img b)).what) (sym (seat_places img config s b.unit.0 ∙ at))
+    sym (submitted_what p (machine_of p s.plain) s.lines place b.end (asked_want img b))
+    ∙ ap (λ o. (whole_submitted p (machine_of p s.plain) s.lines o b.end (asked_want img b)).what) (sym (seat_places img config s b.unit.0 ∙ at))
     ∙ ap (λ (r : Reply). r.what) (reply_is img given config s (Submit b) is ok) in
     subst (IsServed s.lines place) answer (served_asked img s place (asked_want img b))
 

@@ -7,7 +7,8 @@ use Rattle.svc_image.specs.Image.{Image}
 use Rattle.svc_core_laws.specs.Program.{seq}
 use Rattle.svc_core_laws.specs.Words.{program}
 use Rattle.svc_bus_laws.specs.MapLaws.{IsVictim}
-use Rattle.svc_machine_laws.specs.PlainMachine.{Task, Plain}
+use Rattle.svc_machine_laws.specs.Blame.{Misleads}
+use Rattle.svc_machine_laws.specs.PlainMachine.{Task, Plain, running, run_done, run_entry, submit}
 use Rattle.svc_machine_laws.specs.WholeMachine.{machine_of}
 use Rattle.svc_machine_laws.specs.Events.{task_place}
 use Rattle.svc_history_laws.specs.declared.entry.Kind.TheVariants.{Assign, Submit, Cancel, Commit}
@@ -17,7 +18,7 @@ use Rattle.svc_history_laws.specs.declared.entry.ServedKind.TheVariants as kind
 use Rattle.svc_history_laws.specs.declared.entry.CutKind.{CutKind}
 use Rattle.svc_history_laws.specs.declared.entry.CutKind.TheVariants as why
 use Rattle.svc_history_laws.specs.declared.entry.Entry.{Entry}
-use Rattle.svc_history_laws.specs.Legal.{led_to}
+use Rattle.svc_history_laws.specs.Legal.{the_ask, the_local, led_to}
 
 -- the first task that the entry cuts is the one at this place, and it counts that task and all that were active after it
 pub record CutsFrom (s : Plain) (e : Entry) (place : ℕ) : Type 0 where
@@ -46,6 +47,14 @@ pub record IsWrongGuess (img : Image) (s : Plain) (e : Entry) : Type 0 where
   pub wrong : (is_some (seq (program img) (suc s.commits)).stopped ≡ true) ⊎ ((seq (program img) (suc s.commits)).due ≢ Some next.entry)
   pub cuts : CutsFrom s e 1
 
+-- a wrong guess: the entry is a submit with which its unit's task ended, and the first task cut is the next one, which began at another entry than the successor, or the task had none
+pub record IsFoundWrong (img : Image) (s : Plain) (e : Entry) : Type 0 where
+  pub kind : e.kind ≡ Submit
+  pub place : ℕ
+  pub at : task_place s e.unit.0 ≡ Some place
+  pub misleads : Misleads (run_done (program img)) run_entry (running (program img) (submit (program img) s place (the_local e) (the_ask e))) place
+  pub cuts : CutsFrom s e (suc place)
+
 -- a cancel: the entry is a cancel, and the first task cut is its unit's
 pub record IsCancel (s : Plain) (e : Entry) : Type 0 where
   pub kind : e.kind ≡ Cancel
@@ -55,7 +64,7 @@ pub record IsCancel (s : Plain) (e : Entry) : Type 0 where
 
 abbrev pub HasCause : CutKind → Image → Plain → Entry → Type 0
 HasCause why.Violation img s e = IsViolation img s e
-HasCause why.Guess img s e = IsWrongGuess img s e
+HasCause why.Guess img s e = IsWrongGuess img s e ⊎ IsFoundWrong img s e
 HasCause why.Cancel img s e = IsCancel s e
 
 -- an entry without a cause cuts nothing

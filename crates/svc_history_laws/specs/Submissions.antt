@@ -7,10 +7,11 @@ use Rattle.svc_core_laws.specs.Turns.{next}
 use Rattle.svc_core_laws.specs.Bursts.{IsLocal}
 use Rattle.svc_core_laws.specs.Program.{part, seq}
 use Rattle.svc_core_laws.specs.Words.{program}
+use Rattle.svc_bus_laws.specs.LineTable.{LineTable}
 use Rattle.svc_machine_laws.specs.PlainMachine.{Task, Plain, memory_at}
 use Rattle.svc_machine_laws.specs.PlainMachine as plain
 use Rattle.svc_machine_laws.specs.Events.{task_place}
-use Rattle.svc_machine_laws.specs.LineEvents.{line_turn, word_of}
+use Rattle.svc_machine_laws.specs.LineEvents.{line_check, line_turn, word_of}
 use Rattle.svc_machine_laws.specs.Refusals.{full_set}
 use Rattle.svc_machine_laws.specs.Replies.{plain_submitted}
 use Rattle.svc_machine_laws.specs.Standing.{Standing}
@@ -49,15 +50,20 @@ pub record IsSubmission (img : Image) (s : Standing) (unit place : ℕ) (task : 
   -- the unit's cache has room for the word that is asked for
   pub room : ask ≡ true → full_set s.lines unit (word_wanted img (core_on img s.plain place task local)) ≡ None
 
--- where it leads: an asked turn takes its steps of the bus
-abbrev pub lines_asked : Image → Standing → (place : ℕ) → (local : ℕ) → Option Task → Bool → Standing
-lines_asked img s place local None ask = s
-lines_asked img s place local (Some task) ask = record s { lines = cond ask (line_turn ((program img).want (core_on img s.plain place task local)) s.lines place) s.lines }
+-- the lines after the turns: an asked turn takes its steps of the bus
+abbrev pub lines_asked : Image → Standing → (place : ℕ) → (local : ℕ) → Option Task → Bool → LineTable
+lines_asked img s place local None ask = s.lines
+lines_asked img s place local (Some task) ask = cond ask (line_turn ((program img).want (core_on img s.plain place task local)) s.lines place) s.lines
 
+-- the check of the guess after the task at a place, which has taken its turns
+abbrev pub checked_at : Image → (place : ℕ) → (turned : Plain) → LineTable → Standing
+checked_at img place turned t = record { plain = plain.check (program img) turned place; lines = line_check (plain.is_misled (program img) turned place) t place }
+
+-- where it leads
 abbrev pub submitted_at : Image → Standing → Option ℕ → (local : ℕ) (ask : Bool) → Standing
 submitted_at img s None local ask = s
 submitted_at img s (Some place) local ask =
-    record (lines_asked img s place local (slice_get s.plain.tasks place) ask) { plain = plain.submit (program img) s.plain place local ask }
+    checked_at img place (plain.submit (program img) s.plain place local ask) (lines_asked img s place local (slice_get s.plain.tasks place) ask)
 
 -- where a submission of the unit leads
 abbrev pub after_submission : Image → Standing → (unit local : ℕ) → (ask : Bool) → Standing

@@ -60,7 +60,8 @@ pub enum ServedKind {
 pub enum CutKind {
     /// An earlier task stored to a word which the first of them had read too early.
     Violation,
-    /// The run stopped, or the first of them began at another entry than the one that was due.
+    /// The task before the first of them ended the program, or handed on to another entry than the one where the first of
+    /// them began.
     Guess,
     /// The first of them was cancelled.
     Cancel,

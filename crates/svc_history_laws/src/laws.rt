@@ -32,8 +32,9 @@ pub fn numbers_are_in_order()
 {}
 
 /// Each cut of an entry has its blame: a violation, the entry's own store of its word and the victim of that store; a wrong
-/// guess, the commit after which the run stops or another entry is due; a cancel, its unit's task. The first task cut is
-/// that one, and all that were active from it on are counted. An entry without a cause cuts nothing.
+/// guess, the commit after which the run stops or another entry is due, or the submit with which its unit's task ended, and
+/// the program too or the next task had begun elsewhere; a cancel, its unit's task. The first task cut is that one, and all
+/// that were active from it on are counted. An entry without a cause cuts nothing.
 pub fn cuts_are_blamed()
     ensures { (img : Image) → IsImage img → (config : Config) → (es : List Entry) → LegalHistory img config es → (index : ℕ) → (e : Entry) → slice_get es index ≡ Some e → IsBlamed img (led_to img config (take index es)).plain e }
 {}

@@ -17,14 +17,14 @@ use Rattle.svc_machine_laws.specs.declared.reply.Reply.{Reply}
 use Rattle.svc_machine_laws.specs.declared.reply.Cut.{Cut}
 use Rattle.svc_machine_laws.specs.declared.reply.Cause.TheVariants as cause
 use Rattle.svc_machine_laws.specs.declared.reply.What.TheVariants as what
-use Rattle.svc_machine_laws.specs.PlainMachine.{Task, Plain, Running, runs_of, running, entry_of, unit_of, stays, commit_tasks}
+use Rattle.svc_machine_laws.specs.PlainMachine.{Task, Plain, Running, runs_of, running, entry_of, unit_of, stays, commit_tasks, cuts_next}
 use Rattle.svc_machine_laws.specs.PlainMachine as plain
 use Rattle.svc_machine_laws.specs.WholeMachine as whole
 use Rattle.svc_machine_laws.specs.WholeMachine.{Machine, machine_of, seat_of, seat_entry, seat_unit, commit_seats}
 use Rattle.svc_machine_laws.specs.MachineLaws.{HasEnded}
 use Rattle.svc_machine_laws.specs.Events.{Commit, plain_event, whole_event}
 use Rattle.svc_machine_laws.specs.LineEvents.{line_event, line_commit, line_settle}
-use Rattle.svc_machine_laws.specs.Guide.{Guide, guide_committed, guide_settled, guide_cut, cuts_next}
+use Rattle.svc_machine_laws.specs.Guide.{Guide, guide_committed, guide_settled, guide_cut}
 use Rattle.svc_machine_laws.specs.Replies.{whole_reply, whole_committed, committed, cut_from}
 use Rattle.svc_machine_laws.specs.Reached.{words_waiting}
 use Rattle.svc_machine_laws.proofs.Given.{given}

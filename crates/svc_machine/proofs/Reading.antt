@@ -1,17 +1,19 @@
 -- What the machine's fields tell.
-use Rattle.std.proofs.Common.{ℕ, ◌≡◌, ◌≤◌, refl, sym, ap, ◌∙◌, subst, arith, Option, Some, None}
+use Rattle.std.proofs.Common.{ℕ, ◌≡◌, ◌≤◌, refl, sym, ap, ◌∙◌, subst, arith, Option, Some, None, ap₂}
 use Rattle.std.proofs.lemmas.Option.{slice_get-map}
 use Rattle.std.specs.Prelude.{List, map, option_map, slice_get, unwrap_or, ◌==◌}
 use Rattle.std.specs.List.{position}
 use Rattle.svc_core_laws.specs.Bytes.{word_at}
-use Rattle.svc_core_laws.specs.Program.{seq}
+use Rattle.svc_core_laws.specs.declared.end.End.{End}
+use Rattle.svc_core_laws.specs.Program.{Program, seq}
 use Rattle.svc_core_laws.specs.Sequence.{plain_seq, IsSameSeq}
 use Rattle.svc_core_laws.specs.Words.{program}
 use Rattle.svc_bus_laws.specs.LineTable.{Line, LineTable, committed_value}
 use Rattle.svc_bus_laws.specs.Versioned.{Versioned}
 use Rattle.svc_bus_laws.specs.BusState.{unnumbered}
 use Rattle.svc_bus_laws.specs.Sound.{IsSound}
-use Rattle.svc_machine_laws.specs.Guess.{guess}
+use Rattle.svc_machine_laws.specs.Guess.{guess, last_end}
+use Rattle.svc_machine_laws.specs.PlainMachine.{running, run_done}
 use Rattle.svc_machine_laws.specs.Guide.{Guide, guess_of}
 use Rattle.svc_machine_laws.proofs.Given.{given}
 use Rattle.svc_machine_laws.proofs.Followed.{guess_is}
@@ -23,7 +25,8 @@ use Rattle.svc_machine_laws.specs.Refusals.{seat_at}
 use Rattle.svc_machine.specs.declared.seat.Seat.{Seat}
 use Rattle.svc_machine.specs.Reads.{lease_from, lease_of}
 use Rattle.svc_machine.specs.Kept.{Parts, Kept, shown, whole_seat}
-use Rattle.svc_machine.proofs.Seats.{place_is}
+use Rattle.svc_machine.specs.Seats.{seat_end}
+use Rattle.svc_machine.proofs.Seats.{last_run, last_seat, place_is}
 
 module _ (m : Parts) (kept : Kept m) where
   same : IsSameSeq m.image (plain_seq m.image m.plain.commits) (seq (program m.image) m.plain.commits)
@@ -38,8 +41,12 @@ module _ (m : Parts) (kept : Kept m) where
   pub due_read : m.guide.due ≡ (plain_seq m.image m.plain.commits).due
   due_read = ap (λ (g : Guide). g.due) kept.guide ∙ same.due
 
-  pub guess_read : guess_of m.guide ≡ guess (program m.image) m.image.entries m.plain
-  guess_read = ap guess_of kept.guide ∙ guess_is m.image m.plain kept.reached.entries
+  pub guess_read : (seats : List Seat) → map whole_seat seats ≡ m.seats → (ended : Option End) → ended ≡ last_end (λ (s : Seat). s.core.done) seats
+      → guess_of ended m.guide ≡ guess (program m.image) m.image.entries m.plain
+  guess_read seats same ended is =
+      let p : Program State = program m.image in
+      let last : ended ≡ last_end (run_done p) (running p m.plain) = is ∙ last_seat seats ∙ ap (last_end seat_end) (same ∙ kept.seats) ∙ last_run p (running p m.plain) in
+      ap₂ guess_of last kept.guide ∙ guess_is m.image m.plain kept.reached.entries
 
   -- the committed value of the bus's lines
   pub memory_read : (a : ℕ) → committed_value kept.lines a ≡ word_at (plain_seq m.image m.plain.commits).memory a

@@ -1,14 +1,20 @@
 -- The seats, the tasks and the runs, by their places.
-use Rattle.std.proofs.Common.{ℕ, suc, ◌≡◌, ◌+◌, ◌==◌, ◌<◌, Bool, true, false, cond, List, [], ◌∷◌, map, length, Option, Some, None, refl, sym, ap, ap₂, ◌∙◌, arith}
-use Rattle.std.specs.Prelude.{option_map, slice_get, slice_index_or, nat_lt, not}
+use Rattle.std.proofs.Common.{ℕ, suc, ◌≡◌, ◌+◌, ◌-◌, ◌==◌, ◌<◌, Bool, true, false, cond, List, [], ◌∷◌, map, length, Option, Some, None, refl, sym, ap, ap₂, ◌∙◌, arith}
+use Rattle.std.specs.Prelude.{option_and_then, option_map, slice_get, slice_index_or, nat_lt, not}
 use Rattle.std.specs.List.{position, position_or_len}
 use Rattle.std.proofs.lemmas.Bool.{ltb-true, ltb-false, lt-ltb, le-ltb}
 use Rattle.std.proofs.lemmas.Option.{slice_get_read}
-use Rattle.svc_machine_laws.specs.WholeMachine.{seat_unit}
+use Rattle.svc_core_laws.specs.declared.end.End.{End}
+use Rattle.svc_core_laws.specs.State.{State}
+use Rattle.svc_core_laws.specs.Program.{Program}
+use Rattle.svc_machine_laws.specs.Guess.{last_end}
+use Rattle.svc_machine_laws.specs.PlainMachine.{Running, run_done}
+use Rattle.svc_machine_laws.specs.WholeMachine.{seat_done, seat_of, seat_unit}
 use Rattle.svc_machine_laws.specs.Events.{place_in}
 use Rattle.svc_machine_laws.proofs.Places.{found, within}
 use Rattle.svc_machine.specs.declared.seat.Seat.{Seat}
 use Rattle.svc_machine.specs.Kept.{whole_seat}
+use Rattle.svc_machine.specs.Seats.{seat_end}
 
 -- ---- the place of a unit's seat
 
@@ -55,3 +61,21 @@ place_below seats unit place n many at =
 pub seat_found : (seats : List Seat) (unit place n : ℕ) (seat : Seat) → n ≡ length seats → position (λ (s : Seat). s.unit.0 == unit) seats ≡ Some place
     → seat ≡ slice_index_or seats place seat → slice_get seats place ≡ Some seat
 seat_found seats unit place n seat many at is = slice_get_read seats n place seat many (place_below seats unit place n many at) is
+
+-- ---- how the youngest has ended
+
+pub last_got : {A : Type 0} (done : A → Option End) (xs : List A) → last_end done xs ≡ option_and_then done (slice_get xs (length xs - 1))
+last_got done [] = refl
+last_got done (x ∷ []) = refl
+last_got done (x ∷ y ∷ xs) = last_got done (y ∷ xs) ∙ (let e : suc (length (y ∷ xs) - 1) ≡ length (x ∷ y ∷ xs) - 1 = omega arith in ap (λ n. option_and_then done (slice_get (x ∷ y ∷ xs) n)) e)
+
+-- of the seats, and of the runs that they are of
+pub last_seat : (seats : List Seat) → last_end (λ (s : Seat). s.core.done) seats ≡ last_end seat_end (map whole_seat seats)
+last_seat [] = refl
+last_seat (x ∷ []) = refl
+last_seat (x ∷ y ∷ seats) = last_seat (y ∷ seats)
+
+pub last_run : (p : Program State) (runs : List (Running State)) → last_end (seat_done p) (map seat_of runs) ≡ last_end (run_done p) runs
+last_run p [] = refl
+last_run p (x ∷ []) = refl
+last_run p (x ∷ y ∷ runs) = last_run p (y ∷ runs)

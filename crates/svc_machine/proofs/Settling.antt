@@ -1,6 +1,6 @@
--- The tasks after a head that is committed.
-use Rattle.std.proofs.Common.{ℕ, suc, ◌≡◌, ◌<◌, ◌≤◌, ◌==◌, Bool, false, true, cond, not, List, [], ◌∷◌, map, take, drop, length, get_or, Option, None, Some, refl, sym, ap, ◌∙◌, subst, arith}
-use Rattle.std.specs.Prelude.{◌&&◌, ltb, leb}
+-- The tasks after one that has ended.
+use Rattle.std.proofs.Common.{ℕ, zero, suc, ◌≡◌, ◌<◌, ◌≤◌, ◌==◌, Bool, false, true, cond, not, List, [], ◌∷◌, map, take, drop, length, get_or, Option, None, Some, refl, sym, ap, ◌∙◌, subst, arith}
+use Rattle.std.specs.Prelude.{◌&&◌, ltb, leb, option_and_then, slice_get}
 use Rattle.std.proofs.lemmas.Bool.{ne_eqb}
 use Rattle.std.proofs.lemmas.List.{take_all}
 use borrow.Author.Tests.{both_ways}
@@ -14,15 +14,17 @@ use Rattle.svc_bus_laws.proofs.Searches.{any_none}
 use Rattle.svc_bus.specs.Calls.{IsAtWork}
 use Rattle.svc_machine_laws.specs.declared.reply.Cut.{Cut}
 use Rattle.svc_machine_laws.specs.declared.reply.Cause.TheVariants as cause
-use Rattle.svc_machine_laws.specs.PlainMachine.{stays}
+use Rattle.svc_machine_laws.specs.PlainMachine.{stays, cuts_after, cuts_at, cuts_next}
 use Rattle.svc_machine_laws.specs.WholeMachine as whole
 use Rattle.svc_machine_laws.specs.WholeMachine.{seat_entry, seat_unit}
-use Rattle.svc_machine_laws.specs.Guide.{cuts_next}
 use Rattle.svc_machine_laws.specs.LineEvents.{line_settle}
 use Rattle.svc_machine_laws.specs.Replies.{cut_from, wrong_guess}
+use Rattle.svc_machine_laws.proofs.EditedLists.{map_take}
 use Rattle.svc_machine.specs.declared.seat.Seat.{Seat}
 use Rattle.svc_machine.specs.Kept.{whole_seat}
+use Rattle.svc_machine.specs.Seats.{is_misled, seat_end}
 use Rattle.svc_machine.proofs.Cancelling.{and_off}
+use Rattle.svc_machine.proofs.Seats.{count}
 
 abbrev pub units_in : List Seat → List ℕ
 units_in seats = map seat_unit (map whole_seat seats)
@@ -30,50 +32,80 @@ units_in seats = map seat_unit (map whole_seat seats)
 abbrev pub entries_in : List Seat → List ℕ
 entries_in seats = map seat_entry (map whole_seat seats)
 
--- ---- where tasks are cut there is a second one
+-- ---- where tasks are cut there is a next one
 
-pub second_here : (seats : List Seat) (end : End) → cuts_next end (drop 1 (entries_in seats)) ≡ true → 1 < length seats
-second_here [] end h = absurd (both_ways false refl h)
-second_here (x ∷ []) end h = absurd (both_ways false refl h)
-second_here (x ∷ y ∷ seats) end h = omega arith
+next_entry : (es : List ℕ) (place : ℕ) (end : End) → cuts_next end (drop (suc place) es) ≡ true → suc place < length es
+next_entry [] place end h = absurd (both_ways false refl h)
+next_entry (x ∷ []) zero end h = absurd (both_ways false refl h)
+next_entry (x ∷ y ∷ es) zero end h = omega arith
+next_entry (x ∷ es) (suc place) end h = let ih = next_entry es place end h in omega (arith, ih)
 
-second_unit : (seats : List Seat) (next : Seat) → 1 < length seats → next ≡ get_or seats 1 next → get_or (units_in seats) 1 0 ≡ next.unit.0
-second_unit [] next h is = absurd (omega (arith, h))
-second_unit (x ∷ []) next h is = absurd (omega (arith, h))
-second_unit (x ∷ y ∷ seats) next h is = ap (λ (s : Seat). s.unit.0) (sym is)
+pub next_here : (seats : List Seat) (place : ℕ) (end : End) → cuts_next end (drop (suc place) (entries_in seats)) ≡ true → suc place < length seats
+next_here seats place end h =
+    let a = next_entry (entries_in seats) place end h in
+    let b = count seat_entry (map whole_seat seats) in
+    let c = count whole_seat seats in
+    omega (arith, a, b, c)
 
-second_within : (seats : List Seat) → 1 < length seats → 1 < length (units_in seats)
-second_within [] h = absurd (omega (arith, h))
-second_within (x ∷ []) h = absurd (omega (arith, h))
-second_within (x ∷ y ∷ seats) h = omega arith
+next_unit : (seats : List Seat) (at : ℕ) (next : Seat) → at < length seats → next ≡ get_or seats at next → get_or (units_in seats) at 0 ≡ next.unit.0
+next_unit [] at next h is = absurd (omega (arith, h))
+next_unit (x ∷ seats) zero next h is = ap (λ (s : Seat). s.unit.0) (sym is)
+next_unit (x ∷ seats) (suc at) next h is = next_unit seats at next (omega (arith, h)) is
 
 -- its unit runs it, and not the head
-module _ (b : BusState) (t : LineTable) (agrees : Agrees b t) (seats : List Seat) (units : t.units ≡ units_in seats) (next : Seat) (two : 1 < length seats) (is : next ≡ get_or seats 1 next) where
-  pub second_place : (s : LineTable) → Agrees b s → (1 < length s.units) × (unit_at s 1 ≡ next.unit.0)
-  second_place s other =
-      let same : s.units ≡ units_in seats = sym other.units ∙ agrees.units ∙ units in (
-        subst (λ (us : List ℕ). 1 < length us) (sym same) (second_within seats two),
-        ap (λ (us : List ℕ). get_or us 1 0) same ∙ second_unit seats next two is,
+module _ (b : BusState) (t : LineTable) (agrees : Agrees b t) (seats : List Seat) (units : t.units ≡ units_in seats) (place : ℕ) (next : Seat) (inside : suc place < length seats) (is : next ≡ get_or seats (suc place) next) where
+  pub next_place : (s : LineTable) → Agrees b s → (suc place < length s.units) × (unit_at s (suc place) ≡ next.unit.0)
+  next_place s other =
+      let same : s.units ≡ units_in seats = sym other.units ∙ agrees.units ∙ units in
+      let many : length (units_in seats) ≡ length seats = count seat_unit (map whole_seat seats) ∙ count whole_seat seats in (
+        subst (λ (us : List ℕ). suc place < length us) (sym same) (omega (arith, inside, many)),
+        ap (λ (us : List ℕ). get_or us (suc place) 0) same ∙ next_unit seats (suc place) next inside is,
       )
 
-  pub second_works : IsAtWork b next.unit.0
-  second_works =
-      let here = second_place t agrees in (
-        1,
+  pub next_works : IsAtWork b next.unit.0
+  next_works =
+      let here = next_place t agrees in (
+        suc place,
         record {
-          within = subst (λ (us : List ℕ). 1 < length us) (sym agrees.units) here.0;
-          unit_is = ap (λ (us : List ℕ). get_or us 1 0) agrees.units ∙ here.1;
+          within = subst (λ (us : List ℕ). suc place < length us) (sym agrees.units) here.0;
+          unit_is = ap (λ (us : List ℕ). get_or us (suc place) 0) agrees.units ∙ here.1;
         },
       )
 
-  pub second_later : is_head b.units next.unit.0 ≡ false
-  second_later =
-      let here = second_place t agrees in
-      let two_units = here.0 in
+  pub next_later : is_head b.units next.unit.0 ≡ false
+  next_later =
+      let here = next_place t agrees in
+      let within = here.0 in
       let apart : (unit_at t 0 == next.unit.0) ≡ false =
-      ne_eqb (unit_at t 0) next.unit.0 (λ same. let one = agrees.sound.distinct_units 0 1 (omega (arith, two_units)) two_units (same ∙ sym here.1) in absurd (omega (arith, one))) in
+      ne_eqb (unit_at t 0) next.unit.0 (λ same. let one = agrees.sound.distinct_units 0 (suc place) (omega (arith, within)) within (same ∙ sym here.1) in absurd (omega (arith, one))) in
       ap (λ (us : List ℕ). is_head us next.unit.0) agrees.units
       ∙ ap (λ x. ltb 0 (length t.units) && x) apart ∙ and_off (ltb 0 (length t.units))
+
+-- ---- whether a task that has ended misleads
+
+misled_by : {A : Type 0} (done : A → Option End) (entry : A → ℕ) (xs : List A) (place : ℕ) → cuts_at done entry xs place ≡ cuts_after (option_and_then done (slice_get xs place)) (drop (suc place) (map entry xs))
+misled_by done entry [] place = refl
+misled_by done entry (x ∷ xs) zero = refl
+misled_by done entry (x ∷ xs) (suc place) = misled_by done entry xs place
+
+-- how the task at a place has ended, where there is one and it has
+abbrev pub ended_at : List Seat → (place : ℕ) → Option End
+ended_at seats place = option_and_then (λ (s : Seat). s.core.done) (slice_get seats place)
+
+seat_got : (seats : List Seat) (place : ℕ) → option_and_then seat_end (slice_get (map whole_seat seats) place) ≡ ended_at seats place
+seat_got [] place = refl
+seat_got (x ∷ seats) zero = refl
+seat_got (x ∷ seats) (suc place) = seat_got seats place
+
+pub misled_is : (seats : List Seat) (place : ℕ) (o : Option End) → o ≡ ended_at seats place
+    → is_misled (map whole_seat seats) place ≡ cuts_after o (drop (suc place) (entries_in seats))
+misled_is seats place o is =
+    misled_by seat_end seat_entry (map whole_seat seats) place
+    ∙ ap (λ e. cuts_after e (drop (suc place) (entries_in seats))) (seat_got seats place ∙ sym is)
+
+pub seats_kept : (wrong : Bool) (place : ℕ) (seats : List Seat) → map whole_seat (cond wrong (take (suc place) seats) seats) ≡ cond wrong (take (suc place) (map whole_seat seats)) (map whole_seat seats)
+seats_kept true place seats = map_take whole_seat (suc place) seats
+seats_kept false place seats = refl
 
 -- ---- a cut behind the only task cuts nothing
 

@@ -1,30 +1,35 @@
 -- A burst that is taken over.
-use Rattle.std.proofs.Common.{ℕ, ◌≡◌, ◌==◌, ◌+◌, ◌-◌, ◌≤◌, List, map, take, length, Option, Some, None, true, refl, sym, ap, ap₂, ◌∙◌, subst, option_map, slice_get, slice_set, get_or, is_some, add-one, arith}
-use Rattle.std.proofs.lemmas.List.{length-take-le, length-set}
+use Rattle.std.proofs.Common.{ℕ, suc, ◌≡◌, ◌==◌, ◌+◌, ◌-◌, ◌^◌, ◌<◌, ◌≤◌, Bool, false, cond, List, map, take, length, Option, Some, None, true, refl, sym, ap, ap₂, ◌∙◌, subst, option_map, slice_get, slice_set, get_or, is_some, add-one, arith}
+use Rattle.std.proofs.lemmas.List.{length-take-le, length-set, map-set}
 use Rattle.std.proofs.lemmas.Option.{same_Some, slice_get-map, get_or_from_slice_get}
+use Rattle.std.specs.Option.{option_or}
 use Rattle.std.specs.List.{position}
 use Rattle.svc_base.specs.declared.ids.UnitId.{UnitId}
 use Rattle.svc_image.specs.Image.{Image}
 use Rattle.svc_core_laws.specs.declared.ask.Ask.{Ask}
 use Rattle.svc_core_laws.specs.State.{State}
-use Rattle.svc_core_laws.specs.Program.{Memory, Program, Run, output, seq, locals, are_local, part}
+use Rattle.svc_core_laws.specs.Program.{Memory, Want, Program, Run, output, seq, locals, are_local, part}
 use Rattle.svc_core_laws.specs.Words.{program}
 use Rattle.svc_core_laws.specs.Bursts.{Advance, Follows}
 use Rattle.svc_core_laws.proofs.Going.{words_counted}
 use Rattle.svc_bus_laws.specs.Versioned.{Versioned}
 use Rattle.svc_bus_laws.specs.LineTable.{LineTable}
 use Rattle.svc_bus_laws.specs.BusState.{BusState, Agrees}
+use Rattle.svc_bus_laws.specs.Steps.{squash}
 use Rattle.svc_bus_laws.proofs.RefusalProofs.{same_full}
 use Rattle.svc_bus.specs.Observed.{observed}
 use Rattle.svc_machine_laws.specs.PlainMachine as plain
-use Rattle.svc_machine_laws.specs.PlainMachine.{Plain, Task, Running, running, run_of, memory_at, unit_of}
+use Rattle.svc_machine_laws.specs.PlainMachine.{Plain, Task, Running, running, run_of, memory_at, entry_of, unit_of}
 use Rattle.svc_machine_laws.specs.WholeMachine as whole
-use Rattle.svc_machine_laws.specs.WholeMachine.{Machine, machine_of, seat_of, seat_unit, at_core}
+use Rattle.svc_machine_laws.specs.WholeMachine.{Machine, machine_of, seat_entry, seat_of, seat_unit, at_core}
 use Rattle.svc_machine_laws.specs.Events.{Event, Submit, want_of, asked_want, place_in, seat_place, plain_submit, plain_event, whole_submit, whole_event}
-use Rattle.svc_machine_laws.specs.LineEvents.{line_submit, line_event}
+use Rattle.svc_machine_laws.specs.LineEvents.{line_ask, line_check, line_submit, line_event}
 use Rattle.svc_machine_laws.specs.Blame.{tasks_cut}
-use Rattle.svc_machine_laws.specs.Guide.{guide_of, guide_cut}
-use Rattle.svc_machine_laws.specs.Replies.{whole_submitted, whole_reply}
+use Rattle.svc_machine_laws.specs.Guide.{Guide, guide_of, guide_cut}
+use Rattle.svc_machine_laws.specs.Reached.{IsReached}
+use Rattle.svc_machine_laws.specs.Replies.{checked, cut_from, whole_asked, whole_submitted, whole_reply}
+use Rattle.svc_machine_laws.specs.declared.reply.Cause.TheVariants as cause
+use Rattle.svc_machine_laws.specs.declared.reply.Cut.{Cut}
 use Rattle.svc_machine_laws.specs.declared.reply.Reply.{Reply}
 use Rattle.svc_machine_laws.specs.Refusals.{asked_word, full_set}
 use Rattle.svc_machine_laws.specs.MachineLaws.{IsWithin, Taken}
@@ -34,7 +39,13 @@ use Rattle.svc_machine_laws.proofs.Accepted.{CanSubmit, can_submit, seat_places,
 use Rattle.svc_machine_laws.proofs.Answering.{count}
 use Rattle.svc_machine_laws.proofs.Anew.{runs_at}
 use Rattle.svc_machine_laws.proofs.Given.{given}
-use Rattle.svc_machine_laws.proofs.MachineEvents.{taken, machine_event}
+use Rattle.svc_machine_laws.proofs.Checks.{same_check}
+use Rattle.svc_machine_laws.proofs.EditedLists.{map_take}
+use Rattle.svc_machine_laws.proofs.MachineEvents.{taken}
+use Rattle.svc_machine_laws.proofs.Room.{tasks_few}
+use Rattle.svc_machine_laws.proofs.Standings.{after_submit}
+use Rattle.svc_machine_laws.proofs.Steps.{map_runs}
+use Rattle.svc_machine_laws.proofs.Submits.{submit_step}
 use Rattle.svc_machine_laws.proofs.Parts.{part_locals}
 use Rattle.svc_machine_laws.proofs.Places.{found, within}
 use Rattle.svc_machine_laws.proofs.Followed.{map_count, submit_guide}
@@ -44,6 +55,7 @@ use Rattle.svc_machine.specs.Asked.{IsDone, RunsAt, full_for}
 use Rattle.svc_machine.specs.declared.seat.Seat as declared
 use Rattle.svc_machine.specs.Value.{MachineValue, StandsAt}
 use Rattle.svc_machine.specs.Kept.{Parts, Kept, whole_seat}
+use Rattle.svc_machine.specs.Seats.{is_misled}
 use Rattle.svc_machine.proofs.Keeping.{IsAccepted, Moved, own_standing, stands, reached_with, seat_task}
 use Rattle.svc_machine.proofs.EditedSeats.{IsTurn, few_cut, seats_done, reply_done, commits_done, accepted_done, others_done}
 
@@ -65,6 +77,28 @@ waiting_counted img t m local last x is own end =
 same_room : (b : BusState) (t : LineTable) (unit : ℕ) (o : Option ℕ) → Agrees b t → full_set t unit o ≡ None → full_for b unit o ≡ None
 same_room b t unit None agrees h = refl
 same_room b t unit (Some a) agrees h = same_full b t unit a agrees ∙ h
+
+-- ---- a check, by whether it cuts
+
+unchecked : {X : Type 0} (f : Machine State → X) (c : Bool) (n : ℕ) (m : Machine State) → f (whole.keep n m) ≡ f m → f (cond c (whole.keep n m) m) ≡ f m
+unchecked f true n m same = same
+unchecked f false n m same = refl
+
+seats_checked : (c : Bool) (n : ℕ) (m : Machine State) → cond c (take n m.seats) m.seats ≡ (cond c (whole.keep n m) m).seats
+seats_checked true n m = refl
+seats_checked false n m = refl
+
+lines_checked : (c : Bool) (t : LineTable) (place : ℕ) → cond c (squash t (suc place)) t ≡ line_check c t place
+lines_checked true t place = refl
+lines_checked false t place = refl
+
+guide_checked : (p : Program State) (entries : List ℕ) (c : Bool) (n : ℕ) (s : Plain) → cond c (guide_cut n (guide_of p entries s)) (guide_of p entries s) ≡ guide_of p entries (cond c (plain.keep n s) s)
+guide_checked p entries true n s = ap {B = Guide} (λ l. record (guide_of p entries s) { active = l }) (sym (map_take entry_of n s.tasks))
+guide_checked p entries false n s = refl
+
+reply_checked : (c : Bool) (k n place : ℕ) (r : Reply) → let o : Reply = record { what = r.what; cut = option_or (cond c (Some (cut_from cause.WrongGuess k n (suc place))) None) r.cut } in o ≡ checked c k n place r
+reply_checked true k n place r = refl
+reply_checked false k n place r = refl
 
 module _ (m : Parts) (kept : Kept m) (b : Advance) (ok : IsAccepted m (Submit b)) where
   abbrev p : Program State
@@ -144,13 +178,44 @@ module _ (m : Parts) (kept : Kept m) (b : Advance) (ok : IsAccepted m (Submit b)
           known = λ w e. subst (λ n. IsWithin n w) (sym r.lines.words) (asked_within m.image b.end b.ask w e);
         }
 
-    whole_is : whole_event m.image before (Submit b) ≡ whole.submit before place b.end (asked_want m.image b)
+    abbrev want : Option (Want State)
+    want = asked_want m.image b
+
+    -- the machines after the turns, before the guess is checked
+    abbrev turned : Machine State
+    turned = whole.submit before place b.end want
+
+    abbrev plain_turned : Plain
+    plain_turned = plain.submit p m.plain place b.local (is_some want)
+
+    turned_is : Follows b → machine_of p plain_turned ≡ turned
+    turned_is follows =
+        subst (λ q. machine_of p (plain.submit p m.plain q b.local (is_some want)) ≡ whole.submit before q b.end want) same_place
+        (submit_step p m.plain can.place b.local b.end want (is_taken follows))
+
+    turned_reached : Follows b → IsReached m.image m.config (record { plain = plain_turned; lines = line_ask want kept.lines place })
+    turned_reached follows =
+        subst (λ q. IsReached m.image m.config (record { plain = plain.submit p m.plain q b.local (is_some want); lines = line_ask want kept.lines q })) same_place
+        (after_submit m.image (given m.image kept.sound) m.config own kept.reached b follows can)
+
+    whole_is : whole_event m.image before (Submit b) ≡ whole.check p turned place
     unfolding whole_event
     whole_is = ap (λ o. whole_submit m.image before o b) at
 
-    plain_is : plain_event m.image m.plain (Submit b) ≡ plain.submit p m.plain place b.local (is_some (asked_want m.image b))
+    plain_is : plain_event m.image m.plain (Submit b) ≡ plain.check p plain_turned place
     unfolding plain_event
     plain_is = ap (λ o. plain_submit m.image m.plain o b) (sym (seat_places m.image m.config own b.unit.0) ∙ at)
+
+    -- the numbers of the tasks are small
+    pub small_numbers : m.config.units ≤ 16 → m.config.events ≤ 1000000 → (m.plain.commits + place + 1 < 2 ^ 64) × (length m.seats < 2 ^ 32)
+    small_numbers units events =
+        let few = tasks_few m.image m.config own kept.reached in
+        let inside = within (map unit_of m.plain.tasks) place b.unit.0 task_at in
+        let tasks = map_count unit_of m.plain.tasks in
+        let a = kept.reached.accepted_few in
+        let k = kept.reached.commits_few in
+        let n : length m.seats ≡ length m.plain.tasks = ap length kept.seats ∙ count p (seq p m.plain.commits).memory m.plain.tasks in
+        (omega (arith, few, inside, tasks, a, k, units, events), omega (arith, few, n, units))
 
     module _ (seat : whole.Seat State) (bus : BusState) (reply : Reply) (done : (t : LineTable) → Agrees (observed m.bus) t → IsDone m.image (asked_want m.image b) t place (at_core b.end (seat_of can.run)) seat bus reply) where
       -- the asked turn, over the invariant's line table
@@ -162,75 +227,119 @@ module _ (m : Parts) (kept : Kept m) (b : Advance) (ok : IsAccepted m (Submit b)
 
       pub cut_few : tasks_cut reply.cut ≤ length m.seats
       cut_few =
-          let few = few_cut m.image before kept.lines place b.end (seat_of can.run) seat bus reply (asked_want m.image b) turn (done kept.lines kept.agrees) in
+          let few = few_cut m.image before kept.lines place b.end (seat_of can.run) seat bus reply want turn (done kept.lines kept.agrees) in
           let same = ap length kept.seats in
           omega (arith, few, same)
 
-      seats_after : take left (slice_set m.seats place seat) ≡ (whole_event m.image before (Submit b)).seats
-      seats_after =
+      seats_turned : take left (slice_set m.seats place seat) ≡ turned.seats
+      seats_turned =
           ap (λ (l : List (whole.Seat State)). take (length l - tasks_cut reply.cut) (slice_set l place seat)) kept.seats
-          ∙ seats_done m.image before kept.lines place b.end (seat_of can.run) seat bus reply (asked_want m.image b) turn (done kept.lines kept.agrees)
-          ∙ ap (λ (n : Machine State). n.seats) (sym whole_is)
+          ∙ seats_done m.image before kept.lines place b.end (seat_of can.run) seat bus reply want turn (done kept.lines kept.agrees)
 
       -- as many tasks are left
-      tasks_after : Follows b → length (plain_event m.image m.plain (Submit b)).tasks ≡ left
-      tasks_after follows =
-          let after : Plain = plain_event m.image m.plain (Submit b) in
+      tasks_turned : Follows b → length plain_turned.tasks ≡ left
+      tasks_turned follows =
           let front : length (take left (slice_set m.seats place seat)) ≡ left =
           length-take-le left (slice_set m.seats place seat) (let e = length-set m.seats place seat in omega (arith, e)) in
-          sym (count p (seq p after.commits).memory after.tasks)
-          ∙ ap (λ (n : Machine State). length n.seats) (machine_event m.image (given m.image kept.sound) m.config own kept.reached (Submit b) follows (ok own (stands m kept)))
-          ∙ sym (ap length seats_after)
+          sym (count p (seq p plain_turned.commits).memory plain_turned.tasks)
+          ∙ ap (λ (n : Machine State). length n.seats) (turned_is follows)
+          ∙ sym (ap length seats_turned)
           ∙ front
 
-      pub replied_by : (t : LineTable) → Agrees (observed m.bus) t → reply ≡ whole_reply m.image before t (Submit b)
-      unfolding whole_reply
-      replied_by t agrees =
-          reply_done m.image before t place b.end (seat_of can.run) seat bus reply (asked_want m.image b) (is_turn t agrees) (done t agrees)
-          ∙ sym (ap (λ o. whole_submitted p before t o (asked_want m.image b)) at)
+      -- ---- the check of the guess, on the seats and the guide that the turn has left
 
-      lines_after : (t : LineTable) → Agrees (observed m.bus) t → Agrees bus (line_event m.image before t (Submit b))
-      unfolding line_event
-      lines_after t agrees = subst (λ o. Agrees bus (line_submit (asked_want m.image b) t o)) (sym at) (done t agrees).table
+      module _ (follows : Follows b) (held : List declared.Seat) (are : map whole_seat held ≡ take left (slice_set m.seats place seat)) (guided : Guide) (guide_is : guided ≡ guide_cut left m.guide) where
+        abbrev misled : Bool
+        misled = is_misled (map whole_seat held) place
 
-      -- the fields after it
-      pub record Submitted (new : Parts) : Type 0 where
-        pub image : new.image ≡ m.image
-        pub config : new.config ≡ m.config
-        pub tasks : new.plain.tasks ≡ map seat_task new.seats
-        pub commits : new.plain.commits ≡ m.plain.commits
-        pub accepted : new.plain.accepted ≡ m.plain.accepted + 1
-        pub epoch : new.plain.epoch ≡ m.plain.epoch
-        pub lines : observed new.bus ≡ bus
-        pub guide : new.guide ≡ guide_cut left m.guide
-        pub seats : new.seats ≡ take left (slice_set m.seats place seat)
-        pub places : m.places ≤ new.places
-        pub output : new.output ≡ m.output
-        pub room : m.room ≤ new.room
-        pub stopped : new.stopped ≡ m.stopped
+        seats_are : map whole_seat held ≡ (machine_of p plain_turned).seats
+        seats_are = are ∙ seats_turned ∙ ap (λ (n : Machine State). n.seats) (sym (turned_is follows))
 
-      pub moved_by : Follows b → (new : Parts) → Submitted new → Moved m new (Submit b)
-      moved_by follows new s =
-          let want = asked_want m.image b in
-          record {
-            image = s.image;
-            config = s.config;
-            tasks = s.tasks;
-            commits = s.commits ∙ commits_done before place b.end want ∙ ap (λ (n : Machine State). n.versioned.commits) (sym whole_is);
-            accepted = s.accepted ∙ add-one m.plain.accepted ∙ accepted_done before place b.end want ∙ ap (λ (n : Machine State). n.accepted) (sym whole_is);
-            epoch = s.epoch ∙ others_done (λ (n : Machine State). n.epoch) before place b.end want (λ v l. refl) ∙ ap (λ (n : Machine State). n.epoch) (sym whole_is);
-            seats = s.seats ∙ seats_after;
-            output = s.output ∙ kept.output ∙ others_done (λ (n : Machine State). n.output) before place b.end want (λ v l. refl) ∙ ap (λ (n : Machine State). n.output) (sym whole_is);
-            stopped = s.stopped ∙ kept.stopped ∙ others_done (λ (n : Machine State). n.stopped) before place b.end want (λ v l. refl) ∙ ap (λ (n : Machine State). n.stopped) (sym whole_is);
-            guide = s.guide
-                ∙ ap₂ guide_cut (sym (tasks_after follows)) kept.guide
-                ∙ ap (λ (q : Plain). guide_cut (length q.tasks) (guide_of p m.image.entries m.plain)) plain_is
-                ∙ sym (submit_guide p m.image.entries m.plain place b.local (is_some want))
-                ∙ ap (guide_of p m.image.entries) (sym plain_is);
-            places = s.places;
-            room = s.room;
-            lines = λ t agrees. subst (λ (u : BusState). Agrees u (line_event m.image before t (Submit b))) (sym s.lines) (lines_after t agrees);
-          }
+        guide_turned : guided ≡ guide_of p m.image.entries plain_turned
+        guide_turned = guide_is ∙ ap₂ guide_cut (sym (tasks_turned follows)) kept.guide ∙ sym (submit_guide p m.image.entries m.plain place b.local (is_some want))
+
+        -- what it asks for
+        pub lined : guided.active ≡ map seat_entry (map whole_seat held)
+        lined =
+            ap (λ (g : Guide). g.active) guide_turned
+            ∙ sym (map_runs p seat_entry entry_of (λ y. refl) (seq p plain_turned.commits).memory plain_turned.tasks)
+            ∙ ap (map seat_entry) (sym seats_are)
+
+        pub has_units : (t : LineTable) × Agrees bus t × (t.units ≡ map seat_unit (map whole_seat held))
+        has_units = (
+          line_ask want kept.lines place,
+          (done kept.lines kept.agrees).table,
+          (turned_reached follows).lines.units
+              ∙ sym (map_runs p seat_unit unit_of (λ y. refl) (seq p plain_turned.commits).memory plain_turned.tasks)
+              ∙ ap (map seat_unit) (sym seats_are),
+        )
+
+        whole_misled : misled ≡ whole.is_misled p turned.seats place
+        whole_misled = ap (λ l. is_misled l place) (are ∙ seats_turned)
+
+        plain_misled : misled ≡ plain.is_misled p plain_turned place
+        plain_misled = ap (λ l. is_misled l place) seats_are ∙ same_check p plain_turned place
+
+        -- the fields after it
+        pub record Submitted (new : Parts) : Type 0 where
+          pub image : new.image ≡ m.image
+          pub config : new.config ≡ m.config
+          pub tasks : new.plain.tasks ≡ map seat_task new.seats
+          pub commits : new.plain.commits ≡ m.plain.commits
+          pub accepted : new.plain.accepted ≡ m.plain.accepted + 1
+          pub epoch : new.plain.epoch ≡ m.plain.epoch
+          pub lines : (t : LineTable) → Agrees bus t → Agrees (observed new.bus) (cond misled (squash t (suc place)) t)
+          pub guide : new.guide ≡ cond misled (guide_cut (suc place) guided) guided
+          pub seats : new.seats ≡ cond misled (take (suc place) (map whole_seat held)) (map whole_seat held)
+          pub places : m.places ≤ new.places
+          pub output : new.output ≡ m.output
+          pub room : m.room ≤ new.room
+          pub stopped : new.stopped ≡ m.stopped
+
+        -- what neither the turn nor the check changes
+        others_kept : {X : Type 0} (f : Machine State → X) → ((v : Versioned) (l : List (whole.Seat State)) → f before ≡ f (whole.with_seats before v l)) → f (whole.keep (suc place) turned) ≡ f turned → f before ≡ f (whole_event m.image before (Submit b))
+        others_kept f same checked_same = others_done f before place b.end want same ∙ sym (unchecked f (whole.is_misled p turned.seats place) (suc place) turned checked_same) ∙ ap f (sym whole_is)
+
+        lines_after : (new : Parts) → Submitted new → (t : LineTable) → Agrees (observed m.bus) t → Agrees (observed new.bus) (line_event m.image before t (Submit b))
+        unfolding line_event
+        lines_after new s t agrees =
+            subst (λ o. Agrees (observed new.bus) (line_submit p before b.end want t o)) (sym at)
+            (subst (λ u. Agrees (observed new.bus) u) (ap (λ c. cond c (squash (line_ask want t place) (suc place)) (line_ask want t place)) whole_misled ∙ lines_checked (whole.is_misled p turned.seats place) (line_ask want t place) place)
+            (s.lines (line_ask want t place) (done t agrees).table))
+
+        pub moved_by : (new : Parts) → Submitted new → Moved m new (Submit b)
+        moved_by new s = record {
+          image = s.image;
+          config = s.config;
+          tasks = s.tasks;
+          commits = s.commits ∙ commits_done before place b.end want ∙ sym (unchecked (λ n. n.versioned.commits) (whole.is_misled p turned.seats place) (suc place) turned refl) ∙ ap (λ (n : Machine State). n.versioned.commits) (sym whole_is);
+          accepted =
+              s.accepted ∙ add-one m.plain.accepted ∙ accepted_done before place b.end want
+              ∙ sym (unchecked (λ n. n.accepted) (whole.is_misled p turned.seats place) (suc place) turned refl) ∙ ap (λ (n : Machine State). n.accepted) (sym whole_is);
+          epoch = s.epoch ∙ others_kept (λ n. n.epoch) (λ v l. refl) refl;
+          seats =
+              s.seats ∙ ap (λ l. cond (is_misled l place) (take (suc place) l) l) (are ∙ seats_turned)
+              ∙ seats_checked (whole.is_misled p turned.seats place) (suc place) turned ∙ ap (λ (n : Machine State). n.seats) (sym whole_is);
+          output = s.output ∙ kept.output ∙ others_kept (λ n. n.output) (λ v l. refl) refl;
+          stopped = s.stopped ∙ kept.stopped ∙ others_kept (λ n. n.stopped) (λ v l. refl) refl;
+          guide =
+              s.guide ∙ ap₂ (λ c g. cond c (guide_cut (suc place) g) g) plain_misled guide_turned
+              ∙ guide_checked p m.image.entries (plain.is_misled p plain_turned place) (suc place) plain_turned
+              ∙ ap (guide_of p m.image.entries) (sym plain_is);
+          places = s.places;
+          room = s.room;
+          lines = lines_after new s;
+        }
+
+        pub replied_by : (count : ℕ) → count ≡ length m.seats → (wrong : Option Cut) → wrong ≡ cond misled (Some (cut_from cause.WrongGuess m.plain.commits count (suc place))) None
+            → (t : LineTable) → Agrees (observed m.bus) t → let r : Reply = record { what = reply.what; cut = option_or wrong reply.cut } in r ≡ whole_reply m.image before t (Submit b)
+        unfolding whole_reply
+        replied_by count count_is wrong wrong_is t agrees =
+            let of : Option Cut → Reply → Reply = λ o r. record { what = r.what; cut = option_or o r.cut } in
+            ap₂ of (wrong_is ∙ ap₂ (λ c n. cond c (Some (cut_from cause.WrongGuess m.plain.commits n (suc place))) None) whole_misled (count_is ∙ ap length kept.seats))
+            (reply_done m.image before t place b.end (seat_of can.run) seat bus reply want (is_turn t agrees) (done t agrees))
+            ∙ reply_checked (whole.is_misled p turned.seats place) m.plain.commits (length before.seats) place (whole_asked p before t place want)
+            ∙ sym (ap (λ o. whole_submitted p before t o b.end want) at)
 
 -- ---- from the machine's own seats
 
@@ -240,6 +349,12 @@ accepted_as x v w same h = subst (λ (u : MachineValue). (s : Standing) → Stan
 pub found_place : (items looked : List declared.Seat) (u v : UnitId) (r o : Option ℕ) → looked ≡ items → u ≡ v → r ≡ position (λ (s : declared.Seat). s.unit.0 == u.0) looked → r ≡ o → position (λ (s : declared.Seat). s.unit.0 == v.0) items ≡ o
 found_place items looked u v r o same one is here =
     ap₂ (λ (l : List declared.Seat) (w : UnitId). position (λ (s : declared.Seat). s.unit.0 == w.0) l) (sym same) (sym one) ∙ sym is ∙ here
+
+-- as many seats are left of those with the new one in its place
+pub seats_left : (items new : List declared.Seat) (place left n : ℕ) (seat : declared.Seat) → new ≡ take left (slice_set items place seat) → left ≡ n
+    → map whole_seat new ≡ take n (slice_set (map whole_seat items) place (whole_seat seat))
+seats_left items new place left n seat new_is left_is =
+    ap (map whole_seat) new_is ∙ map_take whole_seat left (slice_set items place seat) ∙ ap₂ take left_is (map-set whole_seat items place seat)
 
 -- the seat that is borrowed there
 seat_there : (items : List declared.Seat) (place : ℕ) (y : declared.Seat) (x : whole.Seat State) → y ≡ get_or items place y → slice_get (map whole_seat items) place ≡ Some x → whole_seat y ≡ x

@@ -1,28 +1,18 @@
 // A commit.
 
-ghost use Rattle.std.specs.Prelude.{◌≡◌, ◌<◌, ◌+◌, ◌^◌, cond, map, take, drop, length, None, Some, vec_capacity};
+ghost use Rattle.std.specs.Prelude.{◌≡◌, None, Some};
 ghost use Rattle.svc_core_laws.specs.Program.{stopped_after};
-ghost use Rattle.svc_bus_laws.specs.LineTable.{LineTable};
-ghost use Rattle.svc_bus_laws.specs.BusState.{Agrees};
-ghost use Rattle.svc_bus_laws.specs.Steps.{squash};
-ghost use Rattle.svc_bus.specs.Observed.{observed};
 ghost use Rattle.svc_machine_laws.specs.Events.{Commit};
-ghost use Rattle.svc_machine_laws.specs.Guide.{cuts_next, guide_settled};
-ghost use Rattle.svc_machine_laws.specs.Replies.{cut_from};
 ghost use Rattle.svc_machine_laws.specs.Standing.{Standing, refused, reply_to, stepped};
-ghost use Rattle.svc_machine_laws.specs.WholeMachine.{seat_entry, seat_unit};
-ghost use Rattle.svc_machine.specs.Kept.{whole_seat};
 ghost use Rattle.svc_machine.specs.Seats.{head_end};
 ghost use Rattle.svc_machine.specs.Value.{StandsAt};
 
-use crate::cancel::cut_from;
+use crate::check::settle;
 use crate::machine::Machine;
 use crate::seat::Seat;
 use svc_base::{TaskNo, UnitId};
-use svc_bus::Bus;
 use svc_core_laws::End;
-use svc_machine_laws::{Cause, Cut, Reply, What};
-use svc_sequencer::Sequencer;
+use svc_machine_laws::{Reply, What};
 
 impl Machine {
     // The head is committed, with what it has put out. Where the run stops with it, or the next task began at another
@@ -38,11 +28,14 @@ impl Machine {
             unreachable!()
         };
         let task = TaskNo(self.commits);
+        let count = self.seats.len();
         let cut = settle(
             &mut self.bus,
             &mut self.sequencer,
             &mut self.seats,
             self.commits,
+            count,
+            0,
             end,
         );
         self.bus.commit_head();
@@ -78,33 +71,4 @@ fn stopped_after(end: End) -> Option<End>
         End::Exit(_) => Some(end),
         End::Trap(_) => Some(end),
     }
-}
-
-// Before a head that ended so is committed, the tasks after it are squashed where the commit says so.
-fn settle(
-    bus: &mut Bus,
-    sequencer: &mut Sequencer,
-    seats: &mut Vec<Seat>,
-    commits: u64,
-    end: End,
-) -> Option<Cut>
-    requires lined { sequencer.old.active ≡ map seat_entry (map whole_seat seats.old.items) }
-    requires units { (t : LineTable) × Agrees (observed bus.old) t × (t.units ≡ map seat_unit (map whole_seat seats.old.items)) }
-    requires number { commits + 1 < 2 ^ 64 }
-    requires few { length seats.old.items < 2 ^ 32 }
-    ensures cut { result ≡ cond (cuts_next end (drop 1 sequencer.old.active)) (Some (cut_from Cause.WrongGuess commits (length seats.old.items) 1)) None }
-    ensures lines { (t : LineTable) → Agrees (observed bus.old) t → Agrees (observed bus.new) (cond (cuts_next end (drop 1 sequencer.old.active)) (squash t 1) t) }
-    ensures seats { seats.new.items ≡ cond (cuts_next end (drop 1 sequencer.old.active)) (take 1 seats.old.items) seats.old.items }
-    ensures guide { sequencer.new ≡ guide_settled end sequencer.old }
-    ensures capacity { vec_capacity seats.new ≡ vec_capacity seats.old }
-{
-    if !sequencer.settle(end) {
-        return None;
-    }
-    let next = seats[1].unit;
-    let cut = cut_from(Cause::WrongGuess, commits, seats.len(), 1);
-    bus.squash_from(next);
-    sequencer.cut_from(1);
-    seats.truncate(1);
-    Some(cut)
 }

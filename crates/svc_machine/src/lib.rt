@@ -9,6 +9,7 @@
 mod asked;
 mod assign;
 mod cancel;
+mod check;
 mod commit;
 pub mod event;
 pub mod machine;

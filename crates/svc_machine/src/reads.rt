@@ -16,7 +16,7 @@ ghost use Rattle.svc_machine.specs.Value.{StandsAt};
 ghost use Rattle.svc_machine.specs.Reads.{is_full, lease_of, runs_head};
 
 use crate::machine::Machine;
-use crate::seat::place;
+use crate::seat::{last_end, place};
 use svc_base::{Config, UnitId, WordAddr};
 use svc_core::Lease;
 use svc_core_laws::{End, Ending};
@@ -68,7 +68,7 @@ impl Machine {
     pub fn guess(&self) -> Option<u32>
         ensures { result ≡ guess (program self.now.image) self.now.image.entries self.now.plain }
     {
-        self.sequencer.predict()
+        self.sequencer.predict(last_end(&self.seats))
     }
 
     /// The entry of the next task to commit; none once the run has stopped.

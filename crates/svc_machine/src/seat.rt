@@ -1,11 +1,13 @@
 // The seats of the active tasks.
 
-ghost use Rattle.std.specs.Prelude.{◌≡◌, ◌==◌};
+ghost use Rattle.std.specs.Prelude.{◌≡◌, ◌==◌, option_and_then, slice_get};
 ghost use Rattle.std.specs.List.{position};
+ghost use Rattle.svc_machine_laws.specs.Guess.{last_end};
 
 use arrayvec::ArrayVec;
 use svc_base::UnitId;
 use svc_core::Core;
+use svc_core_laws::End;
 
 /// The most words that one task puts out.
 pub const MAX_WAITING: usize = 64;
@@ -33,4 +35,24 @@ pub(crate) fn place(seats: &[Seat], unit: UnitId) -> Option<usize>
     ensures { result ≡ position (λ seat. seat.unit.0 == unit.0) seats.now }
 {
     seats.iter().position(|seat| seat.unit.0 == unit.0)
+}
+
+/// How the task at a place has ended, where there is one and it has.
+pub(crate) fn end_at(seats: &[Seat], place: usize) -> Option<End>
+    ensures { result ≡ option_and_then (λ seat. seat.core.done) (slice_get seats.now place) }
+{
+    match seats.get(place) {
+        Some(seat) => seat.core.done(),
+        None => None,
+    }
+}
+
+/// How the youngest task has ended, where there is one and it has.
+pub(crate) fn last_end(seats: &[Seat]) -> Option<End>
+    ensures { result ≡ last_end (λ seat. seat.core.done) seats.now }
+{
+    match seats.last() {
+        Some(seat) => seat.core.done(),
+        None => None,
+    }
 }

@@ -14,6 +14,7 @@ ghost use Rattle.svc_machine.specs.Kept.{whole_seat};
 ghost use Rattle.svc_machine.specs.Value.{StandsAt};
 
 use crate::asked::do_asked;
+use crate::check::check_guess;
 use crate::machine::Machine;
 use crate::seat::{Seat, place};
 use svc_bus::Bus;
@@ -23,7 +24,8 @@ use svc_image::Image;
 use svc_machine_laws::{Cut, Reply};
 
 impl Machine {
-    // The burst's local turns are taken over, and then its asked turn, if it has one, is done.
+    // The burst's local turns are taken over, and then its asked turn, if it has one, is done. Where the task has ended with
+    // them, the guess of the next one is checked: a wrong guess that is found takes the place of a later victim.
     pub(crate) fn submit(&mut self, burst: &Burst) -> Reply
         requires { (s : Standing) → StandsAt self.old s → refused self.old.image self.old.config s (Submit burst.now) ≡ None }
         ensures reply { (s : Standing) → StandsAt self.old s → result ≡ reply_to self.old.image s (Submit burst.now) }
@@ -34,13 +36,25 @@ impl Machine {
         let Some(place) = place(&self.seats, burst.unit()) else {
             unreachable!()
         };
+        let count = self.seats.len();
         let seat = &mut self.seats[place];
         let reply = go_on(&self.image, &mut self.bus, seat, burst.end(), burst.ask());
-        let left = tasks_left(self.seats.len(), reply.cut);
+        let left = tasks_left(count, reply.cut);
         self.seats.truncate(left);
         self.sequencer.cut_from(left);
+        let wrong = check_guess(
+            &mut self.bus,
+            &mut self.sequencer,
+            &mut self.seats,
+            self.commits,
+            count,
+            place,
+        );
         self.accepted += 1;
-        reply
+        Reply {
+            what: reply.what,
+            cut: wrong.or(reply.cut),
+        }
     }
 }
 

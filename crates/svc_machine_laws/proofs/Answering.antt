@@ -25,6 +25,12 @@ use Rattle.svc_machine_laws.proofs.Anew.{runs_at, view_at}
 use Rattle.svc_machine_laws.proofs.EditedLists.{view_hide, victim_hide}
 use Rattle.svc_machine_laws.proofs.MachineEvents.{taken}
 use Rattle.svc_machine_laws.proofs.Parts.{part_locals}
+use Rattle.svc_machine_laws.specs.PlainMachine as plain
+use Rattle.svc_machine_laws.specs.WholeMachine as whole
+use Rattle.svc_machine_laws.specs.WholeMachine.{Machine}
+use Rattle.svc_machine_laws.specs.Replies.{checked}
+use Rattle.svc_machine_laws.proofs.Checks.{same_check}
+use Rattle.svc_machine_laws.proofs.Submits.{submit_step}
 use Rattle.svc_machine_laws.proofs.Steps.{map_runs}
 
 pub count : {C : Type 0} (p : Program C) (m : Memory) (ts : List Task) → length (map seat_of (runs_of p m ts)) ≡ length ts
@@ -92,8 +98,14 @@ module _ (img : Image) (given : Given img) (config : Config) (s : Standing) wher
       (count p (seq p s.plain.commits).memory s.plain.tasks) (map_runs p seat_entry entry_of (λ y. refl) (seq p s.plain.commits).memory s.plain.tasks)
   reply_is (Submit b) is h =
       let can = can_submit img config s b h in
-      ap (λ o. whole_submitted p (machine_of p s.plain) s.lines o (asked_want img b)) (seat_places img config s b.unit.0 ∙ can.at)
-      ∙ asked_reply p s.plain s.lines can.place b.local b.end (asked_want img b) (taken img given config s b is can)
+      let tk = taken img given config s b is can in
+      let ask : Option (Want State) = asked_want img b in
+      let m : Machine State = machine_of p s.plain in
+      let after : Plain = plain.submit p s.plain can.place b.local (is_some ask) in
+      ap (λ o. whole_submitted p m s.lines o b.end ask) (seat_places img config s b.unit.0 ∙ can.at)
+      ∙ ap (λ (n : Machine State). checked (whole.is_misled p n.seats can.place) s.plain.commits (length m.seats) can.place (whole_asked p m s.lines can.place ask)) (sym (submit_step p s.plain can.place b.local b.end ask tk))
+      ∙ ap (λ c. checked c s.plain.commits (length m.seats) can.place (whole_asked p m s.lines can.place ask)) (same_check p after can.place)
+      ∙ ap₂ (λ n r. checked (plain.is_misled p after can.place) s.plain.commits n can.place r) (count p (seq p s.plain.commits).memory s.plain.tasks) (asked_reply p s.plain s.lines can.place b.local b.end ask tk)
       ∙ sym (ap (λ o. plain_submitted p s.plain s.lines o b.local (is_some (asked_want img b))) can.at)
   reply_is (Replace unit a) is h = refl
   reply_is (Cancel unit) is h =

@@ -1,5 +1,5 @@
 -- Every cut has its blame.
-use Rattle.std.proofs.Common.{ℕ, suc, ◌≡◌, ◌≢◌, ◌==◌, ◌+◌, ◌-◌, ◌⊎◌, inl, inr, Bool, true, false, cond, List, [], ◌∷◌, map, length, Option, Some, None, refl, sym, ap, ◌∙◌, subst, is_some, option_map, slice_get}
+use Rattle.std.proofs.Common.{ℕ, zero, suc, not, ◌≡◌, ◌≢◌, ◌==◌, ◌+◌, ◌-◌, ◌⊎◌, inl, inr, Bool, true, false, cond, List, [], ◌∷◌, map, length, Option, Some, None, refl, sym, ap, ◌∙◌, subst, is_some, option_map, slice_get}
 use Rattle.std.proofs.lemmas.Option.{same_Some, none-some}
 use Rattle.std.proofs.lemmas.Bool.{eq-eqb}
 use borrow.Author.Tests.{both_ways}
@@ -17,18 +17,19 @@ use Rattle.svc_bus_laws.proofs.MapViews.{victim_is}
 use Rattle.svc_machine_laws.specs.declared.reply.Cause.TheVariants as cause
 use Rattle.svc_machine_laws.specs.declared.reply.Cut.{Cut}
 use Rattle.svc_machine_laws.specs.declared.reply.Reply.{Reply}
-use Rattle.svc_machine_laws.specs.PlainMachine.{Task, Plain, Running, IsDue, runs_of, entry_of, stays}
+use Rattle.svc_machine_laws.specs.PlainMachine.{Task, Plain, Running, IsDue, runs_of, running, entry_of, stays, cuts_next, cuts_after, cuts_at, run_done, run_entry, is_misled, submit}
 use Rattle.svc_machine_laws.specs.WholeMachine.{Machine, machine_of}
 use Rattle.svc_machine_laws.specs.MachineLaws.{HasEnded}
 use Rattle.svc_machine_laws.specs.Events.{Event, Assign, Submit, Replace, Cancel, Commit, IsEvent, asked_want, task_place}
 use Rattle.svc_machine_laws.specs.Replies.{turn_cut, cut_from, whole_asked, whole_submitted, whole_reply, plain_cancelled, plain_committed, plain_reply, wrong_guess}
 use Rattle.svc_machine_laws.specs.Standing.{Standing, refused, reply_to}
 use Rattle.svc_machine_laws.specs.Reached.{IsReached}
-use Rattle.svc_machine_laws.specs.Blame.{Writes, IsBlamed}
+use Rattle.svc_machine_laws.specs.Blame.{Writes, IsBlamed, Misleads}
 use Rattle.svc_machine_laws.proofs.Given.{Given}
 use Rattle.svc_machine_laws.proofs.Accepted.{can_submit, can_cancel, can_commit, seat_places}
-use Rattle.svc_machine_laws.proofs.Answering.{count, reply_is}
-use Rattle.svc_machine_laws.proofs.MachineEvents.{head_ended}
+use Rattle.svc_machine_laws.proofs.Answering.{count, asked_reply}
+use Rattle.svc_machine_laws.specs.Replies.{checked, plain_asked, plain_submitted}
+use Rattle.svc_machine_laws.proofs.MachineEvents.{taken, head_ended}
 use Rattle.svc_machine_laws.proofs.Parts.{seq_commit}
 
 module _ (img : Image) (s : Plain) (b : Advance) (w : Want State) (asked : asked_want img b ≡ Some w) (place : ℕ) (at : task_place s b.unit.0 ≡ Some place) where
@@ -110,7 +111,7 @@ commit_blame img good k accepted epoch by (t ∷ ts) ended due done cut h = spli
     split false e [] same h = absurd (none-some cut h)
     split false e (u ∷ us) same h =
         subst (IsBlamed img s (Commit by)) (same_Some _ cut h)
-        (record {
+        (inl (record {
           by = by;
           event = refl;
           head = t;
@@ -119,11 +120,52 @@ commit_blame img good k accepted epoch by (t ∷ ts) ended due done cut h = spli
           tasks = ap (λ l. t ∷ l) same;
           wrong = guessed u us refl (ap (λ l. stays r.core.done (map entry_of l)) (sym same) ∙ e);
           cut_at = record { first = refl; tasks = ap (λ l. suc (length l) - 1) (sym same) };
-        })
+        }))
+
+-- what a check that cuts tells
+not_off : (b : Bool) → not b ≡ true → b ≡ false
+not_off false h = refl
+not_off true h = absurd (both_ways false refl h)
+
+wrong_next : (ended : End) (e : ℕ) (es : List ℕ) → cuts_next ended (e ∷ es) ≡ true → (is_some (stopped_after (Some ended)) ≡ true) ⊎ (due_after (Some ended) ≢ Some e)
+wrong_next (end.Next n) e es h = inr (λ same. both_ways (e == n) (not_off (e == n) h) (eq-eqb e n (sym (same_Some n e same))))
+wrong_next (end.Exit code) e es h = inl refl
+wrong_next (end.Trap number) e es h = inl refl
+
+none_next : (o : Option End) → cuts_after o [] ≡ false
+none_next None = refl
+none_next (Some x) = refl
+
+misleads : {A : Type 0} (done : A → Option End) (entry : A → ℕ) (xs : List A) (place : ℕ) → cuts_at done entry xs place ≡ true → Misleads done entry xs place
+misleads done entry [] place h = absurd (both_ways false refl h)
+misleads done entry (x ∷ []) zero h = absurd (both_ways (cuts_after (done x) []) (none_next (done x)) h)
+misleads done entry (x ∷ y ∷ xs) zero h = of (done x) refl h
+  where
+    of : (o : Option End) → done x ≡ o → cuts_after o (entry y ∷ map entry xs) ≡ true → Misleads done entry (x ∷ y ∷ xs) zero
+    of None e h = absurd (both_ways false refl h)
+    of (Some ended) e h = record { ended = ended; one = x; at = refl; done_is = e; next = y; next_is = refl; wrong = wrong_next ended (entry y) (map entry xs) h }
+misleads done entry (x ∷ xs) (suc place) h =
+    let r = misleads done entry xs place h in
+    record { ended = r.ended; one = r.one; at = r.at; done_is = r.done_is; next = r.next; next_is = r.next_is; wrong = r.wrong }
 
 cancel_blame : (img : Image) (s : Plain) (unit place : ℕ) → task_place s unit ≡ Some place → (cut : Cut) → (plain_cancelled s (Some place)).cut ≡ Some cut → IsBlamed img s (Cancel unit) cut
 cancel_blame img s unit place at cut h =
     subst (IsBlamed img s (Cancel unit)) (same_Some _ cut h) (record { unit = unit; event = refl; place = place; at = at; cut_at = record { first = refl; tasks = refl } })
+
+checked_blame : (img : Image) (s : Standing) (b : Advance) (place : ℕ) → task_place s.plain b.unit.0 ≡ Some place → (r : Reply) (cut : Cut) → (r.cut ≡ Some cut → IsBlamed img s.plain (Submit b) cut)
+    → (c : Bool) → is_misled (program img) (submit (program img) s.plain place b.local (is_some (asked_want img b))) place ≡ c
+    → (checked c s.plain.commits (length s.plain.tasks) place r).cut ≡ Some cut → IsBlamed img s.plain (Submit b) cut
+checked_blame img s b place at r cut turn false e h = turn h
+checked_blame img s b place at r cut turn true e h =
+    subst (IsBlamed img s.plain (Submit b)) (same_Some _ cut h)
+    (inr (record {
+      burst = b;
+      event = refl;
+      place = place;
+      at = at;
+      misleads = misleads (run_done (program img)) run_entry (running (program img) (submit (program img) s.plain place b.local (is_some (asked_want img b)))) place e;
+      cut_at = record { first = refl; tasks = refl };
+    }))
 
 -- EVERY CUT of an accepted event
 pub blamed : (img : Image) → Given img → (config : Config) (s : Standing) → IsReached img config s → (x : Event) → IsEvent x → refused img config s x ≡ None
@@ -133,9 +175,12 @@ blamed img given config s reached (Assign unit guess) is ok cut h = absurd (none
 blamed img given config s reached (Submit b) is ok cut h =
     let can = can_submit img config s b ok in
     let p : Program State = program img in
-    ask_blame img s b (asked_want img b) refl can.place can.at cut
-    (ap (λ o. (whole_submitted p (machine_of p s.plain) s.lines o (asked_want img b)).cut) (sym (seat_places img config s b.unit.0 ∙ can.at))
-    ∙ ap (λ (r : Reply). r.cut) (reply_is img given config s (Submit b) is ok) ∙ h)
+    let a : Plain = submit p s.plain can.place b.local (is_some (asked_want img b)) in
+    let turn = asked_reply p s.plain s.lines can.place b.local b.end (asked_want img b) (taken img given config s b is can) in
+    checked_blame img s b can.place can.at (plain_asked p s.plain s.lines can.place b.local (is_some (asked_want img b))) cut
+    (λ e. ask_blame img s b (asked_want img b) refl can.place can.at cut (ap (λ (r : Reply). r.cut) turn ∙ e))
+    (is_misled p a can.place) refl
+    (ap (λ o. (plain_submitted p s.plain s.lines o b.local (is_some (asked_want img b))).cut) (sym can.at) ∙ h)
 blamed img given config s reached (Replace unit a) is ok cut h = absurd (none-some cut h)
 blamed img given config s reached (Cancel unit) is ok cut h =
     let can = can_cancel img config s unit ok in

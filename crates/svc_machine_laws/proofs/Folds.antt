@@ -17,6 +17,9 @@ use Rattle.svc_machine_laws.specs.Events.{Event, Assign, Submit, Replace, Cancel
 use Rattle.svc_machine_laws.specs.Standing.{Standing, Whole, whole_of, opened_at, whole_opened, refused, whole_refuse, stepped, whole_stepped, after_event, whole_after_event, after_events, whole_after_events, accepted_commits, is_commit, unless}
 use Rattle.svc_machine_laws.specs.Reached.{IsReached, AreItsLines}
 use Rattle.svc_machine_laws.specs.Headline.{IsSequential}
+use Rattle.std.proofs.Common.{is_some}
+use Rattle.svc_machine_laws.specs.Events.{asked_want}
+use Rattle.svc_machine_laws.proofs.Checks.{check_commits}
 use Rattle.svc_machine_laws.proofs.Given.{Given}
 use Rattle.svc_machine_laws.proofs.Accepted.{can_submit, can_cancel, can_commit}
 use Rattle.svc_machine_laws.proofs.MachineEvents.{machine_event}
@@ -62,7 +65,7 @@ module _ (img : Image) (given : Given img) (config : Config) where
   pub step_commits : (s : Standing) (x : Event) → refused img config s x ≡ None → (stepped img s x).plain.commits ≡ is_commit x + s.plain.commits
   unfolding stepped plain_event
   step_commits s (Assign unit guess) h = sym (zero-add s.plain.commits)
-  step_commits s (Submit b) h = let can = can_submit img config s b h in ap (λ o. (plain_submit img s.plain o b).commits) can.at ∙ sym (zero-add s.plain.commits)
+  step_commits s (Submit b) h = let can = can_submit img config s b h in ap (λ o. (plain_submit img s.plain o b).commits) can.at ∙ check_commits p (plain.submit p s.plain can.place b.local (is_some (asked_want img b))) can.place ∙ sym (zero-add s.plain.commits)
   step_commits s (Replace unit a) h = sym (zero-add s.plain.commits)
   step_commits s (Cancel unit) h = let can = can_cancel img config s unit h in ap (λ o. (plain_cancel s.plain o).commits) can.at ∙ sym (zero-add s.plain.commits)
   step_commits s (Commit by) h =

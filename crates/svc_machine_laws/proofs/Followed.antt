@@ -11,11 +11,11 @@ use Rattle.svc_core_laws.specs.declared.end.End.{End}
 use Rattle.svc_core_laws.specs.Program.{Memory, Program, Run, part, seq, due_after, IsProgram}
 use Rattle.svc_core_laws.specs.Words.{program}
 use Rattle.svc_bus_laws.specs.ByRows.{cut_at, edit}
-use Rattle.svc_machine_laws.specs.PlainMachine.{Task, Plain, Running, runs_of, running, entry_of, entry_for, stays, settled, more, one_more, cut_by, asked_by, submitted, row_of, IsDue}
+use Rattle.svc_machine_laws.specs.PlainMachine.{Task, Plain, Running, runs_of, running, entry_of, entry_for, stays, settled, more, one_more, cut_by, asked_by, submitted, row_of, IsDue, cuts_next}
 use Rattle.svc_machine_laws.specs.PlainMachine as plain
 use Rattle.svc_machine_laws.specs.MachineLaws.{HasEnded}
-use Rattle.svc_machine_laws.specs.Guess.{newer_successor, successor_at, guess, guess_after, youngest, entry_after}
-use Rattle.svc_machine_laws.specs.Guide.{Guide, guide_of, successor_in, guess_of, guide_assigned, guide_cut, guide_committed, guide_settled, with_successor, cuts_next}
+use Rattle.svc_machine_laws.specs.Guess.{newer_successor, successor_at, guess, guess_after, youngest, entry_after, last_end}
+use Rattle.svc_machine_laws.specs.Guide.{Guide, guide_of, successor_in, guess_of, guide_assigned, guide_cut, guide_committed, guide_settled, with_successor}
 use Rattle.svc_machine_laws.specs.Reached.{BeganAtEntry}
 use Rattle.svc_machine_laws.proofs.EditedLists.{map_append_one, map_take}
 use Rattle.svc_machine_laws.proofs.Parts.{seq_commit}
@@ -71,6 +71,17 @@ submit_front p m ts place local true =
 pub submit_guide : {C : Type 0} (p : Program C) (entries : List ℕ) (s : Plain) (place local : ℕ) (ask : Bool)
     → guide_of p entries (plain.submit p s place local ask) ≡ guide_cut (length (plain.submit p s place local ask).tasks) (guide_of p entries s)
 submit_guide p entries s place local ask = ap {B = Guide} (λ l. record (guide_of p entries s) { active = l }) (submit_front p (seq p s.commits).memory s.tasks place local ask)
+
+pub check_guide : {C : Type 0} (p : Program C) (entries : List ℕ) (s : Plain) (place : ℕ)
+    → guide_of p entries (plain.check p s place) ≡ guide_cut (length (plain.check p s place).tasks) (guide_of p entries s)
+check_guide p entries s place = of (plain.is_misled p s place)
+  where
+    front : (n : ℕ) → map entry_of (take n s.tasks) ≡ take (length (take n s.tasks)) (map entry_of s.tasks)
+    front n = ap (map entry_of) (take_taken n s.tasks) ∙ map_take entry_of (length (take n s.tasks)) s.tasks
+
+    of : (b : Bool) → guide_of p entries (cond b (plain.keep (suc place) s) s) ≡ guide_cut (length (cond b (plain.keep (suc place) s) s).tasks) (guide_of p entries s)
+    of true = ap {B = Guide} (λ l. record (guide_of p entries s) { active = l }) (front (suc place))
+    of false = ap {B = Guide} (λ l. record (guide_of p entries s) { active = l }) (sym (take_all (length s.tasks) (map entry_of s.tasks) (let e = map_count entry_of s.tasks in omega (arith, e))))
 
 -- ---- a commit
 
@@ -138,12 +149,15 @@ youngest_entry img [] e all h = absurd (none-some e h)
 youngest_entry img (t ∷ []) e all h = subst (λ x. is_entry img x ≡ true) (same_Some t.entry e h) all.0
 youngest_entry img (t ∷ u ∷ ts) e all h = youngest_entry img (u ∷ ts) e all.1 h
 
-pub guess_is : (img : Image) (s : Plain) → AllByRecursion (BeganAtEntry img) s.tasks → guess_of (guide_of (program img) img.entries s) ≡ guess (program img) img.entries s
+pub guess_is : (img : Image) (s : Plain) → AllByRecursion (BeganAtEntry img) s.tasks → guess_of (last_end (plain.run_done (program img)) (running (program img) s)) (guide_of (program img) img.entries s) ≡ guess (program img) img.entries s
 unfolding is_entry
 guess_is img s all = of (youngest (map entry_of s.tasks)) refl
   where
+    ended : Option End
+    ended = last_end (plain.run_done (program img)) (running (program img) s)
+
     of : (o : Option ℕ) → youngest (map entry_of s.tasks) ≡ o
-        → guess_after img.entries (seq (program img) s.commits).due (successor_in img.entries (map (successor_at (program img) s.commits) img.entries)) o
-        ≡ guess_after img.entries (seq (program img) s.commits).due (successor_at (program img) s.commits) o
+        → guess_after img.entries (seq (program img) s.commits).due (successor_in img.entries (map (successor_at (program img) s.commits) img.entries)) ended o
+        ≡ guess_after img.entries (seq (program img) s.commits).due (successor_at (program img) s.commits) ended o
     of None h = refl
-    of (Some e) h = ap (λ n. Some (unwrap_or n (entry_after img.entries e))) (table_has (successor_at (program img) s.commits) img.entries e (youngest_entry img s.tasks e all h))
+    of (Some e) h = ap (λ n. Some (unwrap_or (due_after ended) (unwrap_or n (entry_after img.entries e)))) (table_has (successor_at (program img) s.commits) img.entries e (youngest_entry img s.tasks e all h))

@@ -10,10 +10,10 @@ use Rattle.svc_image.specs.Image.{Image, IsImage, is_entry}
 use Rattle.svc_core_laws.specs.declared.end.End.{End}
 use Rattle.svc_core_laws.specs.declared.end.End.TheVariants as end
 use Rattle.svc_core_laws.specs.State.{State}
-use Rattle.svc_core_laws.specs.Program.{Program, seq, task, next_task, due_after, stopped_after}
+use Rattle.svc_core_laws.specs.Program.{Memory, Program, over, wrote, part, seq, task, next_task, due_after, stopped_after}
 use Rattle.svc_core_laws.specs.Words.{program}
-use Rattle.svc_machine_laws.specs.PlainMachine.{Task, entry_of}
-use Rattle.svc_machine_laws.specs.Guess.{newer_successor, successor_at, first_above, entry_after, youngest, guess_after, IsGuess}
+use Rattle.svc_machine_laws.specs.PlainMachine.{Task, entry_of, runs_of, running, run_done}
+use Rattle.svc_machine_laws.specs.Guess.{newer_successor, successor_at, first_above, entry_after, youngest, guess_after, last_end, IsGuess}
 use Rattle.svc_machine_laws.specs.Standing.{Standing}
 use Rattle.svc_machine_laws.specs.Reached.{IsReached}
 use Rattle.svc_machine_laws.proofs.Given.{Given}
@@ -73,6 +73,18 @@ successor_is img given (suc k) e n h = newer (seq (program img) k).due (seq (pro
         split true h = given.enters (suc k) n (f ∙ h)
         split false h = older h
 
+-- so is the entry that the last of some tasks has handed on to
+hands_on : (o : Option End) (n : ℕ) → due_after o ≡ Some n → o ≡ Some (end.Next n)
+hands_on None n h = absurd (none-some n h)
+hands_on (Some (end.Next e)) n h = ap (λ x. Some (end.Next x)) (same_Some e n h)
+hands_on (Some (end.Exit code)) n h = absurd (none-some n h)
+hands_on (Some (end.Trap number)) n h = absurd (none-some n h)
+
+last_handed : (img : Image) → Given img → (m : Memory) (ts : List Task) (n : ℕ) → due_after (last_end (run_done (program img)) (runs_of (program img) m ts)) ≡ Some n → is_entry img n ≡ true
+last_handed img given m [] n h = absurd (none-some n h)
+last_handed img given m (t ∷ []) n h = given.is_program.enters t.entry t.turns m n (hands_on _ n h)
+last_handed img given m (t ∷ u ∷ ts) n h = last_handed img given (over (wrote (part (program img) t.entry t.turns m).log) m) (u ∷ ts) n h
+
 module _ (img : Image) (is : IsImage img) (given : Given img) (config : Config) (s : Standing) (reached : IsReached img config s) where
   abbrev p : Program State
   p = program img
@@ -80,7 +92,10 @@ module _ (img : Image) (is : IsImage img) (given : Given img) (config : Config) 
   abbrev k : ℕ
   k = s.plain.commits
 
-  some_guess : (o : Option ℕ) → is_some (seq p k).stopped ≡ false → is_some (guess_after img.entries (seq p k).due (successor_at p k) o) ≡ true
+  abbrev ended : Option End
+  ended = last_end (run_done p) (running p s.plain)
+
+  some_guess : (o : Option ℕ) → is_some (seq p k).stopped ≡ false → is_some (guess_after img.entries (seq p k).due (successor_at p k) ended o) ≡ true
   some_guess None off = ⊎_elim (λ (d : is_some (seq p k).due ≡ true). d) (λ (on : is_some (seq p k).stopped ≡ true). absurd (both_ways (is_some (seq p k).stopped) off on)) (goes_on p given.is_program k)
   some_guess (Some e) off = refl
 
@@ -88,13 +103,17 @@ module _ (img : Image) (is : IsImage img) (given : Given img) (config : Config) 
   guessed began None h = after_is img is began
   guessed began (Some n) h = successor_is img given k began n h
 
-  guess_entry : (o : Option ℕ) (e : ℕ) → guess_after img.entries (seq p k).due (successor_at p k) o ≡ Some e → is_entry img e ≡ true
+  guess_entry : (o : Option ℕ) (e : ℕ) → guess_after img.entries (seq p k).due (successor_at p k) ended o ≡ Some e → is_entry img e ≡ true
   guess_entry None e h = given.enters k e h
-  guess_entry (Some began) e h = subst (λ n. is_entry img n ≡ true) (same_Some _ e h) (guessed began (successor_at p k began) refl)
+  guess_entry (Some began) e h = subst (λ n. is_entry img n ≡ true) (same_Some _ e h) (handed (due_after ended) refl)
+    where
+      handed : (o : Option ℕ) → due_after ended ≡ o → is_entry img (unwrap_or o (unwrap_or (successor_at p k began) (entry_after img.entries began))) ≡ true
+      handed None f = guessed began (successor_at p k began) refl
+      handed (Some n) f = last_handed img given (seq p k).memory s.plain.tasks n f
 
   pub is_guess : IsGuess img s.plain
   is_guess = record {
-    stopped = λ h. ap (λ (ts : List Task). guess_after img.entries (seq p k).due (successor_at p k) (youngest (map entry_of ts))) (reached.idle h) ∙ stopped_due p k h;
+    stopped = λ h. ap (λ (ts : List Task). guess_after img.entries (seq p k).due (successor_at p k) ended (youngest (map entry_of ts))) (reached.idle h) ∙ stopped_due p k h;
     going = some_guess (youngest (map entry_of s.plain.tasks));
     entry = guess_entry (youngest (map entry_of s.plain.tasks));
   }

@@ -29,3 +29,4 @@ pub mod Guessing
 pub mod Suppliers
 pub mod EmptyBursts
 pub mod Room
+pub mod Checks

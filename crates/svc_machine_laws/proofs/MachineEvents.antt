@@ -1,5 +1,5 @@
 -- Every accepted event of the whole machine is the plain machine's.
-use Rattle.std.proofs.Common.{◌≡◌, true, None, refl, sym, ap, ◌∙◌, subst}
+use Rattle.std.proofs.Common.{◌≡◌, true, None, is_some, refl, sym, ap, ◌∙◌, subst}
 use Rattle.std.proofs.lemmas.Option.{same_Some}
 use Rattle.svc_base.specs.declared.config.Config.{Config}
 use Rattle.svc_image.specs.Image.{Image}
@@ -17,6 +17,9 @@ use Rattle.svc_machine_laws.proofs.Given.{Given}
 use Rattle.svc_machine_laws.proofs.Wants.{asked_next}
 use Rattle.svc_machine_laws.proofs.Accepted.{CanSubmit, can_submit, can_cancel, CanCommit, can_commit, seat_places}
 use Rattle.svc_machine_laws.proofs.Steps.{assign_step, cancel_step, commit_step}
+use Rattle.svc_machine_laws.specs.PlainMachine as plain
+use Rattle.svc_machine_laws.specs.WholeMachine as whole
+use Rattle.svc_machine_laws.proofs.Checks.{check_step}
 use Rattle.svc_machine_laws.proofs.Submits.{submit_step}
 
 module _ (img : Image) (given : Given img) (config : Config) (s : Standing) where
@@ -42,7 +45,8 @@ module _ (img : Image) (given : Given img) (config : Config) (s : Standing) wher
   machine_event reached (Submit b) is h =
       let can = can_submit img config s b h in
       ap (λ o. machine_of (program img) (plain_submit img s.plain o b)) can.at
-      ∙ submit_step (program img) s.plain can.place b.local b.end (asked_want img b) (taken b is can)
+      ∙ check_step (program img) (plain.submit (program img) s.plain can.place b.local (is_some (asked_want img b))) can.place
+      ∙ ap (λ m. whole.check (program img) m can.place) (submit_step (program img) s.plain can.place b.local b.end (asked_want img b) (taken b is can))
       ∙ sym (ap (λ o. whole_submit img (machine_of (program img) s.plain) o b) (seat_places img config s b.unit.0 ∙ can.at))
   machine_event reached (Replace unit address) is h = refl
   machine_event reached (Cancel unit) is h =

@@ -23,7 +23,9 @@ use Rattle.svc_machine_laws.specs.Standing.{Standing, refused, stepped, reply_to
 use Rattle.svc_machine_laws.specs.Blame.{tasks_cut, begun}
 use Rattle.svc_machine_laws.proofs.Given.{Given}
 use Rattle.svc_machine_laws.proofs.Accepted.{can_submit, can_cancel, can_commit, seat_places}
-use Rattle.svc_machine_laws.proofs.Answering.{count, reply_is}
+use Rattle.svc_machine_laws.specs.Replies.{checked, plain_asked, plain_submitted}
+use Rattle.svc_machine_laws.proofs.Checks.{misled_within}
+use Rattle.svc_machine_laws.proofs.Answering.{count, asked_reply}
 use Rattle.svc_machine_laws.proofs.Followed.{edit_count, map_count}
 use Rattle.svc_machine_laws.proofs.MachineEvents.{taken}
 use Rattle.svc_machine_laws.proofs.Places.{found, within}
@@ -80,6 +82,18 @@ module _ (p : Program State) (s : Plain) (place : ℕ) (inside : place < length 
       let cuts = turn_cuts turn w in
       omega (arith, same, left, cuts)
 
+-- and those that the check cuts besides
+check_cuts : (p : Program State) (s a : Plain) (place : ℕ) (r : Reply) → length a.tasks + tasks_cut r.cut ≡ length s.tasks
+    → length (plain.check p a place).tasks + tasks_cut (checked (plain.is_misled p a place) s.commits (length s.tasks) place r).cut ≡ length s.tasks
+check_cuts p s a place r h = of (plain.is_misled p a place) refl
+  where
+    of : (b : Bool) → plain.is_misled p a place ≡ b → length (cond b (plain.keep (suc place) a) a).tasks + tasks_cut (checked b s.commits (length s.tasks) place r).cut ≡ length s.tasks
+    of false e = h
+    of true e =
+        let inside = misled_within p a place e in
+        let left = take_count (suc place) a.tasks (omega (arith, inside)) in
+        omega (arith, left, inside, h)
+
 rest_cuts : (k : ℕ) (b : Bool) (ts : List Task) → length (cond b ts []) + tasks_cut (cond b None (wrong_guess k ts)) ≡ length ts
 rest_cuts k true ts = omega arith
 rest_cuts k false [] = refl
@@ -103,10 +117,14 @@ all_counted img given config s (Submit b) is ok =
     let can = can_submit img config s b ok in
     let units = map_count plain.unit_of s.plain.tasks in
     let spot = within (map plain.unit_of s.plain.tasks) can.place b.unit.0 (found (map plain.unit_of s.plain.tasks) b.unit.0 can.place can.at) in
-    let cuts = submit_cuts p s.plain can.place (omega (arith, units, spot)) s.lines b.local b.end (asked_want img b) (taken img given config s b is can) in
-    let left : length (plain_submit img s.plain (task_place s.plain b.unit.0) b).tasks ≡ length (plain.submit p s.plain can.place b.local (is_some (asked_want img b))).tasks = ap (λ o. length (plain_submit img s.plain o b).tasks) can.at in
-    let answer = ap (λ o. (whole_submitted p (machine_of p s.plain) s.lines o (asked_want img b)).cut) (sym (seat_places img config s b.unit.0 ∙ can.at)) ∙ ap (λ (r : Reply). r.cut) (reply_is img given config s (Submit b) is ok) in
-    let gone = ap tasks_cut answer in
+    let tk = taken img given config s b is can in
+    let ask : Option (Want State) = asked_want img b in
+    let after : Plain = plain.submit p s.plain can.place b.local (is_some ask) in
+    let turn = submit_cuts p s.plain can.place (omega (arith, units, spot)) s.lines b.local b.end ask tk in
+    let same = ap (λ (r : Reply). tasks_cut r.cut) (asked_reply p s.plain s.lines can.place b.local b.end ask tk) in
+    let cuts = check_cuts p s.plain after can.place (plain_asked p s.plain s.lines can.place b.local (is_some ask)) (omega (arith, turn, same)) in
+    let left = ap (λ o. length (plain_submit img s.plain o b).tasks) can.at in
+    let gone = ap (λ o. tasks_cut (plain_submitted p s.plain s.lines o b.local (is_some ask)).cut) can.at in
     omega (arith, cuts, left, gone)
 all_counted img given config s (Replace unit a) is ok = omega arith
 all_counted img given config s (Cancel unit) is ok =

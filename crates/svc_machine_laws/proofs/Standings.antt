@@ -1,5 +1,5 @@
 -- What holds of every standing that events lead to holds after one event more.
-use Rattle.std.proofs.Common.{ℕ, zero, suc, ◌≡◌, ◌+◌, ◌<◌, ◌≤◌, true, false, not, ◌&&◌, List, [], ◌∷◌, map, take, length, Option, Some, None, refl, sym, ap, ◌∙◌, subst, arith, is_some, slice_get, unwrap_or}
+use Rattle.std.proofs.Common.{ℕ, zero, suc, ◌≡◌, ◌+◌, ◌<◌, ◌≤◌, Bool, true, false, cond, not, ◌&&◌, List, [], ◌∷◌, map, take, length, Option, Some, None, refl, sym, ap, ◌∙◌, subst, arith, is_some, slice_get, unwrap_or}
 use Rattle.std.proofs.lemmas.Option.{same_Some, none-some}
 use Rattle.std.proofs.lemmas.Bool.{eqb-false}
 use borrow.Author.Tests.{both_ways}
@@ -14,9 +14,13 @@ use Rattle.svc_core_laws.specs.Bursts.{Advance, Follows}
 use Rattle.svc_bus_laws.specs.Steps as lines
 use Rattle.svc_machine_laws.specs.PlainMachine.{Task, Plain, Running, IsDue, runs_of, running, unit_of, entry_of, entry_for}
 use Rattle.svc_machine_laws.specs.PlainMachine as plain
-use Rattle.svc_machine_laws.specs.WholeMachine.{machine_of, seat_of}
+use Rattle.svc_machine_laws.specs.WholeMachine.{Machine, machine_of, seat_of}
+use Rattle.svc_machine_laws.specs.WholeMachine as whole
+use Rattle.svc_bus_laws.specs.LineTable.{LineTable}
+use Rattle.svc_machine_laws.proofs.Checks.{same_check, misled_within}
+use Rattle.svc_machine_laws.proofs.Submits.{submit_step}
 use Rattle.svc_machine_laws.specs.Events.{Event, Assign, Submit, Replace, Cancel, Commit, IsEvent, place_in, task_place, asked_want, plain_event, plain_submit, plain_cancel}
-use Rattle.svc_machine_laws.specs.LineEvents.{line_event, line_ask, line_submit, line_cancel, line_commit}
+use Rattle.svc_machine_laws.specs.LineEvents.{line_event, line_ask, line_check, line_submit, line_cancel, line_commit}
 use Rattle.svc_machine_laws.specs.MachineLaws.{Taken, HasEnded, IsWithin}
 use Rattle.svc_machine_laws.specs.Standing.{Standing, refused, stepped, after_event, unless}
 use Rattle.svc_machine_laws.specs.Reached.{IsReached, BeganAtEntry}
@@ -76,7 +80,7 @@ module _ (img : Image) (given : Given img) (config : Config) (s : Standing) (rea
       first [] m = refl
       first (t ∷ ts) m = refl
 
-  after_submit : (b : Advance) → Follows b → (can : CanSubmit img config s b) → IsReached img config (record { plain = plain.submit p s.plain can.place b.local (is_some (asked_want img b)); lines = line_ask (asked_want img b) s.lines can.place })
+  pub after_submit : (b : Advance) → Follows b → (can : CanSubmit img config s b) → IsReached img config (record { plain = plain.submit p s.plain can.place b.local (is_some (asked_want img b)); lines = line_ask (asked_want img b) s.lines can.place })
   after_submit b follows can =
       let q = seq p s.plain.commits in
       let t : Taken p s.plain can.place b.local b.end (asked_want img b) = taken img given config s b follows can in
@@ -94,6 +98,28 @@ module _ (img : Image) (given : Given img) (config : Config) (s : Standing) (rea
         outputs_few = let h = reached.outputs_few in let e = submit_waiting p s.plain can.place b.local b.end (asked_want img b) t in omega (arith, h, e);
         lines = lines_ask img config s.plain s.lines can.place b.local b.end (asked_want img b) (place_within b.unit.0 can.place can.at) room t reached.lines;
       }
+
+  check_reached : (a : Plain) (t : LineTable) (place : ℕ) → IsReached img config (record { plain = a; lines = t })
+      → IsReached img config (record { plain = plain.check p a place; lines = line_check (plain.is_misled p a place) t place })
+  check_reached a t place r = of (plain.is_misled p a place) refl
+    where
+      of : (b : Bool) → plain.is_misled p a place ≡ b → IsReached img config (record { plain = cond b (plain.keep (suc place) a) a; lines = line_check b t place })
+      of false e = r
+      of true e =
+          let q = seq p a.commits in
+          let inside = misled_within p a place e in
+          let units : length t.units ≡ length a.tasks = ap length r.lines.units ∙ count unit_of a.tasks in
+          let l = lines_cancel img config a t (suc place) (omega arith) (omega (arith, inside, units)) r.lines in
+          record {
+            due = due_take q.due (suc place) a.tasks r.due;
+            idle = λ h. ap (take (suc place)) (r.idle h) ∙ none_taken (suc place);
+            entries = every_take (BeganAtEntry img) (suc place) a.tasks r.entries;
+            counted = take_counted img q.memory (suc place) a.tasks r.counted;
+            commits_few = r.commits_few;
+            accepted_few = r.accepted_few;
+            outputs_few = let h = r.outputs_few in let e = cancel_waiting p a (suc place) in omega (arith, h, e);
+            lines = record { sound = l.sound; same_map = l.same_map; units = l.units; caches = l.caches; sets = l.sets; ways = l.ways; words = l.words };
+          }
 
   after_replace : (unit a : ℕ) → CanReplace config s unit a → IsReached img config (record { plain = plain.replace s.plain; lines = lines.replace s.lines unit a })
   after_replace unit a can = record {
@@ -169,8 +195,12 @@ module _ (img : Image) (given : Given img) (config : Config) (s : Standing) (rea
   step_reached (Submit b) is h =
       let can = can_submit img config s b h in
       let place = seat_places img config s b.unit.0 ∙ can.at in
-      subst (λ o. IsReached img config (record { plain = plain_submit img s.plain (task_place s.plain b.unit.0) b; lines = line_submit (asked_want img b) s.lines o })) (sym place)
-      (subst (λ o. IsReached img config (record { plain = plain_submit img s.plain o b; lines = line_ask (asked_want img b) s.lines can.place })) (sym can.at) (after_submit b is can))
+      let after : Plain = plain.submit p s.plain can.place b.local (is_some (asked_want img b)) in
+      subst (λ o. IsReached img config (record { plain = plain_submit img s.plain (task_place s.plain b.unit.0) b; lines = line_submit p (machine_of p s.plain) b.end (asked_want img b) s.lines o })) (sym place)
+      (subst (λ o. IsReached img config (record { plain = plain_submit img s.plain o b; lines = line_check (whole.is_misled p (whole.submit (machine_of p s.plain) can.place b.end (asked_want img b)).seats can.place) (line_ask (asked_want img b) s.lines can.place) can.place })) (sym can.at)
+      (subst (λ c. IsReached img config (record { plain = plain.check p after can.place; lines = line_check c (line_ask (asked_want img b) s.lines can.place) can.place }))
+      (sym (same_check p after can.place) ∙ ap (λ (m : Machine State). whole.is_misled p m.seats can.place) (submit_step p s.plain can.place b.local b.end (asked_want img b) (taken img given config s b is can)))
+      (check_reached after (line_ask (asked_want img b) s.lines can.place) can.place (after_submit b is can))))
   step_reached (Replace unit a) is h = after_replace unit a (can_replace img config s unit a h)
   step_reached (Cancel unit) is h =
       let can = can_cancel img config s unit h in

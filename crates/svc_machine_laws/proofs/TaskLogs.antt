@@ -1,6 +1,6 @@
 -- Each accepted event adds its answer to the log of its task, and a committed log is the sequential answers.
-use Rattle.std.proofs.Common.{ℕ, ◌≡◌, Bool, true, false, cond, List, [], ◌∷◌, ◌++◌, map, take, Option, Some, None, refl, sym, ap, ◌∙◌, subst, is_some, slice_get, unwrap_or}
-use Rattle.std.proofs.lemmas.Option.{none-some}
+use Rattle.std.proofs.Common.{ℕ, suc, length, ◌≡◌, Bool, true, false, cond, List, [], ◌∷◌, ◌++◌, map, take, Option, Some, None, refl, sym, ap, ◌∙◌, subst, is_some, slice_get, unwrap_or}
+use Rattle.std.proofs.lemmas.Option.{none-some, same_Some}
 use Rattle.svc_base.specs.declared.config.Config.{Config}
 use Rattle.svc_base.specs.declared.served.Served.{Served}
 use Rattle.svc_image.specs.Image.{Image}
@@ -25,7 +25,10 @@ use Rattle.svc_machine_laws.specs.Reached.{IsReached}
 use Rattle.svc_machine_laws.specs.Logs.{TaskLog, log_of, logs_of, told, plus, adds, AddsItsAnswer, CommitsAnswers, LogsFollow, TellsTheEnd}
 use Rattle.svc_machine_laws.proofs.Given.{Given}
 use Rattle.svc_machine_laws.proofs.Accepted.{can_submit, can_cancel, can_commit, seat_places}
-use Rattle.svc_machine_laws.proofs.Answering.{reply_is}
+use Rattle.svc_machine_laws.specs.declared.reply.What.{What}
+use Rattle.svc_machine_laws.specs.Replies.{checked, plain_submitted}
+use Rattle.svc_machine_laws.proofs.Checks.{take_edit}
+use Rattle.svc_machine_laws.proofs.Answering.{asked_reply}
 use Rattle.svc_machine_laws.proofs.EditedLists.{map_append_one, map_take, map_edit, view_hide}
 use Rattle.svc_machine_laws.proofs.MachineEvents.{taken, head_ended}
 use Rattle.svc_machine_laws.proofs.Parts.{part_whole, seq_commit}
@@ -76,6 +79,23 @@ submit_logs {C} p s t unit place local last (Some w) at tk =
           (λ x h. ap {B = TaskLog} (λ l. record { unit = x.task.unit; log = l }) (act_tells p w sees (serves_at t place) x.run.log));
     }
 
+-- the check leaves the log of the task at its place, and none after it
+check_logs : {C : Type 0} (p : Program C) (s a : Plain) (unit : ℕ) (done : What) (r : AddsItsAnswer p s a unit done) → AddsItsAnswer p s (plain.check p a r.place) unit done
+check_logs {C} p s a unit done r = of (plain.is_misled p a r.place)
+  where
+    of : (b : Bool) → AddsItsAnswer p s (cond b (plain.keep (suc r.place) a) a) unit done
+    of false = r
+    of true = record {
+      place = r.place;
+      at = r.at;
+      cut = Some 0;
+      logs = cancel_logs p a (suc r.place) ∙ ap (take (suc r.place)) r.logs ∙ take_edit r.place (adds (told done)) r.cut (logs_of p s);
+    }
+
+pub checked_what : (b : Bool) (k n place : ℕ) (r : Reply) → (checked b k n place r).what ≡ r.what
+checked_what true k n place r = refl
+checked_what false k n place r = refl
+
 commit_tasks_logs : {C : Type 0} (p : Program C) → IsProgram p → (k a e : ℕ) (ts : List Task) (x : Running C) (ended : End)
     → slice_get (runs_of p (seq p k).memory ts) 0 ≡ Some x
     → IsDue (seq p k).due ts → ((y : Running C) → slice_get (runs_of p (seq p k).memory ts) 0 ≡ Some y → p.done y.run.core ≡ Some ended)
@@ -108,10 +128,17 @@ logs_follow img given config s reached (Submit b) is ok =
     let p : Program State = program img in
     let can = can_submit img config s b ok in
     let place = seat_places img config s b.unit.0 ∙ can.at in
-    let answer = ap (λ o. (whole_submitted p (machine_of p s.plain) s.lines o (asked_want img b)).what) (sym place) ∙ ap (λ (r : Reply). r.what) (reply_is img given config s (Submit b) is ok) in
+    let tk = taken img given config s b is can in
+    let ask : Option (Want State) = asked_want img b in
+    let after : Plain = plain.submit p s.plain can.place b.local (is_some ask) in
+    let answer = ap (λ (r : Reply). r.what) (asked_reply p s.plain s.lines can.place b.local b.end ask tk) ∙ sym (checked_what (plain.is_misled p after can.place) s.plain.commits (length s.plain.tasks) can.place _)
+    ∙ sym (ap (λ o. (plain_submitted p s.plain s.lines o b.local (is_some ask)).what) can.at) in
+    let turn = submit_logs p s.plain s.lines b.unit.0 can.place b.local b.end ask can.at tk in
+    let here : turn.place ≡ can.place = same_Some turn.place can.place (sym turn.at ∙ can.at) in
     subst (AddsItsAnswer p s.plain (plain_submit img s.plain (task_place s.plain b.unit.0) b) b.unit.0) answer
-    (subst (λ o. AddsItsAnswer p s.plain (plain_submit img s.plain o b) b.unit.0 (whole_asked p (machine_of p s.plain) s.lines can.place (asked_want img b)).what) (sym can.at)
-    (submit_logs p s.plain s.lines b.unit.0 can.place b.local b.end (asked_want img b) can.at (taken img given config s b is can)))
+    (subst (λ o. AddsItsAnswer p s.plain (plain_submit img s.plain o b) b.unit.0 (whole_asked p (machine_of p s.plain) s.lines can.place ask).what) (sym can.at)
+    (subst (λ q. AddsItsAnswer p s.plain (plain.check p after q) b.unit.0 (whole_asked p (machine_of p s.plain) s.lines can.place ask).what) here
+    (check_logs p s.plain after b.unit.0 _ turn)))
 logs_follow img given config s reached (Replace unit a) is ok = refl
 logs_follow img given config s reached (Cancel unit) is ok =
     let can = can_cancel img config s unit ok in

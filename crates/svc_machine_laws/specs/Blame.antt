@@ -1,15 +1,16 @@
 -- What the cause of a cut says.
-use Rattle.std.specs.Prelude.{ℕ, suc, ◌≡◌, ◌≢◌, ◌+◌, ◌-◌, ◌⊎◌, true, List, ◌∷◌, length, Option, Some, None, is_some}
+use Rattle.std.specs.Prelude.{ℕ, suc, ◌≡◌, ◌≢◌, ◌+◌, ◌-◌, ◌⊎◌, true, List, ◌∷◌, length, Option, Some, None, is_some, slice_get}
 use Rattle.svc_image.specs.Image.{Image}
 use Rattle.svc_core_laws.specs.State.{State}
-use Rattle.svc_core_laws.specs.Program.{Want, Local, Load, Store, Narrow, Emit, seq}
+use Rattle.svc_core_laws.specs.Program.{Want, Local, Load, Store, Narrow, Emit, seq, due_after, stopped_after}
+use Rattle.svc_core_laws.specs.declared.end.End.{End}
 use Rattle.svc_core_laws.specs.Words.{program}
 use Rattle.svc_core_laws.specs.Bursts.{Advance}
 use Rattle.svc_bus_laws.specs.MapLaws.{IsVictim}
 use Rattle.svc_machine_laws.specs.declared.reply.Cause.{Cause}
 use Rattle.svc_machine_laws.specs.declared.reply.Cause.TheVariants as cause
 use Rattle.svc_machine_laws.specs.declared.reply.Cut.{Cut}
-use Rattle.svc_machine_laws.specs.PlainMachine.{Task, Plain}
+use Rattle.svc_machine_laws.specs.PlainMachine.{Task, Plain, running, run_done, run_entry, submit}
 use Rattle.svc_machine_laws.specs.WholeMachine.{machine_of}
 use Rattle.svc_machine_laws.specs.Events.{Event, Assign, Submit, Replace, Cancel, Commit, asked_want, task_place}
 
@@ -50,6 +51,25 @@ pub record IsWrongGuess (img : Image) (s : Plain) (x : Event) (cut : Cut) : Type
   pub wrong : (is_some (seq (program img) (suc s.commits)).stopped ≡ true) ⊎ ((seq (program img) (suc s.commits)).due ≢ Some next.entry)
   pub cut_at : IsCutAt s cut 1
 
+-- the one at a place has ended, the next one began elsewhere than at its successor, or it had none
+pub record Misleads {A : Type 0} (done : A → Option End) (entry : A → ℕ) (xs : List A) (place : ℕ) : Type 0 where
+  pub ended : End
+  pub one : A
+  pub at : slice_get xs place ≡ Some one
+  pub done_is : done one ≡ Some ended
+  pub next : A
+  pub next_is : slice_get xs (suc place) ≡ Some next
+  pub wrong : (is_some (stopped_after (Some ended)) ≡ true) ⊎ (due_after (Some ended) ≢ Some (entry next))
+
+-- a wrong guess: the event is a submit with which its unit's task ended, and the first task cut is the next one, which began elsewhere
+pub record IsFoundWrong (img : Image) (s : Plain) (x : Event) (cut : Cut) : Type 0 where
+  pub burst : Advance
+  pub event : x ≡ Submit burst
+  pub place : ℕ
+  pub at : task_place s burst.unit.0 ≡ Some place
+  pub misleads : Misleads (run_done (program img)) run_entry (running (program img) (submit (program img) s place burst.local (is_some (asked_want img burst)))) place
+  pub cut_at : IsCutAt s cut (suc place)
+
 -- a cancel: the event is a cancel, and the first task cut is its unit's
 pub record IsCancel (s : Plain) (x : Event) (cut : Cut) : Type 0 where
   pub unit : ℕ
@@ -60,7 +80,7 @@ pub record IsCancel (s : Plain) (x : Event) (cut : Cut) : Type 0 where
 
 abbrev pub IsBlamedOn : Image → Plain → Event → Cut → Cause → Type 0
 IsBlamedOn img s x cut (cause.Violation a) = IsViolation img s x cut a.0
-IsBlamedOn img s x cut cause.WrongGuess = IsWrongGuess img s x cut
+IsBlamedOn img s x cut cause.WrongGuess = IsWrongGuess img s x cut ⊎ IsFoundWrong img s x cut
 IsBlamedOn img s x cut cause.Cancelled = IsCancel s x cut
 
 abbrev pub IsBlamed : Image → Plain → Event → Cut → Type 0

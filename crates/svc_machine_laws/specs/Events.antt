@@ -57,7 +57,7 @@ asked_want img b = want_of img b.end b.ask
 -- an accepted event of the plain machine
 abbrev pub plain_submit : Image → Plain → Option ℕ → Advance → Plain
 plain_submit img s None b = s
-plain_submit img s (Some place) b = plain.submit (program img) s place b.local (is_some (asked_want img b))
+plain_submit img s (Some place) b = plain.check (program img) (plain.submit (program img) s place b.local (is_some (asked_want img b))) place
 
 abbrev pub plain_cancel : Plain → Option ℕ → Plain
 plain_cancel s None = s
@@ -73,7 +73,7 @@ plain_event img s (Commit by) = plain.commit (program img) s
 -- an accepted event of the whole machine
 abbrev pub whole_submit : Image → Machine State → Option ℕ → Advance → Machine State
 whole_submit img m None b = m
-whole_submit img m (Some place) b = whole.submit m place b.end (asked_want img b)
+whole_submit img m (Some place) b = whole.check (program img) (whole.submit m place b.end (asked_want img b)) place
 
 abbrev pub whole_cancel : Machine State → Option ℕ → Machine State
 whole_cancel m None = m

@@ -1,9 +1,10 @@
 -- The entry that is due, and the guess for the next task, read off the sequential run.
 use Rattle.std.specs.Prelude.{ℕ, zero, suc, ◌≡◌, ◌==◌, true, false, cond, nat_lt, List, [], ◌∷◌, map, Option, Some, None, unwrap_or, is_some, slice_get}
 use Rattle.svc_image.specs.Image.{Image, is_entry}
-use Rattle.svc_core_laws.specs.Program.{Program, seq}
+use Rattle.svc_core_laws.specs.Program.{Program, seq, due_after}
+use Rattle.svc_core_laws.specs.declared.end.End.{End}
 use Rattle.svc_core_laws.specs.Words.{program}
-use Rattle.svc_machine_laws.specs.PlainMachine.{Plain, entry_of}
+use Rattle.svc_machine_laws.specs.PlainMachine.{Plain, entry_of, running, run_done}
 
 -- the successor, where there is one, of a task that began at this entry, if it is the entry that is asked for; else what was known before
 abbrev pub newer_successor : (began : Option ℕ) → ℕ → (successor : Option ℕ) → Option ℕ → Option ℕ
@@ -31,13 +32,19 @@ youngest [] = None
 youngest (x ∷ []) = Some x
 youngest (x ∷ y ∷ entries) = youngest (y ∷ entries)
 
--- the guess: with no task active the due entry, else the successor of the last committed task that began where the youngest active one did, and without one the entry after that
-abbrev pub guess_after : (entries : List ℕ) → (due : Option ℕ) → (ℕ → Option ℕ) → Option ℕ → Option ℕ
-guess_after entries due successor None = due
-guess_after entries due successor (Some e) = Some (unwrap_or (successor e) (entry_after entries e))
+-- how the last of these has ended, where it has
+abbrev pub last_end : {A : Type 0} → (A → Option End) → List A → Option End
+last_end done [] = None
+last_end done (x ∷ []) = done x
+last_end done (x ∷ y ∷ xs) = last_end done (y ∷ xs)
+
+-- the guess: with no task active the due entry; else where the youngest active one has handed on, that entry; else the successor of the last committed task that began where the youngest active one did, and without one the entry after that
+abbrev pub guess_after : (entries : List ℕ) → (due : Option ℕ) → (ℕ → Option ℕ) → (ended : Option End) → Option ℕ → Option ℕ
+guess_after entries due successor ended None = due
+guess_after entries due successor ended (Some e) = Some (unwrap_or (due_after ended) (unwrap_or (successor e) (entry_after entries e)))
 
 abbrev pub guess : {C : Type 0} → Program C → List ℕ → Plain → Option ℕ
-guess p entries s = guess_after entries (seq p s.commits).due (successor_at p s.commits) (youngest (map entry_of s.tasks))
+guess p entries s = guess_after entries (seq p s.commits).due (successor_at p s.commits) (last_end (run_done p) (running p s)) (youngest (map entry_of s.tasks))
 
 -- once the run has stopped there is no guess; until then there is one, and it is an entry
 pub record IsGuess (img : Image) (s : Plain) : Type 0 where

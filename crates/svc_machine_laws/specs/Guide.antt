@@ -1,8 +1,8 @@
 -- What a sequencer keeps of the run, and what it makes of it.
-use Rattle.std.specs.Prelude.{ℕ, ◌==◌, Bool, false, cond, not, List, [], ◌∷◌, ◌++◌, map, take, drop, Option, Some, None, slice_get}
+use Rattle.std.specs.Prelude.{ℕ, ◌==◌, cond, List, [], ◌∷◌, ◌++◌, map, take, drop, Option, Some, None, slice_get}
 use Rattle.svc_core_laws.specs.declared.end.End.{End}
 use Rattle.svc_core_laws.specs.Program.{Program, seq, due_after}
-use Rattle.svc_machine_laws.specs.PlainMachine.{Plain, entry_of, entry_for, stays}
+use Rattle.svc_machine_laws.specs.PlainMachine.{Plain, entry_of, entry_for, cuts_next}
 use Rattle.svc_machine_laws.specs.Guess.{newer_successor, successor_at, guess_after, youngest}
 
 -- the entries in rising order, the due entry, the last known successor of each entry, and the entries of the active tasks, oldest first
@@ -24,8 +24,8 @@ successor_in (x ∷ entries) [] e = None
 successor_in (x ∷ entries) (o ∷ successors) e = cond (x == e) o (successor_in entries successors e)
 
 -- the guess for the next task
-abbrev pub guess_of : Guide → Option ℕ
-guess_of g = guess_after g.entries g.due (successor_in g.entries g.successors) (youngest g.active)
+abbrev pub guess_of : (ended : Option End) → Guide → Option ℕ
+guess_of ended g = guess_after g.entries g.due (successor_in g.entries g.successors) ended (youngest g.active)
 
 -- before any event
 abbrev pub guide_opened : (entries : List ℕ) → (first : ℕ) → Guide
@@ -52,11 +52,6 @@ guide_committed ended g = record g {
   successors = with_successor g.entries (slice_get g.active 0) (due_after (Some ended)) g.successors;
   active = drop 1 g.active;
 }
-
--- whether a commit of a task that ended so cuts the next ones: always at an exit or trap, and else where the next one began elsewhere
-abbrev pub cuts_next : End → (others : List ℕ) → Bool
-cuts_next ended [] = false
-cuts_next ended (x ∷ others) = not (stays (Some ended) (x ∷ others))
 
 -- the tasks after the oldest are cut first, where the commit says so
 abbrev pub guide_settled : End → Guide → Guide

@@ -1,5 +1,5 @@
 -- What each accepted event does to the line table.
-use Rattle.std.specs.Prelude.{ℕ, Bool, true, false, List, [], ◌∷◌, map, Option, Some, None}
+use Rattle.std.specs.Prelude.{ℕ, suc, Bool, true, false, List, [], ◌∷◌, map, Option, Some, None}
 use Rattle.svc_image.specs.Image.{Image}
 use Rattle.svc_core_laws.specs.State.{State}
 use Rattle.svc_core_laws.specs.Program.{Want, Local, Load, Store, Narrow, Emit, Program}
@@ -8,7 +8,7 @@ use Rattle.svc_bus_laws.specs.Versioned.{view}
 use Rattle.svc_bus_laws.specs.LineTable.{LineTable, versioned}
 use Rattle.svc_bus_laws.specs.Steps.{read, write, replace, squash, commit, begin}
 use Rattle.svc_machine_laws.specs.PlainMachine.{stays}
-use Rattle.svc_machine_laws.specs.WholeMachine.{Seat, Machine, seat_entry}
+use Rattle.svc_machine_laws.specs.WholeMachine.{Seat, Machine, seat_entry, submit, is_misled}
 use Rattle.svc_machine_laws.specs.Events.{Event, Assign, Submit, Replace, Cancel, Commit, seat_place, asked_want}
 
 -- a turn of the task at a place that wants this: a load reads its word, a store of a word writes it, and a store of less than a word reads it and then writes it
@@ -31,9 +31,14 @@ abbrev pub line_ask : {C : Type 0} → Option (Want C) → LineTable → ℕ →
 line_ask None t place = t
 line_ask (Some w) t place = line_turn w t place
 
-abbrev pub line_submit : {C : Type 0} → Option (Want C) → LineTable → Option ℕ → LineTable
-line_submit w t None = t
-line_submit w t (Some place) = line_ask w t place
+-- where the check of the guess after a place cuts, the tasks after it are squashed
+abbrev pub line_check : Bool → LineTable → (place : ℕ) → LineTable
+line_check false t place = t
+line_check true t place = squash t (suc place)
+
+abbrev pub line_submit : {C : Type 0} → Program C → Machine C → C → Option (Want C) → LineTable → Option ℕ → LineTable
+line_submit p m end w t None = t
+line_submit p m end w t (Some place) = line_check (is_misled p (submit m place end w).seats place) (line_ask w t place) place
 
 abbrev pub line_cancel : LineTable → Option ℕ → LineTable
 line_cancel t None = t
@@ -50,7 +55,7 @@ line_commit p t (s ∷ seats) = commit (line_settle t (stays (p.done s.core) (ma
 
 unfoldable pub line_event : Image → Machine State → LineTable → Event → LineTable
 line_event img m t (Assign unit guess) = begin t unit
-line_event img m t (Submit b) = line_submit (asked_want img b) t (seat_place m b.unit.0)
+line_event img m t (Submit b) = line_submit (program img) m b.end (asked_want img b) t (seat_place m b.unit.0)
 line_event img m t (Replace unit address) = replace t unit address
 line_event img m t (Cancel unit) = line_cancel t (seat_place m unit)
 line_event img m t (Commit by) = line_commit (program img) t m.seats

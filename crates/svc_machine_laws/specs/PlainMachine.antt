@@ -1,5 +1,5 @@
 -- The plain machine: counts of turns, from which all else is read off by running the program anew.
-use Rattle.std.specs.Prelude.{ℕ, zero, suc, ◌≡◌, ◌==◌, ◌+◌, Bool, true, false, cond, List, [], ◌∷◌, ◌++◌, map, take, Option, Some, None, unwrap_or, slice_get}
+use Rattle.std.specs.Prelude.{ℕ, zero, suc, ◌≡◌, ◌==◌, ◌+◌, Bool, true, false, cond, not, List, [], ◌∷◌, ◌++◌, map, take, Option, Some, None, unwrap_or, slice_get}
 use Rattle.svc_core_laws.specs.declared.end.End.{End}
 use Rattle.svc_core_laws.specs.declared.end.End.TheVariants as end
 use Rattle.svc_core_laws.specs.Program.{Memory, Want, Local, Load, Store, Narrow, Emit, Program, Run, wrote, exposed, over, part, seq}
@@ -94,6 +94,40 @@ stays (Some (end.Next e)) (x ∷ entries) = x == e
 -- the tasks that stay
 abbrev pub settled : Option End → List Task → List Task
 settled ended ts = cond (stays ended (map entry_of ts)) ts []
+
+-- whether a task that ended so cuts the next ones, which began at these entries: where there is a next one, always at an exit or trap, and else where it began elsewhere
+abbrev pub cuts_next : End → (others : List ℕ) → Bool
+cuts_next ended [] = false
+cuts_next ended (x ∷ others) = not (stays (Some ended) (x ∷ others))
+
+-- a task that has not ended cuts none
+abbrev pub cuts_after : Option End → (others : List ℕ) → Bool
+cuts_after None others = false
+cuts_after (Some ended) others = cuts_next ended others
+
+-- whether the one at a place has ended and cuts the next ones, by how each has ended and where it began
+abbrev pub cuts_at : {A : Type 0} → (A → Option End) → (A → ℕ) → List A → (place : ℕ) → Bool
+cuts_at done entry [] place = false
+cuts_at done entry (x ∷ xs) zero = cuts_after (done x) (map entry xs)
+cuts_at done entry (x ∷ xs) (suc place) = cuts_at done entry xs place
+
+abbrev pub run_done : {C : Type 0} → Program C → Running C → Option End
+run_done p x = p.done x.run.core
+
+abbrev pub run_entry : {C : Type 0} → Running C → ℕ
+run_entry x = x.task.entry
+
+-- whether the task at a place has ended, and the next one was guessed wrongly
+abbrev pub is_misled : {C : Type 0} → Program C → Plain → (place : ℕ) → Bool
+is_misled p s place = cuts_at (run_done p) run_entry (running p s) place
+
+-- the first n tasks stay; no event is counted
+abbrev pub keep : ℕ → Plain → Plain
+keep n s = record s { tasks = take n s.tasks }
+
+-- the check of the guess after the task at a place, once it has ended: the next task and all after it go where it was wrong
+abbrev pub check : {C : Type 0} → Program C → Plain → (place : ℕ) → Plain
+check p s place = cond (is_misled p s place) (keep (suc place) s) s
 
 -- the entry of a new task: the due one where no task is active, else the guess
 abbrev pub entry_for : Option ℕ → List ℕ → ℕ → ℕ

@@ -20,7 +20,9 @@ use Rattle.svc_machine_laws.specs.declared.reply.Cause.TheVariants as cause
 use Rattle.svc_machine_laws.specs.declared.reply.Cut.{Cut}
 use Rattle.svc_machine_laws.specs.declared.reply.Reply.{Reply}
 use Rattle.svc_machine_laws.specs.PlainMachine.{Task, Plain, running, row_of, memory_at, entry_of, entry_for, stays}
+use Rattle.svc_machine_laws.specs.PlainMachine as plain
 use Rattle.svc_machine_laws.specs.WholeMachine.{Machine, Seat, seat_entry, seen}
+use Rattle.svc_machine_laws.specs.WholeMachine as whole
 use Rattle.svc_machine_laws.specs.Events.{Event, Assign, Submit, Replace, Cancel, Commit, seat_place, task_place, asked_want}
 
 -- who serves a read
@@ -84,9 +86,14 @@ whole_asked p m t place None = ran
 whole_asked p m t place (Some w) =
     record { what = turn_done p w (seen m.versioned place) (serves_at t place); cut = turn_cut w m.versioned.rows m.versioned.commits (length m.seats) place }
 
-abbrev pub whole_submitted : {C : Type 0} → Program C → Machine C → LineTable → Option ℕ → Option (Want C) → Reply
-whole_submitted p m t None w = ran
-whole_submitted p m t (Some place) w = whole_asked p m t place w
+-- the one cut of a submit: a wrong guess, where the check finds one after the turn's own cut; else the turn's own
+abbrev pub checked : Bool → (k count place : ℕ) → Reply → Reply
+checked false k count place r = r
+checked true k count place r = record r { cut = Some (cut_from cause.WrongGuess k count (suc place)) }
+
+abbrev pub whole_submitted : {C : Type 0} → Program C → Machine C → LineTable → Option ℕ → C → Option (Want C) → Reply
+whole_submitted p m t None end w = ran
+whole_submitted p m t (Some place) end w = checked (whole.is_misled p (whole.submit m place end w).seats place) m.versioned.commits (length m.seats) place (whole_asked p m t place w)
 
 abbrev pub whole_cancelled : {C : Type 0} → Machine C → Option ℕ → Reply
 whole_cancelled m None = ran
@@ -99,7 +106,7 @@ whole_committed p k (s ∷ seats) = committed k (p.done s.core) (stays (p.done s
 unfoldable pub whole_reply : Image → Machine State → LineTable → Event → Reply
 whole_reply img m t (Assign unit guess) =
     record { what = what.Assigned (record { 0 = m.versioned.commits + length m.seats }) (entry_for m.due (map seat_entry m.seats) guess) m.epoch; cut = None }
-whole_reply img m t (Submit b) = whole_submitted (program img) m t (seat_place m b.unit.0) (asked_want img b)
+whole_reply img m t (Submit b) = whole_submitted (program img) m t (seat_place m b.unit.0) b.end (asked_want img b)
 whole_reply img m t (Replace unit address) = record { what = what.Replaced (record { 0 = address }); cut = None }
 whole_reply img m t (Cancel unit) = whole_cancelled m (seat_place m unit)
 whole_reply img m t (Commit by) = whole_committed (program img) m.versioned.commits m.seats
@@ -121,7 +128,7 @@ plain_asked p s t place local true = plain_asked_of p s t place local (slice_get
 
 abbrev pub plain_submitted : {C : Type 0} → Program C → Plain → LineTable → Option ℕ → ℕ → Bool → Reply
 plain_submitted p s t None local ask = ran
-plain_submitted p s t (Some place) local ask = plain_asked p s t place local ask
+plain_submitted p s t (Some place) local ask = checked (plain.is_misled p (plain.submit p s place local ask) place) s.commits (length s.tasks) place (plain_asked p s t place local ask)
 
 abbrev pub plain_cancelled : Plain → Option ℕ → Reply
 plain_cancelled s None = ran

@@ -5,7 +5,7 @@ use Rattle.svc_core_laws.specs.Program.{Memory, Want, Local, Load, Store, Narrow
 use Rattle.svc_bus_laws.specs.Versioned.{Versioned, with_head, begin, squash}
 use Rattle.svc_bus_laws.specs.ByRows.{view_of, edit, read, write}
 use Rattle.svc_bus_laws.specs.ByRows as rows
-use Rattle.svc_machine_laws.specs.PlainMachine.{Plain, Running, running, row_of, cut_by, stays, entry_for}
+use Rattle.svc_machine_laws.specs.PlainMachine.{Plain, Running, running, row_of, cut_by, stays, cuts_at, entry_for}
 
 -- the seat of an active task: its unit, its epoch, the entry at which it began, its core, and the words that it has put out, which wait for its commit
 pub record Seat (C : Type 0) : Type 0 where
@@ -101,6 +101,21 @@ replace m = with_seats m m.versioned m.seats
 -- the task at a place and all after it go
 abbrev pub cancel : {C : Type 0} → Machine C → (place : ℕ) → Machine C
 cancel m place = with_seats m (squash m.versioned place) (take place m.seats)
+
+abbrev pub seat_done : {C : Type 0} → Program C → Seat C → Option End
+seat_done p s = p.done s.core
+
+-- whether the task at a place has ended, and the next one was guessed wrongly
+abbrev pub is_misled : {C : Type 0} → Program C → List (Seat C) → (place : ℕ) → Bool
+is_misled p seats place = cuts_at (seat_done p) seat_entry seats place
+
+-- the first n tasks stay; no event is counted
+abbrev pub keep : {C : Type 0} → ℕ → Machine C → Machine C
+keep n m = record m { versioned = squash m.versioned n; seats = take n m.seats }
+
+-- the check of the guess after the task at a place, once it has ended
+abbrev pub check : {C : Type 0} → Program C → Machine C → (place : ℕ) → Machine C
+check p m place = cond (is_misled p m.seats place) (keep (suc place) m) m
 
 -- where the next task doesn't stay, the tasks after the head are cut first, while the head is still the head
 abbrev pub settle : Versioned → Bool → Versioned

@@ -50,7 +50,8 @@ pub enum What {
 pub enum Cause {
     /// An earlier task stored to this word, which the first of them had read too early.
     Violation(WordAddr),
-    /// The run stopped, or the first of them began at another entry than the one that is due.
+    /// The task before the first of them ended the program, or handed on to another entry than the one where
+    /// the first of them began.
     WrongGuess,
     /// The first of them was cancelled.
     Cancelled,

@@ -11,8 +11,9 @@ youngest_last [] = refl
 youngest_last (x ∷ []) = refl
 youngest_last (x ∷ y ∷ xs) = (let e : length (x ∷ y ∷ xs) - 1 ≡ suc (length (y ∷ xs) - 1) = omega arith in ap (slice_get (x ∷ y ∷ xs)) e) ∙ youngest_last (y ∷ xs)
 
-pub predicted : (g : Guide) (e n : ℕ) → youngest g.active ≡ Some e → n ≡ unwrap_or (successor_in g.entries g.successors e) (entry_after g.entries e) → Some n ≡ guess_of g
-predicted g e n last is = ap Some is ∙ sym (ap (guess_after g.entries g.due (successor_in g.entries g.successors)) last)
+pub predicted : (g : Guide) (ended : Option End) (e n : ℕ) → youngest g.active ≡ Some e
+    → n ≡ unwrap_or (due_after ended) (unwrap_or (successor_in g.entries g.successors e) (entry_after g.entries e)) → Some n ≡ guess_of ended g
+predicted g ended e n last is = ap Some is ∙ sym (ap (guess_after g.entries g.due (successor_in g.entries g.successors) ended) last)
 
 -- as many successors as before
 pub as_many : (xs : List ℕ) (began next : Option ℕ) (os : List (Option ℕ)) → length os ≡ length xs → length (with_successor xs began next os) ≡ length xs

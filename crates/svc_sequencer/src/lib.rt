@@ -1,4 +1,4 @@
-//! The sequencer: which task is due, which one to guess, and what a commit cuts (ISCA 1995, "Multiscalar
+//! The sequencer: which task is due, which one to guess, and what an ended task cuts (ISCA 1995, "Multiscalar
 //! Processors": a sequencer predicts the next task and assigns it, and tasks retire in order).
 #![tactic(auto)]
 

@@ -1,11 +1,11 @@
 // The sequencer.
 
-ghost use Rattle.std.specs.Prelude.{◌≡◌, ◌<◌, Some, IfOk, IfErr, length, drop, slice_get, unwrap_or};
+ghost use Rattle.std.specs.Prelude.{◌≡◌, ◌<◌, suc, Some, IfOk, IfErr, length, drop, slice_get, unwrap_or};
 ghost use Rattle.std.specs.List.Sorted.{IsStrictlyIncreasing};
 ghost use Rattle.svc_core_laws.specs.Program.{due_after};
-ghost use Rattle.svc_machine_laws.specs.PlainMachine.{entry_for};
+ghost use Rattle.svc_machine_laws.specs.PlainMachine.{cuts_next, entry_for};
 ghost use Rattle.svc_machine_laws.specs.Guess.{entry_after};
-ghost use Rattle.svc_machine_laws.specs.Guide.{guess_of, guide_opened, guide_assigned, guide_cut, guide_committed, cuts_next, successor_in, with_successor};
+ghost use Rattle.svc_machine_laws.specs.Guide.{guess_of, guide_opened, guide_assigned, guide_cut, guide_committed, successor_in, with_successor};
 
 use arrayvec::ArrayVec;
 use std::alloc::{AllocError, Global};
@@ -79,6 +79,16 @@ fn remember(entries: &[u32], successors: &mut Vec<Option<u32>>, entry: u32, succ
     }
 }
 
+// The entry that a task hands on to, where it has ended so.
+fn handed_on(ended: Option<End>) -> Option<u32>
+    ensures { result ≡ due_after ended }
+{
+    match ended {
+        Some(end) => due_at(end),
+        None => None,
+    }
+}
+
 // The entry that is due after a task that ended so.
 fn due_at(end: End) -> Option<u32>
     ensures { result ≡ due_after (Some end) }
@@ -124,25 +134,29 @@ impl Sequencer {
         self.due
     }
 
-    /// The guess for the next task, a byte address: with no task active the due entry. Else the successor
-    /// of the last committed task that began where the youngest active one did, and without one the entry
-    /// after that, where the first follows the last.
-    pub fn predict(&self) -> Option<u32>
-        ensures { result ≡ guess_of self.now }
+    /// The guess for the next task, a byte address, where the youngest active task has ended so, or hasn't:
+    /// with no task active the due entry. Else the entry to which the youngest handed on. Else the successor
+    /// of the last committed task that began where the youngest did, and without one the entry after that,
+    /// where the first follows the last.
+    pub fn predict(&self, ended: Option<End>) -> Option<u32>
+        ensures { result ≡ guess_of ended self.now }
     {
         match self.active.last() {
-            Some(&youngest) => Some(following(&self.entries, &self.successors, youngest)),
+            Some(&youngest) => match handed_on(ended) {
+                Some(entry) => Some(entry),
+                None => Some(following(&self.entries, &self.successors, youngest)),
+            },
             None => self.due,
         }
     }
 
-    /// Whether a commit of the oldest task, which ended so, cuts the next ones: always at an exit or trap,
-    /// and else exactly where the next task didn't begin at the entry that is due then. Without a next task
-    /// there is nothing to cut.
-    pub fn settle(&self, end: End) -> bool
-        ensures { result ≡ cuts_next end (drop 1 self.now.active) }
+    /// Whether the end of the task at a position, counted from the oldest, cuts the ones after it: always at an
+    /// exit or trap, and else exactly where the next task began at another entry than the one that it handed on
+    /// to. Without a next task there is nothing to cut.
+    pub fn settle(&self, position: usize, end: End) -> bool
+        ensures { result ≡ cuts_next end (drop (suc position) self.now.active) }
     {
-        match self.active.get(1) {
+        match self.active.get(position.saturating_add(1)) {
             Some(&next) => match end {
                 End::Next(entry) => next != entry,
                 End::Exit(_) => true,

@@ -48,11 +48,13 @@ fn cut_from(sequencer: &mut Sequencer, position: usize)
 fn the_guess_after_an_entry_is_the_next_entry(rt: HostRuntime) -> Result<(), Fail> {
     let mut sequencer = opened(rt.alloc(), &P)?;
     assert_eq!(rt; sequencer.due(), Some(0));
-    assert_eq!(rt; sequencer.predict(), Some(0));
+    assert_eq!(rt; sequencer.predict(None), Some(0));
     assert_eq!(rt; assign(&mut sequencer, 99), 0);
-    assert_eq!(rt; sequencer.predict(), Some(12));
+    assert_eq!(rt; sequencer.predict(None), Some(12));
+    assert_eq!(rt; sequencer.predict(Some(End::Next(0))), Some(0));
+    assert_eq!(rt; sequencer.predict(Some(End::Exit(5))), Some(12));
     assert_eq!(rt; assign(&mut sequencer, 12), 12);
-    assert_eq!(rt; sequencer.predict(), Some(0));
+    assert_eq!(rt; sequencer.predict(None), Some(0));
     Ok(())
 }
 
@@ -62,27 +64,30 @@ fn a_violation_and_a_commit_leave_the_due_entry(rt: HostRuntime) -> Result<(), F
     assign(&mut sequencer, 0);
     assign(&mut sequencer, 12);
     cut_from(&mut sequencer, 1);
-    assert_eq!(rt; sequencer.settle(End::Next(12)), false);
+    assert_eq!(rt; sequencer.settle(0, End::Next(12)), false);
     commit(&mut sequencer, End::Next(12));
     assert_eq!(rt; sequencer.due(), Some(12));
     assert_eq!(rt; assign(&mut sequencer, 0), 12);
-    assert_eq!(rt; sequencer.predict(), Some(0));
-    assert_eq!(rt; sequencer.settle(End::Exit(5)), false);
+    assert_eq!(rt; sequencer.predict(None), Some(0));
+    assert_eq!(rt; sequencer.settle(0, End::Exit(5)), false);
     commit(&mut sequencer, End::Exit(5));
     assert_eq!(rt; sequencer.due(), None);
-    assert_eq!(rt; sequencer.predict(), None);
+    assert_eq!(rt; sequencer.predict(None), None);
     Ok(())
 }
 
 #[test]
-fn a_wrong_guess_is_cut_at_the_commit(rt: HostRuntime) -> Result<(), Fail> {
+fn a_wrong_guess_is_cut(rt: HostRuntime) -> Result<(), Fail> {
     let mut sequencer = opened(rt.alloc(), &P)?;
     assign(&mut sequencer, 0);
     assign(&mut sequencer, 0);
     assign(&mut sequencer, 12);
-    assert_eq!(rt; sequencer.settle(End::Next(12)), true);
-    assert_eq!(rt; sequencer.settle(End::Next(0)), false);
-    assert_eq!(rt; sequencer.settle(End::Trap(1)), true);
+    assert_eq!(rt; sequencer.settle(0, End::Next(12)), true);
+    assert_eq!(rt; sequencer.settle(0, End::Next(0)), false);
+    assert_eq!(rt; sequencer.settle(0, End::Trap(1)), true);
+    assert_eq!(rt; sequencer.settle(1, End::Next(12)), false);
+    assert_eq!(rt; sequencer.settle(1, End::Next(0)), true);
+    assert_eq!(rt; sequencer.settle(2, End::Next(0)), false);
     cut_from(&mut sequencer, 1);
     commit(&mut sequencer, End::Next(12));
     assert_eq!(rt; assign(&mut sequencer, 0), 12);
@@ -95,11 +100,11 @@ fn a_remembered_successor_is_guessed(rt: HostRuntime) -> Result<(), Fail> {
     assign(&mut sequencer, 0);
     commit(&mut sequencer, End::Next(0));
     assert_eq!(rt; assign(&mut sequencer, 12), 0);
-    assert_eq!(rt; sequencer.predict(), Some(0));
+    assert_eq!(rt; sequencer.predict(None), Some(0));
     commit(&mut sequencer, End::Next(12));
     assert_eq!(rt; assign(&mut sequencer, 0), 12);
     assert_eq!(rt; assign(&mut sequencer, 0), 0);
-    assert_eq!(rt; sequencer.predict(), Some(12));
+    assert_eq!(rt; sequencer.predict(None), Some(12));
     Ok(())
 }
 
@@ -107,6 +112,6 @@ fn a_remembered_successor_is_guessed(rt: HostRuntime) -> Result<(), Fail> {
 fn a_single_entry_follows_itself(rt: HostRuntime) -> Result<(), Fail> {
     let mut sequencer = opened(rt.alloc(), &P1)?;
     assign(&mut sequencer, 0);
-    assert_eq!(rt; sequencer.predict(), Some(0));
+    assert_eq!(rt; sequencer.predict(None), Some(0));
     Ok(())
 }

@@ -118,3 +118,22 @@ fn an_exit_stops_the_run(rt: HostRuntime) -> Result<(), Fail> {
     assert_eq!(rt; stop, (Some(End::Exit(5)), Ending::Exit(5), None, None));
     Ok(())
 }
+
+// The guess before and after the only task has ended at its own entry, to which its last word jumps back.
+fn guesses_of_a_loop(alloc: Global) -> Result<(Option<u32>, Option<u32>), Fail> {
+    let mut bytes = P;
+    bytes[164..168].copy_from_slice(&0xFF9F_F06F_u32.to_le_bytes());
+    let config = Config::new(4, 16, 2, 10, 1)?;
+    let image = Image::read(alloc, &bytes)?;
+    let mut machine = Machine::open(alloc, image, config)?;
+    assign(&mut machine, 0, 0)?;
+    let before = machine.guess();
+    submit(&mut machine, 0)?;
+    Ok((before, machine.guess()))
+}
+
+#[test]
+fn an_ended_task_tells_the_guess(rt: HostRuntime) -> Result<(), Fail> {
+    assert_eq!(rt; guesses_of_a_loop(rt.alloc())?, (Some(12), Some(0)));
+    Ok(())
+}

@@ -1,11 +1,15 @@
-use Rattle.std.proofs.Common.{ℕ, ◌≡◌, ◌+◌, ◌<◌, ◌++◌, List, true, cond, drop, length, get_or, ◌∙◌, ap, sym, subst, refl, arith}
+use Rattle.std.proofs.Common.{ℕ, ◌≡◌, ◌+◌, ◌<◌, ◌++◌, Option, Some, None, List, true, cond, drop, length, get_or, ◌∙◌, ap, sym, subst, refl, arith}
 use Rattle.std.specs.Prelude.{is_ok, if◌then◌else◌, vec_capacity}
 use Rattle.std.proofs.lemmas.Option.{none-some}
 use Rattle.svc_bus_laws.specs.Steps.{squash}
 use Rattle.svc_machine_laws.specs.declared.reply.Reply.{Reply}
 use Rattle.svc_machine_laws.specs.declared.reply.What.TheVariants as what
 use Rattle.svc_machine_laws.specs.Events.{Event, Commit}
-use Rattle.svc_machine_laws.specs.Guide.{Guide, guide_committed, cuts_next}
+use Rattle.svc_machine_laws.specs.Guide.{Guide, guide_committed}
+use Rattle.svc_machine_laws.specs.PlainMachine.{cuts_next}
+use Rattle.svc_machine_laws.specs.Replies.{cut_from}
+use Rattle.svc_machine_laws.specs.declared.reply.Cut.{Cut}
+use Rattle.svc_machine_laws.specs.declared.reply.Cause.TheVariants as cause
 use Rattle.svc_machine_laws.specs.Standing.{Standing, reply_to, stepped}
 use Rattle.svc_machine.specs.declared.seat.Seat.{Seat}
 use Rattle.svc_machine.specs.Kept.{Parts, shown}
@@ -33,7 +37,7 @@ settle-cut-requires c =
       lined = lined (parts_of c.self.inside) c.self.invariant c.args.by.0 ok items refl;
       units = has_units (parts_of c.self.inside) c.self.invariant c.args.by.0 ok items refl;
       number = omega (arith, few);
-      few = small_seats (parts_of c.self.inside) c.self.invariant c.args.by.0 ok items refl c.self.inside.config.few_units;
+      few = let seats = small_seats (parts_of c.self.inside) c.self.invariant c.args.by.0 ok items refl c.self.inside.config.few_units in let n = c.len-count.ensures ∙ c.self.inside.seats.ok.0 in omega (arith, seats, n);
     }
 
 pub commit_head-requires : goal.commit_head-requires
@@ -149,7 +153,10 @@ returns-clause-reply c =
     let r : Reply = record { what = what.Committed (record { 0 = c.self.inside.commits }) c.in-Some.end; cut = c.settle-cut.result } in
     subst (λ (v : MachineValue). (s : Standing) → StandsAt v s → r ≡ reply_to v.image s (x c)) c.self.view_is
     (replied (m c) c.self.invariant (x c) tt (ok c) r
-    (λ t agrees. commit_reply (m c) c.self.invariant c.args.by.0 (ok c) c.self.inside.seats.items refl c.in-Some.end (head c) c.settle-cut.result c.settle-cut.ensures.cut t))
+    (λ t agrees. commit_reply (m c) c.self.invariant c.args.by.0 (ok c) c.self.inside.seats.items refl c.in-Some.end (head c) c.settle-cut.result
+    (c.settle-cut.ensures.cut
+    ∙ ap {B = Option Cut} (λ n. cond (cuts_next c.in-Some.end (drop 1 c.self.inside.sequencer.active)) (Some (cut_from cause.WrongGuess c.self.inside.commits n 1)) None) (c.len-count.ensures ∙ c.self.inside.seats.ok.0))
+    t))
 
 pub returns-clause-standing : goal.returns-clause-standing
 returns-clause-standing c =

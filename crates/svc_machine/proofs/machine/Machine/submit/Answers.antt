@@ -1,26 +1,27 @@
 -- The turns that a burst brings are the next ones of its task.
-use Rattle.std.proofs.Common.{◌≡◌, ◌∙◌, ◌==◌, ◌+◌, ◌-◌, refl, sym, ap, ap₂, subst, map, take, length, slice_set, Some, None, arith}
-use Rattle.std.specs.Prelude.{vec_capacity}
+use Rattle.std.proofs.Common.{ℕ, ◌≡◌, ◌∙◌, ◌==◌, ◌+◌, ◌-◌, List, Option, Some, None, refl, sym, ap, subst, map, take, length, slice_set, arith}
 use Rattle.std.specs.List.{position}
-use Rattle.std.proofs.lemmas.List.{map-set}
+use Rattle.svc_core_laws.specs.Bursts.{Advance}
 use Rattle.svc_core_laws.specs.Words.{program}
 use Rattle.svc_bus_laws.specs.LineTable.{LineTable}
 use Rattle.svc_bus_laws.specs.BusState.{Agrees}
 use Rattle.svc_bus.specs.Observed.{observed}
+use Rattle.svc_machine_laws.specs.declared.reply.Cut.{Cut}
+use Rattle.svc_machine_laws.specs.declared.reply.Reply.{Reply}
 use Rattle.svc_machine_laws.specs.WholeMachine.{machine_of, at_core, seat_of}
 use Rattle.svc_machine_laws.specs.Events.{Submit, asked_want, seat_place}
 use Rattle.svc_machine_laws.specs.Blame.{tasks_cut}
 use Rattle.svc_machine_laws.specs.Guide.{guide_cut}
 use Rattle.svc_machine_laws.specs.Standing.{Standing, reply_to, stepped}
-use Rattle.svc_machine_laws.proofs.EditedLists.{map_take}
 use Rattle.svc_machine_laws.proofs.Followed.{map_count}
 use Rattle.svc_machine.specs.declared.seat.Seat.{Seat}
 use Rattle.svc_machine.specs.Asked.{IsDone}
-use Rattle.svc_machine.specs.Seats.{plain_of}
 use Rattle.svc_machine.specs.Value.{MachineValue, StandsAt}
 use Rattle.svc_machine.specs.Kept.{Parts, shown, whole_seat}
-use Rattle.svc_machine.proofs.Keeping.{IsAccepted, Moved, kept_after, stands_after, replied, tasks_seen}
-use Rattle.svc_machine.proofs.Submitting.{can, accepted_as, found_place, is_found, at_place, its_task_runs, its_room, its_words, its_turn, cut_few, moved_by, replied_by}
+use Rattle.svc_machine.specs.Seats.{is_misled}
+use Rattle.svc_machine.proofs.Keeping.{IsAccepted, Moved, parts_of, kept_after, stands_after, replied, tasks_seen}
+use Rattle.svc_machine.proofs.Settling.{seats_kept}
+use Rattle.svc_machine.proofs.Submitting.{can, accepted_as, found_place, is_found, at_place, its_task_runs, its_room, its_words, its_turn, cut_few, small_numbers, seats_left, lined, has_units, moved_by, replied_by}
 use Rattle.svc_machine.proofs.machine.Machine.submit.Goals as goal
 
 pub unreachable-requires : goal.unreachable-requires
@@ -55,90 +56,120 @@ tasks_left-left-requires c =
     (whole_seat c.go_on-reply.new.seat) (observed c.go_on-reply.new.bus) c.go_on-reply.result c.go_on-reply.ensures in
     let few = cut_few _ c.self.invariant c.args.burst.now ok c.in-Some.place (at_place _ c.self.invariant c.args.burst.now ok c.self.inside.seats.items refl c.in-Some.place found)
     (whole_seat c.go_on-reply.new.seat) (observed c.go_on-reply.new.bus) c.go_on-reply.result done in
-    let count = c.len.ensures ∙ c.self.inside.seats.ok.0 ∙ sym (map_count whole_seat c.self.inside.seats.items) in
+    let count = c.len-count.ensures ∙ c.self.inside.seats.ok.0 ∙ sym (map_count whole_seat c.self.inside.seats.items) in
     omega (arith, few, count)
 
--- the fields before and after
-abbrev old : goal.After-self-2-1 → Parts
-old c = record {
-  image = c.self.inside.image;
-  config = c.self.inside.config;
-  plain = plain_of c.self.inside.commits c.self.inside.accepted c.self.inside.epoch c.self.inside.seats.items;
-  bus = c.self.inside.bus;
-  guide = c.self.inside.sequencer;
-  seats = map whole_seat c.self.inside.seats.items;
-  places = vec_capacity c.self.inside.seats;
-  output = c.self.inside.output.items;
-  room = vec_capacity c.self.inside.output;
-  stopped = c.self.inside.stopped;
-}
+-- how many tasks the asked turn leaves
+left_of : (items : List Seat) (left count n len : ℕ) → left ≡ count - n → count ≡ len → len ≡ length items → left ≡ length (map whole_seat items) - n
+left_of items left count n len left_is count_is len_is = left_is ∙ ap (λ k. k - n) (count_is ∙ len_is ∙ sym (map_count whole_seat items))
 
-abbrev new : goal.After-self-2-1 → Parts
-new c = record {
-  image = c.self.inside.image;
-  config = c.self.inside.config;
-  plain = plain_of c.self.inside.commits (c.self.inside.accepted + 1) c.self.inside.epoch c.truncate.new.self.items;
-  bus = c.go_on-reply.new.bus;
-  guide = c.cut_from.new.self;
-  seats = map whole_seat c.truncate.new.self.items;
-  places = vec_capacity c.truncate.new.self;
-  output = c.self.inside.output.items;
-  room = vec_capacity c.self.inside.output;
-  stopped = c.self.inside.stopped;
-}
+pub check_guess-wrong-requires : goal.check_guess-wrong-requires
+check_guess-wrong-requires c =
+    let m : Parts = parts_of c.self.inside in
+    let b = c.args.burst.now in
+    let items = c.self.inside.seats.items in
+    let place = c.in-Some.place in
+    let ok = accepted_as (Submit b) _ _ c.self.view_is c.requires in
+    let found = found_place items c.deref.result.now c.unit.result b.unit c.place.result (Some place) c.deref.ensures.value c.unit.ensures c.place.ensures c.in-Some.is in
+    let at = at_place m c.self.invariant b ok items refl place found in
+    let seat = whole_seat c.go_on-reply.new.seat in
+    let bus = observed c.go_on-reply.new.bus in
+    let reply = c.go_on-reply.result in
+    let done = its_turn m c.self.invariant b ok items refl place found c.index_mut-seat.result.now c.index_mut-seat.ensures.value c.end.result.now c.ask.result c.end.ensures.end c.ask.ensures.ask
+    seat bus reply c.go_on-reply.ensures in
+    let left = left_of items c.tasks_left-left.result c.len-count.result (tasks_cut reply.cut) _ c.tasks_left-left.ensures c.len-count.ensures c.self.inside.seats.ok.0 in
+    let seats = seats_left items c.truncate.new.self.items place c.tasks_left-left.result _ c.go_on-reply.new.seat c.truncate.ensures.items left in
+    let guide = c.cut_from.ensures ∙ ap (λ n. guide_cut n c.self.inside.sequencer) left in
+    let small = small_numbers m c.self.invariant b ok place at c.self.inside.config.few_units c.self.inside.config.few_events in
+    let count = c.len-count.ensures ∙ c.self.inside.seats.ok.0 ∙ sym (map_count whole_seat items) in
+    let few = small.1 in
+    record {
+      lined = lined m c.self.invariant b ok place at seat bus reply done c.end.ensures.follows c.truncate.new.self.items seats c.cut_from.new.self guide;
+      units = has_units m c.self.invariant b ok place at seat bus reply done c.end.ensures.follows c.truncate.new.self.items seats c.cut_from.new.self guide;
+      number = small.0;
+      few = omega (arith, few, count);
+    }
 
-accepted_here : (c : goal.After-self-2-1) → IsAccepted (old c) (Submit c.args.burst.now)
-accepted_here c = accepted_as (Submit c.args.burst.now) _ _ c.self.view_is c.requires
+module _ (c : goal.After-or) where
+  -- the fields before and after
+  abbrev m : Parts
+  m = parts_of c.self.inside
 
-found_here : (c : goal.After-self-2-1) → position (λ (s : Seat). s.unit.0 == c.args.burst.now.unit.0) c.self.inside.seats.items ≡ Some c.in-Some.place
-found_here c = found_place c.self.inside.seats.items c.deref.result.now c.unit.result c.args.burst.now.unit c.place.result (Some c.in-Some.place) c.deref.ensures.value c.unit.ensures c.place.ensures c.in-Some.is
+  abbrev after : Parts
+  after = parts_of (record c.self.inside {
+    bus = c.check_guess-wrong.new.bus;
+    sequencer = c.check_guess-wrong.new.sequencer;
+    seats = c.check_guess-wrong.new.seats;
+    accepted = c.self.inside.accepted + 1;
+  })
 
--- the asked turn was done
-done_here : (c : goal.After-self-2-1) (t : LineTable) → Agrees (observed c.self.inside.bus) t
-    → IsDone c.self.inside.image (asked_want c.self.inside.image c.args.burst.now) t c.in-Some.place (at_core c.args.burst.now.end (seat_of (can (old c) c.self.invariant c.args.burst.now (accepted_here c)).run)) (whole_seat c.go_on-reply.new.seat) (observed c.go_on-reply.new.bus) c.go_on-reply.result
-done_here c =
-    its_turn (old c) c.self.invariant c.args.burst.now (accepted_here c) c.self.inside.seats.items refl c.in-Some.place (found_here c) c.index_mut-seat.result.now c.index_mut-seat.ensures.value
-    c.end.result.now c.ask.result c.end.ensures.end c.ask.ensures.ask (whole_seat c.go_on-reply.new.seat) (observed c.go_on-reply.new.bus) c.go_on-reply.result c.go_on-reply.ensures
+  abbrev b : Advance
+  b = c.args.burst.now
 
-at_here : (c : goal.After-self-2-1) → seat_place (machine_of (program c.self.inside.image) (old c).plain) c.args.burst.now.unit.0 ≡ Some c.in-Some.place
-at_here c = at_place (old c) c.self.invariant c.args.burst.now (accepted_here c) c.self.inside.seats.items refl c.in-Some.place (found_here c)
+  abbrev items : List Seat
+  items = c.self.inside.seats.items
 
-left_is : (c : goal.After-self-2-1) → c.tasks_left-left.result ≡ length (map whole_seat c.self.inside.seats.items) - tasks_cut c.go_on-reply.result.cut
-left_is c =
-    c.tasks_left-left.ensures
-    ∙ ap (λ n. n - tasks_cut c.go_on-reply.result.cut) (c.len.ensures ∙ c.self.inside.seats.ok.0 ∙ sym (map_count whole_seat c.self.inside.seats.items))
+  ok : IsAccepted (parts_of c.self.inside) (Submit c.args.burst.now)
+  ok = accepted_as (Submit c.args.burst.now) _ _ c.self.view_is c.requires
 
-moved : (c : goal.After-self-2-1) → Moved (old c) (new c) (Submit c.args.burst.now)
-moved c =
-    moved_by (old c) c.self.invariant c.args.burst.now (accepted_here c) c.in-Some.place (at_here c) (whole_seat c.go_on-reply.new.seat) (observed c.go_on-reply.new.bus) c.go_on-reply.result (done_here c)
-    c.end.ensures.follows (new c) (record {
-      image = refl;
-      config = refl;
-      tasks = tasks_seen c.truncate.new.self.items;
-      commits = refl;
-      accepted = refl;
-      epoch = refl;
-      lines = refl;
-      guide = c.cut_from.ensures ∙ ap (λ n. guide_cut n c.self.inside.sequencer) (left_is c);
-      seats = ap (map whole_seat) c.truncate.ensures.items
-          ∙ map_take whole_seat c.tasks_left-left.result (slice_set c.self.inside.seats.items c.in-Some.place c.go_on-reply.new.seat)
-          ∙ ap₂ take (left_is c) (map-set whole_seat c.self.inside.seats.items c.in-Some.place c.go_on-reply.new.seat);
-      places = let e = c.truncate.ensures.capacity in omega (arith, e);
-      output = refl;
-      room = omega arith;
-      stopped = refl;
-    })
+  found : position (λ (s : Seat). s.unit.0 == b.unit.0) items ≡ Some c.in-Some.place
+  found = found_place items c.deref.result.now c.unit.result b.unit c.place.result (Some c.in-Some.place) c.deref.ensures.value c.unit.ensures c.place.ensures c.in-Some.is
+
+  at_here : seat_place (machine_of (program m.image) m.plain) b.unit.0 ≡ Some c.in-Some.place
+  at_here = at_place m c.self.invariant b ok items refl c.in-Some.place found
+
+  -- the asked turn was done
+  done : (t : LineTable) → Agrees (observed m.bus) t
+      → IsDone m.image (asked_want m.image b) t c.in-Some.place (at_core b.end (seat_of (can m c.self.invariant b ok).run)) (whole_seat c.go_on-reply.new.seat) (observed c.go_on-reply.new.bus) c.go_on-reply.result
+  done =
+      its_turn m c.self.invariant b ok items refl c.in-Some.place found c.index_mut-seat.result.now c.index_mut-seat.ensures.value c.end.result.now c.ask.result c.end.ensures.end c.ask.ensures.ask
+      (whole_seat c.go_on-reply.new.seat) (observed c.go_on-reply.new.bus) c.go_on-reply.result c.go_on-reply.ensures
+
+  left_is : c.tasks_left-left.result ≡ length (map whole_seat items) - tasks_cut c.go_on-reply.result.cut
+  left_is = left_of items c.tasks_left-left.result c.len-count.result (tasks_cut c.go_on-reply.result.cut) _ c.tasks_left-left.ensures c.len-count.ensures c.self.inside.seats.ok.0
+
+  seats_are : map whole_seat c.truncate.new.self.items ≡ take (length (map whole_seat items) - tasks_cut c.go_on-reply.result.cut) (slice_set (map whole_seat items) c.in-Some.place (whole_seat c.go_on-reply.new.seat))
+  seats_are = seats_left items c.truncate.new.self.items c.in-Some.place c.tasks_left-left.result _ c.go_on-reply.new.seat c.truncate.ensures.items left_is
+
+  guide_is : c.cut_from.new.self ≡ guide_cut (length (map whole_seat items) - tasks_cut c.go_on-reply.result.cut) m.guide
+  guide_is = c.cut_from.ensures ∙ ap (λ n. guide_cut n c.self.inside.sequencer) left_is
+
+  moved : Moved m after (Submit b)
+  moved =
+      let held = c.truncate.new.self.items in
+      let wrong = is_misled (map whole_seat held) c.in-Some.place in
+      moved_by m c.self.invariant b ok c.in-Some.place at_here (whole_seat c.go_on-reply.new.seat) (observed c.go_on-reply.new.bus) c.go_on-reply.result done
+      c.end.ensures.follows held seats_are c.cut_from.new.self guide_is after (record {
+        image = refl;
+        config = refl;
+        tasks = tasks_seen c.check_guess-wrong.new.seats.items;
+        commits = refl;
+        accepted = refl;
+        epoch = refl;
+        lines = c.check_guess-wrong.ensures.lines;
+        guide = c.check_guess-wrong.ensures.guide;
+        seats = ap (map whole_seat) c.check_guess-wrong.ensures.seats ∙ seats_kept wrong c.in-Some.place held;
+        places = let checked = c.check_guess-wrong.ensures.capacity in let e = c.truncate.ensures.capacity in omega (arith, checked, e);
+        output = refl;
+        room = omega arith;
+        stopped = refl;
+      })
 
 pub invariant_of-self : goal.invariant_of-self
-invariant_of-self c = kept_after (old c) c.self.invariant (Submit c.args.burst.now) c.end.ensures.follows (accepted_here c) (new c) (moved c)
+invariant_of-self c = kept_after (m c) c.self.invariant (Submit c.args.burst.now) c.end.ensures.follows (ok c) (after c) (moved c)
 
 pub returns-clause-reply : goal.returns-clause-reply
 returns-clause-reply c =
-    subst (λ (v : MachineValue). (s : Standing) → StandsAt v s → c.go_on-reply.result ≡ reply_to v.image s (Submit c.args.burst.now)) c.self.view_is
-    (replied (old c) c.self.invariant (Submit c.args.burst.now) c.end.ensures.follows (accepted_here c) c.go_on-reply.result
-    (replied_by (old c) c.self.invariant c.args.burst.now (accepted_here c) c.in-Some.place (at_here c) (whole_seat c.go_on-reply.new.seat) (observed c.go_on-reply.new.bus) c.go_on-reply.result (done_here c)))
+    let r : Reply = record { what = c.go_on-reply.result.what; cut = c.or.result } in
+    subst (λ (v : MachineValue). (s : Standing) → StandsAt v s → r ≡ reply_to v.image s (Submit c.args.burst.now)) c.self.view_is
+    (replied (m c) c.self.invariant (Submit c.args.burst.now) c.end.ensures.follows (ok c) r
+    (λ t agrees.
+    ap {B = Reply} (λ (o : Option Cut). record { what = c.go_on-reply.result.what; cut = o }) c.or.ensures
+    ∙ replied_by (m c) c.self.invariant (b c) (ok c) c.in-Some.place (at_here c) (whole_seat c.go_on-reply.new.seat) (observed c.go_on-reply.new.bus) c.go_on-reply.result (done c)
+    c.end.ensures.follows c.truncate.new.self.items (seats_are c) c.cut_from.new.self (guide_is c)
+    c.len-count.result (c.len-count.ensures ∙ c.self.inside.seats.ok.0 ∙ sym (map_count whole_seat (items c))) c.check_guess-wrong.result c.check_guess-wrong.ensures.cut t agrees))
 
 pub returns-clause-standing : goal.returns-clause-standing
 returns-clause-standing c =
-    subst (λ (v : MachineValue). (s : Standing) → StandsAt v s → StandsAt (shown (new c)) (stepped v.image s (Submit c.args.burst.now))) c.self.view_is
-    (stands_after (old c) c.self.invariant (Submit c.args.burst.now) c.end.ensures.follows (accepted_here c) (new c) (moved c))
+    subst (λ (v : MachineValue). (s : Standing) → StandsAt v s → StandsAt (shown (after c)) (stepped v.image s (Submit c.args.burst.now))) c.self.view_is
+    (stands_after (m c) c.self.invariant (Submit c.args.burst.now) c.end.ensures.follows (ok c) (after c) (moved c))
