@@ -1,3 +1,5 @@
+// The numbers of a run, and their ranges.
+
 ghost use Rattle.std.specs.Prelude.{◌≡◌, ◌≤◌, IsTrue, None, Some, IfOk, MatchResult};
 ghost use Rattle.std.specs.Int.{is_power_of_two};
 ghost use Rattle.svc_base.specs.declared.config.TheConstants.{MAX_EVENTS, MAX_SETS, MAX_TURNS, MAX_UNITS, MAX_WAYS};

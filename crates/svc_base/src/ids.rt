@@ -1,3 +1,5 @@
+// Units, tasks and word addresses.
+
 /// A processing unit, numbered from 0. A machine of U units has the units below U.
 #[derive(Clone, Copy, Debug, Default, PartialEq, Eq, PartialOrd, Ord, Hash)]
 pub struct UnitId(pub u8);

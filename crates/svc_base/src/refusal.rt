@@ -1,3 +1,5 @@
+// Why a value isn't opened, and why an event is refused.
+
 ghost use Rattle.std.specs.Prelude.{◌≡◌};
 ghost use Rattle.svc_base.specs.Refusals.{number_of};
 

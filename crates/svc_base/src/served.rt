@@ -1,3 +1,5 @@
+// Who supplies a read.
+
 use crate::ids::UnitId;
 
 /// Who supplies the value that a task reads: the first of these that is there. The bus plans a read by it, and a reply tells

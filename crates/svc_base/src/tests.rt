@@ -1,3 +1,5 @@
+// Configurations, and the numbers of errors and refusals.
+
 use crate::{Config, ConfigError, OpenError, Refusal, WordAddr};
 
 // The error of a configuration, or none.

@@ -16,9 +16,7 @@ pub use access::{DATA_START, Place, load_place, loaded, store_place, stored};
 pub use burst::{Burst, Lease, MAX_BURST_TURNS};
 pub use core_state::Core;
 pub use effect::Effect;
-pub use numbers::{
-    compare, offset_of_branch, offset_of_jump, operate, value_of_short, value_of_upper,
-};
+pub use numbers::{compare, operate};
 pub use svc_core_laws::{Ask, End, Ending};
 
 #[cfg(test)]

@@ -1,6 +1,7 @@
 // How tasks and runs end.
 
-ghost use Rattle.std.specs.Prelude.{◌≡◌};
+ghost use Rattle.std.specs.Prelude.{◌≡◌, Some};
+ghost use Rattle.svc_core_laws.specs.Program.{due_after, stopped_after};
 ghost use Rattle.svc_core_laws.specs.Sequence.{ending_of, goes_on_at};
 
 /// How a task ended.
@@ -14,6 +15,30 @@ pub enum End {
     /// word, a target that isn't a multiple of 4, a load or store that isn't aligned, one outside the data,
     /// an unknown environment call, a breakpoint, a 65th word put out.
     Trap(u8),
+}
+
+impl End {
+    /// The entry of the task after one that ended so, where there is one.
+    pub fn next(self) -> Option<u32>
+        ensures { result ≡ due_after (Some self) }
+    {
+        match self {
+            End::Next(entry) => Some(entry),
+            End::Exit(_) => None,
+            End::Trap(_) => None,
+        }
+    }
+
+    /// The end, where it stops the run.
+    pub fn stop(self) -> Option<End>
+        ensures { result ≡ stopped_after (Some self) }
+    {
+        match self {
+            End::Next(_) => None,
+            End::Exit(_) => Some(self),
+            End::Trap(_) => Some(self),
+        }
+    }
 }
 
 /// How a run ended, or why it goes on no further.

@@ -2,7 +2,6 @@ pub mod Flags
 pub mod Wordwise
 pub mod Checks
 pub mod Chunks
-pub mod Decoding
 pub mod Files
 pub mod Building
 pub mod FilesBack

@@ -3,4 +3,4 @@ pub mod Fields
 pub mod Format
 pub mod Reading
 pub mod Faults
-pub mod Looks
+pub mod Slots

@@ -6,18 +6,19 @@ mod error;
 mod fetched;
 mod header;
 mod image;
-mod instructions;
 mod laws;
 mod layout;
-mod looks;
 mod marks;
 pub mod samples;
+mod slot;
+mod slots;
 mod words;
 
 pub use error::ImageError;
 pub use fetched::Fetched;
 pub use image::Image;
 pub use laws::one_meaning;
+pub use slot::{Found, Slot};
 
 #[cfg(test)]
 mod tests;

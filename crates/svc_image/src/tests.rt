@@ -5,7 +5,7 @@ use crate::{Fetched, Image, ImageError};
 use byteorder::{ByteOrder, LittleEndian};
 use std::alloc::{AllocError, Global};
 use std::test::Fail;
-use svc_rv32i::{ImmediateOperation, Instr, Register, Short};
+use svc_rv32i::{Decoded, Register};
 
 // The number of the fault that these bytes have, or 0.
 fn fault(alloc: Global, bytes: &[u8]) -> u8 {
@@ -159,22 +159,22 @@ fn words_are_fetched(rt: HostRuntime) -> Result<(), Fail> {
 fn words_are_decoded(rt: HostRuntime) -> Result<(), Fail> {
     let alloc = rt.alloc();
     let image = Image::read(alloc, &P)?;
-    let five = Instr::OpImm {
-        op: ImmediateOperation::Add,
+    let five = Decoded::Addi {
         rd: Register { number: 1 },
         rs1: Register { number: 0 },
-        imm: Short { bits: 5 },
+        value: 5,
     };
-    assert_eq!(rt; image.instruction_at(4), Some(Some(five)));
-    assert_eq!(rt; image.copy(alloc)?.instruction_at(4), Some(Some(five)));
-    assert_eq!(rt; image.instruction_at(6), None);
-    assert_eq!(rt; image.instruction_at(36), None);
+    assert_eq!(rt; image.find(4).decoded, Some(five));
+    assert_eq!(rt; image.copy(alloc)?.find(4).decoded, Some(five));
+    assert_eq!(rt; image.find(6).decoded, None);
+    assert_eq!(rt; image.find(36).decoded, None);
+    assert_eq!(rt; image.slots().len(), 9);
     let mut reserved = Vec::from_slice(alloc, &P)?;
     if reserved.len() == 200 {
         LittleEndian::write_u32(&mut reserved[160..], 0);
     }
     let image = Image::read(alloc, &reserved)?;
-    assert_eq!(rt; image.instruction_at(4), Some(None));
+    assert_eq!(rt; image.find(4).decoded, Some(Decoded::Illegal));
     Ok(())
 }
 

@@ -1,5 +1,4 @@
 pub mod Places
 pub mod Turns
 pub mod Runs
-pub mod Slots
 pub mod Counting

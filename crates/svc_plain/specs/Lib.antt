@@ -1,3 +1,2 @@
 pub mod Tasks
 pub mod Code
-pub mod Decoded

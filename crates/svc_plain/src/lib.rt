@@ -2,7 +2,6 @@
 #![tactic(auto)]
 
 mod code;
-mod decoded;
 mod error;
 mod run;
 mod task;

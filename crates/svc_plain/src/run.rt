@@ -1,17 +1,15 @@
 // Tasks in sequential order.
 
-ghost use Rattle.std.specs.Prelude.{◌≡◌, ℕ, false, Some, IfOk, length, slice_index};
-ghost use Rattle.svc_core_laws.specs.Program.{due_after, stopped_after};
+ghost use Rattle.std.specs.Prelude.{◌≡◌, ℕ, false, IfOk, length, slice_index};
 ghost use Rattle.svc_core_laws.specs.Bytes.{word_at};
 ghost use Rattle.svc_core_laws.specs.Sequence.{plain_seq, ending_of};
 ghost use Rattle.svc_plain.specs.Tasks.{tasks_run};
 
-use crate::code::Code;
 use crate::error::PlainError;
 use crate::task::run_task;
 use arrayvec::ArrayVec;
 use std::alloc::Global;
-use svc_core::{End, Ending};
+use svc_core::Ending;
 use svc_image::Image;
 
 /// What a sequential run leaves.
@@ -37,7 +35,7 @@ pub fn run_tasks(alloc: Global, image: &Image, k: u64) -> Result<PlainOutcome, P
     ensures ending { IfOk result (λ o. o.ending ≡ ending_of false (plain_seq image.now k).stopped (plain_seq image.now k).due) }
 {
     let mut due = Some(image.start());
-    let code = Code::of(alloc, image)?;
+    let slots = image.slots();
     let mut memory = Vec::from_slice(alloc, image.data_words())?;
     let mut output = Vec::new(alloc);
     let mut tasks = 0;
@@ -47,11 +45,11 @@ pub fn run_tasks(alloc: Global, image: &Image, k: u64) -> Result<PlainOutcome, P
             break;
         };
         let mut words = ArrayVec::new();
-        let end = run_task(image, &code, entry, memory.as_mut_slice(), &mut words);
+        let end = run_task(image, slots, entry, memory.as_mut_slice(), &mut words);
         output.extend_from_slice(words.as_slice())?;
         tasks += 1;
-        due = due_after(end);
-        stopped = stopped_after(end);
+        due = end.next();
+        stopped = end.stop();
     }
     Ok(PlainOutcome {
         tasks,
@@ -59,26 +57,4 @@ pub fn run_tasks(alloc: Global, image: &Image, k: u64) -> Result<PlainOutcome, P
         output,
         ending: Ending::of(false, stopped, due),
     })
-}
-
-// The entry of the next task, where this end hands on.
-fn due_after(end: End) -> Option<u32>
-    ensures { result ≡ due_after (Some end) }
-{
-    match end {
-        End::Next(entry) => Some(entry),
-        End::Exit(_) => None,
-        End::Trap(_) => None,
-    }
-}
-
-// The end, where it stops the run.
-fn stopped_after(end: End) -> Option<End>
-    ensures { result ≡ stopped_after (Some end) }
-{
-    match end {
-        End::Next(_) => None,
-        End::Exit(_) => Some(end),
-        End::Trap(_) => Some(end),
-    }
 }

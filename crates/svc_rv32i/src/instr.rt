@@ -1,3 +1,5 @@
+// Instructions and their parts.
+
 ghost use Rattle.std.specs.Prelude.{◌<◌, ◌^◌};
 
 /// One of the registers x0 to x31 (RV32I, section 2.1 Programmers' Model for Base Integer ISA).

@@ -1,3 +1,5 @@
+// Words, read as instructions.
+
 ghost use Rattle.std.specs.Prelude.{◌≡◌, ℕ, ◌<◌, ◌^◌, ◌↔◌, Some};
 ghost use Rattle.svc_rv32i.specs.Words.{word_of};
 ghost use Rattle.svc_rv32i.specs.Meaning.{register, short, long, amount_at, fields_at, i_imm, s_imm, b_imm, u_imm, j_imm, system_of, immediate_or_shift, instr_of, meaning};

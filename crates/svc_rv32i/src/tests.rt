@@ -1,3 +1,5 @@
+// Instructions and their words, as assemblers write them.
+
 use super::*;
 use std::process::Abort;
 use std::test::*;

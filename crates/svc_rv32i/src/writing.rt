@@ -1,3 +1,5 @@
+// Instructions, written as words.
+
 ghost use Rattle.std.specs.Prelude.{◌≡◌, ◌<◌, ◌^◌};
 ghost use Rattle.svc_rv32i.specs.Words.{r_type, i_type, s_type, b_type, u_type, j_type, word_of};
 

@@ -20,10 +20,10 @@ loop-task-preserved c =
     let put : c.loop-task.output.items ++ c.run_task-end.new.words.items ≡ c.extend_from_slice.new.self.items = ap (λ (x : List ℕ). c.loop-task.output.items ++ x) (sym c.as_slice.ensures.value) ∙ sym c.in_ok-extend_from_slice.ensures.items in
     same_run img (c.loop-task._task + 1) (c.loop-task.tasks + 1) _ _ _ _ _ _ _ _
     (next_run img c.loop-task._task c.loop-task.tasks base c.run_task-end.new.memory c.loop-task.output.items c.run_task-end.new.words.items c.in-Some.entry c.loop-task.stopped c.run_task-end.result c.start.ensures.sound run c.run_task-end.auto.memory c.run_task-end.ensures.memory c.run_task-end.ensures.output c.run_task-end.ensures.end)
-    (sym (written_back c.run_task-end.new.memory c.loop-task.memory.items c.loop-task.memory.len same size)) put (sym c.due_after-due.ensures) (sym c.stopped_after-stopped.ensures)
+    (sym (written_back c.run_task-end.new.memory c.loop-task.memory.items c.loop-task.memory.len same size)) put (sym c.next-due.ensures) (sym c.stop-stopped.ensures)
 
 -- the last task was run, or the run stopped before it
-last : (c : goal.After-drop-code-2) → IsRun c.args.image.now c.args.k c.loop-task.tasks c.loop-task.memory.items c.loop-task.output.items c.loop-task.due c.loop-task.stopped
+last : (c : goal.After-of) → IsRun c.args.image.now c.args.k c.loop-task.tasks c.loop-task.memory.items c.loop-task.output.items c.loop-task.due c.loop-task.stopped
 last c = elim c.loop-task-test.branch [
   | else-loop-task-test w ↦
       let all : c.loop-task._task ≡ c.args.k = omega arith in
@@ -41,4 +41,4 @@ pub returns-clause-output : goal.returns-clause-output
 returns-clause-output c = puts_out_so c.args.image.now c.args.k c.loop-task.tasks c.loop-task.memory.items c.loop-task.output.items c.loop-task.due c.loop-task.stopped c.start.ensures.sound (last c)
 
 pub returns-clause-ending : goal.returns-clause-ending
-returns-clause-ending c = c.of-2.ensures ∙ ends_so c.args.image.now c.args.k c.loop-task.tasks c.loop-task.memory.items c.loop-task.output.items c.loop-task.due c.loop-task.stopped c.start.ensures.sound (last c)
+returns-clause-ending c = c.of.ensures ∙ ends_so c.args.image.now c.args.k c.loop-task.tasks c.loop-task.memory.items c.loop-task.output.items c.loop-task.due c.loop-task.stopped c.start.ensures.sound (last c)
