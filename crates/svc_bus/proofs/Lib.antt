@@ -13,7 +13,6 @@ pub mod Putting
 pub mod Requests
 pub mod Replacing
 pub mod Reading
-pub mod Listings
 pub mod Marking
 pub mod Storing
 pub mod Overtaking

@@ -1,7 +1,7 @@
 -- What the plan of a write says of a sound bus.
 use Rattle.std.proofs.Common.{◌≡◌, ◌∙◌, refl, sym, ap, ap₂, subst, ℕ, ◌+◌, ◌-◌, ◌<◌, Bool, false, Option, Some, List, length, map, get_or, option_map, unwrap_or, inl, inr, arith}
 use Rattle.std.specs.Prelude.{IfSome}
-use Rattle.svc_base.specs.declared.ids.UnitId.{UnitId}
+use Rattle.svc_vol.specs.declared.version.Version.{Version}
 use Rattle.svc_base.specs.declared.refusal.Refusal.TheVariants as refusal
 use Rattle.svc_line.specs.Bits.{Bits}
 use Rattle.svc_line.specs.Line.{SeenLine}
@@ -19,19 +19,19 @@ use Rattle.svc_bus_laws.proofs.SeenLaws.{map_seen}
 use Rattle.svc_vol.specs.Lines.{CountsOneOfEach, lines_in}
 use Rattle.svc_vol.specs.Versions.{AreCommitted, Versions, active_versions, seen_version}
 use Rattle.svc_vcl.specs.Described.{IsRequest, line_with}
-use Rattle.svc_vcl.specs.Planned.{becomes_stale, is_named}
+use Rattle.svc_vcl.specs.Planned.{becomes_stale, is_named, stale_in}
 use Rattle.svc_retire.specs.Purges.{HasRoomFor}
 use Rattle.svc_bus.specs.Value.{BusValue, IsSoundBus, table_of}
 use Rattle.svc_bus.specs.Observed.{observed}
 use Rattle.svc_bus.specs.Calls.{full_refusal}
 use Rattle.svc_bus.specs.Room.{full_in}
-use Rattle.svc_bus.specs.Marks.{AreListed}
+use Rattle.svc_bus.specs.Marks.{AreHeld}
 use Rattle.svc_bus.specs.Stores.{ChangeOnce}
 use Rattle.svc_bus.proofs.Agreeing.{own_agrees, place_is}
 use Rattle.svc_bus.proofs.Full.{full_shown}
 use Rattle.svc_bus.proofs.Rooms.{ways_few, places_few}
 use Rattle.svc_bus.proofs.Requests.{list_describes}
-use Rattle.svc_bus.proofs.Overtaking.{stale_listed, stale_once}
+use Rattle.svc_bus.proofs.Overtaking.{stale_held, stale_once}
 use Rattle.svc_bus.proofs.Writing.{IsPlanned, own_active}
 
 -- the look-ups after the version list's can be counted
@@ -109,12 +109,12 @@ module _ (b : BusValue) (sound : IsSoundBus b) (unit place word : ℕ) (within :
         ∙ ap₂ (λ (m : Versioned) (q : ℕ). victim_answer m q word) (map_seen (observed b) s agrees) (sym (place_is b s agrees place p sound.sound within here (is ∙ sym at)))
 
   -- the stale lines
-  module _ (stale : List UnitId) (clause : (s : BusState) (t : LineTable) (a other : ℕ) → IsRequest s t a list unit place → is_named stale other ≡ becomes_stale s place a other) where
+  module _ (stale : List Version) (clause : (s : BusState) (t : LineTable) (a other : ℕ) → IsRequest s t a list unit place → is_named stale other ≡ becomes_stale s place a other) where
     pub named_is : (u : ℕ) → is_named stale u ≡ becomes_stale (observed b) place word u
     named_is u = clause (observed b) (table_of b) word u request
 
-    pub shown_lines : (cs : List CacheValue) → cs ≡ b.caches → AreListed cs word list b.units stale
-    shown_lines cs same = subst (λ (xs : List CacheValue). AreListed xs word list b.units stale) (sym same) (stale_listed b sound place word stale named_is list has.committed has.active)
+    pub held_lines : (cs : List CacheValue) → cs ≡ b.caches → stale ≡ stale_in list unit place → AreHeld cs word stale
+    held_lines cs same is = subst (λ (xs : List CacheValue). AreHeld xs word stale) (sym same) (stale_held b sound place word stale named_is list unit has.committed has.active within is)
 
     pub once_each : (cs : List CacheValue) → cs ≡ b.caches → ChangeOnce cs unit word stale
     once_each cs same = subst (λ (xs : List CacheValue). ChangeOnce xs unit word stale) (sym same) (subst (λ u. ChangeOnce b.caches u word stale) at (stale_once b sound place word stale named_is))

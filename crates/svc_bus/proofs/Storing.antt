@@ -1,5 +1,5 @@
 -- A store: its searches are few, and what it makes of the lines is what a write makes of the line table.
-use Rattle.std.proofs.Common.{◌≡◌, ◌∙◌, refl, ap, ℕ, zero, suc, ◌+◌, ◌<◌, ◌≤◌, Bool, true, false, cond, not, ◌&&◌, ◌||◌, Option, Some, None, Result, List, length, arith, true≢false, OnOk, is_ok, Ok, Err, eq-eqb, ne_eqb}
+use Rattle.std.proofs.Common.{◌≡◌, ◌∙◌, refl, sym, ap, ℕ, zero, suc, ◌+◌, ◌<◌, ◌≤◌, Bool, true, false, cond, not, ◌&&◌, ◌||◌, Option, Some, None, Result, List, length, arith, true≢false, OnOk, is_ok, Ok, Err, eq-eqb, ne_eqb}
 use Rattle.std.specs.Bool.{◌==◌}
 use Rattle.std.proofs.lemmas.Bool.{false≢true}
 use Rattle.svc_base.specs.declared.ids.UnitId.{UnitId}
@@ -8,13 +8,16 @@ use Rattle.svc_cache.specs.Places.{CacheValue}
 use Rattle.svc_bus_laws.specs.Search.{how_many}
 use Rattle.svc_bus_laws.specs.LineTable.{Line, is_committed_dirty}
 use Rattle.svc_bus_laws.specs.Steps.{purged, with_line}
+use Rattle.svc_vol.specs.declared.version.Version.{Version}
+use Rattle.svc_vol.specs.Versions.{unit_at}
 use Rattle.svc_vcl.specs.Planned.{is_named}
 use Rattle.svc_retire.specs.Caches.{line_in, SameSizes}
 use Rattle.svc_retire.specs.Purges.{keeps, is_purged, purges, CountsSearches, HasRoomFor}
 use Rattle.svc_retire.proofs.Counts.{how_many_within, how_many_room}
 use Rattle.svc_bus.specs.Looking.{CountsUpTo}
-use Rattle.svc_bus.specs.Marks.{EndBelow}
+use Rattle.svc_bus.specs.Marks.{AreHeld, EndBelow}
 use Rattle.svc_bus.specs.Stores.{ChangeOnce}
+use Rattle.svc_bus.proofs.Marking.{as_many, named_at}
 
 -- what holds of an answer that is there
 pub on_ok : {T E : Type 0} (r : Result T E) (P : Type 0) → is_ok r ≡ true → OnOk r P → P
@@ -54,15 +57,17 @@ own_kept false true e = refl
 own_kept x false e = absurd (false≢true e)
 
 -- one line is put, some are purged and others marked: at most one in each cache
-pub changes_few : (caches : List CacheValue) (unit : UnitId) (word : ℕ) (stale : List UnitId) → unit.0 < length caches → ChangeOnce caches unit.0 word stale → (purges caches (Some unit) word + how_many (length caches) (is_named stale)) + 1 ≤ length caches
+pub changes_few : (caches : List CacheValue) (unit : UnitId) (word : ℕ) (stale : List Version) → unit.0 < length caches → ChangeOnce caches unit.0 word stale → (purges caches (Some unit) word + how_many (length caches) (is_named stale)) + 1 ≤ length caches
 changes_few caches unit word stale known once =
     both_few (length caches) (is_purged caches (Some unit) word) (is_named stale) unit.0 known
     (own_kept (is_committed_dirty (line_in caches unit.0 word)) (unit.0 == unit.0) (eq-eqb unit.0 unit.0 refl))
     once.others
     (λ u named. not_purged (is_committed_dirty (line_in caches u word)) (not (keeps (Some unit) u)) (once.apart u named))
 
-pub room_left : (before now : List CacheValue) (probes_before probes_now : Probes) (unit : UnitId) (word : ℕ) → SameSizes before now → CountsSearches probes_before probes_now (purges before (Some unit) word + 1) → HasRoomFor probes_before before (1 + (length before + length before)) → HasRoomFor probes_now now (length now)
-room_left before now probes_before probes_now unit word sizes counted room =
+pub room_left : (before now : List CacheValue) (probes_before probes_now : Probes) (unit : UnitId) (word : ℕ) (stale : List Version) → AreHeld before word stale → SameSizes before now → CountsSearches probes_before probes_now (purges before (Some unit) word + 1) → HasRoomFor probes_before before (1 + (length before + length before)) → HasRoomFor probes_now now (length stale)
+room_left before now probes_before probes_now unit word stale held sizes counted room =
+    let short = how_many_within (length before) (is_named stale) in
+    let all = as_many before word stale held in
     let few = how_many_within (length before) (is_purged before (Some unit) word) in
     let searches = counted.searches in
     let places = counted.places in
@@ -70,19 +75,38 @@ room_left before now probes_before probes_now unit word sizes counted room =
     let wide = room.places in
     let same = sizes.count in
     record {
-      searches = omega (arith, few, searches, many, same);
-      places = omega (arith, few, places, wide, same);
+      searches = omega (arith, few, searches, many, short, all);
+      places = omega (arith, few, places, wide, short, all);
       ways = λ u h. let e = sizes.ways u in let low = room.ways u (omega (arith, h, same)) in omega (arith, e, low);
     }
 
-pub searches_few : (before now : List CacheValue) (first second third : Probes) (unit : UnitId) (word : ℕ) (stale : List UnitId) → unit.0 < length before → ChangeOnce before unit.0 word stale → SameSizes before now
-    → CountsSearches first second (purges before (Some unit) word + 1) → CountsSearches second third (how_many (length now) (is_named stale)) → CountsUpTo first third (length before)
-searches_few before now first second third unit word stale known once sizes put marked =
+pub searches_few : (before now : List CacheValue) (first second third : Probes) (unit : UnitId) (word : ℕ) (stale : List Version) → unit.0 < length before → ChangeOnce before unit.0 word stale → AreHeld before word stale → SameSizes before now
+    → CountsSearches first second (purges before (Some unit) word + 1) → CountsSearches second third (length stale) → CountsUpTo first third (length before)
+searches_few before now first second third unit word stale known once held sizes put marked =
     let few = changes_few before unit word stale known once in
     let a = put.searches in
     let b = marked.searches in
-    let same : how_many (length now) (is_named stale) ≡ how_many (length before) (is_named stale) = ap (λ n. how_many n (is_named stale)) sizes.count in
-    record { kept = omega (arith, a, b); few = omega (arith, few, a, b, same) }
+    let all = as_many before word stale held in
+    record { kept = omega (arith, a, b); few = omega (arith, few, a, b, all) }
+
+-- ---- the lines that are to be marked stay
+
+pub held_after : (before now : List CacheValue) (unit word : ℕ) (line : Option Line) (stale : List Version) → ChangeOnce before unit word stale → SameSizes before now
+    → ((u a : ℕ) → line_in now u a ≡ with_line (line_in before) unit word line purged u a) → AreHeld before word stale → AreHeld now word stale
+held_after before now unit word line stale once sizes lines held = record {
+  each = λ k below.
+      let h = held.each k below in
+      let named = named_at stale k below in
+      record {
+        within = let low = h.within in let same = sizes.count in omega (arith, low, same);
+        held = lines (unit_at stale k) word ∙ stays k named ∙ h.held;
+        valid = h.valid;
+      };
+  apart = held.apart;
+}
+  where
+    stays : (k : ℕ) → is_named stale (unit_at stale k) ≡ true → with_line (line_in before) unit word line purged (unit_at stale k) word ≡ line_in before (unit_at stale k) word
+    stays k named = rw (eq-eqb word word refl, ne_eqb (unit_at stale k) unit (λ same. absurd (true≢false (sym named ∙ ap (is_named stale) same ∙ once.others)))) (ap (λ x. cond x None (line_in before (unit_at stale k) word)) (once.apart (unit_at stale k) named))
 
 -- ---- no line past the memory
 

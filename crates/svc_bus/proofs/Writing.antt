@@ -2,7 +2,7 @@
 use Rattle.std.proofs.Common.{◌≡◌, ◌≢◌, ◌∙◌, refl, sym, ap, ap₂, subst, ℕ, ◌+◌, ◌<◌, ◌≤◌, ◌^◌, Bool, true, false, cond, not, ◌&&◌, ◌||◌, ltb, Option, Some, None, List, length, get_or, take, inl, inr, arith, eq-eqb, ne_eqb, lt-ltb, le-ltb, ltb-true, ltb-false}
 use Rattle.std.specs.Bool.{◌==◌}
 use Rattle.std.proofs.lemmas.Bool.{cases_Bool, cases_eq}
-use Rattle.svc_base.specs.declared.ids.UnitId.{UnitId}
+use Rattle.svc_vol.specs.declared.version.Version.{Version}
 use Rattle.svc_line.specs.Line.{SeenLine}
 use Rattle.svc_bus_laws.specs.LineTable.{Line, LineTable, is_cut, unit_at}
 use Rattle.svc_bus_laws.specs.Steps.{marked, purged, store, survivors, with_at, write, written_line}
@@ -26,7 +26,7 @@ use Rattle.svc_bus.proofs.Agreeing.{same_table, own_agrees, write_agreed}
 use Rattle.svc_bus.proofs.Keeping.{KeepsSizes, kept_bus}
 
 -- what the plan of a write says
-pub record IsPlanned (b : BusValue) (place word value : ℕ) (line : SeenLine) (stale : List UnitId) (left : ℕ) : Type 0 where
+pub record IsPlanned (b : BusValue) (place word value : ℕ) (line : SeenLine) (stale : List Version) (left : ℕ) : Type 0 where
   pub left_is : left ≡ survivors (table_of b) place word
   pub named : (u : ℕ) → is_named stale u ≡ becomes_stale (observed b) place word u
   pub own : (bus_write (observed b) place word value).lines (get_or b.units place 0) word ≡ Some (line_with value line.bits)
@@ -34,7 +34,7 @@ pub record IsPlanned (b : BusValue) (place word value : ℕ) (line : SeenLine) (
   pub task_is : line.task ≡ b.commits + place
 
 -- what the body does
-pub record IsWritten (old new : BusValue) (place word : ℕ) (line : SeenLine) (stale : List UnitId) (left : ℕ) : Type 0 where
+pub record IsWritten (old new : BusValue) (place word : ℕ) (line : SeenLine) (stale : List Version) (left : ℕ) : Type 0 where
   pub lines : (u a : ℕ) → line_in new.caches u a ≡ left_line old.units left u (stored_line (line_in old.caches) (get_or old.units place 0) word (numbered (Some line)) stale u a)
   pub memory : (a : ℕ) → get_or new.backing a 0 ≡ with_at (λ x. get_or old.backing x 0) word (committed_in old.caches old.backing word) a
   pub versions : (a : ℕ) → get_or new.spill a None ≡ with_at (λ x. get_or old.spill x None) word (cond (place == 0) None (get_or old.spill word None)) a
@@ -66,7 +66,7 @@ purged_shown (Some l) = go (l.commit && l.store)
     go true = refl
     go false = refl
 
-module _ (b : BusValue) (sound : IsSoundBus b) (place word value : ℕ) (line : SeenLine) (stale : List UnitId) (left : ℕ) (within : place < length b.units) (known : word < length b.backing) (plan : IsPlanned b place word value line stale left) where
+module _ (b : BusValue) (sound : IsSoundBus b) (place word value : ℕ) (line : SeenLine) (stale : List Version) (left : ℕ) (within : place < length b.units) (known : word < length b.backing) (plan : IsPlanned b place word value line stale left) where
   abbrev t : LineTable
   t = table_of b
 

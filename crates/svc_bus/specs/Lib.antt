@@ -4,7 +4,6 @@ pub mod Calls
 pub mod Opened
 pub mod Room
 pub mod Carried
-pub mod Listed
 pub mod Marks
 pub mod Stores
 pub mod Looking

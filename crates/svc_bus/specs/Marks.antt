@@ -1,13 +1,13 @@
 -- T is set on the lines of a word that a store has overtaken.
 use Rattle.std.specs.Prelude.{◌≡◌, ℕ, ◌<◌, ◌≤◌, Bool, true, cond, Option, Some, None, List, length}
-use Rattle.svc_base.specs.declared.ids.UnitId.{UnitId}
-use Rattle.svc_line.specs.Line.{SeenLine}
+use Rattle.svc_line.specs.Bits.{bits_of}
+use Rattle.svc_line.specs.Line.{seen}
 use Rattle.svc_cache.specs.Places.{CacheValue}
 use Rattle.svc_bus_laws.specs.LineTable.{Line}
-use Rattle.svc_vol.specs.Versions.{Versions}
-use Rattle.svc_vcl.specs.Planned.{is_named}
+use Rattle.svc_vol.specs.declared.version.Version.{Version}
+use Rattle.svc_vol.specs.Versions.{version_at}
+use Rattle.svc_vcl.specs.Planned.{AreApart}
 use Rattle.svc_retire.specs.Caches.{line_in, numbered}
-use Rattle.svc_bus.specs.Listed.{IsLineOf}
 
 -- T is set on the line
 abbrev pub stale_line : Option Line → Option Line
@@ -22,13 +22,13 @@ stale_where flag line = cond flag (stale_line line) line
 pub record EndBelow (caches : List CacheValue) (bound : ℕ) : Type 0 where
   pub ends : (u a : ℕ) → bound ≤ a → line_in caches u a ≡ None
 
--- the unit's line of the word is the one that the versions have
-pub record IsListed (caches : List CacheValue) (word : ℕ) (list : Versions) (units : List ℕ) (unit : ℕ) : Type 0 where
-  pub line : SeenLine
-  pub valid : line.bits.valid ≡ true
-  pub is_line : IsLineOf list units unit line
-  pub held : line_in caches unit word ≡ numbered (Some line)
+-- the version is its unit's line of the word
+pub record IsHeld (caches : List CacheValue) (word : ℕ) (version : Version) : Type 0 where
+  pub within : version.unit.0 < length caches
+  pub held : line_in caches version.unit.0 word ≡ numbered (Some (seen version.line))
+  pub valid : (bits_of version.line.bits).valid ≡ true
 
--- so it is for each unit that is named
-pub record AreListed (caches : List CacheValue) (word : ℕ) (list : Versions) (units : List ℕ) (stale : List UnitId) : Type 0 where
-  pub each : (u : ℕ) → u < length caches → is_named stale u ≡ true → IsListed caches word list units u
+-- so is each of the versions, and no two of them are in one cache
+pub record AreHeld (caches : List CacheValue) (word : ℕ) (versions : List Version) : Type 0 where
+  pub each : (k : ℕ) → k < length versions → IsHeld caches word (version_at versions k)
+  pub apart : AreApart versions

@@ -8,7 +8,6 @@
 #![tactic(auto)]
 
 pub mod bus;
-mod listed;
 mod marks;
 mod read;
 mod reads;

@@ -86,13 +86,13 @@ impl Bus {
         ensures table { (t : LineTable) → (place : ℕ) → Agrees (observed self.old) t → place < length t.units → unit_at t place ≡ unit.0 → OnOk result (Agrees (observed self.new) (read t place word.0)) }
         ensures probes { IfOk result (λ r. LookUps r.1 (observed self.new).probes (observed self.old).caches) }
     {
-        let mut probes = Probes::new();
-        match self.own_line(unit, word, &mut probes) {
+        let mut look = Probes::new();
+        match self.own_line(unit, word, &mut look) {
             Some(line) if line.bits.is_active() => {
-                self.probes = probes.searches;
+                self.probes = look.searches;
                 Ok((line.value, Served::Hit))
             }
-            line => self.read_beside(unit, word, line, probes),
+            line => self.read_beside(unit, word, line, look),
         }
     }
 

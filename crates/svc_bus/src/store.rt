@@ -9,7 +9,7 @@ ghost use Rattle.svc_bus_laws.specs.Steps.{with_at};
 ghost use Rattle.svc_retire.specs.Caches.{line_in, numbered, SameSizes};
 ghost use Rattle.svc_retire.specs.Purges.{AreDistinct, committed_in, HasRoomFor};
 ghost use Rattle.svc_bus.specs.Looking.{CountsUpTo};
-ghost use Rattle.svc_bus.specs.Marks.{AreListed, EndBelow};
+ghost use Rattle.svc_bus.specs.Marks.{AreHeld, EndBelow};
 ghost use Rattle.svc_bus.specs.Room.{full_in};
 ghost use Rattle.svc_bus.specs.Stores.{left_line, stored_line, ChangeOnce};
 
@@ -20,7 +20,7 @@ use svc_cache::{Cache, Probes};
 use svc_line::Line;
 use svc_order::TaskQueue;
 use svc_retire::{Spill, squash_lines};
-use svc_vol::VersionList;
+use svc_vol::{Version, VersionList};
 
 /// What a store does to the lines of its word.
 #[derive(Clone, Copy)]
@@ -31,8 +31,8 @@ pub(crate) struct Store<'a> {
     pub word: WordAddr,
     /// The unit's line of the word after the store.
     pub line: Line,
-    /// The units whose lines of the word it overtakes.
-    pub stale: &'a [UnitId],
+    /// The lines of the word that it overtakes, and their units.
+    pub stale: &'a [Version],
     /// How many tasks it leaves.
     pub left: usize,
 }
@@ -54,8 +54,7 @@ pub(crate) fn store_line(
     requires few { length caches.old ≤ CAPACITY }
     requires units { (p : ℕ) → p < length queue.now → get_or queue.now p 0 < length caches.old }
     requires listed { AreCommitted (lines_in caches.old store.now.word.0) (length caches.old) list.now.committed }
-    requires places { length list.now.active ≡ length queue.now }
-    requires shown { AreListed caches.old store.now.word.0 list.now queue.now store.now.stale.now }
+    requires held { AreHeld caches.old store.now.word.0 store.now.stale.now }
     requires once { ChangeOnce caches.old store.now.unit.0 store.now.word.0 store.now.stale.now }
     requires distinct { AreDistinct caches.old store.now.word.0 }
     requires in_memory { store.now.word.0 < length backing.old }
@@ -80,7 +79,7 @@ pub(crate) fn store_line(
     } = *store;
     let put = put_line(caches, backing, list, unit, word, line, probes);
     put.map_err(|full| Refusal::SetFull(full.0))?;
-    mark_stale(caches, queue, list, stale, word, probes);
+    mark_stale(caches, stale, word, probes);
     squash_lines(caches, queue, left);
     Ok(())
 }

@@ -3,4 +3,5 @@ pub mod Entries
 pub mod Newest
 pub mod ReadPlans
 pub mod WritePlans
+pub mod Staling
 pub mod Describing

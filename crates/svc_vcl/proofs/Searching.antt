@@ -1,10 +1,8 @@
 -- One more step of each search.
-use Rattle.std.proofs.Common.{◌≡◌, ◌∙◌, refl, sym, ap, subst, ℕ, suc, ◌+◌, ◌-◌, ◌<◌, ◌≤◌, Bool, true, false, ◌||◌, ◌==◌, Some, None, List, [], ◌∷◌, ◌++◌, arith}
-use Rattle.svc_base.specs.declared.ids.UnitId.{UnitId}
+use Rattle.std.proofs.Common.{◌≡◌, ◌∙◌, refl, sym, ap, subst, ℕ, suc, ◌+◌, ◌-◌, ◌<◌, ◌≤◌, Bool, true, false, ◌||◌, ◌==◌, Some, None, arith}
 use Rattle.svc_bus_laws.specs.Search.{least, greatest, any_below}
 use Rattle.svc_bus_laws.specs.Walk.{walk}
 use Rattle.svc_bus_laws.proofs.Searches.{least_found, least_none}
-use Rattle.svc_vcl.specs.Planned.{is_named}
 
 -- of the greatest number below the next bound
 pub greatest_here : (n : ℕ) (test : ℕ → Bool) → test n ≡ true → greatest (n + 1) test ≡ Some n
@@ -53,16 +51,3 @@ module _ (exposes stores : ℕ → Bool) (v n : ℕ) (below : v < n) where
 -- nothing is left to walk at the end
 pub walk_ends : (exposes stores : ℕ → Bool) (v n : ℕ) → n - v ≡ 0 → walk exposes stores v (n - v) ≡ None
 walk_ends exposes stores v n none = subst (λ m. walk exposes stores v m ≡ None) (sym none) refl
-
--- one more unit is named
-pub named-push : (units : List UnitId) (new : UnitId) (unit : ℕ) → is_named (units ++ new ∷ []) unit ≡ (is_named units unit || (new.0 == unit))
-named-push [] new unit = right_false (new.0 == unit)
-  where
-    right_false : (x : Bool) → (x || false) ≡ x
-    right_false true = refl
-    right_false false = refl
-named-push (first ∷ units) new unit = ap (λ x. (first.0 == unit) || x) (named-push units new unit) ∙ sym (regroup (first.0 == unit) (is_named units unit) (new.0 == unit))
-  where
-    regroup : (x y z : Bool) → ((x || y) || z) ≡ (x || (y || z))
-    regroup true y z = refl
-    regroup false y z = refl

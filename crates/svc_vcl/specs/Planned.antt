@@ -1,7 +1,6 @@
 -- What plans say: the supplier of a read, and the lines that a write makes stale.
-use Rattle.std.specs.Prelude.{ℕ, Bool, false, not, ◌&&◌, ◌||◌, ◌==◌, Option, Some, None, List, get_or}
-use Rattle.std.specs.List.{list_any}
-use Rattle.svc_base.specs.declared.ids.UnitId.{UnitId}
+use Rattle.std.specs.Prelude.{◌≢◌, ℕ, ◌<◌, length, Bool, false, cond, not, ◌&&◌, ◌||◌, ◌==◌, Option, Some, None, List, ◌++◌, get_or, take}
+use Rattle.std.specs.List.{filter_map, list_any}
 use Rattle.svc_base.specs.declared.served.Served.{Served}
 use Rattle.svc_base.specs.declared.served.Served.TheVariants.{Hit, Reuse, Version as FromVersion, Spill, Committed, Memory}
 use Rattle.svc_line.specs.Bits.{Bits, bits_of, is_dirty, no_bits}
@@ -11,7 +10,7 @@ use Rattle.svc_bus_laws.specs.BusLine.{BusLine, purged_line}
 use Rattle.svc_bus_laws.specs.BusState.{BusState}
 use Rattle.svc_bus_laws.specs.BusSteps.{is_below}
 use Rattle.svc_vol.specs.declared.version.Version.{Version}
-use Rattle.svc_vol.specs.Versions.{version_at, unit_at}
+use Rattle.svc_vol.specs.Versions.{Versions, version_at, unit_at}
 use Rattle.svc_vcl.specs.Listed.{entry_at}
 
 -- the supplier by its unit's number
@@ -23,9 +22,13 @@ supplier_of Spill = bus.Spill
 supplier_of (Committed unit) = bus.Committed unit.0
 supplier_of Memory = bus.Memory
 
--- the unit is in the list
-abbrev pub is_named : List UnitId → (unit : ℕ) → Bool
-is_named units unit = list_any (λ (named : UnitId). named.0 == unit) units
+-- one of the lines is in the unit's cache
+abbrev pub is_named : List Version → (unit : ℕ) → Bool
+is_named versions unit = list_any (λ (version : Version). version.unit.0 == unit) versions
+
+-- no two of the lines are in one cache
+pub record AreApart (versions : List Version) : Type 0 where
+  pub apart : (i j : ℕ) → i < j → j < length versions → unit_at versions i ≢ unit_at versions j
 
 -- T is set anew on a line that a purge has left: a committed one, or one of a task below the writer's
 abbrev pub is_marked_anew : (below : Bool) → Option BusLine → Bool
@@ -49,6 +52,27 @@ own_bits (Some version) = bits_of version.line.bits
 -- the version is a clean line without T
 abbrev pub is_fresh_copy : Version → Bool
 is_fresh_copy version = not (is_dirty (bits_of version.line.bits)) && not (bits_of version.line.bits).stale
+
+-- the version, where it is a clean line without T in another unit than the writer's
+abbrev pub fresh_beside : (writer : ℕ) → Version → Option Version
+fresh_beside writer version = cond (not (version.unit.0 == writer) && is_fresh_copy version) (Some version) None
+
+-- the entry's line, where T is clear
+abbrev pub unmarked_entry : Option Version → Option Version
+unmarked_entry None = None
+unmarked_entry (Some version) = cond (bits_of version.line.bits).stale None (Some version)
+
+-- the committed copies that a write makes stale
+abbrev pub copies_in : List Version → (writer : ℕ) → List Version
+copies_in committed writer = filter_map (fresh_beside writer) committed
+
+-- the lines of earlier tasks that it makes stale
+abbrev pub passed_in : List (Option Version) → List Version
+passed_in earlier = filter_map unmarked_entry earlier
+
+-- the lines that a write by the unit of the task at a place makes stale
+abbrev pub stale_in : Versions → (writer place : ℕ) → List Version
+stale_in list writer place = copies_in list.committed writer ++ passed_in (take place list.active)
 
 -- some of the first so many committed versions is a clean line without T in this unit, which is not the writer's
 abbrev pub is_copy_of : List Version → (count writer unit : ℕ) → Bool

@@ -167,7 +167,7 @@ fn a_write_passes_over_no_later_version(rt: HostRuntime) -> Result<(), Fail> {
     let plan = plan_write(&list, UnitId(1), 1);
     assert_eq!(rt; plan.victim, None);
     assert_eq!(rt; plan.bits, bits(19));
-    assert_eq!(rt; plan.stale.first().copied(), Some(UnitId(0)));
+    assert_eq!(rt; plan.stale.first().copied(), list.active()[0]);
     assert_eq!(rt; plan.stale.len(), 1);
     Ok(())
 }

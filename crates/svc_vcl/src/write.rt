@@ -1,4 +1,4 @@
-ghost use Rattle.std.specs.Prelude.{◌≡◌, ◌≢◌, ◌<◌, ◌≤◌, ◌+◌, ℕ, Bool, ◌||◌, Option, Some, true, length};
+ghost use Rattle.std.specs.Prelude.{◌≡◌, ◌≢◌, ◌<◌, ◌≤◌, ◌+◌, ◌++◌, ℕ, Bool, Option, Some, true, length};
 ghost use Rattle.svc_line.specs.Bits.{bits_of};
 ghost use Rattle.svc_bus_laws.specs.LineTable.{LineTable};
 ghost use Rattle.svc_bus_laws.specs.Versioned.{survivors, victim};
@@ -7,7 +7,7 @@ ghost use Rattle.svc_bus_laws.specs.BusState.{BusState};
 ghost use Rattle.svc_bus_laws.specs.BusSteps.{bus_write, line_after_cut};
 ghost use Rattle.svc_bus_laws.specs.BusView.{bus_map};
 ghost use Rattle.svc_vcl.specs.Described.{IsRequest, line_with};
-ghost use Rattle.svc_vcl.specs.Planned.{becomes_stale, is_copy_of, is_fresh_copy, is_named, is_passed_in, marked_where, own_bits};
+ghost use Rattle.svc_vcl.specs.Planned.{becomes_stale, copies_in, is_fresh_copy, is_named, marked_where, own_bits, passed_in, stale_in, unmarked_entry};
 
 use crate::search::{is_overtaken, victim};
 use arrayvec::ArrayVec;
@@ -26,8 +26,8 @@ pub struct WritePlan {
     pub victim: Option<usize>,
     /// The bits of the unit's line after the write.
     pub bits: LineBits,
-    /// The units on whose lines T is set.
-    pub stale: ArrayVec<UnitId, STALE_CAPACITY>,
+    /// The lines on which T is set, as they were before, and their units.
+    pub stale: ArrayVec<Version, STALE_CAPACITY>,
 }
 
 // T is set.
@@ -56,35 +56,37 @@ fn is_fresh_copy(version: &Version) -> bool
     !version.line.bits.is_dirty() && !is_stale(version.line.bits)
 }
 
-// Names the units of the committed copies that become stale.
-fn name_copies(stale: &mut ArrayVec<UnitId, STALE_CAPACITY>, committed: &[Version], writer: UnitId)
+// Lists the committed copies that become stale.
+fn list_copies(stale: &mut ArrayVec<Version, STALE_CAPACITY>, committed: &[Version], writer: UnitId)
     requires room { length stale.old.items + length committed.now ≤ STALE_CAPACITY }
     ensures size { length stale.new.items ≤ length stale.old.items + length committed.now }
-    ensures named { (unit : ℕ) → is_named stale.new.items unit ≡ (is_named stale.old.items unit || is_copy_of committed.now (length committed.now) writer.0 unit) }
+    ensures listed { stale.new.items ≡ stale.old.items ++ copies_in committed.now writer.0 }
 {
-    for place in 0..committed.len() {
-        let version = &committed[place];
+    for version in committed {
         if version.unit.0 != writer.0 && is_fresh_copy(version) {
-            stale.push(version.unit);
+            stale.push(*version);
         }
     }
 }
 
-// Names the units of the earlier tasks whose lines become stale.
-fn name_earlier(
-    stale: &mut ArrayVec<UnitId, STALE_CAPACITY>,
-    active: &[Option<Version>],
-    place: usize,
-)
-    requires within { place ≤ length active.now }
-    requires room { length stale.old.items + place ≤ STALE_CAPACITY }
-    ensures named { (unit : ℕ) → is_named stale.new.items unit ≡ (is_named stale.old.items unit || is_passed_in active.now place unit) }
+// The entry's line, where T is clear.
+fn unmarked(entry: &Option<Version>) -> Option<Version>
+    ensures { result ≡ unmarked_entry entry.now }
 {
-    for earlier in 0..place {
-        if let Some(version) = &active[earlier]
-            && !is_stale(version.line.bits)
-        {
-            stale.push(version.unit);
+    match entry {
+        Some(version) if !is_stale(version.line.bits) => Some(*version),
+        _ => None,
+    }
+}
+
+// Lists the lines of earlier tasks that become stale.
+fn list_earlier(stale: &mut ArrayVec<Version, STALE_CAPACITY>, earlier: &[Option<Version>])
+    requires room { length stale.old.items + length earlier.now ≤ STALE_CAPACITY }
+    ensures listed { stale.new.items ≡ stale.old.items ++ passed_in earlier.now }
+{
+    for entry in earlier {
+        if let Some(version) = unmarked(entry) {
+            stale.push(version);
         }
     }
 }
@@ -97,6 +99,7 @@ pub fn plan_write(list: &VersionList, unit: UnitId, place: usize) -> WritePlan
     ensures victim { (b : BusState) (t : LineTable) (a : ℕ) → IsRequest b t a list.now unit.0 place → result.victim ≡ victim (bus_map b) place a }
     ensures line { (b : BusState) (t : LineTable) (a value : ℕ) → IsRequest b t a list.now unit.0 place → (bus_write b place a value).lines unit.0 a ≡ Some (line_with value (bits_of result.bits)) }
     ensures valid { (bits_of result.bits).valid ≡ true }
+    ensures listed { result.stale.items ≡ stale_in list.now unit.0 place }
     // what the write makes of another unit's line
     ensures others { (b : BusState) (t : LineTable) (a value other : ℕ) → IsRequest b t a list.now unit.0 place → other ≢ unit.0 → (bus_write b place a value).lines other a ≡ marked_where (is_named result.stale.items other) (purged_line (line_after_cut b (survivors (bus_map b) place a) other a)) }
     ensures stale { (b : BusState) (t : LineTable) (a other : ℕ) → IsRequest b t a list.now unit.0 place → is_named result.stale.items other ≡ becomes_stale b place a other }
@@ -106,8 +109,8 @@ pub fn plan_write(list: &VersionList, unit: UnitId, place: usize) -> WritePlan
     let overtaken = is_overtaken(active, victim.unwrap_or(active.len()), place);
     let bits = own_bits(&active[place]).on_store(overtaken);
     let mut stale = ArrayVec::new();
-    name_copies(&mut stale, list.committed(), unit);
-    name_earlier(&mut stale, active, place);
+    list_copies(&mut stale, list.committed(), unit);
+    list_earlier(&mut stale, &active[..place]);
     WritePlan {
         victim,
         bits,

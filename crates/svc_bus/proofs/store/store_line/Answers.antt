@@ -1,8 +1,13 @@
 use Rattle.std.proofs.Common.{◌≡◌, ◌∙◌, sym, ap, true, is_ok, length, Some}
 use Rattle.svc_line.specs.Line.{seen}
 use Rattle.svc_retire.specs.Caches.{numbered}
-use Rattle.svc_bus.proofs.Storing.{on_ok, room_left, searches_few, put_ends}
+use Rattle.svc_bus.proofs.Storing.{on_ok, held_after, room_left, searches_few, put_ends}
 use Rattle.svc_bus.proofs.store.store_line.Goals as goal
+
+pub mark_stale-requires-clause-held : goal.mark_stale-requires-clause-held
+mark_stale-requires-clause-held c =
+    let ok : is_ok c.put_line-put.result ≡ true = sym c.map_err.ensures.variant ∙ ap is_ok c.in_ok-map_err.was in
+    held_after c.args.caches.now c.put_line-put.new.caches c.args.store.now.unit.0 c.args.store.now.word.0 (numbered (Some (seen c.args.store.now.line))) c.args.store.now.stale.now c.requires.once c.put_line-put.ensures.sizes (on_ok c.put_line-put.result _ ok c.put_line-put.ensures.lines) c.requires.held
 
 pub mark_stale-requires-clause-ends : goal.mark_stale-requires-clause-ends
 mark_stale-requires-clause-ends c =
@@ -12,9 +17,9 @@ mark_stale-requires-clause-ends c =
 pub mark_stale-requires-clause-room : goal.mark_stale-requires-clause-room
 mark_stale-requires-clause-room c =
     let ok : is_ok c.put_line-put.result ≡ true = sym c.map_err.ensures.variant ∙ ap is_ok c.in_ok-map_err.was in
-    room_left c.args.caches.now c.put_line-put.new.caches c.args.probes.now c.put_line-put.new.probes c.args.store.now.unit c.args.store.now.word.0 c.put_line-put.ensures.sizes (on_ok c.put_line-put.result _ ok c.put_line-put.ensures.counted) c.requires.room
+    room_left c.args.caches.now c.put_line-put.new.caches c.args.probes.now c.put_line-put.new.probes c.args.store.now.unit c.args.store.now.word.0 c.args.store.now.stale.now c.requires.held c.put_line-put.ensures.sizes (on_ok c.put_line-put.result _ ok c.put_line-put.ensures.counted) c.requires.room
 
 pub returns-clause-searches : goal.returns-clause-searches
 returns-clause-searches c =
     let ok : is_ok c.put_line-put.result ≡ true = sym c.map_err.ensures.variant ∙ ap is_ok c.in_ok-map_err.was in
-    searches_few c.args.caches.now c.put_line-put.new.caches c.args.probes.now c.put_line-put.new.probes c.mark_stale.new.probes c.args.store.now.unit c.args.store.now.word.0 c.args.store.now.stale.now c.requires.known c.requires.once c.put_line-put.ensures.sizes (on_ok c.put_line-put.result _ ok c.put_line-put.ensures.counted) c.mark_stale.ensures.counted
+    searches_few c.args.caches.now c.put_line-put.new.caches c.args.probes.now c.put_line-put.new.probes c.mark_stale.new.probes c.args.store.now.unit c.args.store.now.word.0 c.args.store.now.stale.now c.requires.known c.requires.once c.requires.held c.put_line-put.ensures.sizes (on_ok c.put_line-put.result _ ok c.put_line-put.ensures.counted) c.mark_stale.ensures.counted

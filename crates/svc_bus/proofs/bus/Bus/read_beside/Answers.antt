@@ -103,8 +103,9 @@ returns-in-Err-clause-refused c =
 abbrev before : goal.After-self-3-1 → BusValue
 before c = let inside = c.self.inside in record { caches = inside.caches.items; spill = inside.spill; backing = inside.backing.items; units = inside.queue; commits = inside.commits; probes = inside.probes }
 
-abbrev after : goal.After-self-3-1 → BusValue
-after c = record (before c) { caches = c.carry_out.new.caches; backing = c.carry_out.new.backing; probes = c.carry_out.new.probes.searches }
+-- whatever it tells of look-ups
+abbrev after : goal.After-self-3-1 → ℕ → BusValue
+after c told = record (before c) { caches = c.carry_out.new.caches; backing = c.carry_out.new.backing; probes = told }
 
 seen : (c : goal.After-self-3-1) → c.args.word.0 < length (before c).backing → IsLookedUp (before c) c.beside-list.result c.place_of-place.result c.args.word.0 c.args.unit.0 c.index-backing.result.now c.get.result
 seen c known = record {
@@ -121,8 +122,8 @@ seen_plan c known =
     planned_read (before c) c.beside-list.result c.place_of-place.result c.args.word.0 c.args.unit.0 c.index-backing.result.now c.get.result c.plan_read-plan.result.served c.plan_read-plan.result.value (bits_of c.plan_read-plan.result.bits)
     c.self.invariant (seen c known) c.plan_read-plan.ensures.served c.plan_read-plan.ensures.line
 
-sizes_are : (c : goal.After-self-3-1) → KeepsSizes (before c) (after c)
-sizes_are c = record {
+sizes_are : (c : goal.After-self-3-1) (told : ℕ) → KeepsSizes (before c) (after c told)
+sizes_are c told = record {
   caches = subst (λ (xs : List CacheValue). SameSizes xs c.carry_out.new.caches) c.deref_mut.ensures.value c.in_default.ensures.sizes;
   spill = refl;
   backing = c.carry_out.auto.backing ∙ ap (λ (xs : List ℕ). length xs) c.deref_mut-2.ensures.value;
@@ -132,12 +133,12 @@ sizes_are c = record {
 abbrev line_after : goal.After-self-3-1 → Option Line
 line_after c = numbered (Some (record { value = c.plan_read-plan.result.value; bits = bits_of c.plan_read-plan.result.bits; task = (before c).commits + c.place_of-place.result }))
 
-lines_are : (c : goal.After-self-3-1) (u a : ℕ) → line_in (after c).caches u a ≡ lines_after c.plan_read-plan.result.served (line_in (before c).caches) (get_or (before c).units c.place_of-place.result 0) c.args.word.0 (line_after c) u a
+lines_are : (c : goal.After-self-3-1) (u a : ℕ) → line_in c.carry_out.new.caches u a ≡ lines_after c.plan_read-plan.result.served (line_in (before c).caches) (get_or (before c).units c.place_of-place.result 0) c.args.word.0 (line_after c) u a
 lines_are c u a =
     c.in_default.ensures.lines u a
     ∙ ap₂ (λ (xs : List CacheValue) (unit : ℕ). lines_after c.plan_read-plan.result.served (line_in xs) unit c.args.word.0 (line_after c) u a) c.deref_mut.ensures.value (sym c.place_of-place.ensures.at_work)
 
-memory_is : (c : goal.After-self-3-1) (a : ℕ) → get_or (after c).backing a 0 ≡ memory_after c.plan_read-plan.result.served (λ x. get_or (before c).backing x 0) c.args.word.0 (committed_in (before c).caches (before c).backing c.args.word.0) a
+memory_is : (c : goal.After-self-3-1) (a : ℕ) → get_or c.carry_out.new.backing a 0 ≡ memory_after c.plan_read-plan.result.served (λ x. get_or (before c).backing x 0) c.args.word.0 (committed_in (before c).caches (before c).backing c.args.word.0) a
 memory_is c a =
     c.in_default.ensures.memory a
     ∙ ap₂ (λ (xs : List CacheValue) (ws : List ℕ). memory_after c.plan_read-plan.result.served (λ x. get_or ws x 0) c.args.word.0 (committed_in xs ws c.args.word.0) a) c.deref_mut.ensures.value c.deref_mut-2.ensures.value
@@ -147,10 +148,10 @@ unfolding observed
 invariant_of-self-2 c =
     let inside = c.self.inside in
     let known : c.args.word.0 < length (before c).backing = rw (← c.self.view_is) at c.requires.in_memory in
-    let count : length c.carry_out.new.caches ≡ inside.caches.len = (sizes_are c).caches.count ∙ sym inside.caches.ok.0 in
-    let words : length c.carry_out.new.backing ≡ inside.backing.len = (sizes_are c).backing ∙ sym inside.backing.ok.0 in
+    let count : length c.carry_out.new.caches ≡ inside.caches.len = (sizes_are c 0).caches.count ∙ sym inside.caches.ok.0 in
+    let words : length c.carry_out.new.backing ≡ inside.backing.len = (sizes_are c 0).backing ∙ sym inside.backing.ok.0 in
     rw (with_items_is inside.caches c.carry_out.new.caches count, with_items_is inside.backing c.carry_out.new.backing words)
-    (read_bus (before c) c.self.invariant c.place_of-place.result c.args.word.0 c.plan_read-plan.result.served c.plan_read-plan.result.value (bits_of c.plan_read-plan.result.bits) (seen_plan c known) (after c) (sizes_are c) refl refl refl (lines_are c) (memory_is c))
+    (read_bus (before c) c.self.invariant c.place_of-place.result c.args.word.0 c.plan_read-plan.result.served c.plan_read-plan.result.value (bits_of c.plan_read-plan.result.bits) (seen_plan c known) (after c _) (sizes_are c _) refl refl refl (lines_are c) (memory_is c))
 
 pub returns-clause-refused : goal.returns-clause-refused
 unfolding observed
@@ -186,10 +187,10 @@ unfolding observed
 returns-clause-table c =
     let inside = c.self.inside in
     let known : c.args.word.0 < length (before c).backing = rw (← c.self.view_is) at c.requires.in_memory in
-    let count : length c.carry_out.new.caches ≡ inside.caches.len = (sizes_are c).caches.count ∙ sym inside.caches.ok.0 in
-    let words : length c.carry_out.new.backing ≡ inside.backing.len = (sizes_are c).backing ∙ sym inside.backing.ok.0 in
+    let count : length c.carry_out.new.caches ≡ inside.caches.len = (sizes_are c 0).caches.count ∙ sym inside.caches.ok.0 in
+    let words : length c.carry_out.new.backing ≡ inside.backing.len = (sizes_are c 0).backing ∙ sym inside.backing.ok.0 in
     rw (with_items_is inside.caches c.carry_out.new.caches count, with_items_is inside.backing c.carry_out.new.backing words, ← c.self.view_is) (λ t place agrees within at.
-    read_kept (before c) c.self.invariant c.place_of-place.result c.args.word.0 c.plan_read-plan.result.served c.plan_read-plan.result.value (bits_of c.plan_read-plan.result.bits) (seen_plan c known) (after c) (sizes_are c) refl refl refl (lines_are c) (memory_is c)
+    read_kept (before c) c.self.invariant c.place_of-place.result c.args.word.0 c.plan_read-plan.result.served c.plan_read-plan.result.value (bits_of c.plan_read-plan.result.bits) (seen_plan c known) (after c _) (sizes_are c _) refl refl refl (lines_are c) (memory_is c)
     t place agrees within (at ∙ sym c.place_of-place.ensures.at_work))
 
 pub returns-clause-probes : goal.returns-clause-probes

@@ -1,6 +1,6 @@
 use Rattle.std.proofs.Common.{rules, ◌≡◌, ◌∙◌, ◌<◌, ◌+◌, refl, sym, ap, ap₂, subst, ℕ, Some, List, length, get_or, option_map, arith}
 use Rattle.std.proofs.lemmas.List.{with_items_is}
-use Rattle.svc_base.specs.declared.ids.UnitId.{UnitId}
+use Rattle.svc_vol.specs.declared.version.Version.{Version}
 use Rattle.svc_base.specs.declared.refusal.Refusal.TheVariants as refusal
 use Rattle.svc_line.specs.Bits.{bits_of}
 use Rattle.svc_line.specs.Line.{SeenLine}
@@ -16,17 +16,17 @@ use Rattle.svc_bus.specs.Looking.{CountsUpTo}
 use Rattle.svc_bus.specs.Stores.{left_line, stored_line}
 use Rattle.svc_bus.proofs.Keeping.{KeepsSizes}
 use Rattle.svc_bus.proofs.Rooms.{room_for_each}
-use Rattle.svc_bus.proofs.Planning.{HasList, listed, room_to_store, refusal_is, unit_known, chosen_within, left_is, chosen_shown, shown_lines, once_each, planned, line_active}
+use Rattle.svc_bus.proofs.Planning.{HasList, listed, room_to_store, refusal_is, unit_known, chosen_within, left_is, chosen_shown, held_lines, once_each, planned, line_active}
 use Rattle.svc_bus.proofs.Writing.{IsPlanned, IsWritten, written_bus, written_agreed}
 use Rattle.svc_bus.proofs.bus.Bus.write.Goals as goal
 
 pub of-list-requires-clause-room : goal.of-list-requires-clause-room
 of-list-requires-clause-room c = room_for_each _ c.self.invariant c.new-probes.result c.deref.result.now c.new-probes.ensures.searches c.new-probes.ensures.places c.deref.ensures.value
 
-pub store_line-requires-clause-shown : goal.store_line-requires-clause-shown
-store_line-requires-clause-shown c =
+pub store_line-requires-clause-held : goal.store_line-requires-clause-held
+store_line-requires-clause-held c =
     let list = listed _ c.self.invariant c.args.word.0 c.of-list.result c.deref.result.now c.deref.ensures.value c.of-list.ensures.committed c.of-list.ensures.active in
-    rw c.deref-2.ensures.0 (shown_lines _ c.self.invariant c.args.unit.0 c.place_of-place.result c.args.word.0 c.place_of-place.ensures.within c.place_of-place.ensures.at_work c.of-list.result list c.plan_write-plan.result.stale.items c.plan_write-plan.ensures.stale c.deref_mut.result.now c.deref_mut.ensures.value)
+    rw c.deref-2.ensures.0 (held_lines _ c.self.invariant c.args.unit.0 c.place_of-place.result c.args.word.0 c.place_of-place.ensures.within c.place_of-place.ensures.at_work c.of-list.result list c.plan_write-plan.result.stale.items c.plan_write-plan.ensures.stale c.deref_mut.result.now c.deref_mut.ensures.value c.plan_write-plan.ensures.listed)
 
 pub store_line-requires-clause-once : goal.store_line-requires-clause-once
 store_line-requires-clause-once c =
@@ -62,13 +62,14 @@ victim_of-requires-clause-within c =
 abbrev before : goal.After-victim_of → BusValue
 before c = let inside = c.self.inside in record { caches = inside.caches.items; spill = inside.spill; backing = inside.backing.items; units = inside.queue; commits = inside.commits; probes = inside.probes }
 
-abbrev after : goal.After-victim_of → BusValue
-after c = record (before c) { caches = c.store_line.new.caches; spill = c.empty_spill.new.spill; backing = c.store_line.new.backing; units = c.cut_from.new.self; probes = c.store_line.new.probes.searches }
+-- whatever it tells of look-ups
+abbrev after : goal.After-victim_of → ℕ → BusValue
+after c told = record (before c) { caches = c.store_line.new.caches; spill = c.empty_spill.new.spill; backing = c.store_line.new.backing; units = c.cut_from.new.self; probes = told }
 
 abbrev line : goal.After-victim_of → SeenLine
 line c = record { value = c.args.value; bits = bits_of c.plan_write-plan.result.bits; task = c.self.inside.commits + c.place_of-place.result }
 
-abbrev stale : goal.After-victim_of → List UnitId
+abbrev stale : goal.After-victim_of → List Version
 stale c = c.plan_write-plan.result.stale.items
 
 plan_of : (c : goal.After-victim_of) → IsPlanned (before c) c.place_of-place.result c.args.word.0 c.args.value (line c) (stale c) c.unwrap_or-left.result
@@ -79,25 +80,25 @@ plan_of c =
     (left_is (before c) c.self.invariant c.args.unit.0 c.place_of-place.result c.args.word.0 c.place_of-place.ensures.within c.place_of-place.ensures.at_work c.of-list.result list c.plan_write-plan.result.victim c.len-tasks.result c.len-tasks.ensures.count c.plan_write-plan.ensures.victim c.unwrap_or-left.result c.unwrap_or-left.ensures)
     c.plan_write-plan.ensures.line
 
-sizes_are : (c : goal.After-victim_of) → KeepsSizes (before c) (after c)
-sizes_are c = record {
+sizes_are : (c : goal.After-victim_of) (told : ℕ) → KeepsSizes (before c) (after c told)
+sizes_are c told = record {
   caches = subst (λ (xs : List CacheValue). SameSizes xs c.store_line.new.caches) c.deref_mut.ensures.value c.store_line.ensures.sizes;
   spill = c.empty_spill.ensures.size;
   backing = c.store_line.auto.backing ∙ ap (λ (xs : List ℕ). length xs) c.deref_mut-2.ensures.value;
 }
 
-written : (c : goal.After-victim_of) → IsWritten (before c) (after c) c.place_of-place.result c.args.word.0 (line c) (stale c) c.unwrap_or-left.result
-written c =
+written : (c : goal.After-victim_of) (told : ℕ) → IsWritten (before c) (after c told) c.place_of-place.result c.args.word.0 (line c) (stale c) c.unwrap_or-left.result
+written c told =
     let caches : c.deref_mut.result.now ≡ (before c).caches = c.deref_mut.ensures.value in
     let memory : c.deref_mut-2.result.now ≡ (before c).backing = c.deref_mut-2.ensures.value in
     record {
       lines = λ u a.
           c.in_ok-store_line.ensures.lines u a
-          ∙ ap₂ (λ (xs : List CacheValue) (us : List UnitId). left_line (before c).units c.unwrap_or-left.result u (stored_line (line_in xs) c.args.unit.0 c.args.word.0 (numbered (Some (line c))) us u a)) caches c.deref-2.ensures.0
+          ∙ ap₂ (λ (xs : List CacheValue) (us : List Version). left_line (before c).units c.unwrap_or-left.result u (stored_line (line_in xs) c.args.unit.0 c.args.word.0 (numbered (Some (line c))) us u a)) caches c.deref-2.ensures.0
           ∙ ap (λ unit. left_line (before c).units c.unwrap_or-left.result u (stored_line (line_in (before c).caches) unit c.args.word.0 (numbered (Some (line c))) (stale c) u a)) (sym c.place_of-place.ensures.at_work);
       memory = λ a. c.in_ok-store_line.ensures.memory a ∙ ap₂ (λ (xs : List ℕ) (ys : List CacheValue). with_at (λ x. get_or xs x 0) c.args.word.0 (committed_in ys xs c.args.word.0) a) memory caches;
       versions = c.empty_spill.ensures.versions;
-      sizes = sizes_are c;
+      sizes = sizes_are c told;
       commits = refl;
       units = c.cut_from.ensures;
     }
@@ -107,10 +108,10 @@ unfolding observed
 invariant_of-self-2 c =
     let inside = c.self.inside in
     let known : c.args.word.0 < length inside.backing.items = rw (← c.self.view_is) at c.requires.in_memory in
-    let count : length c.store_line.new.caches ≡ inside.caches.len = (sizes_are c).caches.count ∙ sym inside.caches.ok.0 in
-    let words : length c.store_line.new.backing ≡ inside.backing.len = (sizes_are c).backing ∙ sym inside.backing.ok.0 in
+    let count : length c.store_line.new.caches ≡ inside.caches.len = (sizes_are c 0).caches.count ∙ sym inside.caches.ok.0 in
+    let words : length c.store_line.new.backing ≡ inside.backing.len = (sizes_are c 0).backing ∙ sym inside.backing.ok.0 in
     rw (with_items_is inside.caches c.store_line.new.caches count, with_items_is inside.backing c.store_line.new.backing words)
-    (written_bus (before c) c.self.invariant c.place_of-place.result c.args.word.0 c.args.value (line c) (stale c) c.unwrap_or-left.result c.place_of-place.ensures.within known (plan_of c) (after c) (written c))
+    (written_bus (before c) c.self.invariant c.place_of-place.result c.args.word.0 c.args.value (line c) (stale c) c.unwrap_or-left.result c.place_of-place.ensures.within known (plan_of c) (after c _) (written c _))
 
 pub returns-clause-refused : goal.returns-clause-refused
 unfolding observed
@@ -130,10 +131,10 @@ unfolding observed
 returns-clause-table c =
     let inside = c.self.inside in
     let known : c.args.word.0 < length inside.backing.items = rw (← c.self.view_is) at c.requires.in_memory in
-    let count : length c.store_line.new.caches ≡ inside.caches.len = (sizes_are c).caches.count ∙ sym inside.caches.ok.0 in
-    let words : length c.store_line.new.backing ≡ inside.backing.len = (sizes_are c).backing ∙ sym inside.backing.ok.0 in
+    let count : length c.store_line.new.caches ≡ inside.caches.len = (sizes_are c 0).caches.count ∙ sym inside.caches.ok.0 in
+    let words : length c.store_line.new.backing ≡ inside.backing.len = (sizes_are c 0).backing ∙ sym inside.backing.ok.0 in
     rw (with_items_is inside.caches c.store_line.new.caches count, with_items_is inside.backing c.store_line.new.backing words, ← c.self.view_is)
-    (λ s p agrees here is. written_agreed (before c) c.self.invariant c.place_of-place.result c.args.word.0 c.args.value (line c) (stale c) c.unwrap_or-left.result c.place_of-place.ensures.within known (plan_of c) (after c) (written c) s p agrees here (is ∙ sym c.place_of-place.ensures.at_work))
+    (λ s p agrees here is. written_agreed (before c) c.self.invariant c.place_of-place.result c.args.word.0 c.args.value (line c) (stale c) c.unwrap_or-left.result c.place_of-place.ensures.within known (plan_of c) (after c _) (written c _) s p agrees here (is ∙ sym c.place_of-place.ensures.at_work))
 
 pub returns-clause-probes : goal.returns-clause-probes
 unfolding observed
