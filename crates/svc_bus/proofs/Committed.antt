@@ -8,9 +8,10 @@ use Rattle.svc_bus_laws.proofs.SeenLaws.{committed_seen}
 use Rattle.svc_vol.specs.declared.version.Version.{Version}
 use Rattle.svc_vol.specs.Lines.{lines_in}
 use Rattle.svc_vol.specs.Versions.{AreCommitted}
-use Rattle.svc_retire.specs.Caches.{line_in}
-use Rattle.svc_retire.specs.Purges.{AreDistinct, IsNewest, committed_in}
+use Rattle.svc_retire.specs.Purges.{IsNewest}
 use Rattle.svc_retire.proofs.Newest.{newest_value}
+use Rattle.svc_bus.proofs.Numbering.{committed_numbers, ranked_numbers}
+use Rattle.svc_bus.specs.Numbers.{line_in, AreDistinct, committed_in}
 use Rattle.svc_bus.specs.Value.{BusValue, table_of}
 use Rattle.svc_bus.specs.Observed.{observed}
 use Rattle.svc_bus.proofs.Agreeing.{own_agrees}
@@ -30,7 +31,8 @@ are_distinct b word sound = record { distinct = λ u v first second same. go u v
 pub committed_found : (b : BusValue) (word : ℕ) (versions : List Version) (last : Option ℕ) → IsSound (table_of b) → AreCommitted (lines_in b.caches word) (length b.caches) versions → IsNewest versions (length versions) last
     → (t : LineTable) → Agrees (observed b) t → unwrap_or last (get_or b.backing word 0) ≡ committed_value t word
 committed_found b word versions last sound list is t agrees =
-    sym (newest_value b.caches b.backing word versions last list (are_distinct b word sound) is)
+    sym (newest_value b.caches b.backing word versions last list (ranked_numbers b.caches b.backing word (are_distinct b word sound)) is)
+    ∙ committed_numbers b.caches b.backing word
     ∙ own
     ∙ sym (committed_seen (observed b) (table_of b) word (own_agrees b sound))
     ∙ committed_seen (observed b) t word agrees

@@ -9,7 +9,8 @@ use Rattle.svc_bus_laws.specs.Steps.{settled, commit}
 use Rattle.svc_bus_laws.specs.Sound.{IsSound}
 use Rattle.svc_bus_laws.specs.BusState.{Agrees}
 use Rattle.svc_bus_laws.proofs.CommitLaws.{commit_sound}
-use Rattle.svc_retire.specs.Caches.{numbered, no_cache, cache_at, line_in, SameSizes}
+use Rattle.svc_retire.specs.Caches.{no_cache, cache_at, SameSizes}
+use Rattle.svc_bus.specs.Numbers.{numbered, line_in}
 use Rattle.svc_bus.specs.Value.{BusValue, IsSoundBus, table_of}
 use Rattle.svc_bus.specs.Observed.{observed}
 use Rattle.svc_bus.proofs.Agreeing.{same_table, commit_agreed}

@@ -7,9 +7,10 @@ use Rattle.svc_base.specs.declared.served.Served.TheVariants.{Hit, Reuse, Versio
 use Rattle.svc_cache.specs.declared.probes.Probes.{Probes}
 use Rattle.svc_cache.specs.Places.{CacheValue}
 use Rattle.svc_bus_laws.specs.LineTable.{is_committed_dirty}
-use Rattle.svc_retire.specs.Caches.{line_in, SameSizes}
-use Rattle.svc_retire.specs.Purges.{is_purged, purges, HasRoomFor, CountsSearches}
+use Rattle.svc_retire.specs.Caches.{SameSizes}
+use Rattle.svc_retire.specs.Purges.{HasRoomFor, CountsSearches}
 use Rattle.svc_retire.proofs.Counts.{how_many_within, how_many_room}
+use Rattle.svc_bus.specs.Numbers.{line_in, is_purged, purges}
 use Rattle.svc_bus.specs.Carried.{is_hit}
 use Rattle.svc_bus.specs.Looking.{CountsUpTo, LookUps}
 

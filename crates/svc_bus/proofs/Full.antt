@@ -12,8 +12,9 @@ use Rattle.svc_bus_laws.specs.BusLine.{is_committed_line}
 use Rattle.svc_bus_laws.specs.BusState.{unnumbered}
 use Rattle.svc_bus_laws.specs.Refusals.{CacheState, bus_cache, is_in_set, is_committed_in_set, set_full}
 use Rattle.svc_bus_laws.proofs.OpenedLaws.{in_memory}
-use Rattle.svc_retire.specs.Caches.{numbered, cache_at, line_in}
+use Rattle.svc_retire.specs.Caches.{cache_at}
 use Rattle.svc_retire.proofs.Settling.{HasV, line_valid}
+use Rattle.svc_bus.specs.Numbers.{numbered, line_in}
 use Rattle.svc_bus.specs.Value.{BusValue, IsSoundBus, table_of}
 use Rattle.svc_bus.specs.Observed.{observed}
 

@@ -10,7 +10,7 @@ use Rattle.svc_line.specs.declared.line.Line.{Line}
 use Rattle.svc_cache.specs.Places.{CacheValue, line_of}
 use Rattle.svc_vol.specs.Lines.{lines_in}
 use Rattle.svc_vcl.specs.Described.{bus_line_of, line_with}
-use Rattle.svc_retire.specs.Caches.{cache_at, line_in, numbered}
+use Rattle.svc_retire.specs.Caches.{cache_at}
 use Rattle.svc_retire.proofs.Dropping.{lines_are}
 use Rattle.svc_retire.proofs.Settling.{HasV, line_valid}
 use Rattle.svc_bus_laws.specs.Versioned.{view}
@@ -24,6 +24,7 @@ use Rattle.svc_bus_laws.specs.BusView.{bus_line_at, bus_supplied, bus_supplier, 
 use Rattle.svc_bus_laws.proofs.Searches.{some_is}
 use Rattle.svc_bus_laws.proofs.SeenLaws.{active_line_is, supplier_seen, view_seen}
 use Rattle.svc_bus_laws.proofs.SoundSeen.{same_agrees, supplied_seen}
+use Rattle.svc_bus.specs.Numbers.{line_in, numbered}
 use Rattle.svc_bus.proofs.Requests.{shown_is}
 use Rattle.svc_bus.specs.Value.{BusValue, IsSoundBus, table_of}
 use Rattle.svc_bus.specs.Carried.{is_hit}

@@ -1,3 +1,4 @@
+pub mod Numbering
 pub mod Agreeing
 pub mod Full
 pub mod Rooms

@@ -1,5 +1,5 @@
 -- T is set on one version after another.
-use Rattle.std.proofs.Common.{◌≡◌, ◌≢◌, ◌∙◌, refl, sym, ap, ℕ, zero, suc, ◌+◌, ◌<◌, ◌≤◌, Bool, true, false, cond, ◌&&◌, ◌||◌, Option, Some, None, List, [], length, take, arith, ne_eqb}
+use Rattle.std.proofs.Common.{◌≡◌, ◌≢◌, ◌∙◌, refl, sym, ap, ℕ, zero, suc, ◌+◌, ◌<◌, ◌≤◌, Bool, true, false, ◌&&◌, ◌||◌, Option, Some, None, List, length, take, arith, ne_eqb}
 use Rattle.std.specs.Bool.{◌==◌}
 use Rattle.std.proofs.lemmas.List.{take_all}
 use Rattle.std.proofs.lemmas.List.Folds.{list_any_at, list_any_more}
@@ -11,9 +11,10 @@ use Rattle.svc_bus_laws.specs.LineTable.{Line}
 use Rattle.svc_vol.specs.declared.version.Version.{Version}
 use Rattle.svc_vol.specs.Versions.{no_version, unit_at, version_at}
 use Rattle.svc_vcl.specs.Planned.{is_named}
-use Rattle.svc_retire.specs.Caches.{line_in, SameSizes}
+use Rattle.svc_retire.specs.Caches.{SameSizes}
 use Rattle.svc_retire.specs.Purges.{CountsSearches, HasRoomFor}
 use Rattle.svc_retire.proofs.Counts.{how_many_more, how_many_none}
+use Rattle.svc_bus.specs.Numbers.{line_in}
 use Rattle.svc_bus.specs.Marks.{stale_where, AreHeld, EndBelow, IsHeld}
 
 -- ---- the units of the versions so far

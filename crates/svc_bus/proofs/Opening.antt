@@ -10,7 +10,8 @@ use Rattle.svc_bus_laws.specs.LineTable.{opened}
 use Rattle.svc_bus_laws.specs.Sound.{IsSound}
 use Rattle.svc_bus_laws.specs.BusState.{Agrees}
 use Rattle.svc_bus_laws.proofs.OpenedLaws.{opened_sound}
-use Rattle.svc_retire.specs.Caches.{numbered, no_cache, cache_at}
+use Rattle.svc_retire.specs.Caches.{no_cache, cache_at}
+use Rattle.svc_bus.specs.Numbers.{numbered}
 use Rattle.svc_bus.specs.Value.{BusValue, IsSoundBus, table_of}
 use Rattle.svc_bus.specs.Observed.{observed}
 use Rattle.svc_bus.specs.Opened.{AreEmpty}

@@ -16,9 +16,10 @@ use Rattle.svc_vol.specs.Versions.{AreCommitted, SeenVersion, Versions, active_v
 use Rattle.svc_vcl.specs.Listed.{entry_at}
 use Rattle.svc_vcl.specs.Planned.{becomes_stale, copies_in, fresh_beside, is_fresh_copy, is_marked_anew, is_named, passed_in, stale_in, unmarked_entry}
 use Rattle.svc_vcl.proofs.Staling.{kept_apart, kept_from}
-use Rattle.svc_retire.specs.Caches.{cache_at, line_in, numbered}
+use Rattle.svc_retire.specs.Caches.{cache_at}
 use Rattle.svc_retire.proofs.Dropping.{lines_are}
 use Rattle.svc_retire.proofs.Settling.{HasV, line_valid}
+use Rattle.svc_bus.specs.Numbers.{line_in, numbered}
 use Rattle.svc_bus.specs.Value.{BusValue, IsSoundBus}
 use Rattle.svc_bus.specs.Observed.{observed}
 use Rattle.svc_bus.specs.Marks.{AreHeld}

@@ -1,8 +1,9 @@
 -- One unit's line of a word is put, and the word is purged in the other caches: in either order.
-use Rattle.std.proofs.Common.{◌≡◌, ◌≢◌, ◌∙◌, refl, sym, ap, ap₂, subst, ℕ, ◌+◌, ◌<◌, ◌≤◌, Bool, true, false, cond, not, ◌&&◌, Option, Some, None, List, length, inl, inr, arith, eq-eqb, true≢false, Ok, Err, OnErr, MatchResult}
+use Rattle.std.proofs.Common.{◌≡◌, ◌≢◌, ◌∙◌, refl, sym, ap, ap₂, subst, ℕ, ◌+◌, ◌<◌, ◌≤◌, Bool, true, false, cond, not, ◌&&◌, ◌||◌, suc, Option, Some, None, List, [], ◌∷◌, length, inl, inr, arith, eq-eqb, true≢false, Ok, Err, OnErr, MatchResult}
 use Rattle.std.specs.Prelude.{Result}
 use Rattle.std.specs.Bool.{◌==◌}
-use Rattle.std.proofs.lemmas.Bool.{cases_Bool, cases_eq}
+use Rattle.std.proofs.lemmas.Bool.{cases_Bool, cases_eq, eqb-true}
+use Rattle.std.proofs.lemmas.List.Folds.{list_any_at}
 use Rattle.svc_base.specs.declared.ids.UnitId.{UnitId}
 use Rattle.svc_line.specs.Line.{SeenLine, seen}
 use Rattle.svc_cache.specs.declared.probes.Probes.{Probes}
@@ -16,12 +17,14 @@ use Rattle.svc_bus_laws.specs.Steps.{with_line}
 use Rattle.svc_bus_laws.proofs.Tables.{SameCommitted, same_line, both_clean, committed_same}
 use Rattle.svc_vol.specs.declared.version.Version.{Version}
 use Rattle.svc_vol.specs.Lines.{lines_in, is_older_of}
-use Rattle.svc_vol.specs.Versions.{AreCommitted, unit_at, version_at}
-use Rattle.svc_retire.specs.Caches.{cache_at, line_in, numbered, SameSizes}
-use Rattle.svc_retire.specs.Purges.{keeps, line_after_purge, is_purged, purges, table_in, committed_in, CountsSearches}
+use Rattle.svc_vol.specs.Versions.{AreCommitted, no_version, unit_at, version_at}
+use Rattle.svc_vcl.specs.Planned.{is_named}
+use Rattle.svc_retire.specs.Caches.{cache_at, SameSizes}
+use Rattle.svc_retire.specs.Purges.{keeps, CountsSearches}
 use Rattle.svc_retire.proofs.Counts.{how_many_same}
 use Rattle.svc_retire.proofs.Dropping.{lines_are}
 use Rattle.svc_retire.proofs.Settling.{HasV, line_valid}
+use Rattle.svc_bus.specs.Numbers.{line_in, numbered, line_after_purge, is_purged, purges, table_in, committed_in}
 
 -- a version of the unit is listed, or none is
 abbrev pub HasOwn : List Version → ℕ → Type 0
@@ -29,6 +32,18 @@ HasOwn versions unit = (k : ℕ) × (k < length versions) × (unit_at versions k
 
 abbrev pub LacksOwn : List Version → ℕ → Type 0
 LacksOwn versions unit = (k : ℕ) → k < length versions → unit_at versions k ≢ unit
+
+pub has_own : (versions : List Version) (unit : ℕ) → is_named versions unit ≡ true → HasOwn versions unit
+has_own [] unit named = absurd (true≢false (sym named))
+has_own (version ∷ versions) unit named = elim (cases_Bool (version.unit.0 == unit)) [
+  | inl here ↦ (0, omega arith, eqb-true version.unit.0 unit here)
+  | inr other ↦
+      let rest = has_own versions unit (sym (ap (λ x. x || is_named versions unit) other) ∙ named) in
+      (suc rest.0, omega (arith, rest.1), rest.2)
+]
+
+pub lacks_own : (versions : List Version) (unit : ℕ) → is_named versions unit ≡ false → LacksOwn versions unit
+lacks_own versions unit none k within same = true≢false (sym (list_any_at (λ (version : Version). version.unit.0 == unit) versions k no_version within (eq-eqb (unit_at versions k) unit same)) ∙ none)
 
 -- ---- a line over the unit's own committed one
 

@@ -25,8 +25,8 @@ use Rattle.svc_bus_laws.proofs.AgreeReads.{read_agrees}
 use Rattle.svc_vol.specs.Versions.{Versions}
 use Rattle.svc_vcl.specs.Described.{Describes, IsReadRequest, line_with}
 use Rattle.svc_vcl.specs.Planned.{supplier_of}
-use Rattle.svc_retire.specs.Caches.{cache_at, line_in, numbered}
-use Rattle.svc_retire.specs.Purges.{committed_in}
+use Rattle.svc_retire.specs.Caches.{cache_at}
+use Rattle.svc_bus.specs.Numbers.{line_in, numbered, committed_in}
 use Rattle.svc_bus.specs.Value.{BusValue, IsSoundBus, table_of}
 use Rattle.svc_bus.specs.Observed.{observed}
 use Rattle.svc_bus.specs.Room.{full_in}

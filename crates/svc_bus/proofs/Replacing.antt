@@ -10,8 +10,7 @@ use Rattle.svc_bus_laws.specs.BusState.{Agrees, unnumbered}
 use Rattle.svc_bus_laws.specs.Refusals.{table_cache, is_head, is_pinned}
 use Rattle.svc_bus_laws.proofs.ReplaceLaws.{replace_sound}
 use Rattle.svc_bus_laws.proofs.RefusalProofs.{same_pinned, unpinned_head}
-use Rattle.svc_retire.specs.Caches.{line_in, numbered}
-use Rattle.svc_retire.specs.Purges.{committed_in}
+use Rattle.svc_bus.specs.Numbers.{line_in, numbered, committed_in}
 use Rattle.svc_bus.specs.Value.{BusValue, IsSoundBus, table_of}
 use Rattle.svc_bus.specs.Observed.{observed}
 use Rattle.svc_bus.proofs.Agreeing.{same_table, own_agrees, replace_agreed}

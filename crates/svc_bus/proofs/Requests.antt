@@ -11,10 +11,11 @@ use Rattle.svc_vol.specs.Lines.{HasRoomForEach, CountsOneOfEach, is_older_of, is
 use Rattle.svc_vol.specs.Versions.{AreCommitted, Versions, active_versions, seen_version}
 use Rattle.svc_vcl.specs.Described.{Describes, bus_line_of}
 use Rattle.svc_vcl.proofs.Describing.{described}
-use Rattle.svc_retire.specs.Caches.{cache_at, line_in, numbered}
+use Rattle.svc_retire.specs.Caches.{cache_at}
 use Rattle.svc_retire.specs.Purges.{HasRoomFor}
 use Rattle.svc_retire.proofs.Dropping.{lines_are}
 use Rattle.svc_retire.proofs.Settling.{HasV, line_valid}
+use Rattle.svc_bus.specs.Numbers.{line_in, numbered}
 use Rattle.svc_bus.specs.Value.{BusValue, IsSoundBus, table_of}
 use Rattle.svc_bus.specs.Observed.{observed}
 use Rattle.svc_bus.proofs.Places.{few_numbers}

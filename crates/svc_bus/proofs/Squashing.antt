@@ -7,7 +7,8 @@ use Rattle.svc_bus_laws.specs.Sound.{IsSound}
 use Rattle.svc_bus_laws.specs.BusState.{Agrees}
 use Rattle.svc_bus_laws.specs.Refusals.{is_head}
 use Rattle.svc_bus_laws.proofs.SquashLaws.{squash_law}
-use Rattle.svc_retire.specs.Caches.{line_in, SameSizes}
+use Rattle.svc_retire.specs.Caches.{SameSizes}
+use Rattle.svc_bus.specs.Numbers.{line_in}
 use Rattle.svc_bus.specs.Value.{BusValue, IsSoundBus, table_of}
 use Rattle.svc_bus.specs.Observed.{observed}
 use Rattle.svc_bus.proofs.Agreeing.{same_table, squash_agreed}

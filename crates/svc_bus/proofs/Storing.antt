@@ -11,9 +11,10 @@ use Rattle.svc_bus_laws.specs.Steps.{purged, with_line}
 use Rattle.svc_vol.specs.declared.version.Version.{Version}
 use Rattle.svc_vol.specs.Versions.{unit_at}
 use Rattle.svc_vcl.specs.Planned.{is_named}
-use Rattle.svc_retire.specs.Caches.{line_in, SameSizes}
-use Rattle.svc_retire.specs.Purges.{keeps, is_purged, purges, CountsSearches, HasRoomFor}
+use Rattle.svc_retire.specs.Caches.{SameSizes}
+use Rattle.svc_retire.specs.Purges.{keeps, CountsSearches, HasRoomFor}
 use Rattle.svc_retire.proofs.Counts.{how_many_within, how_many_room}
+use Rattle.svc_bus.specs.Numbers.{line_in, is_purged, purges}
 use Rattle.svc_bus.specs.Looking.{CountsUpTo}
 use Rattle.svc_bus.specs.Marks.{AreHeld, EndBelow}
 use Rattle.svc_bus.specs.Stores.{ChangeOnce}

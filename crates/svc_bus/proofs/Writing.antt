@@ -16,8 +16,7 @@ use Rattle.svc_bus_laws.proofs.WriteLaws.{write_law}
 use Rattle.svc_bus_laws.proofs.AgreeWrites.{write_agrees}
 use Rattle.svc_vcl.specs.Described.{line_with}
 use Rattle.svc_vcl.specs.Planned.{becomes_stale, is_marked_anew, is_named}
-use Rattle.svc_retire.specs.Caches.{line_in, numbered}
-use Rattle.svc_retire.specs.Purges.{committed_in}
+use Rattle.svc_bus.specs.Numbers.{line_in, numbered, committed_in}
 use Rattle.svc_bus.specs.Value.{BusValue, IsSoundBus, table_of}
 use Rattle.svc_bus.specs.Observed.{observed}
 use Rattle.svc_bus.specs.Marks.{stale_where}

@@ -1,3 +1,4 @@
+pub mod Numbers
 pub mod Value
 pub mod Observed
 pub mod Calls

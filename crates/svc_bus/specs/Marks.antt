@@ -7,7 +7,7 @@ use Rattle.svc_bus_laws.specs.LineTable.{Line}
 use Rattle.svc_vol.specs.declared.version.Version.{Version}
 use Rattle.svc_vol.specs.Versions.{version_at}
 use Rattle.svc_vcl.specs.Planned.{AreApart}
-use Rattle.svc_retire.specs.Caches.{line_in, numbered}
+use Rattle.svc_bus.specs.Numbers.{line_in, numbered}
 
 -- T is set on the line
 abbrev pub stale_line : Option Line → Option Line

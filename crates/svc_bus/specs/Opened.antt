@@ -1,7 +1,8 @@
 -- The caches of an opened bus.
 use Rattle.std.specs.Prelude.{◌≡◌, ℕ, ◌<◌, None, List, length}
 use Rattle.svc_cache.specs.Places.{CacheValue}
-use Rattle.svc_retire.specs.Caches.{cache_at, line_in}
+use Rattle.svc_retire.specs.Caches.{cache_at}
+use Rattle.svc_bus.specs.Numbers.{line_in}
 
 -- caches of one size, without lines
 pub record AreEmpty (caches : List CacheValue) (sets ways : ℕ) : Type 0 where

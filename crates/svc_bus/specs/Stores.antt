@@ -5,7 +5,7 @@ use Rattle.svc_bus_laws.specs.LineTable.{Line, is_active, is_cut, is_committed_d
 use Rattle.svc_bus_laws.specs.Steps.{purged, with_line}
 use Rattle.svc_vol.specs.declared.version.Version.{Version}
 use Rattle.svc_vcl.specs.Planned.{is_named}
-use Rattle.svc_retire.specs.Caches.{line_in}
+use Rattle.svc_bus.specs.Numbers.{line_in}
 use Rattle.svc_bus.specs.Marks.{stale_where}
 
 -- the unit's line of the word is the stored one, the word's other lines are purged, and T is set on those of the named units

@@ -5,7 +5,8 @@ use Rattle.svc_vol.specs.declared.list.TheConstants.{CAPACITY}
 use Rattle.svc_cache.specs.Places.{CacheValue}
 use Rattle.svc_bus_laws.specs.LineTable.{LineTable}
 use Rattle.svc_bus_laws.specs.Sound.{IsSound}
-use Rattle.svc_retire.specs.Caches.{cache_at, line_in}
+use Rattle.svc_retire.specs.Caches.{cache_at}
+use Rattle.svc_bus.specs.Numbers.{line_in}
 
 -- the units' caches, the spilled value and the backing word of each word, the units of the active tasks, oldest first, how many tasks were committed, and the look-ups of the last accepted read or write: callers look into none of it
 pub record BusValue : Type 0 where

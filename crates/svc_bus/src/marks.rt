@@ -5,8 +5,9 @@ ghost use Rattle.svc_cache.specs.Lines.{EndsBelow};
 ghost use Rattle.svc_cache.specs.Places.{line_of};
 ghost use Rattle.svc_cache.specs.Probes.{CountsOneSearch, HasRoom};
 ghost use Rattle.svc_vcl.specs.Planned.{is_named};
-ghost use Rattle.svc_retire.specs.Caches.{line_in, numbered, SameSizes};
+ghost use Rattle.svc_retire.specs.Caches.{SameSizes};
 ghost use Rattle.svc_retire.specs.Purges.{CountsSearches, HasRoomFor};
+ghost use Rattle.svc_bus.specs.Numbers.{line_in, numbered};
 ghost use Rattle.svc_bus.specs.Marks.{stale_where, AreHeld, EndBelow, IsHeld};
 
 use svc_base::WordAddr;

@@ -5,8 +5,8 @@ ghost use Rattle.svc_line.specs.Line.{seen};
 ghost use Rattle.svc_bus_laws.specs.LineTable.{LineTable, version_in};
 ghost use Rattle.svc_bus_laws.specs.Refusals.{is_head};
 ghost use Rattle.svc_bus_laws.specs.Steps.{replace, with_at};
-ghost use Rattle.svc_retire.specs.Caches.{numbered};
 ghost use Rattle.svc_bus_laws.specs.BusState.{Agrees};
+ghost use Rattle.svc_bus.specs.Numbers.{numbered};
 ghost use Rattle.svc_bus.specs.Observed.{observed};
 ghost use Rattle.svc_bus.specs.Calls.{replace_refusal};
 

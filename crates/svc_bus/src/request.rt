@@ -1,14 +1,16 @@
-ghost use Rattle.std.specs.Prelude.{◌≡◌, ◌≢◌, ℕ, ◌+◌, ◌*◌, ◌<◌, ◌≤◌, Bool, true, false, Option, Some, None, length, get_or, OnOk, OnErr, MatchResult, MatchBool};
+ghost use Rattle.std.specs.Prelude.{◌≡◌, ◌≢◌, ℕ, ◌+◌, ◌*◌, ◌<◌, ◌≤◌, ◌==◌, cond, Bool, true, false, Option, Some, None, length, get_or, OnOk, OnErr, MatchResult};
 ghost use Rattle.svc_line.specs.Bits.{bits_of, is_committed};
 ghost use Rattle.svc_line.specs.Line.{seen};
 ghost use Rattle.svc_cache.specs.Places.{line_of};
 ghost use Rattle.svc_cache.specs.Lines.{EndsBelow};
 ghost use Rattle.svc_vol.specs.Lines.{lines_in};
-ghost use Rattle.svc_vol.specs.Versions.{AreCommitted, unit_at};
+ghost use Rattle.svc_vol.specs.Versions.{AreCommitted};
+ghost use Rattle.svc_vcl.specs.Planned.{is_named};
 ghost use Rattle.svc_bus_laws.specs.Refusals.{is_head};
 ghost use Rattle.svc_bus_laws.specs.Steps.{purged, with_at, with_line};
-ghost use Rattle.svc_retire.specs.Caches.{cache_at, line_in, numbered, SameSizes};
-ghost use Rattle.svc_retire.specs.Purges.{AreDistinct, committed_in, CountsSearches, HasRoomFor, purges};
+ghost use Rattle.svc_retire.specs.Caches.{cache_at, SameSizes};
+ghost use Rattle.svc_retire.specs.Purges.{CountsSearches, HasRoomFor};
+ghost use Rattle.svc_bus.specs.Numbers.{line_in, numbered, AreDistinct, committed_in, line_after_purge, purges};
 ghost use Rattle.svc_bus.specs.Room.{full_in};
 
 use svc_base::{UnitId, WordAddr};
@@ -74,14 +76,30 @@ fn drop_in(caches: &mut [Cache], unit: UnitId, word: WordAddr, probes: &mut Prob
 
 // One of the lines is the unit's.
 fn has_line_of(versions: &[Version], unit: UnitId) -> bool
-    ensures { MatchBool result ((k : ℕ) × (k < length versions.now) × (unit_at versions.now k ≡ unit.0)) ((k : ℕ) → k < length versions.now → unit_at versions.now k ≢ unit.0) }
+    ensures { result ≡ is_named versions.now unit.0 }
 {
-    for version in versions {
-        if version.unit.0 == unit.0 {
-            return true;
-        }
-    }
-    false
+    versions.iter().any(|version| version.unit.0 == unit.0)
+}
+
+// The word is purged in all caches but the unit's.
+fn purge_others(
+    caches: &mut [Cache],
+    backing: &mut [u32],
+    list: &VersionList,
+    unit: UnitId,
+    word: WordAddr,
+    probes: &mut Probes,
+)
+    requires listed { AreCommitted (lines_in caches.old word.0) (length caches.old) list.now.committed }
+    requires distinct { AreDistinct caches.old word.0 }
+    requires in_memory { word.0 < length backing.old }
+    requires room { HasRoomFor probes.old caches.old (length caches.old) }
+    ensures lines { (u a : ℕ) → line_in caches.new u a ≡ line_after_purge (Some unit) word.0 u a (line_in caches.old u a) }
+    ensures memory { (a : ℕ) → get_or backing.new a 0 ≡ cond (a == word.0) (committed_in caches.old backing.old word.0) (get_or backing.old a 0) }
+    ensures sizes { SameSizes caches.old caches.new }
+    ensures counted { CountsSearches probes.old probes.new (purges caches.old (Some unit) word.0) }
+{
+    purge(caches, backing, list, word, Some(unit), probes);
 }
 
 /// A bus request of the unit for the word: its line of the word becomes this one, and the word is purged in the other
@@ -115,11 +133,11 @@ pub(crate) fn put_line(
 {
     if has_line_of(list.committed(), unit) {
         // The line goes over the unit's committed one, so it finds room.
-        purge(caches, backing, list, word, Some(unit), probes);
+        purge_others(caches, backing, list, unit, word, probes);
         return fill_in(caches, unit, word, line, probes);
     }
     fill_in(caches, unit, word, line, probes)?;
-    purge(caches, backing, list, word, Some(unit), probes);
+    purge_others(caches, backing, list, unit, word, probes);
     Ok(())
 }
 
@@ -141,6 +159,6 @@ pub(crate) fn take_line(
     ensures memory { (a : ℕ) → get_or backing.new a 0 ≡ with_at (λ x. get_or backing.old x 0) word.0 (committed_in caches.old backing.old word.0) a }
     ensures sizes { SameSizes caches.old caches.new }
 {
-    purge(caches, backing, list, word, Some(unit), probes);
+    purge_others(caches, backing, list, unit, word, probes);
     drop_in(caches, unit, word, probes);
 }

@@ -9,14 +9,12 @@ use Rattle.svc_cache.specs.declared.probes.Probes.{Probes}
 use Rattle.svc_cache.specs.Lines.{is_committed_line}
 use Rattle.svc_cache.specs.Places.{CacheValue, line_of, found}
 use Rattle.svc_bus_laws.specs.Search.{any_below, how_many}
-use Rattle.svc_bus_laws.specs.LineTable.{Line, is_committed_dirty}
-use Rattle.svc_bus_laws.specs.Steps.{purged}
 use Rattle.svc_bus_laws.proofs.Searches.{any_none, any_found}
 use Rattle.svc_vol.specs.declared.version.Version.{Version}
-use Rattle.svc_vol.specs.Lines.{lines_in}
+use Rattle.svc_vol.specs.Lines.{is_committed_version, lines_in}
 use Rattle.svc_vol.specs.Versions.{version_at, unit_at, AreCommitted}
-use Rattle.svc_retire.specs.Caches.{no_cache, cache_at, line_in, numbered, SameSizes}
-use Rattle.svc_retire.specs.Purges.{keeps, line_after_purge, is_purged, purges, is_dirty_version, drops, CountsSearches}
+use Rattle.svc_retire.specs.Caches.{no_cache, cache_at, held_line, SameSizes}
+use Rattle.svc_retire.specs.Purges.{keeps, purged_line, line_after_purge, is_purged, purges, is_dirty_version, drops, CountsSearches}
 use Rattle.svc_retire.proofs.Bools.{or_true, or_false, and_false}
 use Rattle.svc_retire.proofs.Counts.{how_many_same, how_many_room, how_many_more, how_many_none}
 use Rattle.svc_retire.proofs.Settling.{HasV, line_valid}
@@ -27,7 +25,7 @@ is_taken versions keep count u = any_below count (λ k. drops keep (version_at v
 
 -- what has become of the caches after the first so many
 pub record IsDropped (before now : List CacheValue) (versions : List Version) (keep : Option UnitId) (word count : ℕ) (probes_before probes_now : Probes) : Type 0 where
-  pub lines : (u a : ℕ) → line_in now u a ≡ cond ((a == word) && is_taken versions keep count u) None (line_in before u a)
+  pub lines : (u a : ℕ) → held_line now u a ≡ cond ((a == word) && is_taken versions keep count u) None (held_line before u a)
   pub sizes : SameSizes before now
   pub counted : CountsSearches probes_before probes_now (how_many (length before) (is_taken versions keep count))
 
@@ -46,21 +44,21 @@ both true y e = (refl, e)
 both false y e = absurd (true≢false (sym e))
 
 -- a version's line is that of its unit
-pub version_line : (caches : List CacheValue) (word : ℕ) (versions : List Version) (k : ℕ) → AreCommitted (lines_in caches word) (length caches) versions → k < length versions → line_in caches (unit_at versions k) word ≡ numbered (Some (seen (version_at versions k).line))
-version_line caches word versions k list h = ap numbered (sym (lines_are caches word (unit_at versions k)) ∙ (list.only k h).held)
+pub version_line : (caches : List CacheValue) (word : ℕ) (versions : List Version) (k : ℕ) → AreCommitted (lines_in caches word) (length caches) versions → k < length versions → held_line caches (unit_at versions k) word ≡ Some (seen (version_at versions k).line)
+version_line caches word versions k list h = sym (lines_are caches word (unit_at versions k)) ∙ (list.only k h).held
 
 -- it is dirty where the line is a committed dirty one
-pub version_dirty : (caches : List CacheValue) (word : ℕ) (versions : List Version) (k : ℕ) → AreCommitted (lines_in caches word) (length caches) versions → k < length versions → is_dirty_version (version_at versions k) ≡ is_committed_dirty (line_in caches (unit_at versions k) word)
+pub version_dirty : (caches : List CacheValue) (word : ℕ) (versions : List Version) (k : ℕ) → AreCommitted (lines_in caches word) (length caches) versions → k < length versions → is_dirty_version (version_at versions k) ≡ is_committed_version (held_line caches (unit_at versions k) word)
 version_dirty caches word versions k list h =
     let bits = bits_of (version_at versions k).line.bits in
     let is = both bits.valid bits.commit (list.only k h).committed in
-    ap (λ x. x && bits.store) is.0 ∙ sym (ap (λ x. x && bits.store) is.1) ∙ sym (ap is_committed_dirty (version_line caches word versions k list h))
+    ap (λ x. x && bits.store) is.0 ∙ sym (ap (λ x. x && bits.store) is.1) ∙ sym (ap is_committed_version (version_line caches word versions k list h))
 
 -- a committed dirty line is one of the versions
-pub dirty_listed : (caches : List CacheValue) (word : ℕ) (versions : List Version) (u : ℕ) → AreCommitted (lines_in caches word) (length caches) versions → is_committed_dirty (line_in caches u word) ≡ true → (k : ℕ) × (k < length versions) × (unit_at versions k ≡ u)
+pub dirty_listed : (caches : List CacheValue) (word : ℕ) (versions : List Version) (u : ℕ) → AreCommitted (lines_in caches word) (length caches) versions → is_committed_version (held_line caches u word) ≡ true → (k : ℕ) × (k < length versions) × (unit_at versions k ≡ u)
 dirty_listed caches word versions u list dirty = list.each u cached (ap is_committed_line (lines_are caches word u) ∙ committed (line_of (cache_at caches u) word) (line_valid (cache_at caches u) word) dirty)
   where
-    committed : (line : Option SeenLine) → HasV line → is_committed_dirty (numbered line) ≡ true → is_committed_line line ≡ true
+    committed : (line : Option SeenLine) → HasV line → is_committed_version line ≡ true → is_committed_line line ≡ true
     committed None has e = absurd (true≢false (sym e))
     committed (Some l) has e = ap (λ x. x && l.bits.commit) has ∙ (both l.bits.commit l.bits.store e).0
 
@@ -72,7 +70,7 @@ dirty_listed caches word versions u list dirty = list.each u cached (ap is_commi
     cached : u < length caches
     cached = elim (below u (length caches)) [
       | inl h ↦ h
-      | inr h ↦ absurd (true≢false (sym dirty ∙ ap (λ (c : CacheValue). is_committed_dirty (numbered (line_of c word))) (past caches u h) ∙ ap (λ (line : Option SeenLine). is_committed_dirty (numbered line)) (no_line word)))
+      | inr h ↦ absurd (true≢false (sym dirty ∙ ap (λ (c : CacheValue). is_committed_version (line_of c word)) (past caches u h) ∙ ap (λ (line : Option SeenLine). is_committed_version line) (no_line word)))
     ]
       where
         below : (x y : ℕ) → (x < y) ⊎ (y ≤ x)
@@ -82,10 +80,10 @@ dirty_listed caches word versions u list dirty = list.each u cached (ap is_commi
 pub taken_all : (caches : List CacheValue) (word : ℕ) (versions : List Version) (keep : Option UnitId) (u : ℕ) → AreCommitted (lines_in caches word) (length caches) versions → is_taken versions keep (length versions) u ≡ is_purged caches keep word u
 taken_all caches word versions keep u list = elim (cases_Bool (is_purged caches keep word u)) [
   | inl pass ↦
-      let parts = both (is_committed_dirty (line_in caches u word)) (not (keeps keep u)) pass in
+      let parts = both (is_committed_version (held_line caches u word)) (not (keeps keep u)) pass in
       let place = dirty_listed caches word versions u list parts.0 in
       let k = place.0 in
-      let dirty : is_dirty_version (version_at versions k) ≡ true = version_dirty caches word versions k list place.1 ∙ ap (λ v. is_committed_dirty (line_in caches v word)) place.2 ∙ parts.0 in
+      let dirty : is_dirty_version (version_at versions k) ≡ true = version_dirty caches word versions k list place.1 ∙ ap (λ v. is_committed_version (held_line caches v word)) place.2 ∙ parts.0 in
       let free : not (keeps keep (unit_at versions k)) ≡ true = ap (λ v. not (keeps keep v)) place.2 ∙ parts.1 in
       let here : (drops keep (version_at versions k) && (unit_at versions k == u)) ≡ true = rw (dirty, free, eq-eqb (unit_at versions k) u place.2) in
       any_found (length versions) _ k place.1 here ∙ sym pass
@@ -100,13 +98,13 @@ taken_all caches word versions keep u list = elim (cases_Bool (is_purged caches 
         let parts = both (drops keep (version_at versions k)) (unit_at versions k == u) e in
         let drop = both (is_dirty_version (version_at versions k)) (not (keeps keep (unit_at versions k))) parts.0 in
         let same : unit_at versions k ≡ u = eqb-true (unit_at versions k) u parts.1 in
-        let dirty : is_committed_dirty (line_in caches u word) ≡ true = ap (λ v. is_committed_dirty (line_in caches v word)) (sym same) ∙ sym (version_dirty caches word versions k list h) ∙ drop.0 in
+        let dirty : is_committed_version (held_line caches u word) ≡ true = ap (λ v. is_committed_version (held_line caches v word)) (sym same) ∙ sym (version_dirty caches word versions k list h) ∙ drop.0 in
         let free : not (keeps keep u) ≡ true = ap (λ v. not (keeps keep v)) (sym same) ∙ drop.1 in
         rw (dirty, free)
 
 pub drop_begins : (caches : List CacheValue) (versions : List Version) (keep : Option UnitId) (word : ℕ) (probes : Probes) → IsDropped caches caches versions keep word 0 probes probes
 drop_begins caches versions keep word probes = record {
-  lines = λ u a. sym (never (a == word) (line_in caches u a));
+  lines = λ u a. sym (never (a == word) (held_line caches u a));
   sizes = record { count = refl; sets = λ u. refl; ways = λ u. refl };
   counted = record { searches = omega (arith, none); places = omega arith };
 }
@@ -114,7 +112,7 @@ drop_begins caches versions keep word probes = record {
     none : how_many (length caches) (is_taken versions keep 0) ≡ 0
     none = how_many_none (length caches) (is_taken versions keep 0) (λ u h. refl)
 
-    never : (x : Bool) (line : Option Line) → cond (x && false) None line ≡ line
+    never : (x : Bool) (line : Option SeenLine) → cond (x && false) None line ≡ line
     never true line = refl
     never false line = refl
 
@@ -147,7 +145,7 @@ one_more caches word versions keep k list h = elim (cases_Bool (drops keep (vers
     here drop = or_true (is_taken versions keep k (unit_at versions k)) _ (ap (λ x. x && (unit_at versions k == unit_at versions k)) drop ∙ eq-eqb (unit_at versions k) (unit_at versions k) refl)
 
 -- a line that one more may take out
-line_more : (x taken now : Bool) (line : Option Line) → cond (x && now) None (cond (x && taken) None line) ≡ cond (x && (taken || now)) None line
+line_more : (x taken now : Bool) (line : Option SeenLine) → cond (x && now) None (cond (x && taken) None line) ≡ cond (x && (taken || now)) None line
 line_more false taken now line = refl
 line_more true true true line = refl
 line_more true true false line = refl
@@ -157,15 +155,15 @@ line_more true false false line = refl
 pub drop_steps : (before now next : List CacheValue) (versions : List Version) (keep : Option UnitId) (word k : ℕ) (probes_before probes_now probes_next : Probes)
     → AreCommitted (lines_in before word) (length before) versions → k < length versions
     → IsDropped before now versions keep word k probes_before probes_now
-    → ((u a : ℕ) → line_in next u a ≡ cond ((a == word) && (drops keep (version_at versions k) && (unit_at versions k == u))) None (line_in now u a))
+    → ((u a : ℕ) → held_line next u a ≡ cond ((a == word) && (drops keep (version_at versions k) && (unit_at versions k == u))) None (held_line now u a))
     → SameSizes now next
     → CountsSearches probes_now probes_next (cond (drops keep (version_at versions k)) 1 0)
     → IsDropped before next versions keep word (suc k) probes_before probes_next
 drop_steps before now next versions keep word k probes_before probes_now probes_next list h done lines sizes counted = record {
   lines = λ u a.
       lines u a
-      ∙ ap (λ (line : Option Line). cond ((a == word) && (drops keep (version_at versions k) && (unit_at versions k == u))) None line) (done.lines u a)
-      ∙ line_more (a == word) (is_taken versions keep k u) (drops keep (version_at versions k) && (unit_at versions k == u)) (line_in before u a);
+      ∙ ap (λ (line : Option SeenLine). cond ((a == word) && (drops keep (version_at versions k) && (unit_at versions k == u))) None line) (done.lines u a)
+      ∙ line_more (a == word) (is_taken versions keep k u) (drops keep (version_at versions k) && (unit_at versions k == u)) (held_line before u a);
   sizes = record {
     count = sizes.count ∙ done.sizes.count;
     sets = λ u. sizes.sets u ∙ done.sizes.sets u;
@@ -184,26 +182,26 @@ drop_steps before now next versions keep word k probes_before probes_now probes_
 pub drop_ends : (before now : List CacheValue) (versions : List Version) (keep : Option UnitId) (word : ℕ) (probes_before probes_now : Probes)
     → AreCommitted (lines_in before word) (length before) versions
     → IsDropped before now versions keep word (length versions) probes_before probes_now
-    → ((u a : ℕ) → line_in now u a ≡ line_after_purge keep word u a (line_in before u a)) × CountsSearches probes_before probes_now (purges before keep word)
+    → ((u a : ℕ) → held_line now u a ≡ line_after_purge keep word u a (held_line before u a)) × CountsSearches probes_before probes_now (purges before keep word)
 drop_ends before now versions keep word probes_before probes_now list done = (
   λ u a. done.lines u a ∙ elim (cases_eq a word) [
-    | inl e ↦ subst (λ w. cond ((w == word) && is_taken versions keep (length versions) u) None (line_in before u w) ≡ line_after_purge keep word u w (line_in before u w)) (sym e) (here u)
+    | inl e ↦ subst (λ w. cond ((w == word) && is_taken versions keep (length versions) u) None (held_line before u w) ≡ line_after_purge keep word u w (held_line before u w)) (sym e) (here u)
     | inr ne ↦ rw (ne_eqb a word ne)
   ],
   subst (CountsSearches probes_before probes_now) (how_many_same (length before) (is_purged before keep word) (is_taken versions keep (length versions)) (λ u h. taken_all before word versions keep u list)) done.counted,
 )
   where
-    own : (line : Option Line) (kept : Bool) → cond (is_committed_dirty line && not kept) None line ≡ cond kept line (purged line)
-    own line true = go (is_committed_dirty line)
+    own : (line : Option SeenLine) (kept : Bool) → cond (is_committed_version line && not kept) None line ≡ cond kept line (purged_line line)
+    own line true = go (is_committed_version line)
       where
         go : (x : Bool) → cond (x && false) None line ≡ line
         go true = refl
         go false = refl
-    own line false = go (is_committed_dirty line)
+    own line false = go (is_committed_version line)
       where
         go : (x : Bool) → cond (x && true) None line ≡ cond x None line
         go true = refl
         go false = refl
 
-    here : (u : ℕ) → cond ((word == word) && is_taken versions keep (length versions) u) None (line_in before u word) ≡ line_after_purge keep word u word (line_in before u word)
-    here u = rw (eq-eqb word word refl, taken_all before word versions keep u list) (own (line_in before u word) (keeps keep u))
+    here : (u : ℕ) → cond ((word == word) && is_taken versions keep (length versions) u) None (held_line before u word) ≡ line_after_purge keep word u word (held_line before u word)
+    here u = rw (eq-eqb word word refl, taken_all before word versions keep u list) (own (held_line before u word) (keeps keep u))

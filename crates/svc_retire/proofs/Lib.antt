@@ -6,4 +6,4 @@ pub mod Squashing
 pub mod Emptying
 pub mod Dropping
 pub mod Newest
-pub mod Distinct
+pub mod Ranked

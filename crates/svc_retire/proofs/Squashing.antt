@@ -1,27 +1,29 @@
 -- The squash of one unit's lines after another's.
-use Rattle.std.proofs.Common.{◌≡◌, ◌∙◌, refl, sym, ap, subst, ℕ, suc, ◌+◌, ◌<◌, ◌≤◌, Bool, true, false, cond, ◌&&◌, leb, leb-true, leb-false, Option, None, List, length, get_or, set, inl, inr, arith, length-set, get_or-set_same, get_or-set_other, eq-eqb, ne_eqb, le-leb}
+use Rattle.std.proofs.Common.{◌≡◌, ◌∙◌, refl, sym, ap, subst, ℕ, suc, ◌+◌, ◌<◌, ◌≤◌, Bool, true, false, cond, ◌&&◌, leb, leb-true, leb-false, Option, Some, None, List, length, get_or, set, inl, inr, arith, length-set, get_or-set_same, get_or-set_other, eq-eqb, ne_eqb, le-leb}
+use Rattle.std.specs.Prelude.{if◌then◌else◌}
 use Rattle.std.specs.Bool.{◌==◌}
 use Rattle.std.proofs.lemmas.Bool.{cases_Bool, cases_eq}
+use Rattle.svc_line.specs.Bits.{is_active}
+use Rattle.svc_line.specs.Line.{SeenLine}
 use Rattle.svc_cache.specs.Lines.{LineMap, squash_line}
 use Rattle.svc_cache.specs.Places.{CacheValue, line_of}
 use Rattle.svc_bus_laws.specs.Search.{any_below}
-use Rattle.svc_bus_laws.specs.LineTable.{Line, is_active, is_cut}
+use Rattle.svc_bus_laws.specs.LineTable.{is_cut}
 use Rattle.svc_bus_laws.proofs.Searches.{any_none}
-use Rattle.svc_retire.specs.Caches.{no_cache, cache_at, line_in, numbered, SameSizes}
+use Rattle.svc_retire.specs.Caches.{no_cache, cache_at, held_line, SameSizes}
 use Rattle.svc_retire.proofs.Bools.{or_true, or_false, and_false}
-use Rattle.svc_retire.proofs.Settling.{line_valid, squashed_line}
 
 -- the unit runs one of the tasks from a place on, among the first so many
 abbrev pub is_cut_below : List ℕ → (from count u : ℕ) → Bool
 is_cut_below units from count u = any_below count (λ q. leb from q && (get_or units q 0 == u))
 
 -- a line after the squash of the units that were come to
-abbrev pub line_after : Bool → Option Line → Option Line
-line_after cut line = cond (cut && is_active line) None line
+abbrev pub line_after : Bool → Option SeenLine → Option SeenLine
+line_after cut line = cond cut (squash_line line) line
 
 -- the lines of the caches after the tasks of the first so many places were squashed
 pub record IsSquashed (before now : List CacheValue) (units : List ℕ) (from count : ℕ) : Type 0 where
-  pub lines : (u a : ℕ) → line_in now u a ≡ line_after (is_cut_below units from count u) (line_in before u a)
+  pub lines : (u a : ℕ) → held_line now u a ≡ line_after (is_cut_below units from count u) (held_line before u a)
   pub sizes : SameSizes before now
 
 pub none_cut : (units : List ℕ) (from count u : ℕ) → count ≤ from → is_cut_below units from count u ≡ false
@@ -40,13 +42,14 @@ squash_begins caches units from = record {
 }
 
 -- a line squashed once more
-again : (cut : Bool) (line : Option Line) → cond (is_active (line_after cut line)) None (line_after cut line) ≡ line_after true line
+again : (cut : Bool) (line : Option SeenLine) → squash_line (line_after cut line) ≡ line_after true line
 again false line = refl
-again true line = go (is_active line) refl
+again true None = refl
+again true (Some l) = go (is_active l.bits) refl
   where
-    go : (active : Bool) → is_active line ≡ active → cond (is_active (cond active None line)) None (cond active None line) ≡ cond active None line
+    go : (active : Bool) → is_active l.bits ≡ active → squash_line (if active then None else Some l) ≡ (if active then None else Some l)
     go true e = refl
-    go false e = rw e
+    go false e = rw e refl
 
 -- one more cache is squashed
 pub squash_steps : (before now : List CacheValue) (units : List ℕ) (from count : ℕ) (new : CacheValue) → from ≤ count → get_or units count 0 < length now
@@ -55,7 +58,7 @@ pub squash_steps : (before now : List CacheValue) (units : List ℕ) (from count
     → new.sets ≡ (cache_at now (get_or units count 0)).sets → new.ways ≡ (cache_at now (get_or units count 0)).ways
     → IsSquashed before (set now (get_or units count 0) new) units from (count + 1)
 squash_steps before now units from count new at within done lines sets ways = record {
-  lines = λ u a. subst (λ n. line_in (set now unit new) u a ≡ line_after (is_cut_below units from n u) (line_in before u a)) (let e : suc count ≡ count + 1 = omega arith in e) (stepped u a);
+  lines = λ u a. subst (λ n. held_line (set now unit new) u a ≡ line_after (is_cut_below units from n u) (held_line before u a)) (let e : suc count ≡ count + 1 = omega arith in e) (stepped u a);
   sizes = record {
     count = length-set now unit new ∙ done.sizes.count;
     sets = λ u. elim (cases_eq u unit) [
@@ -72,31 +75,30 @@ squash_steps before now units from count new at within done lines sets ways = re
     unit : ℕ
     unit = get_or units count 0
 
-    own : (a : ℕ) → line_in (set now (get_or units count 0) new) (get_or units count 0) a ≡ line_after true (line_in before (get_or units count 0) a)
+    own : (a : ℕ) → held_line (set now (get_or units count 0) new) (get_or units count 0) a ≡ line_after true (held_line before (get_or units count 0) a)
     own a =
         let u = get_or units count 0 in
-        ap (λ (c : CacheValue). numbered (line_of c a)) (get_or-set_same now u new no_cache within)
-        ∙ ap (λ (f : LineMap). numbered (f a)) lines
-        ∙ squashed_line (line_of (cache_at now u) a) (line_valid (cache_at now u) a)
-        ∙ ap (λ (line : Option Line). cond (is_active line) None line) (done.lines u a)
-        ∙ again (is_cut_below units from count u) (line_in before u a)
+        ap (λ (c : CacheValue). line_of c a) (get_or-set_same now u new no_cache within)
+        ∙ ap (λ (f : LineMap). f a) lines
+        ∙ ap squash_line (done.lines u a)
+        ∙ again (is_cut_below units from count u) (held_line before u a)
 
-    stepped : (u a : ℕ) → line_in (set now (get_or units count 0) new) u a ≡ line_after (is_cut_below units from (suc count) u) (line_in before u a)
+    stepped : (u a : ℕ) → held_line (set now (get_or units count 0) new) u a ≡ line_after (is_cut_below units from (suc count) u) (held_line before u a)
     stepped u a = elim (cases_eq u (get_or units count 0)) [
       | inl e ↦
           let passes : (leb from count && (get_or units count 0 == u)) ≡ true = rw (le-leb from count at, eq-eqb (get_or units count 0) u (sym e)) in
           let cut : is_cut_below units from (suc count) u ≡ true = or_true (is_cut_below units from count u) _ passes in
-          ap (λ v. line_in (set now (get_or units count 0) new) v a) e ∙ own a ∙ ap (λ v. line_after true (line_in before v a)) (sym e) ∙ ap (λ x. line_after x (line_in before u a)) (sym cut)
+          ap (λ v. held_line (set now (get_or units count 0) new) v a) e ∙ own a ∙ ap (λ v. line_after true (held_line before v a)) (sym e) ∙ ap (λ x. line_after x (held_line before u a)) (sym cut)
       | inr ne ↦
           let fails : (leb from count && (get_or units count 0 == u)) ≡ false = and_false (leb from count) _ (ne_eqb (get_or units count 0) u (λ e. ne (sym e))) in
           let cut : is_cut_below units from (suc count) u ≡ is_cut_below units from count u = or_false (is_cut_below units from count u) _ fails in
-          ap (λ (c : CacheValue). numbered (line_of c a)) (get_or-set_other now (get_or units count 0) u new no_cache ne) ∙ done.lines u a ∙ ap (λ x. line_after x (line_in before u a)) (sym cut)
+          ap (λ (c : CacheValue). line_of c a) (get_or-set_other now (get_or units count 0) u new no_cache ne) ∙ done.lines u a ∙ ap (λ x. line_after x (held_line before u a)) (sym cut)
     ]
 
 -- all of them were
 pub squash_ends : (before now : List CacheValue) (units : List ℕ) (from count : ℕ) → length units ≤ count → (from ≤ length units → count ≤ length units) → (length units < from → count ≤ from) → IsSquashed before now units from count
-    → (u a : ℕ) → line_in now u a ≡ cond (is_cut units from u && is_active (line_in before u a)) None (line_in before u a)
-squash_ends before now units from count all exact none done u a = done.lines u a ∙ ap (λ x. line_after x (line_in before u a)) same
+    → (u a : ℕ) → held_line now u a ≡ cond (is_cut units from u) (squash_line (held_line before u a)) (held_line before u a)
+squash_ends before now units from count all exact none done u a = done.lines u a ∙ ap (λ x. line_after x (held_line before u a)) same
   where
     same : is_cut_below units from count u ≡ is_cut units from u
     same = elim (cases_Bool (leb from (length units))) [

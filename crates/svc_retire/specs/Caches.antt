@@ -1,13 +1,7 @@
--- The lines of a list of caches, as the line table has them.
-use Rattle.std.specs.Prelude.{◌≡◌, ℕ, Option, Some, None, List, [], length, get_or}
+-- The lines of a list of caches, by unit and word.
+use Rattle.std.specs.Prelude.{◌≡◌, ℕ, Option, List, [], length, get_or}
 use Rattle.svc_line.specs.Line.{SeenLine}
 use Rattle.svc_cache.specs.Places.{CacheValue, line_of}
-use Rattle.svc_bus_laws.specs.LineTable.{Line}
-
--- a cache's line as the line table has it: a line that is there has V
-abbrev pub numbered : Option SeenLine → Option Line
-numbered None = None
-numbered (Some l) = Some (record { value = l.value; store = l.bits.store; load = l.bits.load; commit = l.bits.commit; stale = l.bits.stale; task = l.task })
 
 -- what stands past the last cache
 abbrev pub no_cache : CacheValue
@@ -18,8 +12,8 @@ abbrev pub cache_at : List CacheValue → ℕ → CacheValue
 cache_at caches u = get_or caches u no_cache
 
 -- the unit's line of the word
-abbrev pub line_in : List CacheValue → ℕ → ℕ → Option Line
-line_in caches u a = numbered (line_of (cache_at caches u) a)
+abbrev pub held_line : List CacheValue → ℕ → ℕ → Option SeenLine
+held_line caches u a = line_of (cache_at caches u) a
 
 -- each cache has as many sets and ways as before
 pub record SameSizes (before after : List CacheValue) : Type 0 where

@@ -1,29 +1,33 @@
 -- What a purge of a word takes out, what it writes back, and what it costs.
-use Rattle.std.specs.Prelude.{◌≡◌, ℕ, ◌+◌, ◌*◌, ◌<◌, ◌≤◌, ◌^◌, ◌==◌, Bool, true, false, cond, not, ◌&&◌, Option, Some, None, List, [], length, get_or}
+use Rattle.std.specs.Prelude.{◌≡◌, ℕ, ◌+◌, ◌*◌, ◌<◌, ◌≤◌, ◌^◌, ◌==◌, Bool, true, false, cond, not, ◌&&◌, ◌||◌, Option, Some, None, List, length, get_or}
 use Rattle.svc_base.specs.declared.config.TheConstants.{MAX_WAYS}
 use Rattle.svc_base.specs.declared.ids.UnitId.{UnitId}
 use Rattle.svc_line.specs.Bits.{bits_of, is_dirty}
 use Rattle.svc_cache.specs.declared.probes.Probes.{Probes}
 use Rattle.svc_cache.specs.Places.{CacheValue}
-use Rattle.svc_bus_laws.specs.Search.{how_many}
-use Rattle.svc_bus_laws.specs.LineTable.{Line, LineTable, is_committed_dirty, task_in, committed_value, opened}
-use Rattle.svc_bus_laws.specs.Steps.{purged}
+use Rattle.svc_line.specs.Line.{SeenLine}
+use Rattle.svc_bus_laws.specs.Search.{all_below, how_many, least}
 use Rattle.svc_vol.specs.declared.version.Version.{Version}
+use Rattle.svc_vol.specs.Lines.{is_committed_version, is_older_line, lines_in}
 use Rattle.svc_vol.specs.Versions.{version_at}
-use Rattle.svc_retire.specs.Caches.{cache_at, line_in}
+use Rattle.svc_retire.specs.Caches.{cache_at, held_line}
 
 -- the unit's line stays
 abbrev pub keeps : Option UnitId → ℕ → Bool
 keeps None u = false
 keeps (Some kept) u = kept.0 == u
 
+-- a committed line that was stored to becomes invalid
+abbrev pub purged_line : Option SeenLine → Option SeenLine
+purged_line line = cond (is_committed_version line) None line
+
 -- the unit's line of the second word after a purge of the first
-abbrev pub line_after_purge : Option UnitId → (word u a : ℕ) → Option Line → Option Line
-line_after_purge keep word u a line = cond (a == word) (cond (keeps keep u) line (purged line)) line
+abbrev pub line_after_purge : Option UnitId → (word u a : ℕ) → Option SeenLine → Option SeenLine
+line_after_purge keep word u a line = cond (a == word) (cond (keeps keep u) line (purged_line line)) line
 
 -- the unit's line of the word is taken out
 abbrev pub is_purged : List CacheValue → Option UnitId → (word u : ℕ) → Bool
-is_purged caches keep word u = is_committed_dirty (line_in caches u word) && not (keeps keep u)
+is_purged caches keep word u = is_committed_version (held_line caches u word) && not (keeps keep u)
 
 -- how many lines are taken out
 abbrev pub purges : List CacheValue → Option UnitId → (word : ℕ) → ℕ
@@ -37,17 +41,25 @@ is_dirty_version version = is_dirty (bits_of version.line.bits)
 abbrev pub drops : Option UnitId → Version → Bool
 drops keep version = is_dirty_version version && not (keeps keep version.unit.0)
 
--- the caches' lines and the memory, as a line table without tasks
-abbrev pub table_in : List CacheValue → (memory : List ℕ) → LineTable
-table_in caches memory = record (opened (length caches) 0 0 []) { lines = line_in caches; backing = λ a. get_or memory a 0 }
+-- the unit has a committed version of the word, and it is older than none
+abbrev pub is_newest : List CacheValue → (word u : ℕ) → Bool
+is_newest caches word u =
+    is_committed_version (held_line caches u word)
+    && all_below (length caches) (λ v. not (is_committed_version (held_line caches v word)) || not (is_older_line (lines_in caches word) u v))
 
--- the committed value of the word: that of its newest committed dirty line, else of the memory
+-- the line's value, 0 where there is none
+abbrev pub line_value : Option SeenLine → ℕ
+line_value None = 0
+line_value (Some line) = line.value
+
+-- the value of the unit's line, else the word in memory
+abbrev pub value_of : List CacheValue → (memory : List ℕ) → (word : ℕ) → Option ℕ → ℕ
+value_of caches memory word None = get_or memory word 0
+value_of caches memory word (Some u) = line_value (held_line caches u word)
+
+-- the committed value of the word: that of its newest committed version, else of the memory
 abbrev pub committed_in : List CacheValue → (memory : List ℕ) → ℕ → ℕ
-committed_in caches memory word = committed_value (table_in caches memory) word
-
--- no two committed dirty lines of the word are of one task
-pub record AreDistinct (caches : List CacheValue) (word : ℕ) : Type 0 where
-  pub distinct : (u v : ℕ) → is_committed_dirty (line_in caches u word) ≡ true → is_committed_dirty (line_in caches v word) ≡ true → task_in (line_in caches u word) ≡ task_in (line_in caches v word) → u ≡ v
+committed_in caches memory word = value_of caches memory word (least (length caches) (is_newest caches word))
 
 -- the version at a place is dirty, and none of those between it and the end is
 pub record IsNewestAt (versions : List Version) (count value place : ℕ) : Type 0 where

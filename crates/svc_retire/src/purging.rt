@@ -1,8 +1,8 @@
 ghost use Rattle.std.specs.Prelude.{◌≡◌, ◌+◌, ◌<◌, ◌==◌, ◌&&◌, ℕ, None, cond, length, get_or};
-ghost use Rattle.svc_vol.specs.Lines.{lines_in};
+ghost use Rattle.svc_vol.specs.Lines.{lines_in, IsRanked};
 ghost use Rattle.svc_vol.specs.Versions.{AreCommitted};
-ghost use Rattle.svc_retire.specs.Caches.{line_in, SameSizes};
-ghost use Rattle.svc_retire.specs.Purges.{committed_in, AreDistinct, CountsSearches, drops, HasRoomFor, is_purged, IsNewest, keeps, line_after_purge, purges};
+ghost use Rattle.svc_retire.specs.Caches.{held_line, SameSizes};
+ghost use Rattle.svc_retire.specs.Purges.{committed_in, CountsSearches, drops, HasRoomFor, is_purged, IsNewest, keeps, line_after_purge, purges};
 
 use crate::memory::store;
 use svc_base::{UnitId, WordAddr};
@@ -42,7 +42,7 @@ fn drop_version(
 )
     requires known { version.now.unit.0 < length caches.old }
     requires room { HasRoomFor probes.old caches.old 1 }
-    ensures lines { (u a : ℕ) → line_in caches.new u a ≡ cond ((a == word.0) && (drops keep version.now && (version.now.unit.0 == u))) None (line_in caches.old u a) }
+    ensures lines { (u a : ℕ) → held_line caches.new u a ≡ cond ((a == word.0) && (drops keep version.now && (version.now.unit.0 == u))) None (held_line caches.old u a) }
     ensures sizes { SameSizes caches.old caches.new }
     ensures counted { CountsSearches probes.old probes.new (cond (drops keep version.now) 1 0) }
 {
@@ -61,7 +61,7 @@ fn drop_versions(
 )
     requires listed { AreCommitted (lines_in caches.old word.0) (length caches.old) committed.now }
     requires room { HasRoomFor probes.old caches.old (length caches.old) }
-    ensures lines { (u a : ℕ) → line_in caches.new u a ≡ line_after_purge keep word.0 u a (line_in caches.old u a) }
+    ensures lines { (u a : ℕ) → held_line caches.new u a ≡ line_after_purge keep word.0 u a (held_line caches.old u a) }
     ensures sizes { SameSizes caches.old caches.new }
     ensures counted { CountsSearches probes.old probes.new (purges caches.old keep word.0) }
 {
@@ -84,10 +84,10 @@ pub fn purge(
     probes: &mut Probes,
 )
     requires listed { AreCommitted (lines_in caches.old word.0) (length caches.old) list.now.committed }
-    requires distinct { AreDistinct caches.old word.0 }
+    requires ranked { IsRanked (lines_in caches.old word.0) }
     requires in_memory { word.0 < length backing.old }
     requires room { HasRoomFor probes.old caches.old (length caches.old) }
-    ensures lines { (u a : ℕ) → line_in caches.new u a ≡ line_after_purge keep word.0 u a (line_in caches.old u a) }
+    ensures lines { (u a : ℕ) → held_line caches.new u a ≡ line_after_purge keep word.0 u a (held_line caches.old u a) }
     ensures memory { (a : ℕ) → get_or backing.new a 0 ≡ cond (a == word.0) (committed_in caches.old backing.old word.0) (get_or backing.old a 0) }
     ensures sizes { SameSizes caches.old caches.new }
     ensures counted { CountsSearches probes.old probes.new (purges caches.old keep word.0) }

@@ -1,9 +1,8 @@
 ghost use Rattle.std.specs.Prelude.{◌≡◌, ◌≢◌, ◌≤◌, ℕ, Some, IfOk, length};
 ghost use Rattle.svc_line.specs.Line.{seen};
 ghost use Rattle.svc_cache.specs.Places.{line_of};
-ghost use Rattle.svc_vol.specs.Lines.{ways_in};
+ghost use Rattle.svc_vol.specs.Lines.{lines_in, ways_in, IsRanked};
 ghost use Rattle.svc_retire.specs.Caches.{cache_at};
-ghost use Rattle.svc_retire.specs.Purges.{AreDistinct};
 
 use crate::{Spill, commit_lines, purge, squash_lines};
 use std::alloc::Global;
@@ -70,7 +69,7 @@ fn caches_of(
     requires first_two { first.task.0 ≢ second.task.0 }
     requires outer_two { first.task.0 ≢ third.task.0 }
     requires last_two { second.task.0 ≢ third.task.0 }
-    ensures distinct { IfOk result (λ caches. AreDistinct caches 0) }
+    ensures ranked { IfOk result (λ caches. IsRanked (lines_in caches 0)) }
     ensures ways { IfOk result (λ caches. (unit : ℕ) → (cache_at caches unit).ways ≤ 1) }
     ensures places { IfOk result (λ caches. ways_in caches ≡ 3) }
 {
@@ -82,7 +81,7 @@ fn caches_of(
 
 // The caches with these lines, which three tasks are seen to have.
 fn caches_with(rt: &impl Abort, alloc: Global, lines: [Line; 3]) -> Result<[Cache; 3], OpenError>
-    ensures distinct { IfOk result (λ caches. AreDistinct caches 0) }
+    ensures ranked { IfOk result (λ caches. IsRanked (lines_in caches 0)) }
     ensures ways { IfOk result (λ caches. (unit : ℕ) → (cache_at caches unit).ways ≤ 1) }
     ensures places { IfOk result (λ caches. ways_in caches ≡ 3) }
 {

@@ -1,5 +1,5 @@
 -- One more step of each search.
-use Rattle.std.proofs.Common.{◌≡◌, ◌∙◌, refl, sym, ap, subst, ℕ, suc, ◌+◌, ◌-◌, ◌<◌, ◌≤◌, Bool, true, false, ◌||◌, ◌==◌, Some, None, arith}
+use Rattle.std.proofs.Common.{◌≡◌, refl, sym, subst, ℕ, suc, ◌+◌, ◌-◌, ◌<◌, ◌≤◌, Bool, true, false, ◌||◌, Some, None, arith}
 use Rattle.svc_bus_laws.specs.Search.{least, greatest, any_below}
 use Rattle.svc_bus_laws.specs.Walk.{walk}
 use Rattle.svc_bus_laws.proofs.Searches.{least_found, least_none}

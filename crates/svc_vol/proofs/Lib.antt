@@ -1,3 +1,4 @@
-mod Older
+pub mod Older
 mod Inserting
 mod Finding
+pub mod Ranking

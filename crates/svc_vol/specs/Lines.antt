@@ -1,5 +1,5 @@
 -- The lines of one word by unit, and which of them is older.
-use Rattle.std.specs.Prelude.{◌≡◌, ℕ, ◌+◌, ◌<◌, ◌≤◌, ◌^◌, Bool, false, ◌&&◌, nat_lt, Option, Some, None, List, length, map, get_or}
+use Rattle.std.specs.Prelude.{◌≡◌, ℕ, ◌+◌, ◌<◌, ◌≤◌, ◌^◌, Bool, true, false, ◌&&◌, nat_lt, Option, Some, None, List, length, map, get_or}
 use Rattle.std.specs.List.{sum_by}
 use Rattle.svc_line.specs.Bits.{is_dirty}
 use Rattle.svc_line.specs.Line.{SeenLine}
@@ -27,6 +27,16 @@ is_older_of (Some line) (Some other) = is_dirty line.bits && is_dirty other.bits
 -- the stored order of a word's versions: both units hold one, and the first unit's is older
 abbrev pub is_older_line : UnitLines → (unit other : ℕ) → Bool
 is_older_line lines unit other = is_older_of (lines unit) (lines other)
+
+-- there is a committed line that was stored to
+abbrev pub is_committed_version : Option SeenLine → Bool
+is_committed_version None = false
+is_committed_version (Some line) = line.bits.commit && line.bits.store
+
+-- the word's committed versions have one order: none is older than itself, and of any two one is older than the other
+pub record IsRanked (lines : UnitLines) : Type 0 where
+  pub strict : (unit : ℕ) → is_older_line lines unit unit ≡ false
+  pub total : (unit other : ℕ) → is_committed_version (lines unit) ≡ true → is_committed_version (lines other) ≡ true → is_older_line lines unit other ≡ false → is_older_line lines other unit ≡ false → unit ≡ other
 
 -- how many places one set of each cache has, together
 abbrev pub ways_in : List CacheValue → ℕ

@@ -1,8 +1,8 @@
-use Rattle.std.proofs.Common.{◌≡◌, ◌∙◌, ◌+◌, ◌++◌, ◌<◌, ◌≤◌, ◌&&◌, ◌==◌, refl, sym, ap, ap₂, true, false, cond, not, Bool, Option, Some, None, [], ◌∷◌, List, length, take, arith}
+use Rattle.std.proofs.Common.{◌≡◌, ◌∙◌, ◌<◌, ◌&&◌, ◌==◌, refl, sym, ap, ap₂, true, false, cond, not, Bool, Some, None, length, arith}
 use Rattle.std.proofs.lemmas.Bool.{eq-eqb, ne_eqb}
 use Rattle.svc_vol.specs.declared.version.Version.{Version}
 use Rattle.svc_vol.specs.Versions.{no_version, version_at}
-use Rattle.svc_vcl.specs.Planned.{copies_in, fresh_beside, is_fresh_copy}
+use Rattle.svc_vcl.specs.Planned.{fresh_beside, is_fresh_copy}
 use Rattle.svc_vcl.proofs.Staling.{kept_on, left_out}
 use Rattle.svc_vcl.proofs.write.list_copies.Goals as goal
 use Rattle.svc_vcl.proofs.write.list_copies.Goals.{then-version-writer+then-is_fresh_copy, else-version-writer, else-version-writer-via-then-version-writer+else-is_fresh_copy, else-version-writer-via-else-version-writer}

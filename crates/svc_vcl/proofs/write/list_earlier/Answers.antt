@@ -1,6 +1,5 @@
-use Rattle.std.proofs.Common.{◌≡◌, ◌∙◌, ◌+◌, ◌++◌, ◌<◌, ◌≤◌, sym, ap, Option, Some, None, [], ◌∷◌, List, length, take, arith}
-use Rattle.svc_vol.specs.declared.version.Version.{Version}
-use Rattle.svc_vcl.specs.Planned.{passed_in, unmarked_entry}
+use Rattle.std.proofs.Common.{◌≡◌, ◌∙◌, ◌<◌, sym, ap, None, length, arith}
+use Rattle.svc_vcl.specs.Planned.{unmarked_entry}
 use Rattle.svc_vcl.proofs.Staling.{kept_on, left_out}
 use Rattle.svc_vcl.proofs.write.list_earlier.Goals as goal
 use Rattle.svc_vcl.proofs.write.list_earlier.Goals.{in-Some, in_default}

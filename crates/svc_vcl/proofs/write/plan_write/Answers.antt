@@ -1,4 +1,4 @@
-use Rattle.std.proofs.Common.{◌≡◌, ◌∙◌, ◌<◌, ◌||◌, sym, ap, ap₂, subst, Option, List, length, arith, unwrap_or, take, ◌++◌}
+use Rattle.std.proofs.Common.{◌≡◌, ◌∙◌, ◌<◌, sym, ap, ap₂, subst, Option, List, length, arith, unwrap_or, take, ◌++◌}
 use Rattle.svc_line.specs.Bits.{bits_of, stored}
 use Rattle.svc_bus_laws.specs.BusSteps.{is_overtaken_line}
 use Rattle.svc_bus_laws.specs.BusView.{bus_map}

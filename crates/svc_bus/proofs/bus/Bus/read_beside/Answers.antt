@@ -8,9 +8,10 @@ use Rattle.svc_cache.specs.Lines.{EndsBelow}
 use Rattle.svc_cache.specs.declared.probes.Probes.{Probes}
 use Rattle.svc_vol.specs.Lines.{HasRoomForEach, CountsEachOther, CountsOneOfEach, lines_in}
 use Rattle.svc_bus_laws.specs.LineTable.{Line}
-use Rattle.svc_retire.specs.Caches.{cache_at, line_in, numbered, SameSizes}
-use Rattle.svc_retire.specs.Purges.{HasRoomFor, committed_in}
+use Rattle.svc_retire.specs.Caches.{cache_at, SameSizes}
+use Rattle.svc_retire.specs.Purges.{HasRoomFor}
 use Rattle.svc_retire.proofs.Listing.{read_item}
+use Rattle.svc_bus.specs.Numbers.{line_in, numbered, committed_in}
 use Rattle.svc_bus.specs.Value.{BusValue, table_of}
 use Rattle.svc_bus.specs.Observed.{observed}
 use Rattle.svc_bus.specs.Looking.{CountsUpTo, IsOne}

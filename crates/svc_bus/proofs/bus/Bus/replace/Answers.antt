@@ -4,9 +4,10 @@ use Rattle.svc_line.specs.Line.{seen}
 use Rattle.svc_cache.specs.Places.{CacheValue, line_of}
 use Rattle.svc_vol.specs.Lines.{HasRoomForEach, CountsOneOfEach}
 use Rattle.svc_bus_laws.specs.Steps.{purged, with_at, with_line}
-use Rattle.svc_retire.specs.Caches.{numbered, no_cache, cache_at, line_in, SameSizes}
-use Rattle.svc_retire.specs.Purges.{HasRoomFor, committed_in}
+use Rattle.svc_retire.specs.Caches.{no_cache, cache_at, SameSizes}
+use Rattle.svc_retire.specs.Purges.{HasRoomFor}
 use Rattle.svc_retire.proofs.Listing.{read_item}
+use Rattle.svc_bus.specs.Numbers.{numbered, line_in, committed_in}
 use Rattle.svc_bus.specs.Value.{BusValue}
 use Rattle.svc_bus.specs.Observed.{observed}
 use Rattle.svc_bus.proofs.Keeping.{KeepsSizes}

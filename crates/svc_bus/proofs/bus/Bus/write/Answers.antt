@@ -7,8 +7,8 @@ use Rattle.svc_line.specs.Line.{SeenLine}
 use Rattle.svc_cache.specs.Places.{CacheValue}
 use Rattle.svc_vol.specs.Lines.{CountsOneOfEach}
 use Rattle.svc_bus_laws.specs.Steps.{with_at}
-use Rattle.svc_retire.specs.Caches.{line_in, numbered, SameSizes}
-use Rattle.svc_retire.specs.Purges.{committed_in}
+use Rattle.svc_retire.specs.Caches.{SameSizes}
+use Rattle.svc_bus.specs.Numbers.{line_in, numbered, committed_in}
 use Rattle.svc_bus.specs.Value.{BusValue}
 use Rattle.svc_bus.specs.Observed.{observed}
 use Rattle.svc_bus.specs.Calls.{full_refusal}
