@@ -2,7 +2,6 @@
 
 ghost use Rattle.std.specs.Prelude.{◌≡◌, ◌<◌, Some, IfOk, IfErr, length, drop, slice_get, unwrap_or};
 ghost use Rattle.std.specs.List.Sorted.{IsStrictlyIncreasing};
-ghost use Rattle.svc_core_laws.specs.Program.{due_after};
 ghost use Rattle.svc_machine_laws.specs.PlainMachine.{entry_for};
 ghost use Rattle.svc_machine_laws.specs.Guess.{entry_after};
 ghost use Rattle.svc_machine_laws.specs.Guide.{guess_of, guide_opened, guide_assigned, guide_cut, guide_committed, cuts_next, successor_in, with_successor};
@@ -76,17 +75,6 @@ fn remember(entries: &[u32], successors: &mut Vec<Option<u32>>, entry: u32, succ
     }
     if let Ok(i) = entries.binary_search(&entry) {
         successors[i] = successor;
-    }
-}
-
-// The entry that is due after a task that ended so.
-fn due_at(end: End) -> Option<u32>
-    ensures { result ≡ due_after (Some end) }
-{
-    match end {
-        End::Next(entry) => Some(entry),
-        End::Exit(_) => None,
-        End::Trap(_) => None,
     }
 }
 
@@ -175,7 +163,7 @@ impl Sequencer {
         ensures { self.new ≡ guide_committed end self.old }
     {
         let head = self.active.remove(0);
-        self.due = due_at(end);
+        self.due = end.next();
         remember(&self.entries, &mut self.successors, head, self.due);
     }
 
