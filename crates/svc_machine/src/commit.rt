@@ -1,7 +1,6 @@
 // A commit.
 
 ghost use Rattle.std.specs.Prelude.{◌≡◌, ◌<◌, ◌+◌, ◌^◌, cond, map, take, drop, length, None, Some, vec_capacity};
-ghost use Rattle.svc_core_laws.specs.Program.{stopped_after};
 ghost use Rattle.svc_bus_laws.specs.LineTable.{LineTable};
 ghost use Rattle.svc_bus_laws.specs.BusState.{Agrees};
 ghost use Rattle.svc_bus_laws.specs.Steps.{squash};
@@ -49,7 +48,7 @@ impl Machine {
         self.sequencer.commit(end);
         let head = self.seats.remove(0);
         let _room = self.output.extend_from_slice(head.waiting.as_slice());
-        self.stopped = stopped_after(end);
+        self.stopped = end.stop();
         self.commits += 1;
         self.accepted += 1;
         Reply {
@@ -66,17 +65,6 @@ fn head_end(seats: &[Seat]) -> Option<End>
     match seats.first() {
         Some(head) => head.core.done(),
         None => None,
-    }
-}
-
-// An end that stops the run.
-fn stopped_after(end: End) -> Option<End>
-    ensures { result ≡ stopped_after (Some end) }
-{
-    match end {
-        End::Next(_) => None,
-        End::Exit(_) => Some(end),
-        End::Trap(_) => Some(end),
     }
 }
 
