@@ -1,7 +1,6 @@
 // A commit.
 
 ghost use Rattle.std.specs.Prelude.{◌≡◌, None, Some};
-ghost use Rattle.svc_core_laws.specs.Program.{stopped_after};
 ghost use Rattle.svc_machine_laws.specs.Events.{Commit};
 ghost use Rattle.svc_machine_laws.specs.Standing.{Standing, refused, reply_to, stepped};
 ghost use Rattle.svc_machine.specs.Seats.{head_end};
@@ -42,7 +41,7 @@ impl Machine {
         self.sequencer.commit(end);
         let head = self.seats.remove(0);
         let _room = self.output.extend_from_slice(head.waiting.as_slice());
-        self.stopped = stopped_after(end);
+        self.stopped = end.stop();
         self.commits += 1;
         self.accepted += 1;
         Reply {
@@ -59,16 +58,5 @@ fn head_end(seats: &[Seat]) -> Option<End>
     match seats.first() {
         Some(head) => head.core.done(),
         None => None,
-    }
-}
-
-// An end that stops the run.
-fn stopped_after(end: End) -> Option<End>
-    ensures { result ≡ stopped_after (Some end) }
-{
-    match end {
-        End::Next(_) => None,
-        End::Exit(_) => Some(end),
-        End::Trap(_) => Some(end),
     }
 }

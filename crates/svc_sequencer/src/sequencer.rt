@@ -84,19 +84,8 @@ fn handed_on(ended: Option<End>) -> Option<u32>
     ensures { result ≡ due_after ended }
 {
     match ended {
-        Some(end) => due_at(end),
+        Some(end) => end.next(),
         None => None,
-    }
-}
-
-// The entry that is due after a task that ended so.
-fn due_at(end: End) -> Option<u32>
-    ensures { result ≡ due_after (Some end) }
-{
-    match end {
-        End::Next(entry) => Some(entry),
-        End::Exit(_) => None,
-        End::Trap(_) => None,
     }
 }
 
@@ -189,7 +178,7 @@ impl Sequencer {
         ensures { self.new ≡ guide_committed end self.old }
     {
         let head = self.active.remove(0);
-        self.due = due_at(end);
+        self.due = end.next();
         remember(&self.entries, &mut self.successors, head, self.due);
     }
 

@@ -103,7 +103,7 @@ module _ (c : goal.After-self-3-1) where
     sequencer = c.commit.new.self;
     seats = c.remove-head.new.self;
     output = c.extend_from_slice-room.new.self;
-    stopped = c.stopped_after-self-inside.result;
+    stopped = c.stop-self-inside.result;
     commits = c.self.inside.commits + 1;
     accepted = c.self.inside.accepted + 1;
   })
@@ -141,7 +141,7 @@ module _ (c : goal.After-self-3-1) where
       c.commit.new.self (c.commit.ensures ∙ ap (guide_committed c.in-Some.end) c.settle-cut.ensures.guide)
       c.commit_head.new.self (λ t agrees. c.commit_head.ensures.table (cond (cuts_next c.in-Some.end (drop 1 c.self.inside.sequencer.active)) (squash t 1) t) (c.settle-cut.ensures.lines t agrees))
       c.extend_from_slice-room.new.self.items put_out
-      c.stopped_after-self-inside.result c.stopped_after-self-inside.ensures
+      c.stop-self-inside.result c.stop-self-inside.ensures
       (vec_capacity c.remove-head.new.self) (vec_capacity c.extend_from_slice-room.new.self)
       (omega (arith, cap)) c.extend_from_slice-room.ensures.capacity
 

@@ -6,18 +6,18 @@ use Rattle.svc_sequencer.proofs.sequencer.Sequencer.commit.Goals as goal
 pub invariant_of-self : goal.invariant_of-self
 invariant_of-self c =
     let xs = c.self.inside.entries.items in
-    let table = c.remember.ensures ∙ ap (λ ys. with_successor ys (Some c.remove-head.result) c.due_at-self-inside.result c.self.inside.successors.items) c.deref.ensures.value in
+    let table = c.remember.ensures ∙ ap (λ ys. with_successor ys (Some c.remove-head.result) c.next-self-inside.result c.self.inside.successors.items) c.deref.ensures.value in
     record {
       rising = c.self.invariant.rising;
-      as_many = ap length table ∙ as_many xs (Some c.remove-head.result) c.due_at-self-inside.result c.self.inside.successors.items c.self.invariant.as_many;
+      as_many = ap length table ∙ as_many xs (Some c.remove-head.result) c.next-self-inside.result c.self.inside.successors.items c.self.invariant.as_many;
     }
 
 pub returns : goal.returns
 returns c =
-    let table = c.remember.ensures ∙ ap (λ ys. with_successor ys (Some c.remove-head.result) c.due_at-self-inside.result c.self.inside.successors.items) c.deref.ensures.value in
+    let table = c.remember.ensures ∙ ap (λ ys. with_successor ys (Some c.remove-head.result) c.next-self-inside.result c.self.inside.successors.items) c.deref.ensures.value in
     let some = subst (λ (g : Guide). 0 < length g.active) (sym c.self.view_is) c.requires in
     let before : Guide =
     record { entries = c.self.inside.entries.items; due = c.self.inside.due; successors = c.self.inside.successors.items; active = c.self.inside.active.items } in
-    committed before c.args.end c.due_at-self-inside.result c.remove-head.result c.remember.new.successors.items c.remove-head.new.self.items
-    c.due_at-self-inside.ensures c.remove-head.ensures.value some table c.remove-head.ensures.items
+    committed before c.args.end c.next-self-inside.result c.remove-head.result c.remember.new.successors.items c.remove-head.new.self.items
+    c.next-self-inside.ensures c.remove-head.ensures.value some table c.remove-head.ensures.items
     ∙ ap (guide_committed c.args.end) c.self.view_is
