@@ -71,10 +71,10 @@ some_from f (Some x) y h = (x, refl, same_Some (f x) y h)
 some_from f None y h = absurd (none-some y h)
 
 -- the burst of a unit's lease is the replay of a submit
-pub submit_replays : (m : MachineValue) (e : Entry) (lease : Lease) (local : ℕ) (asks : Bool) (turns : ℕ) (b : Advance) → e.kind ≡ kind.Submit → lease_of m e.unit.0 ≡ Some lease
+pub submit_replays : (m : MachineValue) (e : Entry) (lease : Lease) (local : ℕ) (asks : Bool) (turns : ℕ) (b : Advance) → lease_of m e.unit.0 ≡ Some lease
     → e.local ≡ Some local → e.ask ≡ Some asks → turns ≡ unwrap_or e.local 0 + turns_of (unwrap_or e.ask false) → b.unit ≡ lease.unit → b.epoch ≡ lease.epoch → b.start ≡ lease.core → IsAdvance m.image turns b
-    → IsReplay m.image m.plain e (Submit b)
-submit_replays m e lease local asks turns b is has l a count unit epoch start advance =
+    → ReplaysAs kind.Submit m.image m.plain e (Submit b)
+submit_replays m e lease local asks turns b has l a count unit epoch start advance =
     let whole : Machine State = machine_of (program m.image) m.plain in
     let from = some_from lease_from (seat_at whole e.unit.0) lease has in
     let seat : Seat State = from.0 in
@@ -86,7 +86,7 @@ submit_replays m e lease local asks turns b is has l a count unit epoch start ad
       start = start ∙ ap (λ (x : Lease). x.core) (sym from.2);
       advance = subst (λ n. IsAdvance m.image n b) count advance;
     } in
-    subst (λ k. ReplaysAs k m.image m.plain e (Submit b)) (sym is) (ap is_some l, ap is_some a, b, of, refl)
+    (ap is_some l, ap is_some a, b, of, refl)
 
 pub turns_are : (local : Option ℕ) (ask : Option Bool) (n : ℕ) (k : Bool) (x y : ℕ) → local ≡ Some n → ask ≡ Some k → x ≡ n → y ≡ bool_byte k → x + y ≡ unwrap_or local 0 + turns_of (unwrap_or ask false)
 turns_are local ask n k x y l a ex ey = let el = ap (λ o. unwrap_or o 0) l in let ea = ap (λ o. turns_of (unwrap_or o false)) a in let e = byte k in omega (arith, ex, ey, el, ea, e)

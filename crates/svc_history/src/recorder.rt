@@ -77,29 +77,12 @@ impl Recorder {
     /// After it, refused or not, the committed tasks are the first ones of the program's sequential order, as many as the
     /// history has commits, and committed memory and output are exactly what the plain evaluator gives by running those
     /// tasks one after another on one flat memory.
-    pub fn apply(&mut self, event: Event) -> Result<Slip, Refusal>
-        ensures refused { MatchResult result (λ _. refused self.old.machine.image self.old.machine.config (standing_of self.old) (event_of event) ≡ None) (λ e. refused self.old.machine.image self.old.machine.config (standing_of self.old) (event_of event) ≡ Some e) }
+    pub fn apply(&mut self, event: Event<'_>) -> Result<Slip, Refusal>
+        ensures refused { MatchResult result (λ _. refused self.old.machine.image self.old.machine.config (standing_of self.old) (event_of event.entry) ≡ None) (λ e. refused self.old.machine.image self.old.machine.config (standing_of self.old) (event_of event.entry) ≡ Some e) }
         ensures index { IfOk result (λ slip. slip.index ≡ length self.old.entries) }
-        ensures entry { IfOk result (λ slip. slip.entry ≡ entry_of (event_of event) (reply_to self.old.machine.image (standing_of self.old) (event_of event))) }
+        ensures entry { IfOk result (λ slip. slip.entry ≡ entry_of (event_of event.entry) (reply_to self.old.machine.image (standing_of self.old) (event_of event.entry))) }
         ensures entries { IfOk result (λ slip. self.new.entries ≡ self.old.entries ++ slip.entry ∷ []) }
-        ensures standing { standing_of self.new ≡ after_event self.old.machine.image self.old.machine.config (standing_of self.old) (event_of event) }
-        ensures image { self.new.machine.image ≡ self.old.machine.image }
-        ensures config { self.new.machine.config ≡ self.old.machine.config }
-        ensures unchanged { OnErr result (self.new ≡ self.old) }
-        ensures legal { IsLegal self.new }
-        ensures counted { IsCounted self.new }
-        ensures headline { IsSequentialMachine (board self.new.entries).committed self.new.machine }
-    {
-        self.record(&event)
-    }
-
-    /// The same, of an event that stays where it is: a burst is some 1,400 bytes, which nobody need move for it.
-    pub fn record(&mut self, event: &Event) -> Result<Slip, Refusal>
-        ensures refused { MatchResult result (λ _. refused self.old.machine.image self.old.machine.config (standing_of self.old) (event_of event.now) ≡ None) (λ e. refused self.old.machine.image self.old.machine.config (standing_of self.old) (event_of event.now) ≡ Some e) }
-        ensures index { IfOk result (λ slip. slip.index ≡ length self.old.entries) }
-        ensures entry { IfOk result (λ slip. slip.entry ≡ entry_of (event_of event.now) (reply_to self.old.machine.image (standing_of self.old) (event_of event.now))) }
-        ensures entries { IfOk result (λ slip. self.new.entries ≡ self.old.entries ++ slip.entry ∷ []) }
-        ensures standing { standing_of self.new ≡ after_event self.old.machine.image self.old.machine.config (standing_of self.old) (event_of event.now) }
+        ensures standing { standing_of self.new ≡ after_event self.old.machine.image self.old.machine.config (standing_of self.old) (event_of event.entry) }
         ensures image { self.new.machine.image ≡ self.old.machine.image }
         ensures config { self.new.machine.config ≡ self.old.machine.config }
         ensures unchanged { OnErr result (self.new ≡ self.old) }
@@ -109,7 +92,7 @@ impl Recorder {
     {
         let index = self.entries.len();
         let named = named(event);
-        let reply = self.machine.apply(event)?;
+        let reply = self.machine.step(event)?;
         let entry = telling(named, &reply);
         let _pushed = self.entries.push(entry);
         Ok(Slip { index, entry })

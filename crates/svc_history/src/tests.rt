@@ -46,27 +46,21 @@ fn opened(alloc: Global, bytes: &[u8], events: u32) -> Result<Recorder, Fail> {
     Ok(Recorder::open(alloc, image, four_units(events)?)?)
 }
 
-// The event of a line; a line without a lease is refused as that of an idle unit.
-fn event(recorder: &Recorder, line: Line) -> Result<Event, Refusal> {
-    Ok(match line {
-        Line::Assign(unit, guess) => Event::Assign {
+// Plays a line; a line without a lease is refused as that of an idle unit.
+fn play(recorder: &mut Recorder, line: Line) -> Result<Slip, Refusal> {
+    match line {
+        Line::Assign(unit, guess) => recorder.apply(Event::Assign {
             unit: UnitId(unit),
             guess,
-        },
+        }),
         Line::Submit(unit, max) => {
             let machine = recorder.machine();
             let Some(lease) = machine.lease(UnitId(unit)) else {
                 return Err(Refusal::Idle);
             };
-            Event::Submit {
-                burst: lease.advance(machine.image(), max),
-            }
+            let burst = lease.advance(machine.image(), max);
+            recorder.apply(Event::Submit { burst: &burst })
         }
-        Line::Commit(by) => Event::Commit { by: UnitId(by) },
-    })
-}
-
-fn play(recorder: &mut Recorder, line: Line) -> Result<Slip, Refusal> {
-    let event = event(recorder, line)?;
-    recorder.apply(event)
+        Line::Commit(by) => recorder.apply(Event::Commit { by: UnitId(by) }),
+    }
 }

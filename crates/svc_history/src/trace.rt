@@ -1,6 +1,9 @@
+// A trace, replayed and checked.
+
 ghost use Rattle.std.specs.Prelude.{◌≡◌, ◌++◌, ◌∷◌, [], None, IfOk, IfErr, IfSome, OnOk};
 ghost use Rattle.svc_machine.specs.Events.{event_of};
-ghost use Rattle.svc_history_laws.specs.Replay.{IsReplay, Lacks};
+ghost use Rattle.svc_machine_laws.specs.Events.{Submit};
+ghost use Rattle.svc_history_laws.specs.Replay.{IsReplay, Lacks, ReplaysAs};
 ghost use Rattle.svc_history.specs.Recorded.{IsLegal};
 ghost use Rattle.svc_history.specs.Faults.{IsFault, IsWrongThere};
 
@@ -8,6 +11,7 @@ use crate::recorder::Recorder;
 use crate::same::is_same;
 use std::alloc::Global;
 use svc_base::{Config, WordAddr};
+use svc_core::Burst;
 use svc_history_laws::{Entry, Kind};
 use svc_image::Image;
 use svc_machine::{Event, Machine};
@@ -37,34 +41,17 @@ pub struct TraceFault {
     pub kind: TraceFaultKind,
 }
 
-// The event that an entry names, where its machine stands; none where it lacks what its event needs.
-fn replayed(machine: &Machine, entry: &Entry) -> Option<Event>
-    ensures replay { IfSome result (λ x. IsReplay machine.now.image machine.now.plain entry.now (event_of x)) }
-    ensures lacks { result ≡ None → Lacks entry.now.kind machine.now.image machine.now.plain entry.now }
+// The burst that an entry of a submission names, where its machine stands; none where the entry lacks what a submission needs.
+fn replayed_burst(machine: &Machine, entry: &Entry) -> Option<Burst>
+    ensures replay { IfSome result (λ b. ReplaysAs Kind.Submit machine.now.image machine.now.plain entry.now (Submit b)) }
+    ensures lacks { result ≡ None → Lacks Kind.Submit machine.now.image machine.now.plain entry.now }
 {
-    let unit = entry.unit;
-    match entry.kind {
-        Kind::Assign => Some(Event::Assign {
-            unit,
-            guess: entry.arg?,
-        }),
-        Kind::Submit => {
-            let lease = machine.lease(unit)?;
-            let turns = u32::from(entry.local?) + u32::from(entry.ask?);
-            Some(Event::Submit {
-                burst: lease.advance(machine.image(), turns),
-            })
-        }
-        Kind::Replace => Some(Event::Replace {
-            unit,
-            addr: WordAddr(entry.arg?),
-        }),
-        Kind::Cancel => Some(Event::Cancel { unit }),
-        Kind::Commit => Some(Event::Commit { by: unit }),
-    }
+    let lease = machine.lease(entry.unit)?;
+    let turns = u32::from(entry.local?) + u32::from(entry.ask?);
+    Some(lease.advance(machine.image(), turns))
 }
 
-// Applies the event that the entry names, and compares what it comes to.
+// Replays the event that the entry names.
 fn replay(recorder: &mut Recorder, entry: &Entry) -> Result<(), TraceFaultKind>
     ensures entries { OnOk result (recorder.new.entries ≡ recorder.old.entries ++ entry.now ∷ []) }
     ensures image { recorder.new.machine.image ≡ recorder.old.machine.image }
@@ -72,10 +59,42 @@ fn replay(recorder: &mut Recorder, entry: &Entry) -> Result<(), TraceFaultKind>
     ensures fault { IfErr result (IsWrongThere recorder.old entry.now) }
     ensures legal { IsLegal recorder.old }
 {
-    let Some(event) = replayed(recorder.machine(), entry) else {
-        return Err(TraceFaultKind::Refused);
-    };
-    match recorder.record(&event) {
+    let machine = recorder.machine();
+    let unit = entry.unit;
+    match entry.kind {
+        Kind::Assign => {
+            let Some(guess) = entry.arg else {
+                return Err(TraceFaultKind::Refused);
+            };
+            compared(recorder, entry, Event::Assign { unit, guess })
+        }
+        Kind::Submit => {
+            let Some(burst) = replayed_burst(machine, entry) else {
+                return Err(TraceFaultKind::Refused);
+            };
+            compared(recorder, entry, Event::Submit { burst: &burst })
+        }
+        Kind::Replace => {
+            let Some(word) = entry.arg else {
+                return Err(TraceFaultKind::Refused);
+            };
+            let addr = WordAddr(word);
+            compared(recorder, entry, Event::Replace { unit, addr })
+        }
+        Kind::Cancel => compared(recorder, entry, Event::Cancel { unit }),
+        Kind::Commit => compared(recorder, entry, Event::Commit { by: unit }),
+    }
+}
+
+// Applies the event that the entry names, and compares what it comes to.
+fn compared(recorder: &mut Recorder, entry: &Entry, event: Event<'_>) -> Result<(), TraceFaultKind>
+    requires { IsReplay recorder.old.machine.image recorder.old.machine.plain entry.now (event_of event) }
+    ensures entries { OnOk result (recorder.new.entries ≡ recorder.old.entries ++ entry.now ∷ []) }
+    ensures image { recorder.new.machine.image ≡ recorder.old.machine.image }
+    ensures config { recorder.new.machine.config ≡ recorder.old.machine.config }
+    ensures fault { IsLegal recorder.old → IfErr result (IsWrongThere recorder.old entry.now) }
+{
+    match recorder.apply(event) {
         Ok(slip) if is_same(&slip.entry, entry) => Ok(()),
         Ok(_) => Err(TraceFaultKind::Differs),
         Err(_) => Err(TraceFaultKind::Refused),

@@ -38,13 +38,13 @@ fn plain_entry(
 }
 
 /// The entry of an event, but for its reply.
-pub(crate) fn named(event: &Event) -> Entry
-    ensures entry { result ≡ named (event_of event.now) }
-    ensures sound { IsEvent (event_of event.now) }
+pub(crate) fn named(event: Event<'_>) -> Entry
+    ensures entry { result ≡ named (event_of event.entry) }
+    ensures sound { IsEvent (event_of event.entry) }
 {
     match event {
         Event::Assign { unit, guess } => {
-            plain_entry(Kind::Assign, *unit, Some(*guess), None, None)
+            plain_entry(Kind::Assign, unit, Some(guess), None, None)
         }
         Event::Submit { burst } => {
             let _end = burst.end();
@@ -58,10 +58,10 @@ pub(crate) fn named(event: &Event) -> Entry
             )
         }
         Event::Replace { unit, addr } => {
-            plain_entry(Kind::Replace, *unit, Some(addr.0), None, None)
+            plain_entry(Kind::Replace, unit, Some(addr.0), None, None)
         }
-        Event::Cancel { unit } => plain_entry(Kind::Cancel, *unit, None, None, None),
-        Event::Commit { by } => plain_entry(Kind::Commit, *by, None, None, None),
+        Event::Cancel { unit } => plain_entry(Kind::Cancel, unit, None, None, None),
+        Event::Commit { by } => plain_entry(Kind::Commit, by, None, None, None),
     }
 }
 

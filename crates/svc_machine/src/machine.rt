@@ -108,22 +108,10 @@ impl Machine {
     ///
     /// What it does and answers is said for every standing that the machine is at: the plain machine with any line table
     /// that the bus agrees with.
-    pub fn step(&mut self, event: Event) -> Result<Reply, Refusal>
-        ensures refused { (s : Standing) → StandsAt self.old s → MatchResult result (λ _. refused self.old.image self.old.config s (event_of event) ≡ None) (λ e. refused self.old.image self.old.config s (event_of event) ≡ Some e) }
-        ensures reply { (s : Standing) → StandsAt self.old s → IfOk result (λ r. r ≡ reply_to self.old.image s (event_of event)) }
-        ensures standing { (s : Standing) → StandsAt self.old s → StandsAt self.new (after_event self.old.image self.old.config s (event_of event)) }
-        ensures image { self.new.image ≡ self.old.image }
-        ensures config { self.new.config ≡ self.old.config }
-        ensures unchanged { OnErr result (self.new ≡ self.old) }
-    {
-        self.apply(&event)
-    }
-
-    /// The same, of an event that stays where it is: a burst is some 1,400 bytes, which nobody need move for it.
-    pub fn apply(&mut self, event: &Event) -> Result<Reply, Refusal>
-        ensures refused { (s : Standing) → StandsAt self.old s → MatchResult result (λ _. refused self.old.image self.old.config s (event_of event.now) ≡ None) (λ e. refused self.old.image self.old.config s (event_of event.now) ≡ Some e) }
-        ensures reply { (s : Standing) → StandsAt self.old s → IfOk result (λ r. r ≡ reply_to self.old.image s (event_of event.now)) }
-        ensures standing { (s : Standing) → StandsAt self.old s → StandsAt self.new (after_event self.old.image self.old.config s (event_of event.now)) }
+    pub fn step(&mut self, event: Event<'_>) -> Result<Reply, Refusal>
+        ensures refused { (s : Standing) → StandsAt self.old s → MatchResult result (λ _. refused self.old.image self.old.config s (event_of event.entry) ≡ None) (λ e. refused self.old.image self.old.config s (event_of event.entry) ≡ Some e) }
+        ensures reply { (s : Standing) → StandsAt self.old s → IfOk result (λ r. r ≡ reply_to self.old.image s (event_of event.entry)) }
+        ensures standing { (s : Standing) → StandsAt self.old s → StandsAt self.new (after_event self.old.image self.old.config s (event_of event.entry)) }
         ensures image { self.new.image ≡ self.old.image }
         ensures config { self.new.config ≡ self.old.config }
         ensures unchanged { OnErr result (self.new ≡ self.old) }
@@ -132,11 +120,11 @@ impl Machine {
             return Err(refusal);
         }
         Ok(match event {
-            Event::Assign { unit, guess } => self.assign(*unit, *guess),
+            Event::Assign { unit, guess } => self.assign(unit, guess),
             Event::Submit { burst } => self.submit(burst),
-            Event::Replace { unit, addr } => self.replace(*unit, *addr),
-            Event::Cancel { unit } => self.cancel(*unit),
-            Event::Commit { by } => self.commit(*by),
+            Event::Replace { unit, addr } => self.replace(unit, addr),
+            Event::Cancel { unit } => self.cancel(unit),
+            Event::Commit { by } => self.commit(by),
         })
     }
 }

@@ -25,15 +25,15 @@ use svc_image::Image;
 
 impl Machine {
     // Why the event is refused, where it is.
-    pub(crate) fn refusal(&self, event: &Event) -> Option<Refusal>
-        ensures { (s : Standing) → StandsAt self.now s → result ≡ refused self.now.image self.now.config s (event_of event.now) }
+    pub(crate) fn refusal(&self, event: Event<'_>) -> Option<Refusal>
+        ensures { (s : Standing) → StandsAt self.now s → result ≡ refused self.now.image self.now.config s (event_of event.entry) }
     {
         match event {
-            Event::Assign { unit, guess } => self.refuse_assign(*unit, *guess),
+            Event::Assign { unit, guess } => self.refuse_assign(unit, guess),
             Event::Submit { burst } => self.refuse_submit(burst),
-            Event::Replace { unit, addr } => self.refuse_replace(*unit, *addr),
-            Event::Cancel { unit } => self.refuse_cancel(*unit),
-            Event::Commit { by } => self.refuse_commit(*by),
+            Event::Replace { unit, addr } => self.refuse_replace(unit, addr),
+            Event::Cancel { unit } => self.refuse_cancel(unit),
+            Event::Commit { by } => self.refuse_commit(by),
         }
     }
 

@@ -23,7 +23,7 @@ pub fn drive(
     alloc: Global,
     image: Image,
     config: Config,
-    events: &[Event],
+    events: &[Event<'_>],
 ) -> Result<Machine, OpenError>
     ensures image { IfOk result (λ m. m.image ≡ image) }
     ensures config { IfOk result (λ m. m.config ≡ config) }
@@ -32,16 +32,16 @@ pub fn drive(
 {
     let mut machine = Machine::open(alloc, image, config)?;
     for event in events {
-        see(event);
-        let _refused = machine.apply(event);
+        see(*event);
+        let _refused = machine.step(*event);
     }
     let _open = &machine.image;
     Ok(machine)
 }
 
 // An event's burst, if it has one, ends where its looks lead from its start: its type keeps that.
-fn see(event: &Event)
-    ensures { IsEvent (event_of event.now) }
+fn see(event: Event<'_>)
+    ensures { IsEvent (event_of event.entry) }
 {
     if let Event::Submit { burst } = event {
         let _end = burst.end();

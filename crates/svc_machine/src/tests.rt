@@ -33,7 +33,7 @@ fn opened_from(alloc: Global, first: u64) -> Result<Machine, Fail> {
 
 fn assign(machine: &mut Machine, unit: u8, guess: u32) -> Answer {
     let unit = UnitId(unit);
-    machine.apply(&Event::Assign { unit, guess })
+    machine.step(Event::Assign { unit, guess })
 }
 
 // The unit's lease, advanced by 63 turns.
@@ -45,13 +45,13 @@ fn taken(machine: &Machine, unit: u8) -> Option<Burst> {
 // Without a lease it is refused as that of an idle unit.
 fn submit(machine: &mut Machine, unit: u8) -> Answer {
     match taken(machine, unit) {
-        Some(burst) => machine.apply(&Event::Submit { burst }),
+        Some(burst) => machine.step(Event::Submit { burst: &burst }),
         None => Err(Refusal::Idle),
     }
 }
 
 fn commit(machine: &mut Machine, by: u8) -> Answer {
-    machine.apply(&Event::Commit { by: UnitId(by) })
+    machine.step(Event::Commit { by: UnitId(by) })
 }
 
 fn stored(served: Option<Served>, cut: Option<Cut>) -> Answer {

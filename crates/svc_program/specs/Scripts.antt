@@ -9,10 +9,9 @@ use Rattle.svc_base.specs.Refusals.{number_of}
 use Rattle.svc_image.specs.Image.{Image}
 use Rattle.svc_core_laws.specs.Bursts.{Advance, IsAdvance, is_nothing}
 use Rattle.svc_core.specs.declared.burst.Lease.{Lease}
+use Rattle.svc_machine_laws.specs.Events.{Event}
+use Rattle.svc_machine_laws.specs.Events as event
 use Rattle.svc_machine_laws.specs.Standing.{refused, reply_to}
-use Rattle.svc_machine.specs.declared.event.Event.{Event}
-use Rattle.svc_machine.specs.declared.event.Event.TheVariants as event
-use Rattle.svc_machine.specs.Events.{event_of}
 use Rattle.svc_machine.specs.Reads.{lease_of}
 use Rattle.svc_history_laws.specs.Entries.{entry_of}
 use Rattle.svc_history.specs.Recorded.{Recorded, standing_of}
@@ -42,9 +41,9 @@ kept_for kept unit = unwrap_or (slice_get kept unit.0) None
 -- an event is tried: it is accepted with its entry, or refused and changes nothing
 abbrev pub Tries : Recorded → Event → Answer → Recorded → Type 0
 Tries r x (answer.Accepted e) next =
-    (refused r.machine.image r.machine.config (standing_of r) (event_of x) ≡ None)
-    × (e ≡ entry_of (event_of x) (reply_to r.machine.image (standing_of r) (event_of x))) × (next.entries ≡ r.entries ++ e ∷ [])
-Tries r x (answer.Refused why) next = (refused r.machine.image r.machine.config (standing_of r) (event_of x) ≡ Some why) × (next ≡ r)
+    (refused r.machine.image r.machine.config (standing_of r) x ≡ None)
+    × (e ≡ entry_of x (reply_to r.machine.image (standing_of r) x)) × (next.entries ≡ r.entries ++ e ∷ [])
+Tries r x (answer.Refused why) next = (refused r.machine.image r.machine.config (standing_of r) x ≡ Some why) × (next ≡ r)
 Tries r x (answer.Taken local ask) next = ⊥
 Tries r x answer.Nothing next = ⊥
 
@@ -82,11 +81,11 @@ Gives (Some b) r a next = Tries r (event.Submit b) a next
 
 -- a step of this kind is done
 abbrev pub DoesKind : StepKind → UnitId → Recorded → Kept → Answer → Recorded → Kept → Type 0
-DoesKind (step.Assign guess) unit r kept a next after = Tries r (event.Assign unit guess) a next × (after ≡ kept)
+DoesKind (step.Assign guess) unit r kept a next after = Tries r (event.Assign unit.0 guess) a next × (after ≡ kept)
 DoesKind (step.Submit turns) unit r kept a next after = Submits (lease_of r.machine unit.0) turns unit r a next × (after ≡ kept)
-DoesKind (step.Replace addr) unit r kept a next after = Tries r (event.Replace unit addr) a next × (after ≡ kept)
-DoesKind step.Cancel unit r kept a next after = Tries r (event.Cancel unit) a next × (after ≡ kept)
-DoesKind step.Commit unit r kept a next after = Tries r (event.Commit unit) a next × (after ≡ kept)
+DoesKind (step.Replace addr) unit r kept a next after = Tries r (event.Replace unit.0 addr.0) a next × (after ≡ kept)
+DoesKind step.Cancel unit r kept a next after = Tries r (event.Cancel unit.0) a next × (after ≡ kept)
+DoesKind step.Commit unit r kept a next after = Tries r (event.Commit unit.0) a next × (after ≡ kept)
 DoesKind (step.Take turns) unit r kept a next after = Takes (lease_of r.machine unit.0) turns unit r kept a after × (next ≡ r)
 DoesKind step.Give unit r kept a next after = Gives (kept_for kept unit) r a next × (after ≡ slice_set kept unit.0 None)
 

@@ -3,6 +3,7 @@
 ghost use Rattle.std.specs.Prelude.{ℕ, List, Option, ◌≡◌, ◌⊎◌, ◌<◌, length, replicate, slice_set, None, Some, IfOk, IfErr, OnOk, MatchResult};
 ghost use Rattle.std.specs.Io.KnownBytes.{Appends};
 ghost use Rattle.svc_base.specs.declared.refusal.Refusal.TheVariants as refusal;
+ghost use Rattle.svc_machine.specs.Events.{event_of};
 ghost use Rattle.svc_machine.specs.Reads.{lease_of};
 ghost use Rattle.svc_history.specs.Recorded.{IsLegal};
 ghost use Rattle.svc_program.specs.Runs.{ReportsOn};
@@ -120,8 +121,8 @@ fn done(recorder: &mut Recorder, kept: &mut Kept, step: &Step) -> Answer
 }
 
 // Tries an event.
-fn tried(recorder: &mut Recorder, event: Event) -> Answer
-    ensures tries { Tries recorder.old event result recorder.new }
+fn tried(recorder: &mut Recorder, event: Event<'_>) -> Answer
+    ensures tries { Tries recorder.old (event_of event.entry) result recorder.new }
     ensures image { recorder.new.machine.image ≡ recorder.old.machine.image }
     ensures config { recorder.new.machine.config ≡ recorder.old.machine.config }
 {
@@ -150,7 +151,7 @@ fn submitted(recorder: &mut Recorder, unit: UnitId, turns: u32) -> Answer
     ensures config { recorder.new.machine.config ≡ recorder.old.machine.config }
 {
     match burst(recorder, unit, turns) {
-        Ok(burst) => tried(recorder, Event::Submit { burst }),
+        Ok(burst) => tried(recorder, Event::Submit { burst: &burst }),
         Err(refusal) => Answer::Refused(refusal),
     }
 }
@@ -179,7 +180,7 @@ fn given(recorder: &mut Recorder, kept: &mut Kept, unit: UnitId) -> Answer
     ensures config { recorder.new.machine.config ≡ recorder.old.machine.config }
 {
     match given_up(kept, unit) {
-        Some(burst) => tried(recorder, Event::Submit { burst }),
+        Some(burst) => tried(recorder, Event::Submit { burst: &burst }),
         None => Answer::Nothing,
     }
 }

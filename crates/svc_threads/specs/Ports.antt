@@ -19,7 +19,7 @@ IsEntryOf x e = (r : Reply) × (e ≡ entry_of (event_of x) r)
 -- the unit that asks for an event
 abbrev pub unit_of : Event → UnitId
 unit_of (Assign unit guess) = unit
-unit_of (Submit burst) = burst.unit
+unit_of (Submit burst) = burst.now.unit
 unit_of (Replace unit addr) = unit
 unit_of (Cancel unit) = unit
 unit_of (Commit by) = by

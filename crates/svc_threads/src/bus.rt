@@ -87,8 +87,8 @@ impl SharedBus {
 
     /// One event, as the recorder takes it, under the lock. The board shows the new numbers after an accepted event, and is
     /// left alone after a refused one.
-    pub fn apply<R: Wait>(&self, rt: &R, event: &Event) -> Result<Slip, Refusal>
-        ensures { IfOk result (λ slip. IsEntryOf event.now slip.entry) }
+    pub fn apply<R: Wait>(&self, rt: &R, event: Event<'_>) -> Result<Slip, Refusal>
+        ensures { IfOk result (λ slip. IsEntryOf event.entry slip.entry) }
     {
         self.taken(rt).apply(rt, event)
     }
@@ -118,7 +118,7 @@ impl Port for SharedBus {
         SharedBus::lease(self, rt, unit)
     }
 
-    fn apply<R: Wait>(&self, rt: &R, event: &Event) -> Result<Slip, Refusal> {
+    fn apply<R: Wait>(&self, rt: &R, event: Event<'_>) -> Result<Slip, Refusal> {
         SharedBus::apply(self, rt, event)
     }
 

@@ -63,19 +63,19 @@ impl Locked {
     }
 
     // One event, as the recorder takes it. Where it is accepted the board shows the new numbers.
-    pub(crate) fn apply<R: Wait>(&mut self, rt: &R, event: &Event) -> Result<Slip, Refusal>
-        ensures refused { MatchResult result (λ _. refused self.old.machine.image self.old.machine.config (standing_of self.old) (event_of event.now) ≡ None) (λ e. refused self.old.machine.image self.old.machine.config (standing_of self.old) (event_of event.now) ≡ Some e) }
+    pub(crate) fn apply<R: Wait>(&mut self, rt: &R, event: Event<'_>) -> Result<Slip, Refusal>
+        ensures refused { MatchResult result (λ _. refused self.old.machine.image self.old.machine.config (standing_of self.old) (event_of event.entry) ≡ None) (λ e. refused self.old.machine.image self.old.machine.config (standing_of self.old) (event_of event.entry) ≡ Some e) }
         ensures index { IfOk result (λ slip. slip.index ≡ length self.old.entries) }
-        ensures entry { IfOk result (λ slip. slip.entry ≡ entry_of (event_of event.now) (reply_to self.old.machine.image (standing_of self.old) (event_of event.now))) }
+        ensures entry { IfOk result (λ slip. slip.entry ≡ entry_of (event_of event.entry) (reply_to self.old.machine.image (standing_of self.old) (event_of event.entry))) }
         ensures entries { IfOk result (λ slip. self.new.entries ≡ self.old.entries ++ slip.entry ∷ []) }
-        ensures standing { standing_of self.new ≡ after_event self.old.machine.image self.old.machine.config (standing_of self.old) (event_of event.now) }
+        ensures standing { standing_of self.new ≡ after_event self.old.machine.image self.old.machine.config (standing_of self.old) (event_of event.entry) }
         ensures image { self.new.machine.image ≡ self.old.machine.image }
         ensures config { self.new.machine.config ≡ self.old.machine.config }
         ensures unchanged { OnErr result (self.new ≡ self.old) }
         ensures legal { IsLegal self.new }
     {
         let counts = self.counts;
-        let slip = self.recorder.record(event)?;
+        let slip = self.recorder.apply(event)?;
         let row = with_entry(counts, &slip.entry);
         self.counts = row;
         self.board.publish(rt, &mut self.publisher, row);

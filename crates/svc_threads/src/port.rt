@@ -12,7 +12,7 @@ use svc_history::{Event, Glance, Slip};
 #[derive(Clone, Copy)]
 pub enum Phase<'a> {
     /// It is about to ask for this event; of a submit, its burst is made.
-    Before(&'a Event),
+    Before(Event<'a>),
     /// The event was accepted or refused.
     After,
 }
@@ -35,9 +35,11 @@ pub trait Port {
     /// Errors: [`Refusal::NoSuchUnit`].
     fn lease<R: Wait>(&self, rt: &R, unit: UnitId) -> Result<Glance, Refusal>;
 
-    /// One event, in one step. It is lent: a burst is some 1,400 bytes, and its thread makes the next one in its place.
-    fn apply<R: Wait>(&self, rt: &R, event: &Event) -> Result<Slip, Refusal>
-        ensures { IfOk result (λ slip. IsEntryOf event.now slip.entry) };
+    /// One event, in one step.
+    ///
+    /// Errors: why it is refused; then nothing has changed.
+    fn apply<R: Wait>(&self, rt: &R, event: Event<'_>) -> Result<Slip, Refusal>
+        ensures { IfOk result (λ slip. IsEntryOf event.entry slip.entry) };
 
     /// The board that shows the numbers.
     fn board(&self) -> &Board

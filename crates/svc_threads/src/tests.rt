@@ -80,21 +80,20 @@ fn recorder(alloc: Global, image: &Image, config: Config) -> Result<Recorder, Fa
 
 // Does a step that is accepted.
 fn take<R: Wait>(rt: &R, bus: &SharedBus, image: &Image, step: Step) -> Result<Slip, Fail> {
-    let event = match step {
-        Step::Assign(unit, guess) => Event::Assign {
-            unit: UnitId(unit),
-            guess,
-        },
+    let slip = match step {
+        Step::Assign(unit, guess) => {
+            let unit = UnitId(unit);
+            bus.apply(rt, Event::Assign { unit, guess })
+        }
         Step::Submit(unit) => {
             let glance = bus.lease(rt, UnitId(unit)).ok().ok_or("a unit")?;
             let lease = glance.lease.ok_or("a task")?;
-            Event::Submit {
-                burst: lease.advance(image, MAX_BURST_TURNS),
-            }
+            let burst = lease.advance(image, MAX_BURST_TURNS);
+            bus.apply(rt, Event::Submit { burst: &burst })
         }
-        Step::Commit(unit) => Event::Commit { by: UnitId(unit) },
+        Step::Commit(unit) => bus.apply(rt, Event::Commit { by: UnitId(unit) }),
     };
-    Ok(bus.apply(rt, &event).ok().ok_or("an accepted event")?)
+    Ok(slip.ok().ok_or("an accepted event")?)
 }
 
 fn row(events: u64, assigned: u64, committed: u64, squashed: u64) -> BoardRow {

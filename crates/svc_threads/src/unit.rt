@@ -38,14 +38,6 @@ enum Tried {
     Ended,
 }
 
-// An event without a burst.
-#[derive(Clone, Copy)]
-enum Other {
-    Assign(u32),
-    Replace(WordAddr),
-    Commit,
-}
-
 /// The body of a unit's thread: at most so many turns. A turn reads the board. Where the last turn stalled and the board
 /// shows the same numbers it stalls again, without the lock. Else the unit takes a glance and does its next move: it begins
 /// a task at the guess, runs its task by a burst, without the lock, and submits that, or commits its head. Where its cache is
@@ -70,7 +62,6 @@ pub fn run_unit<P: Port, G: Gate, A: Allocator, R: Wait>(
     ensures err { IfErr result (λ e. e ≡ RunError.Memory) }
 {
     let mut slips = Vec::new(alloc);
-    let mut submit = Event::Commit { by: unit };
     let backoff = Backoff::new();
     let mut stalled_at: Option<BoardRow> = None;
     for _ in 0..turns {
@@ -79,7 +70,7 @@ pub fn run_unit<P: Port, G: Gate, A: Allocator, R: Wait>(
             backoff.snooze();
             continue;
         }
-        match take_turn(rt, port, unit, image, gate, &mut submit, &mut slips)? {
+        match take_turn(rt, port, unit, image, gate, &mut slips)? {
             Turn::Went => {
                 stalled_at = None;
                 backoff.reset();
@@ -101,29 +92,27 @@ fn take_turn<P: Port, G: Gate, A: Allocator, R: Wait>(
     unit: UnitId,
     image: &Image,
     gate: &G,
-    submit: &mut Event,
     slips: &mut Vec<Slip, A>,
 ) -> Result<Turn, RunError>
     ensures own { All (IsOf unit) slips.old.items → All (IsOf unit) slips.new.items }
     ensures err { IfErr result (λ e. e ≡ RunError.Memory) }
 {
-    let tried = match make_move(rt, port, unit, image, gate, submit, slips)? {
+    let tried = match make_move(rt, port, unit, image, gate, slips)? {
         Tried::Refused(Refusal::SetFull(addr)) => {
-            attempt_other(rt, port, unit, Other::Replace(addr), gate, slips)?
+            attempt(rt, port, unit, Event::Replace { unit, addr }, gate, slips)?
         }
         tried => tried,
     };
     Ok(ended(tried))
 }
 
-// Asks for the event that the unit does next, by a glance. A burst is made in the place of the last one, without the lock.
+// Asks for the event that the unit does next, by a glance. A burst is made without the lock.
 fn make_move<P: Port, G: Gate, A: Allocator, R: Wait>(
     rt: &R,
     port: &P,
     unit: UnitId,
     image: &Image,
     gate: &G,
-    submit: &mut Event,
     slips: &mut Vec<Slip, A>,
 ) -> Result<Tried, RunError>
     ensures own { All (IsOf unit) slips.old.items → All (IsOf unit) slips.new.items }
@@ -135,48 +124,16 @@ fn make_move<P: Port, G: Gate, A: Allocator, R: Wait>(
     match glance.next_move() {
         Move::Ended => Ok(Tried::Ended),
         Move::Wait => Ok(Tried::Waits),
-        Move::Begin { guess } => attempt_other(rt, port, unit, Other::Assign(guess), gate, slips),
-        Move::Commit => attempt_other(rt, port, unit, Other::Commit, gate, slips),
+        Move::Begin { guess } => {
+            attempt(rt, port, unit, Event::Assign { unit, guess }, gate, slips)
+        }
+        Move::Commit => attempt(rt, port, unit, Event::Commit { by: unit }, gate, slips),
         Move::RunOn(lease) => {
-            make_submit(&Lease::new(unit, lease.epoch, lease.core), image, submit);
-            attempt(rt, port, unit, submit, gate, slips)
+            let lease = Lease::new(unit, lease.epoch, lease.core);
+            let burst = lease.advance(image, MAX_BURST_TURNS);
+            attempt(rt, port, unit, Event::Submit { burst: &burst }, gate, slips)
         }
     }
-}
-
-// The submit of a lease's burst, in the place of the last one.
-fn make_submit(lease: &Lease, image: &Image, submit: &mut Event)
-    ensures { unit_of submit.new ≡ lease.now.unit }
-{
-    match submit {
-        Event::Submit { burst } => burst.refill(lease, image, MAX_BURST_TURNS),
-        _ => {
-            *submit = Event::Submit {
-                burst: lease.advance(image, MAX_BURST_TURNS),
-            }
-        }
-    }
-}
-
-// Asks for one event without a burst. An event has room for one, so these are made here: a turn that submits pays for none
-// of them.
-fn attempt_other<P: Port, G: Gate, A: Allocator, R: Wait>(
-    rt: &R,
-    port: &P,
-    unit: UnitId,
-    other: Other,
-    gate: &G,
-    slips: &mut Vec<Slip, A>,
-) -> Result<Tried, RunError>
-    ensures own { All (IsOf unit) slips.old.items → All (IsOf unit) slips.new.items }
-    ensures err { IfErr result (λ e. e ≡ RunError.Memory) }
-{
-    let event = match other {
-        Other::Assign(guess) => Event::Assign { unit, guess },
-        Other::Replace(addr) => Event::Replace { unit, addr },
-        Other::Commit => Event::Commit { by: unit },
-    };
-    attempt(rt, port, unit, &event, gate, slips)
 }
 
 // Asks for one event, for whose slip room is made first. The gate is asked before and after.
@@ -184,11 +141,11 @@ fn attempt<P: Port, G: Gate, A: Allocator, R: Wait>(
     rt: &R,
     port: &P,
     unit: UnitId,
-    event: &Event,
+    event: Event<'_>,
     gate: &G,
     slips: &mut Vec<Slip, A>,
 ) -> Result<Tried, RunError>
-    requires { unit_of event.now ≡ unit }
+    requires { unit_of event ≡ unit }
     ensures own { All (IsOf unit) slips.old.items → All (IsOf unit) slips.new.items }
     ensures err { IfErr result (λ e. e ≡ RunError.Memory) }
 {
@@ -209,10 +166,10 @@ fn ask<P: Port, A: Allocator, R: Wait>(
     rt: &R,
     port: &P,
     unit: UnitId,
-    event: &Event,
+    event: Event<'_>,
     slips: &mut Vec<Slip, A>,
 ) -> Tried
-    requires unit { unit_of event.now ≡ unit }
+    requires unit { unit_of event ≡ unit }
     requires room { vec_len slips.old < vec_capacity slips.old }
     ensures own { All (IsOf unit) slips.old.items → All (IsOf unit) slips.new.items }
 {

@@ -21,7 +21,8 @@ fn driven(alloc: Global) -> Result<(u64, Option<u32>, u32), Fail> {
         guess: 0,
     };
     let ends = Event::Commit { by: UnitId(3) };
-    let events = [begins, ends.copy(), Event::Submit { burst }, ends];
+    let submits = Event::Submit { burst: &burst };
+    let events = [begins, ends, submits, ends];
     let image = Image::read(alloc, &P)?;
     let machine = drive(alloc, image, Config::new(4, 16, 2, 10, 1)?, &events)?;
     let _words = machine.image().data_words();

@@ -20,7 +20,7 @@ fn third_of(alloc: Global, first: u64) -> Result<Option<Refusal>, Fail> {
     let mut machine = opened_from(alloc, first)?;
     assign(&mut machine, 0, 0)?;
     assign(&mut machine, 1, 12)?;
-    machine.apply(&Event::Cancel { unit: UnitId(1) })?;
+    machine.step(Event::Cancel { unit: UnitId(1) })?;
     Ok(assign(&mut machine, 1, 12).err())
 }
 
@@ -57,7 +57,8 @@ fn foreign(alloc: Global) -> Result<Option<Refusal>, Fail> {
         return Ok(None);
     };
     let burst = lease.advance(&other, 63);
-    Ok(machine.step(Event::Submit { burst }).err())
+    let submits = Event::Submit { burst: &burst };
+    Ok(machine.step(submits).err())
 }
 
 #[test]
@@ -78,11 +79,11 @@ fn twice(alloc: Global) -> Result<(Answer, Answer), Fail> {
     let Some(burst) = made_elsewhere(alloc)? else {
         return Err(Fail::from("no lease"));
     };
-    let again = burst.copy();
     let mut machine = opened(alloc)?;
     assign(&mut machine, 0, 0)?;
-    let first = machine.step(Event::Submit { burst });
-    Ok((first, machine.step(Event::Submit { burst: again })))
+    let submits = Event::Submit { burst: &burst };
+    let first = machine.step(submits);
+    Ok((first, machine.step(submits)))
 }
 
 // The end of a burst follows from its start and its looks, so it may come from another machine of the same image.

@@ -29,7 +29,7 @@ fn a_refused_event_leaves_the_board(rt: HostRuntime) -> Result<(), Fail> {
         .ok()
         .ok_or("memory")?;
     take(&rt, &bus, &image, Step::Assign(0, 0))?;
-    assert!(rt; bus.apply(&rt, &Event::Commit { by: UnitId(0) }).is_err());
+    assert!(rt; bus.apply(&rt, Event::Commit { by: UnitId(0) }).is_err());
     assert_eq!(rt; bus.board().read(&rt, &mut pass), row(1, 1, 0, 0));
     Ok(())
 }

@@ -67,7 +67,7 @@ impl Port for Pinned {
         })
     }
 
-    fn apply<R: Wait>(&self, _rt: &R, event: &Event) -> Result<Slip, Refusal> {
+    fn apply<R: Wait>(&self, _rt: &R, event: Event<'_>) -> Result<Slip, Refusal> {
         match event {
             Event::Submit { .. } => {
                 self.submits.fetch_add(1, Ordering::SeqCst);

@@ -34,7 +34,7 @@ impl Port for Waiting {
         })
     }
 
-    fn apply<R: Wait>(&self, _rt: &R, _event: &Event) -> Result<Slip, Refusal> {
+    fn apply<R: Wait>(&self, _rt: &R, _event: Event<'_>) -> Result<Slip, Refusal> {
         self.events.fetch_add(1, Ordering::SeqCst);
         Err(Refusal::Idle)
     }

@@ -34,7 +34,7 @@ impl Port for Damaged {
         self.bus.lease(rt, unit)
     }
 
-    fn apply<R: Wait>(&self, rt: &R, event: &Event) -> Result<Slip, Refusal> {
+    fn apply<R: Wait>(&self, rt: &R, event: Event<'_>) -> Result<Slip, Refusal> {
         let Slip { index, entry } = self.bus.apply(rt, event)?;
         let index = match self.damage {
             Damage::Lost(lost) if lost == index => return Err(Refusal::Stale),

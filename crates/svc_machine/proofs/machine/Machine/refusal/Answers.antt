@@ -6,7 +6,7 @@ pub returns-in-Assign : goal.returns-in-Assign
 returns-in-Assign c s at = rw c.in-Assign.is (refusal_is c.args.self.now c.refuse_assign.result (Assign c.in-Assign.unit.0 c.in-Assign.guess) c.refuse_assign.ensures s at)
 
 pub returns-in-Submit : goal.returns-in-Submit
-returns-in-Submit c s at = rw c.in-Submit.is (refusal_is c.args.self.now c.refuse_submit.result (Submit c.in-Submit.burst) c.refuse_submit.ensures s at)
+returns-in-Submit c s at = rw c.in-Submit.is (refusal_is c.args.self.now c.refuse_submit.result (Submit c.in-Submit.burst.now) c.refuse_submit.ensures s at)
 
 pub returns-in-Replace : goal.returns-in-Replace
 returns-in-Replace c s at = rw c.in-Replace.is (refusal_is c.args.self.now c.refuse_replace.result (Replace c.in-Replace.unit.0 c.in-Replace.addr.0) c.refuse_replace.ensures s at)
