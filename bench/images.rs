@@ -8,6 +8,8 @@
 //! - `small`, `large`: 150,000 tasks of four turns, with a load and a store, over 100 and over 65,536 data words.
 //! - `short`: tasks of one turn each, one after another at one entry, without an end.
 //! - `spin`: 960 tasks of 65,000 turns each that touch registers alone and ask nothing, each at an entry of its own.
+//! - `chain`: 60 tasks with an entry each, in the order of their entries, that hand a sum on through a word that all share.
+//!   Each also loads a word that an earlier one stored, and stores one that a later one loads. The last one puts the sum out.
 
 use std::{env, fs, process};
 
@@ -219,6 +221,25 @@ fn spin() -> Vec<u8> {
     image(&entries, &text, &[0])
 }
 
+fn chain() -> Vec<u8> {
+    const CHAINED: u32 = 60;
+    let word = |number: u32| 4 * (number % 8) as i32 + 4;
+    let mut text = Vec::new();
+    let mut entries = Vec::new();
+    for task in 0..CHAINED - 1 {
+        entries.push(4 * text.len() as u32);
+        text.extend([lui(5, 0x100), addi(28, 0, 3)]);
+        let round = text.len();
+        text.push(add(7, 7, 28));
+        repeat(&mut text, 28, round);
+        text.extend([lw(6, 5, 0), lw(9, 5, word(task)), add(6, 6, 9), add(6, 6, 7)]);
+        text.extend([sw(6, 5, 0), addi(9, 9, 1), sw(9, 5, word(task + 3))]);
+    }
+    entries.push(4 * text.len() as u32);
+    text.extend([lui(5, 0x100), lw(10, 5, 0), addi(17, 0, EMIT), ECALL, addi(17, 0, 0), addi(10, 0, 0), ECALL]);
+    image(&entries, &text, &[0, 1, 2, 3, 4, 5, 6, 7, 8])
+}
+
 fn main() {
     let words: Vec<String> = env::args().skip(1).collect();
     let [name, file] = words.as_slice() else {
@@ -234,6 +255,7 @@ fn main() {
         "large" => many_commits(65_536),
         "short" => one_turn(),
         "spin" => spin(),
+        "chain" => chain(),
         _ => process::exit(1),
     };
     fs::write(file, bytes).expect("the image is written");

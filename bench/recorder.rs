@@ -253,9 +253,14 @@ impl<'a> Recorder<'a> {
         Some(Lease { epoch: seat.epoch, core: seat.core })
     }
 
+    /// No further event is accepted.
+    pub fn has_ended(&self) -> bool {
+        self.stopped.is_some() || self.is_full()
+    }
+
     pub fn glance(&self, unit: usize) -> Glance {
         Glance {
-            ended: self.stopped.is_some() || self.is_full(),
+            ended: self.has_ended(),
             lease: self.lease(unit),
             is_head: self.is_head(unit),
             guess: self.guess(),

@@ -1,0 +1,6 @@
+pub mod Accepting
+pub mod Epochs
+pub mod Going
+pub mod Making
+pub mod Stepping
+pub mod Turning

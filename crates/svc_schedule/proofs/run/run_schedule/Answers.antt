@@ -1,0 +1,50 @@
+use Rattle.std.proofs.Common.{ℕ, suc, ◌≡◌, ◌+◌, ◌∙◌, List, length, subst, sym, ap, arith, inl, inr}
+use Rattle.svc_base.specs.declared.config.Config.{Config}
+use Rattle.svc_base.specs.declared.ids.UnitId.{UnitId}
+use Rattle.svc_schedule.specs.Steps.{FirstMoves, Steps, asked}
+use Rattle.svc_schedule.proofs.Stepping.{one_more}
+use Rattle.svc_schedule.proofs.run.run_schedule.Goals as goal
+use Rattle.svc_schedule.proofs.run.run_schedule.Goals.{else-loop-test, then-loop-test+then-has_ended}
+
+pub take_step-requires-clause-going : goal.take_step-requires-clause-going
+take_step-requires-clause-going g c = sym c.has_ended.ensures ∙ c.if-has_ended.false
+
+pub loop-preserved : goal.loop-preserved
+loop-preserved g c =
+    let i = c.loop.invariant in
+    let from = c.loop.recorder in
+    let to = c.take_step.new.recorder in
+    let one = one_more c.args.burst from to (asked c.as_slice.result.now) c.take_step.ensures in
+    let next : suc c.loop.counter ≡ c.loop.counter + 1 = omega arith in
+    record {
+      image = one.image ∙ i.image;
+      config = one.config ∙ i.config;
+      count = omega (arith, one.count, i.count);
+      none = i.none;
+      steps =
+          subst (λ (n : ℕ). Steps g.P.Policy.gives c.args.burst n c.args.policy.now c.order-order.new.self c.in_ok-recorder.recorder to) next (
+            c.loop.policy,
+            from,
+            c.order-order.result.items,
+            i.steps,
+            c.order-order.ensures,
+            subst (λ (us : List UnitId). FirstMoves c.args.burst from to (asked us)) c.as_slice.ensures.value c.take_step.ensures,
+          );
+    }
+
+pub returns-clause-run : goal.returns-clause-run
+returns-clause-run g c =
+    let i = c.loop.invariant in
+    record {
+      image = i.image;
+      config_is = i.config;
+      legal = c.keeps.ensures.legal;
+      opened = c.in_ok-recorder.recorder;
+      no_entries = i.none;
+      steps = subst (λ (n : ℕ). Steps g.P.Policy.gives c.args.burst n c.args.policy.now c.loop.policy c.in_ok-recorder.recorder c.loop.recorder) (sym i.count) i.steps;
+      few = omega (arith, i.count);
+      gets_on = elim c.loop-test.branch [
+        | else-loop-test w ↦ inr (omega (arith, w.loop-test.false, i.count))
+        | then-loop-test+then-has_ended w ↦ inl (sym (w.if-has_ended.ensures {u = tt}))
+      ];
+    }

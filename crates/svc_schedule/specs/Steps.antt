@@ -1,0 +1,35 @@
+-- Steps of a run, and what a run of steps is.
+use Rattle.std.specs.Prelude.{◌≡◌, ◌⊎◌, ℕ, zero, suc, ◌≤◌, true, List, [], ◌∷◌, ◌++◌, length}
+use Rattle.svc_base.specs.declared.config.Config.{Config}
+use Rattle.svc_base.specs.declared.ids.UnitId.{UnitId}
+use Rattle.svc_image.specs.Image.{Image}
+use Rattle.svc_history.specs.Glances.{has_ended}
+use Rattle.svc_history.specs.Recorded.{Recorded, IsLegal}
+use Rattle.svc_schedule.specs.declared.step.TheConstants.{EVERY_UNIT}
+use Rattle.svc_schedule.specs.Moves.{IsMade, IsPassed}
+
+-- the first of these units whose move isn't refused makes it: the ones before it are passed over, and its event is accepted
+abbrev pub FirstMoves : (most : ℕ) → (old new : Recorded) → List UnitId → Type 0
+FirstMoves most old new [] = ⊥
+FirstMoves most old new (unit ∷ units) = IsMade most old new unit ⊎ (IsPassed most old unit × FirstMoves most old new units)
+
+-- the units that a step asks, in order: those that are named, and then each by number
+abbrev pub asked : (named : List UnitId) → List UnitId
+asked named = named ++ EVERY_UNIT
+
+-- so many steps of a policy, which lead from one policy and history to others
+abbrev pub Steps : {P : Type 0} → (Gives : P → Recorded → List UnitId → P → Type 0) → (most count : ℕ) → (old new : P) → (opened led : Recorded) → Type 0
+Steps Gives most zero old new opened led = (new ≡ old) × (led ≡ opened)
+Steps {P} Gives most (suc n) old new opened led =
+    (before : P) × (there : Recorded) × (named : List UnitId) × Steps Gives most n old before opened there × Gives before there named new × FirstMoves most there led (asked named)
+
+-- a scheduled run of this image and configuration: its history is legal, and each entry is that of one step of the policy; the run has ended, by an exit, a trap or a full history, or it has as many steps as the configuration has turns
+pub record IsScheduled {P : Type 0} (Gives : P → Recorded → List UnitId → P → Type 0) (img : Image) (config : Config) (most : ℕ) (old new : P) (r : Recorded) : Type 0 where
+  pub image : r.machine.image ≡ img
+  pub config_is : r.machine.config ≡ config
+  pub legal : IsLegal r
+  pub opened : Recorded
+  pub no_entries : opened.entries ≡ []
+  pub steps : Steps Gives most (length r.entries) old new opened r
+  pub few : length r.entries ≤ config.turns
+  pub gets_on : (has_ended r.machine ≡ true) ⊎ (length r.entries ≡ config.turns)

@@ -1,0 +1,15 @@
+//! Scheduled runs: all units of a machine in one host thread, in an order that a policy gives, so that a run can be
+//! repeated; and each step of a run that has not ended makes exactly one accepted event.
+#![tactic(auto)]
+
+pub mod policies;
+pub mod policy;
+pub mod run;
+mod step;
+
+pub use policies::{Oldest, Random, Rotate, Youngest};
+pub use policy::Policy;
+pub use run::run_schedule;
+
+#[cfg(test)]
+mod tests;
