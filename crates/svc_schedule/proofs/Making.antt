@@ -7,11 +7,10 @@ use Rattle.svc_base.specs.declared.ids.UnitId.{UnitId}
 use Rattle.svc_base.specs.declared.ids.WordAddr.{WordAddr}
 use Rattle.svc_base.specs.declared.refusal.Refusal.{Refusal}
 use Rattle.svc_base.specs.declared.refusal.Refusal.TheVariants as refusal
+use Rattle.svc_core_laws.specs.Bursts.{Advance}
 use Rattle.svc_core.specs.declared.burst.Lease.{Lease}
 use Rattle.svc_machine_laws.specs.Events.{Event, Submit, Replace}
 use Rattle.svc_machine_laws.specs.Standing.{refused}
-use Rattle.svc_machine.specs.declared.event.Event as machine
-use Rattle.svc_machine.specs.Events.{event_of}
 use Rattle.svc_machine.specs.Value.{MachineValue}
 use Rattle.svc_history.specs.declared.glance.Glance.{Glance}
 use Rattle.svc_history.specs.declared.glance.Move.{Move}
@@ -20,7 +19,7 @@ use Rattle.svc_history.specs.Glances.{IsGlance, has_ended}
 use Rattle.svc_history.specs.Moves.{in_run, next_move}
 use Rattle.svc_history.specs.Recorded.{Recorded, standing_of}
 use Rattle.svc_machine.specs.Reads.{lease_of, runs_head}
-use Rattle.svc_schedule.specs.Moves.{Asks, IsMade, IsPassed, IsSubmitOf, Records, move_of}
+use Rattle.svc_schedule.specs.Moves.{Asks, IsBurstOf, IsMade, IsPassed, Records, move_of}
 
 -- a glance shows the unit's move
 pub move_is : (m : MachineValue) (unit : ℕ) (g : Glance) → IsGlance m unit g → next_move g ≡ move_of m unit
@@ -59,29 +58,23 @@ module _ (most : ℕ) (old new : Recorded) (unit : UnitId) (known : unit.0 < old
   asked_passed mv x is asks (Ok y) ok ok_is not same e = absurd (both_ways ok e ok_is)
   asked_passed mv x is asks (Err why) ok ok_is not same e = (same, passed mv x why is asks not)
 
-  module _ (lease : Lease) (runs : move_of old.machine unit.0 ≡ move.RunOn lease) (x : machine.Event) (submit : IsSubmitOf old.machine.image most lease x) where
-    answer : (o : Option Refusal) → why_not (event_of x) ≡ o → why_not (Submit submit.0) ≡ o
-    answer o h = ap (λ y. why_not (event_of y)) (sym submit.1) ∙ h
-
-    pub submit_made : Records old new (event_of x) → IsMade most old new unit
+  module _ (lease : Lease) (runs : move_of old.machine unit.0 ≡ move.RunOn lease) (b : Advance) (burst : IsBurstOf old.machine.image most lease b) where
+    pub submit_made : Records old new (Submit b) → IsMade most old new unit
     submit_made records =
-        made (move.RunOn lease) (Submit submit.0) runs (submit.0, submit.2, inl (refl, λ addr e. none-some (refusal.SetFull addr) (sym (answer None records.accepted) ∙ e)))
-        (subst (λ y. Records old new (event_of y)) submit.1 records)
+        made (move.RunOn lease) (Submit b) runs (b, burst, inl (refl, λ addr e. none-some (refusal.SetFull addr) (sym records.accepted ∙ e))) records
 
-    pub submit_passed : (why : Refusal) → ((addr : WordAddr) → why ≡ refusal.SetFull addr → ⊥) → why_not (event_of x) ≡ Some why → IsPassed most old unit
+    pub submit_passed : (why : Refusal) → ((addr : WordAddr) → why ≡ refusal.SetFull addr → ⊥) → why_not (Submit b) ≡ Some why → IsPassed most old unit
     submit_passed why room h =
-        passed (move.RunOn lease) (Submit submit.0) why runs (submit.0, submit.2, inl (refl, λ addr e. room addr (same_Some why (refusal.SetFull addr) (sym (answer (Some why) h) ∙ e)))) (answer (Some why) h)
+        passed (move.RunOn lease) (Submit b) why runs (b, burst, inl (refl, λ addr e. room addr (same_Some why (refusal.SetFull addr) (sym h ∙ e)))) h
 
-    pub replace_made : (addr : WordAddr) → why_not (event_of x) ≡ Some (refusal.SetFull addr) → Records old new (Replace unit.0 addr.0) → IsMade most old new unit
-    replace_made addr full records =
-        made (move.RunOn lease) (Replace unit.0 addr.0) runs (submit.0, submit.2, inr (addr, answer (Some (refusal.SetFull addr)) full, refl)) records
+    pub replace_made : (addr : WordAddr) → why_not (Submit b) ≡ Some (refusal.SetFull addr) → Records old new (Replace unit.0 addr.0) → IsMade most old new unit
+    replace_made addr full records = made (move.RunOn lease) (Replace unit.0 addr.0) runs (b, burst, inr (addr, full, refl)) records
 
-    pub replace_passed : (addr : WordAddr) → why_not (event_of x) ≡ Some (refusal.SetFull addr) → (why : Refusal) → why_not (Replace unit.0 addr.0) ≡ Some why → IsPassed most old unit
-    replace_passed addr full why h =
-        passed (move.RunOn lease) (Replace unit.0 addr.0) why runs (submit.0, submit.2, inr (addr, answer (Some (refusal.SetFull addr)) full, refl)) h
+    pub replace_passed : (addr : WordAddr) → why_not (Submit b) ≡ Some (refusal.SetFull addr) → (why : Refusal) → why_not (Replace unit.0 addr.0) ≡ Some why → IsPassed most old unit
+    replace_passed addr full why h = passed (move.RunOn lease) (Replace unit.0 addr.0) why runs (b, burst, inr (addr, full, refl)) h
 
     -- what was answered to the replacement
-    pub replace_answered : {A : Type 0} (mid : Recorded) → mid ≡ old → (addr : WordAddr) → why_not (event_of x) ≡ Some (refusal.SetFull addr) → (o : Result A Refusal) (ok : Bool) → ok ≡ is_ok o
+    pub replace_answered : {A : Type 0} (mid : Recorded) → mid ≡ old → (addr : WordAddr) → why_not (Submit b) ≡ Some (refusal.SetFull addr) → (o : Result A Refusal) (ok : Bool) → ok ≡ is_ok o
         → OnOk o (Records mid new (Replace unit.0 addr.0)) → IfErr o (λ why. refused mid.machine.image mid.machine.config (standing_of mid) (Replace unit.0 addr.0) ≡ Some why) → OnErr o (new ≡ mid)
         → (ok ≡ true → IsMade most old new unit) × (ok ≡ false → (new ≡ old) × IsPassed most old unit)
     replace_answered mid same addr full (Ok y) ok ok_is records not stays =

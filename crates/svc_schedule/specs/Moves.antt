@@ -12,8 +12,6 @@ use Rattle.svc_core.specs.declared.burst.Lease.{Lease}
 use Rattle.svc_machine_laws.specs.Events.{Event, Assign, Submit, Replace, Commit}
 use Rattle.svc_machine_laws.specs.Guess.{guess}
 use Rattle.svc_machine_laws.specs.Standing.{Standing, refused, reply_to}
-use Rattle.svc_machine.specs.declared.event.Event as machine
-use Rattle.svc_machine.specs.declared.event.Event.TheVariants as asked
 use Rattle.svc_machine.specs.Value.{MachineValue}
 use Rattle.svc_machine.specs.Reads.{lease_of, runs_head}
 use Rattle.svc_history_laws.specs.Entries.{entry_of}
@@ -38,10 +36,6 @@ pub record IsBurstOf (img : Image) (most : ℕ) (lease : Lease) (b : Advance) : 
   pub epoch : b.epoch ≡ lease.epoch
   pub start : b.start ≡ lease.core
   pub advance : IsAdvance img most b
-
--- the submit of such a burst
-abbrev pub IsSubmitOf : Image → (most : ℕ) → Lease → machine.Event → Type 0
-IsSubmitOf img most lease x = (b : Advance) × (x ≡ asked.Submit b) × IsBurstOf img most lease b
 
 -- a unit with a running task asks to submit its burst; and where that is refused as its cache has no room for the asked word, to replace the line that is named
 abbrev pub SubmitsOrReplaces : (unit : ℕ) → Advance → Option Refusal → Event → Type 0

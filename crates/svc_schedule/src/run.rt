@@ -7,9 +7,9 @@ ghost use Rattle.svc_schedule.specs.Steps.{IsScheduled};
 use crate::policy::Policy;
 use crate::step::{keeps, take_step};
 use std::alloc::Global;
-use svc_base::{Config, OpenError, UnitId};
+use svc_base::{Config, OpenError};
 use svc_core_laws::Ending;
-use svc_history::{Event, Recorder};
+use svc_history::Recorder;
 use svc_image::Image;
 
 /// Runs the image's tasks on all units of the configuration in one host thread: as many steps as the configuration has turns,
@@ -36,13 +36,12 @@ pub fn run_schedule<P: Policy>(
         return Err(OpenError::Memory);
     };
     let mut recorder = Recorder::open(alloc, own, config)?;
-    let mut place = Event::Commit { by: UnitId(0) };
     for _ in 0..config.turns {
         if has_ended(&recorder) {
             break;
         }
         let order = policy.order(&recorder);
-        take_step(&mut recorder, order.as_slice(), burst, &mut place);
+        take_step(&mut recorder, order.as_slice(), burst);
     }
     keeps(&recorder);
     Ok(recorder)

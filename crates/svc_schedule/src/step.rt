@@ -5,7 +5,7 @@ ghost use Rattle.svc_machine_laws.specs.Standing.{refused};
 ghost use Rattle.svc_machine.specs.Events.{event_of};
 ghost use Rattle.svc_history.specs.Glances.{has_ended};
 ghost use Rattle.svc_history.specs.Recorded.{IsLegal, standing_of};
-ghost use Rattle.svc_schedule.specs.Moves.{IsMade, IsPassed, IsSubmitOf, Records, move_of};
+ghost use Rattle.svc_schedule.specs.Moves.{IsMade, IsPassed, Records, move_of};
 ghost use Rattle.svc_schedule.specs.Steps.{FirstMoves, asked};
 ghost use Rattle.svc_image.specs.Image.{IsImage};
 
@@ -13,7 +13,6 @@ use svc_base::config::MAX_UNITS;
 use svc_base::{Refusal, UnitId};
 use svc_core::Lease;
 use svc_history::{Event, Move, Recorder};
-use svc_image::Image;
 
 /// Each unit that a machine may have, by number.
 pub const EVERY_UNIT: [UnitId; MAX_UNITS as usize] = [
@@ -37,16 +36,16 @@ pub const EVERY_UNIT: [UnitId; MAX_UNITS as usize] = [
 
 /// One step of a run that has not ended: the named units are asked for their moves, and then each unit by number, until one
 /// makes a move that is accepted. Some unit always does.
-pub(crate) fn take_step(recorder: &mut Recorder, named: &[UnitId], burst: u32, place: &mut Event)
+pub(crate) fn take_step(recorder: &mut Recorder, named: &[UnitId], burst: u32)
     requires some { 0 < burst }
     requires going { has_ended recorder.old.machine ≡ false }
     ensures { FirstMoves burst recorder.old recorder.new (asked named.now) }
 {
     keeps(recorder);
-    if ask_in_turn(recorder, named, burst, place) {
+    if ask_in_turn(recorder, named, burst) {
         return;
     }
-    let _moved = ask_in_turn(recorder, &EVERY_UNIT, burst, place);
+    let _moved = ask_in_turn(recorder, &EVERY_UNIT, burst);
 }
 
 // What the type of a recorder keeps.
@@ -59,12 +58,12 @@ pub(crate) fn keeps(recorder: &Recorder)
 }
 
 // The units are asked for their moves, until one makes a move that is accepted. Whether one did.
-fn ask_in_turn(recorder: &mut Recorder, units: &[UnitId], burst: u32, place: &mut Event) -> bool
+fn ask_in_turn(recorder: &mut Recorder, units: &[UnitId], burst: u32) -> bool
     ensures moved { IsTrue result → FirstMoves burst recorder.old recorder.new units.now }
     ensures passed { IsFalse result → (recorder.new ≡ recorder.old) × All (IsPassed burst recorder.old) units.now }
 {
     for unit in units {
-        if make_move(recorder, *unit, burst, place) {
+        if make_move(recorder, *unit, burst) {
             return true;
         }
     }
@@ -72,7 +71,7 @@ fn ask_in_turn(recorder: &mut Recorder, units: &[UnitId], burst: u32, place: &mu
 }
 
 // The unit asks for its move. Whether that was accepted.
-fn make_move(recorder: &mut Recorder, unit: UnitId, burst: u32, place: &mut Event) -> bool
+fn make_move(recorder: &mut Recorder, unit: UnitId, burst: u32) -> bool
     ensures made { IsTrue result → IsMade burst recorder.old recorder.new unit }
     ensures passed { IsFalse result → (recorder.new ≡ recorder.old) × IsPassed burst recorder.old unit }
 {
@@ -81,9 +80,9 @@ fn make_move(recorder: &mut Recorder, unit: UnitId, burst: u32, place: &mut Even
     };
     match glance.next_move() {
         Move::Ended | Move::Wait => false,
-        Move::Begin { guess } => attempt(recorder, &Event::Assign { unit, guess }).is_ok(),
-        Move::Commit => attempt(recorder, &Event::Commit { by: unit }).is_ok(),
-        Move::RunOn(lease) => run_on(recorder, unit, &lease, burst, place),
+        Move::Begin { guess } => attempt(recorder, Event::Assign { unit, guess }).is_ok(),
+        Move::Commit => attempt(recorder, Event::Commit { by: unit }).is_ok(),
+        Move::RunOn(lease) => run_on(recorder, unit, &lease, burst),
     }
 }
 
@@ -93,45 +92,29 @@ fn run_on(
     unit: UnitId,
     lease: &Lease,
     burst: u32,
-    place: &mut Event,
 ) -> bool
     requires known { unit.0 < recorder.old.machine.config.units }
     requires runs { move_of recorder.old.machine unit.0 ≡ Move.RunOn lease.now }
     ensures made { IsTrue result → IsMade burst recorder.old recorder.new unit }
     ensures passed { IsFalse result → (recorder.new ≡ recorder.old) × IsPassed burst recorder.old unit }
 {
-    make_submit(lease, recorder.machine().image(), burst, place);
-    let Err(refusal) = attempt(recorder, place) else {
+    let made = lease.advance(recorder.machine().image(), burst);
+    let Err(refusal) = attempt(recorder, Event::Submit { burst: &made }) else {
         return true;
     };
     match refusal {
-        Refusal::SetFull(addr) => attempt(recorder, &Event::Replace { unit, addr }).is_ok(),
+        Refusal::SetFull(addr) => attempt(recorder, Event::Replace { unit, addr }).is_ok(),
         _ => false,
     }
 }
 
-// The submit of the lease's burst of at most so many turns, in the place of another event: a burst is some 1,400 bytes,
-// which nobody need move for it.
-fn make_submit(lease: &Lease, image: &Image, burst: u32, place: &mut Event)
-    ensures { IsSubmitOf image.now burst lease.now place.new }
-{
-    match place {
-        Event::Submit { burst: made } => made.refill(lease, image, burst),
-        _ => {
-            *place = Event::Submit {
-                burst: lease.advance(image, burst),
-            };
-        }
-    }
-}
-
 // Asks for one event.
-fn attempt(recorder: &mut Recorder, event: &Event) -> Result<(), Refusal>
-    ensures accepted { OnOk result (Records recorder.old recorder.new (event_of event.now)) }
-    ensures refused { IfErr result (λ why. refused recorder.old.machine.image recorder.old.machine.config (standing_of recorder.old) (event_of event.now) ≡ Some why) }
+fn attempt(recorder: &mut Recorder, event: Event<'_>) -> Result<(), Refusal>
+    ensures accepted { OnOk result (Records recorder.old recorder.new (event_of event.entry)) }
+    ensures refused { IfErr result (λ why. refused recorder.old.machine.image recorder.old.machine.config (standing_of recorder.old) (event_of event.entry) ≡ Some why) }
     ensures unchanged { OnErr result (recorder.new ≡ recorder.old) }
 {
-    match recorder.record(event) {
+    match recorder.apply(event) {
         Ok(_slip) => Ok(()),
         Err(refusal) => Err(refusal),
     }

@@ -1,7 +1,6 @@
 use Rattle.std.proofs.Common.{◌≡◌, ◌∙◌, Some, ap, subst}
 use Rattle.svc_image.specs.Image.{Image}
 use Rattle.svc_machine.specs.Value.{MachineValue}
-use Rattle.svc_schedule.specs.Moves.{IsSubmitOf}
 use Rattle.svc_schedule.proofs.Making.{replace_answered, submit_made, submit_passed}
 use Rattle.svc_schedule.proofs.step.run_on.Goals as goal
 
@@ -10,8 +9,8 @@ returns-in-SetFull c =
     let old = c.args.recorder.now in
     let says = c.in-Err.ensures {u = tt} in
     let image_is : c.image.result.now ≡ old.machine.image = c.image.ensures ∙ ap (λ (m : MachineValue). m.image) c.machine.ensures.machine in
-    let submit = subst (λ (i : Image). IsSubmitOf i c.args.burst c.args.lease.now c.make_submit.new.place) image_is c.make_submit.ensures in
-    let answered = replace_answered c.args.burst old c.attempt-in-SetFull.new.recorder c.args.unit c.requires.known c.args.lease.now c.requires.runs c.make_submit.new.place submit
+    let burst = is_burst_of image_is c.advance-made.ensures in
+    let answered = replace_answered c.args.burst old c.attempt-in-SetFull.new.recorder c.args.unit c.requires.known c.args.lease.now c.requires.runs c.advance-made.result burst
     c.attempt.new.recorder says.unchanged c.in-SetFull.addr (says.refused ∙ ap Some c.in-SetFull.is) c.attempt-in-SetFull.result c.is_ok.result c.is_ok.ensures.value
     c.attempt-in-SetFull.ensures.accepted c.attempt-in-SetFull.ensures.refused c.attempt-in-SetFull.ensures.unchanged in
     record { made = answered.0; passed = answered.1 }
@@ -21,12 +20,12 @@ returns-in_default-refusal c =
     let old = c.args.recorder.now in
     let says = c.in-Err.ensures {u = tt} in
     let image_is : c.image.result.now ≡ old.machine.image = c.image.ensures ∙ ap (λ (m : MachineValue). m.image) c.machine.ensures.machine in
-    let submit = subst (λ (i : Image). IsSubmitOf i c.args.burst c.args.lease.now c.make_submit.new.place) image_is c.make_submit.ensures in
+    let burst = is_burst_of image_is c.advance-made.ensures in
     record {
       made = λ e. absurd (cc (e));
       passed = λ _. (
         says.unchanged,
-        submit_passed c.args.burst old c.attempt.new.recorder c.args.unit c.requires.known c.args.lease.now c.requires.runs c.make_submit.new.place submit c.in-Err.refusal
+        submit_passed c.args.burst old c.attempt.new.recorder c.args.unit c.requires.known c.args.lease.now c.requires.runs c.advance-made.result burst c.in-Err.refusal
             (λ addr e. c.in_default-refusal.not-SetFull addr e) says.refused,
       );
     }
@@ -35,8 +34,8 @@ pub returns-in_default : goal.returns-in_default
 returns-in_default c =
     let old = c.args.recorder.now in
     let image_is : c.image.result.now ≡ old.machine.image = c.image.ensures ∙ ap (λ (m : MachineValue). m.image) c.machine.ensures.machine in
-    let submit = subst (λ (i : Image). IsSubmitOf i c.args.burst c.args.lease.now c.make_submit.new.place) image_is c.make_submit.ensures in
+    let burst = is_burst_of image_is c.advance-made.ensures in
     record {
-      made = λ _. submit_made c.args.burst old c.attempt.new.recorder c.args.unit c.requires.known c.args.lease.now c.requires.runs c.make_submit.new.place submit (c.in_default.ensures {u = tt}).accepted;
+      made = λ _. submit_made c.args.burst old c.attempt.new.recorder c.args.unit c.requires.known c.args.lease.now c.requires.runs c.advance-made.result burst (c.in_default.ensures {u = tt}).accepted;
       passed = λ e. absurd (cc (e));
     }
