@@ -17,11 +17,11 @@ FirstMoves most old new (unit ∷ units) = IsMade most old new unit ⊎ (IsPasse
 abbrev pub asked : (named : List UnitId) → List UnitId
 asked named = named ++ EVERY_UNIT
 
--- so many steps of a policy, which lead from one policy and history to others
+-- so many steps of a policy, which lead from one policy and history to others; before each the machine stands where the history leads
 abbrev pub Steps : {P : Type 0} → (Gives : P → Recorded → List UnitId → P → Type 0) → (most count : ℕ) → (old new : P) → (opened led : Recorded) → Type 0
 Steps Gives most zero old new opened led = (new ≡ old) × (led ≡ opened)
 Steps {P} Gives most (suc n) old new opened led =
-    (before : P) × (there : Recorded) × (named : List UnitId) × Steps Gives most n old before opened there × Gives before there named new × FirstMoves most there led (asked named)
+    (before : P) × (there : Recorded) × (named : List UnitId) × Steps Gives most n old before opened there × IsLegal there × Gives before there named new × FirstMoves most there led (asked named)
 
 -- a scheduled run of this image and configuration: its history is legal, and each entry is that of one step of the policy; the run has ended, by an exit, a trap or a full history, or it has as many steps as the configuration has turns
 pub record IsScheduled {P : Type 0} (Gives : P → Recorded → List UnitId → P → Type 0) (img : Image) (config : Config) (most : ℕ) (old new : P) (r : Recorded) : Type 0 where

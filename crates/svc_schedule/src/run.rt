@@ -2,6 +2,7 @@
 
 ghost use Rattle.std.specs.Prelude.{◌≡◌, ◌<◌, ◌≤◌, IfOk, IfErr};
 ghost use Rattle.svc_history.specs.Glances.{has_ended, is_full_ending};
+ghost use Rattle.svc_history.specs.Recorded.{IsLegal};
 ghost use Rattle.svc_schedule.specs.Steps.{IsScheduled};
 
 use crate::policy::Policy;
@@ -50,7 +51,8 @@ pub fn run_schedule<P: Policy>(
 
 // No further event of the run is accepted: it has stopped, or the history is full.
 fn has_ended(recorder: &Recorder) -> bool
-    ensures { result ≡ has_ended recorder.now.machine }
+    ensures ended { result ≡ has_ended recorder.now.machine }
+    ensures legal { IsLegal recorder.now }
 {
     let machine = recorder.machine();
     machine.stopped().is_some() || is_full(machine.ending())

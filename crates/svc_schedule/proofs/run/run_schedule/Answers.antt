@@ -7,7 +7,7 @@ use Rattle.svc_schedule.proofs.run.run_schedule.Goals as goal
 use Rattle.svc_schedule.proofs.run.run_schedule.Goals.{else-loop-test, then-loop-test+then-has_ended}
 
 pub take_step-requires-clause-going : goal.take_step-requires-clause-going
-take_step-requires-clause-going g c = sym c.has_ended.ensures ∙ c.if-has_ended.false
+take_step-requires-clause-going g c = sym c.has_ended.ensures.ended ∙ c.if-has_ended.false
 
 pub loop-preserved : goal.loop-preserved
 loop-preserved g c =
@@ -45,6 +45,6 @@ returns-clause-run g c =
       few = omega (arith, i.count);
       gets_on = elim c.loop-test.branch [
         | else-loop-test w ↦ inr (omega (arith, w.loop-test.false, i.count))
-        | then-loop-test+then-has_ended w ↦ inl (sym (w.if-has_ended.ensures {u = tt}))
+        | then-loop-test+then-has_ended w ↦ inl (sym (w.if-has_ended.ensures {u = tt}).ended)
       ];
     }
