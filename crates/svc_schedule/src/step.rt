@@ -87,12 +87,7 @@ fn make_move(recorder: &mut Recorder, unit: UnitId, burst: u32) -> bool
 }
 
 // The unit runs its task on by a burst, or replaces a line in place of that where its cache has no room.
-fn run_on(
-    recorder: &mut Recorder,
-    unit: UnitId,
-    lease: &Lease,
-    burst: u32,
-) -> bool
+fn run_on(recorder: &mut Recorder, unit: UnitId, lease: &Lease, burst: u32) -> bool
     requires known { unit.0 < recorder.old.machine.config.units }
     requires runs { move_of recorder.old.machine unit.0 ≡ Move.RunOn lease.now }
     ensures made { IsTrue result → IsMade burst recorder.old recorder.new unit }

@@ -47,10 +47,10 @@ fn run_of<Q: Policy>(
 
 #[test]
 fn each_step_is_an_event_up_to_the_limit(rt: HostRuntime) -> Result<(), Fail> {
-    for events in 1..=40_u32 {
+    for events in 1..=42_u32 {
         let run = run_of(rt.alloc(), events, 1_000, 1, &mut Rotate);
         let entries = run.map(|run| run.1);
-        assert_eq!(rt; entries, Some(events.min(39) as usize));
+        assert_eq!(rt; entries, Some(events.min(40) as usize));
     }
     Ok(())
 }

@@ -27,6 +27,7 @@ loop-preserved g c =
             from,
             c.order-order.result.items,
             i.steps,
+            c.has_ended.ensures.legal,
             c.order-order.ensures,
             subst (λ (us : List UnitId). FirstMoves c.args.burst from to (asked us)) c.as_slice.ensures.value c.take_step.ensures,
           );

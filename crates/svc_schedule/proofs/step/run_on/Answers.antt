@@ -14,8 +14,8 @@ returns-in-SetFull c =
     let image_is : c.image.result.now ≡ old.machine.image = c.image.ensures ∙ ap (λ (m : MachineValue). m.image) c.machine.ensures.machine in
     let burst : IsBurstOf old.machine.image c.args.burst c.args.lease.now b = record {
       unit = c.advance-made.ensures.lease.0;
-      epoch = c.advance-made.ensures.lease.1.0;
-      start = c.advance-made.ensures.lease.1.1;
+      epoch = c.advance-made.ensures.lease.1;
+      start = c.advance-made.ensures.lease.2;
       advance = subst (λ (i : Image). IsAdvance i c.args.burst b) image_is c.advance-made.ensures.advance;
     } in
     let answered = replace_answered c.args.burst old c.attempt-in-SetFull.new.recorder c.args.unit c.requires.known c.args.lease.now c.requires.runs b burst
@@ -31,8 +31,8 @@ returns-in_default-refusal c =
     let image_is : c.image.result.now ≡ old.machine.image = c.image.ensures ∙ ap (λ (m : MachineValue). m.image) c.machine.ensures.machine in
     let burst : IsBurstOf old.machine.image c.args.burst c.args.lease.now b = record {
       unit = c.advance-made.ensures.lease.0;
-      epoch = c.advance-made.ensures.lease.1.0;
-      start = c.advance-made.ensures.lease.1.1;
+      epoch = c.advance-made.ensures.lease.1;
+      start = c.advance-made.ensures.lease.2;
       advance = subst (λ (i : Image). IsAdvance i c.args.burst b) image_is c.advance-made.ensures.advance;
     } in
     record {
@@ -51,8 +51,8 @@ returns-in_default c =
     let image_is : c.image.result.now ≡ old.machine.image = c.image.ensures ∙ ap (λ (m : MachineValue). m.image) c.machine.ensures.machine in
     let burst : IsBurstOf old.machine.image c.args.burst c.args.lease.now b = record {
       unit = c.advance-made.ensures.lease.0;
-      epoch = c.advance-made.ensures.lease.1.0;
-      start = c.advance-made.ensures.lease.1.1;
+      epoch = c.advance-made.ensures.lease.1;
+      start = c.advance-made.ensures.lease.2;
       advance = subst (λ (i : Image). IsAdvance i c.args.burst b) image_is c.advance-made.ensures.advance;
     } in
     record {
