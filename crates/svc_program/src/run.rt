@@ -69,13 +69,16 @@ fn run_scheduled(
     ensures fault { IfErr result IsRunFault }
 {
     let burst = schedule.burst;
-    let run = match schedule.order {
-        Order::Rotate => run_schedule(alloc, image, config, burst, &mut Rotate)?,
-        Order::Oldest => run_schedule(alloc, image, config, burst, &mut Oldest)?,
-        Order::Youngest => run_schedule(alloc, image, config, burst, &mut Youngest)?,
-        Order::Random { seed } => {
-            run_schedule(alloc, image, config, burst, &mut Random::new(seed))?
-        }
-    };
-    Ok(run)
+    match schedule.order {
+        Order::Rotate => Ok(run_schedule(alloc, image, config, burst, &mut Rotate)?),
+        Order::Oldest => Ok(run_schedule(alloc, image, config, burst, &mut Oldest)?),
+        Order::Youngest => Ok(run_schedule(alloc, image, config, burst, &mut Youngest)?),
+        Order::Random { seed } => Ok(run_schedule(
+            alloc,
+            image,
+            config,
+            burst,
+            &mut Random::new(seed),
+        )?),
+    }
 }
