@@ -17,7 +17,7 @@ if [ -z "$svcsim" ]; then
     (cd "$root/crates/svcsim" && rt run > /dev/null)
 fi
 svcsim=$(realpath "$svcsim")
-for name in images plain_twin threads_twin; do
+for name in images plain_twin threads_twin schedule_twin; do
     rustc -O -C codegen-units=1 --edition 2024 -o "$folder/$name" "$root/bench/$name.rs"
 done
 cd "$folder"
@@ -78,6 +78,17 @@ race_short() {
     note short twin 1000000
 }
 
+# A run by a schedule, which both print the same of.
+race_schedule() {
+    local units=$1 burst=$2
+    timed "$svcsim" run memory.svci --units "$units" --events 1000000 --turns 10000000 --schedule rotate --burst "$burst"
+    cp printed proved.printed
+    note "rotate-$burst-$units" proved "$(events_printed)"
+    timed ./schedule_twin memory.svci "$units" 16 2 1000000 10000000 rotate 0 "$burst" -
+    cmp printed proved.printed
+    note "rotate-$burst-$units" twin "$(events_printed)"
+}
+
 # A history of 100,000 entries by one unit, written and checked. One unit leaves no choice, so the traces are the same.
 race_trace() {
     timed "$svcsim" run memory.svci --units 1 --events 100000 --turns 10000000 --trace proved.csv
@@ -103,6 +114,10 @@ for ((round = 0; round < rounds; round++)); do
     done
     race_short
     race_run spin 1 spin
+    for units in 1 4 16; do
+        race_schedule "$units" 63
+        race_schedule "$units" 1
+    done
     race_trace
     race_run small 1 commit-100 150000
     race_run large 1 commit-65536 150000
@@ -168,6 +183,10 @@ awk -v rounds="$rounds" '
             row("memory-" i, "run, loads and stores, units: " i ", million events a second", -1, "%7.3f")
         row("short", "run, tasks of one turn, units: 1, million events a second", -1, "%7.3f")
         row("spin", "run, turns that ask nothing, units: 1, million events a second", -1, "%7.3f")
+        for (i = 1; i <= 16; i *= 4) {
+            row("rotate-63-" i, "run --schedule rotate, bursts of 63, units: " i ", million events a second", -1, "%7.3f")
+            row("rotate-1-" i, "run --schedule rotate, bursts of 1, units: " i ", million events a second", -1, "%7.3f")
+        }
         row("trace", "run --trace, seconds for 100,000 entries", 100000, "%7.3f")
         row("check", "check, seconds for 100,000 entries", 100000, "%7.3f")
         row("commit-100", "a task of two accesses over 100 words, ns", 1e9, "%7.0f")

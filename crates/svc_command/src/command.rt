@@ -7,6 +7,12 @@ use svc_program::VERSION;
 /// The greatest number of tasks that may be asked of the plain runner.
 const MAX_TASKS: i64 = 1_000_000;
 
+/// The most turns of a burst.
+const MAX_BURST: i64 = 63;
+
+/// The orders of a schedule, by their names.
+const ORDERS: [&str; 4] = ["rotate", "oldest", "youngest", "random"];
+
 const ABOUT: &str =
     "Simulates processing units that run the tasks of one sequential program at once, over caches that
 keep speculative versions of its data.
@@ -33,7 +39,11 @@ const RUN: &str = "Runs an image on the simulated machine, and prints the summar
 The machine has units with private caches. A task is assigned to a unit, takes its turns in bursts, and
 is committed when it is the oldest and has ended. Each of these is one event. The summary is that of the
 committed tasks. After it stand counts of the events: of each kind, of each supplier of a word that was
-read, and of each cause for which tasks were squashed.";
+read, and of each cause for which tasks were squashed.
+
+Each unit runs in a thread of its own, so runs differ. By a schedule all units run in one thread, a step
+after another, and the same options give the same run. A step makes one event: the units are asked in
+order, and the first that can do what is next for it does. Then the turns that are spent are steps.";
 
 const SEQ: &str = "Runs an image's tasks one after another on plain memory, and prints the summary.
 
@@ -91,7 +101,7 @@ fn run<'a>(alloc: Global) -> Result<Command<'a>, AllocError> {
         .after_help(STATUSES)
         .arg(image(alloc))?
         .arg(trace)?;
-    with_configuration(alloc, command)
+    with_configuration(alloc, with_schedule(alloc, command)?)
 }
 
 // `script`: the simulator, one given event after another.
@@ -141,6 +151,33 @@ fn image<'a>(alloc: Global) -> Arg<'a> {
 // A file that has to be named.
 fn file<'a>(alloc: Global, name: &'a str) -> Arg<'a> {
     Arg::new(alloc, name).required(true).action(ArgAction::Set)
+}
+
+// A command with the options of a schedule.
+fn with_schedule<'a>(alloc: Global, command: Command<'a>) -> Result<Command<'a>, AllocError> {
+    let schedule = Arg::new(alloc, "schedule")
+        .long("schedule")
+        .value_name("ORDER")
+        .action(ArgAction::Set)
+        .value_parser(ORDERS.as_slice())
+        .help("Runs all units in one thread, in this order, so that the run can be repeated");
+    let seed = Arg::new(alloc, "seed")
+        .long("seed")
+        .value_name("N")
+        .action(ArgAction::Set)
+        .value_parser(clap::value_parser!(u32))
+        .requires_arg("schedule")?
+        .help("The seed of a random order: 0 to 4294967295, and 0 where none is given");
+    let burst = Arg::new(alloc, "burst")
+        .long("burst")
+        .value_name("N")
+        .action(ArgAction::Set)
+        .value_parser(clap::value_parser!(u32).range(1..=MAX_BURST))
+        .requires_arg("schedule")?
+        .help(
+            "The most turns of a unit in a step of a schedule: 1 to 63, and 63 where none is given",
+        );
+    command.arg(schedule)?.arg(seed)?.arg(burst)
 }
 
 // A command with an option for each number of a configuration.

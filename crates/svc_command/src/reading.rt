@@ -8,7 +8,13 @@ use clap::error::ErrorKind;
 use clap::{ArgMatches, Error};
 use std::alloc::Global;
 use svc_base::Config;
-use svc_program::{Fault, Request, Source};
+use svc_core::MAX_BURST_TURNS;
+use svc_program::{Fault, Order, Request, Schedule, Source};
+
+const SEED_ALONE: &str = "error: the argument '--seed <N>' is of '--schedule random' alone
+
+For more information, try '--help'.
+";
 
 /// What these words ask for, of which the first is the program's name.
 ///
@@ -20,7 +26,7 @@ pub fn request_of<'a>(alloc: Global, words: &'a [String]) -> Result<Request<'a>,
         return built_in();
     }
     match command(alloc)?.try_get_matches_from(words) {
-        Ok(matches) => asked(words, &matches),
+        Ok(matches) => asked(alloc, words, &matches),
         Err(error) => unread(alloc, words, &error),
     }
 }
@@ -32,6 +38,7 @@ fn built_in<'a>() -> Result<Request<'a>, Fault>
     Ok(Request::Run {
         image: Source::BuiltIn,
         config: Config::new(1, 16, 2, 100_000, 1_000_000)?,
+        schedule: None,
         trace: None,
     })
 }
@@ -84,7 +91,11 @@ fn is_named(words: &[String], name: &str) -> bool
 }
 
 // What the subcommand asks for.
-fn asked<'a>(words: &[String], matches: &ArgMatches<'a>) -> Result<Request<'a>, Fault>
+fn asked<'a>(
+    alloc: Global,
+    words: &[String],
+    matches: &ArgMatches<'a>,
+) -> Result<Request<'a>, Fault>
     ensures named { IfOk result (Names (texts words.now)) }
     ensures other { IfOk result (λ asked. ¬ (IsBuiltInRun asked)) }
 {
@@ -92,6 +103,7 @@ fn asked<'a>(words: &[String], matches: &ArgMatches<'a>) -> Result<Request<'a>, 
         Some(("run", given)) if is_named(words, "run") => Ok(Request::Run {
             image: image(given)?,
             config: configuration(given)?,
+            schedule: schedule(alloc, given)?,
             trace: given.get_str("trace"),
         }),
         Some(("seq", given)) if is_named(words, "seq") => Ok(Request::Sequential {
@@ -119,6 +131,33 @@ fn image<'a>(given: &ArgMatches<'a>) -> Result<Source<'a>, Fault>
 {
     let name = given.get_str("IMAGE").ok_or(Fault::File)?;
     Ok(Source::File(name))
+}
+
+// The schedule that the options give, if any.
+fn schedule(alloc: Global, given: &ArgMatches<'_>) -> Result<Option<Schedule>, Fault> {
+    let Some(name) = given.get_str("schedule") else {
+        return Ok(None);
+    };
+    let order = order(alloc, name, given.get_one::<u32>("seed"))?;
+    let burst = given.get_one::<u32>("burst").unwrap_or(MAX_BURST_TURNS);
+    // The parser reads no other burst.
+    let schedule = Schedule::new(order, burst).ok_or(Fault::File)?;
+    Ok(Some(schedule))
+}
+
+// The order of this name. A seed is that of a random order alone.
+fn order(alloc: Global, name: &str, seed: Option<u32>) -> Result<Order, Fault> {
+    match (name, seed) {
+        ("random", seed) => Ok(Order::Random {
+            seed: seed.unwrap_or(0),
+        }),
+        (_, Some(_)) => Err(Fault::CommandLine(String::from_str(alloc, SEED_ALONE)?)),
+        ("rotate", None) => Ok(Order::Rotate),
+        ("oldest", None) => Ok(Order::Oldest),
+        ("youngest", None) => Ok(Order::Youngest),
+        // The parser reads no other name.
+        _ => Err(Fault::File),
+    }
 }
 
 // The configuration that the options give.

@@ -1,5 +1,5 @@
 -- What the program prints of a run.
-use Rattle.std.specs.Prelude.{◌≡◌, ℕ, Bool, List, ◌++◌, Option, Some, length, codes, decimal}
+use Rattle.std.specs.Prelude.{◌≡◌, ⊤, ℕ, Bool, List, ◌++◌, Option, None, Some, length, codes, decimal}
 use Rattle.std.specs.Io.KnownBytes.{Appends}
 use Rattle.svc_base.specs.declared.config.Config.{Config}
 use Rattle.svc_image.specs.Image.{Image}
@@ -11,8 +11,18 @@ use Rattle.svc_history_laws.specs.declared.entry.Entry.{Entry}
 use Rattle.svc_history_laws.specs.Board.{board}
 use Rattle.svc_history_laws.specs.Legal.{LegalHistory}
 use Rattle.svc_history.specs.Recorded.{Recorded, IsLegal}
+use Rattle.svc_schedule.specs.declared.policies.First.TheVariants.{Older, Younger}
+use Rattle.svc_schedule.specs.declared.policies.Oldest.{Oldest}
+use Rattle.svc_schedule.specs.declared.policies.Random.{Random}
+use Rattle.svc_schedule.specs.declared.policies.Rotate.{Rotate}
+use Rattle.svc_schedule.specs.declared.policies.Youngest.{Youngest}
+use Rattle.svc_schedule.specs.Orders.{Draws, GoesByAge, Rotates, generator_of}
+use Rattle.svc_schedule.specs.Steps.{IsScheduled}
 use Rattle.svc_report.specs.declared.counts.Counts.{Counts}
 use Rattle.svc_report.specs.Summary.{counts_of, summary_of}
+use Rattle.svc_program.specs.declared.request.Order.{Order}
+use Rattle.svc_program.specs.declared.request.Order.TheVariants as order
+use Rattle.svc_program.specs.declared.request.Schedule.{Schedule}
 
 -- the exit status of a run: 0 where the program came to its exit, else 2
 abbrev pub status_of : Ending → ℕ
@@ -35,6 +45,18 @@ pub record IsRunOf (img : Image) (config : Config) (r : Recorded) : Type 0 where
   pub image : r.machine.image ≡ img
   pub config_is : r.machine.config ≡ config
   pub legal : IsLegal r
+
+-- a run of the image goes by this order, with bursts of at most so many turns: each of its entries is that of one step, and it has as many steps as the configuration has turns unless its ending isn't open
+abbrev pub IsScheduledBy : Order → (burst : ℕ) → Image → Config → Recorded → Type 0
+IsScheduledBy order.Rotate burst img config r = (old : Rotate) × (new : Rotate) × IsScheduled Rotates img config burst old new r
+IsScheduledBy order.Oldest burst img config r = (old : Oldest) × (new : Oldest) × IsScheduled (GoesByAge Older) img config burst old new r
+IsScheduledBy order.Youngest burst img config r = (old : Youngest) × (new : Youngest) × IsScheduled (GoesByAge Younger) img config burst old new r
+IsScheduledBy (order.Random seed) burst img config r = (old : Random) × (old.generator ≡ generator_of seed) × (new : Random) × IsScheduled Draws img config burst old new r
+
+-- a run goes by the schedule, where there is one
+abbrev pub GoesBy : Option Schedule → Image → Config → Recorded → Type 0
+GoesBy None img config r = ⊤
+GoesBy (Some schedule) img config r = IsScheduledBy schedule.order schedule.burst img config r
 
 -- how many tasks a history has committed
 abbrev pub tasks_of : Recorded → ℕ

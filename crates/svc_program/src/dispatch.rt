@@ -41,10 +41,11 @@ pub fn perform<R: Threads + Wait + Sync, F: Files, O: Write>(
         Request::Run {
             image,
             config,
+            schedule,
             trace,
         } => {
             let image = load_image(alloc, image, files)?;
-            let recorder = run_image(rt, alloc, &image, config)?;
+            let recorder = run_image(rt, alloc, &image, config, schedule)?;
             save_trace(alloc, recorder.entries(), trace, files)?;
             print_recorded(alloc, &recorder, out)
         }

@@ -15,7 +15,7 @@ mod summary;
 pub use dispatch::perform;
 pub use faults::{Fault, tell};
 pub use files::{FileFault, Files};
-pub use request::{Request, Source, VERSION};
+pub use request::{Order, Request, Schedule, Source, VERSION};
 
 #[cfg(test)]
 mod tests;

@@ -1,6 +1,9 @@
 //! What may be asked of the program.
 
+ghost use Rattle.std.specs.Prelude.{◌≡◌, ◌<◌, ◌≤◌, ◌↔◌, IfSome, IsSome};
+
 use svc_base::Config;
+use svc_core::MAX_BURST_TURNS;
 
 /// The program's version.
 pub const VERSION: &str = "0.1.0";
@@ -14,6 +17,44 @@ pub enum Source<'a> {
     File(&'a str),
 }
 
+/// In which order the steps of a scheduled run ask the units for their moves.
+#[derive(Clone, Copy, Debug, PartialEq, Eq)]
+pub enum Order {
+    /// By number, from the unit after the one that moved last.
+    Rotate,
+    /// Those with tasks first, the oldest task first.
+    Oldest,
+    /// The idle ones first, and then those with tasks, the youngest task first.
+    Youngest,
+    /// By number, from a unit that is drawn from this seed.
+    Random { seed: u32 },
+}
+
+/// How a run goes in one host thread.
+#[derive(Clone, Copy, Debug, PartialEq, Eq)]
+pub struct Schedule {
+    /// In which order the units are asked.
+    pub order: Order,
+    /// The most turns in a burst, 1 to [`MAX_BURST_TURNS`].
+    pub burst: u32,
+    pub ghost some: { 0 < burst },
+    pub ghost few: { burst ≤ 63 },
+}
+
+impl Schedule {
+    /// A schedule by these; none where the turns of a burst are not 1 to [`MAX_BURST_TURNS`].
+    pub fn new(order: Order, burst: u32) -> Option<Schedule>
+        ensures given { IsSome result ↔ ((0 < burst) × (burst ≤ 63)) }
+        ensures order { IfSome result (λ s. s.order ≡ order) }
+        ensures burst { IfSome result (λ s. s.burst ≡ burst) }
+    {
+        if burst == 0 || burst > MAX_BURST_TURNS {
+            return None;
+        }
+        Some(Schedule { order, burst })
+    }
+}
+
 /// What is asked of the program. Files are known by their names.
 #[derive(Drop)]
 pub enum Request<'a> {
@@ -21,10 +62,12 @@ pub enum Request<'a> {
     Help(String),
     /// To print the program's name and version.
     Version,
-    /// To run an image on a machine of this configuration, and to save its trace where a file is named for it.
+    /// To run an image on a machine of this configuration, by a schedule or else with a thread for each unit, and to save
+    /// its trace where a file is named for it.
     Run {
         image: Source<'a>,
         config: Config,
+        schedule: Option<Schedule>,
         trace: Option<&'a str>,
     },
     /// To run this many tasks of an image in order, on one flat memory.

@@ -50,6 +50,7 @@ fn built_in<'a>() -> Result<Request<'a>, Fault> {
     Ok(Request::Run {
         image: Source::BuiltIn,
         config: Config::new(1, 16, 2, 1000, 1000)?,
+        schedule: None,
         trace: None,
     })
 }
