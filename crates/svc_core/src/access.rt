@@ -2,7 +2,7 @@
 
 ghost use Rattle.std.specs.Prelude.{◌≡◌, ◌==◌, ◌+◌, ◌*◌, ◌/◌, ◌^◌, ◌<◌, ◌≤◌, ◌%◌, IfOk};
 ghost use Rattle.svc_core_laws.specs.Numbers.{extended, load_bytes, store_bytes};
-ghost use Rattle.svc_core_laws.specs.Turns.{access_trap, word_address, lane_of};
+ghost use Rattle.svc_core_laws.specs.Turns.{access_trap, store_trap, word_address, lane_of};
 ghost use Rattle.svc_core.specs.Places.{trap_of};
 ghost use Rattle.svc_core_laws.specs.Words.{loaded, stored};
 
@@ -20,10 +20,41 @@ pub struct Place {
     pub lane: u32,
 }
 
-/// Where a store lies in data of so many words, or the number of its trap: 5 where it isn't aligned to its
-/// width, else 6 where it lies outside the data.
+/// Where a store lies in data of so many words, of which the first ones are read-only, or the number of its trap:
+/// 5 where it isn't aligned to its width, else 6 where it lies outside the data, else 10 where its word is
+/// read-only.
 #[inline(always)]
-pub fn store_place(kind: StoreKind, addr: u32, words: u32) -> Result<Place, u8>
+pub fn store_place(kind: StoreKind, addr: u32, words: u32, read_only: u32) -> Result<Place, u8>
+    requires { words ≤ 65536 }
+    ensures trap { trap_of result ≡ store_trap words read_only (store_bytes kind) addr }
+    ensures place { IfOk result (λ p. (p.word ≡ word_address addr) × (p.lane ≡ lane_of addr)) }
+    ensures inside { IfOk result (λ p. p.word < words) }
+    ensures fits { IfOk result (λ p. p.lane + store_bytes kind ≤ 4) }
+    ensures aligned { IfOk result (λ p. p.lane % store_bytes kind ≡ 0) }
+{
+    let place = data_place(kind, addr, words)?;
+    if place.word < read_only {
+        return Err(10);
+    }
+    Ok(place)
+}
+
+/// Where a load lies in data of so many words, or the number of its trap: 5 where it isn't aligned to its width,
+/// else 6 where it lies outside the data.
+#[inline(always)]
+pub fn load_place(kind: LoadKind, addr: u32, words: u32) -> Result<Place, u8>
+    requires { words ≤ 65536 }
+    ensures trap { trap_of result ≡ access_trap words (load_bytes kind) addr }
+    ensures place { IfOk result (λ p. (p.word ≡ word_address addr) × (p.lane ≡ lane_of addr)) }
+    ensures inside { IfOk result (λ p. p.word < words) }
+    ensures fits { IfOk result (λ p. p.lane + load_bytes kind ≤ 4) }
+{
+    data_place(width_of(kind), addr, words)
+}
+
+// Where an access of a store's width lies in data of so many words, or the number of its trap.
+#[inline(always)]
+fn data_place(kind: StoreKind, addr: u32, words: u32) -> Result<Place, u8>
     requires { words ≤ 65536 }
     ensures trap { trap_of result ≡ access_trap words (store_bytes kind) addr }
     ensures place { IfOk result (λ p. (p.word ≡ word_address addr) × (p.lane ≡ lane_of addr)) }
@@ -47,18 +78,6 @@ pub fn store_place(kind: StoreKind, addr: u32, words: u32) -> Result<Place, u8>
     } else {
         Err(6)
     }
-}
-
-/// Where a load lies in data of so many words, or the number of its trap, as for a store.
-#[inline(always)]
-pub fn load_place(kind: LoadKind, addr: u32, words: u32) -> Result<Place, u8>
-    requires { words ≤ 65536 }
-    ensures trap { trap_of result ≡ access_trap words (load_bytes kind) addr }
-    ensures place { IfOk result (λ p. (p.word ≡ word_address addr) × (p.lane ≡ lane_of addr)) }
-    ensures inside { IfOk result (λ p. p.word < words) }
-    ensures fits { IfOk result (λ p. p.lane + load_bytes kind ≤ 4) }
-{
-    store_place(width_of(kind), addr, words)
 }
 
 // The store of as many bytes.

@@ -2,7 +2,7 @@
 
 ghost use Rattle.std.specs.Prelude.{◌≡◌, ◌<◌, ◌≤◌, ℕ, None, length, slice_index, option_to_list};
 ghost use Rattle.svc_core_laws.specs.Numbers.{load_bytes, store_bytes};
-ghost use Rattle.svc_core_laws.specs.Turns.{access_trap};
+ghost use Rattle.svc_core_laws.specs.Turns.{access_trap, store_trap};
 ghost use Rattle.svc_core_laws.specs.Program.{over, wrote, output};
 ghost use Rattle.svc_core_laws.specs.Bursts.{IsReady};
 ghost use Rattle.svc_core_laws.specs.Steps.{answered, load_answer, store_answer};
@@ -13,15 +13,15 @@ use svc_core_laws::Ask;
 use svc_rv32i::{LoadKind, Register, StoreKind};
 
 impl Core {
-    /// Does an asked turn on a memory of words, up to the test for an entry; the answer is the word put out,
-    /// if any.
+    /// Does an asked turn on a memory of words, of which the first ones are read-only, up to the test for an entry;
+    /// the answer is the word put out, if any.
     #[inline(always)]
-    pub fn answer(&mut self, ask: Ask, memory: &mut [u32]) -> Option<u32>
+    pub fn answer(&mut self, ask: Ask, memory: &mut [u32], read_only: u32) -> Option<u32>
         requires ready { IsReady self.old ask }
         requires few { length memory.old ≤ 65536 }
-        ensures core { self.new ≡ (answered (length memory.old) ask self.old (slice_index memory.old)).core }
-        ensures memory { (a : ℕ) → slice_index memory.new a ≡ over (wrote (answered (length memory.old) ask self.old (slice_index memory.old)).log) (slice_index memory.old) a }
-        ensures output { option_to_list result ≡ output (answered (length memory.old) ask self.old (slice_index memory.old)).log }
+        ensures core { self.new ≡ (answered (length memory.old) read_only ask self.old (slice_index memory.old)).core }
+        ensures memory { (a : ℕ) → slice_index memory.new a ≡ over (wrote (answered (length memory.old) read_only ask self.old (slice_index memory.old)).log) (slice_index memory.old) a }
+        ensures output { option_to_list result ≡ output (answered (length memory.old) read_only ask self.old (slice_index memory.old)).log }
     {
         match ask {
             Ask::Nothing => None,
@@ -30,7 +30,7 @@ impl Core {
                 None
             }
             Ask::Store { kind, addr, value } => {
-                self.store(memory, kind, addr, value);
+                self.store(memory, read_only, kind, addr, value);
                 None
             }
             Ask::Emit(word) => {
@@ -57,14 +57,14 @@ impl Core {
     }
 
     #[inline(always)]
-    fn store(&mut self, memory: &mut [u32], kind: StoreKind, addr: u32, value: u32)
+    fn store(&mut self, memory: &mut [u32], read_only: u32, kind: StoreKind, addr: u32, value: u32)
         requires running { self.old.done ≡ None }
         requires in_time { self.old.count < self.old.limit }
         requires few { length memory.old ≤ 65536 }
-        ensures core { self.new ≡ (store_answer self.old kind addr value (slice_index memory.old) (access_trap (length memory.old) (store_bytes kind) addr)).core }
-        ensures memory { (a : ℕ) → slice_index memory.new a ≡ over (wrote (store_answer self.old kind addr value (slice_index memory.old) (access_trap (length memory.old) (store_bytes kind) addr)).log) (slice_index memory.old) a }
+        ensures core { self.new ≡ (store_answer self.old kind addr value (slice_index memory.old) (store_trap (length memory.old) read_only (store_bytes kind) addr)).core }
+        ensures memory { (a : ℕ) → slice_index memory.new a ≡ over (wrote (store_answer self.old kind addr value (slice_index memory.old) (store_trap (length memory.old) read_only (store_bytes kind) addr)).log) (slice_index memory.old) a }
     {
-        match store_place(kind, addr, memory.len() as u32) {
+        match store_place(kind, addr, memory.len() as u32, read_only) {
             Ok(place) => {
                 let at = place.word as usize;
                 memory[at] = stored(kind, place.lane, value, memory[at]);

@@ -37,7 +37,6 @@ impl Model for Core {
 
 impl Core {
     /// The core of a task that begins at an entry of the image.
-    #[tactic(auto, unfolding(svc_image::specs::Image::limit_at))]
     pub fn start(image: &Image, entry: u32) -> Core
         requires { is_entry image.now entry ≡ true }
         ensures { result ≡ start image.now entry }

@@ -1,6 +1,6 @@
 -- A turn on bytes does what it wants of words.
 use Rattle.std.proofs.Common.{◌≡◌, ℕ, ◌+◌, ◌-◌, ◌*◌, ◌^◌, ◌/◌, ◌%◌, ◌<◌, ◌≤◌, Bool, true, false, cond, List, ◌++◌, length, get_or, arith, sym, ◌∙◌, ap, refl, Option, Some, None}
-use Rattle.std.specs.Prelude.{◌==◌, ◌&&◌, nat_le, unwrap_or}
+use Rattle.std.specs.Prelude.{◌==◌, ◌&&◌, nat_le, nat_lt, unwrap_or}
 use Rattle.std.proofs.lemmas.List.{append-nil}
 use Rattle.std.proofs.lemmas.Bool.{eqb-true, eqb-false, leb-true, and_parts, cond_both}
 use Rattle.svc_rv32i.specs.declared.instr.Register.{Register}
@@ -14,7 +14,7 @@ use Rattle.svc_core_laws.specs.State.{State}
 use Rattle.svc_core_laws.specs.Local.{Outcome, ends, goes_on, sets}
 use Rattle.svc_core_laws.specs.Local as out
 use Rattle.svc_core_laws.specs.Bytes.{number_at, word_at, with_bytes, extracted, replaced, IsMemory}
-use Rattle.svc_core_laws.specs.Turns.{Turn, data_words, data_start, access_trap, arrives, next, loads, stores, on_bytes, plain}
+use Rattle.svc_core_laws.specs.Turns.{Turn, data_words, data_start, word_address, access_trap, unless_read_only, store_trap, arrives, next, loads, stores, on_bytes, plain}
 use Rattle.svc_core_laws.specs.Words.{wants_load, wants_store, wanted, wants}
 use Rattle.svc_core_laws.specs.Program.{Memory, Run, Action, act, wrote, over, output, Words, with_word}
 use Rattle.svc_core_laws.proofs.Memory.{load-is, store-is, store_elsewhere, length-with_bytes, bytes-with_bytes, number-below}
@@ -50,6 +50,14 @@ placed img _ addr four e low high = record { rest = 0; fits = omega arith; withi
 passed : (b : Bool) (x : Option ℕ) (k : ℕ) → cond b x (Some k) ≡ None → (b ≡ true) × (x ≡ None)
 passed true x k e = (refl, e)
 passed false x k e = absurd cc
+
+-- a store that doesn't trap is an access that doesn't
+written-access : (words read_only n addr : ℕ) → store_trap words read_only n addr ≡ None → access_trap words n addr ≡ None
+written-access words read_only n addr = by (nat_lt (word_address addr) read_only) (access_trap words n addr)
+  where
+    by : (b : Bool) (o : Option ℕ) → unless_read_only b o ≡ None → o ≡ None
+    by b (Some trap) e = absurd cc
+    by b None e = refl
 
 place : (img : Image) (n addr : ℕ) → IsWidth n → access_trap (data_words img) n addr ≡ None → Place img n addr
 place img n addr w e =
@@ -111,13 +119,13 @@ whole_word : (m : List ℕ) (a : ℕ) → ((i : ℕ) → get_or m i 0 < 256) →
 unfolding word_at
 whole_word m a bytes = number-below 4 (4 * a) m bytes
 
-same_store : (img : Image) (base : Memory) (log : List Action) (s : State) (m : List ℕ) → Stands base log m → (kind : StoreKind) (addr v : ℕ) → IsMemory (data_words img) m → (o : Option ℕ) → access_trap (data_words img) (store_bytes kind) addr ≡ o → After img base log (stores img s m kind addr v o) (act (wants_store img s kind addr v o) (word_at m) log)
+same_store : (img : Image) (base : Memory) (log : List Action) (s : State) (m : List ℕ) → Stands base log m → (kind : StoreKind) (addr v : ℕ) → IsMemory (data_words img) m → (o : Option ℕ) → store_trap (data_words img) img.read_only (store_bytes kind) addr ≡ o → After img base log (stores img s m kind addr v o) (act (wants_store img s kind addr v o) (word_at m) log)
 same_store img base log s m stands kind addr v is (Some trap) e = record { core = refl; memory = stands; output = sym (append-nil (output log)); is_memory = is }
-same_store img base log s m stands store.Byte addr v is None e = record { core = refl; memory = stored img base log m stands 1 addr v is (place img 1 addr one e); output = sym (append-nil (output log)); is_memory = kept img m 1 (addr - data_start) v is }
-same_store img base log s m stands store.Half addr v is None e = record { core = refl; memory = stored img base log m stands 2 addr v is (place img 2 addr two e); output = sym (append-nil (output log)); is_memory = kept img m 2 (addr - data_start) v is }
+same_store img base log s m stands store.Byte addr v is None e = record { core = refl; memory = stored img base log m stands 1 addr v is (place img 1 addr one (written-access (data_words img) img.read_only 1 addr e)); output = sym (append-nil (output log)); is_memory = kept img m 1 (addr - data_start) v is }
+same_store img base log s m stands store.Half addr v is None e = record { core = refl; memory = stored img base log m stands 2 addr v is (place img 2 addr two (written-access (data_words img) img.read_only 2 addr e)); output = sym (append-nil (output log)); is_memory = kept img m 2 (addr - data_start) v is }
 same_store img base log s m stands store.Word addr v is None e =
     let x = addr - data_start in
-    let p = place img 4 addr four e in
+    let p = place img 4 addr four (written-access (data_words img) img.read_only 4 addr e) in
     let whole : replaced (x % 4) 4 v (word_at m (x / 4)) ≡ v % 2 ^ 32 = replaced_whole (x % 4) v (word_at m (x / 4)) (omega (arith, p.fits)) (whole_word m (x / 4) is.bytes) in
     record {
       core = refl;
@@ -129,7 +137,7 @@ same_store img base log s m stands store.Word addr v is None e =
 same_outcome : (img : Image) (base : Memory) (log : List Action) (s : State) (m : List ℕ) → Stands base log m → (x : Outcome) → IsMemory (data_words img) m → After img base log (on_bytes img s m x) (act (wanted img s x) (word_at m) log)
 same_outcome img base log s m stands (out.Local c) is = record { core = refl; memory = stands; output = sym (append-nil (output log)); is_memory = is }
 same_outcome img base log s m stands (out.Load kind rd addr) is = same_load img base log s m stands kind rd addr is (access_trap (data_words img) (load_bytes kind) addr) refl
-same_outcome img base log s m stands (out.Store kind addr v) is = same_store img base log s m stands kind addr v is (access_trap (data_words img) (store_bytes kind) addr) refl
+same_outcome img base log s m stands (out.Store kind addr v) is = same_store img base log s m stands kind addr v is (store_trap (data_words img) img.read_only (store_bytes kind) addr) refl
 same_outcome img base log s m stands (out.Emit w) is = record { core = refl; memory = stands; output = refl; is_memory = is }
 
 -- a turn on bytes is what the turn wants, done on words

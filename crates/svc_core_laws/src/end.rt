@@ -11,7 +11,7 @@ pub enum End {
     Next(u32),
     /// The program asked to exit with this code.
     Exit(u32),
-    /// A turn trapped. The numbers are 1 to 9: the limit of turns, a fetch outside the text, an illegal
+    /// A turn trapped. The numbers are 1 to 10: the limit of turns, a fetch outside the text, an illegal
     /// word, a target that isn't a multiple of 4, a load or store that isn't aligned, one outside the data,
     /// an unknown environment call, a breakpoint, a 65th word put out.
     Trap(u8),

@@ -1,5 +1,5 @@
 -- What the type of a recorder keeps is kept by every event, and says what the committed tasks have left.
-use Rattle.std.proofs.Common.{ℕ, ◌≡◌, ◌+◌, ◌<◌, ◌≤◌, List, [], ◌∷◌, ◌++◌, length, Option, Some, None, refl, sym, ap, ap₂, ◌∙◌, subst, arith, length-append, is_some, option_map, unwrap_or}
+use Rattle.std.proofs.Common.{ℕ, ◌≡◌, ◌+◌, ◌<◌, ◌≤◌, List, [], ◌∷◌, ◌++◌, length, Option, Some, None, Err, refl, sym, ap, ap₂, ◌∙◌, subst, arith, length-append, is_some, option_map, unwrap_or}
 use Rattle.svc_base.specs.declared.config.Config.{Config}
 use Rattle.svc_base.specs.declared.refusal.Refusal.{Refusal}
 use Rattle.svc_image.specs.Image.{Image, IsImage}
@@ -27,6 +27,7 @@ use Rattle.svc_history_laws.specs.Entries.{count_of, entry_of, named, telling}
 use Rattle.svc_history_laws.specs.Board.{Tally, assigns, board, counted, counted_on, commits, no_events}
 use Rattle.svc_history_laws.specs.Legal.{Legal, LegalEntry, last, led_to, after_entry}
 use Rattle.svc_history_laws.proofs.Legality.{legal_entry, entry_leads, last-append, Legal-append}
+use Rattle.svc_history.specs.Applying.{IsApplied, refused_at}
 use Rattle.svc_history.specs.Recorded.{Recorded, IsCounted, standing_of}
 use Rattle.svc_history.specs.Kept.{IsKept}
 
@@ -235,10 +236,24 @@ pub leads_there : (r : Recorded) (x : Event) (m : MachineValue) (e : Entry) → 
 leads_there r x m e kept f =
     ap (λ (i : Image). led_to i m.config (r.entries ++ e ∷ [])) f.image ∙ (ap (λ (c : Config). led_to r.machine.image c (r.entries ++ e ∷ [])) f.config ∙ leads r x m e kept f)
 
--- after a refused event
-pub stays : (r : Recorded) (x : Event) (m : MachineValue) (why : Refusal) → refused r.machine.image r.machine.config (standing_of r) x ≡ Some why → m ≡ r.machine
-    → standing_of (record { machine = m; entries = r.entries }) ≡ after_event r.machine.image r.machine.config (standing_of r) x
-stays r x m why because same = ap (λ (v : MachineValue). standing_of (record { machine = v; entries = r.entries })) same ∙ sym (refused_step r.machine.image r.machine.config (standing_of r) x why because)
+-- a refused event leaves all as it is
+pub stayed : (r : Recorded) (x : Event) (m : MachineValue) (why : Refusal) → IsKept r → refused_at r x ≡ Some why → m ≡ r.machine
+    → IsApplied r (record { machine = m; entries = r.entries }) x (Err why)
+stayed r x m why kept because same =
+    subst (λ (v : MachineValue). IsApplied r (record { machine = v; entries = r.entries }) x (Err why)) (sym same) (record {
+      refused = because;
+      index = tt;
+      entry = tt;
+      entries = tt;
+      standing = sym (refused_step r.machine.image r.machine.config (standing_of r) x why because);
+      image = refl;
+      config = refl;
+      unchanged = refl;
+      was_legal = kept.legal;
+      legal = kept.legal;
+      counted = counts r kept;
+      headline = sequential r kept;
+    })
 
 -- so is a recorder just opened
 pub opened_kept : (m : MachineValue) (img : Image) (config : Config) (es : List Entry) → m.image ≡ img → m.config ≡ config → IsImage img → StandsAt m (opened_at img config 0) → es ≡ [] → IsKept (record { machine = m; entries = es })

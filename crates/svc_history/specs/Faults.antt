@@ -14,18 +14,26 @@ use Rattle.svc_history.specs.declared.trace.TraceFaultKind.TheVariants.{Memory, 
 -- the entry isn't legal where the recorder's history leads: its event is refused there, or is answered otherwise
 abbrev pub IsWrongThere : Recorded → Entry → TraceFaultKind → Type 0
 IsWrongThere r e Memory = ⊥
-IsWrongThere r e Refused = (LegalEntry r.machine.image r.machine.config (standing_of r) e → ⊥) × IsRefusedThere r.machine.image r.machine.config (standing_of r) e
-IsWrongThere r e Differs = (LegalEntry r.machine.image r.machine.config (standing_of r) e → ⊥) × DiffersThere r.machine.image r.machine.config (standing_of r) e
+IsWrongThere r e Refused =
+    (LegalEntry r.machine.image r.machine.config (standing_of r) e → ⊥)
+    × IsRefusedThere r.machine.image r.machine.config (standing_of r) e
+IsWrongThere r e Differs =
+    (LegalEntry r.machine.image r.machine.config (standing_of r) e → ⊥)
+    × DiffersThere r.machine.image r.machine.config (standing_of r) e
 
 -- the entry there, if any, is faulty in this way where the entries before it lead
 abbrev pub IsFaultyThere : Image → Config → List Entry → ℕ → (Standing → Entry → Type 0) → Type 0
-IsFaultyThere img config es index Is = (e : Entry) → slice_get es index ≡ Some e → Is (led_to img config (take index es)) e
+IsFaultyThere img config es index Is =
+    (e : Entry) → slice_get es index ≡ Some e → Is (led_to img config (take index es)) e
 
--- the fault names the first faulty entry, and its kind: its event is refused there, or is answered otherwise; or memory was refused
+-- the fault names the first faulty entry, and its kind: its event is refused there, or is answered otherwise; or memory
+-- was refused
 abbrev pub IsFaultAt : Image → Config → List Entry → ℕ → TraceFaultKind → Type 0
 IsFaultAt img config es index Memory = index ≡ 0
-IsFaultAt img config es index Refused = IsFirstFault img config es index × IsFaultyThere img config es index (IsRefusedThere img config)
-IsFaultAt img config es index Differs = IsFirstFault img config es index × IsFaultyThere img config es index (DiffersThere img config)
+IsFaultAt img config es index Refused =
+    IsFirstFault img config es index × IsFaultyThere img config es index (IsRefusedThere img config)
+IsFaultAt img config es index Differs =
+    IsFirstFault img config es index × IsFaultyThere img config es index (DiffersThere img config)
 
 abbrev pub IsFault : Image → Config → List Entry → TraceFault → Type 0
 IsFault img config es fault = IsFaultAt img config es fault.index fault.kind

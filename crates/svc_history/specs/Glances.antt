@@ -1,5 +1,9 @@
 -- What a unit thread sees of a recorder at a glance.
-use Rattle.std.specs.Prelude.{Bool, true, false, ◌≡◌, ℕ, ◌||◌, is_some}
+use Rattle.std.specs.Prelude.{Bool, true, false, ◌≡◌, ◌<◌, ◌≤◌, ℕ, ◌||◌, is_some, Result, MatchResult}
+use Rattle.svc_base.specs.declared.config.Config.{Config}
+use Rattle.svc_base.specs.declared.ids.UnitId.{UnitId}
+use Rattle.svc_base.specs.declared.refusal.Refusal.{Refusal}
+use Rattle.svc_base.specs.declared.refusal.Refusal.TheVariants as refusal
 use Rattle.svc_core_laws.specs.declared.end.Ending.{Ending}
 use Rattle.svc_core_laws.specs.declared.end.Ending.TheVariants as ending
 use Rattle.svc_core_laws.specs.Sequence.{plain_seq}
@@ -19,6 +23,11 @@ is_full_ending (ending.Open due) = false
 -- no further event of the run is accepted: it has stopped, or the history is full
 abbrev pub has_ended : MachineValue → Bool
 has_ended m = is_some (plain_seq m.image m.plain.commits).stopped || is_full m
+
+-- a glance is refused exactly where there is no such unit
+abbrev pub IsUnitKnown : Config → UnitId → Result Glance Refusal → Type 0
+IsUnitKnown config unit answer =
+    MatchResult answer (λ _. unit.0 < config.units) (λ why. (why ≡ refusal.NoSuchUnit) × (config.units ≤ unit.0))
 
 -- the glance shows the machine as it stands
 pub record IsGlance (m : MachineValue) (unit : ℕ) (g : Glance) : Type 0 where

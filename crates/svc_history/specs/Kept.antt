@@ -5,7 +5,8 @@ use Rattle.svc_machine_laws.specs.Reached.{IsReached}
 use Rattle.svc_history_laws.specs.Board.{board}
 use Rattle.svc_history.specs.Recorded.{Recorded, IsLegal, standing_of}
 
--- the history is legal and the machine is where it leads, which is a place that events lead to; it has an entry for each accepted event, among them the commits; and each task that was assigned was committed or squashed or is active
+-- the history is legal and the machine is where it leads, which is a place that events lead to; it has an entry for
+-- each accepted event, among them the commits; and each task that was assigned was committed or squashed or is active
 pub record IsKept (r : Recorded) : Type 0 where
   pub legal : IsLegal r
   pub image : IsImage r.machine.image
@@ -13,5 +14,7 @@ pub record IsKept (r : Recorded) : Type 0 where
   pub accepted : length r.entries ≡ (standing_of r).plain.accepted
   pub commits : (standing_of r).plain.commits ≡ (board r.entries).committed
   pub events : (board r.entries).events ≡ (standing_of r).plain.accepted
-  pub assigned : (board r.entries).assigned ≡ (board r.entries).committed + (board r.entries).squashed + length (standing_of r).plain.tasks
+  pub assigned :
+      (board r.entries).assigned
+      ≡ (board r.entries).committed + (board r.entries).squashed + length (standing_of r).plain.tasks
   pub assigned_few : (board r.entries).assigned ≤ (board r.entries).events

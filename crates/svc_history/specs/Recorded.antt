@@ -19,7 +19,8 @@ pub record IsLegal (r : Recorded) : Type 0 where
   pub legal : LegalHistory r.machine.image r.machine.config r.entries
   pub here : StandsAt r.machine (standing_of r)
 
--- the numbers that a board shows of the history are in order, and no more events were accepted than the configuration allows
+-- the numbers that a board shows of the history are in order, and no more events were accepted than the configuration
+-- allows
 pub record IsCounted (r : Recorded) : Type 0 where
   pub in_order : IsInOrder (board r.entries)
   pub events_few : (board r.entries).events ≤ r.machine.config.events

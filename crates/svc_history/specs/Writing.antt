@@ -1,9 +1,15 @@
--- What an entry has room for.
+-- What an entry tells of its event, and what it has room for.
 use Rattle.std.specs.Prelude.{ℕ, ◌<◌, ◌^◌, IfSome}
 use Rattle.svc_machine_laws.specs.declared.reply.What.{What}
 use Rattle.svc_machine_laws.specs.declared.reply.What.TheVariants as what
 use Rattle.svc_machine_laws.specs.declared.reply.Reply.{Reply}
-use Rattle.svc_history_laws.specs.Entries.{first_of}
+use Rattle.svc_history_laws.specs.declared.entry.Entry.{Entry}
+use Rattle.svc_history_laws.specs.Entries.{first_of, plain_entry}
+use Rattle.svc_history.specs.declared.writing.EventFields.{EventFields}
+
+-- the entry that has an event's fields alone
+abbrev pub entry_with : EventFields → Entry
+entry_with f = plain_entry f.kind f.unit f.arg f.local f.ask
 
 -- the number of the task that is told as committed, 0 if none is
 abbrev pub task_told : What → ℕ

@@ -1,3 +1,5 @@
+// What a unit sees of a recorder, and what it does next.
+
 ghost use Rattle.std.specs.Prelude.{◌≡◌};
 ghost use Rattle.svc_history.specs.Moves.{next_move};
 
@@ -32,8 +34,8 @@ pub enum Move {
 }
 
 impl Glance {
-    /// What the unit does next, by what it sees: nothing more in a run that has ended; without a task it begins one at the
-    /// guess; it runs a task on that has not ended, and commits one that has where that is the head. Else it waits.
+    /// What the unit does next, by what it sees: nothing more in a run that has ended; without a task it begins one at
+    /// the guess; it runs a task on that has not ended, and commits one that has where that is the head. Else it waits.
     pub fn next_move(&self) -> Move
         ensures { result ≡ next_move self.now }
     {

@@ -1,12 +1,12 @@
-ghost use Rattle.std.specs.Prelude.{◌≡◌, ◌<◌, ◌≤◌, ◌++◌, ◌∷◌, [], length, None, Some, IfOk, OnErr, MatchResult};
-ghost use Rattle.svc_base.specs.declared.refusal.Refusal.TheVariants as refusal;
-ghost use Rattle.svc_machine_laws.specs.Standing.{refused, reply_to, after_event};
+// The recorder: a machine with its history.
+
+ghost use Rattle.std.specs.Prelude.{◌≡◌, [], IfOk};
 ghost use Rattle.svc_machine.specs.Events.{event_of};
 ghost use Rattle.svc_machine.specs.Value.{IsSequentialMachine};
 ghost use Rattle.svc_history_laws.specs.Board.{board};
-ghost use Rattle.svc_history_laws.specs.Entries.{entry_of};
-ghost use Rattle.svc_history.specs.Recorded.{IsCounted, IsLegal, standing_of};
-ghost use Rattle.svc_history.specs.Glances.{IsGlance, has_ended, is_full_ending};
+ghost use Rattle.svc_history.specs.Recorded.{IsCounted, IsLegal};
+ghost use Rattle.svc_history.specs.Applying.{IsApplied};
+ghost use Rattle.svc_history.specs.Glances.{IsGlance, IsUnitKnown, has_ended, is_full_ending};
 
 use crate::glance::Glance;
 use crate::writing::{named, telling};
@@ -34,7 +34,9 @@ impl Model for Recorder {
 
     ghost view = { λ r. record { machine = r.machine; entries = r.entries.items } };
 
-    ghost invariant = { λ r. IsKept (record { machine = r.machine; entries = r.entries.items }) × (r.machine.config.events ≤ vec_capacity r.entries) };
+    ghost invariant = { λ r.
+        IsKept (record { machine = r.machine; entries = r.entries.items })
+        × (r.machine.config.events ≤ vec_capacity r.entries) };
 }
 
 // The ending is that of a full history.
@@ -45,13 +47,6 @@ fn is_full(ending: Ending) -> bool
         Ending::Full(_) => true,
         _ => false,
     }
-}
-
-// No further event of the run is accepted.
-fn has_ended(machine: &Machine) -> bool
-    ensures { result ≡ has_ended machine.now }
-{
-    machine.stopped().is_some() || is_full(machine.ending())
 }
 
 impl Recorder {
@@ -74,25 +69,17 @@ impl Recorder {
     /// One event. An accepted one appends exactly one entry, which is that event's with its reply, and a refused one
     /// changes nothing. No memory is taken.
     ///
-    /// After it, refused or not, the committed tasks are the first ones of the program's sequential order, as many as the
-    /// history has commits, and committed memory and output are exactly what the plain evaluator gives by running those
-    /// tasks one after another on one flat memory.
+    /// Errors: the first refusal that applies, by the table of refusals.
+    ///
+    /// After it, refused or not, the committed tasks are the first ones of the program's sequential order, as many as
+    /// the history has commits, and committed memory and output are exactly what the plain evaluator gives by running
+    /// those tasks one after another on one flat memory.
     pub fn apply(&mut self, event: Event<'_>) -> Result<Slip, Refusal>
-        ensures refused { MatchResult result (λ _. refused self.old.machine.image self.old.machine.config (standing_of self.old) (event_of event.entry) ≡ None) (λ e. refused self.old.machine.image self.old.machine.config (standing_of self.old) (event_of event.entry) ≡ Some e) }
-        ensures index { IfOk result (λ slip. slip.index ≡ length self.old.entries) }
-        ensures entry { IfOk result (λ slip. slip.entry ≡ entry_of (event_of event.entry) (reply_to self.old.machine.image (standing_of self.old) (event_of event.entry))) }
-        ensures entries { IfOk result (λ slip. self.new.entries ≡ self.old.entries ++ slip.entry ∷ []) }
-        ensures standing { standing_of self.new ≡ after_event self.old.machine.image self.old.machine.config (standing_of self.old) (event_of event.entry) }
-        ensures image { self.new.machine.image ≡ self.old.machine.image }
-        ensures config { self.new.machine.config ≡ self.old.machine.config }
-        ensures unchanged { OnErr result (self.new ≡ self.old) }
-        ensures legal { IsLegal self.new }
-        ensures counted { IsCounted self.new }
-        ensures headline { IsSequentialMachine (board self.new.entries).committed self.new.machine }
+        ensures { IsApplied self.old self.new (event_of event.entry) result }
     {
         let index = self.entries.len();
-        let named = named(event);
         let reply = self.machine.step(event)?;
+        let named = named(event);
         let entry = telling(named, &reply);
         let _pushed = self.entries.push(entry);
         Ok(Slip { index, entry })
@@ -118,11 +105,20 @@ impl Recorder {
         self.entries.as_slice()
     }
 
+    /// Whether no further event of the run is accepted: it has stopped, or the history is full.
+    pub fn has_ended(&self) -> bool
+        ensures ended { result ≡ has_ended self.now.machine }
+        ensures legal { IsLegal self.now }
+    {
+        let _entries = &self.entries;
+        self.machine.stopped().is_some() || is_full(self.machine.ending())
+    }
+
     /// What the unit's thread needs to know for its next event.
     ///
     /// Errors: [`Refusal::NoSuchUnit`].
     pub fn glance(&self, unit: UnitId) -> Result<Glance, Refusal>
-        ensures refused { MatchResult result (λ _. unit.0 < self.now.machine.config.units) (λ e. (e ≡ Refusal.NoSuchUnit) × (self.now.machine.config.units ≤ unit.0)) }
+        ensures refused { IsUnitKnown self.now.machine.config unit result }
         ensures glance { IfOk result (IsGlance self.now.machine unit.0) }
         ensures legal { IsLegal self.now }
     {
@@ -133,7 +129,7 @@ impl Recorder {
             return Err(Refusal::NoSuchUnit);
         }
         Ok(Glance {
-            ended: has_ended(machine),
+            ended: self.has_ended(),
             lease: machine.lease(unit),
             is_head: machine.is_head(unit),
             guess: machine.guess(),

@@ -1,6 +1,7 @@
 // Whether two entries are equal, field by field.
 
 ghost use Rattle.std.specs.Prelude.{◌≡◌, ◌↔◌, IsTrue};
+ghost use Rattle.svc_history.specs.Same.{HaveSameCut, HaveSameDeed, HaveSameEvent};
 
 use svc_base::{UnitId, WordAddr};
 use svc_history_laws::Entry;
@@ -27,7 +28,7 @@ fn same_word(one: Option<WordAddr>, other: Option<WordAddr>) -> bool
 
 // The fields of the event are the same.
 fn same_event(one: &Entry, other: &Entry) -> bool
-    ensures { IsTrue result ↔ ((one.now.kind ≡ other.now.kind) × (one.now.unit ≡ other.now.unit) × (one.now.arg ≡ other.now.arg) × (one.now.local ≡ other.now.local) × (one.now.ask ≡ other.now.ask)) }
+    ensures { IsTrue result ↔ HaveSameEvent one.now other.now }
 {
     one.kind == other.kind
         && one.unit.0 == other.unit.0
@@ -38,7 +39,7 @@ fn same_event(one: &Entry, other: &Entry) -> bool
 
 // The fields of what was done are the same.
 fn same_deed(one: &Entry, other: &Entry) -> bool
-    ensures { IsTrue result ↔ ((one.now.reply ≡ other.now.reply) × (one.now.addr ≡ other.now.addr) × (one.now.word ≡ other.now.word) × (one.now.served ≡ other.now.served) × (one.now.from ≡ other.now.from)) }
+    ensures { IsTrue result ↔ HaveSameDeed one.now other.now }
 {
     one.reply == other.reply
         && same_word(one.addr, other.addr)
@@ -49,7 +50,7 @@ fn same_deed(one: &Entry, other: &Entry) -> bool
 
 // The fields of the cut are the same.
 fn same_cut(one: &Entry, other: &Entry) -> bool
-    ensures { IsTrue result ↔ ((one.now.cause ≡ other.now.cause) × (one.now.first ≡ other.now.first) × (one.now.squashed ≡ other.now.squashed)) }
+    ensures { IsTrue result ↔ HaveSameCut one.now other.now }
 {
     one.cause == other.cause && one.first == other.first && one.squashed == other.squashed
 }

@@ -1,5 +1,6 @@
 // What no text shows: the slips and the history as values, what a unit's thread sees, and refused memory. Scripts and
-// traces, with what is printed of them, are cases of the program. What is expected follows from the sample's text by hand.
+// traces, with what is printed of them, are cases of the program. What is expected follows from the sample's text by
+// hand.
 
 use crate::{Event, Recorder, Slip};
 use std::alloc::Global;

@@ -41,9 +41,10 @@ pub struct TraceFault {
     pub kind: TraceFaultKind,
 }
 
-// The burst that an entry of a submission names, where its machine stands; none where the entry lacks what a submission needs.
+// The burst that an entry of a submission names, where its machine stands; none where the entry lacks what that needs.
 fn replayed_burst(machine: &Machine, entry: &Entry) -> Option<Burst>
-    ensures replay { IfSome result (λ b. ReplaysAs Kind.Submit machine.now.image machine.now.plain entry.now (Submit b)) }
+    ensures replay { IfSome result (λ b.
+        ReplaysAs Kind.Submit machine.now.image machine.now.plain entry.now (Submit b)) }
     ensures lacks { result ≡ None → Lacks Kind.Submit machine.now.image machine.now.plain entry.now }
 {
     let lease = machine.lease(entry.unit)?;

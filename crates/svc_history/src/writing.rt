@@ -1,67 +1,59 @@
-// How the entry of an event is written: its event's fields first, before the machine takes the event, and then its reply's.
+// How the entry of an event is written, from the event and its reply.
 
-ghost use Rattle.std.specs.Prelude.{◌≡◌, ◌<◌, ◌^◌, IfSome, Option, option_map, option_and_then};
+ghost use Rattle.std.specs.Prelude.{◌≡◌, ◌<◌, ◌^◌, IfSome, None, Option, option_map, option_and_then};
 ghost use Rattle.svc_machine_laws.specs.Events.{IsEvent};
 ghost use Rattle.svc_machine.specs.Events.{event_of};
-ghost use Rattle.svc_history_laws.specs.Entries.{cause_of, count_of, first_of, address_told, kind_served, named, plain_entry, reply_told, served_told, telling, unit_served, why_cut, word_told};
-ghost use Rattle.svc_history.specs.Writing.{IsSmall, task_told};
+ghost use Rattle.svc_history_laws.specs.Entries.{address_told, cause_of, count_of, first_of, kind_served, named};
+ghost use Rattle.svc_history_laws.specs.Entries.{reply_told, served_told, telling, unit_served, why_cut, word_told};
+ghost use Rattle.svc_history.specs.Writing.{IsSmall, entry_with, task_told};
 
 use svc_base::{UnitId, WordAddr};
 use svc_history_laws::{CutKind, Entry, Kind, ReplyKind, ServedKind};
 use svc_machine::{Cause, Cut, Event, Reply, Served, What};
 
-// An entry without fields but these.
-fn plain_entry(
-    kind: Kind,
-    unit: UnitId,
-    arg: Option<u32>,
-    local: Option<u8>,
-    ask: Option<bool>,
-) -> Entry
-    ensures { result ≡ plain_entry kind unit arg local ask }
+/// The fields of an entry that its event tells.
+#[derive(Clone, Copy)]
+pub(crate) struct EventFields {
+    pub(crate) kind: Kind,
+    pub(crate) unit: UnitId,
+    pub(crate) arg: Option<u32>,
+    pub(crate) local: Option<u8>,
+    pub(crate) ask: Option<bool>,
+}
+
+// The fields of an event without a burst.
+fn plain(kind: Kind, unit: UnitId, arg: Option<u32>) -> EventFields
+    ensures { result ≡ record { kind = kind; unit = unit; arg = arg; local = None; ask = None } }
 {
-    Entry {
+    EventFields {
         kind,
         unit,
         arg,
-        local,
-        ask,
-        reply: ReplyKind::Ran,
-        addr: None,
-        word: None,
-        served: None,
-        from: None,
-        cause: None,
-        first: None,
-        squashed: None,
+        local: None,
+        ask: None,
     }
 }
 
-/// The entry of an event, but for its reply.
-pub(crate) fn named(event: Event<'_>) -> Entry
-    ensures entry { result ≡ named (event_of event.entry) }
+/// The fields that an event tells of its entry.
+pub(crate) fn named(event: Event<'_>) -> EventFields
+    ensures entry { entry_with result ≡ named (event_of event.entry) }
     ensures sound { IsEvent (event_of event.entry) }
 {
     match event {
-        Event::Assign { unit, guess } => {
-            plain_entry(Kind::Assign, unit, Some(guess), None, None)
-        }
+        Event::Assign { unit, guess } => plain(Kind::Assign, unit, Some(guess)),
         Event::Submit { burst } => {
             let _end = burst.end();
-            let asks = !burst.ask().is_nothing();
-            plain_entry(
-                Kind::Submit,
-                burst.unit(),
-                None,
-                Some(burst.local() as u8),
-                Some(asks),
-            )
+            EventFields {
+                kind: Kind::Submit,
+                unit: burst.unit(),
+                arg: None,
+                local: Some(burst.local() as u8),
+                ask: Some(!burst.ask().is_nothing()),
+            }
         }
-        Event::Replace { unit, addr } => {
-            plain_entry(Kind::Replace, unit, Some(addr.0), None, None)
-        }
-        Event::Cancel { unit } => plain_entry(Kind::Cancel, unit, None, None, None),
-        Event::Commit { by } => plain_entry(Kind::Commit, by, None, None, None),
+        Event::Replace { unit, addr } => plain(Kind::Replace, unit, Some(addr.0)),
+        Event::Cancel { unit } => plain(Kind::Cancel, unit, None),
+        Event::Commit { by } => plain(Kind::Commit, by, None),
     }
 }
 
@@ -182,15 +174,20 @@ fn cut_fields(cut: Option<Cut>) -> (Option<CutKind>, Option<u32>, Option<u32>)
     }
 }
 
-/// The entry with what its event did.
-pub(crate) fn telling(entry: Entry, reply: &Reply) -> Entry
+/// The entry with these fields and what the event did.
+pub(crate) fn telling(fields: EventFields, reply: &Reply) -> Entry
     requires { IsSmall reply.now }
-    ensures { result ≡ telling reply.now entry }
+    ensures { result ≡ telling reply.now (entry_with fields) }
 {
     let what = reply.what;
     let (served, from) = supply(what);
     let (cause, first, squashed) = cut_fields(reply.cut);
     Entry {
+        kind: fields.kind,
+        unit: fields.unit,
+        arg: fields.arg,
+        local: fields.local,
+        ask: fields.ask,
         reply: reply_kind(what),
         addr: address(what),
         word: word(what),
@@ -199,6 +196,5 @@ pub(crate) fn telling(entry: Entry, reply: &Reply) -> Entry
         cause,
         first,
         squashed,
-        ..entry
     }
 }

@@ -19,7 +19,7 @@ use Rattle.svc_core_laws.specs.Numbers.{load_bytes, store_bytes}
 use Rattle.svc_core_laws.specs.State.{State}
 use Rattle.svc_core_laws.specs.Local.{Outcome, ends, goes_on, sets, calls, outcome_of, outcome_of_meaning, outcome_of_word, outcome_at}
 use Rattle.svc_core_laws.specs.Local as out
-use Rattle.svc_core_laws.specs.Turns.{data_words, access_trap, arrived_if, arrived, arrives, puts_out}
+use Rattle.svc_core_laws.specs.Turns.{data_words, access_trap, store_trap, arrived_if, arrived, arrives, puts_out}
 use Rattle.svc_core_laws.specs.Words.{wants_load, wants_store, wanted, wants, program}
 use Rattle.svc_core_laws.specs.Program.{Memory, Want, Run, Action, act, part, over, wrote}
 use Rattle.svc_core_laws.specs.Bursts.{shown, IsReady}
@@ -146,7 +146,7 @@ wanted_fits : (img : Image) (s : State) (x : Outcome) (m : Memory) (log : List A
 unfolding Moves
 wanted_fits img s (out.Local c) m log fits moved = arrives_fits img c moved
 wanted_fits img s (out.Load kind rd addr) m log fits moved = load_fits img s kind rd addr (access_trap (data_words img) (load_bytes kind) addr) m log fits moved
-wanted_fits img s (out.Store kind addr v) m log fits moved = store_fits img s kind addr v (access_trap (data_words img) (store_bytes kind) addr) m log fits moved
+wanted_fits img s (out.Store kind addr v) m log fits moved = store_fits img s kind addr v (store_trap (data_words img) img.read_only (store_bytes kind) addr) m log fits moved
 wanted_fits img s (out.Emit w) m log fits moved = arrives_fits img (puts_out s) (out_fits s moved.0 moved.1)
 
 turn_fits : (img : Image) (s : State) (m : Memory) (log : List Action) (o : Option End) → s.done ≡ o → Fits s → Fits (act (wants img s) m log).core

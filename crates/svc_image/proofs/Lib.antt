@@ -6,3 +6,6 @@ pub mod Files
 pub mod Building
 pub mod FilesBack
 pub mod Shown
+pub mod Versions
+pub mod Limits
+pub mod Copying

@@ -1,3 +1,4 @@
+pub mod Version
 pub mod Image
 pub mod Fields
 pub mod Format

@@ -2,21 +2,23 @@
 
 ghost use Rattle.std.specs.Prelude.{◌≡◌, ◌<◌, ◌≤◌, ◌+◌, ◌*◌, ◌^◌, length, nat_eq, drop, IfOk, OnOk};
 ghost use Rattle.std.specs.List.{list_any};
-ghost use Rattle.svc_image.specs.Format.{first_of, fault, entry_checks, entries_checks, end_checks, entry_count_in, text_count_in, entries_in, words_in};
-ghost use Rattle.svc_image.specs.Reading.{InLimits, checked, header_in};
+ghost use Rattle.svc_image.specs.Format.{first_of, fault, each_of, entry_checks, start_checks, limit_checks, end_checks, listed_in, limits_place as limits_place_in, text_place, text_count_in, words_in};
+ghost use Rattle.svc_image.specs.Reading.{InLimits, checked, header_in, size_of};
 
 use crate::error::ImageError;
-use crate::header::{Header, check_header, whole_word, word};
-use crate::layout::ENTRIES_PLACE;
+use crate::header::{Header, check_header, count, whole_word, word};
+use crate::layout::{ENTRIES_PLACE, MOST_WORDS};
 
 /// The header of a file without fault, and else the first fault.
 pub fn check(bytes: &[u8]) -> Result<Header, ImageError>
     ensures value { result ≡ checked (fault bytes.now) (header_in bytes.now) }
     ensures counts { IfOk result InLimits }
-    ensures size { IfOk result (λ header. length bytes.now ≡ 148 + 4 * header.entries + 4 * header.text + 4 * header.words) }
+    ensures size { IfOk result (λ header. length bytes.now ≡ size_of header) }
 {
     let header = check_header(bytes)?;
     check_entries(bytes, header.entries, header.text)?;
+    check_start(bytes, header)?;
+    check_limits(bytes, header)?;
     check_end(bytes, header)?;
     Ok(header)
 }
@@ -27,7 +29,7 @@ fn check_entries(bytes: &[u8], entries: usize, text: usize) -> Result<(), ImageE
     requires few { entries ≤ 1024 }
     requires text { text ≡ text_count_in bytes.now }
     requires text_few { text ≤ 65536 }
-    ensures value { result ≡ checked (first_of (entries_checks bytes.now entries)) tt }
+    ensures value { result ≡ checked (first_of (each_of (entry_checks bytes.now) entries)) tt }
     ensures whole { OnOk result (148 + 4 * entries ≤ length bytes.now) }
 {
     for index in 0..entries {
@@ -56,24 +58,61 @@ fn check_entry(bytes: &[u8], index: usize, text: usize) -> Result<(), ImageError
     Ok(())
 }
 
-// What follows the last entry's check: the start, and where the file ends.
+// The start, which is one of the entries.
+#[tactic(auto, unfolding(crate::specs::Format::start_checks))]
+fn check_start(bytes: &[u8], header: Header) -> Result<(), ImageError>
+    requires header { header ≡ header_in bytes.now }
+    requires counts { InLimits header }
+    requires whole { 148 + 4 * header.entries ≤ length bytes.now }
+    ensures { result ≡ checked (first_of (start_checks bytes.now)) tt }
+{
+    if !has_entry(bytes, header.entries, header.start) {
+        return Err(ImageError::Start);
+    }
+    Ok(())
+}
+
+// The limits that the file lists, in turn.
+fn check_limits(bytes: &[u8], header: Header) -> Result<(), ImageError>
+    requires header { header ≡ header_in bytes.now }
+    requires counts { InLimits header }
+    requires whole { 148 + 4 * header.entries ≤ length bytes.now }
+    ensures value { result ≡ checked (first_of (each_of (limit_checks bytes.now) (listed_in bytes.now))) tt }
+    ensures whole { OnOk result (text_place bytes.now ≤ length bytes.now) }
+{
+    let limits_place = ENTRIES_PLACE + 4 * header.entries;
+    for index in 0..header.listed() {
+        check_limit(bytes, limits_place, index)?;
+    }
+    Ok(())
+}
+
+// One limit: it is whole, and in its range.
+#[tactic(auto, unfolding(crate::specs::Format::limit_checks))]
+fn check_limit(bytes: &[u8], limits_place: usize, index: usize) -> Result<(), ImageError>
+    requires few { index < 1024 }
+    requires place { limits_place ≡ limits_place_in bytes.now }
+    requires early { limits_place ≤ 4244 }
+    ensures value { result ≡ checked (first_of (limit_checks bytes.now index)) tt }
+    ensures whole { OnOk result (limits_place + 4 * index + 4 ≤ length bytes.now) }
+{
+    count(word(bytes, limits_place + 4 * index)?, MOST_WORDS)?;
+    Ok(())
+}
+
+// What follows the limits: where the file ends.
 #[tactic(auto, unfolding(crate::specs::Format::end_checks))]
 fn check_end(bytes: &[u8], header: Header) -> Result<(), ImageError>
     requires header { header ≡ header_in bytes.now }
     requires counts { InLimits header }
-    requires whole { 148 + 4 * header.entries ≤ length bytes.now }
     ensures value { result ≡ checked (first_of (end_checks bytes.now)) tt }
-    ensures size { OnOk result (length bytes.now ≡ 148 + 4 * header.entries + 4 * header.text + 4 * header.words) }
+    ensures size { OnOk result (length bytes.now ≡ size_of header) }
 {
-    let text_place = ENTRIES_PLACE + 4 * header.entries;
-    if !has_entry(bytes, header.entries, header.start) {
-        return Err(ImageError::Start);
-    }
-    let end_place = text_place + 4 * header.text + 4 * header.words;
-    if bytes.len() < end_place {
+    let size = header.size();
+    if bytes.len() < size {
         return Err(ImageError::Short);
     }
-    if end_place < bytes.len() {
+    if size < bytes.len() {
         return Err(ImageError::Trailing);
     }
     Ok(())

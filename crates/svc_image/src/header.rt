@@ -1,24 +1,67 @@
 // The header of an image file, and its checks.
 
-ghost use Rattle.std.specs.Prelude.{◌≡◌, ◌<◌, ◌≤◌, ◌+◌, ◌^◌, length, nat_lt, if◌then◌else◌, IfOk, OnOk};
-ghost use Rattle.svc_image.specs.Format.{half_at, word_at, first_of, header_checks, is_outside};
-ghost use Rattle.svc_image.specs.Reading.{InLimits, checked, header_in};
+ghost use Rattle.std.specs.Prelude.{◌≡◌, ◌<◌, ◌≤◌, ◌+◌, ◌*◌, ◌^◌, length, nat_lt, if◌then◌else◌, IfOk, OnOk};
+ghost use Rattle.svc_image.specs.Version.{listed_count, read_only_by};
+ghost use Rattle.svc_image.specs.Format.{half_at, word_at, first_of, header_checks, is_outside, is_own_outside};
+ghost use Rattle.svc_image.specs.Reading.{InLimits, IsOwn, checked, header_in, size_of};
 
 use crate::error::ImageError;
 use crate::layout::{
-    DATA_COUNT_PLACE, ENTRIES_PLACE, ENTRY_COUNT_PLACE, LIMIT_PLACE, MAGIC, MOST_ENTRIES,
-    MOST_WORDS, START_PLACE, TEXT_COUNT_PLACE, VERSION, VERSION_PLACE,
+    DATA_COUNT_PLACE, ENTRIES_PLACE, ENTRY_COUNT_PLACE, MAGIC, MOST_ENTRIES, MOST_WORDS, OWN_PLACE,
+    START_PLACE, TEXT_COUNT_PLACE, VERSION_PLACE,
 };
+use crate::version::Version;
 use byteorder::{ByteOrder, LittleEndian};
 
 /// The numbers of an image file's header.
 #[derive(Clone, Copy, Debug, PartialEq, Eq)]
 pub struct Header {
+    pub version: Version,
     pub entries: usize,
     pub text: usize,
     pub words: usize,
-    pub limit: u32,
+    /// In version 1 the limit of every task, in version 2 how many data words are read-only.
+    pub own: u32,
     pub start: u32,
+}
+
+impl Header {
+    /// How many limits the file lists.
+    pub fn listed(self) -> usize
+        ensures value { result ≡ listed_count self.version self.entries }
+        ensures few { result ≤ self.entries }
+    {
+        match self.version {
+            Version::One => 0,
+            Version::Two => self.entries,
+        }
+    }
+
+    /// How many data words are read-only.
+    pub fn read_only(self) -> u32
+        ensures { result ≡ read_only_by self.version self.own }
+    {
+        match self.version {
+            Version::One => 0,
+            Version::Two => self.own,
+        }
+    }
+
+    /// Where the text begins.
+    pub fn text_place(self) -> usize
+        requires { InLimits self }
+        ensures { result ≡ 148 + 4 * self.entries + 4 * listed_count self.version self.entries }
+    {
+        ENTRIES_PLACE + 4 * self.entries + 4 * self.listed()
+    }
+
+    /// How many bytes the file has.
+    pub fn size(self) -> usize
+        requires { InLimits self }
+        ensures { result ≡ size_of self }
+    {
+        self.text_place() + 4 * self.text + 4 * self.words
+    }
 }
 
 /// The number of 16 bits at a place of the file.
@@ -53,9 +96,9 @@ pub fn word(bytes: &[u8], place: usize) -> Result<u32, ImageError>
     Ok(whole_word(bytes, place))
 }
 
-// A count from 1 to the most.
+/// A count from 1 to the most.
 #[tactic(auto, unfolding(crate::specs::Format::is_outside))]
-fn count(value: u32, most: u32) -> Result<u32, ImageError>
+pub fn count(value: u32, most: u32) -> Result<u32, ImageError>
     ensures value { result ≡ (if is_outside most value then Err ImageError.Count else Ok value) }
     ensures some { IfOk result (λ n. 1 ≤ n) }
     ensures few { IfOk result (λ n. n ≤ most) }
@@ -64,6 +107,19 @@ fn count(value: u32, most: u32) -> Result<u32, ImageError>
         return Err(ImageError::Count);
     }
     Ok(value)
+}
+
+// The version's own number, where it is sound.
+#[tactic(auto, unfolding(crate::specs::Format::is_outside))]
+fn own(version: Version, words: u32, value: u32) -> Result<u32, ImageError>
+    ensures value { result ≡ (if is_own_outside version words value then Err ImageError.Count else Ok value) }
+    ensures sound { IfOk result (IsOwn version words) }
+{
+    match version {
+        Version::One => count(value, MOST_WORDS),
+        Version::Two if value <= words => Ok(value),
+        Version::Two => Err(ImageError::Count),
+    }
 }
 
 /// The header, where it and the registers after it have no fault.
@@ -79,22 +135,21 @@ pub fn check_header(bytes: &[u8]) -> Result<Header, ImageError>
     if !bytes.starts_with(&MAGIC) {
         return Err(ImageError::Magic);
     }
-    if half(bytes, VERSION_PLACE)? != VERSION {
-        return Err(ImageError::Version);
-    }
+    let version = Version::of(half(bytes, VERSION_PLACE)?).ok_or(ImageError::Version)?;
     let entries = count(half(bytes, ENTRY_COUNT_PLACE)?, MOST_ENTRIES)?;
     let text = count(word(bytes, TEXT_COUNT_PLACE)?, MOST_WORDS)?;
     let words = count(word(bytes, DATA_COUNT_PLACE)?, MOST_WORDS)?;
-    let limit = count(word(bytes, LIMIT_PLACE)?, MOST_WORDS)?;
+    let own = own(version, words, word(bytes, OWN_PLACE)?)?;
     let start = word(bytes, START_PLACE)?;
     if bytes.len() < ENTRIES_PLACE {
         return Err(ImageError::Short);
     }
     Ok(Header {
+        version,
         entries: entries as usize,
         text: text as usize,
         words: words as usize,
-        limit,
+        own,
         start,
     })
 }

@@ -1,9 +1,7 @@
-// Where the fields of an image file stand, and their limits: version 1 of the format.
+// Where the fields of an image file stand, and their limits.
 
 /// The bytes with which every image begins.
 pub const MAGIC: [u8; 4] = *b"SVCI";
-/// The version of the format.
-pub const VERSION: u32 = 1;
 
 /// The most entries of an image.
 pub const MOST_ENTRIES: u32 = 1024;
@@ -18,7 +16,9 @@ pub const TEXT_COUNT_PLACE: usize = 8;
 
 pub const DATA_COUNT_PLACE: usize = 12;
 
-pub const LIMIT_PLACE: usize = 16;
+/// The number that only its version has: in version 1 the limit of every task, in version 2 how many words
+/// are read-only.
+pub const OWN_PLACE: usize = 16;
 
 pub const START_PLACE: usize = 20;
 

@@ -12,6 +12,7 @@ mod marks;
 pub mod samples;
 mod slot;
 mod slots;
+mod version;
 mod words;
 
 pub use error::ImageError;
@@ -19,6 +20,9 @@ pub use fetched::Fetched;
 pub use image::Image;
 pub use laws::one_meaning;
 pub use slot::{Found, Slot};
+pub use version::Version;
 
+#[cfg(test)]
+mod second_tests;
 #[cfg(test)]
 mod tests;

@@ -1,8 +1,8 @@
 //! Small images, for tests and for a first run. Each line holds, in order: the magic; the version and the
 //! number of entries; the counts of text and data words; the limit and the start; two registers at a time, all
-//! 0; the last register; the entries; one instruction a line; the two data words. The files p.svci, p1.svci and
-//! r.svci under images/ hold the same bytes: they were made from this table, and whoever changes it makes them
-//! anew.
+//! 0; the last register; the entries; in version 2 their limits; one instruction a line; the two data words. The
+//! files p.svci, p1.svci, r.svci and p2.svci under images/ hold the same bytes: they were made from this table, and
+//! whoever changes it makes them anew.
 
 /// Two tasks, which begin at 0 and at 12. The first stores 5 into data word 0 (`lui x5, 0x100`,
 /// `addi x1, x0, 5`, `sw x1, 0(x5)`); the second loads that word (`lui x5, 0x100`, `lw x10, 0(x5)`), puts it
@@ -100,6 +100,41 @@ pub const R: [u8; 200] = *b"SVCI\
     \x23\x80\x12\x00\
     \xb7\x02\x10\x00\
     \x03\xc5\x12\x00\
+    \x93\x08\x10\x00\
+    \x73\x00\x00\x00\
+    \x93\x08\x00\x00\
+    \x73\x00\x00\x00\
+    \x00\x00\x00\x00\x00\x00\x00\x00";
+
+/// Two tasks as in [`P`], as an image of version 2: the first data word is read-only, so the first task's store traps,
+/// and the limits are 3 and 6 turns.
+pub const P2: [u8; 208] = *b"SVCI\
+    \x02\x00\x02\x00\
+    \x09\x00\x00\x00\x02\x00\x00\x00\
+    \x01\x00\x00\x00\x00\x00\x00\x00\
+    \x00\x00\x00\x00\x00\x00\x00\x00\
+    \x00\x00\x00\x00\x00\x00\x00\x00\
+    \x00\x00\x00\x00\x00\x00\x00\x00\
+    \x00\x00\x00\x00\x00\x00\x00\x00\
+    \x00\x00\x00\x00\x00\x00\x00\x00\
+    \x00\x00\x00\x00\x00\x00\x00\x00\
+    \x00\x00\x00\x00\x00\x00\x00\x00\
+    \x00\x00\x00\x00\x00\x00\x00\x00\
+    \x00\x00\x00\x00\x00\x00\x00\x00\
+    \x00\x00\x00\x00\x00\x00\x00\x00\
+    \x00\x00\x00\x00\x00\x00\x00\x00\
+    \x00\x00\x00\x00\x00\x00\x00\x00\
+    \x00\x00\x00\x00\x00\x00\x00\x00\
+    \x00\x00\x00\x00\x00\x00\x00\x00\
+    \x00\x00\x00\x00\x00\x00\x00\x00\
+    \x00\x00\x00\x00\
+    \x00\x00\x00\x00\x0c\x00\x00\x00\
+    \x03\x00\x00\x00\x06\x00\x00\x00\
+    \xb7\x02\x10\x00\
+    \x93\x00\x50\x00\
+    \x23\xa0\x12\x00\
+    \xb7\x02\x10\x00\
+    \x03\xa5\x02\x00\
     \x93\x08\x10\x00\
     \x73\x00\x00\x00\
     \x93\x08\x00\x00\

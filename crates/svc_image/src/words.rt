@@ -6,7 +6,7 @@ ghost use Rattle.svc_image.specs.Reading.{InLimits, header_bytes};
 
 use crate::error::ImageError;
 use crate::header::Header;
-use crate::layout::{MAGIC, VERSION};
+use crate::layout::MAGIC;
 use byteorder::{ByteOrder, LittleEndian, WriteBytesExt};
 use std::alloc::{AllocError, Global};
 
@@ -38,11 +38,11 @@ pub fn put_header(bytes: &mut Vec<u8>, header: Header) -> Result<(), ImageError>
     ensures err { IfErr result (λ e. e ≡ ImageError.Memory) }
 {
     bytes.extend_from_slice(&MAGIC)?;
-    put_half(bytes, VERSION as u16)?;
+    put_half(bytes, header.version.number())?;
     put_half(bytes, header.entries as u16)?;
     put_word(bytes, header.text as u32)?;
     put_word(bytes, header.words as u32)?;
-    put_word(bytes, header.limit)?;
+    put_word(bytes, header.own)?;
     put_word(bytes, header.start)
 }
 

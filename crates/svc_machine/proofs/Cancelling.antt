@@ -1,5 +1,5 @@
 -- What an accepted cancel may do, and what it does.
-use Rattle.std.proofs.Common.{ℕ, suc, ◌≡◌, ◌+◌, ◌^◌, ◌<◌, ◌≤◌, ◌==◌, Bool, false, true, cond, List, [], ◌∷◌, map, take, length, get_or, None, Some, refl, sym, ap, ◌∙◌, subst, arith}
+use Rattle.std.proofs.Common.{ℕ, suc, ◌≡◌, ◌+◌, ◌^◌, ◌<◌, ◌≤◌, ◌==◌, Bool, false, true, cond, List, [], ◌∷◌, map, take, length, get_or, Some, refl, sym, ap, ◌∙◌, subst, arith}
 use Rattle.std.specs.Prelude.{◌&&◌, ltb, option_map, slice_get}
 use Rattle.std.specs.List.{position}
 use Rattle.std.proofs.lemmas.Option.{same_Some, none-some, get_or_from_slice_get}
@@ -57,12 +57,6 @@ module _ (m : Parts) (kept : Kept m) (seats : List Seat) (same : map whole_seat 
 
   pub task_placed : position (λ (s : Seat). s.unit.0 == unit) seats ≡ task_place m.plain unit
   task_placed = seat_placed ∙ seat_places m.image m.config (own_standing m kept) unit
-
-  -- an accepted cancel's unit has a seat
-  pub is_placed : IsAccepted m (Cancel unit) → position (λ (s : Seat). s.unit.0 == unit) seats ≡ None → ⊥
-  is_placed ok none =
-      let can = can_cancel m.image m.config (own_standing m kept) unit (ok (own_standing m kept) (stands m kept)) in
-      none-some can.place (sym none ∙ task_placed ∙ can.at)
 
   module _ (place : ℕ) (at : position (λ (s : Seat). s.unit.0 == unit) seats ≡ Some place) where
     pub task_here : slice_get (map unit_of m.plain.tasks) place ≡ Some unit

@@ -1,6 +1,6 @@
 -- What an accepted commit may do, and what it does.
 use Rattle.std.proofs.Common.{ℕ, suc, ◌≡◌, ◌+◌, ◌^◌, ◌<◌, ◌≤◌, Bool, false, true, cond, List, [], ◌∷◌, ◌++◌, map, take, drop, length, get_or, Option, None, Some, refl, sym, ap, ap₂, ◌∙◌, subst, arith}
-use Rattle.std.specs.Prelude.{slice_get, option_map}
+use Rattle.std.specs.Prelude.{slice_get, option_map, option_and_then}
 use Rattle.std.proofs.lemmas.Option.{same_Some, none-some}
 use Rattle.svc_core_laws.specs.declared.end.End.{End}
 use Rattle.svc_core_laws.specs.State.{State}
@@ -35,7 +35,7 @@ use Rattle.svc_machine_laws.proofs.Room.{tasks_few}
 use Rattle.svc_machine_laws.proofs.Followed.{commit_guide}
 use Rattle.svc_machine_laws.proofs.Answering as answering
 use Rattle.svc_machine.specs.declared.seat.Seat.{Seat}
-use Rattle.svc_machine.specs.Seats.{plain_of, head_end}
+use Rattle.svc_machine.specs.Seats.{plain_of, head_end, seat_end}
 use Rattle.svc_machine.specs.Kept.{Parts, Kept, whole_seat}
 use Rattle.svc_machine.proofs.Keeping.{IsAccepted, Moved, own_standing, stands, reached_with, tasks_seen}
 use Rattle.svc_machine.proofs.Seats.{count}
@@ -48,7 +48,7 @@ pub record HasHead (seats : List Seat) (end : End) : Type 0 where
   pub are : seats ≡ head ∷ others
   pub ended : head.core.done ≡ Some end
 
-pub head_of : (seats : List Seat) (end : End) → head_end seats ≡ Some end → HasHead seats end
+pub head_of : (seats : List Seat) (end : End) → head_end (map whole_seat seats) ≡ Some end → HasHead seats end
 head_of [] end h = absurd (none-some end h)
 head_of (x ∷ seats) end h = record { head = x; others = seats; are = refl; ended = h }
 
@@ -95,14 +95,9 @@ module _ (m : Parts) (kept : Kept m) (by : ℕ) (ok : IsAccepted m (Commit by)) 
   head_seat : slice_get (machine_of (program m.image) m.plain).seats 0 ≡ Some (seat_of can.run)
   head_seat = seat_here m.image m.config (own_standing m kept) 0 ∙ ap (option_map seat_of) can.here
 
-  first_seat : (l : List Seat) → map whole_seat l ≡ (machine_of (program m.image) m.plain).seats → head_end l ≡ Some can.end
-  first_seat [] e = absurd (none-some (seat_of can.run) (ap (λ (s : List (whole.Seat State)). slice_get s 0) e ∙ head_seat))
-  first_seat (x ∷ l) e =
-      ap (λ (s : whole.Seat State). s.core.done) (same_Some (whole_seat x) (seat_of can.run) (ap (λ (s : List (whole.Seat State)). slice_get s 0) e ∙ head_seat)) ∙ can.ended
-
   -- the head has ended
-  pub head_ends : (end : End) × (head_end seats ≡ Some end)
-  head_ends = (can.end, first_seat seats (same ∙ kept.seats))
+  head_ends : head_end (map whole_seat seats) ≡ Some can.end
+  head_ends = ap head_end (same ∙ kept.seats) ∙ ap (option_and_then seat_end) head_seat ∙ can.ended
 
   pub accepted_room : m.plain.accepted < m.config.events
   accepted_room = can.room
@@ -139,7 +134,7 @@ module _ (m : Parts) (kept : Kept m) (by : ℕ) (ok : IsAccepted m (Commit by)) 
 
   module _ (end : End) (h : HasHead seats end) where
     end_is : done.end ≡ end
-    end_is = same_Some done.end end (sym (done.is can.run can.here) ∙ can.ended ∙ sym (first_seat seats (same ∙ kept.seats)) ∙ ap head_end h.are ∙ h.ended)
+    end_is = same_Some done.end end (sym (done.is can.run can.here) ∙ can.ended ∙ sym head_ends ∙ ap (λ (l : List Seat). head_end (map whole_seat l)) h.are ∙ h.ended)
 
     seats_are : (machine_of (program m.image) m.plain).seats ≡ whole_seat h.head ∷ map whole_seat h.others
     seats_are = sym kept.seats ∙ sym same ∙ ap (map whole_seat) h.are

@@ -1,5 +1,5 @@
 -- What every accepted event keeps.
-use Rattle.std.proofs.Common.{ℕ, ◌≡◌, ◌≤◌, List, [], ◌∷◌, map, None, Some, refl, sym, ap, ap₂, ◌∙◌, subst, arith}
+use Rattle.std.proofs.Common.{ℕ, ◌≡◌, ◌≤◌, List, [], ◌∷◌, map, None, Some, Ok, Err, refl, sym, ap, ap₂, ◌∙◌, subst, arith}
 use Rattle.std.specs.Prelude.{vec_capacity}
 use Rattle.std.specs.List.{AllByRecursion}
 use Rattle.svc_base.specs.declared.config.Config.{Config}
@@ -31,6 +31,7 @@ use Rattle.svc_machine.specs.declared.seat.Seat as declared
 use Rattle.svc_machine.specs.declared.machine.Machine.TheInside.{Inside}
 use Rattle.svc_machine.specs.Seats.{task_of, plain_of}
 use Rattle.svc_machine.specs.Value.{MachineValue, StandsAt}
+use Rattle.svc_machine.specs.Steps.{Accepts, IsStep, IsTaken}
 use Rattle.svc_machine.specs.Kept.{Parts, Kept, shown, whole_seat}
 
 -- ---- the plain machine's tasks, from the seats
@@ -108,10 +109,6 @@ same_plain : (a b : Plain) → a.commits ≡ b.commits → a.accepted ≡ b.acce
 same_plain a b k n e ts =
     ap₂ {C = Plain} (λ (k n : ℕ). record { commits = k; accepted = n; epoch = a.epoch; tasks = a.tasks }) k n
     ∙ ap₂ {C = Plain} (λ (e : ℕ) (ts : List Task). record { commits = b.commits; accepted = b.accepted; epoch = e; tasks = ts }) e ts
-
--- accepted at every standing where the machine stands
-abbrev pub Accepts : MachineValue → Event → Type 0
-Accepts m x = (s : Standing) → StandsAt m s → refused m.image m.config s x ≡ None
 
 abbrev pub IsAccepted : Parts → Event → Type 0
 IsAccepted m x = Accepts (shown m) x
@@ -205,10 +202,44 @@ module _ (old : Parts) (kept : Kept old) (x : Event) (is : IsEvent x) (ok : IsAc
 
 -- ---- accepted or not
 
-pub refused_stays : (img : Image) (config : Config) (s : Standing) (x : Event) (r : Refusal) → refused img config s x ≡ Some r → after_event img config s x ≡ s
+refused_stays : (img : Image) (config : Config) (s : Standing) (x : Event) (r : Refusal) → refused img config s x ≡ Some r → after_event img config s x ≡ s
 unfolding after_event
 refused_stays img config s x r h = ap (λ o. unless o s (stepped img s x)) h
 
-pub accepted_leads : (img : Image) (config : Config) (s : Standing) (x : Event) → refused img config s x ≡ None → after_event img config s x ≡ stepped img s x
+accepted_leads : (img : Image) (config : Config) (s : Standing) (x : Event) → refused img config s x ≡ None → after_event img config s x ≡ stepped img s x
 unfolding after_event
 accepted_leads img config s x h = ap (λ o. unless o s (stepped img s x)) h
+
+-- a refused event is a step that changes nothing
+pub refused_step : (v : MachineValue) (x : Event) (e : Refusal) → ((s : Standing) → StandsAt v s → Some e ≡ refused v.image v.config s x) → IsStep v v x (Err e)
+refused_step v x e why = record {
+  refused = λ s at. sym (why s at);
+  reply = λ s at. tt;
+  standing = λ s at. subst (StandsAt v) (sym (refused_stays v.image v.config s x e (sym (why s at)))) at;
+  image = refl;
+  config = refl;
+  unchanged = refl;
+}
+
+-- an accepted one is what was done with it
+pub accepted_step : (old new : MachineValue) (x : Event) (r : Reply) → Accepts old x → IsTaken old new x r → IsStep old new x (Ok r)
+accepted_step old new x r ok done = record {
+  refused = ok;
+  reply = done.reply_is;
+  standing = λ s at. subst (StandsAt new) (sym (accepted_leads old.image old.config s x (ok s at))) (done.standing s at);
+  image = done.image;
+  config = done.config;
+  unchanged = tt;
+}
+
+-- what every accepted event comes to
+pub taken_as : (old new : Parts) (kept : Kept old) (v : MachineValue) → shown old ≡ v → (x : Event) (is : IsEvent x) (ok : IsAccepted old x) → Moved old new x
+    → (r : Reply) → ((t : LineTable) → Agrees (observed old.bus) t → r ≡ whole_reply old.image (machine_of (program old.image) old.plain) t x)
+    → IsTaken v (shown new) x r
+taken_as old new kept v seen x is ok moved r answers =
+    subst (λ (u : MachineValue). IsTaken u (shown new) x r) seen (record {
+      reply_is = replied old kept x is ok r answers;
+      standing = stands_after old kept x is ok new moved;
+      image = moved.image;
+      config = moved.config;
+    })

@@ -4,7 +4,6 @@ use Rattle.std.proofs.lemmas.List.{length-take-le, length-set, map-set}
 use Rattle.std.proofs.lemmas.Option.{same_Some, slice_get-map, get_or_from_slice_get}
 use Rattle.std.specs.Option.{option_or}
 use Rattle.std.specs.List.{position}
-use Rattle.svc_base.specs.declared.ids.UnitId.{UnitId}
 use Rattle.svc_image.specs.Image.{Image}
 use Rattle.svc_core_laws.specs.declared.ask.Ask.{Ask}
 use Rattle.svc_core_laws.specs.State.{State}
@@ -346,10 +345,6 @@ module _ (m : Parts) (kept : Kept m) (b : Advance) (ok : IsAccepted m (Submit b)
 pub accepted_as : (x : Event) (v w : MachineValue) → v ≡ w → ((s : Standing) → StandsAt w s → refused w.image w.config s x ≡ None) → (s : Standing) → StandsAt v s → refused v.image v.config s x ≡ None
 accepted_as x v w same h = subst (λ (u : MachineValue). (s : Standing) → StandsAt u s → refused u.image u.config s x ≡ None) (sym same) h
 
-pub found_place : (items looked : List declared.Seat) (u v : UnitId) (r o : Option ℕ) → looked ≡ items → u ≡ v → r ≡ position (λ (s : declared.Seat). s.unit.0 == u.0) looked → r ≡ o → position (λ (s : declared.Seat). s.unit.0 == v.0) items ≡ o
-found_place items looked u v r o same one is here =
-    ap₂ (λ (l : List declared.Seat) (w : UnitId). position (λ (s : declared.Seat). s.unit.0 == w.0) l) (sym same) (sym one) ∙ sym is ∙ here
-
 -- as many seats are left of those with the new one in its place
 pub seats_left : (items new : List declared.Seat) (place left n : ℕ) (seat : declared.Seat) → new ≡ take left (slice_set items place seat) → left ≡ n
     → map whole_seat new ≡ take n (slice_set (map whole_seat items) place (whole_seat seat))
@@ -368,9 +363,6 @@ module _ (m : Parts) (kept : Kept m) (b : Advance) (ok : IsAccepted m (Submit b)
   -- the place of the unit's task is found
   pub place_found : position (λ (s : declared.Seat). s.unit.0 == b.unit.0) items ≡ seat_place (machine_of (program m.image) m.plain) b.unit.0
   place_found = place_is items b.unit.0 ∙ ap (λ (l : List (whole.Seat State)). place_in (map seat_unit l) b.unit.0) (same ∙ kept.seats)
-
-  pub is_found : position (λ (s : declared.Seat). s.unit.0 == b.unit.0) items ≡ None → ⊥
-  is_found none = let h : Some (can m kept b ok).place ≡ None = sym (has_place m kept b ok) ∙ sym place_found ∙ none in cc
 
   module _ (place : ℕ) (found : position (λ (s : declared.Seat). s.unit.0 == b.unit.0) items ≡ Some place) where
     pub at_place : seat_place (machine_of (program m.image) m.plain) b.unit.0 ≡ Some place

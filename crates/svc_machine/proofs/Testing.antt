@@ -1,9 +1,10 @@
 -- What the tests of the table of refusals see of the fields.
-use Rattle.std.proofs.Common.{ℕ, ◌≡◌, ◌==◌, ◌<◌, ◌≤◌, length, List, map, Option, Some, None, Bor, refl, sym, ap, ◌∙◌, subst, option_map, slice_get, is_none, unwrap_or}
-use Rattle.std.proofs.lemmas.Option.{slice_get-map, slice_get-get_or, slice_get_past}
-use Rattle.std.specs.List.{position, HoldsAt}
-use Rattle.std.specs.Option.{option_copied, MatchOption}
+use Rattle.std.proofs.Common.{ℕ, ◌≡◌, ◌==◌, List, map, Option, Some, None, Bor, refl, sym, ap, ◌∙◌, subst, option_map, slice_get, unwrap_or}
+use Rattle.std.proofs.lemmas.Option.{slice_get-map}
+use Rattle.std.specs.List.{position}
+use Rattle.std.specs.Option.{option_copied}
 use Rattle.svc_base.specs.declared.refusal.Refusal.{Refusal}
+use Rattle.svc_core_laws.specs.declared.end.End.{End}
 use Rattle.svc_core_laws.specs.State.{State}
 use Rattle.svc_core_laws.specs.Words.{program}
 use Rattle.svc_bus_laws.specs.LineTable.{LineTable}
@@ -15,11 +16,11 @@ use Rattle.svc_machine_laws.specs.WholeMachine.{Machine, machine_of, seat_unit}
 use Rattle.svc_machine_laws.specs.Standing.{Standing, refused}
 use Rattle.svc_machine_laws.specs.Events.{Event, place_in, seat_place}
 use Rattle.svc_machine_laws.specs.Refusals.{refuse, seat_at}
-use Rattle.svc_machine_laws.proofs.Places.{found}
 use Rattle.svc_machine.specs.declared.seat.Seat.{Seat}
 use Rattle.svc_machine.specs.Value.{MachineValue, StandsAt}
 use Rattle.svc_machine.specs.Kept.{Parts, Kept, shown, whole_seat}
 use Rattle.svc_machine.specs.Refusing.{machine_at}
+use Rattle.svc_machine.specs.Seats.{head_end}
 use Rattle.svc_machine.proofs.Seats.{place_is}
 
 module _ (m : Parts) (kept : Kept m) where
@@ -38,35 +39,27 @@ module _ (m : Parts) (kept : Kept m) where
     pub seat_seen : (place : ℕ) → option_map whole_seat (slice_get seats place) ≡ slice_get (machine_at (shown m)).seats place
     seat_seen place = sym (slice_get-map whole_seat seats place) ∙ ap (λ (l : List (whole.Seat State)). slice_get l place) (same ∙ seats_seen)
 
+    -- the seat at the unit's place is the unit's
+    pub own_seat : (unit place : ℕ) → position (λ (s : Seat). s.unit.0 == unit) seats ≡ Some place → (seat : Seat) → slice_get seats place ≡ Some seat
+        → Some (whole_seat seat) ≡ seat_at (machine_at (shown m)) unit
+    own_seat unit place at seat here =
+        sym (ap (λ q. unwrap_or (option_map (slice_get (machine_at (shown m)).seats) q) None) (sym (place_seen unit) ∙ at) ∙ sym (seat_seen place) ∙ ap (option_map whole_seat) here)
+
+    pub no_seat : (unit : ℕ) → position (λ (s : Seat). s.unit.0 == unit) seats ≡ None → None ≡ seat_at (machine_at (shown m)) unit
+    no_seat unit at = sym (ap (λ q. unwrap_or (option_map (slice_get (machine_at (shown m)).seats) q) None) (sym (place_seen unit) ∙ at))
+
+    -- what an admitted event has found, of the seats
+    module _ (v : MachineValue) (is : shown m ≡ v) where
+      pub placed_at : (unit place : ℕ) → seat_place (machine_at v) unit ≡ Some place → position (λ (s : Seat). s.unit.0 == unit) seats ≡ Some place
+      placed_at unit place at = place_seen unit ∙ subst (λ (u : MachineValue). seat_place (machine_at u) unit ≡ Some place) (sym is) at
+
+      pub ended_at : (end : End) → head_end (machine_at v).seats ≡ Some end → head_end (map whole_seat seats) ≡ Some end
+      ended_at end h = ap head_end (same ∙ seats_seen) ∙ subst (λ (u : MachineValue). head_end (machine_at u).seats ≡ Some end) (sym is) h
+
 -- a borrowed seat
 pub borrowed : (o : Option (Bor Seat)) → option_map (λ r. whole_seat r.now) o ≡ option_map whole_seat (option_copied o)
 borrowed None = refl
 borrowed (Some r) = refl
-
--- the item that is looked up
-pub got : (o : Option (Bor Seat)) (l : List Seat) (i : ℕ) → MatchOption o (length l ≤ i) (λ x. (i < length l) × HoldsAt (λ y. x.now ≡ y) l i) → option_map whole_seat (option_copied o) ≡ option_map whole_seat (slice_get l i)
-got None l i h = ap (option_map whole_seat) (sym (slice_get_past l i h))
-got (Some r) l i h = ap (λ y. option_map whole_seat (Some y)) (h.1 r.now) ∙ ap (option_map whole_seat) (sym (slice_get-get_or l i r.now h.0))
-
-some_copied : (o : Option (Bor Seat)) → is_none o ≡ is_none (option_map (λ r. whole_seat r.now) o)
-some_copied None = refl
-some_copied (Some r) = refl
-
--- the seat at the place of a unit is there
-there : (seats : List (whole.Seat State)) (unit place : ℕ) → place_in (map seat_unit seats) unit ≡ Some place → is_none (slice_get seats place) ≡ is_none (place_in (map seat_unit seats) unit)
-there seats unit place e = of (slice_get seats place) (sym (slice_get-map seat_unit seats place) ∙ found (map seat_unit seats) unit place e) ∙ sym (ap is_none e)
-  where
-    of : (o : Option (whole.Seat State)) → option_map seat_unit o ≡ Some unit → is_none o ≡ is_none (Some place)
-    of None h = cc
-    of (Some s) h = refl
-
--- the seat that is found at the place of the unit's task
-module _ (m : Machine State) (unit place : ℕ) (at : seat_place m unit ≡ Some place) (o : Option (Bor Seat)) (is : option_map (λ r. whole_seat r.now) o ≡ slice_get m.seats place) where
-  pub seat_found : option_map (λ r. whole_seat r.now) o ≡ seat_at m unit
-  seat_found = is ∙ sym (ap (λ q. unwrap_or (option_map (slice_get m.seats) q) None) at)
-
-  pub idle_found : is_none o ≡ is_none (seat_place m unit)
-  idle_found = some_copied o ∙ ap is_none is ∙ there m.seats unit place at
 
 -- said for the plain machine's own seats, said for every standing
 pub refusal_is : (v : MachineValue) (r : Option Refusal) (x : Event) → ((t : LineTable) → Agrees (observed v.bus) t → r ≡ refuse v.image v.config (machine_at v) t x)

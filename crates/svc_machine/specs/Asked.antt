@@ -1,4 +1,5 @@
--- What an asked turn does to its task's seat and to the lines, and what it is answered, over each line table that the bus agrees with.
+-- What an asked turn does to its task's seat and to the lines, and what it is answered, over each line table that the
+-- bus agrees with.
 use Rattle.std.specs.Prelude.{◌≡◌, ◌<◌, ◌^◌, ◌%◌, ℕ, Option, Some, None, length, option_map}
 use Rattle.svc_base.specs.declared.served.Served.{Served}
 use Rattle.svc_rv32i.specs.declared.instr.StoreKind.{StoreKind}
@@ -59,7 +60,8 @@ served_first store.Half t place a = Some (serves_at t place a)
 served_first store.Word t place a = None
 
 -- a store of this value from this byte of the word on has its whole word
-pub record IsPrepared (t : LineTable) (unit place a : ℕ) (kind : StoreKind) (lane value : ℕ) (bus : BusState) (word : ℕ) (served : Option Served) : Type 0 where
+pub record IsPrepared (t : LineTable) (unit place a : ℕ) (kind : StoreKind) (lane value : ℕ)
+    (bus : BusState) (word : ℕ) (served : Option Served) : Type 0 where
   pub runs : RunsAt bus unit (read_first kind t place a) place
   pub word_is : word ≡ word_written kind lane value (view (versioned t) place a)
   pub served_is : served ≡ served_first kind t place a
@@ -88,10 +90,14 @@ seat_asked (Some w) look seat = seat_turn w look seat
 
 abbrev pub asked_answer : Image → Option (Want State) → LineTable → (place : ℕ) → Reply
 asked_answer img None t place = ran
-asked_answer img (Some w) t place = record { what = turn_done (program img) w (view (versioned t) place) (serves_at t place); cut = asked_cut w t place }
+asked_answer img (Some w) t place = record {
+  what = turn_done (program img) w (view (versioned t) place) (serves_at t place);
+  cut = asked_cut w t place;
+}
 
 -- the asked turn that wants this was done
-pub record IsDone (img : Image) (want : Option (Want State)) (t : LineTable) (place : ℕ) (before after : Seat State) (bus : BusState) (reply : Reply) : Type 0 where
+pub record IsDone (img : Image) (want : Option (Want State)) (t : LineTable) (place : ℕ)
+    (before after : Seat State) (bus : BusState) (reply : Reply) : Type 0 where
   pub seat : after ≡ seat_asked want (view (versioned t) place) before
   pub table : Agrees bus (line_ask want t place)
   pub reply_is : reply ≡ asked_answer img want t place

@@ -18,7 +18,8 @@ use Rattle.svc_machine_laws.specs.Reached.{IsReached}
 use Rattle.svc_machine.specs.declared.seat.Seat.{Seat}
 use Rattle.svc_machine.specs.Value.{MachineValue}
 
--- the machine's fields, with the plain machine that its counts and seats make; places is how many seats there is memory for, and room how many words the output has memory for
+-- the machine's fields, with the plain machine that its counts and seats make; places is how many seats there is memory
+-- for, and room how many words the output has memory for
 pub record Parts : Type 0 where
   pub image : Image
   pub config : Config
@@ -37,9 +38,16 @@ shown m = record { image = m.image; config = m.config; plain = m.plain; bus = m.
 
 -- a seat as the whole machine has it
 abbrev pub whole_seat : Seat → whole.Seat State
-whole_seat seat = record { unit = seat.unit.0; epoch = seat.epoch; entry = seat.entry; core = seat.core; waiting = seat.waiting.items }
+whole_seat seat = record {
+  unit = seat.unit.0;
+  epoch = seat.epoch;
+  entry = seat.entry;
+  core = seat.core;
+  waiting = seat.waiting.items;
+}
 
--- the fields are what the plain machine says of the whole machine, and the bus agrees with the lines of a standing that events lead to
+-- the fields are what the plain machine says of the whole machine, and the bus agrees with the lines of a standing that
+-- events lead to
 pub record Kept (m : Parts) : Type 0 where
   pub sound : IsImage m.image
   pub seats : m.seats ≡ (machine_of (program m.image) m.plain).seats

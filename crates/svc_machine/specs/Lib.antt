@@ -5,3 +5,5 @@ pub mod Kept
 pub mod Reads
 pub mod Asked
 pub mod Refusing
+pub mod Admitted
+pub mod Steps

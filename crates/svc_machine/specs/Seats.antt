@@ -1,5 +1,5 @@
 -- The seats of the active tasks, as the plain machine has them.
-use Rattle.std.specs.Prelude.{ℕ, Bool, List, [], ◌∷◌, map, Option, None}
+use Rattle.std.specs.Prelude.{ℕ, Bool, List, map, Option, option_and_then, slice_get}
 use Rattle.svc_core_laws.specs.declared.end.End.{End}
 use Rattle.svc_core_laws.specs.State.{State}
 use Rattle.svc_machine_laws.specs.PlainMachine.{Task, Plain, cuts_at}
@@ -12,7 +12,12 @@ task_of seat = record { unit = seat.unit.0; epoch = seat.epoch; entry = seat.ent
 
 -- the plain machine of these counts and seats, oldest task first
 abbrev pub plain_of : (commits accepted epoch : ℕ) → List Seat → Plain
-plain_of commits accepted epoch seats = record { commits = commits; accepted = accepted; epoch = epoch; tasks = map task_of seats }
+plain_of commits accepted epoch seats = record {
+  commits = commits;
+  accepted = accepted;
+  epoch = epoch;
+  tasks = map task_of seats;
+}
 
 -- how a seat's task has ended, where it has
 abbrev pub seat_end : whole.Seat State → Option End
@@ -23,6 +28,5 @@ abbrev pub is_misled : List (whole.Seat State) → (place : ℕ) → Bool
 is_misled seats place = cuts_at seat_end whole.seat_entry seats place
 
 -- how the oldest of these tasks has ended, where there is one and it has
-abbrev pub head_end : List Seat → Option End
-head_end [] = None
-head_end (seat ∷ seats) = seat.core.done
+abbrev pub head_end : List (whole.Seat State) → Option End
+head_end seats = option_and_then seat_end (slice_get seats 0)

@@ -21,7 +21,8 @@ pub record StandsAt (m : MachineValue) (s : Standing) : Type 0 where
   pub plain : m.plain ≡ s.plain
   pub lines : Agrees (observed m.bus) s.lines
 
--- the committed tasks are the first k of the program's sequential order, and committed memory, output, due entry and stop are exactly what running them one after another on one flat memory leaves
+-- the committed tasks are the first k of the program's sequential order, and committed memory, output, due entry and
+-- stop are exactly what running them one after another on one flat memory leaves
 pub record IsSequentialMachine (k : ℕ) (m : MachineValue) : Type 0 where
   pub tasks : m.plain.commits ≡ k
   pub whole : (s : Standing) → StandsAt m s → IsSequential m.image k (whole_of m.image s)

@@ -1,4 +1,4 @@
-// The asked turn of a unit's task, on the bus.
+//! The asked turn of a unit's task, on the bus.
 
 ghost use Rattle.std.specs.Prelude.{◌≡◌, ◌<◌, ◌≤◌, ◌+◌, ◌%◌, ◌^◌, ℕ, Some, None, length, option_map};
 ghost use Rattle.svc_core_laws.specs.declared.end.End.TheVariants as end;
@@ -6,7 +6,7 @@ ghost use Rattle.svc_core_laws.specs.Bursts.{IsReady};
 ghost use Rattle.svc_core_laws.specs.Local.{ends};
 ghost use Rattle.svc_core_laws.specs.Numbers.{load_bytes, store_bytes};
 ghost use Rattle.svc_core_laws.specs.Program.{Want, Emit};
-ghost use Rattle.svc_core_laws.specs.Turns.{access_trap, arrives, data_words, puts_out};
+ghost use Rattle.svc_core_laws.specs.Turns.{access_trap, store_trap, arrives, data_words, puts_out};
 ghost use Rattle.svc_core_laws.specs.Words.{wants_load, wants_store};
 ghost use Rattle.svc_bus_laws.specs.LineTable.{LineTable};
 ghost use Rattle.svc_bus_laws.specs.Steps.{write};
@@ -17,7 +17,8 @@ ghost use Rattle.svc_bus.specs.Observed.{observed};
 ghost use Rattle.svc_machine_laws.specs.WholeMachine.{seat_turn};
 ghost use Rattle.svc_machine_laws.specs.Events.{want_of};
 ghost use Rattle.svc_machine_laws.specs.Refusals.{asked_word};
-ghost use Rattle.svc_machine.specs.Asked.{IsDone, IsPrepared, IsRead, IsRunning, RunsAt, full_for, stored_cut, violated};
+ghost use Rattle.svc_machine.specs.Asked.{IsDone, IsPrepared, IsRead, IsRunning, RunsAt};
+ghost use Rattle.svc_machine.specs.Asked.{full_for, stored_cut, violated};
 ghost use Rattle.svc_machine.specs.Kept.{whole_seat};
 
 use crate::seat::Seat;
@@ -29,16 +30,18 @@ use svc_image::Image;
 use svc_machine_laws::{Cause, Cut, Reply, What};
 use svc_rv32i::{LoadKind, Register, StoreKind};
 
-/// Does the asked turn, if there is one: a load or store that is misaligned or outside the data traps; a store of less than
-/// a word reads its word and writes it; a word that is put out waits in the seat. The tasks that a store squashes stay in
-/// their seats: the answer says which they are.
+/// Does the asked turn, if there is one: a load or store that is misaligned or outside the data traps, and so does a
+/// store into a read-only word; a store of less than a word reads its word and writes it; a word that is put out waits in
+/// the seat. The tasks that a store squashes stay in their seats: the answer says which they are.
 pub(crate) fn do_asked(image: &Image, bus: &mut Bus, seat: &mut Seat, ask: Ask) -> Reply
     requires ready { IsReady seat.old.core ask }
     requires running { IsRunning (observed bus.old) seat.old.unit.0 }
     requires size { (observed bus.old).words ≡ data_words image.now }
     requires free { full_for (observed bus.old) seat.old.unit.0 (asked_word image.now ask) ≡ None }
     requires waiting { length seat.old.waiting.items ≡ seat.old.core.emitted }
-    ensures { (t : LineTable) → (place : ℕ) → RunsAt (observed bus.old) seat.old.unit.0 t place → IsDone image.now (want_of image.now seat.old.core ask) t place (whole_seat seat.old) (whole_seat seat.new) (observed bus.new) result }
+    ensures { (t : LineTable) → (place : ℕ) → RunsAt (observed bus.old) seat.old.unit.0 t place
+        → IsDone image.now (want_of image.now seat.old.core ask) t place
+        (whole_seat seat.old) (whole_seat seat.new) (observed bus.new) result }
 {
     match ask {
         Ask::Nothing => without_cut(What::Ran),
@@ -61,14 +64,17 @@ fn do_load(
     requires running { IsRunning (observed bus.old) seat.old.unit.0 }
     requires size { (observed bus.old).words ≡ data_words image.now }
     requires free { full_for (observed bus.old) seat.old.unit.0 (asked_word image.now (Ask.Load kind rd addr)) ≡ None }
-    ensures { (t : LineTable) → (place : ℕ) → RunsAt (observed bus.old) seat.old.unit.0 t place → IsDone image.now (Some (wants_load image.now seat.old.core kind rd addr (access_trap (data_words image.now) (load_bytes kind) addr))) t place (whole_seat seat.old) (whole_seat seat.new) (observed bus.new) result }
+    ensures { let trap = access_trap (data_words image.now) (load_bytes kind) addr in
+        (t : LineTable) → (place : ℕ) → RunsAt (observed bus.old) seat.old.unit.0 t place
+        → IsDone image.now (Some (wants_load image.now seat.old.core kind rd addr trap)) t place
+        (whole_seat seat.old) (whole_seat seat.new) (observed bus.new) result }
 {
     match load_place(kind, addr, image.data_words().len() as u32) {
         Err(trap) => trapped(&mut seat.core, trap),
-        Ok(place) => {
-            let addr = WordAddr(place.word);
+        Ok(access) => {
+            let addr = WordAddr(access.word);
             let (word, served) = read(bus, seat.unit, addr);
-            let value = loaded(kind, place.lane, word);
+            let value = loaded(kind, access.lane, word);
             seat.core.finish_load(image, rd, value);
             without_cut(What::Loaded {
                 addr,
@@ -92,13 +98,21 @@ fn do_store(
     requires running { IsRunning (observed bus.old) seat.old.unit.0 }
     requires size { (observed bus.old).words ≡ data_words image.now }
     requires free { full_for (observed bus.old) seat.old.unit.0 (asked_word image.now (Ask.Store kind addr value)) ≡ None }
-    ensures { (t : LineTable) → (place : ℕ) → RunsAt (observed bus.old) seat.old.unit.0 t place → IsDone image.now (Some (wants_store image.now seat.old.core kind addr value (access_trap (data_words image.now) (store_bytes kind) addr))) t place (whole_seat seat.old) (whole_seat seat.new) (observed bus.new) result }
+    ensures { let trap = store_trap (data_words image.now) image.now.read_only (store_bytes kind) addr in
+        (t : LineTable) → (place : ℕ) → RunsAt (observed bus.old) seat.old.unit.0 t place
+        → IsDone image.now (Some (wants_store image.now seat.old.core kind addr value trap)) t place
+        (whole_seat seat.old) (whole_seat seat.new) (observed bus.new) result }
 {
-    match store_place(kind, addr, image.data_words().len() as u32) {
+    match store_place(
+        kind,
+        addr,
+        image.data_words().len() as u32,
+        image.read_only(),
+    ) {
         Err(trap) => trapped(&mut seat.core, trap),
-        Ok(place) => {
-            let addr = WordAddr(place.word);
-            let (word, served) = word_to_store(bus, seat.unit, kind, place, value);
+        Ok(access) => {
+            let addr = WordAddr(access.word);
+            let (word, served) = word_to_store(bus, seat.unit, kind, access, value);
             let cut = write(bus, seat.unit, addr, word);
             seat.core.finish_store(image);
             Reply {
@@ -115,7 +129,8 @@ fn do_emit(image: &Image, seat: &mut Seat, word: u32) -> Reply
     requires in_time { seat.old.core.count < seat.old.core.limit }
     requires few { seat.old.core.emitted < 64 }
     requires waiting { length seat.old.waiting.items ≡ seat.old.core.emitted }
-    ensures seat { whole_seat seat.new ≡ seat_turn (Emit word (arrives image.now (puts_out seat.old.core))) (λ a. 0) (whole_seat seat.old) }
+    ensures seat { whole_seat seat.new
+        ≡ seat_turn (Emit word (arrives image.now (puts_out seat.old.core))) (λ a. 0) (whole_seat seat.old) }
     ensures reply { result ≡ record { what = What.Emitted word; cut = None } }
 {
     seat.waiting.push(word);
@@ -145,21 +160,22 @@ fn word_to_store(
     bus: &mut Bus,
     unit: UnitId,
     kind: StoreKind,
-    place: Place,
+    access: Place,
     value: u32,
 ) -> (u32, Option<Served>)
     requires running { IsRunning (observed bus.old) unit.0 }
-    requires in_memory { place.word < (observed bus.old).words }
-    requires free { set_full (bus_cache (observed bus.old) unit.0) place.word ≡ None }
-    requires fits { place.lane + store_bytes kind ≤ 4 }
-    requires aligned { place.lane % store_bytes kind ≡ 0 }
-    ensures { (t : LineTable) → (p : ℕ) → RunsAt (observed bus.old) unit.0 t p → IsPrepared t unit.0 p place.word kind place.lane value (observed bus.new) result.0 result.1 }
+    requires in_memory { access.word < (observed bus.old).words }
+    requires free { set_full (bus_cache (observed bus.old) unit.0) access.word ≡ None }
+    requires fits { access.lane + store_bytes kind ≤ 4 }
+    requires aligned { access.lane % store_bytes kind ≡ 0 }
+    ensures { (t : LineTable) → (place : ℕ) → RunsAt (observed bus.old) unit.0 t place
+        → IsPrepared t unit.0 place access.word kind access.lane value (observed bus.new) result.0 result.1 }
 {
     match kind {
         StoreKind::Word => (value, None),
         _ => {
-            let (old, served) = read(bus, unit, WordAddr(place.word));
-            (stored(kind, place.lane, value, old), Some(served))
+            let (old, served) = read(bus, unit, WordAddr(access.word));
+            (stored(kind, access.lane, value, old), Some(served))
         }
     }
 }
@@ -169,7 +185,8 @@ fn read(bus: &mut Bus, unit: UnitId, addr: WordAddr) -> (u32, Served)
     requires running { IsRunning (observed bus.old) unit.0 }
     requires in_memory { addr.0 < (observed bus.old).words }
     requires free { set_full (bus_cache (observed bus.old) unit.0) addr.0 ≡ None }
-    ensures { (t : LineTable) → (place : ℕ) → RunsAt (observed bus.old) unit.0 t place → IsRead t place addr.0 (observed bus.new) result.0 result.1 }
+    ensures { (t : LineTable) → (place : ℕ) → RunsAt (observed bus.old) unit.0 t place
+        → IsRead t place addr.0 (observed bus.new) result.0 result.1 }
 {
     match bus.read(unit, addr) {
         Ok(answer) => answer,
@@ -182,8 +199,10 @@ fn write(bus: &mut Bus, unit: UnitId, addr: WordAddr, word: u32) -> Option<Cut>
     requires running { IsRunning (observed bus.old) unit.0 }
     requires in_memory { addr.0 < (observed bus.old).words }
     requires free { set_full (bus_cache (observed bus.old) unit.0) addr.0 ≡ None }
-    ensures cut { (t : LineTable) → (place : ℕ) → RunsAt (observed bus.old) unit.0 t place → result ≡ stored_cut t place addr.0 }
-    ensures table { (t : LineTable) → (place : ℕ) → RunsAt (observed bus.old) unit.0 t place → Agrees (observed bus.new) (write t place addr.0 word) }
+    ensures cut { (t : LineTable) → (place : ℕ) → RunsAt (observed bus.old) unit.0 t place
+        → result ≡ stored_cut t place addr.0 }
+    ensures table { (t : LineTable) → (place : ℕ) → RunsAt (observed bus.old) unit.0 t place
+        → Agrees (observed bus.new) (write t place addr.0 word) }
 {
     match bus.write(unit, addr, word) {
         Ok(victim) => violated(addr, victim),

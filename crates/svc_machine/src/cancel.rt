@@ -1,27 +1,22 @@
-// A cancel, and what events cut.
-ghost use Rattle.std.specs.Prelude.{◌≡◌, ◌<◌, ◌+◌, ◌^◌, None};
-ghost use Rattle.svc_machine_laws.specs.Events.{Cancel};
+//! A cancel, and what events cut.
+
+ghost use Rattle.std.specs.Prelude.{◌≡◌, ◌<◌, ◌+◌, ◌^◌, Some};
+ghost use Rattle.svc_machine_laws.specs.Events.{Cancel, seat_place};
 ghost use Rattle.svc_machine_laws.specs.Replies.{cut_from};
-ghost use Rattle.svc_machine_laws.specs.Standing.{Standing, refused, reply_to, stepped};
-ghost use Rattle.svc_machine.specs.Value.{StandsAt};
+ghost use Rattle.svc_machine.specs.Refusing.{machine_at};
+ghost use Rattle.svc_machine.specs.Steps.{Accepts, IsTaken};
 
 use crate::machine::Machine;
-use crate::seat::place;
 use svc_base::{TaskNo, UnitId};
 use svc_machine_laws::{Cause, Cut, Reply, What};
 
 impl Machine {
-    // The unit's task and all after it are squashed.
-    pub(crate) fn cancel(&mut self, unit: UnitId) -> Reply
-        requires { (s : Standing) → StandsAt self.old s → refused self.old.image self.old.config s (Cancel unit.0) ≡ None }
-        ensures reply { (s : Standing) → StandsAt self.old s → result ≡ reply_to self.old.image s (Cancel unit.0) }
-        ensures standing { (s : Standing) → StandsAt self.old s → StandsAt self.new (stepped self.old.image s (Cancel unit.0)) }
-        ensures image { self.new.image ≡ self.old.image }
-        ensures config { self.new.config ≡ self.old.config }
+    // The unit's task, in the seat at this place, and all after it are squashed.
+    pub(crate) fn cancel(&mut self, unit: UnitId, place: usize) -> Reply
+        requires accepted { Accepts self.old (Cancel unit.0) }
+        requires found { seat_place (machine_at self.old) unit.0 ≡ Some place }
+        ensures { IsTaken self.old self.new (Cancel unit.0) result }
     {
-        let Some(place) = place(&self.seats, unit) else {
-            unreachable!()
-        };
         let cut = cut_from(Cause::Cancelled, self.commits, self.seats.len(), place);
         self.bus.squash_from(unit);
         self.sequencer.cut_from(place);

@@ -1,4 +1,4 @@
-// The check of a guess: the tasks after one that has ended.
+//! The check of a guess: the tasks after one that has ended.
 
 ghost use Rattle.std.specs.Prelude.{◌≡◌, ◌<◌, ◌+◌, ◌^◌, suc, cond, map, take, drop, length, None, Some, vec_capacity};
 ghost use Rattle.svc_bus_laws.specs.LineTable.{LineTable};
@@ -19,8 +19,8 @@ use svc_core_laws::End;
 use svc_machine_laws::{Cause, Cut};
 use svc_sequencer::Sequencer;
 
-/// Once the task at a place has ended, the tasks after it are squashed where the next one was guessed wrongly. The cut counts
-/// them among so many tasks, those that the same event has squashed before too.
+/// Once the task at a place has ended, the tasks after it are squashed where the next one was guessed wrongly. The cut
+/// counts them among so many tasks, those that the same event has squashed before too.
 pub(crate) fn check_guess(
     bus: &mut Bus,
     sequencer: &mut Sequencer,
@@ -30,13 +30,19 @@ pub(crate) fn check_guess(
     place: usize,
 ) -> Option<Cut>
     requires lined { sequencer.old.active ≡ map seat_entry (map whole_seat seats.old.items) }
-    requires units { (t : LineTable) × Agrees (observed bus.old) t × (t.units ≡ map seat_unit (map whole_seat seats.old.items)) }
+    requires units { (t : LineTable)
+        × Agrees (observed bus.old) t × (t.units ≡ map seat_unit (map whole_seat seats.old.items)) }
     requires number { commits + place + 1 < 2 ^ 64 }
     requires few { count < 2 ^ 32 }
-    ensures cut { result ≡ cond (is_misled (map whole_seat seats.old.items) place) (Some (cut_from Cause.WrongGuess commits count (suc place))) None }
-    ensures lines { (t : LineTable) → Agrees (observed bus.old) t → Agrees (observed bus.new) (cond (is_misled (map whole_seat seats.old.items) place) (squash t (suc place)) t) }
-    ensures seats { seats.new.items ≡ cond (is_misled (map whole_seat seats.old.items) place) (take (suc place) seats.old.items) seats.old.items }
-    ensures guide { sequencer.new ≡ cond (is_misled (map whole_seat seats.old.items) place) (guide_cut (suc place) sequencer.old) sequencer.old }
+    ensures cut { let wrong = is_misled (map whole_seat seats.old.items) place in
+        result ≡ cond wrong (Some (cut_from Cause.WrongGuess commits count (suc place))) None }
+    ensures lines { let wrong = is_misled (map whole_seat seats.old.items) place in
+        (t : LineTable) → Agrees (observed bus.old) t
+        → Agrees (observed bus.new) (cond wrong (squash t (suc place)) t) }
+    ensures seats { let wrong = is_misled (map whole_seat seats.old.items) place in
+        seats.new.items ≡ cond wrong (take (suc place) seats.old.items) seats.old.items }
+    ensures guide { let wrong = is_misled (map whole_seat seats.old.items) place in
+        sequencer.new ≡ cond wrong (guide_cut (suc place) sequencer.old) sequencer.old }
     ensures capacity { vec_capacity seats.new ≡ vec_capacity seats.old }
 {
     match end_at(seats, place) {
@@ -56,13 +62,19 @@ pub(crate) fn settle(
     end: End,
 ) -> Option<Cut>
     requires lined { sequencer.old.active ≡ map seat_entry (map whole_seat seats.old.items) }
-    requires units { (t : LineTable) × Agrees (observed bus.old) t × (t.units ≡ map seat_unit (map whole_seat seats.old.items)) }
+    requires units { (t : LineTable)
+        × Agrees (observed bus.old) t × (t.units ≡ map seat_unit (map whole_seat seats.old.items)) }
     requires number { commits + place + 1 < 2 ^ 64 }
     requires few { count < 2 ^ 32 }
-    ensures cut { result ≡ cond (cuts_next end (drop (suc place) sequencer.old.active)) (Some (cut_from Cause.WrongGuess commits count (suc place))) None }
-    ensures lines { (t : LineTable) → Agrees (observed bus.old) t → Agrees (observed bus.new) (cond (cuts_next end (drop (suc place) sequencer.old.active)) (squash t (suc place)) t) }
-    ensures seats { seats.new.items ≡ cond (cuts_next end (drop (suc place) sequencer.old.active)) (take (suc place) seats.old.items) seats.old.items }
-    ensures guide { sequencer.new ≡ cond (cuts_next end (drop (suc place) sequencer.old.active)) (guide_cut (suc place) sequencer.old) sequencer.old }
+    ensures cut { let wrong = cuts_next end (drop (suc place) sequencer.old.active) in
+        result ≡ cond wrong (Some (cut_from Cause.WrongGuess commits count (suc place))) None }
+    ensures lines { let wrong = cuts_next end (drop (suc place) sequencer.old.active) in
+        (t : LineTable) → Agrees (observed bus.old) t
+        → Agrees (observed bus.new) (cond wrong (squash t (suc place)) t) }
+    ensures seats { let wrong = cuts_next end (drop (suc place) sequencer.old.active) in
+        seats.new.items ≡ cond wrong (take (suc place) seats.old.items) seats.old.items }
+    ensures guide { let wrong = cuts_next end (drop (suc place) sequencer.old.active) in
+        sequencer.new ≡ cond wrong (guide_cut (suc place) sequencer.old) sequencer.old }
     ensures capacity { vec_capacity seats.new ≡ vec_capacity seats.old }
 {
     if !sequencer.settle(place, end) {

@@ -1,11 +1,12 @@
 //! The machine: one sequential program on one to sixteen units over the versioned bus, one event at a time.
 //!
-//! An event assigns a task to a unit, takes over the turns that a unit has run outside the lock, replaces a line, cancels a
-//! task or commits the head (Sohi, Breach, Vijaykumar, "Multiscalar Processors", ISCA 1995, for the sequencer, the head and
-//! retirement in order). Whatever the events, what is committed is what the program gives when its tasks run one after
-//! another on one flat memory.
+//! An event assigns a task to a unit, takes over the turns that a unit has run outside the lock, replaces a line,
+//! cancels a task or commits the head (Sohi, Breach, Vijaykumar, "Multiscalar Processors", ISCA 1995, for the
+//! sequencer, the head and retirement in order). Whatever the events, what is committed is what the program gives when
+//! its tasks run one after another on one flat memory.
 #![tactic(auto)]
 
+mod admit;
 mod asked;
 mod assign;
 mod cancel;
@@ -14,7 +15,6 @@ mod commit;
 pub mod event;
 pub mod machine;
 mod reads;
-mod refuse;
 mod replace;
 mod run;
 pub mod seat;

@@ -1,10 +1,12 @@
-// The machine: the fields behind it, its opening, and its step.
+//! The machine: the fields behind it, its opening, and its step.
 
-ghost use Rattle.std.specs.Prelude.{◌≡◌, None, Some, IfOk, OnErr, MatchResult};
-ghost use Rattle.svc_machine_laws.specs.Standing.{Standing, after_event, opened_at, refused, reply_to};
+ghost use Rattle.std.specs.Prelude.{◌≡◌, IfOk};
+ghost use Rattle.svc_machine_laws.specs.Standing.{opened_at};
 ghost use Rattle.svc_machine.specs.Events.{event_of};
+ghost use Rattle.svc_machine.specs.Steps.{IsStep};
 ghost use Rattle.svc_machine.specs.Value.{StandsAt};
 
+use crate::admit::Admitted;
 use crate::event::Event;
 use crate::seat::Seat;
 use std::alloc::{AllocError, Global};
@@ -43,7 +45,12 @@ impl Model for Machine {
 
     ghost Value = { MachineValue };
 
-    ghost view = { λ m. record { image = m.image; config = m.config; plain = plain_of m.commits m.accepted m.epoch m.seats.items; bus = m.bus } };
+    ghost view = { λ m. record {
+      image = m.image;
+      config = m.config;
+      plain = plain_of m.commits m.accepted m.epoch m.seats.items;
+      bus = m.bus;
+    } };
 
     ghost invariant = { λ m. Kept (record {
       image = m.image;
@@ -103,28 +110,20 @@ impl Machine {
         })
     }
 
-    /// One event. It is refused exactly where the table of refusals says, with the first refusal that applies, and then
-    /// nothing changes. No memory is taken.
+    /// One event. No memory is taken. What it does and answers is said for every standing that the machine is at: the
+    /// plain machine with any line table that the bus agrees with.
     ///
-    /// What it does and answers is said for every standing that the machine is at: the plain machine with any line table
-    /// that the bus agrees with.
+    /// Errors: exactly the refusal that the table of refusals has for it, the first that applies. Then nothing changes.
     pub fn step(&mut self, event: Event<'_>) -> Result<Reply, Refusal>
-        ensures refused { (s : Standing) → StandsAt self.old s → MatchResult result (λ _. refused self.old.image self.old.config s (event_of event.entry) ≡ None) (λ e. refused self.old.image self.old.config s (event_of event.entry) ≡ Some e) }
-        ensures reply { (s : Standing) → StandsAt self.old s → IfOk result (λ r. r ≡ reply_to self.old.image s (event_of event.entry)) }
-        ensures standing { (s : Standing) → StandsAt self.old s → StandsAt self.new (after_event self.old.image self.old.config s (event_of event.entry)) }
-        ensures image { self.new.image ≡ self.old.image }
-        ensures config { self.new.config ≡ self.old.config }
-        ensures unchanged { OnErr result (self.new ≡ self.old) }
+        ensures { IsStep self.old self.new (event_of event.entry) result }
     {
-        if let Some(refusal) = self.refusal(event) {
-            return Err(refusal);
-        }
-        Ok(match event {
-            Event::Assign { unit, guess } => self.assign(unit, guess),
-            Event::Submit { burst } => self.submit(burst),
-            Event::Replace { unit, addr } => self.replace(unit, addr),
-            Event::Cancel { unit } => self.cancel(unit),
-            Event::Commit { by } => self.commit(by),
+        let admitted = self.admit(event)?;
+        Ok(match admitted {
+            Admitted::Assign { unit, guess } => self.assign(unit, guess),
+            Admitted::Submit { place, burst } => self.submit(place, burst),
+            Admitted::Replace { unit, addr } => self.replace(unit, addr),
+            Admitted::Cancel { unit, place } => self.cancel(unit, place),
+            Admitted::Commit { by, end } => self.commit(by, end),
         })
     }
 }

@@ -1,5 +1,5 @@
-// What a machine tells. What each read answers of the committed tasks is what running them one after another on one flat
-// memory leaves.
+//! What a machine tells. What each read answers of the committed tasks is what running them one after another on one
+//! flat memory leaves.
 
 ghost use Rattle.std.specs.Prelude.{◌≡◌, ◌<◌, true, IfSome, option_map};
 ghost use Rattle.svc_line.specs.Bits.{bits_of};
@@ -16,7 +16,7 @@ ghost use Rattle.svc_machine.specs.Value.{StandsAt};
 ghost use Rattle.svc_machine.specs.Reads.{is_full, lease_of, runs_head};
 
 use crate::machine::Machine;
-use crate::seat::{last_end, place};
+use crate::seat::last_end;
 use svc_base::{Config, UnitId, WordAddr};
 use svc_core::Lease;
 use svc_core_laws::{End, Ending};
@@ -50,16 +50,14 @@ impl Machine {
         }
     }
 
-    /// What the unit may run its task on from, without the machine; none where the unit has no task. Its core is that of
-    /// the task's part, run anew on what the tasks before it leave.
+    /// What the unit may run its task on from, without the machine; none where the unit has no task. Its core is that
+    /// of the task's part, run anew on what the tasks before it leave.
+    #[tactic(auto, unfolding(crate::specs::Refusing::machine_at))]
     pub fn lease(&self, unit: UnitId) -> Option<Lease>
         ensures { result ≡ lease_of self.now unit.0 }
     {
-        match place(&self.seats, unit) {
-            Some(place) => {
-                let seat = &self.seats[place];
-                Some(Lease::new(seat.unit, seat.epoch, seat.core))
-            }
+        match self.seat_of(unit) {
+            Some((_, seat)) => Some(Lease::new(seat.unit, seat.epoch, seat.core)),
             None => None,
         }
     }
@@ -103,7 +101,8 @@ impl Machine {
 
     /// The bits and the value of the unit's valid line of the word.
     pub fn line_at(&self, unit: UnitId, addr: WordAddr) -> Option<(LineBits, u32)>
-        ensures line { (s : Standing) → StandsAt self.now s → option_map line_shown result ≡ unnumbered (s.lines.lines unit.0 addr.0) }
+        ensures line { (s : Standing) → StandsAt self.now s
+            → option_map line_shown result ≡ unnumbered (s.lines.lines unit.0 addr.0) }
         ensures valid { IfSome result (λ line. (bits_of line.0).valid ≡ true) }
     {
         if u32::from(unit.0) >= self.config.units {
@@ -126,15 +125,12 @@ impl Machine {
         self.stopped
     }
 
-    /// How the run has ended: by the exit or trap that stopped it; else it is full where no further event is accepted, or
-    /// open, with the entry that is due.
+    /// How the run has ended: by the exit or trap that stopped it; else it is full where no further event is accepted,
+    /// or open, with the entry that is due.
     pub fn ending(&self) -> Ending
-        ensures { result ≡ ending_of (is_full self.now) (plain_seq self.now.image self.now.plain.commits).stopped (plain_seq self.now.image self.now.plain.commits).due }
+        ensures { let seq = plain_seq self.now.image self.now.plain.commits in
+            result ≡ ending_of (is_full self.now) seq.stopped seq.due }
     {
-        Ending::of(
-            self.accepted >= self.config.events,
-            self.stopped,
-            self.due(),
-        )
+        Ending::of(self.is_full(), self.stopped, self.due())
     }
 }

@@ -1,8 +1,7 @@
-// A replacement.
-ghost use Rattle.std.specs.Prelude.{◌≡◌, None};
+//! A replacement.
+
 ghost use Rattle.svc_machine_laws.specs.Events.{Replace};
-ghost use Rattle.svc_machine_laws.specs.Standing.{Standing, refused, reply_to, stepped};
-ghost use Rattle.svc_machine.specs.Value.{StandsAt};
+ghost use Rattle.svc_machine.specs.Steps.{Accepts, IsTaken};
 
 use crate::machine::Machine;
 use svc_base::{UnitId, WordAddr};
@@ -11,11 +10,8 @@ use svc_machine_laws::{Reply, What};
 impl Machine {
     // The unit's line of the word leaves its cache.
     pub(crate) fn replace(&mut self, unit: UnitId, addr: WordAddr) -> Reply
-        requires { (s : Standing) → StandsAt self.old s → refused self.old.image self.old.config s (Replace unit.0 addr.0) ≡ None }
-        ensures reply { (s : Standing) → StandsAt self.old s → result ≡ reply_to self.old.image s (Replace unit.0 addr.0) }
-        ensures standing { (s : Standing) → StandsAt self.old s → StandsAt self.new (stepped self.old.image s (Replace unit.0 addr.0)) }
-        ensures image { self.new.image ≡ self.old.image }
-        ensures config { self.new.config ≡ self.old.config }
+        requires { Accepts self.old (Replace unit.0 addr.0) }
+        ensures { IsTaken self.old self.new (Replace unit.0 addr.0) result }
     {
         let _done = self.bus.replace(unit, addr);
         self.accepted += 1;

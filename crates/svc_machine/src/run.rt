@@ -1,4 +1,4 @@
-// Whole lists of events.
+//! Whole lists of events.
 
 ghost use Rattle.std.specs.Prelude.{◌≡◌, map, IfOk};
 ghost use Rattle.svc_machine_laws.specs.Events.{IsEvent};
@@ -14,9 +14,9 @@ use svc_image::Image;
 
 /// A machine after these events, where refused ones are passed over.
 ///
-/// **The headline**: the committed tasks are the first k tasks of the program's sequential order, where k is the number of
-/// accepted commits among the events, and committed memory and output are exactly what the plain evaluator gives by running
-/// those k tasks one after another on one flat memory.
+/// **The headline**: the committed tasks are the first k tasks of the program's sequential order, where k is the number
+/// of accepted commits among the events, and committed memory and output are exactly what the plain evaluator gives by
+/// running those k tasks one after another on one flat memory.
 ///
 /// Errors: [`OpenError::Memory`].
 pub fn drive(
@@ -27,8 +27,11 @@ pub fn drive(
 ) -> Result<Machine, OpenError>
     ensures image { IfOk result (λ m. m.image ≡ image) }
     ensures config { IfOk result (λ m. m.config ≡ config) }
-    ensures standing { IfOk result (λ m. StandsAt m (after_events image config (opened_at image config 0) (map event_of events.now))) }
-    ensures headline { IfOk result (λ m. IsSequentialMachine (accepted_commits image config (whole_opened image config 0) (map event_of events.now)) m) }
+    ensures standing { IfOk result
+        (λ m. StandsAt m (after_events image config (opened_at image config 0) (map event_of events.now))) }
+    ensures headline { IfOk result
+        (λ m. IsSequentialMachine
+        (accepted_commits image config (whole_opened image config 0) (map event_of events.now)) m) }
 {
     let mut machine = Machine::open(alloc, image, config)?;
     for event in events {

@@ -1,4 +1,4 @@
-// The seats of the active tasks.
+//! The seats of the active tasks.
 
 ghost use Rattle.std.specs.Prelude.{◌≡◌, ◌==◌, option_and_then, slice_get};
 ghost use Rattle.std.specs.List.{position};
@@ -23,15 +23,12 @@ pub(crate) struct Seat {
     pub(crate) entry: u32,
     /// The words that it has put out, which wait for its commit.
     pub(crate) waiting: ArrayVec<u32, MAX_WAITING>,
-    // The core changes with each event of the unit. What the other units' events look for, `unit`, lies on other lines of
-    // the cache: fields lie in the order of the source.
     /// Where it stands.
     pub(crate) core: Core,
-    pub(crate) apart: [u64; 8],
 }
 
 /// The place of the unit's task, counted from the oldest.
-pub(crate) fn place(seats: &[Seat], unit: UnitId) -> Option<usize>
+pub(crate) fn place_of(seats: &[Seat], unit: UnitId) -> Option<usize>
     ensures { result ≡ position (λ seat. seat.unit.0 == unit.0) seats.now }
 {
     seats.iter().position(|seat| seat.unit.0 == unit.0)

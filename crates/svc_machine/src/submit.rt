@@ -1,22 +1,23 @@
-// A burst.
-ghost use Rattle.std.specs.Prelude.{◌≡◌, ◌≤◌, ◌-◌, ℕ, None, length};
+//! A burst.
+
+ghost use Rattle.std.specs.Prelude.{◌≡◌, ◌≤◌, ◌-◌, ℕ, None, Some, length};
 ghost use Rattle.svc_core_laws.specs.Bursts.{IsReady};
 ghost use Rattle.svc_core_laws.specs.Turns.{data_words};
 ghost use Rattle.svc_bus_laws.specs.LineTable.{LineTable};
 ghost use Rattle.svc_bus.specs.Observed.{observed};
 ghost use Rattle.svc_machine_laws.specs.Blame.{tasks_cut};
-ghost use Rattle.svc_machine_laws.specs.Events.{Submit, want_of};
+ghost use Rattle.svc_machine_laws.specs.Events.{Submit, seat_place, want_of};
 ghost use Rattle.svc_machine_laws.specs.Refusals.{asked_word};
-ghost use Rattle.svc_machine_laws.specs.Standing.{Standing, refused, reply_to, stepped};
 ghost use Rattle.svc_machine_laws.specs.WholeMachine.{at_core};
 ghost use Rattle.svc_machine.specs.Asked.{IsDone, IsRunning, RunsAt, full_for};
 ghost use Rattle.svc_machine.specs.Kept.{whole_seat};
-ghost use Rattle.svc_machine.specs.Value.{StandsAt};
+ghost use Rattle.svc_machine.specs.Refusing.{machine_at};
+ghost use Rattle.svc_machine.specs.Steps.{Accepts, IsTaken};
 
 use crate::asked::do_asked;
 use crate::check::check_guess;
 use crate::machine::Machine;
-use crate::seat::{Seat, place};
+use crate::seat::Seat;
 use svc_bus::Bus;
 use svc_core::{Burst, Core};
 use svc_core_laws::Ask;
@@ -24,18 +25,14 @@ use svc_image::Image;
 use svc_machine_laws::{Cut, Reply};
 
 impl Machine {
-    // The burst's local turns are taken over, and then its asked turn, if it has one, is done. Where the task has ended with
-    // them, the guess of the next one is checked: a wrong guess that is found takes the place of a later victim.
-    pub(crate) fn submit(&mut self, burst: &Burst) -> Reply
-        requires { (s : Standing) → StandsAt self.old s → refused self.old.image self.old.config s (Submit burst.now) ≡ None }
-        ensures reply { (s : Standing) → StandsAt self.old s → result ≡ reply_to self.old.image s (Submit burst.now) }
-        ensures standing { (s : Standing) → StandsAt self.old s → StandsAt self.new (stepped self.old.image s (Submit burst.now)) }
-        ensures image { self.new.image ≡ self.old.image }
-        ensures config { self.new.config ≡ self.old.config }
+    // The burst's local turns are taken over by the seat at this place, which is its unit's, and then its asked turn,
+    // if it has one, is done. Where the task has ended with them, the guess of the next one is checked: a wrong guess
+    // that is found is told in place of a later victim.
+    pub(crate) fn submit(&mut self, place: usize, burst: &Burst) -> Reply
+        requires accepted { Accepts self.old (Submit burst.now) }
+        requires found { seat_place (machine_at self.old) burst.now.unit.0 ≡ Some place }
+        ensures { IsTaken self.old self.new (Submit burst.now) result }
     {
-        let Some(place) = place(&self.seats, burst.unit()) else {
-            unreachable!()
-        };
         let count = self.seats.len();
         let seat = &mut self.seats[place];
         let reply = go_on(&self.image, &mut self.bus, seat, burst.end(), burst.ask());
@@ -65,7 +62,9 @@ fn go_on(image: &Image, bus: &mut Bus, seat: &mut Seat, core: &Core, ask: Ask) -
     requires size { (observed bus.old).words ≡ data_words image.now }
     requires free { full_for (observed bus.old) seat.old.unit.0 (asked_word image.now ask) ≡ None }
     requires waiting { length seat.old.waiting.items ≡ core.now.emitted }
-    ensures { (t : LineTable) → (place : ℕ) → RunsAt (observed bus.old) seat.old.unit.0 t place → IsDone image.now (want_of image.now core.now ask) t place (at_core core.now (whole_seat seat.old)) (whole_seat seat.new) (observed bus.new) result }
+    ensures { (t : LineTable) → (place : ℕ) → RunsAt (observed bus.old) seat.old.unit.0 t place
+        → IsDone image.now (want_of image.now core.now ask) t place
+        (at_core core.now (whole_seat seat.old)) (whole_seat seat.new) (observed bus.new) result }
 {
     seat.core = *core;
     do_asked(image, bus, seat, ask)

@@ -1,5 +1,5 @@
 -- What a turn of an image's program wants: its word is one of the data, and its turn is one more.
-use Rattle.std.proofs.Common.{ℕ, ◌≡◌, ◌+◌, ◌*◌, ◌%◌, ◌==◌, ◌<◌, ◌≤◌, ◌&&◌, Bool, true, false, Option, Some, None, refl, sym, ap, ◌∙◌, subst, arith}
+use Rattle.std.proofs.Common.{nat_lt, ℕ, ◌≡◌, ◌+◌, ◌*◌, ◌%◌, ◌==◌, ◌<◌, ◌≤◌, ◌&&◌, Bool, true, false, Option, Some, None, refl, sym, ap, ◌∙◌, subst, arith}
 use Rattle.std.specs.Prelude.{nat_le, if◌then◌else◌}
 use Rattle.std.proofs.lemmas.Bool.{leb-true}
 use Rattle.std.proofs.lemmas.Option.{none-some, same_Some}
@@ -16,7 +16,7 @@ use Rattle.svc_core_laws.specs.State.{State}
 use Rattle.svc_core_laws.specs.Local.{Outcome, ends, goes_on, sets}
 use Rattle.svc_core_laws.specs.Local as out
 use Rattle.svc_core_laws.specs.Numbers.{load_bytes, store_bytes}
-use Rattle.svc_core_laws.specs.Turns.{data_words, data_start, word_address, access_trap, arrived_if, arrived, arrives, puts_out, next}
+use Rattle.svc_core_laws.specs.Turns.{data_words, data_start, word_address, access_trap, unless_read_only, store_trap, arrived_if, arrived, arrives, puts_out, next}
 use Rattle.svc_core_laws.specs.Program.{Want, Local, Load, Store, Narrow, Emit}
 use Rattle.svc_core_laws.specs.Words.{wanted, wants, wants_load, wants_store, wants_write}
 use Rattle.svc_core_laws.specs.Bursts.{Advance, Means, shown, is_nothing}
@@ -39,6 +39,11 @@ in_words words n addr some h = split (addr % n == 0) (nat_le data_start addr) (n
     split true false z e f g k = absurd (none-some 6 (sym k))
     split false y z e f g k = absurd (none-some 5 (sym k))
 
+-- a store that doesn't trap is an access that doesn't
+access_passes : (read_only : Bool) (o : Option ℕ) → unless_read_only read_only o ≡ None → o ≡ None
+access_passes read_only (Some trap) h = absurd (none-some trap (sym h))
+access_passes read_only None h = refl
+
 load_some : (kind : LoadKind) → 0 < load_bytes kind
 load_some load.Byte = omega arith
 load_some load.Half = omega arith
@@ -59,16 +64,16 @@ wanted_within img s (out.Load kind rd addr) = by (access_trap (data_words img) (
     by : (t : Option ℕ) → access_trap (data_words img) (load_bytes kind) addr ≡ t → IsWithin (data_words img) (wants_load img s kind rd addr t)
     by (Some trap) e = tt
     by None e = in_words (data_words img) (load_bytes kind) addr (load_some kind) e
-wanted_within img s (out.Store kind addr v) = by (access_trap (data_words img) (store_bytes kind) addr) refl
+wanted_within img s (out.Store kind addr v) = by (store_trap (data_words img) img.read_only (store_bytes kind) addr) refl
   where
     write : (k : StoreKind) → word_address addr < data_words img → IsWithin (data_words img) (wants_write img s k addr v)
     write store.Byte h = h
     write store.Half h = h
     write store.Word h = h
 
-    by : (t : Option ℕ) → access_trap (data_words img) (store_bytes kind) addr ≡ t → IsWithin (data_words img) (wants_store img s kind addr v t)
+    by : (t : Option ℕ) → store_trap (data_words img) img.read_only (store_bytes kind) addr ≡ t → IsWithin (data_words img) (wants_store img s kind addr v t)
     by (Some trap) e = tt
-    by None e = write kind (in_words (data_words img) (store_bytes kind) addr (store_some kind) e)
+    by None e = write kind (in_words (data_words img) (store_bytes kind) addr (store_some kind) (access_passes (nat_lt (word_address addr) img.read_only) _ e))
 wanted_within img s (out.Emit w) = tt
 
 -- after such a turn the count is this
@@ -104,7 +109,7 @@ asked_counts img s (ask.Load kind rd addr) w h = subst (Counts (s.count + 1)) (s
     by : (t : Option ℕ) → Counts (s.count + 1) (wants_load img s kind rd addr t)
     by (Some trap) = refl
     by None = λ v. arrived_counts (is_entry img (sets rd.number v s).pc) (sets rd.number v s) ∙ sets_counts rd.number v s
-asked_counts img s (ask.Store kind addr v) w h = subst (Counts (s.count + 1)) (same_Some _ w h) (by (access_trap (data_words img) (store_bytes kind) addr))
+asked_counts img s (ask.Store kind addr v) w h = subst (Counts (s.count + 1)) (same_Some _ w h) (by (store_trap (data_words img) img.read_only (store_bytes kind) addr))
   where
     on : (arrives img (goes_on s)).count ≡ s.count + 1
     on = arrived_counts (is_entry img (goes_on s).pc) (goes_on s)
@@ -151,5 +156,5 @@ store_word img s kind addr v (Some trap) = refl
 pub asked_word_is : (img : Image) (s : State) (a : Ask) (w : Want State) → want_of img s a ≡ Some w → word_of w ≡ asked_word img a
 asked_word_is img s ask.Nothing w h = absurd (none-some w h)
 asked_word_is img s (ask.Load kind rd addr) w h = ap word_of (sym (same_Some _ w h)) ∙ load_word img s kind rd addr (access_trap (data_words img) (load_bytes kind) addr)
-asked_word_is img s (ask.Store kind addr v) w h = ap word_of (sym (same_Some _ w h)) ∙ store_word img s kind addr v (access_trap (data_words img) (store_bytes kind) addr)
+asked_word_is img s (ask.Store kind addr v) w h = ap word_of (sym (same_Some _ w h)) ∙ store_word img s kind addr v (store_trap (data_words img) img.read_only (store_bytes kind) addr)
 asked_word_is img s (ask.Emit e) w h = ap word_of (sym (same_Some _ w h))

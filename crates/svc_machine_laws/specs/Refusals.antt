@@ -9,7 +9,7 @@ use Rattle.svc_core_laws.specs.declared.ask.Ask.TheVariants as ask
 use Rattle.svc_core_laws.specs.State.{State}
 use Rattle.svc_core_laws.specs.Same.{same_state}
 use Rattle.svc_core_laws.specs.Numbers.{load_bytes, store_bytes}
-use Rattle.svc_core_laws.specs.Turns.{data_words, word_address, access_trap}
+use Rattle.svc_core_laws.specs.Turns.{data_words, word_address, access_trap, store_trap}
 use Rattle.svc_core_laws.specs.Bursts.{Advance, are_of, is_nothing}
 use Rattle.svc_bus_laws.specs.LineTable.{LineTable}
 use Rattle.svc_bus_laws.specs.Refusals.{table_cache, set_full, is_not_resident, is_pinned}
@@ -34,11 +34,11 @@ abbrev pub word_unless : Option ℕ → ℕ → Option ℕ
 word_unless (Some trap) addr = None
 word_unless None addr = Some (word_address addr)
 
--- the asked word: that of a load or store that is aligned and in the data
+-- the asked word: that of a load that is aligned and in the data, or of a store that besides isn't to a read-only word
 abbrev pub asked_word : Image → Ask → Option ℕ
 asked_word img ask.Nothing = None
 asked_word img (ask.Load kind rd addr) = word_unless (access_trap (data_words img) (load_bytes kind) addr) addr
-asked_word img (ask.Store kind addr v) = word_unless (access_trap (data_words img) (store_bytes kind) addr) addr
+asked_word img (ask.Store kind addr v) = word_unless (store_trap (data_words img) img.read_only (store_bytes kind) addr) addr
 asked_word img (ask.Emit w) = None
 
 -- the word to be replaced before the unit has room for the asked word, where it has none

@@ -4,6 +4,7 @@ mod round_trips;
 mod rows;
 mod streams;
 
+use crate::{ReportError, write_trace};
 use std::alloc::Global;
 use std::test::*;
 use svc_base::{UnitId, WordAddr};
@@ -113,6 +114,13 @@ fn entries() -> [Entry; 10] {
         submit(1, 2, false, ReplyKind::Ran),
         commit(1, 1),
     ]
+}
+
+// Whether the text of a history is this.
+fn is_written(alloc: Global, history: &[Entry], wanted: &[u8]) -> Result<bool, ReportError> {
+    let mut text = Vec::new(alloc);
+    write_trace(alloc, history, &mut text)?;
+    Ok(text.as_slice() == wanted)
 }
 
 // The run a hundred times over, and the text of that.

@@ -1,3 +1,4 @@
+pub mod Bursts
 pub mod Moves
 pub mod Steps
 pub mod Orders

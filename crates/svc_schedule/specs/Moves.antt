@@ -37,7 +37,8 @@ pub record IsBurstOf (img : Image) (most : ℕ) (lease : Lease) (b : Advance) : 
   pub start : b.start ≡ lease.core
   pub advance : IsAdvance img most b
 
--- a unit with a running task asks to submit its burst; and where that is refused as its cache has no room for the asked word, to replace the line that is named
+-- a unit with a running task asks to submit its burst; and where that is refused as its cache has no room for the asked
+-- word, to replace the line that is named
 abbrev pub SubmitsOrReplaces : (unit : ℕ) → Advance → Option Refusal → Event → Type 0
 SubmitsOrReplaces unit b why x =
     ((x ≡ Submit b) × ((addr : WordAddr) → why ≡ Some (SetFull addr) → ⊥)) ⊎ ((addr : WordAddr) × (why ≡ Some (SetFull addr)) × (x ≡ Replace unit addr.0))

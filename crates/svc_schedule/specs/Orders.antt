@@ -49,7 +49,8 @@ abbrev pub by_rank : (rank : ℕ → ℕ) → (n : ℕ) → List UnitId
 by_rank rank zero = []
 by_rank rank (suc n) = insert (by_rank rank n) (place_among (map (λ u. rank u.0) (by_rank rank n)) (rank n)) (record { 0 = n })
 
--- the rank of a unit's task: the greater its number of assignment, the younger it is. A unit without a task counts as the youngest
+-- the rank of a unit's task: the greater its number of assignment, the younger it is. A unit without a task counts as
+-- the youngest
 abbrev pub rank_of : First → Option Lease → ℕ
 rank_of Older (Some lease) = lease.epoch
 rank_of Older None = 2 ^ 64 - 1

@@ -8,7 +8,8 @@ use Rattle.svc_history.specs.Recorded.{Recorded, IsLegal}
 use Rattle.svc_schedule.specs.declared.step.TheConstants.{EVERY_UNIT}
 use Rattle.svc_schedule.specs.Moves.{IsMade, IsPassed}
 
--- the first of these units whose move isn't refused makes it: the ones before it are passed over, and its event is accepted
+-- the first of these units whose move isn't refused makes it: the ones before it are passed over, and its event is
+-- accepted
 abbrev pub FirstMoves : (most : ℕ) → (old new : Recorded) → List UnitId → Type 0
 FirstMoves most old new [] = ⊥
 FirstMoves most old new (unit ∷ units) = IsMade most old new unit ⊎ (IsPassed most old unit × FirstMoves most old new units)
@@ -17,13 +18,16 @@ FirstMoves most old new (unit ∷ units) = IsMade most old new unit ⊎ (IsPasse
 abbrev pub asked : (named : List UnitId) → List UnitId
 asked named = named ++ EVERY_UNIT
 
--- so many steps of a policy, which lead from one policy and history to others; before each the machine stands where the history leads
+-- so many steps of a policy, which lead from one policy and history to others; before each the machine stands where the
+-- history leads
 abbrev pub Steps : {P : Type 0} → (Gives : P → Recorded → List UnitId → P → Type 0) → (most count : ℕ) → (old new : P) → (opened led : Recorded) → Type 0
 Steps Gives most zero old new opened led = (new ≡ old) × (led ≡ opened)
 Steps {P} Gives most (suc n) old new opened led =
     (before : P) × (there : Recorded) × (named : List UnitId) × Steps Gives most n old before opened there × IsLegal there × Gives before there named new × FirstMoves most there led (asked named)
 
--- a scheduled run of this image and configuration: its history is legal, and each entry is that of one step of the policy; the run has ended, by an exit, a trap or a full history, or it has as many steps as the configuration has turns
+-- a scheduled run of this image and configuration: its history is legal, and each entry is that of one step of the
+-- policy; the run has ended, by an exit, a trap or a full history, or it has as many steps as the configuration has
+-- turns
 pub record IsScheduled {P : Type 0} (Gives : P → Recorded → List UnitId → P → Type 0) (img : Image) (config : Config) (most : ℕ) (old new : P) (r : Recorded) : Type 0 where
   pub image : r.machine.image ≡ img
   pub config_is : r.machine.config ≡ config

@@ -2,6 +2,7 @@
 //! repeated; and each step of a run that has not ended makes exactly one accepted event.
 #![tactic(auto)]
 
+mod bursts;
 pub mod policies;
 pub mod policy;
 pub mod run;

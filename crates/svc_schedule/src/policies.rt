@@ -16,7 +16,8 @@ use svc_history::Recorder;
 // The units in an order.
 type Order = ArrayVec<UnitId, 16>;
 
-/// The unit after the one that moved last is asked first, unit 0 at the start, and then the others by rising number, around.
+/// The unit after the one that moved last is asked first, unit 0 at the start, and then the others by rising number,
+/// around.
 #[derive(Drop)]
 pub struct Rotate;
 
@@ -35,7 +36,8 @@ pub struct Random {
 }
 
 impl Random {
-    /// The policy of a seed: the draws are those of PCG32 with that state and stream 0, each a word modulo the number of units.
+    /// The policy of a seed: the draws are those of PCG32 with that state and stream 0, each a word modulo the number
+    /// of units.
     pub fn new(seed: u32) -> Random
         ensures { result.generator ≡ generator_of seed }
     {

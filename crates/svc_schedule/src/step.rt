@@ -1,17 +1,18 @@
 //! One step of a run: the first unit whose move isn't refused makes it.
 
-ghost use Rattle.std.specs.Prelude.{◌≡◌, ◌<◌, false, Some, IsTrue, IsFalse, IfErr, OnErr, OnOk, All};
-ghost use Rattle.svc_machine_laws.specs.Standing.{refused};
-ghost use Rattle.svc_machine.specs.Events.{event_of};
+ghost use Rattle.std.specs.Prelude.{◌≡◌, ◌<◌, false, IsTrue, IsFalse, All};
+ghost use Rattle.svc_core_laws.specs.Bursts.{IsAdvance};
 ghost use Rattle.svc_history.specs.Glances.{has_ended};
-ghost use Rattle.svc_history.specs.Recorded.{IsLegal, standing_of};
-ghost use Rattle.svc_schedule.specs.Moves.{IsMade, IsPassed, Records, move_of};
+ghost use Rattle.svc_history.specs.Recorded.{IsLegal};
+ghost use Rattle.svc_schedule.specs.Bursts.{AreReady};
+ghost use Rattle.svc_schedule.specs.Moves.{IsMade, IsPassed, move_of};
 ghost use Rattle.svc_schedule.specs.Steps.{FirstMoves, asked};
 ghost use Rattle.svc_image.specs.Image.{IsImage};
 
+use crate::bursts::make_burst;
 use svc_base::config::MAX_UNITS;
 use svc_base::{Refusal, UnitId};
-use svc_core::Lease;
+use svc_core::{Burst, Lease};
 use svc_history::{Event, Move, Recorder};
 
 /// Each unit that a machine may have, by number.
@@ -34,18 +35,20 @@ pub const EVERY_UNIT: [UnitId; MAX_UNITS as usize] = [
     UnitId(15),
 ];
 
-/// One step of a run that has not ended: the named units are asked for their moves, and then each unit by number, until one
-/// makes a move that is accepted. Some unit always does.
-pub(crate) fn take_step(recorder: &mut Recorder, named: &[UnitId], burst: u32)
-    requires some { 0 < burst }
+/// One step of a run that has not ended: the named units are asked for their moves, and then each unit by number, until
+/// one makes a move that is accepted. Some unit always does.
+pub(crate) fn take_step(recorder: &mut Recorder, bursts: &mut [Burst], named: &[UnitId], most: u32)
+    requires some { 0 < most }
     requires going { has_ended recorder.old.machine ≡ false }
-    ensures { FirstMoves burst recorder.old recorder.new (asked named.now) }
+    requires ready { AreReady recorder.old.machine.image most bursts.old }
+    ensures moves { FirstMoves most recorder.old recorder.new (asked named.now) }
+    ensures ready { AreReady recorder.old.machine.image most bursts.new }
 {
     keeps(recorder);
-    if ask_in_turn(recorder, named, burst) {
+    if ask_in_turn(recorder, bursts, named, most) {
         return;
     }
-    let _moved = ask_in_turn(recorder, &EVERY_UNIT, burst);
+    let _moved = ask_in_turn(recorder, bursts, &EVERY_UNIT, most);
 }
 
 // What the type of a recorder keeps.
@@ -58,12 +61,14 @@ pub(crate) fn keeps(recorder: &Recorder)
 }
 
 // The units are asked for their moves, until one makes a move that is accepted. Whether one did.
-fn ask_in_turn(recorder: &mut Recorder, units: &[UnitId], burst: u32) -> bool
-    ensures moved { IsTrue result → FirstMoves burst recorder.old recorder.new units.now }
-    ensures passed { IsFalse result → (recorder.new ≡ recorder.old) × All (IsPassed burst recorder.old) units.now }
+fn ask_in_turn(recorder: &mut Recorder, bursts: &mut [Burst], units: &[UnitId], most: u32) -> bool
+    requires ready { AreReady recorder.old.machine.image most bursts.old }
+    ensures moved { IsTrue result → FirstMoves most recorder.old recorder.new units.now }
+    ensures passed { IsFalse result → (recorder.new ≡ recorder.old) × All (IsPassed most recorder.old) units.now }
+    ensures ready { AreReady recorder.old.machine.image most bursts.new }
 {
     for unit in units {
-        if make_move(recorder, *unit, burst) {
+        if make_move(recorder, bursts, *unit, most) {
             return true;
         }
     }
@@ -71,46 +76,47 @@ fn ask_in_turn(recorder: &mut Recorder, units: &[UnitId], burst: u32) -> bool
 }
 
 // The unit asks for its move. Whether that was accepted.
-fn make_move(recorder: &mut Recorder, unit: UnitId, burst: u32) -> bool
-    ensures made { IsTrue result → IsMade burst recorder.old recorder.new unit }
-    ensures passed { IsFalse result → (recorder.new ≡ recorder.old) × IsPassed burst recorder.old unit }
+fn make_move(recorder: &mut Recorder, bursts: &mut [Burst], unit: UnitId, most: u32) -> bool
+    requires ready { AreReady recorder.old.machine.image most bursts.old }
+    ensures made { IsTrue result → IsMade most recorder.old recorder.new unit }
+    ensures passed { IsFalse result → (recorder.new ≡ recorder.old) × IsPassed most recorder.old unit }
+    ensures ready { AreReady recorder.old.machine.image most bursts.new }
 {
     let Ok(glance) = recorder.glance(unit) else {
         return false;
     };
     match glance.next_move() {
         Move::Ended | Move::Wait => false,
-        Move::Begin { guess } => attempt(recorder, Event::Assign { unit, guess }).is_ok(),
-        Move::Commit => attempt(recorder, Event::Commit { by: unit }).is_ok(),
-        Move::RunOn(lease) => run_on(recorder, unit, &lease, burst),
+        Move::Begin { guess } => recorder.apply(Event::Assign { unit, guess }).is_ok(),
+        Move::Commit => recorder.apply(Event::Commit { by: unit }).is_ok(),
+        Move::RunOn(lease) => {
+            let place = usize::from(unit.0);
+            run_on(recorder, &mut bursts[place], unit, &lease, most)
+        }
     }
 }
 
 // The unit runs its task on by a burst, or replaces a line in place of that where its cache has no room.
-fn run_on(recorder: &mut Recorder, unit: UnitId, lease: &Lease, burst: u32) -> bool
+fn run_on(
+    recorder: &mut Recorder,
+    burst: &mut Burst,
+    unit: UnitId,
+    lease: &Lease,
+    most: u32,
+) -> bool
     requires known { unit.0 < recorder.old.machine.config.units }
     requires runs { move_of recorder.old.machine unit.0 ≡ Move.RunOn lease.now }
-    ensures made { IsTrue result → IsMade burst recorder.old recorder.new unit }
-    ensures passed { IsFalse result → (recorder.new ≡ recorder.old) × IsPassed burst recorder.old unit }
+    requires ready { IsAdvance recorder.old.machine.image most burst.old }
+    ensures made { IsTrue result → IsMade most recorder.old recorder.new unit }
+    ensures passed { IsFalse result → (recorder.new ≡ recorder.old) × IsPassed most recorder.old unit }
+    ensures ready { IsAdvance recorder.old.machine.image most burst.new }
 {
-    let made = lease.advance(recorder.machine().image(), burst);
-    let Err(refusal) = attempt(recorder, Event::Submit { burst: &made }) else {
+    make_burst(burst, lease, recorder.machine().image(), most);
+    let Err(refusal) = recorder.apply(Event::Submit { burst }) else {
         return true;
     };
     match refusal {
-        Refusal::SetFull(addr) => attempt(recorder, Event::Replace { unit, addr }).is_ok(),
+        Refusal::SetFull(addr) => recorder.apply(Event::Replace { unit, addr }).is_ok(),
         _ => false,
-    }
-}
-
-// Asks for one event.
-fn attempt(recorder: &mut Recorder, event: Event<'_>) -> Result<(), Refusal>
-    ensures accepted { OnOk result (Records recorder.old recorder.new (event_of event.entry)) }
-    ensures refused { IfErr result (λ why. refused recorder.old.machine.image recorder.old.machine.config (standing_of recorder.old) (event_of event.entry) ≡ Some why) }
-    ensures unchanged { OnErr result (recorder.new ≡ recorder.old) }
-{
-    match recorder.apply(event) {
-        Ok(_slip) => Ok(()),
-        Err(refusal) => Err(refusal),
     }
 }

@@ -1,20 +1,27 @@
 -- What a unit's thread is answered, and what it brings back.
-use Rattle.std.specs.Prelude.{◌≡◌}
+use Rattle.std.specs.Prelude.{◌≡◌, Result}
 use Rattle.svc_base.specs.declared.ids.UnitId.{UnitId}
+use Rattle.svc_base.specs.declared.refusal.Refusal.{Refusal}
 use Rattle.svc_machine.specs.declared.event.Event.{Event}
 use Rattle.svc_machine.specs.declared.event.Event.TheVariants.{Assign, Submit, Replace, Cancel, Commit}
 use Rattle.svc_machine.specs.Events.{event_of}
 use Rattle.svc_machine_laws.specs.declared.reply.Reply.{Reply}
+use Rattle.svc_machine_laws.specs.Events as laws
 use Rattle.svc_history_laws.specs.declared.entry.Entry.{Entry}
 use Rattle.svc_history_laws.specs.declared.entry.Slip.{Slip}
 use Rattle.svc_history_laws.specs.Entries.{entry_of}
 use Rattle.svc_history.specs.declared.glance.Glance.{Glance}
+use Rattle.svc_history.specs.Applying.{IsApplied}
 use Rattle.svc_history.specs.Glances.{IsGlance}
 use Rattle.svc_history.specs.Recorded.{Recorded, IsLegal}
 
 -- the entry is this event's, with some reply
 abbrev pub IsEntryOf : Event → Entry → Type 0
 IsEntryOf x e = (r : Reply) × (e ≡ entry_of (event_of x) r)
+
+-- the answer is what the event comes to at some recorder with a legal history
+abbrev pub IsAppliedToSome : laws.Event → Result Slip Refusal → Type 0
+IsAppliedToSome x answer = (old : Recorded) × (new : Recorded) × IsApplied old new x answer
 
 -- the unit that asks for an event
 abbrev pub unit_of : Event → UnitId

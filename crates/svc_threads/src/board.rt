@@ -136,8 +136,8 @@ impl Board {
         Ok((Board { cell }, BoardPass { pass }))
     }
 
-    /// Shows a new row, in one step. The pass is the one of this board that publishes, and no number of the row is below
-    /// those that it knows.
+    /// Shows a new row, in one step. The pass is the one of this board that publishes, and no number of the row is
+    /// below those that it knows.
     pub fn publish<R: Wait>(&self, rt: &R, pass: &mut BoardPass, row: BoardRow)
         requires board { pass.old.board ≡ self.now }
         requires publisher { pass.old.publishes ≡ true }

@@ -3,11 +3,12 @@
 ghost use Rattle.std.specs.Prelude.{◌≡◌, false, IfOk, IfErr};
 ghost use Rattle.std.specs.Arc.{arc_value};
 ghost use Rattle.svc_base.specs.declared.refusal.Refusal.TheVariants as refusal;
+ghost use Rattle.svc_machine.specs.Events.{event_of};
 ghost use Rattle.svc_history.specs.Glances.{IsGlance};
 ghost use Rattle.svc_history.specs.Recorded.{Recorded, IsLegal};
 ghost use Rattle.svc_threads.specs.Boards.{knower};
 ghost use Rattle.svc_threads.specs.Counts.{row_of_entries};
-ghost use Rattle.svc_threads.specs.Ports.{IsEntryOf, IsGlanceOfSome};
+ghost use Rattle.svc_threads.specs.Ports.{IsAppliedToSome, IsGlanceOfSome};
 
 use crate::board::{Board, BoardPass};
 use crate::locked::{Locked, counts_of};
@@ -19,8 +20,8 @@ use std::sync::{Arc, Mutex, MutexGuard, Wait};
 use svc_base::{OpenError, Refusal, UnitId};
 use svc_history::{Event, Glance, Recorder, Slip};
 
-// How often a thread looks for the lock before it sleeps: an event is shorter than it takes to put a thread to sleep and to
-// wake it.
+// How often a thread looks for the lock before it sleeps: an event is shorter than it takes to put a thread to sleep
+// and to wake it.
 const LOOKS: u32 = 100;
 
 /// One recorder under one lock, for all units, and the board that shows the numbers of its history.
@@ -85,10 +86,12 @@ impl SharedBus {
         self.taken(rt).glance(unit)
     }
 
-    /// One event, as the recorder takes it, under the lock. The board shows the new numbers after an accepted event, and is
-    /// left alone after a refused one.
+    /// One event, as the recorder takes it, under the lock. The board shows the new numbers after an accepted event,
+    /// and is left alone after a refused one.
+    ///
+    /// Errors: the first refusal that applies; then nothing has changed.
     pub fn apply<R: Wait>(&self, rt: &R, event: Event<'_>) -> Result<Slip, Refusal>
-        ensures { IfOk result (λ slip. IsEntryOf event.entry slip.entry) }
+        ensures { IsAppliedToSome (event_of event.entry) result }
     {
         self.taken(rt).apply(rt, event)
     }

@@ -1,3 +1,5 @@
+// Why a run of unit threads gave no outcome.
+
 ghost use Rattle.std.specs.Prelude.{◌≡◌};
 ghost use Rattle.svc_threads.specs.Faults.{error_number};
 

@@ -8,7 +8,6 @@ mod locked;
 pub mod outcome;
 pub mod port;
 pub mod run;
-mod sameness;
 #[cfg(test)]
 mod tests;
 pub mod unit;

@@ -1,14 +1,12 @@
 // What lies under the bus lock.
 
-ghost use Rattle.std.specs.Prelude.{◌≡◌, ◌<◌, ◌≤◌, ◌++◌, ◌∷◌, [], true, length, None, Some, IfOk, OnErr, MatchResult};
+ghost use Rattle.std.specs.Prelude.{◌≡◌, true, IfOk};
 ghost use Rattle.std.specs.Arc.{arc_value};
-ghost use Rattle.svc_base.specs.declared.refusal.Refusal.TheVariants as refusal;
-ghost use Rattle.svc_machine_laws.specs.Standing.{refused, reply_to, after_event};
 ghost use Rattle.svc_machine.specs.Events.{event_of};
 ghost use Rattle.svc_history_laws.specs.Board.{assigns, board, commits};
-ghost use Rattle.svc_history_laws.specs.Entries.{entry_of};
-ghost use Rattle.svc_history.specs.Glances.{IsGlance};
-ghost use Rattle.svc_history.specs.Recorded.{IsLegal, standing_of};
+ghost use Rattle.svc_history.specs.Applying.{IsApplied};
+ghost use Rattle.svc_history.specs.Glances.{IsGlance, IsUnitKnown};
+ghost use Rattle.svc_history.specs.Recorded.{IsLegal};
 ghost use Rattle.svc_threads.specs.Boards.{knower, InOrder};
 ghost use Rattle.svc_threads.specs.Counts.{row_of_entries, with_entry, IsSmall};
 
@@ -39,7 +37,9 @@ impl Model for Locked {
 
     ghost view = { λ l. l.recorder };
 
-    ghost invariant = { λ l. (l.counts ≡ row_of_entries l.recorder.entries) × (l.publisher ≡ knower (arc_value l.board) true l.counts) };
+    ghost invariant = { λ l.
+        (l.counts ≡ row_of_entries l.recorder.entries)
+        × (l.publisher ≡ knower (arc_value l.board) true l.counts) };
 }
 
 impl Locked {
@@ -64,15 +64,7 @@ impl Locked {
 
     // One event, as the recorder takes it. Where it is accepted the board shows the new numbers.
     pub(crate) fn apply<R: Wait>(&mut self, rt: &R, event: Event<'_>) -> Result<Slip, Refusal>
-        ensures refused { MatchResult result (λ _. refused self.old.machine.image self.old.machine.config (standing_of self.old) (event_of event.entry) ≡ None) (λ e. refused self.old.machine.image self.old.machine.config (standing_of self.old) (event_of event.entry) ≡ Some e) }
-        ensures index { IfOk result (λ slip. slip.index ≡ length self.old.entries) }
-        ensures entry { IfOk result (λ slip. slip.entry ≡ entry_of (event_of event.entry) (reply_to self.old.machine.image (standing_of self.old) (event_of event.entry))) }
-        ensures entries { IfOk result (λ slip. self.new.entries ≡ self.old.entries ++ slip.entry ∷ []) }
-        ensures standing { standing_of self.new ≡ after_event self.old.machine.image self.old.machine.config (standing_of self.old) (event_of event.entry) }
-        ensures image { self.new.machine.image ≡ self.old.machine.image }
-        ensures config { self.new.machine.config ≡ self.old.machine.config }
-        ensures unchanged { OnErr result (self.new ≡ self.old) }
-        ensures legal { IsLegal self.new }
+        ensures { IsApplied self.old self.new (event_of event.entry) result }
     {
         let counts = self.counts;
         let slip = self.recorder.apply(event)?;
@@ -84,7 +76,7 @@ impl Locked {
 
     // What the recorder shows a unit's thread.
     pub(crate) fn glance(&self, unit: UnitId) -> Result<Glance, Refusal>
-        ensures refused { MatchResult result (λ _. unit.0 < self.now.machine.config.units) (λ e. (e ≡ refusal.NoSuchUnit) × (self.now.machine.config.units ≤ unit.0)) }
+        ensures refused { IsUnitKnown self.now.machine.config unit result }
         ensures glance { IfOk result (IsGlance self.now.machine unit.0) }
         ensures legal { IsLegal self.now }
     {

@@ -1,11 +1,11 @@
 // What a run of unit threads leaves, and how it is compared with the history.
 
-ghost use Rattle.std.specs.Prelude.{◌≡◌, ◌≢◌, ◌<◌, ◌^◌, ◌⊎◌, length, map, None, IfOk, IfErr, IfSome, Decides};
+ghost use Rattle.std.specs.Prelude.{◌≡◌, ◌≢◌, ◌<◌, ◌^◌, length, map, None, IfOk, IfErr, IfSome, Decides};
 ghost use Rattle.svc_history.specs.Recorded.{IsLegal};
-ghost use Rattle.svc_threads.specs.Outcomes.{slip_at, lists_from, AllAgreeTo, AreTheUnits, IsGiven, IsOutcome};
+ghost use Rattle.svc_threads.specs.Outcomes.{slip_at, lists_from, AllAgreeTo, AreTheUnits};
+ghost use Rattle.svc_threads.specs.Outcomes.{IsGiven, IsNoOutcome, IsOutcome};
 
 use crate::fault::RunError;
-use crate::sameness::is_same_image;
 use svc_base::Config;
 use svc_history::same::is_same;
 use svc_history::{Entry, Recorder, Slip};
@@ -23,8 +23,8 @@ pub struct Outcome {
 /// An outcome of exactly these slips. It takes no memory.
 ///
 /// Errors: [`RunError::ForeignImage`] exactly where the recorder's image or configuration is not the given one; else
-/// [`RunError::Torn`] exactly where there is not one list a unit, or a unit's list is not that unit's entries with their
-/// indexes, in order.
+/// [`RunError::Torn`] exactly where there is not one list a unit, or a unit's list is not that unit's entries with
+/// their indexes, in order.
 pub fn reconcile(
     image: &Image,
     config: Config,
@@ -33,7 +33,7 @@ pub fn reconcile(
 ) -> Result<Outcome, RunError>
     ensures kept { IfOk result (λ o. (o.recorder ≡ recorder) × (o.slips ≡ slips)) }
     ensures ok { IfOk result (λ o. IsOutcome image.now config o.recorder (map (λ v. v.items) o.slips.items)) }
-    ensures err { IfErr result (λ e. ((e ≡ RunError.ForeignImage) × ¬ (IsGiven image.now config recorder)) ⊎ ((e ≡ RunError.Torn) × IsGiven image.now config recorder × ¬ (AreTheUnits recorder (map (λ v. v.items) slips.items)))) }
+    ensures err { IfErr result (IsNoOutcome image.now config recorder (map (λ v. v.items) slips.items)) }
 {
     judge(image, config, &recorder, slips.as_slice())?;
     Ok(Outcome { recorder, slips })
@@ -47,7 +47,7 @@ fn judge(
     slips: &[Vec<Slip>],
 ) -> Result<(), RunError>
     ensures ok { IfOk result (λ _. IsOutcome image.now config recorder.now (map (λ v. v.items) slips.now)) }
-    ensures err { IfErr result (λ e. ((e ≡ RunError.ForeignImage) × ¬ (IsGiven image.now config recorder.now)) ⊎ ((e ≡ RunError.Torn) × IsGiven image.now config recorder.now × ¬ (AreTheUnits recorder.now (map (λ v. v.items) slips.now)))) }
+    ensures err { IfErr result (IsNoOutcome image.now config recorder.now (map (λ v. v.items) slips.now)) }
 {
     if !is_given(image, config, recorder) {
         return Err(RunError::ForeignImage);
@@ -67,7 +67,7 @@ fn is_given(image: &Image, config: Config, recorder: &Recorder) -> bool
     if machine.config() != config {
         return false;
     }
-    is_same_image(machine.image(), image)
+    machine.image().is_same(image)
 }
 
 // The lists are those of the recorder's units.
@@ -108,7 +108,8 @@ fn is_slip(slip: &Slip, index: usize, entry: &Entry) -> bool
 // How many slips of each list are its unit's entries with their indexes, in order; nothing where a list has too few, or
 // another one.
 fn agreeing(entries: &[Entry], lists: &[Vec<Slip>]) -> Option<[usize; 256]>
-    ensures some { IfSome result (λ ends. AllAgreeTo (length entries.now) entries.now ends (map (λ v. v.items) lists.now)) }
+    ensures some { IfSome result (λ ends.
+        AllAgreeTo (length entries.now) entries.now ends (map (λ v. v.items) lists.now)) }
     ensures none { result ≡ None → map (λ v. v.items) lists.now ≢ lists_from 0 (length lists.now) entries.now }
 {
     let mut ends = [0usize; 256];

@@ -17,13 +17,14 @@ pub enum Phase<'a> {
     After,
 }
 
-/// Is asked before and after each event of a unit's thread, which has no lock then, and may wait. Where it says no, that
-/// thread ends: before an event without it, and after one with its slip.
+/// Is asked before and after each event of a unit's thread, which has no lock then, and may wait. Where it says no,
+/// that thread ends: before an event without it, and after one with its slip.
 pub trait Gate {
     fn pass(&self, unit: UnitId, phase: Phase<'_>) -> bool;
 }
 
-/// What a unit's thread knows of the bus. No guard of a lock outlives a call, so a thread holds no lock while it takes turns.
+/// What a unit's thread knows of the bus. No guard of a lock outlives a call, so a thread holds no lock while it takes
+/// turns.
 pub trait Port {
     ghost use Rattle.atomic_table.specs.Seated.{TableId};
 

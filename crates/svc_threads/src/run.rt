@@ -49,8 +49,8 @@ pub fn run_units<G: Gate + Sync, R: Threads + Wait + Sync>(
     run_over(rt, alloc, bus, reader, image, config, gate)
 }
 
-// Runs all units over a port, and compares what their threads bring back with the history that it leaves. A test hands in a
-// port that tells its threads another thing than it records.
+// Runs all units over a port, and compares what their threads bring back with the history that it leaves. A test hands
+// in a port that tells its threads another thing than it records.
 pub(crate) fn run_over<P: Shared, G: Gate + Sync, R: Threads + Wait + Sync>(
     rt: &R,
     alloc: Global,

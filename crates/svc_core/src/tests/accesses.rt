@@ -49,7 +49,7 @@ fn places_and_their_traps(rt: HostRuntime) {
     assert_eq!(rt; load(LoadKind::HalfUnsigned, 0xFFFFFFFF), Err(5));
     assert_eq!(rt; load(LoadKind::Word, DATA_START - 4), Err(6));
     assert_eq!(rt; load(LoadKind::Byte, DATA_START - 1), Err(6));
-    let store = |kind, addr| store_place(kind, addr, 65536);
+    let store = |kind, addr| store_place(kind, addr, 65536, 0);
     assert_eq!(rt; store(StoreKind::Byte, DATA_START), at(0, 0));
     assert_eq!(rt; store(StoreKind::Word, DATA_START + 0x3FFFC), at(65535, 0));
     assert_eq!(rt; store(StoreKind::Half, DATA_START + 1), Err(5));

@@ -14,7 +14,7 @@ fn turn(image: &Image, core: &mut Core, memory: &mut [u32]) -> Option<u32>
     ensures { length memory.new ≡ length memory.old }
 {
     let ask = core.try_turn(image.fetch(core.pc()).word);
-    let word = core.answer(ask, memory);
+    let word = core.answer(ask, memory, 0);
     core.arrive(image.fetch(core.pc()).entry);
     word
 }

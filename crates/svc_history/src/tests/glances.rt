@@ -88,7 +88,8 @@ fn told(next: Move) -> Step {
     }
 }
 
-// A unit begins at the guess, runs its task on, and commits it once that has ended and is the head; until then it waits.
+// A unit begins at the guess, runs its task on, and commits it once that has ended and is the head; until then it
+// waits.
 #[test]
 fn a_unit_moves_by_what_it_sees(rt: HostRuntime) -> Result<(), Fail> {
     let rows = [

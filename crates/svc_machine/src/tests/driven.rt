@@ -10,8 +10,8 @@ fn first_burst(alloc: Global) -> Result<Option<Burst>, Fail> {
     Ok(taken(&alone, 0))
 }
 
-// Of a machine that is driven over an assignment, a commit too early, a submission and a commit: how many tasks are committed,
-// what is due, and the committed word.
+// Of a machine that is driven over an assignment, a commit too early, a submission and a commit: how many tasks are
+// committed, what is due, and the committed word.
 fn driven(alloc: Global) -> Result<(u64, Option<u32>, u32), Fail> {
     let Some(burst) = first_burst(alloc)? else {
         return Err(Fail::from("no lease"));

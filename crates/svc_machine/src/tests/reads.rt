@@ -1,10 +1,11 @@
-// What the machine tells, from its opening to its stop. Each machine is gone before what it told is compared: a test that
-// ends early has to let all that it holds go.
+// What the machine tells, from its opening to its stop. Each machine is gone before what it told is compared: a test
+// that ends early has to let all that it holds go.
 
 use super::*;
 use svc_core::Lease;
 
-// What an opened machine tells: unit 0's lease, the guess, how many tasks are committed, the ending, and how many units.
+// What an opened machine tells: unit 0's lease, the guess, how many tasks are committed, the ending, and how many
+// units.
 fn at_first(alloc: Global) -> Result<(Option<Lease>, Option<u32>, u64, Ending, u32), Fail> {
     let machine = opened(alloc)?;
     Ok((
@@ -96,7 +97,8 @@ fn a_commit_leaves_the_backing_word(rt: HostRuntime) -> Result<(), Fail> {
 // How a run stopped: its end and ending, what is due and the guess.
 type Stop = (Option<End>, Ending, Option<u32>, Option<u32>);
 
-// After the ten events, how many tasks are committed, the first word put out and how many there are, and how the run stopped.
+// After the ten events, how many tasks are committed, the first word put out and how many there are, and how the run
+// stopped.
 fn once_stopped(alloc: Global) -> Result<(u64, Option<u32>, usize, Stop), Fail> {
     let mut machine = opened(alloc)?;
     first_six(&mut machine)?;

@@ -1,9 +1,8 @@
 // Rows that are written, and read again.
 
-use crate::tests::{long, plain};
+use crate::tests::{is_written, long, plain};
 use crate::{ReportError, read_trace, write_entry, write_summary, write_trace};
 use std::alloc::Global;
-use std::str;
 use std::test::*;
 use svc_base::{UnitId, WordAddr};
 use svc_core_laws::Ending;
@@ -21,24 +20,22 @@ fn is_row(alloc: Global, entry: Entry, row: &str) -> Result<bool, Fail> {
 }
 
 #[test]
-fn a_trace_without_entries_is_written(rt: HostRuntime) -> Result<(), Fail> {
-    let mut text = Vec::new(rt.alloc());
-    write_trace(rt.alloc(), &[], &mut text)?;
-    assert!(rt;
-        str::from_utf8(&text)
-            == Ok("kind,unit,arg,local,ask,reply,addr,word,served,from,cause,first,squashed\n")
-    );
-    Ok(())
+fn a_trace_without_entries_is_written(rt: HostRuntime) {
+    let header = b"kind,unit,arg,local,ask,reply,addr,word,served,from,cause,first,squashed\n";
+    assert!(rt; is_written(rt.alloc(), &[], header) == Ok(true));
+}
+
+// How long the long trace is, and whether it is written as it has to be.
+fn long_is_written(alloc: Global) -> Result<(usize, bool), Fail> {
+    let (history, expected) = long(alloc)?;
+    Ok((expected.len(), is_written(alloc, &history, &expected)?))
 }
 
 // A text that is written in several pieces.
 #[test]
 fn a_long_trace_is_written(rt: HostRuntime) -> Result<(), Fail> {
-    let (history, expected) = long(rt.alloc())?;
-    assert!(rt; expected.len() > 3 * 8192);
-    let mut text = Vec::new(rt.alloc());
-    write_trace(rt.alloc(), &history, &mut text)?;
-    assert!(rt; text == expected);
+    let (length, as_wanted) = long_is_written(rt.alloc())?;
+    assert!(rt; length > 3 * 8192 && as_wanted);
     Ok(())
 }
 
@@ -66,11 +63,9 @@ fn a_row_of_the_greatest_numbers(rt: HostRuntime) -> Result<(), Fail> {
     Ok(())
 }
 
-// What stands there already stays.
-#[test]
-fn a_summary_of_the_greatest_numbers(rt: HostRuntime) -> Result<(), Fail> {
-    let alloc = rt.alloc();
-    let mut text = Vec::from_slice(alloc, b"before\n")?;
+// Whether the summary of these numbers after a text is this text.
+fn is_summarized_after(alloc: Global, before: &[u8], after: &[u8]) -> Result<bool, Fail> {
+    let mut text = Vec::from_slice(alloc, before)?;
     write_summary(
         alloc,
         &[7, u32::MAX],
@@ -79,26 +74,36 @@ fn a_summary_of_the_greatest_numbers(rt: HostRuntime) -> Result<(), Fail> {
         None,
         &mut text,
     )?;
-    assert!(rt;
-        str::from_utf8(&text)
-            == Ok("before\nout,7\nout,4294967295\ntasks,18446744073709551615\nfull,4294967295\n")
-    );
+    Ok(text.as_slice() == after)
+}
+
+// What stands there already stays.
+#[test]
+fn a_summary_of_the_greatest_numbers(rt: HostRuntime) -> Result<(), Fail> {
+    let wanted =
+        b"before\nout,7\nout,4294967295\ntasks,18446744073709551615\nfull,4294967295\n".as_slice();
+    assert!(rt; is_summarized_after(rt.alloc(), b"before\n", wanted)?);
     Ok(())
+}
+
+// Whether a trace is bad at this field.
+fn is_bad_at(alloc: Global, text: &[u8], row: u64, column: u8) -> bool {
+    match read_trace(alloc, text) {
+        Err(
+            ReportError::Row {
+                row: found,
+                column: at,
+            },
+        ) => found == row && at == column,
+        _ => false,
+    }
 }
 
 // A field that is no text is a bad field.
 #[test]
-fn bytes_that_are_no_text(rt: HostRuntime) -> Result<(), Fail> {
-    let mut text = Vec::new(rt.alloc());
-    text.extend_from_slice(
-        b"kind,unit,arg,local,ask,reply,addr,word,served,from,cause,first,squashed\n",
-    )?;
-    text.extend_from_slice(b"assign,\xff,0,,,assigned,,0,,,,,\n")?;
-    assert!(rt;
-        matches!(
-            read_trace(rt.alloc(), text.as_slice()),
-            Err(ReportError::Row { row: 2, column: 2 })
-        )
-    );
-    Ok(())
+fn bytes_that_are_no_text(rt: HostRuntime) {
+    let text = b"kind,unit,arg,local,ask,reply,addr,word,served,from,cause,first,squashed\n\
+assign,\xff,0,,,assigned,,0,,,,,\n"
+        .as_slice();
+    assert!(rt; is_bad_at(rt.alloc(), text, 2, 2));
 }

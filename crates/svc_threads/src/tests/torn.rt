@@ -35,7 +35,7 @@ impl Port for Damaged {
     }
 
     fn apply<R: Wait>(&self, rt: &R, event: Event<'_>) -> Result<Slip, Refusal> {
-        let Slip { index, entry } = self.bus.apply(rt, event)?;
+        let Slip { index, entry } = Port::apply(&self.bus, rt, event)?;
         let index = match self.damage {
             Damage::Lost(lost) if lost == index => return Err(Refusal::Stale),
             Damage::Changed(changed) if changed == index => 1_000,

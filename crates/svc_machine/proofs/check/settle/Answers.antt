@@ -1,6 +1,5 @@
-use Rattle.std.proofs.Common.{ℕ, suc, ◌≡◌, true, cond, drop, length, take, List, Some, None, Option, ◌∙◌, ◌+◌, ◌<◌, ap, sym, subst, add-one, get_or, arith}
+use Rattle.std.proofs.Common.{ℕ, suc, ◌≡◌, true, cond, drop, take, List, Some, None, Option, ◌∙◌, ◌+◌, ap, sym, subst, add-one, get_or, arith}
 use Rattle.svc_bus_laws.specs.BusState.{Agrees}
-use Rattle.svc_bus_laws.specs.LineTable.{LineTable}
 use Rattle.svc_bus_laws.specs.Steps.{squash}
 use Rattle.svc_bus.specs.Observed.{observed}
 use Rattle.svc_machine_laws.specs.declared.reply.Cut.{Cut}

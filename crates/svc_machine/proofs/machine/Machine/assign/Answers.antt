@@ -1,15 +1,15 @@
 use Rattle.std.proofs.Common.{◌≡◌, ◌≢◌, ◌+◌, ◌-◌, ◌^◌, ℕ, None, ◌∷◌, ◌++◌, [], List, true, ◌∙◌, ap, ap₂, sym, subst, refl, arith}
-use Rattle.std.specs.Prelude.{replicate, is_ok, if◌then◌else◌, vec_capacity}
+use Rattle.std.specs.Prelude.{is_ok, if◌then◌else◌, vec_capacity}
 use Rattle.svc_core_laws.specs.State.{State}
 use Rattle.svc_machine_laws.specs.declared.reply.Reply.{Reply}
 use Rattle.svc_machine_laws.specs.declared.reply.What.TheVariants as what
 use Rattle.svc_machine_laws.specs.WholeMachine as whole
 use Rattle.svc_machine_laws.specs.Events.{Event, Assign}
-use Rattle.svc_machine_laws.specs.Standing.{Standing, reply_to, stepped}
 use Rattle.svc_machine.specs.declared.seat.Seat.{Seat}
-use Rattle.svc_machine.specs.Kept.{Parts, shown, whole_seat}
-use Rattle.svc_machine.specs.Value.{MachineValue, StandsAt}
-use Rattle.svc_machine.proofs.Keeping.{Accepts, parts_of, IsAccepted, Moved, kept_after, stands_after, replied}
+use Rattle.svc_machine.specs.Kept.{Parts, whole_seat}
+use Rattle.svc_machine.specs.Value.{MachineValue}
+use Rattle.svc_machine.specs.Steps.{Accepts}
+use Rattle.svc_machine.proofs.Keeping.{parts_of, IsAccepted, Moved, kept_after, taken_as}
 use Rattle.svc_machine.proofs.Assigning.{known, idle, room_active, room_seats, begins, epoch_apart, assigned, assign_reply}
 use Rattle.svc_machine.proofs.Seats.{count}
 use Rattle.svc_machine.proofs.machine.Machine.assign.Goals as goal
@@ -54,7 +54,7 @@ module _ (c : goal.After-self-2-1) where
   ok = let x : Event = Assign c.args.unit.0 c.args.guess in subst (λ (v : MachineValue). Accepts v x) (sym c.self.view_is) c.requires
 
   abbrev seat : Seat
-  seat = record { unit = c.args.unit; epoch = c.self.inside.epoch; entry = c.assign-entry.result; waiting = c.new.result; core = c.start.result; apart = replicate 8 0 }
+  seat = record { unit = c.args.unit; epoch = c.self.inside.epoch; entry = c.assign-entry.result; waiting = c.new.result; core = c.start.result }
 
   abbrev after : Parts
   after = parts_of (record c.self.inside { bus = c.begin.new.self; sequencer = c.assign-entry.new.self; seats = c.push-room.new.self; accepted = c.self.inside.accepted + 1; epoch = c.self.inside.epoch + 1 })
@@ -83,17 +83,11 @@ module _ (c : goal.After-self-2-1) where
 pub invariant_of-self : goal.invariant_of-self
 invariant_of-self c = kept_after (m c) c.self.invariant (x c) tt (ok c) (after c) (moved c)
 
-pub returns-clause-reply : goal.returns-clause-reply
-returns-clause-reply c =
+pub returns : goal.returns
+returns c =
     let r : Reply = record { what = what.Assigned (record { 0 = c.self.inside.commits + c.len.result }) c.assign-entry.result c.self.inside.epoch; cut = None } in
     let seats = c.self.inside.seats in
     let n = c.len.ensures in
     let k = seats.ok.0 in
-    subst (λ (v : MachineValue). (s : Standing) → StandsAt v s → r ≡ reply_to v.image s (x c)) c.self.view_is
-    (replied (m c) c.self.invariant (x c) tt (ok c) r
-    (λ t agrees. assign_reply (m c) c.self.invariant c.args.unit.0 c.args.guess (ok c) seats.items refl (c.self.inside.commits + c.len.result) c.assign-entry.result (omega (arith, n, k)) c.assign-entry.ensures.entry t))
-
-pub returns-clause-standing : goal.returns-clause-standing
-returns-clause-standing c =
-    subst (λ (v : MachineValue). (s : Standing) → StandsAt v s → StandsAt (shown (after c)) (stepped v.image s (x c))) c.self.view_is
-    (stands_after (m c) c.self.invariant (x c) tt (ok c) (after c) (moved c))
+    taken_as (m c) (after c) c.self.invariant _ c.self.view_is (x c) tt (ok c) (moved c) r
+    (λ t agrees. assign_reply (m c) c.self.invariant c.args.unit.0 c.args.guess (ok c) seats.items refl (c.self.inside.commits + c.len.result) c.assign-entry.result (omega (arith, n, k)) c.assign-entry.ensures.entry t)

@@ -1,6 +1,5 @@
 use Rattle.std.proofs.Common.{ℕ, ◌≡◌, ◌+◌, ◌<◌, ◌++◌, Option, Some, None, List, true, cond, drop, length, get_or, ◌∙◌, ap, sym, subst, refl, arith}
 use Rattle.std.specs.Prelude.{is_ok, if◌then◌else◌, vec_capacity}
-use Rattle.std.proofs.lemmas.Option.{none-some}
 use Rattle.svc_bus_laws.specs.Steps.{squash}
 use Rattle.svc_machine_laws.specs.declared.reply.Reply.{Reply}
 use Rattle.svc_machine_laws.specs.declared.reply.What.TheVariants as what
@@ -10,27 +9,19 @@ use Rattle.svc_machine_laws.specs.PlainMachine.{cuts_next}
 use Rattle.svc_machine_laws.specs.Replies.{cut_from}
 use Rattle.svc_machine_laws.specs.declared.reply.Cut.{Cut}
 use Rattle.svc_machine_laws.specs.declared.reply.Cause.TheVariants as cause
-use Rattle.svc_machine_laws.specs.Standing.{Standing, reply_to, stepped}
 use Rattle.svc_machine.specs.declared.seat.Seat.{Seat}
-use Rattle.svc_machine.specs.Kept.{Parts, shown}
-use Rattle.svc_machine.specs.Seats.{head_end}
-use Rattle.svc_machine.specs.Value.{MachineValue, StandsAt}
-use Rattle.svc_machine.proofs.Keeping.{Accepts, parts_of, IsAccepted, Moved, kept_after, stands_after, replied}
-use Rattle.svc_machine.proofs.Committing.{HasHead, head_of, head_ends, lined, has_units, small_commits, small_seats, active_some, units_some, commits_small, settled_some, settled_first, output_room, accepted_room, commits_moved, commit_reply}
+use Rattle.svc_machine.specs.Kept.{Parts}
+use Rattle.svc_machine.specs.Value.{MachineValue}
+use Rattle.svc_machine.specs.Steps.{Accepts}
+use Rattle.svc_machine.proofs.Keeping.{parts_of, IsAccepted, Moved, kept_after, taken_as}
+use Rattle.svc_machine.proofs.Testing.{ended_at}
+use Rattle.svc_machine.proofs.Committing.{HasHead, head_of, lined, has_units, small_commits, small_seats, active_some, units_some, commits_small, settled_some, settled_first, output_room, accepted_room, commits_moved, commit_reply}
 use Rattle.svc_machine.proofs.machine.Machine.commit.Goals as goal
-
-pub unreachable-requires : goal.unreachable-requires
-unreachable-requires c =
-    let x : Event = Commit c.args.by.0 in
-    let ok : IsAccepted (parts_of c.self.inside) x = subst (λ (v : MachineValue). Accepts v x) (sym c.self.view_is) c.requires in
-    let items = c.self.inside.seats.items in
-    let has = head_ends (parts_of c.self.inside) c.self.invariant c.args.by.0 ok items refl in
-    none-some has.0 (sym c.in_default.is ∙ c.head_end.ensures ∙ ap head_end c.deref.ensures.value ∙ has.1)
 
 pub settle-cut-requires : goal.settle-cut-requires
 settle-cut-requires c =
     let x : Event = Commit c.args.by.0 in
-    let ok : IsAccepted (parts_of c.self.inside) x = subst (λ (v : MachineValue). Accepts v x) (sym c.self.view_is) c.requires in
+    let ok : IsAccepted (parts_of c.self.inside) x = subst (λ (v : MachineValue). Accepts v x) (sym c.self.view_is) c.requires.accepted in
     let items = c.self.inside.seats.items in
     let few = small_commits (parts_of c.self.inside) c.self.invariant c.args.by.0 ok items refl c.self.inside.config.few_events in
     record {
@@ -43,29 +34,29 @@ settle-cut-requires c =
 pub commit_head-requires : goal.commit_head-requires
 commit_head-requires c =
     let x : Event = Commit c.args.by.0 in
-    let ok : IsAccepted (parts_of c.self.inside) x = subst (λ (v : MachineValue). Accepts v x) (sym c.self.view_is) c.requires in
+    let ok : IsAccepted (parts_of c.self.inside) x = subst (λ (v : MachineValue). Accepts v x) (sym c.self.view_is) c.requires.accepted in
     let items = c.self.inside.seats.items in
-    let h : HasHead items c.in-Some.end = head_of items c.in-Some.end (ap head_end (sym c.deref.ensures.value) ∙ sym c.head_end.ensures ∙ c.in-Some.is) in
+    let h : HasHead items c.args.end = head_of items c.args.end (ended_at _ c.self.invariant items refl _ c.self.view_is c.args.end c.requires.found) in
     record {
-      head = units_some (parts_of c.self.inside) c.self.invariant c.args.by.0 ok items refl c.in-Some.end h c.settle-cut.new.bus c.settle-cut.ensures.lines;
-      few = commits_small (parts_of c.self.inside) c.self.invariant c.args.by.0 ok items refl c.in-Some.end h c.settle-cut.new.bus c.settle-cut.ensures.lines c.self.inside.config.few_events;
+      head = units_some (parts_of c.self.inside) c.self.invariant c.args.by.0 ok items refl c.args.end h c.settle-cut.new.bus c.settle-cut.ensures.lines;
+      few = commits_small (parts_of c.self.inside) c.self.invariant c.args.by.0 ok items refl c.args.end h c.settle-cut.new.bus c.settle-cut.ensures.lines c.self.inside.config.few_events;
     }
 
 pub commit-requires : goal.commit-requires
 commit-requires c =
     let x : Event = Commit c.args.by.0 in
-    let ok : IsAccepted (parts_of c.self.inside) x = subst (λ (v : MachineValue). Accepts v x) (sym c.self.view_is) c.requires in
+    let ok : IsAccepted (parts_of c.self.inside) x = subst (λ (v : MachineValue). Accepts v x) (sym c.self.view_is) c.requires.accepted in
     let items = c.self.inside.seats.items in
-    let h : HasHead items c.in-Some.end = head_of items c.in-Some.end (ap head_end (sym c.deref.ensures.value) ∙ sym c.head_end.ensures ∙ c.in-Some.is) in
-    subst (λ (g : Guide). 0 < length g.active) (sym c.settle-cut.ensures.guide) (active_some (parts_of c.self.inside) c.self.invariant c.args.by.0 ok items refl c.in-Some.end h)
+    let h : HasHead items c.args.end = head_of items c.args.end (ended_at _ c.self.invariant items refl _ c.self.view_is c.args.end c.requires.found) in
+    subst (λ (g : Guide). 0 < length g.active) (sym c.settle-cut.ensures.guide) (active_some (parts_of c.self.inside) c.self.invariant c.args.by.0 ok items refl c.args.end h)
 
 pub remove-head-requires : goal.remove-head-requires
 remove-head-requires c =
     let x : Event = Commit c.args.by.0 in
-    let ok : IsAccepted (parts_of c.self.inside) x = subst (λ (v : MachineValue). Accepts v x) (sym c.self.view_is) c.requires in
+    let ok : IsAccepted (parts_of c.self.inside) x = subst (λ (v : MachineValue). Accepts v x) (sym c.self.view_is) c.requires.accepted in
     let items = c.self.inside.seats.items in
-    let h : HasHead items c.in-Some.end = head_of items c.in-Some.end (ap head_end (sym c.deref.ensures.value) ∙ sym c.head_end.ensures ∙ c.in-Some.is) in
-    let some = settled_some (cuts_next c.in-Some.end (drop 1 c.self.inside.sequencer.active)) items h.head h.others h.are in
+    let h : HasHead items c.args.end = head_of items c.args.end (ended_at _ c.self.invariant items refl _ c.self.view_is c.args.end c.requires.found) in
+    let some = settled_some (cuts_next c.args.end (drop 1 c.self.inside.sequencer.active)) items h.head h.others h.are in
     let n = c.settle-cut.new.seats.ok.0 in
     let same = ap (λ (l : List Seat). length l) c.settle-cut.ensures.seats in
     omega (arith, some, n, same)
@@ -73,7 +64,7 @@ remove-head-requires c =
 pub overflow_add-self : goal.overflow_add-self
 overflow_add-self c =
     let x : Event = Commit c.args.by.0 in
-    let ok : IsAccepted (parts_of c.self.inside) x = subst (λ (v : MachineValue). Accepts v x) (sym c.self.view_is) c.requires in
+    let ok : IsAccepted (parts_of c.self.inside) x = subst (λ (v : MachineValue). Accepts v x) (sym c.self.view_is) c.requires.accepted in
     let items = c.self.inside.seats.items in
     let few = small_commits (parts_of c.self.inside) c.self.invariant c.args.by.0 ok items refl c.self.inside.config.few_events in
     omega (arith, few)
@@ -81,7 +72,7 @@ overflow_add-self c =
 pub overflow_add-self-2 : goal.overflow_add-self-2
 overflow_add-self-2 c =
     let x : Event = Commit c.args.by.0 in
-    let ok : IsAccepted (parts_of c.self.inside) x = subst (λ (v : MachineValue). Accepts v x) (sym c.self.view_is) c.requires in
+    let ok : IsAccepted (parts_of c.self.inside) x = subst (λ (v : MachineValue). Accepts v x) (sym c.self.view_is) c.requires.accepted in
     let items = c.self.inside.seats.items in
     let room = accepted_room (parts_of c.self.inside) c.self.invariant c.args.by.0 ok items refl in
     let few = c.self.inside.config.few_events in
@@ -95,7 +86,7 @@ module _ (c : goal.After-self-3-1) where
   x = Commit c.args.by.0
 
   ok : IsAccepted (parts_of c.self.inside) (Commit c.args.by.0)
-  ok = let x : Event = Commit c.args.by.0 in subst (λ (v : MachineValue). Accepts v x) (sym c.self.view_is) c.requires
+  ok = let x : Event = Commit c.args.by.0 in subst (λ (v : MachineValue). Accepts v x) (sym c.self.view_is) c.requires.accepted
 
   abbrev after : Parts
   after = parts_of (record c.self.inside {
@@ -108,13 +99,13 @@ module _ (c : goal.After-self-3-1) where
     accepted = c.self.inside.accepted + 1;
   })
 
-  head : HasHead c.self.inside.seats.items c.in-Some.end
-  head = head_of c.self.inside.seats.items c.in-Some.end (ap head_end (sym c.deref.ensures.value) ∙ sym c.head_end.ensures ∙ c.in-Some.is)
+  head : HasHead c.self.inside.seats.items c.args.end
+  head = head_of c.self.inside.seats.items c.args.end (ended_at (parts_of c.self.inside) c.self.invariant c.self.inside.seats.items refl _ c.self.view_is c.args.end c.requires.found)
 
   removed : c.remove-head.result ≡ head.head
   removed =
       let r = c.remove-head.result in
-      settled_first (cuts_next c.in-Some.end (drop 1 c.self.inside.sequencer.active)) c.self.inside.seats.items head.head head.others head.are r
+      settled_first (cuts_next c.args.end (drop 1 c.self.inside.sequencer.active)) c.self.inside.seats.items head.head head.others head.are r
       (c.remove-head.ensures.value ∙ ap (λ (l : List Seat). get_or l 0 r) c.settle-cut.ensures.seats)
 
   words : c.as_slice.result.now ≡ head.head.waiting.items
@@ -122,7 +113,7 @@ module _ (c : goal.After-self-3-1) where
 
   fits : is_ok c.extend_from_slice-room.result ≡ true
   fits =
-      let few = output_room (parts_of c.self.inside) c.self.invariant c.args.by.0 ok c.self.inside.seats.items refl c.in-Some.end head in
+      let few = output_room (parts_of c.self.inside) c.self.invariant c.args.by.0 ok c.self.inside.seats.items refl c.args.end head in
       let n = ap (λ (l : List ℕ). length l) words in
       let k = c.self.inside.output.ok.0 in
       c.extend_from_slice-room.ensures.succeeds (omega (arith, few, n, k))
@@ -136,10 +127,10 @@ module _ (c : goal.After-self-3-1) where
   moved : Moved m after x
   moved =
       let cap = c.remove-head.ensures.capacity ∙ c.settle-cut.ensures.capacity in
-      commits_moved (parts_of c.self.inside) c.self.invariant c.args.by.0 ok c.self.inside.seats.items refl c.in-Some.end head
+      commits_moved (parts_of c.self.inside) c.self.invariant c.args.by.0 ok c.self.inside.seats.items refl c.args.end head
       c.remove-head.new.self.items (c.remove-head.ensures.by_index.2 ∙ ap (drop 1) c.settle-cut.ensures.seats)
-      c.commit.new.self (c.commit.ensures ∙ ap (guide_committed c.in-Some.end) c.settle-cut.ensures.guide)
-      c.commit_head.new.self (λ t agrees. c.commit_head.ensures.table (cond (cuts_next c.in-Some.end (drop 1 c.self.inside.sequencer.active)) (squash t 1) t) (c.settle-cut.ensures.lines t agrees))
+      c.commit.new.self (c.commit.ensures ∙ ap (guide_committed c.args.end) c.settle-cut.ensures.guide)
+      c.commit_head.new.self (λ t agrees. c.commit_head.ensures.table (cond (cuts_next c.args.end (drop 1 c.self.inside.sequencer.active)) (squash t 1) t) (c.settle-cut.ensures.lines t agrees))
       c.extend_from_slice-room.new.self.items put_out
       c.stop-self-inside.result c.stop-self-inside.ensures
       (vec_capacity c.remove-head.new.self) (vec_capacity c.extend_from_slice-room.new.self)
@@ -148,17 +139,11 @@ module _ (c : goal.After-self-3-1) where
 pub invariant_of-self : goal.invariant_of-self
 invariant_of-self c = kept_after (m c) c.self.invariant (x c) tt (ok c) (after c) (moved c)
 
-pub returns-clause-reply : goal.returns-clause-reply
-returns-clause-reply c =
-    let r : Reply = record { what = what.Committed (record { 0 = c.self.inside.commits }) c.in-Some.end; cut = c.settle-cut.result } in
-    subst (λ (v : MachineValue). (s : Standing) → StandsAt v s → r ≡ reply_to v.image s (x c)) c.self.view_is
-    (replied (m c) c.self.invariant (x c) tt (ok c) r
-    (λ t agrees. commit_reply (m c) c.self.invariant c.args.by.0 (ok c) c.self.inside.seats.items refl c.in-Some.end (head c) c.settle-cut.result
+pub returns : goal.returns
+returns c =
+    let r : Reply = record { what = what.Committed (record { 0 = c.self.inside.commits }) c.args.end; cut = c.settle-cut.result } in
+    taken_as (m c) (after c) c.self.invariant _ c.self.view_is (x c) tt (ok c) (moved c) r
+    (λ t agrees. commit_reply (m c) c.self.invariant c.args.by.0 (ok c) c.self.inside.seats.items refl c.args.end (head c) c.settle-cut.result
     (c.settle-cut.ensures.cut
-    ∙ ap {B = Option Cut} (λ n. cond (cuts_next c.in-Some.end (drop 1 c.self.inside.sequencer.active)) (Some (cut_from cause.WrongGuess c.self.inside.commits n 1)) None) (c.len-count.ensures ∙ c.self.inside.seats.ok.0))
-    t))
-
-pub returns-clause-standing : goal.returns-clause-standing
-returns-clause-standing c =
-    subst (λ (v : MachineValue). (s : Standing) → StandsAt v s → StandsAt (shown (after c)) (stepped v.image s (x c))) c.self.view_is
-    (stands_after (m c) c.self.invariant (x c) tt (ok c) (after c) (moved c))
+    ∙ ap {B = Option Cut} (λ n. cond (cuts_next c.args.end (drop 1 c.self.inside.sequencer.active)) (Some (cut_from cause.WrongGuess c.self.inside.commits n 1)) None) (c.len-count.ensures ∙ c.self.inside.seats.ok.0))
+    t)

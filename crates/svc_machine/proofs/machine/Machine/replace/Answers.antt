@@ -1,4 +1,4 @@
-use Rattle.std.proofs.Common.{◌≡◌, ◌+◌, sym, subst, refl, None}
+use Rattle.std.proofs.Common.{◌+◌, sym, subst, refl, None}
 use Rattle.svc_bus_laws.specs.BusState.{Agrees}
 use Rattle.svc_bus_laws.specs.Steps as steps
 use Rattle.svc_bus.specs.Observed.{observed}
@@ -7,10 +7,10 @@ use Rattle.svc_machine_laws.specs.declared.reply.Reply.{Reply}
 use Rattle.svc_machine_laws.specs.declared.reply.What.TheVariants as what
 use Rattle.svc_machine_laws.specs.Events.{Event, Replace}
 use Rattle.svc_machine_laws.specs.Replies.{whole_reply}
-use Rattle.svc_machine_laws.specs.Standing.{Standing, reply_to, stepped}
-use Rattle.svc_machine.specs.Kept.{Parts, shown}
-use Rattle.svc_machine.specs.Value.{MachineValue, StandsAt}
-use Rattle.svc_machine.proofs.Keeping.{Accepts, parts_of, IsAccepted, Moved, kept_after, stands_after, replied}
+use Rattle.svc_machine.specs.Kept.{Parts}
+use Rattle.svc_machine.specs.Value.{MachineValue}
+use Rattle.svc_machine.specs.Steps.{Accepts}
+use Rattle.svc_machine.proofs.Keeping.{parts_of, IsAccepted, Moved, kept_after, taken_as}
 use Rattle.svc_machine.proofs.Replacing.{known, bus_accepts, accepted_of, replaced}
 use Rattle.svc_machine.proofs.machine.Machine.replace.Goals as goal
 
@@ -44,14 +44,8 @@ module _ (c : goal.After-self-1) where
 pub invariant_of-self : goal.invariant_of-self
 invariant_of-self c = kept_after (m c) c.self.invariant (x c) tt (ok c) (after c) (moved c)
 
-pub returns-clause-reply : goal.returns-clause-reply
+pub returns : goal.returns
 unfolding whole_reply
-returns-clause-reply c =
+returns c =
     let r : Reply = record { what = what.Replaced c.args.addr; cut = None } in
-    subst (λ (v : MachineValue). (s : Standing) → StandsAt v s → r ≡ reply_to v.image s (x c)) c.self.view_is
-    (replied (m c) c.self.invariant (x c) tt (ok c) r (λ t agrees. refl))
-
-pub returns-clause-standing : goal.returns-clause-standing
-returns-clause-standing c =
-    subst (λ (v : MachineValue). (s : Standing) → StandsAt v s → StandsAt (shown (after c)) (stepped v.image s (x c))) c.self.view_is
-    (stands_after (m c) c.self.invariant (x c) tt (ok c) (after c) (moved c))
+    taken_as (m c) (after c) c.self.invariant _ c.self.view_is (x c) tt (ok c) (moved c) r (λ t agrees. refl)

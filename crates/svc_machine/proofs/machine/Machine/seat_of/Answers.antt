@@ -1,18 +1,40 @@
-use Rattle.std.proofs.Common.{◌∙◌, ◌≡◌, ap, sym, refl, List, option_map, slice_get}
+use Rattle.std.proofs.Common.{◌∙◌, ◌==◌, ap, sym, refl}
+use Rattle.std.specs.List.{position}
 use Rattle.svc_machine.specs.declared.seat.Seat.{Seat}
-use Rattle.svc_machine.specs.Kept.{whole_seat}
-use Rattle.svc_machine.specs.Refusing.{machine_at}
-use Rattle.svc_machine.proofs.Testing.{borrowed, got, seat_seen, seat_found, idle_found}
+use Rattle.svc_machine.proofs.Seats.{place_below, seat_found}
+use Rattle.svc_machine.proofs.Testing.{place_seen, own_seat, no_seat}
 use Rattle.svc_machine.proofs.machine.Machine.seat_of.Goals as goal
 
--- the seat at the place
-here : (c : goal.After-get) → option_map (λ r. whole_seat r.now) c.get.result ≡ slice_get (machine_at c.args.self.now).seats c.in_ok-place.place
-here c =
-    rw (← c.self.view_is) (borrowed c.get.result ∙ got c.get.result c.deref.result.now c.in_ok-place.place c.get.ensures.lookup.3
-    ∙ ap (λ (l : List Seat). option_map whole_seat (slice_get l c.in_ok-place.place)) c.deref.ensures.value ∙ seat_seen _ c.self.invariant c.self.inside.seats.items refl c.in_ok-place.place)
+pub index-requires : goal.index-requires
+index-requires c =
+    let seats = c.self.inside.seats in
+    let at = ap (position (λ (s : Seat). s.unit.0 == c.args.unit.0)) (sym c.deref.ensures.value) ∙ sym c.place_of.ensures ∙ c.in-Some.is in
+    place_below seats.items c.args.unit.0 c.in-Some.place _ seats.ok.0 at
 
-pub returns-clause-seat : goal.returns-clause-seat
-returns-clause-seat c = seat_found (machine_at c.args.self.now) c.args.unit.0 c.in_ok-place.place (sym c.place_of.ensures ∙ c.in_ok-place.was) c.get.result (here c)
+pub returns-in-Some-clause-place : goal.returns-in-Some-clause-place
+returns-in-Some-clause-place c =
+    let items = c.self.inside.seats.items in
+    let unit = c.args.unit.0 in
+    rw (← c.self.view_is) (sym c.in-Some.is ∙ c.place_of.ensures ∙ ap (position (λ (s : Seat). s.unit.0 == unit)) c.deref.ensures.value ∙ place_seen _ c.self.invariant items refl unit)
 
-pub returns-clause-idle : goal.returns-clause-idle
-returns-clause-idle c = idle_found (machine_at c.args.self.now) c.args.unit.0 c.in_ok-place.place (sym c.place_of.ensures ∙ c.in_ok-place.was) c.get.result (here c)
+pub returns-in-Some-clause-seat : goal.returns-in-Some-clause-seat
+returns-in-Some-clause-seat c =
+    let seats = c.self.inside.seats in
+    let unit = c.args.unit.0 in
+    let seat = c.index.result.now in
+    let at = ap (position (λ (s : Seat). s.unit.0 == unit)) (sym c.deref.ensures.value) ∙ sym c.place_of.ensures ∙ c.in-Some.is in
+    let here = seat_found seats.items unit c.in-Some.place _ seat seats.ok.0 at c.index.ensures in
+    rw (← c.self.view_is) (own_seat _ c.self.invariant seats.items refl unit c.in-Some.place at seat here)
+
+pub returns-in-None-clause-place : goal.returns-in-None-clause-place
+returns-in-None-clause-place c =
+    let items = c.self.inside.seats.items in
+    let unit = c.args.unit.0 in
+    rw (← c.self.view_is) (sym c.in-None.is ∙ c.place_of.ensures ∙ ap (position (λ (s : Seat). s.unit.0 == unit)) c.deref.ensures.value ∙ place_seen _ c.self.invariant items refl unit)
+
+pub returns-in-None-clause-seat : goal.returns-in-None-clause-seat
+returns-in-None-clause-seat c =
+    let items = c.self.inside.seats.items in
+    let unit = c.args.unit.0 in
+    let at = ap (position (λ (s : Seat). s.unit.0 == unit)) (sym c.deref.ensures.value) ∙ sym c.place_of.ensures ∙ c.in-None.is in
+    rw (← c.self.view_is) (no_seat _ c.self.invariant items refl unit at)

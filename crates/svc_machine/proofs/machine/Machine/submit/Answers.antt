@@ -1,5 +1,5 @@
 -- The turns that a burst brings are the next ones of its task.
-use Rattle.std.proofs.Common.{ℕ, ◌≡◌, ◌∙◌, ◌==◌, ◌+◌, ◌-◌, List, Option, Some, None, refl, sym, ap, subst, map, take, length, slice_set, arith}
+use Rattle.std.proofs.Common.{ℕ, ◌≡◌, ◌∙◌, ◌==◌, ◌+◌, ◌-◌, List, Option, Some, refl, sym, ap, map, take, length, slice_set, arith}
 use Rattle.std.specs.List.{position}
 use Rattle.svc_core_laws.specs.Bursts.{Advance}
 use Rattle.svc_core_laws.specs.Words.{program}
@@ -12,49 +12,48 @@ use Rattle.svc_machine_laws.specs.WholeMachine.{machine_of, at_core, seat_of}
 use Rattle.svc_machine_laws.specs.Events.{Submit, asked_want, seat_place}
 use Rattle.svc_machine_laws.specs.Blame.{tasks_cut}
 use Rattle.svc_machine_laws.specs.Guide.{guide_cut}
-use Rattle.svc_machine_laws.specs.Standing.{Standing, reply_to, stepped}
 use Rattle.svc_machine_laws.proofs.Followed.{map_count}
 use Rattle.svc_machine.specs.declared.seat.Seat.{Seat}
 use Rattle.svc_machine.specs.Asked.{IsDone}
-use Rattle.svc_machine.specs.Value.{MachineValue, StandsAt}
-use Rattle.svc_machine.specs.Kept.{Parts, shown, whole_seat}
+use Rattle.svc_machine.specs.Kept.{Parts, whole_seat}
 use Rattle.svc_machine.specs.Seats.{is_misled}
-use Rattle.svc_machine.proofs.Keeping.{IsAccepted, Moved, parts_of, kept_after, stands_after, replied, tasks_seen}
+use Rattle.svc_machine.proofs.Keeping.{IsAccepted, Moved, parts_of, kept_after, taken_as, tasks_seen}
+use Rattle.svc_machine.proofs.Seats.{place_below}
 use Rattle.svc_machine.proofs.Settling.{seats_kept}
-use Rattle.svc_machine.proofs.Submitting.{can, accepted_as, found_place, is_found, at_place, its_task_runs, its_room, its_words, its_turn, cut_few, small_numbers, seats_left, lined, has_units, moved_by, replied_by}
+use Rattle.svc_machine.proofs.Testing.{placed_at}
+use Rattle.svc_machine.proofs.Submitting.{can, accepted_as, at_place, its_task_runs, its_room, its_words, its_turn, cut_few, small_numbers, seats_left, lined, has_units, moved_by, replied_by}
 use Rattle.svc_machine.proofs.machine.Machine.submit.Goals as goal
 
-pub unreachable-requires : goal.unreachable-requires
-unreachable-requires c =
-    let ok = accepted_as (Submit c.args.burst.now) _ _ c.self.view_is c.requires in
-    is_found _ c.self.invariant c.args.burst.now ok c.self.inside.seats.items refl
-    (found_place c.self.inside.seats.items c.deref.result.now c.unit.result c.args.burst.now.unit c.place.result None c.deref.ensures.value c.unit.ensures c.place.ensures c.in_default.is)
+pub index_mut-seat-requires : goal.index_mut-seat-requires
+index_mut-seat-requires c =
+    let seats = c.self.inside.seats in
+    place_below seats.items c.args.burst.now.unit.0 c.args.place _ seats.ok.0 (placed_at _ c.self.invariant seats.items refl _ c.self.view_is c.args.burst.now.unit.0 c.args.place c.requires.found)
 
 pub go_on-reply-requires-clause-running : goal.go_on-reply-requires-clause-running
 go_on-reply-requires-clause-running c =
-    let ok = accepted_as (Submit c.args.burst.now) _ _ c.self.view_is c.requires in
-    let found = found_place c.self.inside.seats.items c.deref.result.now c.unit.result c.args.burst.now.unit c.place.result (Some c.in-Some.place) c.deref.ensures.value c.unit.ensures c.place.ensures c.in-Some.is in
-    (c.self.invariant.lines, c.in-Some.place, its_task_runs _ c.self.invariant c.args.burst.now ok c.self.inside.seats.items refl c.in-Some.place found c.index_mut-seat.result.now c.index_mut-seat.ensures.value c.self.invariant.lines c.self.invariant.agrees)
+    let ok = accepted_as (Submit c.args.burst.now) _ _ c.self.view_is c.requires.accepted in
+    let found = placed_at _ c.self.invariant c.self.inside.seats.items refl _ c.self.view_is c.args.burst.now.unit.0 c.args.place c.requires.found in
+    (c.self.invariant.lines, c.args.place, its_task_runs _ c.self.invariant c.args.burst.now ok c.self.inside.seats.items refl c.args.place found c.index_mut-seat.result.now c.index_mut-seat.ensures.value c.self.invariant.lines c.self.invariant.agrees)
 
 pub go_on-reply-requires-clause-free : goal.go_on-reply-requires-clause-free
 go_on-reply-requires-clause-free c =
-    let ok = accepted_as (Submit c.args.burst.now) _ _ c.self.view_is c.requires in
-    let found = found_place c.self.inside.seats.items c.deref.result.now c.unit.result c.args.burst.now.unit c.place.result (Some c.in-Some.place) c.deref.ensures.value c.unit.ensures c.place.ensures c.in-Some.is in
-    its_room _ c.self.invariant c.args.burst.now ok c.self.inside.seats.items refl c.in-Some.place found c.index_mut-seat.result.now c.index_mut-seat.ensures.value c.ask.result c.ask.ensures.ask
+    let ok = accepted_as (Submit c.args.burst.now) _ _ c.self.view_is c.requires.accepted in
+    let found = placed_at _ c.self.invariant c.self.inside.seats.items refl _ c.self.view_is c.args.burst.now.unit.0 c.args.place c.requires.found in
+    its_room _ c.self.invariant c.args.burst.now ok c.self.inside.seats.items refl c.args.place found c.index_mut-seat.result.now c.index_mut-seat.ensures.value c.ask.result c.ask.ensures.ask
 
 pub go_on-reply-requires-clause-waiting : goal.go_on-reply-requires-clause-waiting
 go_on-reply-requires-clause-waiting c =
-    let ok = accepted_as (Submit c.args.burst.now) _ _ c.self.view_is c.requires in
-    let found = found_place c.self.inside.seats.items c.deref.result.now c.unit.result c.args.burst.now.unit c.place.result (Some c.in-Some.place) c.deref.ensures.value c.unit.ensures c.place.ensures c.in-Some.is in
-    its_words _ c.self.invariant c.args.burst.now ok c.self.inside.seats.items refl c.in-Some.place found c.index_mut-seat.result.now c.index_mut-seat.ensures.value c.end.ensures.follows c.end.result.now c.end.ensures.end
+    let ok = accepted_as (Submit c.args.burst.now) _ _ c.self.view_is c.requires.accepted in
+    let found = placed_at _ c.self.invariant c.self.inside.seats.items refl _ c.self.view_is c.args.burst.now.unit.0 c.args.place c.requires.found in
+    its_words _ c.self.invariant c.args.burst.now ok c.self.inside.seats.items refl c.args.place found c.index_mut-seat.result.now c.index_mut-seat.ensures.value c.end.ensures.follows c.end.result.now c.end.ensures.end
 
 pub tasks_left-left-requires : goal.tasks_left-left-requires
 tasks_left-left-requires c =
-    let ok = accepted_as (Submit c.args.burst.now) _ _ c.self.view_is c.requires in
-    let found = found_place c.self.inside.seats.items c.deref.result.now c.unit.result c.args.burst.now.unit c.place.result (Some c.in-Some.place) c.deref.ensures.value c.unit.ensures c.place.ensures c.in-Some.is in
-    let done = its_turn _ c.self.invariant c.args.burst.now ok c.self.inside.seats.items refl c.in-Some.place found c.index_mut-seat.result.now c.index_mut-seat.ensures.value c.end.result.now c.ask.result c.end.ensures.end c.ask.ensures.ask
+    let ok = accepted_as (Submit c.args.burst.now) _ _ c.self.view_is c.requires.accepted in
+    let found = placed_at _ c.self.invariant c.self.inside.seats.items refl _ c.self.view_is c.args.burst.now.unit.0 c.args.place c.requires.found in
+    let done = its_turn _ c.self.invariant c.args.burst.now ok c.self.inside.seats.items refl c.args.place found c.index_mut-seat.result.now c.index_mut-seat.ensures.value c.end.result.now c.ask.result c.end.ensures.end c.ask.ensures.ask
     (whole_seat c.go_on-reply.new.seat) (observed c.go_on-reply.new.bus) c.go_on-reply.result c.go_on-reply.ensures in
-    let few = cut_few _ c.self.invariant c.args.burst.now ok c.in-Some.place (at_place _ c.self.invariant c.args.burst.now ok c.self.inside.seats.items refl c.in-Some.place found)
+    let few = cut_few _ c.self.invariant c.args.burst.now ok c.args.place (at_place _ c.self.invariant c.args.burst.now ok c.self.inside.seats.items refl c.args.place found)
     (whole_seat c.go_on-reply.new.seat) (observed c.go_on-reply.new.bus) c.go_on-reply.result done in
     let count = c.len-count.ensures ∙ c.self.inside.seats.ok.0 ∙ sym (map_count whole_seat c.self.inside.seats.items) in
     omega (arith, few, count)
@@ -68,9 +67,9 @@ check_guess-wrong-requires c =
     let m : Parts = parts_of c.self.inside in
     let b = c.args.burst.now in
     let items = c.self.inside.seats.items in
-    let place = c.in-Some.place in
-    let ok = accepted_as (Submit b) _ _ c.self.view_is c.requires in
-    let found = found_place items c.deref.result.now c.unit.result b.unit c.place.result (Some place) c.deref.ensures.value c.unit.ensures c.place.ensures c.in-Some.is in
+    let place = c.args.place in
+    let ok = accepted_as (Submit b) _ _ c.self.view_is c.requires.accepted in
+    let found = placed_at m c.self.invariant items refl _ c.self.view_is b.unit.0 place c.requires.found in
     let at = at_place m c.self.invariant b ok items refl place found in
     let seat = whole_seat c.go_on-reply.new.seat in
     let bus = observed c.go_on-reply.new.bus in
@@ -110,26 +109,26 @@ module _ (c : goal.After-or) where
   items = c.self.inside.seats.items
 
   ok : IsAccepted (parts_of c.self.inside) (Submit c.args.burst.now)
-  ok = accepted_as (Submit c.args.burst.now) _ _ c.self.view_is c.requires
+  ok = accepted_as (Submit c.args.burst.now) _ _ c.self.view_is c.requires.accepted
 
-  found : position (λ (s : Seat). s.unit.0 == b.unit.0) items ≡ Some c.in-Some.place
-  found = found_place items c.deref.result.now c.unit.result b.unit c.place.result (Some c.in-Some.place) c.deref.ensures.value c.unit.ensures c.place.ensures c.in-Some.is
+  found : position (λ (s : Seat). s.unit.0 == b.unit.0) items ≡ Some c.args.place
+  found = placed_at m c.self.invariant items refl _ c.self.view_is b.unit.0 c.args.place c.requires.found
 
-  at_here : seat_place (machine_of (program m.image) m.plain) b.unit.0 ≡ Some c.in-Some.place
-  at_here = at_place m c.self.invariant b ok items refl c.in-Some.place found
+  at_here : seat_place (machine_of (program m.image) m.plain) b.unit.0 ≡ Some c.args.place
+  at_here = at_place m c.self.invariant b ok items refl c.args.place found
 
   -- the asked turn was done
   done : (t : LineTable) → Agrees (observed m.bus) t
-      → IsDone m.image (asked_want m.image b) t c.in-Some.place (at_core b.end (seat_of (can m c.self.invariant b ok).run)) (whole_seat c.go_on-reply.new.seat) (observed c.go_on-reply.new.bus) c.go_on-reply.result
+      → IsDone m.image (asked_want m.image b) t c.args.place (at_core b.end (seat_of (can m c.self.invariant b ok).run)) (whole_seat c.go_on-reply.new.seat) (observed c.go_on-reply.new.bus) c.go_on-reply.result
   done =
-      its_turn m c.self.invariant b ok items refl c.in-Some.place found c.index_mut-seat.result.now c.index_mut-seat.ensures.value c.end.result.now c.ask.result c.end.ensures.end c.ask.ensures.ask
+      its_turn m c.self.invariant b ok items refl c.args.place found c.index_mut-seat.result.now c.index_mut-seat.ensures.value c.end.result.now c.ask.result c.end.ensures.end c.ask.ensures.ask
       (whole_seat c.go_on-reply.new.seat) (observed c.go_on-reply.new.bus) c.go_on-reply.result c.go_on-reply.ensures
 
   left_is : c.tasks_left-left.result ≡ length (map whole_seat items) - tasks_cut c.go_on-reply.result.cut
   left_is = left_of items c.tasks_left-left.result c.len-count.result (tasks_cut c.go_on-reply.result.cut) _ c.tasks_left-left.ensures c.len-count.ensures c.self.inside.seats.ok.0
 
-  seats_are : map whole_seat c.truncate.new.self.items ≡ take (length (map whole_seat items) - tasks_cut c.go_on-reply.result.cut) (slice_set (map whole_seat items) c.in-Some.place (whole_seat c.go_on-reply.new.seat))
-  seats_are = seats_left items c.truncate.new.self.items c.in-Some.place c.tasks_left-left.result _ c.go_on-reply.new.seat c.truncate.ensures.items left_is
+  seats_are : map whole_seat c.truncate.new.self.items ≡ take (length (map whole_seat items) - tasks_cut c.go_on-reply.result.cut) (slice_set (map whole_seat items) c.args.place (whole_seat c.go_on-reply.new.seat))
+  seats_are = seats_left items c.truncate.new.self.items c.args.place c.tasks_left-left.result _ c.go_on-reply.new.seat c.truncate.ensures.items left_is
 
   guide_is : c.cut_from.new.self ≡ guide_cut (length (map whole_seat items) - tasks_cut c.go_on-reply.result.cut) m.guide
   guide_is = c.cut_from.ensures ∙ ap (λ n. guide_cut n c.self.inside.sequencer) left_is
@@ -137,8 +136,8 @@ module _ (c : goal.After-or) where
   moved : Moved m after (Submit b)
   moved =
       let held = c.truncate.new.self.items in
-      let wrong = is_misled (map whole_seat held) c.in-Some.place in
-      moved_by m c.self.invariant b ok c.in-Some.place at_here (whole_seat c.go_on-reply.new.seat) (observed c.go_on-reply.new.bus) c.go_on-reply.result done
+      let wrong = is_misled (map whole_seat held) c.args.place in
+      moved_by m c.self.invariant b ok c.args.place at_here (whole_seat c.go_on-reply.new.seat) (observed c.go_on-reply.new.bus) c.go_on-reply.result done
       c.end.ensures.follows held seats_are c.cut_from.new.self guide_is after (record {
         image = refl;
         config = refl;
@@ -148,7 +147,7 @@ module _ (c : goal.After-or) where
         epoch = refl;
         lines = c.check_guess-wrong.ensures.lines;
         guide = c.check_guess-wrong.ensures.guide;
-        seats = ap (map whole_seat) c.check_guess-wrong.ensures.seats ∙ seats_kept wrong c.in-Some.place held;
+        seats = ap (map whole_seat) c.check_guess-wrong.ensures.seats ∙ seats_kept wrong c.args.place held;
         places = let checked = c.check_guess-wrong.ensures.capacity in let e = c.truncate.ensures.capacity in omega (arith, checked, e);
         output = refl;
         room = omega arith;
@@ -158,18 +157,12 @@ module _ (c : goal.After-or) where
 pub invariant_of-self : goal.invariant_of-self
 invariant_of-self c = kept_after (m c) c.self.invariant (Submit c.args.burst.now) c.end.ensures.follows (ok c) (after c) (moved c)
 
-pub returns-clause-reply : goal.returns-clause-reply
-returns-clause-reply c =
+pub returns : goal.returns
+returns c =
     let r : Reply = record { what = c.go_on-reply.result.what; cut = c.or.result } in
-    subst (λ (v : MachineValue). (s : Standing) → StandsAt v s → r ≡ reply_to v.image s (Submit c.args.burst.now)) c.self.view_is
-    (replied (m c) c.self.invariant (Submit c.args.burst.now) c.end.ensures.follows (ok c) r
+    taken_as (m c) (after c) c.self.invariant _ c.self.view_is (Submit c.args.burst.now) c.end.ensures.follows (ok c) (moved c) r
     (λ t agrees.
     ap {B = Reply} (λ (o : Option Cut). record { what = c.go_on-reply.result.what; cut = o }) c.or.ensures
-    ∙ replied_by (m c) c.self.invariant (b c) (ok c) c.in-Some.place (at_here c) (whole_seat c.go_on-reply.new.seat) (observed c.go_on-reply.new.bus) c.go_on-reply.result (done c)
+    ∙ replied_by (m c) c.self.invariant (b c) (ok c) c.args.place (at_here c) (whole_seat c.go_on-reply.new.seat) (observed c.go_on-reply.new.bus) c.go_on-reply.result (done c)
     c.end.ensures.follows c.truncate.new.self.items (seats_are c) c.cut_from.new.self (guide_is c)
-    c.len-count.result (c.len-count.ensures ∙ c.self.inside.seats.ok.0 ∙ sym (map_count whole_seat (items c))) c.check_guess-wrong.result c.check_guess-wrong.ensures.cut t agrees))
-
-pub returns-clause-standing : goal.returns-clause-standing
-returns-clause-standing c =
-    subst (λ (v : MachineValue). (s : Standing) → StandsAt v s → StandsAt (shown (after c)) (stepped v.image s (Submit c.args.burst.now))) c.self.view_is
-    (stands_after (m c) c.self.invariant (Submit c.args.burst.now) c.end.ensures.follows (ok c) (after c) (moved c))
+    c.len-count.result (c.len-count.ensures ∙ c.self.inside.seats.ok.0 ∙ sym (map_count whole_seat (items c))) c.check_guess-wrong.result c.check_guess-wrong.ensures.cut t agrees)

@@ -1,0 +1,33 @@
+-- What one event of a machine does, said once for all that hand it on: at each standing that the machine is at.
+use Rattle.std.specs.Prelude.{◌≡◌, None, Some, Result, IfOk, OnErr, MatchResult}
+use Rattle.svc_base.specs.declared.refusal.Refusal.{Refusal}
+use Rattle.svc_machine_laws.specs.declared.reply.Reply.{Reply}
+use Rattle.svc_machine_laws.specs.Events.{Event}
+use Rattle.svc_machine_laws.specs.Standing as laws
+use Rattle.svc_machine_laws.specs.Standing.{Standing}
+use Rattle.svc_machine.specs.Value.{MachineValue, StandsAt}
+
+-- an event, refused or not
+pub record IsStep (old new : MachineValue) (x : Event) (result : Result Reply Refusal) : Type 0 where
+  -- it is refused exactly where the table of refusals says, with the first refusal that applies
+  pub refused : (s : Standing) → StandsAt old s → MatchResult result
+      (λ _. laws.refused old.image old.config s x ≡ None)
+      (λ e. laws.refused old.image old.config s x ≡ Some e)
+  -- else the reply is the plain machine's
+  pub reply : (s : Standing) → StandsAt old s → IfOk result (λ r. r ≡ laws.reply_to old.image s x)
+  -- and the machine stands where the event leads
+  pub standing : (s : Standing) → StandsAt old s → StandsAt new (laws.after_event old.image old.config s x)
+  pub image : new.image ≡ old.image
+  pub config : new.config ≡ old.config
+  pub unchanged : OnErr result (new ≡ old)
+
+-- no case of the table of refusals holds
+abbrev pub Accepts : MachineValue → Event → Type 0
+Accepts m x = (s : Standing) → StandsAt m s → laws.refused m.image m.config s x ≡ None
+
+-- an accepted event
+pub record IsTaken (old new : MachineValue) (x : Event) (reply : Reply) : Type 0 where
+  pub reply_is : (s : Standing) → StandsAt old s → reply ≡ laws.reply_to old.image s x
+  pub standing : (s : Standing) → StandsAt old s → StandsAt new (laws.stepped old.image s x)
+  pub image : new.image ≡ old.image
+  pub config : new.config ≡ old.config
