@@ -1,7 +1,7 @@
--- The ranges of a configuration's numbers, and the first that is out of its range.
+-- The ranges of a configuration's numbers, and the first that is out of its range. The bounds are numbers here, not the
+-- constants of the code, so that no constant can be another one.
 use Rattle.std.specs.Prelude.{ℕ, Bool, ◌&&◌, nat_le, Option, Some, None, if◌then◌else◌}
 use Rattle.std.specs.Int.{is_power_of_two}
-use Rattle.svc_base.specs.declared.config.TheConstants.{MAX_EVENTS, MAX_SETS, MAX_TURNS, MAX_UNITS, MAX_WAYS}
 use Rattle.svc_base.specs.declared.config.ConfigError.{ConfigError}
 use Rattle.svc_base.specs.declared.config.ConfigError.TheVariants as error
 
@@ -9,18 +9,18 @@ use Rattle.svc_base.specs.declared.config.ConfigError.TheVariants as error
 abbrev pub is_within : (most n : ℕ) → Bool
 is_within most n = nat_le 1 n && nat_le n most
 
--- a power of two from 1 to the greatest number of sets
+-- a power of two from 1 to 256
 abbrev pub is_set_count : ℕ → Bool
-is_set_count n = is_power_of_two n && is_within MAX_SETS n
+is_set_count n = is_power_of_two n && is_within 256 n
 
 -- the first number that is out of its range, where there is one
 unfoldable pub config_fault : (units sets ways events turns : ℕ) → Option ConfigError
 config_fault units sets ways events turns =
-    if is_within MAX_UNITS units then
+    if is_within 16 units then
     (if is_set_count sets then
-    (if is_within MAX_WAYS ways then
-    (if is_within MAX_EVENTS events then
-    (if is_within MAX_TURNS turns then None
+    (if is_within 4 ways then
+    (if is_within 1000000 events then
+    (if is_within 10000000 turns then None
     else Some error.Turns)
     else Some error.Events)
     else Some error.Ways)

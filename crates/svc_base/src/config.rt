@@ -69,8 +69,9 @@ pub enum ConfigError {
 }
 
 impl Config {
-    /// The configuration of these numbers. The first that is out of its range, in the order of the
-    /// arguments, is refused.
+    /// The configuration of these numbers.
+    ///
+    /// Errors: the first number that is out of its range, in the order of the arguments.
     #[tactic(auto, unfolding(crate::specs::Limits::config_fault))]
     pub fn new(
         units: u32,
@@ -79,7 +80,9 @@ impl Config {
         events: u32,
         turns: u32,
     ) -> Result<Config, ConfigError>
-        ensures accepted { MatchResult result (λ c. config_fault units sets ways events turns ≡ None) (λ e. config_fault units sets ways events turns ≡ Some e) }
+        ensures accepted { MatchResult result
+            (λ c. config_fault units sets ways events turns ≡ None)
+            (λ e. config_fault units sets ways events turns ≡ Some e) }
         ensures units { IfOk result (λ c. c.units ≡ units) }
         ensures sets { IfOk result (λ c. c.sets ≡ sets) }
         ensures ways { IfOk result (λ c. c.ways ≡ ways) }

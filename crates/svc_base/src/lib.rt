@@ -1,9 +1,10 @@
-//! What every part of the simulator speaks of: units, tasks, word addresses, the configuration of a
-//! run, the reasons for which a call is refused, and who supplies a read.
+//! What every part of the simulator speaks of: units, tasks, word addresses, the configuration of a run, limits, the
+//! reasons for which a call is refused, and who supplies a read.
 #![tactic(auto)]
 
 pub mod config;
 pub mod ids;
+pub mod limits;
 pub mod refusal;
 pub mod served;
 

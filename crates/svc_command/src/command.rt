@@ -2,13 +2,11 @@
 
 use clap::{Arg, ArgAction, Command};
 use std::alloc::{AllocError, Global};
+use svc_base::limits::MAX_BURST_TURNS;
 use svc_program::VERSION;
 
 /// The greatest number of tasks that may be asked of the plain runner.
 const MAX_TASKS: i64 = 1_000_000;
-
-/// The most turns of a burst.
-const MAX_BURST: i64 = 63;
 
 /// The orders of a schedule, by their names.
 const ORDERS: [&str; 4] = ["rotate", "oldest", "youngest", "random"];
@@ -33,6 +31,47 @@ Without any words, svcsim runs an image of one task that it brings along.";
 const STATUSES: &str =
     "Exit status: 0 where the image's program came to its exit, or a trace is sound; 2 at any other ending;
 and 1 at a fault, which standard error names.";
+
+// What stands at the end of the whole program's help: the statuses and each fault.
+const FAULTS: &str =
+    "Exit status: 0 where the image's program came to its exit, or a trace is sound; 2 at any other ending;
+and 1 at a fault, which standard error names in one line:
+
+  image fault 1   the image's file ends before its last field does
+  image fault 2   it doesn't begin with the letters SVCI, so it is no image
+  image fault 3   it is of another version than 1 and 2
+  image fault 4   a count is out of range: 1 to 1024 entries; 1 to 65536 text words, data words and turns;
+                  at most as many read-only words as data words
+  image fault 5   an entry is not above the one before it
+  image fault 6   an entry is not a multiple of 4 within the text
+  image fault 7   the start is none of the entries
+  image fault 8   bytes follow the last data word
+  image fault 9   memory was refused for an image that has no other fault
+  config fault 1  --units is out of range
+  config fault 2  --sets is out of range, or no power of two
+  config fault 3  --ways is out of range
+  config fault 4  --events is out of range
+  config fault 5  --turns is out of range
+  plain fault 1   memory was refused for the plain runner
+  open fault 1    memory was refused for the machine of a script
+  run fault 1     memory was refused for a run
+  run fault 2     a thread could not be started
+  run fault 3, 4  a mistake of svcsim itself: please tell us
+  report fault 1  memory was refused for a text or its entries
+  report fault 2  standard output could not be written
+  report fault 3  a script or trace could not be read to its end
+  report fault 4 row R column C
+                  a trace's first bad row and its first bad column, counted from 1 with the header;
+                  column 0 where the number of fields is wrong
+  script fault row R column C
+                  a script's, likewise
+  trace fault 1 at entry 0
+                  memory was refused for the replay of a trace
+  trace fault 2 at entry I
+                  the event of this entry, counted from 0, is refused there, or the entry lacks a number
+  trace fault 3 at entry I
+                  the event of this entry is answered otherwise there
+  file fault      a file could not be read or written, or memory was refused elsewhere";
 
 const RUN: &str = "Runs an image on the simulated machine, and prints the summary.
 
@@ -81,6 +120,7 @@ pub fn command<'a>(alloc: Global) -> Result<Command<'a>, AllocError> {
         .about("Simulates a multiprocessor with speculative versioning caches")
         .long_about(ABOUT)
         .after_help(STATUSES)
+        .after_long_help(FAULTS)
         .subcommand_required(true)
         .subcommand(run(alloc)?)?
         .subcommand(sequential(alloc)?)?
@@ -172,7 +212,7 @@ fn with_schedule<'a>(alloc: Global, command: Command<'a>) -> Result<Command<'a>,
         .long("burst")
         .value_name("N")
         .action(ArgAction::Set)
-        .value_parser(clap::value_parser!(u32).range(1..=MAX_BURST))
+        .value_parser(clap::value_parser!(u32).range(1..=MAX_BURST_TURNS as i64))
         .requires_arg("schedule")?
         .help(
             "The most turns of a unit in a step of a schedule: 1 to 63, and 63 where none is given",

@@ -20,8 +20,11 @@ impl Core {
         requires ready { IsReady self.old ask }
         requires few { length memory.old ≤ 65536 }
         ensures core { self.new ≡ (answered (length memory.old) read_only ask self.old (slice_index memory.old)).core }
-        ensures memory { (a : ℕ) → slice_index memory.new a ≡ over (wrote (answered (length memory.old) read_only ask self.old (slice_index memory.old)).log) (slice_index memory.old) a }
-        ensures output { option_to_list result ≡ output (answered (length memory.old) read_only ask self.old (slice_index memory.old)).log }
+        ensures memory { (a : ℕ) → slice_index memory.new a
+            ≡ over (wrote (answered (length memory.old) read_only ask self.old (slice_index memory.old)).log)
+            (slice_index memory.old) a }
+        ensures output { option_to_list result
+            ≡ output (answered (length memory.old) read_only ask self.old (slice_index memory.old)).log }
     {
         match ask {
             Ask::Nothing => None,
@@ -45,7 +48,9 @@ impl Core {
         requires running { self.old.done ≡ None }
         requires in_time { self.old.count < self.old.limit }
         requires few { length memory.now ≤ 65536 }
-        ensures { self.new ≡ (load_answer self.old kind rd addr (slice_index memory.now) (access_trap (length memory.now) (load_bytes kind) addr)).core }
+        ensures { self.new
+            ≡ (load_answer self.old kind rd addr (slice_index memory.now)
+            (access_trap (length memory.now) (load_bytes kind) addr)).core }
     {
         match load_place(kind, addr, memory.len() as u32) {
             Ok(place) => {
@@ -61,8 +66,13 @@ impl Core {
         requires running { self.old.done ≡ None }
         requires in_time { self.old.count < self.old.limit }
         requires few { length memory.old ≤ 65536 }
-        ensures core { self.new ≡ (store_answer self.old kind addr value (slice_index memory.old) (store_trap (length memory.old) read_only (store_bytes kind) addr)).core }
-        ensures memory { (a : ℕ) → slice_index memory.new a ≡ over (wrote (store_answer self.old kind addr value (slice_index memory.old) (store_trap (length memory.old) read_only (store_bytes kind) addr)).log) (slice_index memory.old) a }
+        ensures core { self.new
+            ≡ (store_answer self.old kind addr value (slice_index memory.old)
+            (store_trap (length memory.old) read_only (store_bytes kind) addr)).core }
+        ensures memory { (a : ℕ) → slice_index memory.new a
+            ≡ over (wrote (store_answer self.old kind addr value (slice_index memory.old)
+            (store_trap (length memory.old) read_only (store_bytes kind) addr)).log)
+            (slice_index memory.old) a }
     {
         match store_place(kind, addr, memory.len() as u32, read_only) {
             Ok(place) => {

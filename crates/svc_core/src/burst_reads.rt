@@ -58,7 +58,8 @@ impl Burst {
     pub fn end(&self) -> &Core
         ensures end { result.now ≡ self.now.end }
         ensures follows { Follows self.now }
-        ensures counts { (self.now.end.count ≡ self.now.start.count + self.now.local) × (self.now.end.limit ≡ self.now.start.limit) }
+        ensures counts { (self.now.end.count ≡ self.now.start.count + self.now.local)
+            × (self.now.end.limit ≡ self.now.start.limit) }
         ensures few { self.now.local + ask_turns self.now.ask ≤ 63 }
     {
         &self.end

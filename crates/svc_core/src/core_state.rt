@@ -28,11 +28,32 @@ impl Model for Core {
 
     ghost Value = { State };
 
-    ghost view = { λ c. record { pc = c.pc; regs = c.regs; count = c.count; emitted = c.emitted; limit = c.limit; done = c.done } };
+    ghost view = { λ c. record {
+      pc = c.pc;
+      regs = c.regs;
+      count = c.count;
+      emitted = c.emitted;
+      limit = c.limit;
+      done = c.done;
+    } };
 
-    ghost invariant = { λ c. IsCore (record { pc = c.pc; regs = c.regs; count = c.count; emitted = c.emitted; limit = c.limit; done = c.done }) };
+    ghost invariant = { λ c. IsCore (record {
+      pc = c.pc;
+      regs = c.regs;
+      count = c.count;
+      emitted = c.emitted;
+      limit = c.limit;
+      done = c.done;
+    }) };
 
-    ghost inverse = { λ s. record { pc = s.pc; regs = s.regs; count = s.count; emitted = s.emitted; limit = s.limit; done = s.done } };
+    ghost inverse = { λ s. record {
+      pc = s.pc;
+      regs = s.regs;
+      count = s.count;
+      emitted = s.emitted;
+      limit = s.limit;
+      done = s.done;
+    } };
 }
 
 impl Core {

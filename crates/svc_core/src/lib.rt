@@ -13,10 +13,11 @@ mod numbers;
 mod turn;
 
 pub use access::{DATA_START, Place, load_place, loaded, store_place, stored};
-pub use burst::{Burst, Lease, MAX_BURST_TURNS};
+pub use burst::{Burst, Lease};
 pub use core_state::Core;
 pub use effect::Effect;
 pub use numbers::{compare, operate};
+pub use svc_base::limits::MAX_BURST_TURNS;
 pub use svc_core_laws::{Ask, End, Ending};
 
 #[cfg(test)]

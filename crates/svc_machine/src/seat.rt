@@ -6,11 +6,9 @@ ghost use Rattle.svc_machine_laws.specs.Guess.{last_end};
 
 use arrayvec::ArrayVec;
 use svc_base::UnitId;
+use svc_base::limits::MAX_TASK_OUTPUT;
 use svc_core::Core;
 use svc_core_laws::End;
-
-/// The most words that one task puts out.
-pub const MAX_WAITING: usize = 64;
 
 /// The seat of an active task.
 #[derive(Drop)]
@@ -22,7 +20,7 @@ pub(crate) struct Seat {
     /// The entry at which it began.
     pub(crate) entry: u32,
     /// The words that it has put out, which wait for its commit.
-    pub(crate) waiting: ArrayVec<u32, MAX_WAITING>,
+    pub(crate) waiting: ArrayVec<u32, MAX_TASK_OUTPUT>,
     /// Where it stands.
     pub(crate) core: Core,
 }

@@ -1,7 +1,7 @@
 // What each operation, shift and branch gives on edge operands.
 
 use super::core_with;
-use crate::Ask;
+use crate::{Ask, End};
 
 // The numbers in x5 and x6.
 const OPERANDS: [(u32, u32); 4] = [
@@ -48,21 +48,24 @@ const RESULTS: [(u32, [u32; 4]); 32] = [
     (0x41F2D393, [0x0, 0xFFFFFFFF, 0xFFFFFFFF, 0xFFFFFFFF]),
 ];
 
+// What a first turn asks, x7 after it or for a branch the address after it, the count, and the end.
+fn turn(word: u32, x5: u32, x6: u32) -> (Ask, u32, u32, Option<End>) {
+    let mut core = core_with(0, x5, x6);
+    let ask = core.try_turn(Some(word));
+    let is_branch = word % 0x80 == 0x63;
+    let found = if is_branch { core.pc } else { core.regs[7] };
+    (ask, found, core.count, core.done)
+}
+
 #[test]
 fn operations_and_branches(rt: HostRuntime) {
     for (word, results) in &RESULTS {
-        for (at, (x5, x6)) in OPERANDS.iter().enumerate() {
-            let mut core = core_with(0, *x5, *x6);
-            let ask = core.try_turn(Some(*word));
-            assert_eq!(rt; ask, Ask::Nothing);
-            let is_branch = *word % 0x80 == 0x63;
-            let found = if is_branch { core.pc } else { core.regs[7] };
+        for ((x5, x6), found) in OPERANDS.iter().zip(results) {
             assert_eq!(rt;
-                results.get(at).copied(),
-                Some(found),
+                turn(*word, *x5, *x6),
+                (Ask::Nothing, *found, 1, None),
                 "{word:x} {x5:x} {x6:x}"
             );
-            assert_eq!(rt; (core.count, core.done), (1, None));
         }
     }
 }
@@ -92,14 +95,21 @@ const TARGETS: [(u32, u32, u32, u32, u32, u32); 14] = [
     (0xFFFF8F8F, 0x100, 1, 1, 0x104, 0),
 ];
 
+// What a first turn asks, the address after it and x7 then, the count, and the end.
+fn turn_at(pc: u32, word: u32, x5: u32, x6: u32) -> (Ask, (u32, u32), u32, Option<End>) {
+    let mut core = core_with(pc, x5, x6);
+    let ask = core.try_turn(Some(word));
+    (ask, (core.pc, core.regs[7]), core.count, core.done)
+}
+
 #[test]
 fn upper_immediates_and_jumps(rt: HostRuntime) {
     for (word, pc, x5, x6, next, x7) in &TARGETS {
-        let mut core = core_with(*pc, *x5, *x6);
-        let ask = core.try_turn(Some(*word));
-        assert_eq!(rt; ask, Ask::Nothing);
-        assert_eq!(rt; (core.pc, core.regs[7]), (*next, *x7), "{word:x}");
-        assert_eq!(rt; (core.count, core.done), (1, None));
+        assert_eq!(rt;
+            turn_at(*pc, *word, *x5, *x6),
+            (Ask::Nothing, (*next, *x7), 1, None),
+            "{word:x}"
+        );
     }
 }
 

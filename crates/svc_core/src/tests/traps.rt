@@ -1,6 +1,6 @@
 // Traps in their order; a turn that traps changes nothing but the count and the end.
 
-ghost use Rattle.std.specs.Prelude.{◌≡◌, None};
+ghost use Rattle.std.specs.Prelude.{◌≡◌, ◌≤◌, None};
 
 use super::core_with;
 use crate::{Ask, Core, End};
@@ -27,19 +27,32 @@ const ENDS: [(Option<u32>, u32, u32, u8, End); 14] = [
     (Some(0x00100073), 7, 1, 64, End::Trap(8)),
 ];
 
+// What a first turn asks, its end, and whether but for the end and the count the core is as it was.
+fn turn(word: Option<u32>, x10: u32, x17: u32, emitted: u8) -> (Ask, Option<End>, bool)
+    requires { emitted ≤ 64 }
+{
+    let mut core = core_with(0x100, 0, 0);
+    core.regs[10] = x10;
+    core.regs[17] = x17;
+    core.emitted = emitted;
+    let before = core;
+    let ask = core.try_turn(word);
+    let is_kept = core.pc == before.pc
+        && core.regs == before.regs
+        && core.emitted == before.emitted
+        && core.limit == before.limit;
+    (ask, core.done, core.count == 1 && is_kept)
+}
+
 #[test]
 fn ends_of_one_turn(rt: HostRuntime) {
     for (word, x10, x17, emitted, end) in &ENDS {
         if *emitted <= 64 {
-            let mut core = core_with(0x100, 0, 0);
-            core.regs[10] = *x10;
-            core.regs[17] = *x17;
-            core.emitted = *emitted;
-            let before = core;
-            let ask = core.try_turn(*word);
-            assert_eq!(rt; (ask, core.done), (Ask::Nothing, Some(*end)), "{word:?}");
-            assert!(rt; core.count == 1 && core.pc == before.pc && core.regs == before.regs);
-            assert!(rt; core.emitted == before.emitted && core.limit == before.limit);
+            assert_eq!(rt;
+                turn(*word, *x10, *x17, *emitted),
+                (Ask::Nothing, Some(*end), true),
+                "{word:?}"
+            );
         }
     }
 }
