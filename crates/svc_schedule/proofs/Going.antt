@@ -1,5 +1,5 @@
 -- A recorder whose run goes on: some unit's move is accepted.
-use Rattle.std.proofs.Common.{ℕ, suc, ◌≡◌, ◌≢◌, ◌<◌, ◌≤◌, ◌-◌, ◌^◌, ◌==◌, Bool, true, false, ◌&&◌, map, List, [], ◌∷◌, length, get_or, Option, Some, None, refl, sym, ap, ◌∙◌, subst, option_map, is_some, is_none, arith, ltb, inl, inr}
+use Rattle.std.proofs.Common.{ℕ, suc, ◌≡◌, ◌≢◌, ◌<◌, ◌-◌, ◌^◌, ◌==◌, Bool, true, false, ◌&&◌, map, List, [], ◌∷◌, length, get_or, Option, Some, None, refl, sym, ap, ◌∙◌, subst, option_map, is_some, is_none, arith, ltb, inl, inr}
 use Rattle.std.specs.Prelude.{nat_le, ◌||◌, ◌⊎◌, if◌then◌else◌}
 use Rattle.std.proofs.lemmas.Option.{none-some, same_Some}
 use Rattle.std.proofs.lemmas.Bool.{eq-eqb, lt-ltb}
@@ -30,7 +30,7 @@ use Rattle.svc_history_laws.proofs.Histories.{leads_on}
 use Rattle.svc_history.specs.declared.glance.Move.{Move}
 use Rattle.svc_history.specs.declared.glance.Move.TheVariants as move
 use Rattle.svc_history.specs.Glances.{has_ended}
-use Rattle.svc_history.specs.Moves.{in_run, with_task, without_task}
+use Rattle.svc_history.specs.Moves.{in_run, without_task}
 use Rattle.svc_history.specs.Recorded.{Recorded, IsLegal, standing_of}
 use Rattle.svc_schedule.specs.Moves.{Asks, IsBurstOf, IsPassed, move_of}
 use Rattle.svc_schedule.proofs.Accepting.{IsGoing, IsOwnBurst, is_at, assign_passes, commit_passes, replace_passes, submit_passes}

@@ -1,4 +1,5 @@
 pub mod Accepting
+pub mod Ending
 pub mod Epochs
 pub mod Going
 pub mod Making

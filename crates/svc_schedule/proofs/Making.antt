@@ -1,6 +1,6 @@
 -- What came of asking for a move.
-use Rattle.std.proofs.Common.{ℕ, zero, suc, ◌≡◌, ◌<◌, ◌∙◌, List, [], ◌∷◌, ◌++◌, length, take, drop, set, arith, Bool, true, false, Option, Some, None, Result, Ok, Err, refl, sym, ap, subst, inl, inr, is_some, is_ok}
-use Rattle.std.specs.Prelude.{◌⊎◌, if◌then◌else◌, All}
+use Rattle.std.proofs.Common.{ℕ, zero, suc, ◌≡◌, ◌<◌, ◌∙◌, List, [], ◌∷◌, ◌++◌, length, take, drop, set, arith, Bool, true, false, Option, Some, Result, Ok, Err, refl, sym, ap, subst, inl, inr, is_some, is_ok}
+use Rattle.std.specs.Prelude.{if◌then◌else◌, All}
 use Rattle.std.proofs.lemmas.List.{length-set}
 use Rattle.std.proofs.lemmas.List.Elements.{All-append, All-set}
 use Rattle.std.proofs.Math.Seq.{take-append_seam}

@@ -1,9 +1,8 @@
 -- The orders of the policies, a unit more at a time.
-use Rattle.std.proofs.Common.{ℕ, zero, suc, ◌≡◌, ◌<◌, ◌≤◌, ◌+◌, ◌%◌, Bool, true, false, map, List, [], ◌∷◌, ◌++◌, length, take, drop, refl, sym, ap, ◌∙◌, subst, arith}
+use Rattle.std.proofs.Common.{ℕ, suc, ◌≡◌, ◌≤◌, ◌+◌, ◌%◌, Bool, true, false, map, List, [], ◌∷◌, ◌++◌, length, take, drop, sym, ap, ◌∙◌, arith}
 use Rattle.std.specs.Prelude.{nat_le, if◌then◌else◌}
 use Rattle.std.specs.List.{insert}
-use Rattle.std.proofs.lemmas.List.{map-append, take-map, drop-map, length-map}
-use Rattle.std.proofs.lemmas.List.Edits.{length-insert}
+use Rattle.std.proofs.lemmas.List.{map-append, take-map, drop-map}
 use Rattle.svc_base.specs.declared.ids.UnitId.{UnitId}
 use Rattle.svc_schedule.specs.Orders.{around_by, by_rank, place_among}
 

@@ -1,5 +1,5 @@
 -- A unit's move: the event that it asks for.
-use Rattle.std.specs.Prelude.{◌≡◌, ◌⊎◌, ℕ, ◌<◌, ◌≤◌, true, List, [], ◌∷◌, ◌++◌, Option, None, Some, is_some}
+use Rattle.std.specs.Prelude.{◌≡◌, ◌⊎◌, ℕ, ◌<◌, ◌≤◌, true, [], ◌∷◌, ◌++◌, Option, None, Some, is_some}
 use Rattle.svc_base.specs.declared.config.Config.{Config}
 use Rattle.svc_base.specs.declared.ids.UnitId.{UnitId}
 use Rattle.svc_base.specs.declared.ids.WordAddr.{WordAddr}

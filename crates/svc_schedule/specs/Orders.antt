@@ -1,10 +1,9 @@
 -- The orders of the policies.
-use Rattle.std.specs.Prelude.{◌≡◌, ℕ, zero, suc, ◌+◌, ◌-◌, ◌%◌, ◌^◌, Bool, if◌then◌else◌, nat_le, List, [], ◌∷◌, ◌++◌, map, Option, None, Some, option_map, slice_get, length}
+use Rattle.std.specs.Prelude.{◌≡◌, ℕ, zero, suc, ◌+◌, ◌-◌, ◌%◌, ◌^◌, if◌then◌else◌, nat_le, List, [], ◌∷◌, ◌++◌, map, Option, None, Some, option_map, slice_get, length}
 use Rattle.std.specs.List.{insert}
 use Rattle.svc_base.specs.declared.ids.UnitId.{UnitId}
 use Rattle.svc_core.specs.declared.burst.Lease.{Lease}
 use Rattle.svc_machine.specs.Reads.{lease_of}
-use Rattle.svc_machine.specs.Value.{MachineValue}
 use Rattle.svc_history_laws.specs.declared.entry.Entry.{Entry}
 use Rattle.svc_history.specs.Recorded.{Recorded}
 use Rattle.rand_pcg.specs.Lcg.{Lcg, increment_of, started}

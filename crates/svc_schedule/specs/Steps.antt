@@ -1,9 +1,13 @@
 -- Steps of a run, and what a run of steps is.
-use Rattle.std.specs.Prelude.{◌≡◌, ◌⊎◌, ℕ, zero, suc, ◌≤◌, true, List, [], ◌∷◌, ◌++◌, length}
+use Rattle.std.specs.Prelude.{◌≡◌, ◌⊎◌, ℕ, zero, suc, ◌≤◌, Bool, true, false, List, [], ◌∷◌, ◌++◌, length}
 use Rattle.svc_base.specs.declared.config.Config.{Config}
 use Rattle.svc_base.specs.declared.ids.UnitId.{UnitId}
 use Rattle.svc_image.specs.Image.{Image}
-use Rattle.svc_history.specs.Glances.{has_ended}
+use Rattle.svc_core_laws.specs.declared.end.Ending.{Ending}
+use Rattle.svc_core_laws.specs.declared.end.Ending.TheVariants as ending
+use Rattle.svc_core_laws.specs.Sequence.{ending_of, plain_seq}
+use Rattle.svc_machine.specs.Reads.{is_full}
+use Rattle.svc_machine.specs.Value.{MachineValue}
 use Rattle.svc_history.specs.Recorded.{Recorded, IsLegal}
 use Rattle.svc_schedule.specs.declared.step.TheConstants.{EVERY_UNIT}
 use Rattle.svc_schedule.specs.Moves.{IsMade, IsPassed}
@@ -25,9 +29,19 @@ Steps Gives most zero old new opened led = (new ≡ old) × (led ≡ opened)
 Steps {P} Gives most (suc n) old new opened led =
     (before : P) × (there : Recorded) × (named : List UnitId) × Steps Gives most n old before opened there × IsLegal there × Gives before there named new × FirstMoves most there led (asked named)
 
+-- how a machine's run has ended, as `Machine::ending` tells it
+abbrev pub ending_at : MachineValue → Ending
+ending_at m = ending_of (is_full m) (plain_seq m.image m.plain.commits).stopped (plain_seq m.image m.plain.commits).due
+
+-- nothing is left to do: the ending is an exit, a trap or a full history
+abbrev pub is_over : Ending → Bool
+is_over (ending.Exit code) = true
+is_over (ending.Trap number) = true
+is_over (ending.Full due) = true
+is_over (ending.Open due) = false
+
 -- a scheduled run of this image and configuration: its history is legal, and each entry is that of one step of the
--- policy; the run has ended, by an exit, a trap or a full history, or it has as many steps as the configuration has
--- turns
+-- policy; its ending is an exit, a trap or a full history, or it has as many steps as the configuration has turns
 pub record IsScheduled {P : Type 0} (Gives : P → Recorded → List UnitId → P → Type 0) (img : Image) (config : Config) (most : ℕ) (old new : P) (r : Recorded) : Type 0 where
   pub image : r.machine.image ≡ img
   pub config_is : r.machine.config ≡ config
@@ -36,4 +50,4 @@ pub record IsScheduled {P : Type 0} (Gives : P → Recorded → List UnitId → 
   pub no_entries : opened.entries ≡ []
   pub steps : Steps Gives most (length r.entries) old new opened r
   pub few : length r.entries ≤ config.turns
-  pub gets_on : (has_ended r.machine ≡ true) ⊎ (length r.entries ≡ config.turns)
+  pub gets_on : (is_over (ending_at r.machine) ≡ true) ⊎ (length r.entries ≡ config.turns)

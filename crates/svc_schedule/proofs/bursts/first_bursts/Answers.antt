@@ -1,4 +1,4 @@
-use Rattle.std.proofs.Common.{rules, arith, ◌≡◌, ◌∷◌, ◌++◌, [], length, length-append, ap, sym, subst}
+use Rattle.std.proofs.Common.{rules, arith, ◌≡◌, ◌∷◌, ◌++◌, [], length, length-append, ap}
 use Rattle.svc_schedule.proofs.Making.{ready_more}
 use Rattle.svc_schedule.proofs.bursts.first_bursts.Goals as goal
 

@@ -1,10 +1,10 @@
-use Rattle.std.proofs.Common.{ℕ, suc, ◌≡◌, ◌+◌, ◌∙◌, List, length, subst, sym, ap, arith, inl, inr}
-use Rattle.svc_base.specs.declared.config.Config.{Config}
+use Rattle.std.proofs.Common.{ℕ, suc, ◌≡◌, ◌+◌, ◌∙◌, List, subst, sym, arith, inl, inr}
 use Rattle.svc_base.specs.declared.ids.UnitId.{UnitId}
 use Rattle.svc_image.specs.Image.{Image}
 use Rattle.svc_schedule.specs.Bursts.{AreReady}
 use Rattle.svc_schedule.specs.Steps.{FirstMoves, Steps, asked}
 use Rattle.svc_core_laws.specs.Bursts.{Advance}
+use Rattle.svc_schedule.proofs.Ending.{ended_is_over}
 use Rattle.svc_schedule.proofs.Making.{ready_back}
 use Rattle.svc_schedule.proofs.Stepping.{one_more}
 use Rattle.svc_schedule.proofs.run.run_schedule.Goals as goal
@@ -57,6 +57,6 @@ returns-clause-run g c =
       few = omega (arith, i.count);
       gets_on = elim c.loop-test.branch [
         | else-loop-test w ↦ inr (omega (arith, w.loop-test.false, i.count))
-        | then-loop-test+then-has_ended w ↦ inl (sym (w.if-has_ended.ensures {u = tt}).ended)
+        | then-loop-test+then-has_ended w ↦ inl (ended_is_over c.loop.recorder.machine (sym (w.if-has_ended.ensures {u = tt}).ended))
       ];
     }

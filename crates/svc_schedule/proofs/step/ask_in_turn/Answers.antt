@@ -1,4 +1,4 @@
-use Rattle.std.proofs.Common.{◌≡◌, ◌∙◌, get_or, subst, sym}
+use Rattle.std.proofs.Common.{◌∙◌, get_or, subst, sym}
 use Rattle.svc_base.specs.declared.ids.UnitId.{UnitId}
 use Rattle.svc_history.specs.Recorded.{Recorded}
 use Rattle.svc_schedule.specs.Bursts.{AreReady}

@@ -1,4 +1,4 @@
-use Rattle.std.proofs.Common.{◌≡◌, ◌∙◌, refl, sym}
+use Rattle.std.proofs.Common.{◌∙◌, refl, sym}
 use Rattle.svc_machine_laws.specs.Events.{Assign, Commit}
 use Rattle.svc_history.specs.declared.glance.Move.TheVariants as move
 use Rattle.svc_schedule.proofs.Making.{asked_made, asked_passed, move_is, ready_set}

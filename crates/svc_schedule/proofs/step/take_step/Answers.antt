@@ -1,4 +1,4 @@
-use Rattle.std.proofs.Common.{◌≡◌, subst, sym}
+use Rattle.std.proofs.Common.{subst, sym}
 use Rattle.svc_history.specs.Recorded.{Recorded}
 use Rattle.svc_schedule.specs.Bursts.{AreReady}
 use Rattle.svc_schedule.specs.declared.step.TheConstants.{EVERY_UNIT}
