@@ -1,0 +1,189 @@
+// The tasks of a history.
+
+ghost use Rattle.std.specs.Prelude.{◌≡◌, ◌+◌, ◌<◌, ◌≤◌, ◌++◌, ◌∷◌, [], OnOk, IfOk, IfErr, cond, map, length};
+ghost use Rattle.std.specs.List.{AllByRecursion, filter};
+ghost use Rattle.std.specs.Option.{option_to_list};
+ghost use Rattle.svc_base.specs.declared.config.TheConstants.{MAX_EVENTS};
+ghost use Rattle.svc_history_laws.specs.Board.{commits};
+ghost use Rattle.svc_report.specs.declared.error.ReportError.TheVariants.{Memory};
+ghost use Rattle.svc_view.specs.Bounds.{AreFew, IsLight};
+ghost use Rattle.svc_view.specs.Runs.{after, begun, goes_on, is_settled, no_runs, runs_of, step, tasks_of};
+ghost use Rattle.svc_view.specs.Seen.{seen};
+
+use crate::task_run::{Fate, TaskRun, turns_in};
+use std::alloc::Global;
+use std::mem;
+use svc_history_laws::{Entry, Kind};
+use svc_report::ReportError;
+
+/// The tasks of a history so far: those whose fate is decided, in the order in which it was, and the active ones,
+/// oldest first.
+#[derive(Drop)]
+pub(crate) struct TaskRuns {
+    pub(crate) commits: u64,
+    pub(crate) settled: Vec<TaskRun>,
+    pub(crate) active: Vec<TaskRun>,
+    // empty, with room for the active ones
+    pub(crate) spare: Vec<TaskRun>,
+}
+
+// Adds a task to a list where that holds.
+fn push_where(holds: bool, run: TaskRun, list: &mut Vec<TaskRun>) -> Result<(), ReportError>
+    ensures list { OnOk result (list.new.items ≡ list.old.items ++ cond holds (run ∷ []) []) }
+    ensures err { IfErr result (λ e. e ≡ Memory) }
+{
+    if holds {
+        list.push(run)?;
+    }
+    Ok(())
+}
+
+// Adds a task to a list, if there is one.
+fn push_some(run: Option<TaskRun>, list: &mut Vec<TaskRun>) -> Result<(), ReportError>
+    ensures list { OnOk result (list.new.items ≡ list.old.items ++ option_to_list run) }
+    ensures err { IfErr result (λ e. e ≡ Memory) }
+{
+    if let Some(run) = run {
+        list.push(run)?;
+    }
+    Ok(())
+}
+
+// One for a commit.
+fn commits_in(kind: Kind) -> u64
+    ensures value { result ≡ commits kind }
+    ensures few { result ≤ 1 }
+{
+    match kind {
+        Kind::Commit => 1,
+        Kind::Assign | Kind::Submit | Kind::Replace | Kind::Cancel => 0,
+    }
+}
+
+// Sorts the active tasks after an entry into those that go on and those whose fate it decided.
+fn sort_out(
+    active: &[TaskRun],
+    at: u64,
+    entry: &Entry,
+    going: &mut Vec<TaskRun>,
+    settled: &mut Vec<TaskRun>,
+) -> Result<(), ReportError>
+    requires few { at < MAX_EVENTS }
+    requires light { AllByRecursion (IsLight at) active.now }
+    requires empty { going.old.items ≡ [] }
+    ensures going { OnOk result (going.new.items ≡ filter goes_on (map (after at entry.now) active.now)) }
+    ensures settled { OnOk result (settled.new.items ≡ settled.old.items ++ filter is_settled (map (after at entry.now) active.now)) }
+    ensures err { IfErr result (λ e. e ≡ Memory) }
+{
+    for run in active {
+        let next = run.after(at, entry);
+        push_where(next.fate.is_active(), next, going)?;
+        push_where(!next.fate.is_active(), next, settled)?;
+    }
+    Ok(())
+}
+
+impl TaskRuns {
+    // No tasks.
+    fn none(alloc: Global) -> TaskRuns
+        ensures none { seen result ≡ no_runs }
+        ensures spare { result.spare.items ≡ [] }
+    {
+        TaskRuns {
+            commits: 0,
+            settled: Vec::new(alloc),
+            active: Vec::new(alloc),
+            spare: Vec::new(alloc),
+        }
+    }
+
+    // The task that the entry begins, if it is an assignment.
+    fn begun(&self, at: u64, entry: &Entry) -> Option<TaskRun>
+        requires few { AreFew at (seen self.now) }
+        requires inside { at < MAX_EVENTS }
+        ensures { option_to_list result ≡ begun entry.now.kind at entry.now (seen self.now) }
+    {
+        let number = self.commits + self.active.len() as u64;
+        match entry.kind {
+            Kind::Assign => Some(TaskRun {
+                number,
+                unit: entry.unit,
+                entry: entry.word.unwrap_or(0),
+                first: at,
+                last: None,
+                turns: 0,
+                loads: 0,
+                stores: 0,
+                fate: Fate::Active,
+            }),
+            Kind::Submit | Kind::Replace | Kind::Cancel | Kind::Commit => None,
+        }
+    }
+
+    // The entry at an index.
+    #[tactic(auto, unfolding(crate::specs::Runs::step))]
+    fn step(&mut self, at: u64, entry: &Entry) -> Result<(), ReportError>
+        requires few { AreFew at (seen self.old) }
+        requires inside { at < MAX_EVENTS }
+        requires spare { self.old.spare.items ≡ [] }
+        ensures step { OnOk result (seen self.new ≡ step at entry.now (seen self.old)) }
+        ensures spare { OnOk result (self.new.spare.items ≡ []) }
+        ensures err { IfErr result (λ e. e ≡ Memory) }
+    {
+        let begun = self.begun(at, entry);
+        sort_out(&self.active, at, entry, &mut self.spare, &mut self.settled)?;
+        mem::swap(&mut self.active, &mut self.spare);
+        self.spare.clear();
+        push_some(begun, &mut self.active)?;
+        self.commits += commits_in(entry.kind);
+        Ok(())
+    }
+
+    // The tasks of a history.
+    fn of(alloc: Global, entries: &[Entry]) -> Result<TaskRuns, ReportError>
+        requires few { length entries.now ≤ MAX_EVENTS }
+        ensures runs { IfOk result (λ runs. seen runs ≡ runs_of entries.now) }
+        ensures few { IfOk result (λ runs. AreFew (length entries.now) (seen runs)) }
+        ensures err { IfErr result (λ e. e ≡ Memory) }
+    {
+        let mut runs = TaskRuns::none(alloc);
+        for index in 0..entries.len() {
+            let entry = &entries[index];
+            // what the entry's type keeps: it took over few turns
+            let _turns = turns_in(entry);
+            runs.step(index as u64, entry)?;
+        }
+        Ok(runs)
+    }
+
+    // The tasks in one list.
+    fn into_tasks(self) -> Result<Vec<TaskRun>, ReportError>
+        ensures tasks { IfOk result (λ runs. runs.items ≡ self.settled.items ++ self.active.items) }
+        ensures err { IfErr result (λ e. e ≡ Memory) }
+    {
+        let TaskRuns {
+            commits: _,
+            settled: mut tasks,
+            active,
+            spare: _,
+        } = self;
+        tasks.extend_from_slice(&active)?;
+        Ok(tasks)
+    }
+}
+
+/// The tasks of a history: those whose fate is decided, in the order in which it was, and then the active ones, oldest
+/// first.
+///
+/// Errors: [`ReportError::Memory`].
+pub fn tasks_of(alloc: Global, entries: &[Entry]) -> Result<Vec<TaskRun>, ReportError>
+    requires few { length entries.now ≤ MAX_EVENTS }
+    ensures tasks { IfOk result (λ tasks. tasks.items ≡ tasks_of entries.now) }
+    ensures few { IfOk result (λ tasks. length tasks.items ≤ MAX_EVENTS) }
+    ensures light { IfOk result (λ tasks. AllByRecursion (IsLight MAX_EVENTS) tasks.items) }
+    ensures err { IfErr result (λ e. e ≡ Memory) }
+{
+    let runs = TaskRuns::of(alloc, entries)?;
+    let tasks = runs.into_tasks()?;
+    Ok(tasks)
+}

@@ -1,0 +1,179 @@
+// A task that a history begins.
+
+ghost use Rattle.std.specs.Prelude.{◌≡◌, ◌+◌, ◌<◌, ◌^◌, None, Some, cond};
+ghost use Rattle.svc_view.specs.Bounds.{work};
+ghost use Rattle.svc_view.specs.Runs.{after, ran, fate_after, fate_of, goes_on, is_active, is_load, is_not_above, is_number, is_store, is_submit_of, turns_in};
+
+use svc_base::UnitId;
+use svc_history_laws::{CutKind, Entry, Kind, ReplyKind};
+
+/// What became of a task.
+#[derive(Clone, Copy, Debug, PartialEq, Eq)]
+pub enum Fate {
+    /// It is active still.
+    Active,
+    /// It was committed.
+    Committed,
+    /// It was squashed with the first of tasks that had read a word too early.
+    Violation,
+    /// It was squashed with the first of tasks that had begun at a wrong guess.
+    Guess,
+    /// It was squashed with the first of tasks that was cancelled.
+    Cancel,
+}
+
+impl Fate {
+    /// Whether the task is active still.
+    pub fn is_active(self) -> bool
+        ensures { result ≡ is_active self }
+    {
+        match self {
+            Fate::Active => true,
+            _ => false,
+        }
+    }
+}
+
+/// A task that a history begins: what it did, and what became of it. Entries are counted from 0.
+#[derive(Clone, Copy, Debug, PartialEq, Eq)]
+pub struct TaskRun {
+    /// Its number: how many tasks before it were committed or active when it began.
+    pub number: u64,
+    /// The unit that ran it.
+    pub unit: UnitId,
+    /// The entry at which it began, a byte address.
+    pub entry: u32,
+    /// The entry of its assignment.
+    pub first: u64,
+    /// The entry that decided its fate, if one did.
+    pub last: Option<u64>,
+    /// The turns that were taken over.
+    pub turns: u64,
+    /// How many of these loaded.
+    pub loads: u64,
+    /// How many of these stored.
+    pub stores: u64,
+    /// What became of it.
+    pub fate: Fate,
+}
+
+// The turns that an entry took over.
+pub(crate) fn turns_in(entry: &Entry) -> u64
+    ensures value { result ≡ turns_in entry.now }
+    ensures few { result < 2 ^ 9 }
+{
+    u64::from(entry.local.unwrap_or(0)) + u64::from(entry.ask.unwrap_or(false))
+}
+
+// One for a reply that loaded.
+fn loads_in(entry: &Entry) -> bool
+    ensures { result ≡ is_load entry.now.reply }
+{
+    match entry.reply {
+        ReplyKind::Loaded => true,
+        _ => false,
+    }
+}
+
+fn stores_in(entry: &Entry) -> bool
+    ensures { result ≡ is_store entry.now.reply }
+{
+    match entry.reply {
+        ReplyKind::Stored => true,
+        _ => false,
+    }
+}
+
+// The fate of tasks that are squashed for this cause.
+fn fate_of(cause: Option<CutKind>) -> Fate
+    ensures { result ≡ fate_of cause }
+{
+    match cause {
+        None => Fate::Active,
+        Some(CutKind::Violation) => Fate::Violation,
+        Some(CutKind::Guess) => Fate::Guess,
+        Some(CutKind::Cancel) => Fate::Cancel,
+    }
+}
+
+// The number is there, and is this one.
+fn is_number(told: Option<u32>, number: u64) -> bool
+    ensures { result ≡ is_number told number }
+{
+    match told {
+        Some(told) => u64::from(told) == number,
+        None => false,
+    }
+}
+
+// The number is there, and is not above this one.
+fn is_not_above(told: Option<u32>, number: u64) -> bool
+    ensures { result ≡ is_not_above told number }
+{
+    match told {
+        Some(told) => u64::from(told) <= number,
+        None => false,
+    }
+}
+
+// The entry that decided a fate, where it is decided.
+fn last_by(fate: Fate, at: u64) -> Option<u64>
+    ensures { result ≡ cond (is_active fate) None (Some at) }
+{
+    if fate.is_active() { None } else { Some(at) }
+}
+
+impl TaskRun {
+    // The entry is a submit of the task.
+    fn is_of(&self, entry: &Entry) -> bool
+        ensures { result ≡ is_submit_of entry.now self.now }
+    {
+        match entry.kind {
+            Kind::Submit => entry.unit.0 == self.unit.0,
+            _ => false,
+        }
+    }
+
+    // What becomes of the task by the entry.
+    fn fate_after(&self, entry: &Entry) -> Fate
+        ensures { result ≡ fate_after entry.now self.now }
+    {
+        if is_not_above(entry.first, self.number) {
+            return fate_of(entry.cause);
+        }
+        match entry.kind {
+            Kind::Commit if is_number(entry.word, self.number) => Fate::Committed,
+            _ => Fate::Active,
+        }
+    }
+
+    // The active task with so much more done.
+    fn run_on(&self, entry: &Entry) -> TaskRun
+        requires { work self.now + 514 < 2 ^ 64 }
+        ensures { result ≡ ran entry.now self.now }
+    {
+        if !self.is_of(entry) {
+            return *self;
+        }
+        TaskRun {
+            turns: self.turns + turns_in(entry),
+            loads: self.loads + u64::from(loads_in(entry)),
+            stores: self.stores + u64::from(stores_in(entry)),
+            ..*self
+        }
+    }
+
+    /// The active task after the entry at this index.
+    pub(crate) fn after(&self, at: u64, entry: &Entry) -> TaskRun
+        requires { work self.now + 514 < 2 ^ 64 }
+        ensures { result ≡ after at entry.now self.now }
+    {
+        let fate = self.fate_after(entry);
+        let last = last_by(fate, at);
+        TaskRun {
+            last,
+            fate,
+            ..self.run_on(entry)
+        }
+    }
+}
