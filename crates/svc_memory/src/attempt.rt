@@ -1,0 +1,52 @@
+//! What may be seen of a call.
+
+/// Why an attempt at a call has no answer.
+#[derive(Clone, Copy)]
+pub enum Refused {
+    /// Memory was refused before the call.
+    Before,
+    /// The call told that memory was refused.
+    Told,
+}
+
+/// An attempt at a call: whether it answered rightly, or why it has no answer.
+pub type Attempt = Result<bool, Refused>;
+
+/// What was seen of a call.
+#[derive(Clone, Copy)]
+pub enum Seen {
+    /// Memory was refused before the call.
+    Before,
+    /// The call told that memory was refused, and answered rightly once there was enough.
+    Told,
+    /// No request for memory was refused, and the call answered rightly.
+    Ample,
+    /// A request for memory was refused in the call, and it answered as if none had been.
+    Untold,
+    /// The call answered wrongly.
+    Wrong,
+    /// There is no call of this name.
+    Unknown,
+}
+
+impl Seen {
+    /// The word by which it is told.
+    pub fn word(self) -> &'static str {
+        match self {
+            Seen::Before => "before",
+            Seen::Told => "told",
+            Seen::Ample => "ample",
+            Seen::Untold => "untold",
+            Seen::Wrong => "wrong",
+            Seen::Unknown => "unknown",
+        }
+    }
+}
+
+/// What is made ready for a call.
+pub fn ready<T: Drop, E: Drop>(made: Result<T, E>) -> Result<T, Refused> {
+    match made {
+        Ok(value) => Ok(value),
+        Err(_) => Err(Refused::Before),
+    }
+}

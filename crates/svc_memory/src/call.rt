@@ -1,0 +1,53 @@
+//! The calls, by their names.
+
+use crate::attempt::{Attempt, Refused, Seen};
+use crate::{images, machines, program, texts, threads};
+use std::sync::Wait;
+use std::thread::Threads;
+
+// Makes the call of this name; none where no call has it.
+fn attempt<R: Threads + Wait + Sync + AllocGlobal>(rt: &R, name: &str) -> Option<Attempt> {
+    let alloc = rt.alloc();
+    let attempt = match name {
+        "image_read" => images::read(alloc),
+        "image_read_front" => images::read_front(alloc),
+        "image_read_second" => images::read_second(alloc),
+        "image_write" => images::write(alloc),
+        "image_copy" => images::copy(alloc),
+        "image_upgrade" => images::upgrade(alloc),
+        "run_tasks" => images::run_in_order(alloc),
+        "machine_open" => machines::open(alloc),
+        "machine_open_from" => machines::open_from(alloc),
+        "drive" => machines::driven(alloc),
+        "recorder_open" => machines::record(alloc),
+        "check_trace" => machines::check(alloc),
+        "run_schedule" => machines::scheduled(alloc),
+        "write_trace" => texts::write_history(alloc),
+        "write_entry" => texts::write_row(alloc),
+        "write_summary" => texts::write_end(alloc),
+        "read_trace" => texts::read_history(alloc),
+        "read_script" => texts::read_events(alloc),
+        "run_unit" => threads::run_alone(rt, alloc),
+        "seq" => program::seq(rt),
+        "script" => program::script(rt),
+        "check" => program::check(rt),
+        "run" => program::run(rt),
+        "schedule" => program::schedule(rt),
+        _ => return None,
+    };
+    Some(attempt)
+}
+
+/// Makes the call of this name, and once more where it told that memory was refused.
+pub fn seen<R: Threads + Wait + Sync + AllocGlobal>(rt: &R, name: &str) -> Seen {
+    match attempt(rt, name) {
+        None => Seen::Unknown,
+        Some(Ok(true)) => Seen::Ample,
+        Some(Ok(false)) => Seen::Wrong,
+        Some(Err(Refused::Before)) => Seen::Before,
+        Some(Err(Refused::Told)) => match attempt(rt, name) {
+            Some(Ok(true)) => Seen::Told,
+            _ => Seen::Wrong,
+        },
+    }
+}

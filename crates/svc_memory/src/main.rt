@@ -1,0 +1,55 @@
+//! What each call that takes memory answers where one of its requests is refused. Which one is up to whoever runs this:
+//! `rt try --fail-alloc N` refuses the Nth of all requests, and each line of standard input names a call and how many
+//! requests are made before it. After a name alone memory is taken to be ample.
+#![tactic(auto)]
+
+mod attempt;
+mod call;
+mod history;
+mod images;
+mod machines;
+mod program;
+mod requests;
+mod texts;
+mod threads;
+mod wanted;
+
+use attempt::Seen;
+use call::seen;
+use requests::refused_within;
+use std::io;
+use std::sync::Wait;
+use std::thread::Threads;
+
+/// More requests than are made before any call.
+const AFTER: u32 = 2_000;
+
+fn main(rt: HostRuntime) -> io::Result<()> {
+    for line in rt.lines(rt.alloc()) {
+        println!(rt; "{}", answer(&rt, line?.as_str()))?;
+    }
+    Ok(())
+}
+
+// What is seen of the call that a line names.
+fn answer<R: Threads + Wait + Sync + AllocGlobal>(rt: &R, line: &str) -> &'static str {
+    let (name, before) = match line.split_once(' ') {
+        Some((name, before)) => (name, before.parse::<u32>().ok()),
+        None => (line, None),
+    };
+    match before {
+        Some(before) => seen_after(rt, name, before).word(),
+        None => seen(rt, name).word(),
+    }
+}
+
+// What is seen of a call after so many other requests for memory, where one of all requests is refused.
+fn seen_after<R: Threads + Wait + Sync + AllocGlobal>(rt: &R, name: &str, before: u32) -> Seen {
+    if refused_within(rt.alloc(), before) {
+        return Seen::Before;
+    }
+    match seen(rt, name) {
+        Seen::Ample if !refused_within(rt.alloc(), AFTER) => Seen::Untold,
+        other => other,
+    }
+}

@@ -1,0 +1,135 @@
+//! The program, by its words and by what is asked of it, over files in memory.
+
+ghost use Rattle.std.specs.Prelude.{◌≡◌, nat_eq, true, Ok, IfErr};
+ghost use Rattle.std.specs.List.{starts_with};
+
+use crate::attempt::{Attempt, Refused, ready};
+use crate::texts::{EVENTS, TRACE};
+use crate::wanted::{CHECK, RUN, SCHEDULE, SCRIPT, SEQ};
+use std::alloc::{AllocError, Global};
+use std::sync::Wait;
+use std::thread::Threads;
+use svc_base::Config;
+use svc_command::execute;
+use svc_image::samples::P;
+use svc_program::{FileFault, Files, Order, Request, Schedule, Source, perform, tell};
+
+// The files that the words name. What is saved is as if it had gone to a disk.
+#[derive(Drop)]
+struct Samples {
+    alloc: Global,
+}
+
+impl Files for Samples {
+    fn load(&mut self, name: &str) -> Result<Vec<u8>, FileFault> {
+        let bytes = match name {
+            "p" => P.as_slice(),
+            "events" => EVENTS.as_bytes(),
+            "trace" => TRACE.as_bytes(),
+            _ => return Err(FileFault),
+        };
+        Vec::from_slice(self.alloc, bytes).map_err(|_| FileFault)
+    }
+
+    fn save(&mut self, _name: &str, _bytes: &[u8]) -> Result<(), FileFault> {
+        Ok(())
+    }
+}
+
+// What the program has printed and ended with is right, or it has told of a fault and printed a beginning of that.
+fn judged(status: u8, out: &[u8], err: &[u8], wanted: &str) -> Attempt
+    ensures right { result ≡ Ok true → (status ≡ 0) × (out.now ≡ wanted.now) }
+    ensures told { IfErr result (λ _. (status ≡ 1) × (starts_with nat_eq wanted.now out.now ≡ true)) }
+{
+    if status == 0 {
+        Ok(err.is_empty() && out == wanted.as_bytes())
+    } else if status == 1 && !err.is_empty() && wanted.as_bytes().starts_with(out) {
+        Err(Refused::Told)
+    } else {
+        Ok(false)
+    }
+}
+
+// The words that ask for both tasks in order, the program's name first.
+fn words(alloc: Global) -> Result<Vec<String>, AllocError> {
+    let mut line = Vec::new(alloc);
+    for word in ["svcsim", "seq", "p", "--tasks", "2"] {
+        line.push(String::from_str(alloc, word)?)?;
+    }
+    Ok(line)
+}
+
+/// Both tasks are run in order, as the words of a command line say.
+pub fn seq<R: Threads + Wait + Sync + AllocGlobal>(rt: &R) -> Attempt {
+    let alloc = rt.alloc();
+    let words = ready(words(alloc))?;
+    let mut out = Vec::new(alloc);
+    let mut err = Vec::new(alloc);
+    let status = execute(
+        rt,
+        alloc,
+        &words,
+        &mut Samples { alloc },
+        &mut out,
+        &mut err,
+    );
+    judged(status, &out, &err, SEQ)
+}
+
+// Does what is asked for, which prints this.
+fn asked<R: Threads + Wait + Sync + AllocGlobal>(
+    rt: &R,
+    request: Request<'_>,
+    wanted: &str,
+) -> Attempt {
+    let alloc = rt.alloc();
+    let mut out = Vec::new(alloc);
+    let mut err = Vec::new(alloc);
+    let status = match perform(rt, alloc, request, &mut Samples { alloc }, &mut out) {
+        Ok(status) => status,
+        Err(fault) => tell(&fault, &mut err),
+    };
+    judged(status, &out, &err, wanted)
+}
+
+/// Ten events are done.
+pub fn script<R: Threads + Wait + Sync + AllocGlobal>(rt: &R) -> Attempt {
+    let request = Request::Script {
+        image: Source::File("p"),
+        config: ready(Config::new(4, 16, 2, 10, 1))?,
+        events: "events",
+    };
+    asked(rt, request, SCRIPT)
+}
+
+/// The trace of ten events is checked.
+pub fn check<R: Threads + Wait + Sync + AllocGlobal>(rt: &R) -> Attempt {
+    let request = Request::Check {
+        image: Source::File("p"),
+        config: ready(Config::new(4, 16, 2, 10, 1))?,
+        trace: "trace",
+    };
+    asked(rt, request, CHECK)
+}
+
+/// One task is run by a unit in a thread, and its trace is saved.
+pub fn run<R: Threads + Wait + Sync + AllocGlobal>(rt: &R) -> Attempt {
+    let request = Request::Run {
+        image: Source::BuiltIn,
+        config: ready(Config::new(1, 16, 2, 100, 1000))?,
+        schedule: None,
+        trace: Some("saved"),
+    };
+    asked(rt, request, RUN)
+}
+
+/// Two tasks are run by four units in one thread, the youngest task first, and the trace is saved.
+pub fn schedule<R: Threads + Wait + Sync + AllocGlobal>(rt: &R) -> Attempt {
+    let request = Request::Run {
+        image: Source::File("p"),
+        config: ready(Config::new(4, 16, 2, 100, 1000))?,
+        schedule: Schedule::new(Order::Youngest, 63),
+        trace: Some("saved"),
+    };
+    asked(rt, request, SCHEDULE)
+}
