@@ -1,13 +1,15 @@
--- A run that was reported is the run that was asked for.
+-- What was reported is what was asked for: a run, and what a trace cost.
 use Rattle.std.specs.Prelude.{IfOk, IfSome}
 use Rattle.std.proofs.Common.{◌≡◌, ◌∙◌, refl, ℕ, List, Option, Some, None, Result, Ok, Err, Bor}
 use Rattle.svc_base.specs.declared.config.Config.{Config}
 use Rattle.svc_image.specs.Image.{Image}
+use Rattle.svc_history_laws.specs.declared.entry.Entry.{Entry}
 use Rattle.svc_history.specs.Recorded.{Recorded}
 use Rattle.svc_program.specs.declared.request.Schedule.{Schedule}
 use Rattle.svc_program.specs.declared.request.Source.{Source}
 use Rattle.svc_program.specs.declared.request.Request.TheVariants as request
-use Rattle.svc_program.specs.Requests.{Does, IsOfSource, KeepsFiles, SavesTrace}
+use Rattle.svc_program.specs.Costs.{TellsCost}
+use Rattle.svc_program.specs.Requests.{Does, IsOfSource, IsTraceIn, KeepsFiles, SavesTrace}
 use Rattle.svc_program.specs.Runs.{GoesBy, IsRunOf, ReportsOn}
 
 pub run_done : {E : Type 0} (r : Result ℕ E) (from : Source) (config : Config) (schedule : Option Schedule) (trace : Option (Bor (List ℕ))) (img : Image) (run : Recorded) (held saved : List ℕ → Option (List ℕ)) (old new : Option (List ℕ))
@@ -21,3 +23,12 @@ pub run_keeps_files : (from : Source) (config : Config) (schedule : Option Sched
     → loaded ≡ held → (trace ≡ None → saved ≡ loaded) → KeepsFiles (request.Run from config schedule trace) held saved
 run_keeps_files from config schedule None held loaded saved kept unsaved = unsaved refl ∙ kept
 run_keeps_files from config schedule (Some name) held loaded saved kept unsaved = tt
+
+-- the trace is read from the files as the loading of the image left them
+pub profile_done : {E : Type 0} (r : Result ℕ E) (from : Source) (config : Config) (trace : Bor (List ℕ))
+    (img : Image) (es : List Entry) (held loaded saved : List ℕ → Option (List ℕ)) (old new : Option (List ℕ))
+    → loaded ≡ held → IsOfSource held from img → IsTraceIn loaded trace.now es
+    → IfOk r (TellsCost img config es old new) → IfOk r (Does (request.Profile from config trace) held saved old new)
+profile_done (Ok exit) from config trace img es held loaded saved old new kept image is_trace told =
+    let read : IsTraceIn held trace.now es = rw (← kept) is_trace in (img, image, es, read, told)
+profile_done (Err e) from config trace img es held loaded saved old new kept image is_trace told = tt

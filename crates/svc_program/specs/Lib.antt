@@ -1,4 +1,5 @@
 pub mod Faults
 pub mod Requests
 pub mod Runs
+pub mod Costs
 pub mod Scripts

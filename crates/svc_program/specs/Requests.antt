@@ -17,6 +17,7 @@ use Rattle.svc_program.specs.declared.request.Source.TheVariants as source
 use Rattle.svc_program.specs.declared.request.Request.{Request}
 use Rattle.svc_program.specs.declared.request.Request.TheVariants as request
 use Rattle.svc_program.specs.declared.request.TheConstants.{VERSION}
+use Rattle.svc_program.specs.Costs.{TellsCost}
 use Rattle.svc_program.specs.Runs.{FindsSound, GoesBy, IsRunOf, Reports, ReportsOn}
 use Rattle.svc_program.specs.Scripts.{PlaysScript}
 
@@ -59,6 +60,9 @@ Does (request.Script from config events) held saved old new exit =
     (img : Image) × IsOfSource held from img × (steps : List Step) × IsScriptIn held events.now steps × PlaysScript img config steps old new exit
 Does (request.Check from config trace) held saved old new exit =
     (img : Image) × IsOfSource held from img × (es : List Entry) × IsTraceIn held trace.now es × FindsSound img config es old new exit
+Does (request.Profile from config trace) held saved old new exit =
+    (img : Image) × IsOfSource held from img
+    × (es : List Entry) × IsTraceIn held trace.now es × TellsCost img config es old new exit
 
 -- there is the image that is asked for
 abbrev pub HasImage : Request → (held : List ℕ → Option (List ℕ)) → Type 0
@@ -68,6 +72,7 @@ HasImage (request.Run from config schedule trace) held = (img : Image) × IsOfSo
 HasImage (request.Sequential from k) held = (img : Image) × IsOfSource held from img
 HasImage (request.Script from config events) held = (img : Image) × IsOfSource held from img
 HasImage (request.Check from config trace) held = (img : Image) × IsOfSource held from img
+HasImage (request.Profile from config trace) held = (img : Image) × IsOfSource held from img
 
 -- no file is changed but by a run whose trace is to be saved
 abbrev pub KeepsFiles : Request → (held saved : List ℕ → Option (List ℕ)) → Type 0

@@ -8,6 +8,7 @@ use crate::check::check;
 use crate::faults::Fault;
 use crate::files::Files;
 use crate::load::{load_image, load_script, load_trace, save_trace};
+use crate::profile::profile;
 use crate::request::{Request, VERSION};
 use crate::run::run_image;
 use crate::script::script;
@@ -70,6 +71,15 @@ pub fn perform<R: Threads + Wait + Sync, F: Files, O: Write>(
             let image = load_image(alloc, image, files)?;
             let entries = load_trace(alloc, trace, files)?;
             check(alloc, &image, config, &entries, out)
+        }
+        Request::Profile {
+            image,
+            config,
+            trace,
+        } => {
+            let image = load_image(alloc, image, files)?;
+            let entries = load_trace(alloc, trace, files)?;
+            profile(alloc, &image, config, &entries, out)
         }
     }
 }

@@ -6,6 +6,7 @@ mod dispatch;
 mod faults;
 mod files;
 mod load;
+mod profile;
 mod request;
 mod run;
 mod script;

@@ -87,4 +87,10 @@ pub enum Request<'a> {
         config: Config,
         trace: &'a str,
     },
+    /// To replay a trace so, and to tell what its speculation cost.
+    Profile {
+        image: Source<'a>,
+        config: Config,
+        trace: &'a str,
+    },
 }
