@@ -1,9 +1,11 @@
-// Files of the disk.
+// Files of the disk, and words that are no text.
 
-use crate::disk::Disk;
+use crate::disk::{Disk, words_of};
+use std::env::FillError;
 use std::fs;
+use std::rt::Env;
 use std::test::Fail;
-use svc_program::Files;
+use svc_program::{Fault, Files};
 
 const NAME: &str = "saved-by-a-test.csv";
 
@@ -18,5 +20,37 @@ fn a_saved_file_is_loaded(rt: HostRuntime) -> Result<(), Fail> {
     assert_eq!(rt; bytes.as_slice(), b"kind,unit\n".as_slice());
     fs::remove_file(&rt, NAME)?;
     assert!(rt; disk.save("no-such-folder/file", b"").is_err());
+    Ok(())
+}
+
+// A command line of three words, of which the second is no UTF-8.
+#[derive(Drop)]
+struct Spoiled;
+
+impl Env for Spoiled {
+    fn arg(&self, i: usize, buf: &mut [u8]) -> Result<usize, FillError> {
+        if i > 2 {
+            return Err(FillError::NotPresent);
+        }
+        let Some(byte) = buf.first_mut() else {
+            return Err(FillError::TooLong);
+        };
+        *byte = if i == 1 { 0xFF } else { b'a' };
+        Ok(1)
+    }
+
+    fn var(&self, _name: &str, _buf: &mut [u8]) -> Result<usize, FillError> {
+        Err(FillError::NotPresent)
+    }
+
+    fn var_at(&self, _i: usize, _buf: &mut [u8]) -> Result<usize, FillError> {
+        Err(FillError::NotPresent)
+    }
+}
+
+#[test]
+fn words_that_are_no_text_are_told(rt: HostRuntime) -> Result<(), Fail> {
+    let told = matches!(words_of(&(Spoiled, rt.alloc())), Err(Fault::File));
+    assert!(rt; told);
     Ok(())
 }
