@@ -112,6 +112,14 @@ It prints sound,N for the N rows of a sound trace. Else it names the first fault
 trace fault K at entry I. K is 1 where memory ran out, 2 where the row's event is refused there, and 3
 where the event is answered otherwise. Give the options that the trace was made with.";
 
+const PROFILE: &str =
+    "Replays a trace as check does, and prints what its speculation cost: rows of a name and a count.
+
+It prints how many events and tasks there were, and how many tasks were committed, squashed for each cause,
+and are active still; the turns, loads and stores of committed, of squashed and of active tasks; how many
+reads each supplier served; and how many lines were replaced. Of a faulty trace it tells the first fault,
+as check does, and no count. Give the options that the trace was made with.";
+
 /// The whole command line.
 pub fn command<'a>(alloc: Global) -> Result<Command<'a>, AllocError> {
     Command::new(alloc, "svcsim")
@@ -125,7 +133,8 @@ pub fn command<'a>(alloc: Global) -> Result<Command<'a>, AllocError> {
         .subcommand(run(alloc)?)?
         .subcommand(sequential(alloc)?)?
         .subcommand(script(alloc)?)?
-        .subcommand(check(alloc)?)
+        .subcommand(check(alloc)?)?
+        .subcommand(profile(alloc)?)
 }
 
 // `run`: the simulator.
@@ -160,6 +169,17 @@ fn check<'a>(alloc: Global) -> Result<Command<'a>, AllocError> {
     let command = Command::new(alloc, "check")
         .about("Replays a trace, and says whether it is sound")
         .long_about(CHECK)
+        .after_help(STATUSES)
+        .arg(image(alloc))?
+        .arg(file(alloc, "TRACE").help("The trace's file"))?;
+    with_configuration(alloc, command)
+}
+
+// `profile`: what the speculation of a trace cost.
+fn profile<'a>(alloc: Global) -> Result<Command<'a>, AllocError> {
+    let command = Command::new(alloc, "profile")
+        .about("Replays a trace, and counts what its speculation cost")
+        .long_about(PROFILE)
         .after_help(STATUSES)
         .arg(image(alloc))?
         .arg(file(alloc, "TRACE").help("The trace's file"))?;

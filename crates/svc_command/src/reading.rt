@@ -120,6 +120,11 @@ fn asked<'a>(
             config: configuration(given)?,
             trace: given.get_str("TRACE").ok_or(Fault::File)?,
         }),
+        Some(("profile", given)) if is_named(words, "profile") => Ok(Request::Profile {
+            image: image(given)?,
+            config: configuration(given)?,
+            trace: given.get_str("TRACE").ok_or(Fault::File)?,
+        }),
         // The parser reads no other subcommand, and no line that begins otherwise.
         _ => Err(Fault::File),
     }

@@ -57,7 +57,7 @@ fn help_explains_each_option(rt: HostRuntime) -> Result<(), Fail> {
         "--turns <N>",
         "[default: 1000000]",
     ];
-    for subcommand in ["run", "script", "check"] {
+    for subcommand in ["run", "script", "check", "profile"] {
         let text = printed(&rt, &[subcommand, "--help"])?;
         let text = str::from_utf8(&text).map_err(|_| Fail::from("no text"))?;
         for part in parts {
