@@ -43,4 +43,4 @@ over full (Some (end.Trap number)) due known ended = refl
 pub ended_is_over : (m : MachineValue) → has_ended m ≡ true → is_over (ending_at m) ≡ true
 ended_is_over m ended =
     over (is_full m) (plain_seq m.image m.plain.commits).stopped (plain_seq m.image m.plain.commits).due
-        (seq_stops m.image m.plain.commits) ended
+    (seq_stops m.image m.plain.commits) ended
