@@ -6,11 +6,10 @@ use Rattle.svc_base.specs.declared.served.Served.{Served}
 use Rattle.svc_base.specs.declared.served.Served.TheVariants.{Hit, Reuse, Version, Spill, Committed, Memory}
 use Rattle.svc_cache.specs.declared.probes.Probes.{Probes}
 use Rattle.svc_cache.specs.Places.{CacheValue}
-use Rattle.svc_bus_laws.specs.LineTable.{is_committed_dirty}
-use Rattle.svc_retire.specs.Caches.{SameSizes}
-use Rattle.svc_retire.specs.Purges.{HasRoomFor, CountsSearches}
+use Rattle.svc_vol.specs.Lines.{is_committed_version}
+use Rattle.svc_retire.specs.Caches.{held_line, SameSizes}
+use Rattle.svc_retire.specs.Purges.{is_purged, purges, HasRoomFor, CountsSearches}
 use Rattle.svc_retire.proofs.Counts.{how_many_within, how_many_room}
-use Rattle.svc_bus.specs.Numbers.{line_in, is_purged, purges}
 use Rattle.svc_bus.specs.Carried.{is_hit}
 use Rattle.svc_bus.specs.Looking.{CountsUpTo, LookUps}
 
@@ -21,7 +20,7 @@ purges_few caches keep word = how_many_within (length caches) (is_purged caches 
 -- and one fewer where a unit keeps its line
 pub purges_fewer : (caches : List CacheValue) (unit : UnitId) (word : ℕ) → unit.0 < length caches → purges caches (Some unit) word < length caches
 purges_fewer caches unit word known =
-    how_many_room (length caches) (is_purged caches (Some unit) word) unit.0 known (rw (eq-eqb unit.0 unit.0 refl) (never (is_committed_dirty (line_in caches unit.0 word))))
+    how_many_room (length caches) (is_purged caches (Some unit) word) unit.0 known (rw (eq-eqb unit.0 unit.0 refl) (never (is_committed_version (held_line caches unit.0 word))))
   where
     never : (b : Bool) → (b && false) ≡ false
     never true = refl

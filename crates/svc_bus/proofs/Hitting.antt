@@ -12,34 +12,31 @@ use Rattle.svc_vol.specs.Lines.{lines_in}
 use Rattle.svc_vcl.specs.Described.{bus_line_of, line_with}
 use Rattle.svc_retire.specs.Caches.{cache_at}
 use Rattle.svc_retire.proofs.Dropping.{lines_are}
-use Rattle.svc_retire.proofs.Settling.{HasV, line_valid}
+use Rattle.svc_vol.proofs.Validity.{HasV, line_valid}
 use Rattle.svc_bus_laws.specs.Versioned.{view}
-use Rattle.svc_bus_laws.specs.LineTable.{LineTable, unit_at, line_at, versioned}
-use Rattle.svc_bus_laws.specs.LineTable as table
+use Rattle.svc_bus_laws.specs.LineTable.{LineTable, unit_at, versioned}
 use Rattle.svc_bus_laws.specs.Supplier.{Hit, supplier}
 use Rattle.svc_bus_laws.specs.Steps.{read}
-use Rattle.svc_bus_laws.specs.BusLine.{BusLine, is_active_line, value_of_line}
-use Rattle.svc_bus_laws.specs.BusState.{BusState, Agrees, SameBus, unnumbered}
+use Rattle.svc_bus_laws.specs.BusLine.{BusLine, is_active_line, is_reusable_line, value_of_line}
+use Rattle.svc_bus_laws.specs.BusState.{BusState, Agrees, SameBus}
 use Rattle.svc_bus_laws.specs.BusView.{bus_line_at, bus_supplied, bus_supplier, bus_view}
 use Rattle.svc_bus_laws.proofs.Searches.{some_is}
-use Rattle.svc_bus_laws.proofs.SeenLaws.{active_line_is, supplier_seen, view_seen}
+use Rattle.svc_bus_laws.proofs.SeenLaws.{supplier_seen, view_seen}
 use Rattle.svc_bus_laws.proofs.SoundSeen.{same_agrees, supplied_seen}
-use Rattle.svc_bus.specs.Numbers.{line_in, numbered}
-use Rattle.svc_bus.proofs.Requests.{shown_is}
-use Rattle.svc_bus.specs.Value.{BusValue, IsSoundBus, table_of}
+use Rattle.svc_bus_laws.proofs.AgreeReads.{read_agrees}
+use Rattle.svc_bus.specs.Lines.{line_in}
+use Rattle.svc_bus.specs.Value.{BusValue, IsSoundBus, state_in}
+use Rattle.svc_bus.proofs.Shown.{some_shown}
 use Rattle.svc_bus.specs.Carried.{is_hit}
 use Rattle.svc_bus.proofs.Reading.{IsPlanned, TellsKind, read_hit, told}
 
 -- a valid line that was found in a unit's cache, as callers of the bus see it
 pub found_is : (caches : List CacheValue) (word unit : ℕ) (line : Line) → lines_in caches word unit ≡ Some (seen line) → (bits_of line.bits).valid ≡ true
-    → unnumbered (line_in caches unit word) ≡ Some (line_with line.value (bits_of line.bits))
-found_is caches word unit line found valid =
-    ap (λ (l : Option SeenLine). unnumbered (numbered l)) (sym (lines_are caches word unit))
-    ∙ shown_is (lines_in caches word unit) (subst HasV (sym (lines_are caches word unit)) (line_valid (cache_at caches unit) word))
-    ∙ ap bus_line_of found ∙ rw valid refl
+    → line_in caches unit word ≡ Some (line_with line.value (bits_of line.bits))
+found_is caches word unit line found valid = ap bus_line_of (sym (lines_are caches word unit) ∙ found) ∙ some_shown (seen line) valid
 
 module _ (b : BusState) (t : LineTable) (place word unit : ℕ) (agrees : Agrees b t) (within : place < length t.units) (at : unit_at t place ≡ unit)
-    (line : Line) (held : b.lines unit word ≡ Some (line_with line.value (bits_of line.bits))) (active : is_active (bits_of line.bits) ≡ true) where
+    (line : Line) (held : b.lines unit word ≡ Some (line_with line.value (bits_of line.bits))) (active : is_active (bits_of line.bits) ≡ true) (known : word < t.words) where
   own : bus_line_at b place word ≡ Some (line_with line.value (bits_of line.bits))
   own = ap (λ u. b.lines u word) (ap (λ (us : List ℕ). get_or us place 0) agrees.units ∙ at) ∙ held
 
@@ -60,10 +57,7 @@ module _ (b : BusState) (t : LineTable) (place word unit : ℕ) (agrees : Agrees
 
   -- it changes nothing that callers see but the count of look-ups
   pub hit_kept : (new : BusState) → SameBus b new → Agrees new (read t place word)
-  hit_kept new same = subst (Agrees new) (sym (read_hit t place word here)) (same_agrees b new t same agrees)
-    where
-      here : table.is_active (line_at t place word) ≡ true
-      here = sym (active_line_is (line_at t place word)) ∙ ap is_active_line (sym (agrees.lines (unit_at t place) word) ∙ ap (λ u. b.lines u word) at ∙ held) ∙ sym (ap is_active_line own) ∙ is_own
+  hit_kept new same = same_agrees b new (read t place word) same (subst (λ (s : BusState). Agrees s (read t place word)) (read_hit b place word is_own) (read_agrees b t place word agrees within known))
 
 -- a read of a unit without an active line of the word is no hit
 module _ (b : BusValue) (sound : IsSoundBus b) (p a : ℕ) (served : Served) (value : ℕ) (bits : Bits) (planned : IsPlanned b p a served value bits) (line : Option Line)
@@ -72,9 +66,9 @@ module _ (b : BusValue) (sound : IsSoundBus b) (p a : ℕ) (served : Served) (va
   not_active true commit h e = e
   not_active false commit h e = absurd (true≢false (sym h))
 
-  is_idle : (held : Option SeenLine) → HasV held → (own : Option Line) → held ≡ option_map seen own → ForSome own (λ (l : Line). is_active (bits_of l.bits) ≡ false) → table.is_active (numbered held) ≡ false
-  is_idle held valid None is none = ap (λ (l : Option SeenLine). table.is_active (numbered l)) is
-  is_idle held valid (Some line) is idle = ap (λ (l : Option SeenLine). table.is_active (numbered l)) is ∙ not_active (bits_of line.bits).valid (bits_of line.bits).commit (subst HasV is valid) (idle line refl)
+  is_idle : (held : Option SeenLine) → HasV held → (own : Option Line) → held ≡ option_map seen own → ForSome own (λ (l : Line). is_active (bits_of l.bits) ≡ false) → is_active_line (bus_line_of held) ≡ false
+  is_idle held valid None is none = ap (λ (l : Option SeenLine). is_active_line (bus_line_of l)) is
+  is_idle held valid (Some line) is idle = ap (λ (l : Option SeenLine). is_active_line (bus_line_of l)) is ∙ ap is_active_line (some_shown (seen line) (subst HasV is valid)) ∙ not_active (bits_of line.bits).valid (bits_of line.bits).commit (subst HasV is valid) (idle line refl)
 
   misses : (s : Served) (active reusable : Bool) → TellsKind s active reusable → active ≡ false → is_hit s ≡ false
   misses by_hit active reusable tells e = absurd (true≢false (sym tells ∙ e))
@@ -85,5 +79,5 @@ module _ (b : BusValue) (sound : IsSoundBus b) (p a : ℕ) (served : Served) (va
   misses Memory active reusable tells e = refl
 
   pub never_hit : is_hit served ≡ false
-  never_hit = misses served (table.is_active (line_at (table_of b) p a)) (table.is_reusable (line_at (table_of b) p a)) (told b sound p a served value bits planned)
+  never_hit = misses served (is_active_line (bus_line_at (state_in b) p a)) (is_reusable_line (bus_line_at (state_in b) p a)) (told b sound p a served value bits planned)
       (is_idle (line_of (cache_at b.caches (get_or b.units p 0)) a) (line_valid (cache_at b.caches (get_or b.units p 0)) a) line (sym (lines_are b.caches a (get_or b.units p 0)) ∙ found) idle)

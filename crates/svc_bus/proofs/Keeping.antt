@@ -1,19 +1,20 @@
--- A call keeps the sizes of a bus's parts, so only its table has to be shown sound.
+-- A call keeps the sizes of a bus's parts, so only its links have to be shown.
 use Rattle.std.proofs.Common.{◌≡◌, ◌∙◌, sym, subst, ◌<◌, ◌≤◌, ◌^◌, length}
 use Rattle.svc_base.specs.declared.config.TheConstants.{MAX_WAYS}
 use Rattle.svc_vol.specs.declared.list.TheConstants.{CAPACITY}
-use Rattle.svc_bus_laws.specs.Sound.{IsSound}
+use Rattle.svc_links_laws.specs.LinkedBus.{IsLinkedBus}
 use Rattle.svc_retire.specs.Caches.{SameSizes}
-use Rattle.svc_bus.specs.Value.{BusValue, IsSoundBus, table_of}
+use Rattle.svc_bus.specs.Lines.{link_in}
+use Rattle.svc_bus.specs.Value.{BusValue, IsSoundBus, state_in}
 
 pub record KeepsSizes (old new : BusValue) : Type 0 where
   pub caches : SameSizes old.caches new.caches
   pub spill : length new.spill ≡ length old.spill
   pub backing : length new.backing ≡ length old.backing
 
-pub kept_bus : (old new : BusValue) → IsSoundBus old → KeepsSizes old new → IsSound (table_of new) → new.commits ≤ 2 ^ 63 → IsSoundBus new
-kept_bus old new sound sizes table few = record {
-  sound = table;
+pub kept_bus : (old new : BusValue) → IsSoundBus old → KeepsSizes old new → IsLinkedBus (state_in new) (link_in new.caches) → new.commits ≤ 2 ^ 63 → IsSoundBus new
+kept_bus old new sound sizes linked few = record {
+  linked = linked;
   some_caches = subst (λ n. 0 < n) (sym sizes.caches.count) sound.some_caches;
   few_caches = subst (λ n. n ≤ CAPACITY) (sym sizes.caches.count) sound.few_caches;
   one_size = λ u known. sizes.caches.sets u ∙ sound.one_size u (subst (λ n. u < n) sizes.caches.count known) ∙ sym (sizes.caches.sets 0);

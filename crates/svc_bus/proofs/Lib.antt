@@ -1,4 +1,5 @@
-pub mod Numbering
+pub mod Shown
+pub mod Knowing
 pub mod Agreeing
 pub mod Full
 pub mod Rooms

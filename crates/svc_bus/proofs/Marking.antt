@@ -1,5 +1,5 @@
--- T is set on one version after another.
-use Rattle.std.proofs.Common.{◌≡◌, ◌≢◌, ◌∙◌, refl, sym, ap, ℕ, zero, suc, ◌+◌, ◌<◌, ◌≤◌, Bool, true, false, ◌&&◌, ◌||◌, Option, Some, None, List, length, take, arith, ne_eqb}
+-- One version after another gets the mark of a store.
+use Rattle.std.proofs.Common.{◌≡◌, ◌≢◌, ◌∙◌, refl, sym, ap, ℕ, zero, suc, ◌+◌, ◌<◌, ◌≤◌, Bool, true, false, cond, ◌&&◌, ◌||◌, Option, Some, None, List, length, take, arith, ne_eqb}
 use Rattle.std.specs.Bool.{◌==◌}
 use Rattle.std.proofs.lemmas.List.{take_all}
 use Rattle.std.proofs.lemmas.List.Folds.{list_any_at, list_any_more}
@@ -7,15 +7,16 @@ use Rattle.std.proofs.lemmas.Bool.{eq-eqb}
 use Rattle.svc_cache.specs.declared.probes.Probes.{Probes}
 use Rattle.svc_cache.specs.Places.{CacheValue}
 use Rattle.svc_bus_laws.specs.Search.{how_many}
-use Rattle.svc_bus_laws.specs.LineTable.{Line}
+use Rattle.svc_line.specs.Bits.{overtaken_now}
+use Rattle.svc_line.specs.Line.{SeenLine}
 use Rattle.svc_vol.specs.declared.version.Version.{Version}
 use Rattle.svc_vol.specs.Versions.{no_version, unit_at, version_at}
 use Rattle.svc_vcl.specs.Planned.{is_named}
-use Rattle.svc_retire.specs.Caches.{SameSizes}
+use Rattle.svc_links_laws.specs.LinkSteps.{is_unit}
+use Rattle.svc_retire.specs.Caches.{held_line, SameSizes}
 use Rattle.svc_retire.specs.Purges.{CountsSearches, HasRoomFor}
 use Rattle.svc_retire.proofs.Counts.{how_many_more, how_many_none}
-use Rattle.svc_bus.specs.Numbers.{line_in}
-use Rattle.svc_bus.specs.Marks.{stale_where, AreHeld, EndBelow, IsHeld}
+use Rattle.svc_bus.specs.Marks.{overtaken_line, overtaken_where, AreHeld, EndBelow, IsHeld}
 
 -- ---- the units of the versions so far
 
@@ -65,8 +66,8 @@ as_many caches word versions held =
 -- ---- one version after another
 
 -- what has become of the caches after the first so many versions
-pub record IsMarked (before now : List CacheValue) (stale : List Version) (word count : ℕ) (probes_before probes_now : Probes) : Type 0 where
-  pub lines : (u a : ℕ) → line_in now u a ≡ stale_where ((a == word) && is_named (take count stale) u) (line_in before u a)
+pub record IsMarked (before now : List CacheValue) (previous : Option ℕ) (writer : ℕ) (stale : List Version) (word count : ℕ) (probes_before probes_now : Probes) : Type 0 where
+  pub lines : (u a : ℕ) → held_line now u a ≡ overtaken_where previous writer u ((a == word) && is_named (take count stale) u) (held_line before u a)
   pub sizes : SameSizes before now
   pub counted : CountsSearches probes_before probes_now count
 
@@ -74,29 +75,37 @@ and_false : (x y : Bool) → y ≡ false → (x && y) ≡ false
 and_false true y e = e
 and_false false y e = refl
 
-unmarked : (x y : Bool) (line : Option Line) → y ≡ false → stale_where (x && y) line ≡ line
-unmarked x y line e = ap (λ z. stale_where z line) (and_false x y e)
+unmarked : (previous : Option ℕ) (writer u : ℕ) (x y : Bool) (line : Option SeenLine) → y ≡ false → overtaken_where previous writer u (x && y) line ≡ line
+unmarked previous writer u x y line e = ap (λ z. overtaken_where previous writer u z line) (and_false x y e)
 
-stale_none : (x : Bool) → stale_where x None ≡ None
-stale_none true = refl
-stale_none false = refl
+marked_none : (previous : Option ℕ) (writer u : ℕ) (x : Bool) → overtaken_where previous writer u x None ≡ None
+marked_none previous writer u true = refl
+marked_none previous writer u false = refl
+
+-- a mark that is set twice is set
+twice : (previous : Option ℕ) (writer u : ℕ) (line : Option SeenLine) → overtaken_line previous writer u (overtaken_line previous writer u line) ≡ overtaken_line previous writer u line
+twice previous writer u None = refl
+twice previous writer u (Some l) = go (is_unit previous u)
+  where
+    go : (x : Bool) → ◌≡◌ {A = Option SeenLine} (Some (record { value = l.value; bits = overtaken_now l.bits; next = cond x (Some writer) (cond x (Some writer) l.next) })) (Some (record { value = l.value; bits = overtaken_now l.bits; next = cond x (Some writer) l.next }))
+    go true = refl
+    go false = refl
 
 -- marks come together
-marked_on : (x m n : Bool) (line : Option Line) → stale_where (x && n) (stale_where (x && m) line) ≡ stale_where (x && (m || n)) line
-marked_on false m n line = refl
-marked_on true false n line = refl
-marked_on true true false line = refl
-marked_on true true true None = refl
-marked_on true true true (Some l) = refl
+marked_on : (previous : Option ℕ) (writer u : ℕ) (x m n : Bool) (line : Option SeenLine) → overtaken_where previous writer u (x && n) (overtaken_where previous writer u (x && m) line) ≡ overtaken_where previous writer u (x && (m || n)) line
+marked_on previous writer u false m n line = refl
+marked_on previous writer u true false n line = refl
+marked_on previous writer u true true false line = refl
+marked_on previous writer u true true true line = twice previous writer u line
 
-pub mark_begins : (caches : List CacheValue) (stale : List Version) (word : ℕ) (probes : Probes) → IsMarked caches caches stale word 0 probes probes
-mark_begins caches stale word probes = record {
-  lines = λ u a. sym (unmarked (a == word) (is_named (take 0 stale) u) (line_in caches u a) refl);
+pub mark_begins : (caches : List CacheValue) (previous : Option ℕ) (writer : ℕ) (stale : List Version) (word : ℕ) (probes : Probes) → IsMarked caches caches previous writer stale word 0 probes probes
+mark_begins caches previous writer stale word probes = record {
+  lines = λ u a. sym (unmarked previous writer u (a == word) (is_named (take 0 stale) u) (held_line caches u a) refl);
   sizes = record { count = refl; sets = λ u. refl; ways = λ u. refl };
   counted = record { searches = omega arith; places = omega arith };
 }
 
-module _ (before now : List CacheValue) (stale : List Version) (word count : ℕ) (probes_before probes_now : Probes) (done : IsMarked before now stale word count probes_before probes_now) where
+module _ (before now : List CacheValue) (previous : Option ℕ) (writer : ℕ) (stale : List Version) (word count : ℕ) (probes_before probes_now : Probes) (done : IsMarked before now previous writer stale word count probes_before probes_now) where
   -- the next version is still its unit's line
   pub mark_held : count < length stale → AreHeld before word stale → IsHeld now word (version_at stale count)
   mark_held below held =
@@ -104,12 +113,12 @@ module _ (before now : List CacheValue) (stale : List Version) (word count : ℕ
       let fresh = named_none stale count (unit_at stale count) (omega (arith, below)) (λ i less. held.apart.apart i count less below) in
       record {
         within = let same = done.sizes.count in let low = h.within in omega (arith, same, low);
-        held = done.lines (unit_at stale count) word ∙ unmarked (word == word) (is_named (take count stale) (unit_at stale count)) (line_in before (unit_at stale count) word) fresh ∙ h.held;
+        held = done.lines (unit_at stale count) word ∙ unmarked previous writer (unit_at stale count) (word == word) (is_named (take count stale) (unit_at stale count)) (held_line before (unit_at stale count) word) fresh ∙ h.held;
         valid = h.valid;
       }
 
   pub mark_ends_below : (bound : ℕ) → EndBelow before bound → EndBelow now bound
-  mark_ends_below bound ends = record { ends = λ u a past. done.lines u a ∙ ap (stale_where ((a == word) && is_named (take count stale) u)) (ends.ends u a past) ∙ stale_none ((a == word) && is_named (take count stale) u) }
+  mark_ends_below bound ends = record { ends = λ u a past. done.lines u a ∙ ap (overtaken_where previous writer u ((a == word) && is_named (take count stale) u)) (ends.ends u a past) ∙ marked_none previous writer u ((a == word) && is_named (take count stale) u) }
 
   pub mark_room : count < length stale → HasRoomFor probes_before before (length stale) → HasRoomFor probes_now now 1
   mark_room below room =
@@ -124,16 +133,16 @@ module _ (before now : List CacheValue) (stale : List Version) (word count : ℕ
       }
 
   pub mark_steps : count < length stale → (next : List CacheValue) (probes_next : Probes)
-      → ((u a : ℕ) → line_in next u a ≡ stale_where ((a == word) && (unit_at stale count == u)) (line_in now u a))
+      → ((u a : ℕ) → held_line next u a ≡ overtaken_where previous writer u ((a == word) && (unit_at stale count == u)) (held_line now u a))
       → SameSizes now next
       → CountsSearches probes_now probes_next 1
-      → IsMarked before next stale word (suc count) probes_before probes_next
+      → IsMarked before next previous writer stale word (suc count) probes_before probes_next
   mark_steps below next probes_next lines sizes counted = record {
     lines = λ u a.
         lines u a
-        ∙ ap (stale_where ((a == word) && (unit_at stale count == u))) (done.lines u a)
-        ∙ marked_on (a == word) (is_named (take count stale) u) (unit_at stale count == u) (line_in before u a)
-        ∙ ap (λ x. stale_where ((a == word) && x) (line_in before u a)) (sym (named_more stale count u below));
+        ∙ ap (overtaken_where previous writer u ((a == word) && (unit_at stale count == u))) (done.lines u a)
+        ∙ marked_on previous writer u (a == word) (is_named (take count stale) u) (unit_at stale count == u) (held_line before u a)
+        ∙ ap (λ x. overtaken_where previous writer u ((a == word) && x) (held_line before u a)) (sym (named_more stale count u below));
     sizes = record {
       count = sizes.count ∙ done.sizes.count;
       sets = λ u. sizes.sets u ∙ done.sizes.sets u;
@@ -146,7 +155,7 @@ module _ (before now : List CacheValue) (stale : List Version) (word count : ℕ
   }
 
 -- all of them
-pub mark_ends : (before now : List CacheValue) (stale : List Version) (word : ℕ) (probes_before probes_now : Probes) → IsMarked before now stale word (length stale) probes_before probes_now
-    → (u a : ℕ) → line_in now u a ≡ stale_where ((a == word) && is_named stale u) (line_in before u a)
-mark_ends before now stale word probes_before probes_now done u a =
-    done.lines u a ∙ ap (λ (xs : List Version). stale_where ((a == word) && is_named xs u) (line_in before u a)) (take_all (length stale) stale (omega arith))
+pub mark_ends : (before now : List CacheValue) (previous : Option ℕ) (writer : ℕ) (stale : List Version) (word : ℕ) (probes_before probes_now : Probes) → IsMarked before now previous writer stale word (length stale) probes_before probes_now
+    → (u a : ℕ) → held_line now u a ≡ overtaken_where previous writer u ((a == word) && is_named stale u) (held_line before u a)
+mark_ends before now previous writer stale word probes_before probes_now done u a =
+    done.lines u a ∙ ap (λ (xs : List Version). overtaken_where previous writer u ((a == word) && is_named xs u) (held_line before u a)) (take_all (length stale) stale (omega arith))

@@ -1,4 +1,4 @@
--- An opened bus's own table.
+-- An opened bus.
 use Rattle.std.proofs.Common.{◌≡◌, ◌∙◌, refl, sym, subst, ap, ℕ, zero, suc, ◌<◌, ◌≤◌, ◌^◌, Option, None, List, [], ◌∷◌, ◌++◌, ◌⊎◌, length, get_or, replicate, inl, inr, arith}
 use Rattle.std.proofs.lemmas.Bool.{cases_lt}
 use Rattle.std.proofs.lemmas.List.{length-replicate, get_or_past}
@@ -7,15 +7,16 @@ use Rattle.svc_vol.specs.declared.list.TheConstants.{CAPACITY}
 use Rattle.svc_cache.specs.Lines.{LineMap, no_lines}
 use Rattle.svc_cache.specs.Places.{CacheValue, found, line_of}
 use Rattle.svc_bus_laws.specs.LineTable.{opened}
-use Rattle.svc_bus_laws.specs.Sound.{IsSound}
 use Rattle.svc_bus_laws.specs.BusState.{Agrees}
-use Rattle.svc_bus_laws.proofs.OpenedLaws.{opened_sound}
+use Rattle.svc_bus_laws.specs.BusSteps.{bus_opened}
+use Rattle.svc_bus_laws.proofs.SeenLaws.{opened_agrees}
+use Rattle.svc_links_laws.proofs.LinkedBuses.{opened_bus as opened_bus_law}
+use Rattle.svc_vcl.specs.Described.{bus_line_of}
 use Rattle.svc_retire.specs.Caches.{no_cache, cache_at}
-use Rattle.svc_bus.specs.Numbers.{numbered}
-use Rattle.svc_bus.specs.Value.{BusValue, IsSoundBus, table_of}
-use Rattle.svc_bus.specs.Observed.{observed}
+use Rattle.svc_bus.specs.Lines.{line_in, link_in}
+use Rattle.svc_bus.specs.Value.{BusValue, IsSoundBus, state_in}
 use Rattle.svc_bus.specs.Opened.{AreEmpty}
-use Rattle.svc_bus.proofs.Agreeing.{same_table, own_agrees}
+use Rattle.svc_bus.proofs.Agreeing.{IsStep, step_agrees, step_linked}
 use Rattle.svc_bus.proofs.Committing.{none_spilled}
 
 -- there is no line where there is no cache
@@ -27,7 +28,7 @@ pub none_empty : (sets ways : ℕ) → AreEmpty [] sets ways
 none_empty sets ways = record {
   sets_are = λ u h. absurd (omega (arith, h));
   ways_are = λ u h. absurd (omega (arith, h));
-  lines = λ u a. ap numbered (no_line a);
+  lines = λ u a. no_line a;
 }
 
 -- a cache of a list with one more
@@ -52,10 +53,10 @@ one_more_empty caches new sets ways empty has_sets has_ways has_lines = record {
   ];
   lines = λ u a. elim (cases_lt u (length (caches ++ new ∷ []))) [
     | inl low ↦ elim (pushed caches new u low) [
-      | inl e ↦ ap (λ (c : CacheValue). numbered (line_of c a)) e ∙ ap (λ (f : LineMap). numbered (f a)) has_lines
-      | inr (low, e) ↦ ap (λ (c : CacheValue). numbered (line_of c a)) e ∙ empty.lines u a
+      | inl e ↦ ap (λ (c : CacheValue). line_of c a) e ∙ ap (λ (f : LineMap). f a) has_lines
+      | inr (low, e) ↦ ap (λ (c : CacheValue). line_of c a) e ∙ empty.lines u a
     ]
-    | inr past ↦ ap (λ (c : CacheValue). numbered (line_of c a)) (get_or_past (caches ++ new ∷ []) u no_cache (omega (arith, past))) ∙ ap numbered (no_line a)
+    | inr past ↦ ap (λ (c : CacheValue). line_of c a) (get_or_past (caches ++ new ∷ []) u no_cache (omega (arith, past))) ∙ no_line a
   ];
 }
 
@@ -65,22 +66,26 @@ module _ (b : BusValue) (units sets ways : ℕ) (some : 1 ≤ units) (few : unit
   first : 0 < length b.caches
   first = omega (arith, some, count)
 
-  own_opened : table_of b ≡ opened units sets ways b.backing
-  own_opened = same_table (table_of b) (opened units sets ways b.backing) (record {
-    caches = count;
-    sets = empty.sets_are 0 first;
-    ways = empty.ways_are 0 first;
-    words = refl;
-    lines = empty.lines;
-    spill = λ a. ap (λ (s : List (Option ℕ)). get_or s a None) spill ∙ none_spilled (length b.backing) a;
-    backing = λ a. refl;
-    commits = no_commits;
-    units = idle;
-  })
+  is_step : IsStep b (bus_opened units sets ways b.backing) (link_in b.caches)
+  is_step = record {
+    bus = opened_bus_law units sets ways b.backing (link_in b.caches);
+    same = record {
+      caches = count;
+      sets = empty.sets_are 0 first;
+      ways = empty.ways_are 0 first;
+      words = refl;
+      lines = λ u a. ap bus_line_of (empty.lines u a);
+      spill = λ a. ap (λ (s : List (Option ℕ)). get_or s a None) spill ∙ none_spilled (length b.backing) a;
+      backing = λ a. refl;
+      commits = no_commits;
+      units = idle;
+    };
+    kept = λ u a e. refl;
+  }
 
   pub opened_bus : IsSoundBus b
   opened_bus = record {
-    sound = subst IsSound (sym own_opened) (opened_sound units sets ways b.backing);
+    linked = step_linked b (bus_opened units sets ways b.backing) (link_in b.caches) is_step;
     some_caches = first;
     few_caches = subst (λ n. n ≤ CAPACITY) (sym count) few;
     one_size = λ u h. empty.sets_are u h ∙ sym (empty.sets_are 0 first);
@@ -91,5 +96,5 @@ module _ (b : BusValue) (units sets ways : ℕ) (some : 1 ≤ units) (few : unit
     few_commits = omega (arith, no_commits);
   }
 
-  pub opened_table : Agrees (observed b) (opened units sets ways b.backing)
-  opened_table = subst (Agrees (observed b)) own_opened (own_agrees b opened_bus.sound)
+  pub opened_table : Agrees (state_in b) (opened units sets ways b.backing)
+  opened_table = step_agrees b (bus_opened units sets ways b.backing) (link_in b.caches) is_step (opened units sets ways b.backing) (opened_agrees units sets ways b.backing)

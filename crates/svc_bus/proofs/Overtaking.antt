@@ -1,45 +1,25 @@
--- The lines that a write makes stale are their units' lines, stand in other caches, and are not purged.
-use Rattle.std.proofs.Common.{◌≡◌, ◌≢◌, ◌⊎◌, ◌∙◌, refl, sym, ap, subst, ℕ, ◌-◌, ◌<◌, ◌≤◌, Bool, true, false, cond, not, ◌&&◌, Option, Some, None, List, length, map, get_or, take, option_map, inl, inr, arith, true≢false, eq-eqb}
+-- The lines that a write changes are their units' lines, stand in other caches, and are not purged.
+use Rattle.std.proofs.Common.{◌≡◌, ◌≢◌, ◌⊎◌, ◌∙◌, refl, sym, ap, subst, ℕ, zero, suc, ◌-◌, ◌<◌, ◌≤◌, Bool, true, false, cond, not, ◌&&◌, Option, Some, None, List, [], ◌∷◌, ◌++◌, length, map, get_or, take, option_map, inl, inr, arith, true≢false, eq-eqb}
+use Rattle.std.specs.Prelude.{option_and_then}
 use Rattle.std.specs.Bool.{◌==◌}
 use Rattle.std.proofs.lemmas.Bool.{cases_Bool, and_parts}
 use Rattle.std.proofs.lemmas.List.{get_or-append_right, get_or-map, get_or-take, get_or_append_left, length-append, length-map, length-take-le}
-use Rattle.svc_line.specs.Bits.{bits_of, is_active}
+use Rattle.svc_line.specs.Bits.{bits_of, is_active, is_dirty}
 use Rattle.svc_line.specs.Line.{SeenLine, seen}
-use Rattle.svc_cache.specs.Places.{line_of}
-use Rattle.svc_bus_laws.specs.LineTable.{is_committed_dirty}
-use Rattle.svc_bus_laws.specs.BusLine.{purged_line}
-use Rattle.svc_bus_laws.specs.BusState.{unnumbered}
-use Rattle.svc_bus_laws.specs.BusSteps.{is_below}
+use Rattle.svc_bus_laws.proofs.Searches.{greatest_cases}
 use Rattle.svc_vol.specs.declared.version.Version.{Version}
-use Rattle.svc_vol.specs.Lines.{UnitLines, lines_in}
+use Rattle.svc_vol.specs.Lines.{UnitLines, is_committed_version, lines_in}
 use Rattle.svc_vol.specs.Versions.{AreCommitted, SeenVersion, Versions, active_version, active_versions, no_version, seen_version, unit_at, version_at}
-use Rattle.svc_vcl.specs.Listed.{entry_at}
-use Rattle.svc_vcl.specs.Planned.{becomes_stale, copies_in, fresh_beside, is_fresh_copy, is_marked_anew, is_named, passed_in, stale_in, unmarked_entry}
+use Rattle.svc_vcl.specs.Listed.{entry_at, is_version, nearest_in, nearest_version_in}
+use Rattle.svc_vcl.specs.Planned.{changed_in, copies_in, fresh_beside, is_fresh_copy, is_named, passed_in, relinked_in, unmarked_entry}
 use Rattle.svc_vcl.proofs.Staling.{kept_apart, kept_from}
-use Rattle.svc_retire.specs.Caches.{cache_at}
+use Rattle.svc_retire.specs.Caches.{held_line}
 use Rattle.svc_retire.proofs.Dropping.{lines_are}
-use Rattle.svc_retire.proofs.Settling.{HasV, line_valid}
-use Rattle.svc_bus.specs.Numbers.{line_in, numbered}
 use Rattle.svc_bus.specs.Value.{BusValue, IsSoundBus}
-use Rattle.svc_bus.specs.Observed.{observed}
 use Rattle.svc_bus.specs.Marks.{AreHeld}
 use Rattle.svc_bus.specs.Stores.{ChangeOnce}
-
--- a line with V that a purge leaves
-record IsLeft (line : Option SeenLine) : Type 0 where
-  l : SeenLine
-  is : line ≡ Some l
-  valid : l.bits.valid ≡ true
-  clean : (l.bits.commit && l.bits.store) ≡ false
-
--- a line is marked anew only where a purge leaves it
-left_of : (below : Bool) (line : Option SeenLine) → HasV line → is_marked_anew below (purged_line (unnumbered (numbered line))) ≡ true → IsLeft line
-left_of below None has e = absurd (true≢false (sym e))
-left_of below (Some l) has e = go (l.bits.commit && l.bits.store) refl e
-  where
-    go : (z : Bool) → (l.bits.commit && l.bits.store) ≡ z → is_marked_anew below (cond z None (unnumbered (numbered (Some l)))) ≡ true → IsLeft (Some l)
-    go true is f = absurd (true≢false (sym f))
-    go false is f = record { l = l; is = refl; valid = has; clean = is }
+use Rattle.svc_bus.proofs.Knowing.{units_apart, units_known}
+use Rattle.svc_bus.proofs.Putting.{has_own}
 
 -- lines of one word by unit, the versions that a list has of them, and the units of the active tasks
 module _ (lines : UnitLines) (count : ℕ) (list : Versions) (units : List ℕ) (committed : AreCommitted lines count list.committed) (shows : map (option_map seen_version) list.active ≡ active_versions lines units)
@@ -102,30 +82,40 @@ module _ (lines : UnitLines) (count : ℕ) (list : Versions) (units : List ℕ) 
           clear true e = sym e
           clear false e = refl
 
-  module _ (writer place : ℕ) (below : place ≤ length units) where
+  module _ (writer place : ℕ) (inside : place < length units) (at : get_or units place 0 ≡ writer) where
+    below : place ≤ length units
+    below = omega (arith, inside)
+
     abbrev copies : List Version
     copies = copies_in list.committed writer
 
     abbrev passed : List Version
     passed = passed_in (take place list.active)
 
-    -- a copy that was listed is one of the committed versions
-    is_copy : (version copy : Version) → fresh_beside writer version ≡ Some copy → version ≡ copy
-    is_copy version copy e = go (not (version.unit.0 == writer) && is_fresh_copy version) e
+    -- a copy that was listed is one of the committed versions, clean, and in another unit
+    record IsFresh (version copy : Version) : Type 0 where
+      same : version ≡ copy
+      other : (version.unit.0 == writer) ≡ false
+      clean : is_dirty (bits_of version.line.bits) ≡ false
+
+    is_copy : (version copy : Version) → fresh_beside writer version ≡ Some copy → IsFresh version copy
+    is_copy version copy e = go (version.unit.0 == writer) (is_dirty (bits_of version.line.bits)) (bits_of version.line.bits).stale refl refl e
       where
-        go : (x : Bool) → cond x (Some version) None ≡ Some copy → version ≡ copy
-        go true e = some_is e
-        go false e = cc
+        go : (o d t : Bool) → (version.unit.0 == writer) ≡ o → is_dirty (bits_of version.line.bits) ≡ d → cond (not o && (not d && not t)) (Some version) None ≡ Some copy → IsFresh version copy
+        go true d t here dirty e = cc
+        go false true t here dirty e = cc
+        go false false true here dirty e = cc
+        go false false false here dirty e = record { same = some_is e; other = here; clean = dirty }
 
     copy_line : (k : ℕ) → k < length copies → IsLine true (version_at copies k)
     copy_line k within =
         let from = kept_from (fresh_beside writer) no_version list.committed k within in
-        subst (IsLine true) (is_copy (version_at list.committed from.place) (version_at copies k) from.is) (of_committed from.place from.within)
+        subst (IsLine true) ((is_copy (version_at list.committed from.place) (version_at copies k) from.is).same) (of_committed from.place from.within)
 
     copies_apart : (i j : ℕ) → i < j → j < length copies → unit_at copies i ≢ unit_at copies j
     copies_apart = kept_apart (fresh_beside writer) no_version list.committed (λ i j v w less within one two same.
-        let first = is_copy (version_at list.committed i) v one in
-        let second = is_copy (version_at list.committed j) w two in
+        let first = (is_copy (version_at list.committed i) v one).same in
+        let second = (is_copy (version_at list.committed j) w two).same in
         let e = committed.once i j (omega (arith, less, within)) within (ap (λ (x : Version). x.unit.0) first ∙ same ∙ ap (λ (x : Version). x.unit.0) (sym second)) in
         absurd (omega (arith, less, e)))
 
@@ -156,36 +146,157 @@ module _ (lines : UnitLines) (count : ℕ) (list : Versions) (units : List ℕ) 
         let e = distinct i j (omega (arith, less, within, short, below)) (omega (arith, within, short, below)) (sym first.unit_is ∙ same ∙ second.unit_is) in
         absurd (omega (arith, less, e)))
 
+    -- a line that changes: it is its unit's, in another cache than the writer's, and no purge takes it out
+    pub record IsChanged (version : Version) : Type 0 where
+      pub within : version.unit.0 < count
+      pub held : lines version.unit.0 ≡ Some (seen version.line)
+      pub valid : (seen version.line).bits.valid ≡ true
+      pub other : version.unit.0 ≢ writer
+      pub kept : is_committed_version (Some (seen version.line)) ≡ false
+
+    copy_changed : (k : ℕ) → k < length copies → IsChanged (version_at copies k)
+    copy_changed k within =
+        let from = kept_from (fresh_beside writer) no_version list.committed k within in
+        let fresh = is_copy (version_at list.committed from.place) (version_at copies k) from.is in
+        let line = copy_line k within in
+        record {
+          within = line.within;
+          held = line.held;
+          valid = line.valid;
+          other = λ e. true≢false (sym (eq-eqb (version_at copies k).unit.0 writer e) ∙ ap (λ (v : Version). v.unit.0 == writer) (sym fresh.same) ∙ fresh.other);
+          kept = clean (seen (version_at copies k).line) line.valid (ap (λ (v : Version). is_dirty (bits_of v.line.bits)) (sym fresh.same) ∙ fresh.clean);
+        }
+      where
+        clean : (l : SeenLine) → l.bits.valid ≡ true → (l.bits.valid && l.bits.store) ≡ false → (l.bits.commit && l.bits.store) ≡ false
+        clean l valid e = go l.bits.commit l.bits.store (sym (ap (λ v. v && l.bits.store) valid) ∙ e)
+          where
+            go : (c s : Bool) → s ≡ false → (c && s) ≡ false
+            go true s e = e
+            go false s e = refl
+
+    entry_changed : (q : ℕ) (version : Version) → q < place → IsEntry q version → IsChanged version
+    entry_changed q version low entry = record {
+      within = entry.line.within;
+      held = entry.line.held;
+      valid = entry.line.valid;
+      other = λ e. let same = distinct q place (omega (arith, low, inside)) inside (sym entry.unit_is ∙ e ∙ sym at) in absurd (omega (arith, same, low));
+      kept = ap (λ c. c && (seen version.line).bits.store) entry.line.commits;
+    }
+
+    -- where an earlier task's line comes from, and that it has no T
+    record IsPassed (version : Version) : Type 0 where
+      place_of : ℕ
+      low : place_of < place
+      entry : IsEntry place_of version
+      fresh : (bits_of version.line.bits).stale ≡ false
+
+    fresh_of : (entry : Option Version) (version : Version) → unmarked_entry entry ≡ Some version → (bits_of version.line.bits).stale ≡ false
+    fresh_of None version e = cc
+    fresh_of (Some own) version e = go (bits_of own.line.bits).stale refl e
+      where
+        go : (x : Bool) → (bits_of own.line.bits).stale ≡ x → cond x None (Some own) ≡ Some version → (bits_of version.line.bits).stale ≡ false
+        go true is e = cc
+        go false is e = ap (λ (v : Version). (bits_of v.line.bits).stale) (sym (some_is e)) ∙ is
+
+    passed_from : (k : ℕ) → k < length passed → IsPassed (version_at passed k)
+    passed_from k within =
+        let from = kept_from unmarked_entry None (take place list.active) k within in
+        let short : length (take place list.active) ≡ place = length-take-le place list.active (omega (arith, below, sizes)) in
+        let low = from.within in
+        record {
+          place_of = from.place;
+          low = omega (arith, low, short);
+          entry = earlier_entry from.place (version_at passed k) from.within from.is;
+          fresh = fresh_of (get_or (take place list.active) from.place None) (version_at passed k) from.is;
+        }
+
     -- a committed line and an active one are of different units
     crossed : (v w : Version) → IsLine true v → IsLine false w → v.unit.0 ≢ w.unit.0
     crossed v w one two same =
         let e : seen v.line ≡ seen w.line = some_is (sym one.held ∙ ap lines same ∙ two.held) in
         absurd (true≢false (sym one.commits ∙ ap (λ (x : SeenLine). x.bits.commit) e ∙ two.commits))
 
+    -- ---- the version before, where it has T
+
+    abbrev linked : List Version
+    linked = relinked_in (nearest_version_in list.active place)
+
+    record IsPrevious (version : Version) : Type 0 where
+      place_of : ℕ
+      low : place_of < place
+      entry : IsEntry place_of version
+      stale : (bits_of version.line.bits).stale ≡ true
+
+    one_at_most : (x : Bool) (v : Version) → length (cond x (v ∷ []) []) ≤ 1
+    one_at_most true v = omega arith
+    one_at_most false v = omega arith
+
+    few_of : (entry : Option Version) → length (relinked_in entry) ≤ 1
+    few_of None = omega arith
+    few_of (Some v) = one_at_most (bits_of v.line.bits).stale v
+
+    lone : (x : Bool) (v : Version) (j : ℕ) → j < length (cond x (v ∷ []) []) → (x ≡ true) × (version_at (cond x (v ∷ []) []) j ≡ v)
+    lone false v j h = absurd (omega (arith, h))
+    lone true v zero h = (refl, refl)
+    lone true v (suc j) h = absurd (omega (arith, h))
+
+    empty_of : (o : Option Version) (j : ℕ) → o ≡ None → j < length (relinked_in o) → ⊥
+    empty_of None j e h = omega (arith, h)
+    empty_of (Some v) j e h = cc
+
+    previous_of : (q : ℕ) → q < place → (entry : Option Version) → entry_at list.active q ≡ entry → nearest_version_in list.active place ≡ entry_at list.active q → (j : ℕ) → j < length linked → IsPrevious (version_at linked j)
+    previous_of q low None is near j h = absurd (empty_of (nearest_version_in list.active place) j (near ∙ is) h)
+    previous_of q low (Some v) is near j h =
+        let all : linked ≡ relinked_in (Some v) = ap relinked_in (near ∙ is) in
+        let one = lone (bits_of v.line.bits).stale v j (subst (λ (vs : List Version). j < length vs) all h) in
+        let same : version_at linked j ≡ v = ap (λ (vs : List Version). version_at vs j) all ∙ one.1 in
+        subst IsPrevious (sym same) (record { place_of = q; low = low; entry = of_active q v (omega (arith, low, inside)) is; stale = one.0 })
+
+    linked_from : (k : ℕ) → k < length linked → IsPrevious (version_at linked k)
+    linked_from k within = elim (greatest_cases place (λ q. is_version (entry_at list.active q))) [
+      | inl (none, never) ↦ absurd (empty_of (nearest_version_in list.active place) k (ap (option_and_then (entry_at list.active)) none) within)
+      | inr (q, is, low, pass, after) ↦ previous_of q low (entry_at list.active q) refl (ap (option_and_then (entry_at list.active)) is) k within
+    ]
+
+    -- ---- all of them
+
+    abbrev stale : List Version
+    stale = copies ++ passed
+
     abbrev all : List Version
-    all = stale_in list writer place
-
-    at_copy : (k : ℕ) → k < length copies → version_at all k ≡ version_at copies k
-    at_copy k within = get_or_append_left copies passed no_version k within
-
-    at_passed : (k : ℕ) → length copies ≤ k → version_at all k ≡ version_at passed (k - length copies)
-    at_passed k past = get_or-append_right copies passed (length copies) k no_version refl past
-
-    rest : (k : ℕ) → k < length all → length copies ≤ k → k - length copies < length passed
-    rest k within past = let both = length-append copies passed in omega (arith, within, past, both)
+    all = changed_in list writer place
 
     sides : (x y : ℕ) → (x < y) ⊎ (y ≤ x)
     sides x y = grind arith
 
-    -- each of the lines is its unit's line
-    pub stale_line_is : (k : ℕ) → k < length all → (unit_at all k < count) × (lines (unit_at all k) ≡ Some (seen (version_at all k).line)) × ((seen (version_at all k).line).bits.valid ≡ true)
-    stale_line_is k within = elim (sides k (length copies)) [
-      | inl before ↦ let line = subst (IsLine true) (sym (at_copy k before)) (copy_line k before) in (line.within, line.held, line.valid)
-      | inr past ↦ let line = subst (IsLine false) (sym (at_passed k past)) (passed_line (k - length copies) (rest k within past)) in (line.within, line.held, line.valid)
+    at_copy : (k : ℕ) → k < length copies → version_at stale k ≡ version_at copies k
+    at_copy k within = get_or_append_left copies passed no_version k within
+
+    at_passed : (k : ℕ) → length copies ≤ k → version_at stale k ≡ version_at passed (k - length copies)
+    at_passed k past = get_or-append_right copies passed (length copies) k no_version refl past
+
+    rest : (k : ℕ) → k < length stale → length copies ≤ k → k - length copies < length passed
+    rest k within past = let both = length-append copies passed in omega (arith, within, past, both)
+
+    at_stale : (k : ℕ) → k < length stale → version_at all k ≡ version_at stale k
+    at_stale k within = get_or_append_left stale linked no_version k within
+
+    at_linked : (k : ℕ) → length stale ≤ k → version_at all k ≡ version_at linked (k - length stale)
+    at_linked k past = get_or-append_right stale linked (length stale) k no_version refl past
+
+    last : (k : ℕ) → k < length all → length stale ≤ k → k - length stale < length linked
+    last k within past = let both = length-append stale linked in omega (arith, within, past, both)
+
+    pub changed_is : (k : ℕ) → k < length all → IsChanged (version_at all k)
+    changed_is k within = elim (sides k (length stale)) [
+      | inl early ↦ elim (sides k (length copies)) [
+        | inl before ↦ subst IsChanged (sym (at_stale k early ∙ at_copy k before)) (copy_changed k before)
+        | inr past ↦ let from = passed_from (k - length copies) (rest k early past) in subst IsChanged (sym (at_stale k early ∙ at_passed k past)) (entry_changed from.place_of _ from.low from.entry)
+      ]
+      | inr late ↦ let from = linked_from (k - length stale) (last k within late) in subst IsChanged (sym (at_linked k late)) (entry_changed from.place_of _ from.low from.entry)
     ]
 
-    -- and no two are of one unit
-    pub stale_apart : (i j : ℕ) → i < j → j < length all → unit_at all i ≢ unit_at all j
+    stale_apart : (i j : ℕ) → i < j → j < length stale → unit_at stale i ≢ unit_at stale j
     stale_apart i j less within same = elim (sides j (length copies)) [
       | inl before ↦
           copies_apart i j less before (ap (λ (x : Version). x.unit.0) (sym (at_copy i (omega (arith, less, before)))) ∙ same ∙ ap (λ (x : Version). x.unit.0) (at_copy j before))
@@ -197,44 +308,61 @@ module _ (lines : UnitLines) (count : ℕ) (list : Versions) (units : List ℕ) 
       ]
     ]
 
--- what a plan says of the stale lines of a bus
-module _ (b : BusValue) (sound : IsSoundBus b) (place word : ℕ) (stale : List Version) (plan : (u : ℕ) → is_named stale u ≡ becomes_stale (observed b) place word u) where
-  abbrev own : ℕ
-  own = get_or b.units place 0
+    -- a line without T and one with it are of different units
+    faded : (v w : Version) → IsPassed v → IsPrevious w → v.unit.0 ≢ w.unit.0
+    faded v w one two same =
+        let e : seen v.line ≡ seen w.line = some_is (sym one.entry.line.held ∙ ap lines same ∙ two.entry.line.held) in
+        absurd (true≢false (sym two.stale ∙ ap (λ (x : SeenLine). x.bits.stale) (sym e) ∙ one.fresh))
 
-  -- the unit's cache is another, and its line is left by a purge
-  anew : (u : ℕ) → is_named stale u ≡ true → ((u == own) ≡ false) × (is_marked_anew (is_below (observed b) place u) (purged_line (unnumbered (line_in b.caches u word))) ≡ true)
-  unfolding observed
-  anew u named =
-      let parts = and_parts (not (u == own)) (is_marked_anew (is_below (observed b) place u) (purged_line (unnumbered (line_in b.caches u word)))) (sym (plan u) ∙ named) in
-      (not_true (u == own) parts.0, parts.1)
-    where
-      not_true : (x : Bool) → not x ≡ true → x ≡ false
-      not_true true e = sym e
-      not_true false e = refl
+    -- no two are of one unit
+    pub changed_apart : (i j : ℕ) → i < j → j < length all → unit_at all i ≢ unit_at all j
+    changed_apart i j less within same = elim (sides j (length stale)) [
+      | inl early ↦ stale_apart i j less early (ap (λ (x : Version). x.unit.0) (sym (at_stale i (omega (arith, less, early)))) ∙ same ∙ ap (λ (x : Version). x.unit.0) (at_stale j early))
+      | inr late ↦
+          let few = few_of (nearest_version_in list.active place) in
+          let place_j = last j within late in
+          let both = length-append stale linked in
+          let early : i < length stale = omega (arith, less, within, both, few) in
+          let from = linked_from (j - length stale) place_j in
+          let there : unit_at stale i ≡ (version_at linked (j - length stale)).unit.0 = ap (λ (x : Version). x.unit.0) (sym (at_stale i early)) ∙ same ∙ ap (λ (x : Version). x.unit.0) (at_linked j late) in
+          elim (sides i (length copies)) [
+            | inl before ↦ crossed (version_at copies i) (version_at linked (j - length stale)) (copy_line i before) from.entry.line (ap (λ (x : Version). x.unit.0) (sym (at_copy i before)) ∙ there)
+            | inr past ↦ faded (version_at passed (i - length copies)) (version_at linked (j - length stale)) (passed_from (i - length copies) (rest i early past)) from (ap (λ (x : Version). x.unit.0) (sym (at_passed i past)) ∙ there)
+          ]
+    ]
 
-  left : (u : ℕ) → is_named stale u ≡ true → IsLeft (line_of (cache_at b.caches u) word)
-  left u named = left_of (is_below (observed b) place u) (line_of (cache_at b.caches u) word) (line_valid (cache_at b.caches u) word) (anew u named).1
+-- the lines that a write changes in a bus
+module _ (b : BusValue) (sound : IsSoundBus b) (place word writer : ℕ) (within : place < length b.units) (at : get_or b.units place 0 ≡ writer) (list : Versions)
+    (committed : AreCommitted (lines_in b.caches word) (length b.caches) list.committed) (shows : map (option_map seen_version) list.active ≡ active_versions (lines_in b.caches word) b.units) where
+  abbrev changed : List Version
+  changed = changed_in list writer place
 
-  pub stale_once : ChangeOnce b.caches own word stale
-  stale_once = record {
-    others = others (is_named stale own) refl;
-    apart = λ u named. let k = left u named in ap (λ (line : Option SeenLine). is_committed_dirty (numbered line)) k.is ∙ k.clean;
+  record IsOther (k : ℕ) : Type 0 where
+    known : unit_at changed k < length b.caches
+    held : held_line b.caches (unit_at changed k) word ≡ Some (seen (version_at changed k).line)
+    valid : (seen (version_at changed k).line).bits.valid ≡ true
+    other : unit_at changed k ≢ writer
+    kept : is_committed_version (Some (seen (version_at changed k).line)) ≡ false
+
+  each : (k : ℕ) → k < length changed → IsOther k
+  each k below =
+      let is = changed_is (lines_in b.caches word) (length b.caches) list b.units committed shows (units_apart b sound) (units_known b sound) writer place within at k below in
+      record { known = is.within; held = sym (lines_are b.caches word (unit_at changed k)) ∙ is.held; valid = is.valid; other = is.other; kept = is.kept }
+
+  pub changed_once : ChangeOnce b.caches writer word (changed_in list writer place)
+  changed_once = record {
+    others = elim (cases_Bool (is_named changed writer)) [
+      | inr none ↦ none
+      | inl named ↦ let own = has_own changed writer named in absurd ((each own.0 own.1).other own.2)
+    ];
+    apart = λ u named.
+        let own = has_own changed u named in
+        let is = each own.0 own.1 in
+        ap (λ v. is_committed_version (held_line b.caches v word)) (sym own.2) ∙ ap is_committed_version is.held ∙ is.kept;
   }
-    where
-      others : (x : Bool) → is_named stale own ≡ x → is_named stale own ≡ false
-      others true e = absurd (true≢false (sym (eq-eqb own own refl) ∙ (anew own e).0))
-      others false e = e
 
-  pub stale_held : (list : Versions) (writer : ℕ) → AreCommitted (lines_in b.caches word) (length b.caches) list.committed → map (option_map seen_version) list.active ≡ active_versions (lines_in b.caches word) b.units
-      → place < length b.units → stale ≡ stale_in list writer place → AreHeld b.caches word stale
-  stale_held list writer committed shows within is = subst (AreHeld b.caches word) (sym is) (record {
-    each = λ k below.
-        let line = stale_line_is (lines_in b.caches word) (length b.caches) list b.units committed shows sound.sound.distinct_units sound.sound.known_units writer place (omega (arith, within)) k below in
-        record {
-          within = line.0;
-          held = ap numbered (sym (lines_are b.caches word (unit_at (stale_in list writer place) k)) ∙ line.1);
-          valid = line.2;
-        };
-    apart = record { apart = stale_apart (lines_in b.caches word) (length b.caches) list b.units committed shows sound.sound.distinct_units sound.sound.known_units writer place (omega (arith, within)) };
-  })
+  pub changed_held : AreHeld b.caches word (changed_in list writer place)
+  changed_held = record {
+    each = λ k below. let is = each k below in record { within = is.known; held = is.held; valid = is.valid };
+    apart = record { apart = changed_apart (lines_in b.caches word) (length b.caches) list b.units committed shows (units_apart b sound) (units_known b sound) writer place within at };
+  }

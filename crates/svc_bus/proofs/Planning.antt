@@ -1,5 +1,5 @@
 -- What the plan of a write says of a sound bus.
-use Rattle.std.proofs.Common.{◌≡◌, ◌∙◌, refl, sym, ap, ap₂, subst, ℕ, ◌+◌, ◌-◌, ◌<◌, Bool, false, Option, Some, List, length, map, get_or, option_map, unwrap_or, inl, inr, arith}
+use Rattle.std.proofs.Common.{◌≡◌, ◌≢◌, ◌∙◌, refl, sym, ap, ap₂, subst, ℕ, ◌+◌, ◌-◌, ◌<◌, Bool, true, false, is_some, Option, Some, List, length, map, get_or, option_map, unwrap_or, inl, inr, arith}
 use Rattle.std.specs.Prelude.{IfSome}
 use Rattle.svc_vol.specs.declared.version.Version.{Version}
 use Rattle.svc_base.specs.declared.refusal.Refusal.TheVariants as refusal
@@ -12,26 +12,28 @@ use Rattle.svc_bus_laws.specs.Versioned.{Row, Versioned, survivors, victim_answe
 use Rattle.svc_bus_laws.specs.Versioned as answer
 use Rattle.svc_bus_laws.specs.LineTable.{LineTable, unit_at, versioned}
 use Rattle.svc_bus_laws.specs.BusState.{BusState, Agrees}
-use Rattle.svc_bus_laws.specs.BusSteps.{bus_write}
-use Rattle.svc_bus_laws.specs.BusView.{bus_map, bus_row}
+use Rattle.svc_bus_laws.specs.BusLine.{purged_line, version_of_line}
+use Rattle.svc_bus_laws.specs.BusSteps.{bus_write, line_after_cut}
+use Rattle.svc_bus_laws.specs.BusView.{bus_line_at, bus_map, bus_row}
+use Rattle.svc_links_laws.specs.LinkSteps.{place_after, place_before, unit_of}
 use Rattle.svc_bus_laws.proofs.Searches.{least_cases, length-tabulate}
 use Rattle.svc_bus_laws.proofs.SeenLaws.{map_seen}
 use Rattle.svc_vol.specs.Lines.{CountsOneOfEach, lines_in}
 use Rattle.svc_vol.specs.Versions.{AreCommitted, Versions, active_versions, seen_version}
 use Rattle.svc_vcl.specs.Described.{IsRequest, line_with}
-use Rattle.svc_vcl.specs.Planned.{becomes_stale, is_named, stale_in}
+use Rattle.svc_vcl.specs.Planned.{changed_in, is_named, marked_where}
 use Rattle.svc_retire.specs.Purges.{HasRoomFor}
-use Rattle.svc_bus.specs.Value.{BusValue, IsSoundBus, table_of}
-use Rattle.svc_bus.specs.Observed.{observed}
+use Rattle.svc_bus.specs.Value.{BusValue, IsSoundBus, state_in}
 use Rattle.svc_bus.specs.Calls.{full_refusal}
 use Rattle.svc_bus.specs.Room.{full_in}
 use Rattle.svc_bus.specs.Marks.{AreHeld}
 use Rattle.svc_bus.specs.Stores.{ChangeOnce}
-use Rattle.svc_bus.proofs.Agreeing.{own_agrees, place_is}
+use Rattle.svc_bus.proofs.Agreeing.{place_is}
 use Rattle.svc_bus.proofs.Full.{full_shown}
+use Rattle.svc_bus.proofs.Knowing.{units_known}
 use Rattle.svc_bus.proofs.Rooms.{ways_few, places_few}
 use Rattle.svc_bus.proofs.Requests.{list_describes}
-use Rattle.svc_bus.proofs.Overtaking.{stale_held, stale_once}
+use Rattle.svc_bus.proofs.Overtaking.{changed_held, changed_once}
 use Rattle.svc_bus.proofs.Writing.{IsPlanned, own_active}
 
 -- the look-ups after the version list's can be counted
@@ -49,7 +51,7 @@ room_to_store b sound cs same first later none empty counts =
 
 -- what a cache answers of a full set is the refusal
 pub refusal_is : (b : BusValue) (sound : IsSoundBus b) (unit word : ℕ) → unit < length b.caches → (cs : List CacheValue) → cs ≡ b.caches → (memory : List ℕ) → memory ≡ b.backing
-    → option_map (λ (named : ℕ). refusal.SetFull (record { 0 = named })) (full_in cs unit (length memory) word) ≡ full_refusal (observed b) unit word
+    → option_map (λ (named : ℕ). refusal.SetFull (record { 0 = named })) (full_in cs unit (length memory) word) ≡ full_refusal (state_in b) unit word
 refusal_is b sound unit word known cs same memory also =
     ap₂ (λ (xs : List CacheValue) (ys : List ℕ). option_map (λ (named : ℕ). refusal.SetFull (record { 0 = named })) (full_in xs unit (length ys) word)) same also
     ∙ ap (option_map (λ (named : ℕ). refusal.SetFull (record { 0 = named }))) (full_shown b unit sound known word)
@@ -67,7 +69,7 @@ listed b sound word list cs same committed active = record {
 
 -- the unit of a task has a cache
 pub unit_known : (b : BusValue) → IsSoundBus b → (unit place : ℕ) → place < length b.units → get_or b.units place 0 ≡ unit → unit < length b.caches
-unit_known b sound unit place within at = subst (λ u. u < length b.caches) at (sound.sound.known_units place within)
+unit_known b sound unit place within at = subst (λ u. u < length b.caches) at (units_known b sound place within)
 
 -- the least number is below its bound
 least_within : (n : ℕ) (test : ℕ → Bool) → IfSome (least n test) (λ v. v < n)
@@ -77,61 +79,61 @@ least_within n test = elim (least_cases n test) [
 ]
 
 module _ (b : BusValue) (sound : IsSoundBus b) (unit place word : ℕ) (within : place < length b.units) (at : get_or b.units place 0 ≡ unit) (list : Versions) (has : HasList b word list) where
-  pub request : IsRequest (observed b) (table_of b) word list unit place
-  unfolding observed
-  request = record { agrees = own_agrees b sound.sound; described = list_describes b sound word list has.committed has.active; within = within; at_work = at }
+  pub request : IsRequest (state_in b) (sound.linked.table) word list unit place
+  request = record { agrees = sound.linked.agrees; described = list_describes b sound word list has.committed has.active; within = within; at_work = at }
 
   -- the victim
   module _ (chosen : Option ℕ) (tasks : ℕ) (all : tasks ≡ length b.units) (clause : (s : BusState) (t : LineTable) (a : ℕ) → IsRequest s t a list unit place → chosen ≡ answer.victim (bus_map s) place a) where
-    chosen_is : chosen ≡ answer.victim (bus_map (observed b)) place word
-    chosen_is = clause (observed b) (table_of b) word request
+    chosen_is : chosen ≡ answer.victim (bus_map (state_in b)) place word
+    chosen_is = clause (state_in b) (sound.linked.table) word request
 
-    rows_are : length (bus_map (observed b)).rows ≡ length b.units
-    unfolding observed
-    rows_are = length-tabulate {A = Row} (length b.units) (bus_row (observed b))
+    rows_are : length (bus_map (state_in b)).rows ≡ length b.units
+    rows_are = length-tabulate {A = Row} (length b.units) (bus_row (state_in b))
 
     pub chosen_within : IfSome chosen (λ v. v < tasks)
-    chosen_within = subst (λ (o : Option ℕ). IfSome o (λ v. v < tasks)) (sym chosen_is) (subst (λ n. IfSome (answer.victim (bus_map (observed b)) place word) (λ v. v < n)) (rows_are ∙ sym all) (least_within (length (bus_map (observed b)).rows) _))
+    chosen_within = subst (λ (o : Option ℕ). IfSome o (λ v. v < tasks)) (sym chosen_is) (subst (λ n. IfSome (answer.victim (bus_map (state_in b)) place word) (λ v. v < n)) (rows_are ∙ sym all) (least_within (length (bus_map (state_in b)).rows) _))
 
-    pub left_is : (left : ℕ) → left ≡ unwrap_or chosen tasks → left ≡ survivors (versioned (table_of b)) place word
-    left_is left is =
-        is
-        ∙ ap₂ (λ (o : Option ℕ) (n : ℕ). unwrap_or o n) chosen_is (all ∙ sym rows_are)
-        ∙ ap (λ (m : Versioned). survivors m place word) (map_seen (observed b) (table_of b) (own_agrees b sound.sound))
+    pub left_is : (left : ℕ) → left ≡ unwrap_or chosen tasks → left ≡ survivors (bus_map (state_in b)) place word
+    left_is left is = is ∙ ap₂ (λ (o : Option ℕ) (n : ℕ). unwrap_or o n) chosen_is (all ∙ sym rows_are)
 
     abbrev answer_of : ℕ → ℕ → answer.Victim
     answer_of v n = record { first = b.commits + v; tasks = n - v }
 
-    pub chosen_shown : (s : LineTable) (p : ℕ) → Agrees (observed b) s → p < length s.units → unit_at s p ≡ unit → option_map (λ v. answer_of v tasks) chosen ≡ victim_answer (versioned s) p word
-    unfolding observed
+    pub chosen_shown : (s : LineTable) (p : ℕ) → Agrees (state_in b) s → p < length s.units → unit_at s p ≡ unit → option_map (λ v. answer_of v tasks) chosen ≡ victim_answer (versioned s) p word
     chosen_shown s p agrees here is =
         ap₂ (λ (o : Option ℕ) (n : ℕ). option_map (λ v. answer_of v n) o) chosen_is (all ∙ sym rows_are)
-        ∙ ap₂ (λ (m : Versioned) (q : ℕ). victim_answer m q word) (map_seen (observed b) s agrees) (sym (place_is b s agrees place p sound.sound within here (is ∙ sym at)))
+        ∙ ap₂ (λ (m : Versioned) (q : ℕ). victim_answer m q word) (map_seen (state_in b) s agrees) (sym (place_is b s agrees place p sound within here (is ∙ sym at)))
 
-  -- the stale lines
-  module _ (stale : List Version) (clause : (s : BusState) (t : LineTable) (a other : ℕ) → IsRequest s t a list unit place → is_named stale other ≡ becomes_stale s place a other) where
-    pub named_is : (u : ℕ) → is_named stale u ≡ becomes_stale (observed b) place word u
-    named_is u = clause (observed b) (table_of b) word u request
+  -- the lines that change
+  module _ (changed : List Version) (are : changed ≡ changed_in list unit place) where
+    pub held_lines : (cs : List CacheValue) → cs ≡ b.caches → AreHeld cs word changed
+    held_lines cs same = subst (λ (vs : List Version). AreHeld cs word vs) (sym are) (subst (λ (xs : List CacheValue). AreHeld xs word (changed_in list unit place)) (sym same) (changed_held b sound place word unit within at list has.committed has.active))
 
-    pub held_lines : (cs : List CacheValue) → cs ≡ b.caches → stale ≡ stale_in list unit place → AreHeld cs word stale
-    held_lines cs same is = subst (λ (xs : List CacheValue). AreHeld xs word stale) (sym same) (stale_held b sound place word stale named_is list unit has.committed has.active within is)
-
-    pub once_each : (cs : List CacheValue) → cs ≡ b.caches → ChangeOnce cs unit word stale
-    once_each cs same = subst (λ (xs : List CacheValue). ChangeOnce xs unit word stale) (sym same) (subst (λ u. ChangeOnce b.caches u word stale) at (stale_once b sound place word stale named_is))
+    pub once_each : (cs : List CacheValue) → cs ≡ b.caches → ChangeOnce cs unit word changed
+    once_each cs same = subst (λ (vs : List Version). ChangeOnce cs unit word vs) (sym are) (subst (λ (xs : List CacheValue). ChangeOnce xs unit word (changed_in list unit place)) (sym same) (changed_once b sound place word unit within at list has.committed has.active))
 
     -- all of it
-    module _ (value left : ℕ) (bits : Bits) (is_left : left ≡ survivors (versioned (table_of b)) place word) (own : (s : BusState) (t : LineTable) (a w : ℕ) → IsRequest s t a list unit place → (bus_write s place a w).lines unit a ≡ Some (line_with w bits)) where
+    module _ (value left : ℕ) (bits : Bits) (next previous : Option ℕ) (is_left : left ≡ survivors (bus_map (state_in b)) place word) (valid : bits.valid ≡ true)
+        (own : (s : BusState) (t : LineTable) (a w : ℕ) → IsRequest s t a list unit place → (bus_write s place a w).lines unit a ≡ Some (line_with w bits))
+        (others : (s : BusState) (t : LineTable) (a w other : ℕ) → IsRequest s t a list unit place → other ≢ unit → (bus_write s place a w).lines other a ≡ marked_where (is_named changed other) (purged_line (line_after_cut s (survivors (bus_map s) place a) other a)))
+        (next_is : (s : BusState) (t : LineTable) (a : ℕ) → IsRequest s t a list unit place → next ≡ unit_of s.units (place_after (survivors (bus_map s) place a) (λ q. is_some (version_of_line (bus_line_at s q a))) place))
+        (previous_is : (s : BusState) (t : LineTable) (a : ℕ) → IsRequest s t a list unit place → previous ≡ unit_of s.units (place_before (λ q. is_some (version_of_line (bus_line_at s q a))) place))
+        (linked : (other : ℕ) → previous ≡ Some other → is_named changed other ≡ true) where
       abbrev pub new_line : SeenLine
-      new_line = record { value = value; bits = bits; task = b.commits + place }
+      new_line = record { value = value; bits = bits; next = next }
 
-      pub planned : IsPlanned b place word value new_line stale left
+      pub planned : IsPlanned b place word value new_line previous changed left
       planned = record {
         left_is = is_left;
-        named = named_is;
-        own = ap (λ u. (bus_write (observed b) place word value).lines u word) at ∙ own (observed b) (table_of b) word value request;
+        own = ap (λ u. (bus_write (state_in b) place word value).lines u word) at ∙ own (state_in b) sound.linked.table word value request;
         value_is = refl;
-        task_is = refl;
+        valid = valid;
+        next_is = next_is (state_in b) sound.linked.table word request;
+        previous_is = previous_is (state_in b) sound.linked.table word request;
+        others = λ u ne. others (state_in b) sound.linked.table word value u request (λ e. ne (e ∙ sym at));
+        unnamed = ap (is_named changed) at ∙ (once_each b.caches refl).others;
+        linked = linked;
       }
 
       pub line_active : word < length b.backing → bits.commit ≡ false
-      line_active known = own_active b sound place word value new_line stale left within known planned
+      line_active known = own_active b sound place word value new_line previous changed left within known planned

@@ -6,15 +6,15 @@ use Rattle.svc_base.specs.declared.ids.UnitId.{UnitId}
 use Rattle.svc_cache.specs.declared.probes.Probes.{Probes}
 use Rattle.svc_cache.specs.Places.{CacheValue}
 use Rattle.svc_bus_laws.specs.Search.{how_many}
-use Rattle.svc_bus_laws.specs.LineTable.{Line, is_committed_dirty}
-use Rattle.svc_bus_laws.specs.Steps.{purged, with_line}
+use Rattle.svc_line.specs.Line.{SeenLine}
+use Rattle.svc_vol.specs.Lines.{is_committed_version}
 use Rattle.svc_vol.specs.declared.version.Version.{Version}
 use Rattle.svc_vol.specs.Versions.{unit_at}
 use Rattle.svc_vcl.specs.Planned.{is_named}
-use Rattle.svc_retire.specs.Caches.{SameSizes}
-use Rattle.svc_retire.specs.Purges.{keeps, CountsSearches, HasRoomFor}
+use Rattle.svc_retire.specs.Caches.{held_line, SameSizes}
+use Rattle.svc_retire.specs.Purges.{is_purged, keeps, purged_line, purges, CountsSearches, HasRoomFor}
 use Rattle.svc_retire.proofs.Counts.{how_many_within, how_many_room}
-use Rattle.svc_bus.specs.Numbers.{line_in, is_purged, purges}
+use Rattle.svc_bus.specs.Lines.{with_line}
 use Rattle.svc_bus.specs.Looking.{CountsUpTo}
 use Rattle.svc_bus.specs.Marks.{AreHeld, EndBelow}
 use Rattle.svc_bus.specs.Stores.{ChangeOnce}
@@ -61,9 +61,9 @@ own_kept x false e = absurd (false≢true e)
 pub changes_few : (caches : List CacheValue) (unit : UnitId) (word : ℕ) (stale : List Version) → unit.0 < length caches → ChangeOnce caches unit.0 word stale → (purges caches (Some unit) word + how_many (length caches) (is_named stale)) + 1 ≤ length caches
 changes_few caches unit word stale known once =
     both_few (length caches) (is_purged caches (Some unit) word) (is_named stale) unit.0 known
-    (own_kept (is_committed_dirty (line_in caches unit.0 word)) (unit.0 == unit.0) (eq-eqb unit.0 unit.0 refl))
+    (own_kept (is_committed_version (held_line caches unit.0 word)) (unit.0 == unit.0) (eq-eqb unit.0 unit.0 refl))
     once.others
-    (λ u named. not_purged (is_committed_dirty (line_in caches u word)) (not (keeps (Some unit) u)) (once.apart u named))
+    (λ u named. not_purged (is_committed_version (held_line caches u word)) (not (keeps (Some unit) u)) (once.apart u named))
 
 pub room_left : (before now : List CacheValue) (probes_before probes_now : Probes) (unit : UnitId) (word : ℕ) (stale : List Version) → AreHeld before word stale → SameSizes before now → CountsSearches probes_before probes_now (purges before (Some unit) word + 1) → HasRoomFor probes_before before (1 + (length before + length before)) → HasRoomFor probes_now now (length stale)
 room_left before now probes_before probes_now unit word stale held sizes counted room =
@@ -92,8 +92,8 @@ searches_few before now first second third unit word stale known once held sizes
 
 -- ---- the lines that are to be marked stay
 
-pub held_after : (before now : List CacheValue) (unit word : ℕ) (line : Option Line) (stale : List Version) → ChangeOnce before unit word stale → SameSizes before now
-    → ((u a : ℕ) → line_in now u a ≡ with_line (line_in before) unit word line purged u a) → AreHeld before word stale → AreHeld now word stale
+pub held_after : (before now : List CacheValue) (unit word : ℕ) (line : Option SeenLine) (stale : List Version) → ChangeOnce before unit word stale → SameSizes before now
+    → ((u a : ℕ) → held_line now u a ≡ with_line (held_line before) unit word line purged_line u a) → AreHeld before word stale → AreHeld now word stale
 held_after before now unit word line stale once sizes lines held = record {
   each = λ k below.
       let h = held.each k below in
@@ -106,13 +106,13 @@ held_after before now unit word line stale once sizes lines held = record {
   apart = held.apart;
 }
   where
-    stays : (k : ℕ) → is_named stale (unit_at stale k) ≡ true → with_line (line_in before) unit word line purged (unit_at stale k) word ≡ line_in before (unit_at stale k) word
-    stays k named = rw (eq-eqb word word refl, ne_eqb (unit_at stale k) unit (λ same. absurd (true≢false (sym named ∙ ap (is_named stale) same ∙ once.others)))) (ap (λ x. cond x None (line_in before (unit_at stale k) word)) (once.apart (unit_at stale k) named))
+    stays : (k : ℕ) → is_named stale (unit_at stale k) ≡ true → with_line (held_line before) unit word line purged_line (unit_at stale k) word ≡ held_line before (unit_at stale k) word
+    stays k named = rw (eq-eqb word word refl, ne_eqb (unit_at stale k) unit (λ same. absurd (true≢false (sym named ∙ ap (is_named stale) same ∙ once.others)))) (ap (λ x. cond x None (held_line before (unit_at stale k) word)) (once.apart (unit_at stale k) named))
 
 -- ---- no line past the memory
 
-pub put_ends : (before now : List CacheValue) (unit word bound : ℕ) (line : Option Line) → word < bound → EndBelow before bound → ((u a : ℕ) → line_in now u a ≡ with_line (line_in before) unit word line purged u a) → EndBelow now bound
+pub put_ends : (before now : List CacheValue) (unit word bound : ℕ) (line : Option SeenLine) → word < bound → EndBelow before bound → ((u a : ℕ) → held_line now u a ≡ with_line (held_line before) unit word line purged_line u a) → EndBelow now bound
 put_ends before now unit word bound line within ends lines = record { ends = λ u a past. lines u a ∙ other u a past }
   where
-    other : (u a : ℕ) → bound ≤ a → with_line (line_in before) unit word line purged u a ≡ None
+    other : (u a : ℕ) → bound ≤ a → with_line (held_line before) unit word line purged_line u a ≡ None
     other u a past = rw (ne_eqb a word (λ e. absurd (omega (arith, past, within, e)))) (ends.ends u a past)

@@ -2,8 +2,10 @@
 use Rattle.std.specs.Prelude.{ℕ, Bool, true, false, Option}
 use Rattle.svc_base.specs.declared.served.Served.{Served}
 use Rattle.svc_base.specs.declared.served.Served.TheVariants.{Hit, Reuse, Version, Spill, Committed, Memory}
-use Rattle.svc_bus_laws.specs.LineTable.{Line}
-use Rattle.svc_bus_laws.specs.Steps.{purged, with_at, with_line}
+use Rattle.svc_line.specs.Line.{SeenLine}
+use Rattle.svc_bus_laws.specs.Steps.{with_at}
+use Rattle.svc_retire.specs.Purges.{purged_line}
+use Rattle.svc_bus.specs.Lines.{Held, with_line}
 
 -- the unit's own active line supplied it
 abbrev pub is_hit : Served → Bool
@@ -15,13 +17,13 @@ is_hit (Committed unit) = false
 is_hit Memory = false
 
 -- a hit changes no line, a reuse the unit's own; else there was a bus request, and the word's other lines are purged
-abbrev pub lines_after : Served → (ℕ → ℕ → Option Line) → (unit word : ℕ) → Option Line → ℕ → ℕ → Option Line
+abbrev pub lines_after : Served → Held → (unit word : ℕ) → Option SeenLine → Held
 lines_after Hit lines unit word line = lines
 lines_after Reuse lines unit word line = with_line lines unit word line (λ other. other)
-lines_after (Version supplier) lines unit word line = with_line lines unit word line purged
-lines_after Spill lines unit word line = with_line lines unit word line purged
-lines_after (Committed supplier) lines unit word line = with_line lines unit word line purged
-lines_after Memory lines unit word line = with_line lines unit word line purged
+lines_after (Version supplier) lines unit word line = with_line lines unit word line purged_line
+lines_after Spill lines unit word line = with_line lines unit word line purged_line
+lines_after (Committed supplier) lines unit word line = with_line lines unit word line purged_line
+lines_after Memory lines unit word line = with_line lines unit word line purged_line
 
 -- a bus request leaves the committed value in the memory
 abbrev pub memory_after : Served → (ℕ → ℕ) → (word : ℕ) → (committed : ℕ) → ℕ → ℕ

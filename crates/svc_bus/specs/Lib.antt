@@ -1,4 +1,4 @@
-pub mod Numbers
+pub mod Lines
 pub mod Value
 pub mod Observed
 pub mod Calls

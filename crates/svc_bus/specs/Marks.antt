@@ -1,31 +1,35 @@
--- T is set on the lines of a word that a store has overtaken.
+-- The lines of a word that a store has overtaken, and the one before it, which it links to the writer's.
 use Rattle.std.specs.Prelude.{◌≡◌, ℕ, ◌<◌, ◌≤◌, Bool, true, cond, Option, Some, None, List, length}
-use Rattle.svc_line.specs.Bits.{bits_of}
-use Rattle.svc_line.specs.Line.{seen}
+use Rattle.svc_line.specs.Bits.{bits_of, overtaken_now}
+use Rattle.svc_line.specs.Line.{SeenLine, seen}
 use Rattle.svc_cache.specs.Places.{CacheValue}
-use Rattle.svc_bus_laws.specs.LineTable.{Line}
+use Rattle.svc_links_laws.specs.LinkSteps.{is_unit}
 use Rattle.svc_vol.specs.declared.version.Version.{Version}
 use Rattle.svc_vol.specs.Versions.{version_at}
 use Rattle.svc_vcl.specs.Planned.{AreApart}
-use Rattle.svc_bus.specs.Numbers.{line_in, numbered}
+use Rattle.svc_retire.specs.Caches.{held_line}
 
--- T is set on the line
-abbrev pub stale_line : Option Line → Option Line
-stale_line None = None
-stale_line (Some l) = Some (record l { stale = true })
+-- the line links to the writer's where its unit is the one before
+abbrev pub link_after : (previous : Option ℕ) → (writer unit : ℕ) → Option ℕ → Option ℕ
+link_after previous writer unit link = cond (is_unit previous unit) (Some writer) link
 
--- T is set where the flag says so
-abbrev pub stale_where : Bool → Option Line → Option Line
-stale_where flag line = cond flag (stale_line line) line
+-- T is set on the line, and it is linked where its unit is the one before
+abbrev pub overtaken_line : (previous : Option ℕ) → (writer unit : ℕ) → Option SeenLine → Option SeenLine
+overtaken_line previous writer unit None = None
+overtaken_line previous writer unit (Some l) = Some (record { value = l.value; bits = overtaken_now l.bits; next = link_after previous writer unit l.next })
+
+-- that is done where the flag says so
+abbrev pub overtaken_where : (previous : Option ℕ) → (writer unit : ℕ) → Bool → Option SeenLine → Option SeenLine
+overtaken_where previous writer unit flag line = cond flag (overtaken_line previous writer unit line) line
 
 -- no line lies past the bound
 pub record EndBelow (caches : List CacheValue) (bound : ℕ) : Type 0 where
-  pub ends : (u a : ℕ) → bound ≤ a → line_in caches u a ≡ None
+  pub ends : (u a : ℕ) → bound ≤ a → held_line caches u a ≡ None
 
 -- the version is its unit's line of the word
 pub record IsHeld (caches : List CacheValue) (word : ℕ) (version : Version) : Type 0 where
   pub within : version.unit.0 < length caches
-  pub held : line_in caches version.unit.0 word ≡ numbered (Some (seen version.line))
+  pub held : held_line caches version.unit.0 word ≡ Some (seen version.line)
   pub valid : (bits_of version.line.bits).valid ≡ true
 
 -- so is each of the versions, and no two of them are in one cache

@@ -1,7 +1,7 @@
 -- What callers may know of a bus.
-use Rattle.svc_bus_laws.specs.BusState.{BusState, state_of}
-use Rattle.svc_bus.specs.Value.{BusValue, table_of}
+use Rattle.svc_bus_laws.specs.BusState.{BusState}
+use Rattle.svc_bus.specs.Value.{BusValue, state_in}
 
--- the lines, their order, and all else but the numbers of lines
+-- the lines, their order, and all else but their links
 unfoldable pub observed : BusValue → BusState
-observed b = state_of b.probes (table_of b)
+observed b = state_in b

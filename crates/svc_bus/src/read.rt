@@ -4,17 +4,16 @@ ghost use Rattle.svc_line.specs.Bits.{bits_of, is_active};
 ghost use Rattle.svc_line.specs.Line.{seen};
 ghost use Rattle.svc_cache.specs.Places.{line_of};
 ghost use Rattle.svc_cache.specs.Lines.{EndsBelow};
-ghost use Rattle.svc_vol.specs.Lines.{lines_in};
+ghost use Rattle.svc_vol.specs.Lines.{lines_in, IsRanked};
 ghost use Rattle.svc_vol.specs.Versions.{AreCommitted};
-ghost use Rattle.svc_retire.specs.Caches.{cache_at, SameSizes};
-ghost use Rattle.svc_retire.specs.Purges.{HasRoomFor};
+ghost use Rattle.svc_retire.specs.Caches.{cache_at, held_line, SameSizes};
+ghost use Rattle.svc_retire.specs.Purges.{committed_in, HasRoomFor};
 ghost use Rattle.svc_vcl.specs.Planned.{supplier_of};
 ghost use Rattle.svc_bus_laws.specs.Versioned.{view};
 ghost use Rattle.svc_bus_laws.specs.LineTable.{LineTable, unit_at, versioned};
 ghost use Rattle.svc_bus_laws.specs.Supplier.{supplier};
 ghost use Rattle.svc_bus_laws.specs.Steps.{read};
 ghost use Rattle.svc_bus_laws.specs.BusState.{Agrees};
-ghost use Rattle.svc_bus.specs.Numbers.{line_in, numbered, AreDistinct, committed_in};
 ghost use Rattle.svc_bus.specs.Observed.{observed};
 ghost use Rattle.svc_bus.specs.Room.{full_in};
 ghost use Rattle.svc_bus.specs.Carried.{is_hit, lines_after, memory_after};
@@ -23,7 +22,7 @@ ghost use Rattle.svc_bus.specs.Looking.{CountsUpTo, IsOne, LookUps};
 
 use crate::Bus;
 use crate::request::{fill_in, place_of, put_line};
-use svc_base::{Refusal, Served, TaskNo, UnitId, WordAddr};
+use svc_base::{Refusal, Served, UnitId, WordAddr};
 use svc_cache::{Cache, Probes, SetFull};
 use svc_line::Line;
 use svc_vcl::plan_read;
@@ -48,7 +47,7 @@ fn carry_out(
 ) -> Result<(), SetFull>
     requires known { unit.0 < length caches.old }
     requires listed { AreCommitted (lines_in caches.old word.0) (length caches.old) list.now.committed }
-    requires distinct { AreDistinct caches.old word.0 }
+    requires ranked { IsRanked (length caches.old) (lines_in caches.old word.0) }
     requires in_memory { word.0 < length backing.old }
     requires ends { EndsBelow (line_of (cache_at caches.old unit.0)) (length backing.old) }
     requires valid { (bits_of outcome.now.line.bits).valid ≡ true }
@@ -57,7 +56,7 @@ fn carry_out(
     ensures refused { MatchResult result (λ _. is_hit outcome.now.served ≡ false → full_in caches.old unit.0 (length backing.old) word.0 ≡ None) (λ e. full_in caches.old unit.0 (length backing.old) word.0 ≡ Some e.0.0) }
     ensures same_caches { OnErr result (caches.new ≡ caches.old) }
     ensures same_memory { OnErr result (backing.new ≡ backing.old) }
-    ensures lines { OnOk result ((u a : ℕ) → line_in caches.new u a ≡ lines_after outcome.now.served (line_in caches.old) unit.0 word.0 (numbered (Some (seen outcome.now.line))) u a) }
+    ensures lines { OnOk result ((u a : ℕ) → held_line caches.new u a ≡ lines_after outcome.now.served (held_line caches.old) unit.0 word.0 (Some (seen outcome.now.line)) u a) }
     ensures memory { OnOk result ((a : ℕ) → get_or backing.new a 0 ≡ memory_after outcome.now.served (λ x. get_or backing.old x 0) word.0 (committed_in caches.old backing.old word.0) a) }
     ensures sizes { SameSizes caches.old caches.new }
     ensures searches { OnOk result (CountsUpTo probes.old probes.new (length caches.old)) }
@@ -139,7 +138,7 @@ impl Bus {
             line: Line {
                 value: plan.value,
                 bits: plan.bits,
-                task: TaskNo(self.commits + place as u64),
+                next: None,
             },
         };
         if let Err(SetFull(named)) = carry_out(

@@ -2,11 +2,12 @@ ghost use Rattle.std.specs.Prelude.{◌≡◌, ℕ, ◌<◌, true, not, ◌&&◌
 ghost use Rattle.std.specs.Option.{option_or};
 ghost use Rattle.svc_line.specs.Bits.{bits_of};
 ghost use Rattle.svc_line.specs.Line.{seen};
-ghost use Rattle.svc_bus_laws.specs.LineTable.{LineTable, version_in};
+ghost use Rattle.svc_bus_laws.specs.LineTable.{LineTable};
 ghost use Rattle.svc_bus_laws.specs.Refusals.{is_head};
 ghost use Rattle.svc_bus_laws.specs.Steps.{replace, with_at};
+ghost use Rattle.svc_bus_laws.specs.BusLine.{version_of_line};
 ghost use Rattle.svc_bus_laws.specs.BusState.{Agrees};
-ghost use Rattle.svc_bus.specs.Numbers.{numbered};
+ghost use Rattle.svc_vcl.specs.Described.{bus_line_of};
 ghost use Rattle.svc_bus.specs.Observed.{observed};
 ghost use Rattle.svc_bus.specs.Calls.{replace_refusal};
 
@@ -23,7 +24,7 @@ use svc_vol::VersionList;
 fn spill_version(spill: &mut Spill, word: WordAddr, line: &Line)
     requires known { word.0 < length spill.old }
     requires valid { (bits_of line.now.bits).valid ≡ true }
-    ensures versions { (a : ℕ) → get_or spill.new a None ≡ with_at (λ x. get_or spill.old x None) word.0 (option_or (version_in (numbered (Some (seen line.now)))) (get_or spill.old word.0 None)) a }
+    ensures versions { (a : ℕ) → get_or spill.new a None ≡ with_at (λ x. get_or spill.old x None) word.0 (option_or (version_of_line (bus_line_of (Some (seen line.now)))) (get_or spill.old word.0 None)) a }
     ensures size { length spill.new ≡ length spill.old }
 {
     if line.bits.is_active() && line.bits.is_dirty() {

@@ -1,16 +1,16 @@
-ghost use Rattle.std.specs.Prelude.{◌≡◌, ◌≢◌, ℕ, ◌+◌, ◌*◌, ◌<◌, ◌≤◌, ◌==◌, cond, Bool, true, false, Option, Some, None, length, get_or, OnOk, OnErr, MatchResult};
+ghost use Rattle.std.specs.Prelude.{◌≡◌, ◌≢◌, ℕ, ◌+◌, ◌*◌, ◌<◌, ◌≤◌, ◌==◌, Bool, true, false, Option, Some, None, length, get_or, OnOk, OnErr, MatchResult};
 ghost use Rattle.svc_line.specs.Bits.{bits_of, is_committed};
 ghost use Rattle.svc_line.specs.Line.{seen};
 ghost use Rattle.svc_cache.specs.Places.{line_of};
 ghost use Rattle.svc_cache.specs.Lines.{EndsBelow};
-ghost use Rattle.svc_vol.specs.Lines.{lines_in};
+ghost use Rattle.svc_vol.specs.Lines.{lines_in, IsRanked};
 ghost use Rattle.svc_vol.specs.Versions.{AreCommitted};
 ghost use Rattle.svc_vcl.specs.Planned.{is_named};
 ghost use Rattle.svc_bus_laws.specs.Refusals.{is_head};
-ghost use Rattle.svc_bus_laws.specs.Steps.{purged, with_at, with_line};
-ghost use Rattle.svc_retire.specs.Caches.{cache_at, SameSizes};
-ghost use Rattle.svc_retire.specs.Purges.{CountsSearches, HasRoomFor};
-ghost use Rattle.svc_bus.specs.Numbers.{line_in, numbered, AreDistinct, committed_in, line_after_purge, purges};
+ghost use Rattle.svc_bus_laws.specs.Steps.{with_at};
+ghost use Rattle.svc_retire.specs.Caches.{cache_at, held_line, SameSizes};
+ghost use Rattle.svc_retire.specs.Purges.{committed_in, purged_line, purges, CountsSearches, HasRoomFor};
+ghost use Rattle.svc_bus.specs.Lines.{with_line};
 ghost use Rattle.svc_bus.specs.Room.{full_in};
 
 use svc_base::{UnitId, WordAddr};
@@ -55,7 +55,7 @@ pub(crate) fn fill_in(
     requires room { HasRoomFor probes.old caches.old 1 }
     ensures refused { (bound : ℕ) → EndsBelow (line_of (cache_at caches.old unit.0)) bound → MatchResult result (λ _. full_in caches.old unit.0 bound word.0 ≡ None) (λ e. full_in caches.old unit.0 bound word.0 ≡ Some e.0.0) }
     ensures unchanged { OnErr result (caches.new ≡ caches.old) }
-    ensures lines { OnOk result ((u a : ℕ) → line_in caches.new u a ≡ with_line (line_in caches.old) unit.0 word.0 (numbered (Some (seen line))) (λ other. other) u a) }
+    ensures lines { OnOk result ((u a : ℕ) → held_line caches.new u a ≡ with_line (held_line caches.old) unit.0 word.0 (Some (seen line)) (λ other. other) u a) }
     ensures others { OnOk result ((u : ℕ) → u ≢ unit.0 → cache_at caches.new u ≡ cache_at caches.old u) }
     ensures sizes { SameSizes caches.old caches.new }
     ensures counted { CountsSearches probes.old probes.new 1 }
@@ -67,7 +67,7 @@ pub(crate) fn fill_in(
 fn drop_in(caches: &mut [Cache], unit: UnitId, word: WordAddr, probes: &mut Probes)
     requires known { unit.0 < length caches.old }
     requires room { HasRoomFor probes.old caches.old 1 }
-    ensures lines { (u a : ℕ) → line_in caches.new u a ≡ with_line (line_in caches.old) unit.0 word.0 None (λ other. other) u a }
+    ensures lines { (u a : ℕ) → held_line caches.new u a ≡ with_line (held_line caches.old) unit.0 word.0 None (λ other. other) u a }
     ensures sizes { SameSizes caches.old caches.new }
     ensures counted { CountsSearches probes.old probes.new 1 }
 {
@@ -79,27 +79,6 @@ fn has_line_of(versions: &[Version], unit: UnitId) -> bool
     ensures { result ≡ is_named versions.now unit.0 }
 {
     versions.iter().any(|version| version.unit.0 == unit.0)
-}
-
-// The word is purged in all caches but the unit's.
-fn purge_others(
-    caches: &mut [Cache],
-    backing: &mut [u32],
-    list: &VersionList,
-    unit: UnitId,
-    word: WordAddr,
-    probes: &mut Probes,
-)
-    requires listed { AreCommitted (lines_in caches.old word.0) (length caches.old) list.now.committed }
-    requires distinct { AreDistinct caches.old word.0 }
-    requires in_memory { word.0 < length backing.old }
-    requires room { HasRoomFor probes.old caches.old (length caches.old) }
-    ensures lines { (u a : ℕ) → line_in caches.new u a ≡ line_after_purge (Some unit) word.0 u a (line_in caches.old u a) }
-    ensures memory { (a : ℕ) → get_or backing.new a 0 ≡ cond (a == word.0) (committed_in caches.old backing.old word.0) (get_or backing.old a 0) }
-    ensures sizes { SameSizes caches.old caches.new }
-    ensures counted { CountsSearches probes.old probes.new (purges caches.old (Some unit) word.0) }
-{
-    purge(caches, backing, list, word, Some(unit), probes);
 }
 
 /// A bus request of the unit for the word: its line of the word becomes this one, and the word is purged in the other
@@ -117,7 +96,7 @@ pub(crate) fn put_line(
 ) -> Result<(), SetFull>
     requires known { unit.0 < length caches.old }
     requires listed { AreCommitted (lines_in caches.old word.0) (length caches.old) list.now.committed }
-    requires distinct { AreDistinct caches.old word.0 }
+    requires ranked { IsRanked (length caches.old) (lines_in caches.old word.0) }
     requires in_memory { word.0 < length backing.old }
     requires ends { EndsBelow (line_of (cache_at caches.old unit.0)) (length backing.old) }
     requires valid { (bits_of line.bits).valid ≡ true }
@@ -126,18 +105,18 @@ pub(crate) fn put_line(
     ensures refused { MatchResult result (λ _. full_in caches.old unit.0 (length backing.old) word.0 ≡ None) (λ e. full_in caches.old unit.0 (length backing.old) word.0 ≡ Some e.0.0) }
     ensures same_caches { OnErr result (caches.new ≡ caches.old) }
     ensures same_memory { OnErr result (backing.new ≡ backing.old) }
-    ensures lines { OnOk result ((u a : ℕ) → line_in caches.new u a ≡ with_line (line_in caches.old) unit.0 word.0 (numbered (Some (seen line))) purged u a) }
+    ensures lines { OnOk result ((u a : ℕ) → held_line caches.new u a ≡ with_line (held_line caches.old) unit.0 word.0 (Some (seen line)) purged_line u a) }
     ensures memory { OnOk result ((a : ℕ) → get_or backing.new a 0 ≡ with_at (λ x. get_or backing.old x 0) word.0 (committed_in caches.old backing.old word.0) a) }
     ensures sizes { SameSizes caches.old caches.new }
     ensures counted { OnOk result (CountsSearches probes.old probes.new (purges caches.old (Some unit) word.0 + 1)) }
 {
     if has_line_of(list.committed(), unit) {
         // The line goes over the unit's committed one, so it finds room.
-        purge_others(caches, backing, list, unit, word, probes);
+        purge(caches, backing, list, word, Some(unit), probes);
         return fill_in(caches, unit, word, line, probes);
     }
     fill_in(caches, unit, word, line, probes)?;
-    purge_others(caches, backing, list, unit, word, probes);
+    purge(caches, backing, list, word, Some(unit), probes);
     Ok(())
 }
 
@@ -152,13 +131,13 @@ pub(crate) fn take_line(
 )
     requires known { unit.0 < length caches.old }
     requires listed { AreCommitted (lines_in caches.old word.0) (length caches.old) list.now.committed }
-    requires distinct { AreDistinct caches.old word.0 }
+    requires ranked { IsRanked (length caches.old) (lines_in caches.old word.0) }
     requires in_memory { word.0 < length backing.old }
     requires room { HasRoomFor probes.old caches.old (1 + length caches.old) }
-    ensures lines { (u a : ℕ) → line_in caches.new u a ≡ with_line (line_in caches.old) unit.0 word.0 None purged u a }
+    ensures lines { (u a : ℕ) → held_line caches.new u a ≡ with_line (held_line caches.old) unit.0 word.0 None purged_line u a }
     ensures memory { (a : ℕ) → get_or backing.new a 0 ≡ with_at (λ x. get_or backing.old x 0) word.0 (committed_in caches.old backing.old word.0) a }
     ensures sizes { SameSizes caches.old caches.new }
 {
-    purge_others(caches, backing, list, unit, word, probes);
+    purge(caches, backing, list, word, Some(unit), probes);
     drop_in(caches, unit, word, probes);
 }

@@ -1,20 +1,20 @@
 ghost use Rattle.std.specs.Prelude.{◌≡◌, ℕ, ◌+◌, ◌<◌, ◌≤◌, ◌==◌, true, false, cond, Option, Some, None, length, get_or, option_map, IfOk, OnOk, OnErr, MatchResult};
+ghost use Rattle.svc_base.specs.declared.ids.UnitId.{UnitId};
 ghost use Rattle.svc_base.specs.declared.refusal.Refusal.TheVariants as refusal;
 ghost use Rattle.svc_line.specs.Bits.{bits_of};
 ghost use Rattle.svc_line.specs.Line.{seen};
-ghost use Rattle.svc_vol.specs.Lines.{lines_in};
+ghost use Rattle.svc_vol.specs.Lines.{lines_in, IsRanked};
 ghost use Rattle.svc_vol.specs.Versions.{AreCommitted};
 ghost use Rattle.svc_vol.specs.declared.list.TheConstants.{CAPACITY};
 ghost use Rattle.svc_bus_laws.specs.Steps.{with_at};
-ghost use Rattle.svc_retire.specs.Caches.{SameSizes};
-ghost use Rattle.svc_retire.specs.Purges.{HasRoomFor};
-ghost use Rattle.svc_bus.specs.Numbers.{line_in, numbered, AreDistinct, committed_in};
+ghost use Rattle.svc_retire.specs.Caches.{held_line, SameSizes};
+ghost use Rattle.svc_retire.specs.Purges.{committed_in, HasRoomFor};
 ghost use Rattle.svc_bus.specs.Looking.{CountsUpTo};
 ghost use Rattle.svc_bus.specs.Marks.{AreHeld, EndBelow};
 ghost use Rattle.svc_bus.specs.Room.{full_in};
 ghost use Rattle.svc_bus.specs.Stores.{left_line, stored_line, ChangeOnce};
 
-use crate::marks::mark_stale;
+use crate::marks::{Mark, mark_versions};
 use crate::request::put_line;
 use svc_base::{Refusal, UnitId, WordAddr};
 use svc_cache::{Cache, Probes};
@@ -32,15 +32,17 @@ pub(crate) struct Store<'a> {
     pub word: WordAddr,
     /// The unit's line of the word after the store.
     pub line: Line,
-    /// The lines of the word that it overtakes, and their units.
-    pub stale: &'a [Version],
+    /// The unit of the version before the stored one.
+    pub previous: Option<UnitId>,
+    /// The other lines of the word that change, and their units: those that it overtakes, and the version before.
+    pub changed: &'a [Version],
     /// How many tasks it leaves.
     pub left: usize,
 }
 
 /// The unit's line of the word becomes the stored one, the word is purged in the other caches, T is set on the lines that
-/// were overtaken, and only the tasks that are left keep their lines. Where the unit's cache has no line of the word and
-/// no room for one, nothing changes.
+/// were overtaken, the version before links to the unit, and only the tasks that are left keep their lines. Where the unit's
+/// cache has no line of the word and no room for one, nothing changes.
 ///
 /// `list` is the version list of the word. There are at most as many searches as caches.
 pub(crate) fn store_line(
@@ -55,9 +57,9 @@ pub(crate) fn store_line(
     requires few { length caches.old ≤ CAPACITY }
     requires units { (p : ℕ) → p < length queue.now → get_or queue.now p 0 < length caches.old }
     requires listed { AreCommitted (lines_in caches.old store.now.word.0) (length caches.old) list.now.committed }
-    requires held { AreHeld caches.old store.now.word.0 store.now.stale.now }
-    requires once { ChangeOnce caches.old store.now.unit.0 store.now.word.0 store.now.stale.now }
-    requires distinct { AreDistinct caches.old store.now.word.0 }
+    requires held { AreHeld caches.old store.now.word.0 store.now.changed.now }
+    requires once { ChangeOnce caches.old store.now.unit.0 store.now.word.0 store.now.changed.now }
+    requires ranked { IsRanked (length caches.old) (lines_in caches.old store.now.word.0) }
     requires in_memory { store.now.word.0 < length backing.old }
     requires ends { EndBelow caches.old (length backing.old) }
     requires valid { (bits_of store.now.line.bits).valid ≡ true }
@@ -66,7 +68,7 @@ pub(crate) fn store_line(
     ensures refused { MatchResult result (λ _. full_in caches.old store.now.unit.0 (length backing.old) store.now.word.0 ≡ None) (λ e. option_map (λ named. refusal.SetFull (record { 0 = named })) (full_in caches.old store.now.unit.0 (length backing.old) store.now.word.0) ≡ Some e) }
     ensures same_caches { OnErr result (caches.new ≡ caches.old) }
     ensures same_memory { OnErr result (backing.new ≡ backing.old) }
-    ensures lines { OnOk result ((u a : ℕ) → line_in caches.new u a ≡ left_line queue.now store.now.left u (stored_line (line_in caches.old) store.now.unit.0 store.now.word.0 (numbered (Some (seen store.now.line))) store.now.stale.now u a)) }
+    ensures lines { OnOk result ((u a : ℕ) → held_line caches.new u a ≡ left_line queue.now store.now.left u (stored_line (held_line caches.old) store.now.unit.0 store.now.word.0 (Some (seen store.now.line)) (option_map (λ (u : UnitId). u.0) store.now.previous) store.now.changed.now u a)) }
     ensures memory { OnOk result ((a : ℕ) → get_or backing.new a 0 ≡ with_at (λ x. get_or backing.old x 0) store.now.word.0 (committed_in caches.old backing.old store.now.word.0) a) }
     ensures sizes { SameSizes caches.old caches.new }
     ensures searches { OnOk result (CountsUpTo probes.old probes.new (length caches.old)) }
@@ -75,12 +77,18 @@ pub(crate) fn store_line(
         unit,
         word,
         line,
-        stale,
+        previous,
+        changed,
         left,
     } = *store;
     let put = put_line(caches, backing, list, unit, word, line, probes);
     put.map_err(|full| Refusal::SetFull(full.0))?;
-    mark_stale(caches, stale, word, probes);
+    let mark = Mark {
+        word,
+        writer: unit,
+        previous,
+    };
+    mark_versions(caches, changed, &mark, probes);
     squash_lines(caches, queue, left);
     Ok(())
 }

@@ -103,10 +103,28 @@ fn open(rt: &impl Abort, alloc: Global, sets: u32, ways: u32, words: &[u32]) -> 
     requires some_ways { 1 ≤ ways }
     requires few_ways { ways ≤ MAX_WAYS }
 {
+    open_with(rt, alloc, UNITS, sets, ways, words)
+}
+
+// A bus of so many units.
+fn open_with(
+    rt: &impl Abort,
+    alloc: Global,
+    units: u32,
+    sets: u32,
+    ways: u32,
+    words: &[u32],
+) -> Result<Bus, Fail>
+    requires few_sets { sets ≤ MAX_SETS }
+    requires some_ways { 1 ≤ ways }
+    requires few_ways { ways ≤ MAX_WAYS }
+{
+    assert!(rt; 1 <= units);
+    assert!(rt; units <= 16);
     assert!(rt; sets.is_power_of_two());
     assert!(rt; words.len() < 100);
     let memory = Vec::from_slice(alloc, words).map_err(|_| "memory")?;
-    Bus::open(alloc, UNITS, sets, ways, memory).map_err(|_| "memory".into())
+    Bus::open(alloc, units, sets, ways, memory).map_err(|_| "memory".into())
 }
 
 fn begin(rt: &impl Abort, bus: &mut Bus, unit: UnitId) {
@@ -210,13 +228,12 @@ fn perform(rt: &impl Abort, bus: &mut Bus, step: Step) -> Answer {
 
 // A hit makes one look-up, a reuse at least one, any other accepted read or write at least one for each unit, and none more
 // than two for each; what is no accepted read or write leaves the number.
-fn check_probes(rt: &impl Abort, answer: Answer, before: u32, after: u32) {
+fn check_probes(rt: &impl Abort, units: u32, answer: Answer, before: u32, after: u32) {
+    let few = u64::from(after) <= 2 * u64::from(units);
     match answer {
         Answer::WasRead(Ok((_, Served::Hit))) => assert_eq!(rt; after, 1),
-        Answer::WasRead(Ok((_, Served::Reuse))) => assert!(rt; after >= 1 && after <= 2 * UNITS),
-        Answer::WasRead(Ok(_)) | Answer::Written(Ok(_)) => {
-            assert!(rt; after >= UNITS && after <= 2 * UNITS);
-        }
+        Answer::WasRead(Ok((_, Served::Reuse))) => assert!(rt; after >= 1 && few),
+        Answer::WasRead(Ok(_)) | Answer::Written(Ok(_)) => assert!(rt; after >= units && few),
         _ => assert_eq!(rt; before, after),
     }
 }

@@ -66,9 +66,10 @@ impl Bus {
             line: Line {
                 value,
                 bits: plan.bits,
-                task: TaskNo(self.commits + place as u64),
+                next: plan.next,
             },
-            stale: &plan.stale,
+            previous: plan.previous,
+            changed: &plan.changed,
             left,
         };
         store_line(

@@ -1,7 +1,8 @@
 -- What is found in a row after a commit and after a squash.
 use Rattle.std.proofs.Common.{◌≡◌, ◌∙◌, refl, sym, ap, subst, ℕ, suc, ◌%◌, ◌<◌, true, false, Some, None, List, [], ◌∷◌, length, inl, inr, arith}
-use Rattle.std.specs.Prelude.{◌&&◌, ◌==◌}
+use Rattle.std.specs.Prelude.{◌&&◌, ◌==◌, option_map}
 use Rattle.std.proofs.lemmas.Bool.{both_ways, cases_Bool}
+use Rattle.svc_base.specs.declared.ids.UnitId.{UnitId}
 use Rattle.svc_base.specs.declared.ids.WordAddr.{WordAddr}
 use Rattle.svc_line.specs.Bits.{Bits, bits_of, is_active, committed, squashed}
 use Rattle.svc_line.specs.Line.{SeenLine, seen}
@@ -29,7 +30,7 @@ changed-head change p q before after all = all.changed 0 (omega arith)
 
 -- the line of a changed place
 changed-seen : (change : Bits → Bits) (p q : Place) → HasChangedBits change p q → seen q.line ≡ record (seen p.line) { bits = change (bits_of p.line.bits) }
-changed-seen change p q one = λ i. record { value = one.value i; bits = one.bits i; task = (one.task i).0 }
+changed-seen change p q one = λ i. record { value = one.value i; bits = one.bits i; next = option_map (λ (unit : UnitId). unit.0) (one.next i) }
 
 -- a place whose line is there as before holds the same words
 same_holds : (change : Bits → Bits) (p q : Place) (word : ℕ) → HasChangedBits change p q → is_held q ≡ is_held p → holds q word ≡ holds p word

@@ -4,11 +4,11 @@ use Rattle.svc_line.specs.Bits.{Bits, bits_of}
 use Rattle.svc_cache.specs.declared.place.Place.{Place}
 use Rattle.svc_cache.specs.Rows.{place_at}
 
--- a place keeps its word, its value and its task, and its bits change
+-- a place keeps its word, its value and its link, and its bits change
 pub record HasChangedBits (change : Bits → Bits) (before after : Place) : Type 0 where
   pub word : after.word ≡ before.word
   pub value : after.line.value ≡ before.line.value
-  pub task : after.line.task ≡ before.line.task
+  pub next : after.line.next ≡ before.line.next
   pub bits : bits_of after.line.bits ≡ change (bits_of before.line.bits)
 
 -- the bits of the first so many places have changed, and the other places are as they were

@@ -6,7 +6,7 @@ use Rattle.svc_cache.specs.Places.{is_held, holds, precedes}
 
 -- what stands past the end of a row
 abbrev pub no_place : Place
-no_place = record { word = record { 0 = 0 }; line = record { value = 0; bits = record { 0 = 0 }; task = record { 0 = 0 } } }
+no_place = record { word = record { 0 = 0 }; line = record { value = 0; bits = record { 0 = 0 }; next = None } }
 
 -- the place of a row
 abbrev pub place_at : List Place → ℕ → Place

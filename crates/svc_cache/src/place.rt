@@ -3,7 +3,7 @@ ghost use Rattle.svc_line.specs.Bits.{bits_of};
 ghost use Rattle.svc_cache.specs.Places.{has_committed, holds, is_held, precedes};
 
 use bitflags::Flags;
-use svc_base::{TaskNo, WordAddr};
+use svc_base::WordAddr;
 use svc_line::{Line, LineBits};
 
 /// A place of a cache. It holds its word while the line's bits have V, and else it is empty.
@@ -26,7 +26,7 @@ impl Place {
             line: Line {
                 value: 0,
                 bits: LineBits::empty(),
-                task: TaskNo(0),
+                next: None,
             },
         }
     }

@@ -7,7 +7,7 @@ use searched::SearchedLines;
 use std::alloc::Global;
 use std::process::Abort;
 use std::test::Fail;
-use svc_base::{OpenError, TaskNo, WordAddr};
+use svc_base::{OpenError, WordAddr};
 use svc_line::{Line, LineBits};
 
 mod searched;
@@ -19,7 +19,7 @@ fn line(value: u32) -> Line
     Line {
         value,
         bits: LineBits::on_load(true, false),
-        task: TaskNo(0),
+        next: None,
     }
 }
 

@@ -1,13 +1,14 @@
 -- A line as contracts see it.
-use Rattle.std.specs.Prelude.{ℕ}
+use Rattle.std.specs.Prelude.{ℕ, Option, option_map}
+use Rattle.svc_base.specs.declared.ids.UnitId.{UnitId}
 use Rattle.svc_line.specs.Bits.{Bits, bits_of}
 use Rattle.svc_line.specs.declared.line.Line.{Line}
 
--- its value, its bits by their names, and the number of the task that filled, stored or reused it last
+-- its value, its bits by their names, and the unit that it links to
 pub record SeenLine : Type 0 where
   pub value : ℕ
   pub bits : Bits
-  pub task : ℕ
+  pub next : Option ℕ
 
 abbrev pub seen : Line → SeenLine
-seen line = record { value = line.value; bits = bits_of line.bits; task = line.task.0 }
+seen line = record { value = line.value; bits = bits_of line.bits; next = option_map (λ (unit : UnitId). unit.0) line.next }

@@ -1,5 +1,5 @@
 use crate::LineBits;
-use svc_base::TaskNo;
+use svc_base::UnitId;
 
 /// A line of a cache: one aligned word. It is there only while its bits have V.
 #[derive(Clone, Copy, Debug, PartialEq, Eq)]
@@ -8,6 +8,7 @@ pub struct Line {
     pub value: u32,
     /// The line's bits.
     pub bits: LineBits,
-    /// The task that filled, stored or reused the line last.
-    pub task: TaskNo,
+    /// The link of a line that was stored to: the unit whose line holds the next newer version of the word. A unit that
+    /// has no such line any more ends the links, as none does. A line that was not stored to has no part in them.
+    pub next: Option<UnitId>,
 }

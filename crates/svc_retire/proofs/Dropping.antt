@@ -17,7 +17,7 @@ use Rattle.svc_retire.specs.Caches.{no_cache, cache_at, held_line, SameSizes}
 use Rattle.svc_retire.specs.Purges.{keeps, purged_line, line_after_purge, is_purged, purges, is_dirty_version, drops, CountsSearches}
 use Rattle.svc_retire.proofs.Bools.{or_true, or_false, and_false}
 use Rattle.svc_retire.proofs.Counts.{how_many_same, how_many_room, how_many_more, how_many_none}
-use Rattle.svc_retire.proofs.Settling.{HasV, line_valid}
+use Rattle.svc_vol.proofs.Validity.{HasV, line_valid}
 
 -- the unit's line was taken out among the first so many
 abbrev pub is_taken : List Version → Option UnitId → (count u : ℕ) → Bool

@@ -1,9 +1,7 @@
 pub mod Bools
 pub mod Counts
 pub mod Listing
-pub mod Settling
 pub mod Squashing
 pub mod Emptying
 pub mod Dropping
 pub mod Newest
-pub mod Ranked

@@ -45,7 +45,7 @@ drops keep version = is_dirty_version version && not (keeps keep version.unit.0)
 abbrev pub is_newest : List CacheValue → (word u : ℕ) → Bool
 is_newest caches word u =
     is_committed_version (held_line caches u word)
-    && all_below (length caches) (λ v. not (is_committed_version (held_line caches v word)) || not (is_older_line (lines_in caches word) u v))
+    && all_below (length caches) (λ v. not (is_committed_version (held_line caches v word)) || not (is_older_line (length caches) (lines_in caches word) u v))
 
 -- the line's value, 0 where there is none
 abbrev pub line_value : Option SeenLine → ℕ

@@ -84,7 +84,7 @@ pub fn purge(
     probes: &mut Probes,
 )
     requires listed { AreCommitted (lines_in caches.old word.0) (length caches.old) list.now.committed }
-    requires ranked { IsRanked (lines_in caches.old word.0) }
+    requires ranked { IsRanked (length caches.old) (lines_in caches.old word.0) }
     requires in_memory { word.0 < length backing.old }
     requires room { HasRoomFor probes.old caches.old (length caches.old) }
     ensures lines { (u a : ℕ) → held_line caches.new u a ≡ line_after_purge keep word.0 u a (held_line caches.old u a) }

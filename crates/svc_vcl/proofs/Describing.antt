@@ -63,7 +63,7 @@ module _ (b : BusState) (a : ℕ) (lines : UnitLines) (same : (u : ℕ) → b.li
 
   -- what a version list ensures of the lines in the caches, said of the bus
   pub described : (list : Versions) → AreCommitted lines b.caches list.committed → map (option_map seen_version) list.active ≡ active_versions lines b.units
-      → ((u v : ℕ) → b.is_older a u v ≡ is_older_line lines u v) → Describes b a list
+      → ((u v : ℕ) → cache.is_committed_line (lines u) ≡ true → cache.is_committed_line (lines v) ≡ true → is_older_line b.caches lines u v ≡ false → b.is_older a u v ≡ false) → Describes b a list
   described list are shows order = record {
     places = sizes;
     active = λ p below. entry_of (get_or b.units p 0) (entry_at list.active p) (lines (get_or b.units p 0)) refl (at_place p below);
@@ -76,9 +76,12 @@ module _ (b : BusState) (a : ℕ) (lines : UnitLines) (same : (u : ℕ) → b.li
           committed = only.committed;
         };
     each = λ unit below committed. are.each unit below (committed_shown (lines unit) (ap is_committed_line (sym (same unit)) ∙ committed));
-    oldest_first = λ i j less here. order (unit_at list.committed j) (unit_at list.committed i) ∙ are.oldest_first i j less here;
+    oldest_first = λ i j less here. order (unit_at list.committed j) (unit_at list.committed i) (settled j here) (settled i (omega (arith, less, here))) (are.oldest_first i j less here);
   }
     where
+      settled : (i : ℕ) → i < length list.committed → cache.is_committed_line (lines (unit_at list.committed i)) ≡ true
+      settled i here = let only = are.only i here in ap cache.is_committed_line only.held ∙ only.committed
+
       sizes : length list.active ≡ length b.units
       sizes = sym (length-map list.active (option_map seen_version)) ∙ ap length shows ∙ length-map b.units (λ u. active_version u (lines u))
 

@@ -5,3 +5,4 @@ pub mod ReadPlans
 pub mod WritePlans
 pub mod Staling
 pub mod Describing
+pub mod Linking

@@ -65,7 +65,7 @@ not_true true e = sym e
 not_true false e = refl
 
 module _ (b : BusState) (t : LineTable) (a : ℕ) (list : Versions) (unit place : ℕ) (request : IsRequest b t a list unit place) where
-  left : unwrap_or (victim_in list.active place) (length list.active) ≡ survivors (bus_map b) place a
+  pub left : unwrap_or (victim_in list.active place) (length list.active) ≡ survivors (bus_map b) place a
   left = ap₂ (λ (o : Option ℕ) (n : ℕ). unwrap_or o n) (victim_is b t a list unit place request) (request.described.places ∙ sym (length-tabulate {A = Row} (length b.units) (bus_row b)))
 
   pub overtaken_after : is_overtaken_in list.active (unwrap_or (victim_in list.active place) (length list.active)) place ≡ is_overtaken_line b (survivors (bus_map b) place a) place a

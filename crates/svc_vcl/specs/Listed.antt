@@ -27,6 +27,13 @@ nearest_in active place = greatest place (λ q. is_version (entry_at active q))
 abbrev pub nearest_version_in : List (Option Version) → (place : ℕ) → Option Version
 nearest_version_in active place = option_and_then (entry_at active) (nearest_in active place)
 
+-- of the first so many tasks the nearest above the place that has a version
+abbrev pub next_in : List (Option Version) → (count place : ℕ) → Option ℕ
+next_in active count place = least count (λ q. ltb place q && is_version (entry_at active q))
+
+abbrev pub next_version_in : List (Option Version) → (count place : ℕ) → Option Version
+next_version_in active count place = option_and_then (entry_at active) (next_in active count place)
+
 -- the walk over the later tasks: one that exposed the word is found, otherwise one with a version ends the walk
 abbrev pub victim_in : List (Option Version) → (place : ℕ) → Option ℕ
 victim_in active place = walk (λ q. is_exposure (entry_at active q)) (λ q. is_version (entry_at active q)) (suc place) (length active - suc place)

@@ -1,5 +1,5 @@
 -- What plans say: the supplier of a read, and the lines that a write makes stale.
-use Rattle.std.specs.Prelude.{◌≢◌, ℕ, ◌<◌, length, Bool, false, cond, not, ◌&&◌, ◌||◌, ◌==◌, Option, Some, None, List, ◌++◌, get_or, take}
+use Rattle.std.specs.Prelude.{◌≢◌, ℕ, ◌<◌, length, Bool, false, cond, not, ◌&&◌, ◌||◌, ◌==◌, Option, Some, None, List, [], ◌∷◌, ◌++◌, get_or, take, option_map}
 use Rattle.std.specs.List.{filter_map, list_any}
 use Rattle.svc_base.specs.declared.served.Served.{Served}
 use Rattle.svc_base.specs.declared.served.Served.TheVariants.{Hit, Reuse, Version as FromVersion, Spill, Committed, Memory}
@@ -11,7 +11,7 @@ use Rattle.svc_bus_laws.specs.BusState.{BusState}
 use Rattle.svc_bus_laws.specs.BusSteps.{is_below}
 use Rattle.svc_vol.specs.declared.version.Version.{Version}
 use Rattle.svc_vol.specs.Versions.{Versions, version_at, unit_at}
-use Rattle.svc_vcl.specs.Listed.{entry_at}
+use Rattle.svc_vcl.specs.Listed.{entry_at, nearest_version_in}
 
 -- the supplier by its unit's number
 abbrev pub supplier_of : Served → bus.Supplier
@@ -73,6 +73,19 @@ passed_in earlier = filter_map unmarked_entry earlier
 -- the lines that a write by the unit of the task at a place makes stale
 abbrev pub stale_in : Versions → (writer place : ℕ) → List Version
 stale_in list writer place = copies_in list.committed writer ++ passed_in (take place list.active)
+
+-- the version before the written one, where it has T already
+abbrev pub relinked_in : Option Version → List Version
+relinked_in None = []
+relinked_in (Some version) = cond (bits_of version.line.bits).stale (version ∷ []) []
+
+-- all lines of other units that a write changes: those that it makes stale, and the version before the written one, whose link it sets
+abbrev pub changed_in : Versions → (writer place : ℕ) → List Version
+changed_in list writer place = stale_in list writer place ++ relinked_in (nearest_version_in list.active place)
+
+-- the unit of a version
+abbrev pub unit_in : Option Version → Option ℕ
+unit_in = option_map (λ (version : Version). version.unit.0)
 
 -- some of the first so many committed versions is a clean line without T in this unit, which is not the writer's
 abbrev pub is_copy_of : List Version → (count writer unit : ℕ) → Bool

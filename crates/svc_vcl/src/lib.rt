@@ -9,6 +9,3 @@ pub mod write;
 pub use read::{ReadPlan, plan_read};
 pub use svc_base::Served;
 pub use write::{STALE_CAPACITY, WritePlan, plan_write};
-
-#[cfg(test)]
-mod tests;

@@ -1,5 +1,5 @@
 ghost use Rattle.std.specs.Prelude.{◌≡◌, ◌<◌, ◌≤◌, length};
-ghost use Rattle.svc_vcl.specs.Listed.{entry_at, is_exposure, is_overtaken_in, is_version, nearest_version_in, newest_version_in, reusable_version_in, victim_in};
+ghost use Rattle.svc_vcl.specs.Listed.{entry_at, is_exposure, is_overtaken_in, is_version, nearest_version_in, next_version_in, newest_version_in, reusable_version_in, victim_in};
 
 use svc_base::UnitId;
 use svc_vol::Version;
@@ -36,6 +36,20 @@ pub(crate) fn nearest(active: &[Option<Version>], place: usize) -> Option<Versio
         }
     }
     nearest
+}
+
+/// The version of the nearest later task that has one, of the first `count` tasks.
+pub(crate) fn next(active: &[Option<Version>], count: usize, place: usize) -> Option<Version>
+    requires within { place < length active.now }
+    requires few { count ≤ length active.now }
+    ensures { result ≡ next_version_in active.now count place }
+{
+    for later in place + 1..count {
+        if is_version(&active[later]) {
+            return active[later];
+        }
+    }
+    None
 }
 
 /// The place of the task that a write squashes: of the tasks after the writer's, in order, the first

@@ -1,15 +1,17 @@
-ghost use Rattle.std.specs.Prelude.{◌≡◌, ◌≢◌, ◌<◌, ◌≤◌, ◌+◌, ◌++◌, ℕ, Bool, Option, Some, true, length};
+ghost use Rattle.std.specs.Prelude.{◌≡◌, ◌≢◌, ◌<◌, ◌≤◌, ◌+◌, ◌++◌, ◌||◌, ℕ, Bool, Option, Some, true, is_some, length, option_map};
 ghost use Rattle.svc_line.specs.Bits.{bits_of};
 ghost use Rattle.svc_bus_laws.specs.LineTable.{LineTable};
 ghost use Rattle.svc_bus_laws.specs.Versioned.{survivors, victim};
-ghost use Rattle.svc_bus_laws.specs.BusLine.{purged_line};
+ghost use Rattle.svc_bus_laws.specs.BusLine.{purged_line, version_of_line};
 ghost use Rattle.svc_bus_laws.specs.BusState.{BusState};
 ghost use Rattle.svc_bus_laws.specs.BusSteps.{bus_write, line_after_cut};
-ghost use Rattle.svc_bus_laws.specs.BusView.{bus_map};
+ghost use Rattle.svc_bus_laws.specs.BusView.{bus_line_at, bus_map};
+ghost use Rattle.svc_links_laws.specs.LinkSteps.{place_after, place_before, unit_of};
+ghost use Rattle.svc_vcl.specs.Listed.{nearest_version_in};
 ghost use Rattle.svc_vcl.specs.Described.{IsRequest, line_with};
-ghost use Rattle.svc_vcl.specs.Planned.{becomes_stale, copies_in, is_fresh_copy, is_named, marked_where, own_bits, passed_in, stale_in, unmarked_entry};
+ghost use Rattle.svc_vcl.specs.Planned.{becomes_stale, copies_in, is_fresh_copy, is_named, changed_in, marked_where, own_bits, passed_in, relinked_in, unit_in, unmarked_entry};
 
-use crate::search::{is_overtaken, victim};
+use crate::search::{is_overtaken, nearest, next, victim};
 use arrayvec::ArrayVec;
 use bitflags::Flags;
 use svc_base::UnitId;
@@ -26,8 +28,12 @@ pub struct WritePlan {
     pub victim: Option<usize>,
     /// The bits of the unit's line after the write.
     pub bits: LineBits,
-    /// The lines on which T is set, as they were before, and their units.
-    pub stale: ArrayVec<Version, STALE_CAPACITY>,
+    /// The unit that the unit's line links to after the write: that of the next newer version among the tasks that are left.
+    pub next: Option<UnitId>,
+    /// The unit whose version is the nearest older one among active tasks. Its line is to link to the writer's unit.
+    pub previous: Option<UnitId>,
+    /// The lines of other units that change, as they were before: those on which T is set, and that of `previous`.
+    pub changed: ArrayVec<Version, STALE_CAPACITY>,
 }
 
 // T is set.
@@ -82,6 +88,7 @@ fn unmarked(entry: &Option<Version>) -> Option<Version>
 // Lists the lines of earlier tasks that become stale.
 fn list_earlier(stale: &mut ArrayVec<Version, STALE_CAPACITY>, earlier: &[Option<Version>])
     requires room { length stale.old.items + length earlier.now ≤ STALE_CAPACITY }
+    ensures size { length stale.new.items ≤ length stale.old.items + length earlier.now }
     ensures listed { stale.new.items ≡ stale.old.items ++ passed_in earlier.now }
 {
     for entry in earlier {
@@ -91,29 +98,62 @@ fn list_earlier(stale: &mut ArrayVec<Version, STALE_CAPACITY>, earlier: &[Option
     }
 }
 
+// Lists the version, where T is set on it already.
+fn list_previous(stale: &mut ArrayVec<Version, STALE_CAPACITY>, previous: Option<Version>)
+    requires room { length stale.old.items < STALE_CAPACITY }
+    ensures listed { stale.new.items ≡ stale.old.items ++ relinked_in previous }
+{
+    if let Some(version) = previous
+        && is_stale(version.line.bits)
+    {
+        stale.push(version);
+    }
+}
+
+// The version's unit.
+fn unit_of(version: Option<Version>) -> Option<UnitId>
+    ensures { option_map (λ unit. unit.0) result ≡ unit_in version }
+{
+    match version {
+        Some(version) => Some(version.unit),
+        None => None,
+    }
+}
+
 /// The plan of a write by the unit of the task at a place: the victim, if any, the bits that the unit's
-/// line then has, and the lines that become stale. Those are the committed copies, and the lines of
-/// earlier tasks. (A write purges the word, so no committed version is left.)
+/// line then has, the links of the line and of the version before it, and the lines of other units that
+/// change: the committed copies and the lines of earlier tasks become stale, and the version before is linked. (A write
+/// purges the word, so no committed version is left.)
 pub fn plan_write(list: &VersionList, unit: UnitId, place: usize) -> WritePlan
     requires { place < length list.now.active }
     ensures victim { (b : BusState) (t : LineTable) (a : ℕ) → IsRequest b t a list.now unit.0 place → result.victim ≡ victim (bus_map b) place a }
     ensures line { (b : BusState) (t : LineTable) (a value : ℕ) → IsRequest b t a list.now unit.0 place → (bus_write b place a value).lines unit.0 a ≡ Some (line_with value (bits_of result.bits)) }
     ensures valid { (bits_of result.bits).valid ≡ true }
-    ensures listed { result.stale.items ≡ stale_in list.now unit.0 place }
+    // the links
+    ensures next { (b : BusState) (t : LineTable) (a : ℕ) → IsRequest b t a list.now unit.0 place → option_map (λ unit. unit.0) result.next ≡ unit_of b.units (place_after (survivors (bus_map b) place a) (λ q. is_some (version_of_line (bus_line_at b q a))) place) }
+    ensures previous { (b : BusState) (t : LineTable) (a : ℕ) → IsRequest b t a list.now unit.0 place → option_map (λ unit. unit.0) result.previous ≡ unit_of b.units (place_before (λ q. is_some (version_of_line (bus_line_at b q a))) place) }
+    ensures linked { (other : ℕ) → option_map (λ unit. unit.0) result.previous ≡ Some other → is_named result.changed.items other ≡ true }
+    ensures listed { result.changed.items ≡ changed_in list.now unit.0 place }
     // what the write makes of another unit's line
-    ensures others { (b : BusState) (t : LineTable) (a value other : ℕ) → IsRequest b t a list.now unit.0 place → other ≢ unit.0 → (bus_write b place a value).lines other a ≡ marked_where (is_named result.stale.items other) (purged_line (line_after_cut b (survivors (bus_map b) place a) other a)) }
-    ensures stale { (b : BusState) (t : LineTable) (a other : ℕ) → IsRequest b t a list.now unit.0 place → is_named result.stale.items other ≡ becomes_stale b place a other }
+    ensures others { (b : BusState) (t : LineTable) (a value other : ℕ) → IsRequest b t a list.now unit.0 place → other ≢ unit.0 → (bus_write b place a value).lines other a ≡ marked_where (is_named result.changed.items other) (purged_line (line_after_cut b (survivors (bus_map b) place a) other a)) }
+    ensures stale { (b : BusState) (t : LineTable) (a other : ℕ) → IsRequest b t a list.now unit.0 place → is_named result.changed.items other ≡ (becomes_stale b place a other || is_named (relinked_in (nearest_version_in list.now.active place)) other) }
 {
     let active = list.active();
     let victim = victim(active, place);
-    let overtaken = is_overtaken(active, victim.unwrap_or(active.len()), place);
+    let left = victim.unwrap_or(active.len());
+    let overtaken = is_overtaken(active, left, place);
     let bits = own_bits(&active[place]).on_store(overtaken);
-    let mut stale = ArrayVec::new();
-    list_copies(&mut stale, list.committed(), unit);
-    list_earlier(&mut stale, &active[..place]);
+    let next = unit_of(next(active, left, place));
+    let nearest = nearest(active, place);
+    let mut changed = ArrayVec::new();
+    list_copies(&mut changed, list.committed(), unit);
+    list_earlier(&mut changed, &active[..place]);
+    list_previous(&mut changed, nearest);
     WritePlan {
         victim,
         bits,
-        stale,
+        next,
+        previous: unit_of(nearest),
+        changed,
     }
 }

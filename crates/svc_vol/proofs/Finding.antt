@@ -1,5 +1,5 @@
 -- The lines that were found, by unit, and the active ones of one more task.
-use Rattle.std.proofs.Common.{◌≡◌, ◌∙◌, sym, ap, ap₂, ℕ, ◌+◌, ◌<◌, Option, None, List, [], ◌∷◌, ◌++◌, length, map, get_or, take, option_map}
+use Rattle.std.proofs.Common.{◌≡◌, ◌∙◌, refl, sym, ap, ap₂, ℕ, zero, suc, ◌+◌, ◌<◌, Option, None, List, [], ◌∷◌, ◌++◌, length, map, get_or, take, option_map}
 use Rattle.std.proofs.lemmas.List.{map-append, map_more, get_or-map}
 use Rattle.svc_line.specs.Line.{seen}
 use Rattle.svc_line.specs.declared.line.Line.{Line}
@@ -10,6 +10,12 @@ use Rattle.svc_vol.specs.Versions.{SeenVersion, active_version, active_versions,
 -- the line that was found in a unit's cache
 pub line_of_unit : (found : List (Option Line)) (unit : ℕ) (default : Option Line) → unit < length found → lines_at (map (option_map seen) found) unit ≡ option_map seen (get_or found unit default)
 line_of_unit found unit default here = get_or-map (option_map seen) found unit default None here
+
+-- also where there is no cache
+pub line_at : (found : List (Option Line)) (unit : ℕ) → lines_at (map (option_map seen) found) unit ≡ option_map seen (get_or found unit None)
+line_at [] unit = refl
+line_at (line ∷ found) zero = refl
+line_at (line ∷ found) (suc unit) = line_at found unit
 
 pub active_more : (lines : UnitLines) (units : List ℕ) (items : List (Option Version)) (place unit : ℕ) (active : Option Version) → place < length units → unit ≡ get_or units place 0
     → map (option_map seen_version) items ≡ active_versions lines (take place units)

@@ -1,4 +1,6 @@
-pub mod Older
-mod Inserting
 mod Finding
+pub mod Fewness
+mod Copying
+mod Assembling
+pub mod Validity
 pub mod Ranking

@@ -1,2 +1,4 @@
 pub mod Lines
 pub mod Versions
+pub mod Walked
+pub mod Listed

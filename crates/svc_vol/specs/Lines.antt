@@ -1,10 +1,11 @@
--- The lines of one word by unit, and which of them is older.
-use Rattle.std.specs.Prelude.{◌≡◌, ℕ, ◌+◌, ◌<◌, ◌≤◌, ◌^◌, Bool, true, false, ◌&&◌, nat_lt, Option, Some, None, List, length, map, get_or}
+-- The lines of one word by unit, and which committed version is older.
+use Rattle.std.specs.Prelude.{◌≡◌, ℕ, ◌+◌, ◌<◌, ◌≤◌, ◌^◌, Bool, true, false, ◌&&◌, Option, Some, None, List, length, map, get_or}
 use Rattle.std.specs.List.{sum_by}
-use Rattle.svc_line.specs.Bits.{is_dirty}
 use Rattle.svc_line.specs.Line.{SeenLine}
 use Rattle.svc_cache.specs.declared.probes.Probes.{Probes}
 use Rattle.svc_cache.specs.Places.{CacheValue, line_of}
+use Rattle.svc_links_laws.specs.LinkOrder.{reaches}
+use Rattle.svc_links_laws.specs.Walks as chain
 
 -- the line of one word in each unit's cache
 abbrev pub UnitLines : Type 0
@@ -18,25 +19,34 @@ lines_at lines unit = get_or lines unit None
 abbrev pub lines_in : List CacheValue → (word : ℕ) → UnitLines
 lines_in caches word = lines_at (map (λ (cache : CacheValue). line_of cache word) caches)
 
--- both lines hold versions, and the first's is of an earlier task
-abbrev pub is_older_of : Option SeenLine → Option SeenLine → Bool
-is_older_of None other = false
-is_older_of (Some line) None = false
-is_older_of (Some line) (Some other) = is_dirty line.bits && is_dirty other.bits && nat_lt line.task other.task
-
--- the stored order of a word's versions: both units hold one, and the first unit's is older
-abbrev pub is_older_line : UnitLines → (unit other : ℕ) → Bool
-is_older_line lines unit other = is_older_of (lines unit) (lines other)
-
 -- there is a committed line that was stored to
 abbrev pub is_committed_version : Option SeenLine → Bool
 is_committed_version None = false
 is_committed_version (Some line) = line.bits.commit && line.bits.store
 
--- the word's committed versions have one order: none is older than itself, and of any two one is older than the other
-pub record IsRanked (lines : UnitLines) : Type 0 where
-  pub strict : (unit : ℕ) → is_older_line lines unit unit ≡ false
-  pub total : (unit other : ℕ) → is_committed_version (lines unit) ≡ true → is_committed_version (lines other) ≡ true → is_older_line lines unit other ≡ false → is_older_line lines other unit ≡ false → unit ≡ other
+-- the unit that a line links to
+abbrev pub link_of : Option SeenLine → Option ℕ
+link_of None = None
+link_of (Some line) = line.next
+
+-- the units with a committed version of the word, and their links
+abbrev pub versions_of : UnitLines → ℕ → Bool
+versions_of lines unit = is_committed_version (lines unit)
+
+abbrev pub links_of : UnitLines → ℕ → Option ℕ
+links_of lines unit = link_of (lines unit)
+
+-- of so many units: both have a committed version of the word, and links lead from the first's to the second's, so it is older
+abbrev pub is_older_line : (units : ℕ) → UnitLines → (unit other : ℕ) → Bool
+is_older_line units lines unit other = versions_of lines unit && reaches (versions_of lines) (links_of lines) units unit other
+
+-- the links of the word's committed versions make one chain
+abbrev pub IsRanked : (units : ℕ) → UnitLines → Type 0
+IsRanked units lines = chain.IsRanked units (versions_of lines) (links_of lines)
+
+-- each line that is there has V
+pub record AreValid (lines : UnitLines) : Type 0 where
+  pub valid : (unit : ℕ) (line : SeenLine) → lines unit ≡ Some line → line.bits.valid ≡ true
 
 -- how many places one set of each cache has, together
 abbrev pub ways_in : List CacheValue → ℕ

@@ -32,7 +32,7 @@ active_versions lines units = map (λ unit. active_version unit (lines unit)) un
 
 -- what stands past the end of a list
 abbrev pub no_version : Version
-no_version = record { unit = record { 0 = 0 }; line = record { value = 0; bits = record { 0 = 0 }; task = record { 0 = 0 } } }
+no_version = record { unit = record { 0 = 0 }; line = record { value = 0; bits = record { 0 = 0 }; next = None } }
 
 abbrev pub version_at : List Version → ℕ → Version
 version_at versions place = get_or versions place no_version
@@ -53,4 +53,4 @@ pub record AreCommitted (lines : UnitLines) (count : ℕ) (versions : List Versi
   pub only : (place : ℕ) → place < length versions → IsCommittedVersion lines count (version_at versions place)
   pub each : (unit : ℕ) → unit < count → is_committed_line (lines unit) ≡ true → (place : ℕ) × (place < length versions) × (unit_at versions place ≡ unit)
   pub once : (place other : ℕ) → place < length versions → other < length versions → unit_at versions place ≡ unit_at versions other → place ≡ other
-  pub oldest_first : (place later : ℕ) → place < later → later < length versions → is_older_line lines (unit_at versions later) (unit_at versions place) ≡ false
+  pub oldest_first : (place later : ℕ) → place < later → later < length versions → is_older_line count lines (unit_at versions later) (unit_at versions place) ≡ false

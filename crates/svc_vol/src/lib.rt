@@ -4,9 +4,7 @@
 
 pub mod list;
 pub mod version;
+mod walk;
 
 pub use list::{CAPACITY, VersionList};
 pub use version::Version;
-
-#[cfg(test)]
-mod tests;

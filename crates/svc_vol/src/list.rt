@@ -1,11 +1,13 @@
-ghost use Rattle.std.specs.Prelude.{◌≡◌, ◌<◌, ◌≤◌, ◌+◌, ℕ, [], true, false, Some, IsTrue, IsFalse, length, map, get_or, option_map};
+ghost use Rattle.std.specs.Prelude.{◌≡◌, ◌<◌, ◌≤◌, ◌+◌, ℕ, [], true, IsTrue, IsFalse, length, map, get_or, option_map};
 ghost use Rattle.svc_line.specs.Line.{seen};
 ghost use Rattle.svc_cache.specs.Places.{CacheValue, line_of};
 ghost use Rattle.svc_cache.specs.Probes.{CountsOneSearch, HasRoom};
-ghost use Rattle.svc_vol.specs.Lines.{CountsEachOther, CountsOneOfEach, HasRoomForEach, UnitLines, is_older_of, lines_at, lines_in};
-ghost use Rattle.svc_vol.specs.Versions.{AreCommitted, active_versions, seen_version, version_at};
+ghost use Rattle.svc_vol.specs.Lines.{CountsEachOther, CountsOneOfEach, HasRoomForEach, lines_at, lines_in, versions_of, AreValid, IsRanked};
+ghost use Rattle.svc_vol.specs.Listed.{AreCopies, IsCopyIn, ListsAfter};
+ghost use Rattle.svc_vol.specs.Versions.{AreCommitted, active_versions, seen_version};
 
 use crate::version::Version;
+use crate::walk::oldest_first;
 use arrayvec::ArrayVec;
 use std::marker::Model;
 use svc_base::{UnitId, WordAddr};
@@ -32,6 +34,16 @@ impl Model for VersionList {
     ghost Value = { Versions };
 
     ghost view = { λ list. record { committed = list.committed.items; active = list.active.items } };
+}
+
+// The line, where it is committed and was not stored to.
+fn copy_in(line: &Option<Line>) -> Option<Line>
+    ensures { IsCopyIn line.now result }
+{
+    match line {
+        Some(line) if line.bits.is_committed() && !line.bits.is_dirty() => Some(*line),
+        _ => None,
+    }
 }
 
 // One look into each cache: the word's line in it. A list is filled where it stays: to hand one on costs more than to fill
@@ -95,43 +107,55 @@ fn find_others(
     }
 }
 
-// The first place whose version is newer, which is the new one's place.
-fn seat_of(versions: &[Version], new: &Version) -> usize
-    ensures within { result ≤ length versions.now }
-    ensures before { (place : ℕ) → place < result → is_older_of (Some (seen new.now.line)) (Some (seen (version_at versions.now place).line)) ≡ false }
-    ensures newer { result < length versions.now → is_older_of (Some (seen new.now.line)) (Some (seen (version_at versions.now result).line)) ≡ true }
+// The committed lines that were not stored to, by unit.
+fn list_copies(committed: &mut ArrayVec<Version, CAPACITY>, found: &[Option<Line>])
+    requires empty { committed.old.items ≡ [] }
+    requires few { length found.now ≤ CAPACITY }
+    ensures { AreCopies (lines_at (map (option_map seen) found.now)) (length found.now) committed.new.items }
 {
-    for place in 0..versions.len() {
-        if new.is_older_than(&versions[place]) {
-            return place;
+    for unit in 0..found.len() {
+        if let Some(line) = copy_in(&found[unit]) {
+            committed.push(Version {
+                unit: UnitId(unit as u8),
+                line,
+            });
         }
     }
-    versions.len()
 }
 
-// The unit's line comes in among the committed lines of the units before it, where it is committed.
-fn enter(committed: &mut ArrayVec<Version, CAPACITY>, unit: UnitId, line: Option<Line>)
-    requires room { length committed.old.items < CAPACITY }
-    ensures { (lines : UnitLines) → AreCommitted lines unit.0 committed.old.items → lines unit.0 ≡ option_map seen line → AreCommitted lines (unit.0 + 1) committed.new.items }
+// The lines of these units, in their order.
+fn list_versions(
+    committed: &mut ArrayVec<Version, CAPACITY>,
+    order: &[usize],
+    found: &[Option<Line>],
+)
+    requires known { (i : ℕ) → i < length order.now → versions_of (lines_at (map (option_map seen) found.now)) (get_or order.now i 0) ≡ true }
+    requires few { length found.now ≤ CAPACITY }
+    requires room { length committed.old.items + length order.now ≤ CAPACITY }
+    ensures { ListsAfter (lines_at (map (option_map seen) found.now)) committed.old.items order.now (length order.now) committed.new.items }
 {
-    let Some(line) = line else { return };
-    if !line.bits.is_committed() {
-        return;
+    for unit in order {
+        if let Some(line) = found[*unit] {
+            committed.push(Version {
+                unit: UnitId(*unit as u8),
+                line,
+            });
+        }
     }
-    let version = Version { unit, line };
-    let seat = seat_of(committed, &version);
-    committed.insert(seat, version);
 }
 
-// The committed lines among those that were found, in order.
+// The committed lines among those that were found: the clean ones, and then the versions, oldest first.
 fn list_committed(committed: &mut ArrayVec<Version, CAPACITY>, found: &[Option<Line>])
     requires empty { committed.old.items ≡ [] }
     requires few { length found.now ≤ CAPACITY }
+    requires valid { AreValid (lines_at (map (option_map seen) found.now)) }
+    requires ranked { IsRanked (length found.now) (lines_at (map (option_map seen) found.now)) }
     ensures { AreCommitted (lines_at (map (option_map seen) found.now)) (length found.now) committed.new.items }
 {
-    for unit in 0..found.len() {
-        enter(committed, UnitId(unit as u8), found[unit]);
-    }
+    let mut order = ArrayVec::new();
+    oldest_first(&mut order, found);
+    list_copies(committed, found);
+    list_versions(committed, &order, found);
 }
 
 // The active lines among those that were found, by the places of their tasks.
@@ -160,6 +184,7 @@ impl VersionList {
     ) -> VersionList
         requires few { length caches.now ≤ CAPACITY }
         requires known { (place : ℕ) → place < length queue.now → get_or queue.now place 0 < length caches.now }
+        requires ranked { IsRanked (length caches.now) (lines_in caches.now word.0) }
         requires room { HasRoomForEach probes.old caches.now }
         ensures committed { AreCommitted (lines_in caches.now word.0) (length caches.now) result.committed }
         ensures active { map (option_map seen_version) result.active ≡ active_versions (lines_in caches.now word.0) queue.now }
@@ -183,6 +208,7 @@ impl VersionList {
         requires known { (place : ℕ) → place < length queue.now → get_or queue.now place 0 < length caches.now }
         requires cached { unit.0 < length caches.now }
         requires line { lines_in caches.now word.0 unit.0 ≡ option_map seen line }
+        requires ranked { IsRanked (length caches.now) (lines_in caches.now word.0) }
         requires room { HasRoomForEach probes.old caches.now }
         ensures committed { AreCommitted (lines_in caches.now word.0) (length caches.now) result.committed }
         ensures active { map (option_map seen_version) result.active ≡ active_versions (lines_in caches.now word.0) queue.now }
@@ -197,6 +223,8 @@ impl VersionList {
     fn of_found(found: &[Option<Line>], queue: &TaskQueue) -> VersionList
         requires few { length found.now ≤ CAPACITY }
         requires known { (place : ℕ) → place < length queue.now → get_or queue.now place 0 < length found.now }
+        requires valid { AreValid (lines_at (map (option_map seen) found.now)) }
+        requires ranked { IsRanked (length found.now) (lines_at (map (option_map seen) found.now)) }
         ensures committed { AreCommitted (lines_at (map (option_map seen) found.now)) (length found.now) result.committed }
         ensures active { map (option_map seen_version) result.active ≡ active_versions (lines_at (map (option_map seen) found.now)) queue.now }
     {

@@ -1,10 +1,9 @@
-ghost use Rattle.std.specs.Prelude.{◌≡◌, Some, option_map};
+ghost use Rattle.std.specs.Prelude.{◌≡◌, option_map};
 ghost use Rattle.svc_line.specs.Line.{seen};
-ghost use Rattle.svc_vol.specs.Lines.{is_older_of};
 ghost use Rattle.svc_vol.specs.Versions.{active_version, seen_version};
 
 use bitflags::Flags;
-use svc_base::{TaskNo, UnitId};
+use svc_base::UnitId;
 use svc_line::{Line, LineBits};
 
 /// A valid line of a word, and the unit whose cache holds it.
@@ -24,7 +23,7 @@ impl Default for Version {
             line: Line {
                 value: 0,
                 bits: LineBits::empty(),
-                task: TaskNo(0),
+                next: None,
             },
         }
     }
@@ -39,14 +38,5 @@ impl Version {
             Some(line) if line.bits.is_active() => Some(Version { unit, line }),
             _ => None,
         }
-    }
-
-    /// Both lines were stored to, and this one by an earlier task.
-    pub(crate) fn is_older_than(&self, other: &Version) -> bool
-        ensures { result ≡ is_older_of (Some (seen self.now.line)) (Some (seen other.now.line)) }
-    {
-        self.line.bits.is_dirty()
-            && other.line.bits.is_dirty()
-            && self.line.task.0 < other.line.task.0
     }
 }

@@ -5,7 +5,7 @@ use super::{C, L, S, T, V};
 use crate::{Served, Victim};
 use svc_base::{Refusal, TaskNo, UnitId, WordAddr};
 
-pub(super) const UNITS: usize = 4;
+pub(super) const UNITS: usize = 6;
 
 pub(super) const WORDS: usize = 4;
 

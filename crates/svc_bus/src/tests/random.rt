@@ -27,9 +27,17 @@ impl Source {
     }
 }
 
+// How many units a bus has, and how many of its memory's words are used.
+#[derive(Clone, Copy)]
+struct Size {
+    units: u32,
+    words: u32,
+}
+
 // A bus, and beside it the bus by its rules and the versioned map.
 #[derive(Drop)]
 struct Beside {
+    size: Size,
     bus: Bus,
     plain: Plain,
     map: Map,
@@ -38,8 +46,10 @@ struct Beside {
 impl Beside {
     // One step of a random kind by a random unit on a random word, where it is allowed; all three answer the same.
     fn step(&mut self, rt: &impl Abort, source: &mut Source) -> Result<(), Fail> {
-        let unit = source.below(4) as usize;
-        let word = source.below(4) as usize;
+        assert!(rt; 0 < self.size.units && 0 < self.size.words);
+        let unit = source.below(self.size.units) as usize;
+        let word = source.below(self.size.words) as usize;
+        assert!(rt; unit < UNITS && word < WORDS);
         let kind = source.below(12);
         match self.plain.place(unit) {
             None if kind < 7 => self.begin(rt, unit),
@@ -84,7 +94,13 @@ impl Beside {
     {
         let before = self.bus.last_probes();
         let answer = read(rt, &mut self.bus, UnitId(unit as u8), WordAddr(word as u32));
-        check_probes(rt, Answer::WasRead(answer), before, self.bus.last_probes());
+        check_probes(
+            rt,
+            self.size.units,
+            Answer::WasRead(answer),
+            before,
+            self.bus.last_probes(),
+        );
         assert_eq!(rt; answer, self.plain.read(unit, word));
         if let Ok((value, _)) = answer {
             assert_eq!(rt; value, self.map.read(place, word));
@@ -103,7 +119,13 @@ impl Beside {
             WordAddr(word as u32),
             value,
         );
-        check_probes(rt, Answer::Written(answer), before, self.bus.last_probes());
+        check_probes(
+            rt,
+            self.size.units,
+            Answer::Written(answer),
+            before,
+            self.bus.last_probes(),
+        );
         assert_eq!(rt; answer, self.plain.write(unit, word, value));
         if let Ok(victim) = answer {
             assert_eq!(rt; victim, self.map.write(place, word, value));
@@ -127,7 +149,8 @@ impl Beside {
         let address = WordAddr(word as u32);
         assert_eq!(rt; committed(rt, &self.bus, address), self.map.committed(word));
         assert_eq!(rt; backing(rt, &self.bus, address), self.plain.backing(word));
-        for unit in 0..UNITS {
+        assert!(rt; self.size.units as usize <= UNITS);
+        for unit in 0..self.size.units as usize {
             let id = UnitId(unit as u8);
             assert_eq!(rt;
                 line(rt, &self.bus, id, address),
@@ -148,16 +171,18 @@ impl Beside {
 }
 
 // So many random steps, from an opened bus.
-fn walk(rt: &impl Abort, alloc: Global, ways: u32, seed: u64) -> Result<(), Fail>
+fn walk(rt: &impl Abort, alloc: Global, size: Size, ways: u32) -> Result<(), Fail>
     requires some_ways { 1 ≤ ways }
     requires few_ways { ways ≤ MAX_WAYS }
 {
     let memory = [7, 11, 13, 17];
     let mut beside = Beside {
-        bus: open(rt, alloc, 2, ways, &memory)?,
+        size,
+        bus: open_with(rt, alloc, size.units, 2, ways, &memory)?,
         plain: Plain::new(ways, memory),
         map: Map::new(alloc, memory),
     };
+    let seed = u64::from(size.units) * 100 + u64::from(size.words) * 10 + u64::from(ways);
     let mut source = Source { state: seed };
     for _ in 0..STEPS {
         beside.step(rt, &mut source)?;
@@ -166,13 +191,23 @@ fn walk(rt: &impl Abort, alloc: Global, ways: u32, seed: u64) -> Result<(), Fail
     Ok(())
 }
 
-const STEPS: u32 = 500;
+// Thirty walks make 100,020 steps.
+const STEPS: u32 = 3334;
+
+// The walks of a bus of so many units, over one to three words.
+fn walks(rt: &impl Abort, alloc: Global, units: u32) -> Result<(), Fail> {
+    for words in 1..4 {
+        let size = Size { units, words };
+        walk(rt, alloc, size, 1)?;
+        walk(rt, alloc, size, 2)?;
+    }
+    Ok(())
+}
 
 #[test]
 fn random_steps_answer_as_the_rules_and_as_the_versioned_map(rt: HostRuntime) -> Result<(), Fail> {
-    for seed in 0..8 {
-        walk(&rt, rt.alloc(), 1, seed)?;
-        walk(&rt, rt.alloc(), 2, seed)?;
+    for units in 2..7 {
+        walks(&rt, rt.alloc(), units)?;
     }
     Ok(())
 }

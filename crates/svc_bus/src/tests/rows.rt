@@ -19,7 +19,7 @@ fn follow(rt: &impl Abort, bus: &mut Bus, steps: &[(Step, Answer)]) {
         let before = bus.last_probes();
         let answer = perform(rt, bus, *step);
         assert_eq!(rt; answer, *expected, "at {step:?}");
-        check_probes(rt, answer, before, bus.last_probes());
+        check_probes(rt, UNITS, answer, before, bus.last_probes());
     }
 }
 

@@ -1,14 +1,11 @@
 use Rattle.std.proofs.Common.{◌≡◌, ◌∙◌, ◌<◌, ◌^◌, refl, sym, ap, ℕ, ◌+◌, ◌∷◌, List, None, length, get_or, set, unwrap_or}
 use Rattle.std.proofs.lemmas.List.{with_items_is}
 use Rattle.svc_cache.specs.Places.{CacheValue, line_of}
-use Rattle.svc_bus_laws.specs.Steps.{settled}
+use Rattle.svc_cache.specs.Lines.{commit_line}
 use Rattle.svc_retire.specs.Caches.{no_cache, cache_at}
 use Rattle.svc_retire.proofs.Listing.{read_item}
-use Rattle.svc_bus.specs.Numbers.{numbered}
 use Rattle.svc_bus.specs.Value.{BusValue}
 use Rattle.svc_bus.specs.Observed.{observed}
-use Rattle.svc_retire.proofs.Settling.{line_valid}
-use Rattle.svc_bus.proofs.Numbering.{settled_line}
 use Rattle.svc_bus.proofs.Committing.{IsCommit, head_known, committed_bus, committed_table}
 use Rattle.svc_bus.proofs.bus.Bus.commit_head.Goals as goal
 
@@ -28,7 +25,7 @@ invariant_of-self c =
     let words : length backing ≡ length old.backing = c.write_back.auto.backing ∙ ap (λ (xs : List ℕ). length xs) memory in
     let is : IsCommit old new unit cache = record {
       caches = refl;
-      lines = λ a. ap numbered (c.commit_lines.ensures.lines a) ∙ settled_line (line_of c.index_mut.result.now a) (line_valid c.index_mut.result.now a) ∙ sym (ap (λ (x : CacheValue). settled (numbered (line_of x a))) was);
+      lines = λ a. c.commit_lines.ensures.lines a ∙ sym (ap (λ (x : CacheValue). commit_line (line_of x a)) was);
       sets = c.commit_lines.ensures.sets ∙ sym (ap (λ (x : CacheValue). x.sets) was);
       ways = c.commit_lines.ensures.ways ∙ sym (ap (λ (x : CacheValue). x.ways) was);
       spill = c.write_back.ensures.empty;
@@ -55,7 +52,7 @@ returns-clause-table c =
     let words : length backing ≡ length old.backing = c.write_back.auto.backing ∙ ap (λ (xs : List ℕ). length xs) memory in
     let is : IsCommit old new unit cache = record {
       caches = refl;
-      lines = λ a. ap numbered (c.commit_lines.ensures.lines a) ∙ settled_line (line_of c.index_mut.result.now a) (line_valid c.index_mut.result.now a) ∙ sym (ap (λ (x : CacheValue). settled (numbered (line_of x a))) was);
+      lines = λ a. c.commit_lines.ensures.lines a ∙ sym (ap (λ (x : CacheValue). commit_line (line_of x a)) was);
       sets = c.commit_lines.ensures.sets ∙ sym (ap (λ (x : CacheValue). x.sets) was);
       ways = c.commit_lines.ensures.ways ∙ sym (ap (λ (x : CacheValue). x.ways) was);
       spill = c.write_back.ensures.empty;

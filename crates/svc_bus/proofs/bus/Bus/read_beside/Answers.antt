@@ -2,24 +2,23 @@ use Rattle.std.proofs.Common.{◌≡◌, ◌∙◌, refl, sym, ap, ap₂, subst,
 use Rattle.std.proofs.lemmas.List.{with_items_is}
 use Rattle.svc_base.specs.declared.refusal.Refusal.TheVariants as refusal
 use Rattle.svc_line.specs.Bits.{bits_of}
-use Rattle.svc_line.specs.Line.{seen as seen_of}
+use Rattle.svc_line.specs.Line.{SeenLine, seen as seen_of}
 use Rattle.svc_cache.specs.Places.{CacheValue, line_of}
 use Rattle.svc_cache.specs.Lines.{EndsBelow}
 use Rattle.svc_cache.specs.declared.probes.Probes.{Probes}
 use Rattle.svc_vol.specs.Lines.{HasRoomForEach, CountsEachOther, CountsOneOfEach, lines_in}
-use Rattle.svc_bus_laws.specs.LineTable.{Line}
-use Rattle.svc_retire.specs.Caches.{cache_at, SameSizes}
-use Rattle.svc_retire.specs.Purges.{HasRoomFor}
+use Rattle.svc_retire.specs.Caches.{cache_at, held_line, SameSizes}
+use Rattle.svc_retire.specs.Purges.{committed_in, HasRoomFor}
 use Rattle.svc_retire.proofs.Listing.{read_item}
-use Rattle.svc_bus.specs.Numbers.{line_in, numbered, committed_in}
-use Rattle.svc_bus.specs.Value.{BusValue, table_of}
+use Rattle.svc_bus.specs.Value.{BusValue}
 use Rattle.svc_bus.specs.Observed.{observed}
 use Rattle.svc_bus.specs.Looking.{CountsUpTo, IsOne}
 use Rattle.svc_bus.specs.Room.{full_in}
 use Rattle.svc_bus.specs.Carried.{lines_after, memory_after, is_hit}
 use Rattle.svc_bus.proofs.Full.{lines_end, full_shown}
 use Rattle.svc_bus.proofs.Keeping.{KeepsSizes}
-use Rattle.svc_bus.proofs.Requests.{AreFew, listed_describes, room_to_list, room_to_change, task_fits, units_known}
+use Rattle.svc_bus.proofs.Requests.{AreFew, listed_describes, room_to_list, room_to_change, ranked_in}
+use Rattle.svc_bus.proofs.Knowing.{units_known}
 use Rattle.svc_bus.proofs.Reading.{IsPlanned, never_refused, plan_clear, IsLookedUp, asked, own_asked, planned_read, read_bus, read_kept, served_seen, value_seen}
 use Rattle.svc_bus.proofs.Counting.{look_ups}
 use Rattle.svc_bus.proofs.Hitting.{never_hit}
@@ -33,12 +32,11 @@ beside-list-requires-clause-room c =
     let few : AreFew c.args.probes = record { searches = omega (arith, one.searches); places = one.places } in
     subst (HasRoomForEach c.args.probes) (sym c.deref.ensures.value) (room_to_list old c.self.invariant c.args.probes few)
 
-pub overflow_add-outcome : goal.overflow_add-outcome
-overflow_add-outcome c =
-    let inside = c.self.inside in
-    let old : BusValue = record { caches = inside.caches.items; spill = inside.spill; backing = inside.backing.items; units = inside.queue; commits = inside.commits; probes = inside.probes } in
-    let fits = task_fits old c.self.invariant c.place_of-place.result c.place_of-place.ensures.within in
-    omega (arith, fits)
+pub beside-list-requires-clause-ranked : goal.beside-list-requires-clause-ranked
+beside-list-requires-clause-ranked c = ranked_in _ c.self.invariant c.deref.result.now c.deref.ensures.value c.args.word.0
+
+pub carry_out-requires-clause-ranked : goal.carry_out-requires-clause-ranked
+carry_out-requires-clause-ranked c = ranked_in _ c.self.invariant c.deref_mut.result.now c.deref_mut.ensures.value c.args.word.0
 
 pub carry_out-requires-clause-ends : goal.carry_out-requires-clause-ends
 carry_out-requires-clause-ends c =
@@ -53,6 +51,7 @@ abbrev old : goal.After-probes-2-1 → BusValue
 old c = let inside = c.self.inside in record { caches = inside.caches.items; spill = inside.spill; backing = inside.backing.items; units = inside.queue; commits = inside.commits; probes = inside.probes }
 
 looked : (c : goal.After-probes-2-1) → c.args.word.0 < length (old c).backing → IsLookedUp (old c) c.beside-list.result c.place_of-place.result c.args.word.0 c.args.unit.0 c.index-backing.result.now c.get.result
+unfolding observed
 looked c known = record {
   in_memory = known;
   described = listed_describes (old c) c.self.invariant c.deref.result.now c.deref.ensures.value c.args.word.0 c.beside-list.result c.beside-list.ensures.committed c.beside-list.ensures.active;
@@ -63,15 +62,16 @@ looked c known = record {
 }
 
 looked_plan : (c : goal.After-probes-2-1) → c.args.word.0 < length (old c).backing → IsPlanned (old c) c.place_of-place.result c.args.word.0 c.plan_read-plan.result.served c.plan_read-plan.result.value (bits_of c.plan_read-plan.result.bits)
+unfolding observed
 looked_plan c known =
     planned_read (old c) c.beside-list.result c.place_of-place.result c.args.word.0 c.args.unit.0 c.index-backing.result.now c.get.result c.plan_read-plan.result.served c.plan_read-plan.result.value (bits_of c.plan_read-plan.result.bits)
-    c.self.invariant (looked c known) c.plan_read-plan.ensures.served c.plan_read-plan.ensures.line
+    c.self.invariant (looked c known) c.plan_read-plan.ensures.served c.plan_read-plan.ensures.line c.plan_read-plan.ensures.valid
 
 pub carry_out-requires-clause-valid : goal.carry_out-requires-clause-valid
 unfolding observed
 carry_out-requires-clause-valid c =
     let known : c.args.word.0 < length (old c).backing = rw (← c.self.view_is) at c.requires.in_memory in
-    c.plan_read-plan.ensures.valid (observed (old c)) (table_of (old c)) c.args.word.0
+    c.plan_read-plan.ensures.valid (observed (old c)) c.self.invariant.linked.table c.args.word.0
     (own_asked (old c) c.beside-list.result c.place_of-place.result c.args.word.0 c.args.unit.0 c.index-backing.result.now c.get.result c.self.invariant (looked c known))
 
 pub carry_out-requires-clause-active : goal.carry_out-requires-clause-active
@@ -109,6 +109,7 @@ abbrev after : goal.After-self-3-1 → ℕ → BusValue
 after c told = record (before c) { caches = c.carry_out.new.caches; backing = c.carry_out.new.backing; probes = told }
 
 seen : (c : goal.After-self-3-1) → c.args.word.0 < length (before c).backing → IsLookedUp (before c) c.beside-list.result c.place_of-place.result c.args.word.0 c.args.unit.0 c.index-backing.result.now c.get.result
+unfolding observed
 seen c known = record {
   in_memory = known;
   described = listed_describes (before c) c.self.invariant c.deref.result.now c.deref.ensures.value c.args.word.0 c.beside-list.result c.beside-list.ensures.committed c.beside-list.ensures.active;
@@ -119,9 +120,10 @@ seen c known = record {
 }
 
 seen_plan : (c : goal.After-self-3-1) → c.args.word.0 < length (before c).backing → IsPlanned (before c) c.place_of-place.result c.args.word.0 c.plan_read-plan.result.served c.plan_read-plan.result.value (bits_of c.plan_read-plan.result.bits)
+unfolding observed
 seen_plan c known =
     planned_read (before c) c.beside-list.result c.place_of-place.result c.args.word.0 c.args.unit.0 c.index-backing.result.now c.get.result c.plan_read-plan.result.served c.plan_read-plan.result.value (bits_of c.plan_read-plan.result.bits)
-    c.self.invariant (seen c known) c.plan_read-plan.ensures.served c.plan_read-plan.ensures.line
+    c.self.invariant (seen c known) c.plan_read-plan.ensures.served c.plan_read-plan.ensures.line c.plan_read-plan.ensures.valid
 
 sizes_are : (c : goal.After-self-3-1) (told : ℕ) → KeepsSizes (before c) (after c told)
 sizes_are c told = record {
@@ -131,13 +133,13 @@ sizes_are c told = record {
 }
 
 -- the unit's line after the read
-abbrev line_after : goal.After-self-3-1 → Option Line
-line_after c = numbered (Some (record { value = c.plan_read-plan.result.value; bits = bits_of c.plan_read-plan.result.bits; task = (before c).commits + c.place_of-place.result }))
+abbrev line_after : goal.After-self-3-1 → Option SeenLine
+line_after c = Some (record { value = c.plan_read-plan.result.value; bits = bits_of c.plan_read-plan.result.bits; next = None })
 
-lines_are : (c : goal.After-self-3-1) (u a : ℕ) → line_in c.carry_out.new.caches u a ≡ lines_after c.plan_read-plan.result.served (line_in (before c).caches) (get_or (before c).units c.place_of-place.result 0) c.args.word.0 (line_after c) u a
+lines_are : (c : goal.After-self-3-1) (u a : ℕ) → held_line c.carry_out.new.caches u a ≡ lines_after c.plan_read-plan.result.served (held_line (before c).caches) (get_or (before c).units c.place_of-place.result 0) c.args.word.0 (line_after c) u a
 lines_are c u a =
     c.in_default.ensures.lines u a
-    ∙ ap₂ (λ (xs : List CacheValue) (unit : ℕ). lines_after c.plan_read-plan.result.served (line_in xs) unit c.args.word.0 (line_after c) u a) c.deref_mut.ensures.value (sym c.place_of-place.ensures.at_work)
+    ∙ ap₂ (λ (xs : List CacheValue) (unit : ℕ). lines_after c.plan_read-plan.result.served (held_line xs) unit c.args.word.0 (line_after c) u a) c.deref_mut.ensures.value (sym c.place_of-place.ensures.at_work)
 
 memory_is : (c : goal.After-self-3-1) (a : ℕ) → get_or c.carry_out.new.backing a 0 ≡ memory_after c.plan_read-plan.result.served (λ x. get_or (before c).backing x 0) c.args.word.0 (committed_in (before c).caches (before c).backing c.args.word.0) a
 memory_is c a =

@@ -3,16 +3,17 @@ use Rattle.std.proofs.lemmas.List.{with_items_is}
 use Rattle.svc_line.specs.Line.{seen}
 use Rattle.svc_cache.specs.Places.{CacheValue, line_of}
 use Rattle.svc_vol.specs.Lines.{HasRoomForEach, CountsOneOfEach}
-use Rattle.svc_bus_laws.specs.Steps.{purged, with_at, with_line}
-use Rattle.svc_retire.specs.Caches.{no_cache, cache_at, SameSizes}
-use Rattle.svc_retire.specs.Purges.{HasRoomFor}
+use Rattle.svc_bus_laws.specs.Steps.{with_at}
+use Rattle.svc_retire.specs.Caches.{no_cache, cache_at, held_line, SameSizes}
+use Rattle.svc_retire.specs.Purges.{committed_in, purged_line, HasRoomFor}
 use Rattle.svc_retire.proofs.Listing.{read_item}
-use Rattle.svc_bus.specs.Numbers.{numbered, line_in, committed_in}
+use Rattle.svc_bus.specs.Lines.{with_line}
 use Rattle.svc_bus.specs.Value.{BusValue}
 use Rattle.svc_bus.specs.Observed.{observed}
 use Rattle.svc_bus.proofs.Keeping.{KeepsSizes}
-use Rattle.svc_bus.proofs.Requests.{AreFew, one_look, room_to_list, room_to_change}
-use Rattle.svc_bus.proofs.Replacing.{IsReplaced, line_in_memory, replaced_bus, replaced_agreed}
+use Rattle.svc_bus.proofs.Requests.{AreFew, one_look, ranked_in, room_to_list, room_to_change}
+use Rattle.svc_bus.proofs.Knowing.{in_memory}
+use Rattle.svc_bus.proofs.Replacing.{IsReplaced, replaced_bus, replaced_agreed}
 use Rattle.svc_bus.proofs.bus.Bus.replace.Goals as goal
 
 pub of-list-requires-clause-room : goal.of-list-requires-clause-room
@@ -25,6 +26,12 @@ of-list-requires-clause-room c =
     let few : AreFew c.lookup.new.probes = one_look old c.self.invariant c.args.unit.0 c.index.result.now c.new-probes.result c.lookup.new.probes known was c.new-probes.ensures.searches c.new-probes.ensures.places c.lookup.ensures.counted in
     subst (HasRoomForEach c.lookup.new.probes) (sym c.deref.ensures.value) (room_to_list old c.self.invariant c.lookup.new.probes few)
 
+pub of-list-requires-clause-ranked : goal.of-list-requires-clause-ranked
+of-list-requires-clause-ranked c = ranked_in _ c.self.invariant c.deref.result.now c.deref.ensures.value c.args.word.0
+
+pub take_line-requires-clause-ranked : goal.take_line-requires-clause-ranked
+take_line-requires-clause-ranked c = ranked_in _ c.self.invariant c.deref_mut.result.now c.deref_mut.ensures.value c.args.word.0
+
 pub take_line-requires-clause-in_memory : goal.take_line-requires-clause-in_memory
 unfolding observed
 take_line-requires-clause-in_memory c =
@@ -32,8 +39,8 @@ take_line-requires-clause-in_memory c =
     let old : BusValue = record { caches = inside.caches.items; spill = inside.spill; backing = inside.backing.items; units = inside.queue; commits = inside.commits; probes = inside.probes } in
     let known : c.args.unit.0 < length old.caches = rw (← c.self.view_is) at c.requires.known in
     let was : cache_at old.caches c.args.unit.0 ≡ c.index.result.now = read_item old.caches c.args.unit.0 c.index.result.now no_cache c.index.ensures known in
-    let here : line_in old.caches c.args.unit.0 c.args.word.0 ≡ numbered (Some (seen c.in-Some.line)) = ap (λ (cache : CacheValue). numbered (line_of cache c.args.word.0)) was ∙ ap numbered (sym c.in-Some.ensures.line) in
-    subst (λ (xs : List ℕ). c.args.word.0 < length xs) (sym c.deref_mut-2.ensures.value) (line_in_memory old c.args.unit.0 c.args.word.0 (seen c.in-Some.line) c.self.invariant here)
+    let here : held_line old.caches c.args.unit.0 c.args.word.0 ≡ Some (seen c.in-Some.line) = ap (λ (cache : CacheValue). line_of cache c.args.word.0) was ∙ sym c.in-Some.ensures.line in
+    subst (λ (xs : List ℕ). c.args.word.0 < length xs) (sym c.deref_mut-2.ensures.value) (in_memory old c.self.invariant c.args.unit.0 c.args.word.0 (seen c.in-Some.line) here)
 
 pub take_line-requires-clause-room : goal.take_line-requires-clause-room
 unfolding observed
@@ -53,8 +60,8 @@ spill_version-requires-clause-known c =
     let old : BusValue = record { caches = inside.caches.items; spill = inside.spill; backing = inside.backing.items; units = inside.queue; commits = inside.commits; probes = inside.probes } in
     let known : c.args.unit.0 < length old.caches = rw (← c.self.view_is) at c.requires.known in
     let was : cache_at old.caches c.args.unit.0 ≡ c.index.result.now = read_item old.caches c.args.unit.0 c.index.result.now no_cache c.index.ensures known in
-    let here : line_in old.caches c.args.unit.0 c.args.word.0 ≡ numbered (Some (seen c.in-Some.line)) = ap (λ (cache : CacheValue). numbered (line_of cache c.args.word.0)) was ∙ ap numbered (sym c.in-Some.ensures.line) in
-    subst (λ n. c.args.word.0 < n) (sym c.self.invariant.spills) (line_in_memory old c.args.unit.0 c.args.word.0 (seen c.in-Some.line) c.self.invariant here)
+    let here : held_line old.caches c.args.unit.0 c.args.word.0 ≡ Some (seen c.in-Some.line) = ap (λ (cache : CacheValue). line_of cache c.args.word.0) was ∙ sym c.in-Some.ensures.line in
+    subst (λ n. c.args.word.0 < n) (sym c.self.invariant.spills) (in_memory old c.self.invariant c.args.unit.0 c.args.word.0 (seen c.in-Some.line) here)
 
 -- the bus before and after
 abbrev before : goal.After-spill_version → BusValue
@@ -76,9 +83,10 @@ replaced c known =
     let caches : c.deref_mut.result.now ≡ (before c).caches = c.deref_mut.ensures.value in
     let memory : c.deref_mut-2.result.now ≡ (before c).backing = c.deref_mut-2.ensures.value in
     record {
-      here = ap (λ (cache : CacheValue). numbered (line_of cache c.args.word.0)) was ∙ ap numbered (sym c.in-Some.ensures.line);
+      here = ap (λ (cache : CacheValue). line_of cache c.args.word.0) was ∙ sym c.in-Some.ensures.line;
+      valid = c.in-Some.ensures.valid;
       free = sym c.if-is_pinned.ensures;
-      lines = λ u a. c.take_line.ensures.lines u a ∙ ap (λ (xs : List CacheValue). with_line (line_in xs) c.args.unit.0 c.args.word.0 None purged u a) caches;
+      lines = λ u a. c.take_line.ensures.lines u a ∙ ap (λ (xs : List CacheValue). with_line (held_line xs) c.args.unit.0 c.args.word.0 None purged_line u a) caches;
       memory = λ a. c.take_line.ensures.memory a ∙ ap₂ (λ (xs : List ℕ) (ys : List CacheValue). with_at (λ x. get_or xs x 0) c.args.word.0 (committed_in ys xs c.args.word.0) a) memory caches;
       versions = c.spill_version.ensures.versions;
       sizes = sizes_are c;

@@ -1,12 +1,11 @@
 use Rattle.std.proofs.Common.{◌≡◌, ◌∙◌, ◌<◌, refl, sym, ap, subst, false, cond, ◌&&◌, None, ℕ, List, length}
 use Rattle.std.proofs.lemmas.List.{with_items_is}
+use Rattle.svc_cache.specs.Lines.{squash_line}
 use Rattle.svc_cache.specs.Places.{CacheValue}
-use Rattle.svc_bus_laws.specs.LineTable.{is_active, is_cut}
+use Rattle.svc_bus_laws.specs.LineTable.{is_cut}
 use Rattle.svc_bus_laws.specs.Refusals.{is_head}
-use Rattle.svc_retire.specs.Caches.{SameSizes}
-use Rattle.svc_bus.specs.Numbers.{line_in}
+use Rattle.svc_retire.specs.Caches.{held_line, SameSizes}
 use Rattle.svc_bus.specs.Observed.{observed}
-use Rattle.svc_bus.proofs.Numbering.{squashed_numbers}
 use Rattle.svc_bus.proofs.Squashing.{later_place, squashed_bus, squashed_table}
 use Rattle.svc_bus.proofs.bus.Bus.squash_from.Goals as goal
 
@@ -22,7 +21,7 @@ invariant_of-self c =
     rw (with_items_is c.self.inside.caches c.squash_lines.new.caches size, c.cut_from.ensures)
     (squashed_bus _ c.squash_lines.new.caches c.in-Some.position c.self.invariant above at.0
     (subst (λ (cs : List CacheValue). SameSizes cs c.squash_lines.new.caches) was c.squash_lines.ensures.sizes)
-    (subst (λ (cs : List CacheValue). (u a : ℕ) → line_in c.squash_lines.new.caches u a ≡ cond (is_cut queue c.in-Some.position u && is_active (line_in cs u a)) None (line_in cs u a)) was (squashed_numbers c.deref_mut.result.now c.squash_lines.new.caches queue c.in-Some.position c.squash_lines.ensures.lines)))
+    (subst (λ (cs : List CacheValue). (u a : ℕ) → held_line c.squash_lines.new.caches u a ≡ cond (is_cut queue c.in-Some.position u) (squash_line (held_line cs u a)) (held_line cs u a)) was c.squash_lines.ensures.lines))
 
 pub returns-clause-table : goal.returns-clause-table
 unfolding observed
@@ -36,4 +35,4 @@ returns-clause-table c =
     rw (with_items_is c.self.inside.caches c.squash_lines.new.caches size, c.cut_from.ensures, ← c.self.view_is)
     (λ t place agrees here is. squashed_table _ c.squash_lines.new.caches c.in-Some.position c.self.invariant above at.0
     (subst (λ (cs : List CacheValue). SameSizes cs c.squash_lines.new.caches) was c.squash_lines.ensures.sizes)
-    (subst (λ (cs : List CacheValue). (u a : ℕ) → line_in c.squash_lines.new.caches u a ≡ cond (is_cut queue c.in-Some.position u && is_active (line_in cs u a)) None (line_in cs u a)) was (squashed_numbers c.deref_mut.result.now c.squash_lines.new.caches queue c.in-Some.position c.squash_lines.ensures.lines)) t place agrees here (is ∙ sym at.1))
+    (subst (λ (cs : List CacheValue). (u a : ℕ) → held_line c.squash_lines.new.caches u a ≡ cond (is_cut queue c.in-Some.position u) (squash_line (held_line cs u a)) (held_line cs u a)) was c.squash_lines.ensures.lines) t place agrees here (is ∙ sym at.1))

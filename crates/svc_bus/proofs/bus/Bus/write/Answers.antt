@@ -1,20 +1,24 @@
-use Rattle.std.proofs.Common.{rules, ◌≡◌, ◌∙◌, ◌<◌, ◌+◌, refl, sym, ap, ap₂, subst, ℕ, Some, List, length, get_or, option_map, arith}
+use Rattle.std.proofs.Common.{rules, ◌≡◌, ◌∙◌, ◌<◌, ◌+◌, refl, sym, ap, ap₂, subst, ℕ, Option, Some, List, length, get_or, option_map, arith}
 use Rattle.std.proofs.lemmas.List.{with_items_is}
 use Rattle.svc_vol.specs.declared.version.Version.{Version}
+use Rattle.svc_base.specs.declared.ids.UnitId.{UnitId}
 use Rattle.svc_base.specs.declared.refusal.Refusal.TheVariants as refusal
 use Rattle.svc_line.specs.Bits.{bits_of}
 use Rattle.svc_line.specs.Line.{SeenLine}
 use Rattle.svc_cache.specs.Places.{CacheValue}
 use Rattle.svc_vol.specs.Lines.{CountsOneOfEach}
 use Rattle.svc_bus_laws.specs.Steps.{with_at}
-use Rattle.svc_retire.specs.Caches.{SameSizes}
-use Rattle.svc_bus.specs.Numbers.{line_in, numbered, committed_in}
+use Rattle.svc_retire.specs.Caches.{held_line, SameSizes}
+use Rattle.svc_retire.specs.Purges.{committed_in}
 use Rattle.svc_bus.specs.Value.{BusValue}
 use Rattle.svc_bus.specs.Observed.{observed}
 use Rattle.svc_bus.specs.Calls.{full_refusal}
 use Rattle.svc_bus.specs.Looking.{CountsUpTo}
 use Rattle.svc_bus.specs.Stores.{left_line, stored_line}
 use Rattle.svc_bus.proofs.Keeping.{KeepsSizes}
+use Rattle.svc_bus.proofs.Full.{all_end}
+use Rattle.svc_bus.proofs.Knowing.{units_known}
+use Rattle.svc_bus.proofs.Requests.{ranked_in}
 use Rattle.svc_bus.proofs.Rooms.{room_for_each}
 use Rattle.svc_bus.proofs.Planning.{HasList, listed, room_to_store, refusal_is, unit_known, chosen_within, left_is, chosen_shown, held_lines, once_each, planned, line_active}
 use Rattle.svc_bus.proofs.Writing.{IsPlanned, IsWritten, written_bus, written_agreed}
@@ -23,25 +27,36 @@ use Rattle.svc_bus.proofs.bus.Bus.write.Goals as goal
 pub of-list-requires-clause-room : goal.of-list-requires-clause-room
 of-list-requires-clause-room c = room_for_each _ c.self.invariant c.new-probes.result c.deref.result.now c.new-probes.ensures.searches c.new-probes.ensures.places c.deref.ensures.value
 
+pub of-list-requires-clause-ranked : goal.of-list-requires-clause-ranked
+of-list-requires-clause-ranked c = ranked_in _ c.self.invariant c.deref.result.now c.deref.ensures.value c.args.word.0
+
+pub store_line-requires-clause-ranked : goal.store_line-requires-clause-ranked
+store_line-requires-clause-ranked c = ranked_in _ c.self.invariant c.deref_mut.result.now c.deref_mut.ensures.value c.args.word.0
+
+pub store_line-requires-clause-ends : goal.store_line-requires-clause-ends
+store_line-requires-clause-ends c = all_end _ c.self.invariant c.deref_mut.result.now c.deref_mut.ensures.value c.deref_mut-2.result.now c.deref_mut-2.ensures.value
+
+pub store_line-requires-clause-units : goal.store_line-requires-clause-units
+store_line-requires-clause-units c = rw c.deref_mut.ensures.value (units_known _ c.self.invariant)
+
 pub store_line-requires-clause-held : goal.store_line-requires-clause-held
 store_line-requires-clause-held c =
     let list = listed _ c.self.invariant c.args.word.0 c.of-list.result c.deref.result.now c.deref.ensures.value c.of-list.ensures.committed c.of-list.ensures.active in
-    rw c.deref-2.ensures.0 (held_lines _ c.self.invariant c.args.unit.0 c.place_of-place.result c.args.word.0 c.place_of-place.ensures.within c.place_of-place.ensures.at_work c.of-list.result list c.plan_write-plan.result.stale.items c.plan_write-plan.ensures.stale c.deref_mut.result.now c.deref_mut.ensures.value c.plan_write-plan.ensures.listed)
+    rw c.deref-2.ensures.0 (held_lines _ c.self.invariant c.args.unit.0 c.place_of-place.result c.args.word.0 c.place_of-place.ensures.within c.place_of-place.ensures.at_work c.of-list.result list c.plan_write-plan.result.changed.items c.plan_write-plan.ensures.listed c.deref_mut.result.now c.deref_mut.ensures.value)
 
 pub store_line-requires-clause-once : goal.store_line-requires-clause-once
 store_line-requires-clause-once c =
     let list = listed _ c.self.invariant c.args.word.0 c.of-list.result c.deref.result.now c.deref.ensures.value c.of-list.ensures.committed c.of-list.ensures.active in
-    rw c.deref-2.ensures.0 (once_each _ c.self.invariant c.args.unit.0 c.place_of-place.result c.args.word.0 c.place_of-place.ensures.within c.place_of-place.ensures.at_work c.of-list.result list c.plan_write-plan.result.stale.items c.plan_write-plan.ensures.stale c.deref_mut.result.now c.deref_mut.ensures.value)
+    rw c.deref-2.ensures.0 (once_each _ c.self.invariant c.args.unit.0 c.place_of-place.result c.args.word.0 c.place_of-place.ensures.within c.place_of-place.ensures.at_work c.of-list.result list c.plan_write-plan.result.changed.items c.plan_write-plan.ensures.listed c.deref_mut.result.now c.deref_mut.ensures.value)
 
 pub store_line-requires-clause-active : goal.store_line-requires-clause-active
 unfolding observed
 store_line-requires-clause-active c =
     let list = listed _ c.self.invariant c.args.word.0 c.of-list.result c.deref.result.now c.deref.ensures.value c.of-list.ensures.committed c.of-list.ensures.active in
     let known : c.args.word.0 < length c.self.inside.backing.items = rw (← c.self.view_is) at c.requires.in_memory in
-    line_active _ c.self.invariant c.args.unit.0 c.place_of-place.result c.args.word.0 c.place_of-place.ensures.within c.place_of-place.ensures.at_work c.of-list.result list
-    c.plan_write-plan.result.stale.items c.plan_write-plan.ensures.stale c.args.value c.unwrap_or-left.result (bits_of c.plan_write-plan.result.bits)
+    line_active _ c.self.invariant c.args.unit.0 c.place_of-place.result c.args.word.0 c.place_of-place.ensures.within c.place_of-place.ensures.at_work c.of-list.result list c.plan_write-plan.result.changed.items c.plan_write-plan.ensures.listed c.args.value c.unwrap_or-left.result (bits_of c.plan_write-plan.result.bits) (option_map (λ (u : UnitId). u.0) c.plan_write-plan.result.next) (option_map (λ (u : UnitId). u.0) c.plan_write-plan.result.previous)
     (left_is _ c.self.invariant c.args.unit.0 c.place_of-place.result c.args.word.0 c.place_of-place.ensures.within c.place_of-place.ensures.at_work c.of-list.result list c.plan_write-plan.result.victim c.len-tasks.result c.len-tasks.ensures.count c.plan_write-plan.ensures.victim c.unwrap_or-left.result c.unwrap_or-left.ensures)
-    c.plan_write-plan.ensures.line known
+    c.plan_write-plan.ensures.valid c.plan_write-plan.ensures.line c.plan_write-plan.ensures.others c.plan_write-plan.ensures.next c.plan_write-plan.ensures.previous c.plan_write-plan.ensures.linked known
 
 pub store_line-requires-clause-room : goal.store_line-requires-clause-room
 store_line-requires-clause-room c = room_to_store _ c.self.invariant c.deref_mut.result.now c.deref_mut.ensures.value c.new-probes.result c.of-list.new.probes c.new-probes.ensures.searches c.new-probes.ensures.places (subst (CountsOneOfEach c.new-probes.result c.of-list.new.probes) c.deref.ensures.value c.of-list.ensures.counted)
@@ -67,18 +82,21 @@ abbrev after : goal.After-victim_of → ℕ → BusValue
 after c told = record (before c) { caches = c.store_line.new.caches; spill = c.empty_spill.new.spill; backing = c.store_line.new.backing; units = c.cut_from.new.self; probes = told }
 
 abbrev line : goal.After-victim_of → SeenLine
-line c = record { value = c.args.value; bits = bits_of c.plan_write-plan.result.bits; task = c.self.inside.commits + c.place_of-place.result }
+line c = record { value = c.args.value; bits = bits_of c.plan_write-plan.result.bits; next = option_map (λ (u : UnitId). u.0) c.plan_write-plan.result.next }
 
-abbrev stale : goal.After-victim_of → List Version
-stale c = c.plan_write-plan.result.stale.items
+abbrev previous : goal.After-victim_of → Option ℕ
+previous c = option_map (λ (u : UnitId). u.0) c.plan_write-plan.result.previous
 
-plan_of : (c : goal.After-victim_of) → IsPlanned (before c) c.place_of-place.result c.args.word.0 c.args.value (line c) (stale c) c.unwrap_or-left.result
+abbrev changed : goal.After-victim_of → List Version
+changed c = c.plan_write-plan.result.changed.items
+
+plan_of : (c : goal.After-victim_of) → IsPlanned (before c) c.place_of-place.result c.args.word.0 c.args.value (line c) (previous c) (changed c) c.unwrap_or-left.result
 plan_of c =
     let list : HasList (before c) c.args.word.0 c.of-list.result = listed (before c) c.self.invariant c.args.word.0 c.of-list.result c.deref.result.now c.deref.ensures.value c.of-list.ensures.committed c.of-list.ensures.active in
     planned (before c) c.self.invariant c.args.unit.0 c.place_of-place.result c.args.word.0 c.place_of-place.ensures.within c.place_of-place.ensures.at_work c.of-list.result list
-    (stale c) c.plan_write-plan.ensures.stale c.args.value c.unwrap_or-left.result (bits_of c.plan_write-plan.result.bits)
+    c.plan_write-plan.result.changed.items c.plan_write-plan.ensures.listed c.args.value c.unwrap_or-left.result (bits_of c.plan_write-plan.result.bits) (option_map (λ (u : UnitId). u.0) c.plan_write-plan.result.next) (option_map (λ (u : UnitId). u.0) c.plan_write-plan.result.previous)
     (left_is (before c) c.self.invariant c.args.unit.0 c.place_of-place.result c.args.word.0 c.place_of-place.ensures.within c.place_of-place.ensures.at_work c.of-list.result list c.plan_write-plan.result.victim c.len-tasks.result c.len-tasks.ensures.count c.plan_write-plan.ensures.victim c.unwrap_or-left.result c.unwrap_or-left.ensures)
-    c.plan_write-plan.ensures.line
+    c.plan_write-plan.ensures.valid c.plan_write-plan.ensures.line c.plan_write-plan.ensures.others c.plan_write-plan.ensures.next c.plan_write-plan.ensures.previous c.plan_write-plan.ensures.linked
 
 sizes_are : (c : goal.After-victim_of) (told : ℕ) → KeepsSizes (before c) (after c told)
 sizes_are c told = record {
@@ -87,15 +105,15 @@ sizes_are c told = record {
   backing = c.store_line.auto.backing ∙ ap (λ (xs : List ℕ). length xs) c.deref_mut-2.ensures.value;
 }
 
-written : (c : goal.After-victim_of) (told : ℕ) → IsWritten (before c) (after c told) c.place_of-place.result c.args.word.0 (line c) (stale c) c.unwrap_or-left.result
+written : (c : goal.After-victim_of) (told : ℕ) → IsWritten (before c) (after c told) c.place_of-place.result c.args.word.0 (line c) (previous c) (changed c) c.unwrap_or-left.result
 written c told =
     let caches : c.deref_mut.result.now ≡ (before c).caches = c.deref_mut.ensures.value in
     let memory : c.deref_mut-2.result.now ≡ (before c).backing = c.deref_mut-2.ensures.value in
     record {
       lines = λ u a.
           c.in_ok-store_line.ensures.lines u a
-          ∙ ap₂ (λ (xs : List CacheValue) (us : List Version). left_line (before c).units c.unwrap_or-left.result u (stored_line (line_in xs) c.args.unit.0 c.args.word.0 (numbered (Some (line c))) us u a)) caches c.deref-2.ensures.0
-          ∙ ap (λ unit. left_line (before c).units c.unwrap_or-left.result u (stored_line (line_in (before c).caches) unit c.args.word.0 (numbered (Some (line c))) (stale c) u a)) (sym c.place_of-place.ensures.at_work);
+          ∙ ap₂ (λ (xs : List CacheValue) (us : List Version). left_line (before c).units c.unwrap_or-left.result u (stored_line (held_line xs) c.args.unit.0 c.args.word.0 (Some (line c)) (previous c) us u a)) caches c.deref-2.ensures.0
+          ∙ ap (λ unit. left_line (before c).units c.unwrap_or-left.result u (stored_line (held_line (before c).caches) unit c.args.word.0 (Some (line c)) (previous c) (changed c) u a)) (sym c.place_of-place.ensures.at_work);
       memory = λ a. c.in_ok-store_line.ensures.memory a ∙ ap₂ (λ (xs : List ℕ) (ys : List CacheValue). with_at (λ x. get_or xs x 0) c.args.word.0 (committed_in ys xs c.args.word.0) a) memory caches;
       versions = c.empty_spill.ensures.versions;
       sizes = sizes_are c told;
@@ -111,7 +129,7 @@ invariant_of-self-2 c =
     let count : length c.store_line.new.caches ≡ inside.caches.len = (sizes_are c 0).caches.count ∙ sym inside.caches.ok.0 in
     let words : length c.store_line.new.backing ≡ inside.backing.len = (sizes_are c 0).backing ∙ sym inside.backing.ok.0 in
     rw (with_items_is inside.caches c.store_line.new.caches count, with_items_is inside.backing c.store_line.new.backing words)
-    (written_bus (before c) c.self.invariant c.place_of-place.result c.args.word.0 c.args.value (line c) (stale c) c.unwrap_or-left.result c.place_of-place.ensures.within known (plan_of c) (after c _) (written c _))
+    (written_bus (before c) c.self.invariant c.place_of-place.result c.args.word.0 c.args.value (line c) (previous c) (changed c) c.unwrap_or-left.result c.place_of-place.ensures.within known (plan_of c) (after c _) (written c _))
 
 pub returns-clause-refused : goal.returns-clause-refused
 unfolding observed
@@ -134,7 +152,7 @@ returns-clause-table c =
     let count : length c.store_line.new.caches ≡ inside.caches.len = (sizes_are c 0).caches.count ∙ sym inside.caches.ok.0 in
     let words : length c.store_line.new.backing ≡ inside.backing.len = (sizes_are c 0).backing ∙ sym inside.backing.ok.0 in
     rw (with_items_is inside.caches c.store_line.new.caches count, with_items_is inside.backing c.store_line.new.backing words, ← c.self.view_is)
-    (λ s p agrees here is. written_agreed (before c) c.self.invariant c.place_of-place.result c.args.word.0 c.args.value (line c) (stale c) c.unwrap_or-left.result c.place_of-place.ensures.within known (plan_of c) (after c _) (written c _) s p agrees here (is ∙ sym c.place_of-place.ensures.at_work))
+    (λ s p agrees here is. written_agreed (before c) c.self.invariant c.place_of-place.result c.args.word.0 c.args.value (line c) (previous c) (changed c) c.unwrap_or-left.result c.place_of-place.ensures.within known (plan_of c) (after c _) (written c _) s p agrees here (is ∙ sym c.place_of-place.ensures.at_work))
 
 pub returns-clause-probes : goal.returns-clause-probes
 unfolding observed
