@@ -1,0 +1,36 @@
+use Rattle.std.proofs.Common.{◌≡◌, ◌∙◌, ◌<◌, ◌==◌, ℕ, true, false, [], ◌∷◌, List, length, refl, sym, arith, inl, inr}
+use Rattle.std.proofs.lemmas.Bool.{eqb-true}
+use Rattle.std.proofs.lemmas.Result.{err_from_is_err_and}
+use Rattle.svc_draft.specs.Layouts.{layout_of}
+use Rattle.svc_asm.proofs.Program.{advance, refuted}
+use Rattle.svc_asm.proofs.assembling.take_lines.Goals as goal
+
+pub loop-rest-preserved : goal.loop-rest-preserved
+loop-rest-preserved c =
+    let said = c.in_ok-rest.ensures.ok in
+    record {
+      whole = λ todo made h. c.loop-rest.invariant.whole (said.0 ∷ todo) made (c.in_ok-rest.rest.now, layout_of c.take_line.new.draft, said.1, h);
+      left = λ ss made h. let t = c.loop-rest.invariant.left ss made h in advance t.0 c.loop-rest.rest.now c.in_ok-rest.rest.now (layout_of c.loop-rest.draft) (layout_of c.take_line.new.draft) made said.0 said.1 t.1;
+    }
+
+-- what is left where a text is empty, and where it isn't
+empty_is : (xs : List ℕ) → (length xs == 0) ≡ true → xs ≡ []
+empty_is [] h = refl
+empty_is (x ∷ xs) h = absurd (omega (arith, eqb-true (length (x ∷ xs)) 0 h))
+
+some_left : (xs : List ℕ) → (length xs == 0) ≡ false → 0 < length xs
+some_left [] h = absurd (cc)
+some_left (x ∷ xs) h = omega arith
+
+pub returns-clause-ok : goal.returns-clause-ok
+returns-clause-ok c =
+    c.loop-rest.invariant.whole [] (layout_of c.loop-rest.draft) (empty_is c.loop-rest.rest.now (sym c.is_empty.ensures ∙ c.loop-rest-test.false), refl)
+
+pub returns-in_err-rest-clause-err : goal.returns-in_err-rest-clause-err
+returns-in_err-rest-clause-err c =
+    let p = err_from_is_err_and c.from_residual.result c.from_residual.ensures.1 in
+    let some = some_left c.loop-rest.rest.now (sym c.is_empty.ensures ∙ c.loop-rest-test.true) in
+    rw (p.1, p.2) (elim c.in_err-rest.ensures.err [
+      | inl memory ↦ inl memory
+      | inr none ↦ inr (λ ss made h. let t = c.loop-rest.invariant.left ss made h in refuted t.0 c.loop-rest.rest.now (layout_of c.loop-rest.draft) made some none t.1)
+    ])

@@ -1,0 +1,7 @@
+pub mod Characters
+pub mod Names
+pub mod Reading
+pub mod Operands
+pub mod Pseudo
+pub mod Statements
+pub mod Programs

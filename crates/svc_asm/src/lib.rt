@@ -1,0 +1,20 @@
+//! Assembly: programs as text, to images.
+#![tactic(auto)]
+
+mod assembling;
+mod characters;
+mod instruction;
+mod line;
+mod names;
+mod operands;
+mod pseudo;
+mod unread;
+
+pub use assembling::{AssembleError, assemble};
+pub use names::register;
+pub use unread::Wanted;
+
+#[cfg(test)]
+mod rows;
+#[cfg(test)]
+mod tests;

@@ -1,0 +1,216 @@
+// Lines: what they say, and where they end.
+
+ghost use Rattle.std.specs.Prelude.{◌≡◌};
+ghost use Rattle.svc_asm.specs.Characters.{past};
+ghost use Rattle.svc_draft.specs.Layouts.{layout_of};
+ghost use Rattle.svc_asm.specs.Reading.{Gives};
+ghost use Rattle.svc_asm.specs.Statements.{word_at, start_at, limit_at, known_version, version_at, limited_entry_at, entry_at, setting_at, directive_at, as_statement, statement_at, is_inside, end_at, ended_at, is_label, line_at};
+
+use crate::characters::{skip_spaces, split_name};
+use crate::instruction::read_instruction;
+use crate::names::is_word;
+use crate::operands::{read_first_register, read_number, read_value};
+use crate::unread::{Unread, Wanted, stopped_at, stopped_at_name};
+use svc_draft::{Draft, Statement};
+use svc_image::Version;
+
+#[tactic(auto, unfolding(crate::specs::Statements::word_at))]
+fn read_word<'a>(draft: &Draft, text: &'a [u8]) -> Result<(Statement, &'a [u8]), Unread>
+    ensures { Gives (λ x. (x.0, x.1.now)) result (word_at (layout_of draft.now) text.now) }
+{
+    let (number, rest) = read_value(draft, text)?;
+    Ok((Statement::Word(number), rest))
+}
+
+#[tactic(auto, unfolding(crate::specs::Statements::start_at))]
+fn read_start<'a>(draft: &Draft, text: &'a [u8]) -> Result<(Statement, &'a [u8]), Unread>
+    ensures { Gives (λ x. (x.0, x.1.now)) result (start_at (layout_of draft.now) text.now) }
+{
+    let (number, rest) = read_value(draft, text)?;
+    Ok((Statement::Start(number), rest))
+}
+
+#[tactic(auto, unfolding(crate::specs::Statements::limit_at))]
+fn read_limit(text: &[u8]) -> Result<(Statement, &[u8]), Unread>
+    ensures { Gives (λ x. (x.0, x.1.now)) result (limit_at text.now) }
+{
+    let (number, rest) = read_number(text)?;
+    Ok((Statement::Limit(number), rest))
+}
+
+fn known_version(number: u32) -> Option<Version>
+    ensures { result ≡ known_version number }
+{
+    match number {
+        1 => Some(Version::One),
+        2 => Some(Version::Two),
+        _ => None,
+    }
+}
+
+#[tactic(auto, unfolding(crate::specs::Statements::version_at))]
+fn read_version(text: &[u8]) -> Result<(Statement, &[u8]), Unread>
+    ensures { Gives (λ x. (x.0, x.1.now)) result (version_at text.now) }
+{
+    let (number, rest) = read_number(text)?;
+    match known_version(number) {
+        Some(version) => Ok((Statement::Version(version), rest)),
+        None => Err(stopped_at(text, Wanted::Version)),
+    }
+}
+
+#[tactic(auto, unfolding(crate::specs::Statements::limited_entry_at))]
+fn read_limited_entry(text: &[u8]) -> Result<(Statement, &[u8]), Unread>
+    ensures { Gives (λ x. (x.0, x.1.now)) result (limited_entry_at text.now) }
+{
+    let (limit, rest) = read_number(text)?;
+    Ok((Statement::Entry(Some(limit)), rest))
+}
+
+#[tactic(auto, unfolding(crate::specs::Statements::entry_at))]
+fn read_entry(text: &[u8]) -> Result<(Statement, &[u8]), Unread>
+    ensures { Gives (λ x. (x.0, x.1.now)) result (entry_at text.now) }
+{
+    let (name, _) = split_name(text);
+    match name {
+        [] => Ok((Statement::Entry(None), text)),
+        _ => read_limited_entry(text),
+    }
+}
+
+#[tactic(auto, unfolding(crate::specs::Statements::setting_at))]
+fn read_setting<'a>(draft: &Draft, text: &'a [u8]) -> Result<(Statement, &'a [u8]), Unread>
+    ensures { Gives (λ x. (x.0, x.1.now)) result (setting_at (layout_of draft.now) text.now) }
+{
+    let (register, rest) = read_first_register(text)?;
+    let (value, rest) = read_value(draft, rest)?;
+    Ok((Statement::Register(register, value), rest))
+}
+
+#[tactic(auto, unfolding(crate::specs::Statements::directive_at))]
+fn read_directive<'a>(
+    draft: &Draft,
+    name: &[u8],
+    text: &'a [u8],
+) -> Result<(Statement, &'a [u8]), Unread>
+    ensures { Gives (λ x. (x.0, x.1.now)) result (directive_at (layout_of draft.now) name.now text.now) }
+{
+    if is_word(name, ".word") {
+        return read_word(draft, text);
+    }
+    if is_word(name, ".text") {
+        return Ok((Statement::Text, text));
+    }
+    if is_word(name, ".data") {
+        return Ok((Statement::Data, text));
+    }
+    if is_word(name, ".svc_version") {
+        return read_version(text);
+    }
+    if is_word(name, ".svc_readonly") {
+        return Ok((Statement::ReadOnly, text));
+    }
+    if is_word(name, ".svc_entry") {
+        return read_entry(text);
+    }
+    if is_word(name, ".svc_start") {
+        return read_start(draft, text);
+    }
+    if is_word(name, ".svc_limit") {
+        return read_limit(text);
+    }
+    if is_word(name, ".svc_register") {
+        return read_setting(draft, text);
+    }
+    Err(stopped_at_name(name, text, Wanted::Statement))
+}
+
+#[tactic(auto, unfolding(crate::specs::Statements::as_statement))]
+fn read_as_statement<'a>(
+    draft: &Draft,
+    name: &[u8],
+    text: &'a [u8],
+) -> Result<(Statement, &'a [u8]), Unread>
+    ensures { Gives (λ x. (x.0, x.1.now)) result (as_statement (layout_of draft.now) name.now text.now) }
+{
+    let (instr, rest) = read_instruction(draft, name, text)?;
+    Ok((Statement::Instruction(instr), rest))
+}
+
+#[tactic(auto, unfolding(crate::specs::Statements::statement_at))]
+fn read_statement<'a>(draft: &Draft, text: &'a [u8]) -> Result<(Statement, &'a [u8]), Unread>
+    ensures { Gives (λ x. (x.0, x.1.now)) result (statement_at (layout_of draft.now) text.now) }
+{
+    let (name, rest) = split_name(text);
+    match name {
+        [] => Ok((Statement::Nothing, rest)),
+        [b'.', ..] => read_directive(draft, name, rest),
+        _ => read_as_statement(draft, name, rest),
+    }
+}
+
+#[tactic(auto, unfolding(crate::specs::Characters::past))]
+fn skip_inside(text: &[u8]) -> &[u8]
+    ensures { result.now ≡ past is_inside text.now }
+{
+    let mut rest = text;
+    while let [first, after @ ..] = rest {
+        if *first == b'\n' {
+            return rest;
+        }
+        rest = after;
+    }
+    rest
+}
+
+/// What follows the end of a line, which a comment may stand before.
+#[tactic(auto, unfolding(crate::specs::Statements::end_at))]
+fn read_end(text: &[u8]) -> Result<&[u8], Unread>
+    ensures { Gives (λ x. x.now) result (end_at text.now) }
+{
+    match skip_spaces(text) {
+        [] => Ok(b""),
+        [b'\n', rest @ ..] => Ok(rest),
+        [b'#', comment @ ..] => match skip_inside(comment) {
+            [] => Ok(b""),
+            [_, rest @ ..] => Ok(rest),
+        },
+        _ => Err(stopped_at(text, Wanted::LineEnd)),
+    }
+}
+
+#[tactic(auto, unfolding(crate::specs::Statements::ended_at))]
+fn read_ended<'a>(draft: &Draft, text: &'a [u8]) -> Result<(Statement, &'a [u8]), Unread>
+    ensures { Gives (λ x. (x.0, x.1.now)) result (ended_at (layout_of draft.now) text.now) }
+{
+    let (statement, rest) = read_statement(draft, text)?;
+    let rest = read_end(rest)?;
+    Ok((statement, rest))
+}
+
+fn is_label(name: &[u8]) -> bool
+    ensures { result ≡ is_label name.now }
+{
+    match name {
+        [] => false,
+        [first, ..] => !matches!(*first, b'0'..=b'9'),
+    }
+}
+
+/// What a line says, up to the colon where it begins with a label, and the text behind it.
+#[tactic(auto, unfolding(crate::specs::Statements::line_at))]
+pub fn read_line<'a>(draft: &Draft, text: &'a [u8]) -> Result<(Statement, &'a [u8]), Unread>
+    ensures { Gives (λ x. (x.0, x.1.now)) result (line_at (layout_of draft.now) text.now) }
+{
+    let (name, rest) = split_name(text);
+    match rest {
+        [b':', rest @ ..] => {
+            if is_label(name) {
+                Ok((Statement::Label, rest))
+            } else {
+                Err(stopped_at(text, Wanted::Label))
+            }
+        }
+        _ => read_ended(draft, text),
+    }
+}

@@ -1,0 +1,2 @@
+pub mod Wordwise
+pub mod Putting

@@ -1,0 +1,4 @@
+pub mod Options
+pub mod Filled
+pub mod Versions
+pub mod Layouts

@@ -1,0 +1,353 @@
+-- The lines of an image make its layout.
+use Rattle.std.proofs.Common.{◌≡◌, ℕ, zero, suc, ◌+◌, ◌-◌, ◌*◌, ◌/◌, ◌%◌, ◌^◌, ◌<◌, ◌≤◌, ◌⊎◌, ◌↔◌, inl, inr, Bool, true, false, ◌==◌, ◌&&◌, nat_le, nat_lt, List, [], ◌∷◌, ◌++◌, length, map, set, slice_set, slice_index, take, drop, Option, Some, None, unwrap_or, refl, ap, sym, ◌∙◌, subst, arith, if◌then◌else◌, cond, flat_map}
+use Rattle.std.proofs.Math.Seq.{set-append_seam}
+use Rattle.std.proofs.lemmas.Bool.{eq-eqb, eqb-true, ne_eqb, le-leb, cases_eq, and_parts}
+use Rattle.std.proofs.lemmas.List.{append_assoc, append-nil, length-append, length-take-le, take-append-drop}
+use Rattle.std.proofs.lemmas.Grind.{flat_map-append}
+use Rattle.std.specs.List.{AllByRecursion}
+use Rattle.svc_rv32i.specs.declared.instr.Register.{Register}
+use Rattle.svc_rv32i.specs.declared.instr.Instr.{Instr}
+use Rattle.svc_rv32i.specs.declared.instr.Instr.TheVariants as i
+use Rattle.svc_rv32i.specs.Words.{word_of}
+use Rattle.svc_rv32i.specs.Meaning.{register, meaning}
+use Rattle.svc_image.specs.declared.version.Version.{Version}
+use Rattle.svc_image.specs.declared.version.Version.TheVariants as version
+use Rattle.svc_image.specs.Version.{read_only_by, own_number, listed}
+use Rattle.svc_image.specs.Image.{Image}
+use Rattle.svc_image.specs.Format.{bytes_of_word, bytes_of_words, file_of}
+use Rattle.svc_draft.specs.declared.statement.Statement.{Statement}
+use Rattle.svc_draft.specs.declared.statement.Statement.TheVariants as say
+use Rattle.svc_draft.specs.Options.{◌>>=◌}
+use Rattle.svc_draft.specs.Versions.{has_other, version_in}
+use Rattle.svc_draft.specs.Layouts.{Layout, Names, zeros, empty, with_word, with_data, with_version, with_read_only, with_own, with_place, with_entry, with_register, after, limits_in, file_in}
+use Rattle.svc_draft.proofs.Wordwise.{length-bytes_of_word, length-bytes_of_words}
+use Rattle.svc_list.specs.Listings.{shown, setting, settings, own_limit, marks, code, data_lines, all_data, head_lines, lines_of}
+
+-- an instruction has the word that means it, which a law says
+abbrev pub MeansOne : Type 0
+MeansOne = (word : ℕ) (instr : Instr) → word < 2 ^ 32 → (meaning word ≡ Some instr) ↔ (word_of instr ≡ word)
+
+-- the layout after all of these lines, of which none is a label
+abbrev pub after_all : List Statement → Layout → Option Layout
+after_all [] d = Some d
+after_all (s ∷ ss) d = after [] s d >>= after_all ss
+
+-- the limit that the lines of an image set for all its entries
+abbrev pub common_limit : Version → ℕ → ℕ
+common_limit version.One limit = limit
+common_limit version.Two limit = 65536
+
+-- the layout of an image, in a pass with these names
+abbrev pub layout_for : Names → Bool → Image → Layout
+layout_for names known img = record {
+  version = Some img.version;
+  limit = common_limit img.version (slice_index img.limits 0);
+  read_only = read_only_by img.version img.read_only;
+  start = Some img.start;
+  registers = img.registers;
+  entries = img.entries;
+  limits = map (own_limit img.version) img.limits;
+  text = img.text;
+  data_bytes = bytes_of_words img.words;
+  in_data = true;
+  names = names;
+  known = known;
+}
+
+-- lines after lines
+after_step : (o : Option Layout) (f g : Layout → Option Layout) (e : Layout) (r : Option Layout) → ((d : Layout) → f d ≡ Some e → g d ≡ r) → (o >>= f) ≡ Some e → (o >>= g) ≡ r
+after_step None f g e r same h = absurd (cc)
+after_step (Some d) f g e r same h = same d h
+
+after_both : (ss ts : List Statement) (d e : Layout) → after_all ss d ≡ Some e → after_all (ss ++ ts) d ≡ after_all ts e
+after_both [] ts d e h = ap (λ o. o >>= after_all ts) h
+after_both (s ∷ ss) ts d e h = after_step (after [] s d) (after_all ss) (after_all (ss ++ ts)) e (after_all ts e) (λ x k. after_both ss ts x e k) h
+
+-- a layout with these registers
+abbrev registers_in : Layout → List ℕ → Layout
+registers_in d xs = record d { registers = xs }
+
+abbrev all_zero : List ℕ → Bool
+all_zero [] = true
+all_zero (x ∷ xs) = x == 0 && all_zero xs
+
+one_setting : (d : Layout) (done zs : List ℕ) (z v n : ℕ) → suc (length done) ≡ n → n < 32 → with_register (register n) v (registers_in d (done ++ (z ∷ zs))) ≡ Some (registers_in d (done ++ (v ∷ zs)))
+unfolding with_register register
+one_setting d done zs z v n e h =
+    let number : n % 2 ^ 5 ≡ n = omega (arith, h) in
+    let some : (n == 0) ≡ false = ne_eqb n 0 (λ zero_is. omega (arith, e, zero_is)) in
+    let place : n - 1 ≡ length done = omega (arith, e) in
+    rw (number, some, place) (ap (λ xs. Some (registers_in d xs)) (set-append_seam done z zs v))
+
+setting_laid : (d : Layout) (done zs : List ℕ) (v n : ℕ) → suc (length done) ≡ n → n < 32 → after_all (setting n v) (registers_in d (done ++ (0 ∷ zs))) ≡ Some (registers_in d (done ++ (v ∷ zs)))
+unfolding setting
+setting_laid d done zs v n e h =
+    elim (cases_eq v 0) [
+      | inl none ↦ let here : (v == 0) ≡ true = eq-eqb v 0 none in rw here (ap (λ (x : ℕ). Some (registers_in d (done ++ (x ∷ zs)))) (sym none))
+      | inr some ↦ let here : (v == 0) ≡ false = ne_eqb v 0 some in rw here (ap (λ o. o >>= after_all []) (one_setting d done zs 0 v n e h))
+    ]
+
+are_zeros : (xs : List ℕ) → all_zero xs ≡ true → AllByRecursion (λ x. x ≡ 0) xs
+are_zeros [] h = tt
+are_zeros (x ∷ xs) h = let parts = and_parts (x == 0) (all_zero xs) h in (eqb-true x 0 parts.0, are_zeros xs parts.1)
+
+settings_laid : (d : Layout) (done vs zs : List ℕ) (n : ℕ) → suc (length done) ≡ n → length zs ≡ length vs → AllByRecursion (λ x. x ≡ 0) zs → n + length vs ≤ 32 → after_all (settings n vs) (registers_in d (done ++ zs)) ≡ Some (registers_in d (done ++ vs))
+settings_laid d done [] [] n e same none h = refl
+settings_laid d done [] (z ∷ zs) n e same none h = absurd (omega (arith, same))
+settings_laid d done (v ∷ vs) [] n e same none h = absurd (omega (arith, same))
+settings_laid d done (v ∷ vs) (z ∷ zs) n e same none h =
+    let k : suc (length (done ++ (v ∷ []))) ≡ suc n = omega (arith, e, length-append done (v ∷ [])) in
+    let rest = settings_laid d (done ++ (v ∷ [])) vs zs (suc n) k (omega (arith, same)) none.1 (omega (arith, h)) in
+    let from : (done ++ (v ∷ [])) ++ zs ≡ done ++ (v ∷ zs) = append_assoc done (v ∷ []) zs in
+    let to : (done ++ (v ∷ [])) ++ vs ≡ done ++ (v ∷ vs) = append_assoc done (v ∷ []) vs in
+    ap (λ x. after_all (settings n (v ∷ vs)) (registers_in d (done ++ (x ∷ zs)))) none.0
+    ∙ after_both (setting n v) (settings (suc n) vs) (registers_in d (done ++ (0 ∷ zs))) (registers_in d (done ++ (v ∷ zs))) (setting_laid d done zs v n e (omega (arith, h)))
+    ∙ ap (λ xs. after_all (settings (suc n) vs) (registers_in d xs)) (sym from)
+    ∙ rest ∙ ap (λ xs. Some (registers_in d xs)) to
+
+-- a word is laid as what it is shown as
+shown_laid : MeansOne → (w : ℕ) (meant : Option Instr) (d : Layout) → w < 2 ^ 32 → meaning w ≡ meant → d.in_data ≡ false → after [] (shown w meant) d ≡ with_word w d
+shown_laid law w None d h e text = rw text refl
+shown_laid law w (Some (i.Fence rd rs1 imm)) d h e text = rw text refl
+shown_laid law w (Some instr) d h e text = rw (text, (law w instr h).0 e) refl
+
+-- the version that a layout has is said again
+version_again : (v : Version) (d : Layout) → d.version ≡ Some v → with_version v d ≡ Some d
+unfolding with_version
+version_again version.One d h = rw h refl
+version_again version.Two d h = rw h refl
+
+-- an entry with a limit of its own stands in a program of version 2
+abbrev pub Allows : Option Version → Option ℕ → Type 0
+Allows v None = Unit {0}
+Allows v (Some limit) = v ≡ Some version.Two
+
+own_allowed : (o : Option ℕ) (d : Layout) → Allows d.version o → with_own o d ≡ Some d
+own_allowed None d h = refl
+own_allowed (Some limit) d h = version_again version.Two d h
+
+-- marks from an address on, below the end of the text, in a program of this version
+abbrev pub AreMarks : Option Version → ℕ → ℕ → List (ℕ × Option ℕ) → Type 0
+AreMarks v low top [] = Unit {0}
+AreMarks v low top (m ∷ ms) = (low ≤ m.0) × (m.0 % 4 ≡ 0) × (m.0 < top) × Allows v m.1 × AreMarks v (m.0 + 1) top ms
+
+next_marks : (v : Option Version) (n e top : ℕ) (ms : List (ℕ × Option ℕ)) → e ≡ 4 * n → AreMarks v (e + 1) top ms → AreMarks v (4 * suc n) top ms
+next_marks v n e top [] same h = tt
+next_marks v n e top (m ∷ ms) same h = (omega (arith, same, h.0, h.1), h.1, h.2, h.3, h.4)
+
+top_marks : (v : Option Version) (low n m : ℕ) (ms : List (ℕ × Option ℕ)) → AreMarks v low (4 * (n + suc m)) ms → AreMarks v low (4 * (suc n + m)) ms
+top_marks v low n m ms h = let top : 4 * (n + suc m) ≡ 4 * (suc n + m) = omega arith in subst (λ (t : ℕ). AreMarks v low t ms) top h
+
+-- a layout with a mark more, and one with a word more of the text
+abbrev marked : Layout → ℕ × Option ℕ → Layout
+marked d m = record d { entries = d.entries ++ (m.0 ∷ []); limits = d.limits ++ (m.1 ∷ []) }
+
+abbrev worded : Layout → ℕ → Layout
+worded d w = record d { text = d.text ++ (w ∷ []) }
+
+one_place : (d : Layout) (m : ℕ × Option ℕ) → length d.text < 65536 → m.0 ≡ 4 * length d.text → with_place m.1 d ≡ Some (marked d m)
+unfolding with_place
+one_place d m h same =
+    let fits : nat_lt (length d.text) 65536 ≡ true = le-leb (suc (length d.text)) 65536 h in
+    rw fits (ap (λ (e : ℕ). Some (record d { entries = d.entries ++ (e ∷ []); limits = d.limits ++ (m.1 ∷ []) })) (sym same))
+
+one_entry : (d : Layout) (m : ℕ × Option ℕ) → length d.text < 65536 → m.0 ≡ 4 * length d.text → Allows d.version m.1 → with_entry m.1 d ≡ Some (marked d m)
+unfolding with_entry
+one_entry d m h same allowed = ap (λ (o : Option Layout). o >>= with_place m.1) (own_allowed m.1 d allowed) ∙ one_place d m h same
+
+one_word : (d : Layout) (w : ℕ) → length d.text < 65536 → with_word w d ≡ Some (worded d w)
+unfolding with_word
+one_word d w h =
+    let fits : nat_lt (length d.text) 65536 ≡ true = le-leb (suc (length d.text)) 65536 h in
+    rw fits refl
+
+-- the entries of marks, and their limits
+abbrev pub entries_of : List (ℕ × Option ℕ) → List ℕ
+entries_of [] = []
+entries_of (m ∷ ms) = m.0 ∷ entries_of ms
+
+abbrev pub limits_of : List (ℕ × Option ℕ) → List (Option ℕ)
+limits_of [] = []
+limits_of (m ∷ ms) = m.1 ∷ limits_of ms
+
+-- a layout with more marks and words
+abbrev grown : Layout → List ℕ → List (Option ℕ) → List ℕ → Layout
+grown d entries limits text = record d { entries = d.entries ++ entries; limits = d.limits ++ limits; text = d.text ++ text }
+
+-- a word and what is laid behind it
+word_laid : MeansOne → (d : Layout) (rest : List Statement) (w : ℕ) (es : List ℕ) (ls : List (Option ℕ)) (ws : List ℕ) → d.in_data ≡ false → length d.text < 65536 → w < 2 ^ 32
+    → after_all rest (worded d w) ≡ Some (grown (worded d w) es ls ws)
+    → after_all (shown w (meaning w) ∷ rest) d ≡ Some (grown d es ls (w ∷ ws))
+word_laid law d rest w es ls ws text room fit h =
+    ap (λ o. o >>= after_all rest) (shown_laid law w (meaning w) d fit refl text ∙ one_word d w room)
+    ∙ h ∙ ap (λ xs. Some (record d { entries = d.entries ++ es; limits = d.limits ++ ls; text = xs })) (append_assoc d.text (w ∷ []) ws)
+
+-- a mark and what is laid behind it
+mark_laid : (d : Layout) (rest : List Statement) (m : ℕ × Option ℕ) (es : List ℕ) (ls : List (Option ℕ)) (ws : List ℕ) → length d.text < 65536 → m.0 ≡ 4 * length d.text → Allows d.version m.1
+    → after_all rest (marked d m) ≡ Some (grown (marked d m) es ls ws)
+    → after_all (say.Entry m.1 ∷ rest) d ≡ Some (grown d (m.0 ∷ es) (m.1 ∷ ls) ws)
+mark_laid d rest m es ls ws room same allowed h =
+    ap (λ o. o >>= after_all rest) (one_entry d m room same allowed)
+    ∙ h ∙ ap (λ xs. Some (record d { entries = xs; limits = (d.limits ++ (m.1 ∷ [])) ++ ls; text = d.text ++ ws })) (append_assoc d.entries (m.0 ∷ []) es)
+    ∙ ap (λ xs. Some (record d { entries = d.entries ++ (m.0 ∷ es); limits = xs; text = d.text ++ ws })) (append_assoc d.limits (m.1 ∷ []) ls)
+
+longer : (text : List ℕ) (w n : ℕ) → length text ≡ n → length (text ++ (w ∷ [])) ≡ suc n
+longer text w n len = omega (arith, len, length-append text (w ∷ []))
+
+code_laid : MeansOne → (ms : List (ℕ × Option ℕ)) (ws : List ℕ) (n : ℕ) (d : Layout) → d.in_data ≡ false → length d.text ≡ n → n + length ws ≤ 65536 → AllByRecursion (λ w. w < 2 ^ 32) ws → AreMarks d.version (4 * n) (4 * (n + length ws)) ms
+    → after_all (code n ms ws) d ≡ Some (grown d (entries_of ms) (limits_of ms) ws)
+unfolding code
+code_laid law [] [] n d text len most fit placed =
+    rw (append-nil d.entries, append-nil d.limits, append-nil d.text) refl
+code_laid law (m ∷ ms) [] n d text len most fit placed =
+    absurd (omega (arith, placed.0, placed.2))
+code_laid law [] (w ∷ ws) n d text len most fit placed =
+    word_laid law d (code (suc n) [] ws) w [] [] ws text (omega (arith, len, most)) fit.0
+    (code_laid law [] ws (suc n) (worded d w) text (longer d.text w n len) (omega (arith, most)) fit.1 tt)
+code_laid law (m ∷ ms) (w ∷ ws) n d text len most fit placed =
+    elim (cases_eq m.0 (4 * n)) [
+      | inl same ↦
+          let here : (m.0 == 4 * n) ≡ true = eq-eqb m.0 (4 * n) same in
+          let more = top_marks d.version (4 * suc n) n (length ws) ms (next_marks d.version n m.0 (4 * (n + suc (length ws))) ms same placed.4) in
+          rw here (
+          mark_laid d (shown w (meaning w) ∷ code (suc n) ms ws) m (entries_of ms) (limits_of ms) (w ∷ ws) (omega (arith, len, most)) (omega (arith, same, len)) placed.3
+          (word_laid law (marked d m) (code (suc n) ms ws) w (entries_of ms) (limits_of ms) ws text (omega (arith, len, most)) fit.0
+          (code_laid law ms ws (suc n) (worded (marked d m) w) text (longer d.text w n len) (omega (arith, most)) fit.1 more)))
+      | inr other ↦
+          let here : (m.0 == 4 * n) ≡ false = ne_eqb m.0 (4 * n) other in
+          let next : 4 * suc n ≤ m.0 = omega (arith, placed.0, placed.1, other) in
+          rw here (word_laid law d (code (suc n) (m ∷ ms) ws) w (entries_of (m ∷ ms)) (limits_of (m ∷ ms)) ws text (omega (arith, len, most)) fit.0
+          (code_laid law (m ∷ ms) ws (suc n) (worded d w) text (longer d.text w n len) (omega (arith, most)) fit.1 (top_marks d.version (4 * suc n) n (length ws) (m ∷ ms) (next, placed.1, placed.2, placed.3, placed.4))))
+    ]
+
+-- entries from an address on, below the end of the text
+abbrev pub Above : ℕ → ℕ → List ℕ → Type 0
+Above low top [] = Unit {0}
+Above low top (e ∷ es) = (low ≤ e) × (e % 4 ≡ 0) × (e < top) × Above (e + 1) top es
+
+own_allows : (v : Version) (limit : ℕ) → Allows (Some v) (own_limit v limit)
+own_allows version.One limit = tt
+own_allows version.Two limit = refl
+
+marks_are : (v : Version) (low top : ℕ) (es ls : List ℕ) → Above low top es → AreMarks (Some v) low top (marks v es ls)
+marks_are v low top [] ls h = tt
+marks_are v low top (e ∷ es) [] h = tt
+marks_are v low top (e ∷ es) (l ∷ ls) h = (h.0, h.1, h.2, own_allows v l, marks_are v (e + 1) top es ls h.3)
+
+marks_entries : (v : Version) (es ls : List ℕ) → length ls ≡ length es → entries_of (marks v es ls) ≡ es
+marks_entries v [] ls h = refl
+marks_entries v (e ∷ es) [] h = absurd (omega (arith, h))
+marks_entries v (e ∷ es) (l ∷ ls) h = ap (λ (xs : List ℕ). e ∷ xs) (marks_entries v es ls (omega (arith, h)))
+
+marks_limits : (v : Version) (es ls : List ℕ) → length ls ≡ length es → limits_of (marks v es ls) ≡ map (own_limit v) ls
+marks_limits v [] [] h = refl
+marks_limits v [] (l ∷ ls) h = absurd (omega (arith, h))
+marks_limits v (e ∷ es) [] h = absurd (omega (arith, h))
+marks_limits v (e ∷ es) (l ∷ ls) h = ap (λ (xs : List (Option ℕ)). own_limit v l ∷ xs) (marks_limits v es ls (omega (arith, h)))
+
+-- a layout with these bytes of data
+abbrev holding : Layout → List ℕ → Layout
+holding d xs = record d { data_bytes = xs }
+
+one_datum : (d : Layout) (bytes : List ℕ) (w : ℕ) → length bytes + 4 ≤ 262144 → with_data w (holding d bytes) ≡ Some (holding d (bytes ++ bytes_of_word w))
+unfolding with_data
+one_datum d bytes w room =
+    let fits : nat_le (length bytes) 262140 ≡ true = le-leb (length bytes) 262140 (omega (arith, room)) in
+    rw fits refl
+
+word_in_data : (d : Layout) (w : ℕ) → d.in_data ≡ true → after [] (say.Word w) d ≡ with_data w d
+word_in_data d w h = rw h refl
+
+data_laid : (d : Layout) (bytes ws : List ℕ) → d.in_data ≡ true → length bytes + 4 * length ws ≤ 262144 → after_all (data_lines ws) (holding d bytes) ≡ Some (holding d (bytes ++ bytes_of_words ws))
+unfolding bytes_of_words
+data_laid d bytes [] inside room = rw (append-nil bytes) refl
+data_laid d bytes (w ∷ ws) inside room =
+    let longer_by : length (bytes ++ bytes_of_word w) ≡ length bytes + 4 = length-append bytes (bytes_of_word w) ∙ ap (λ n. length bytes + n) (length-bytes_of_word w) in
+    ap (λ o. o >>= after_all (data_lines ws)) (word_in_data (holding d bytes) w inside ∙ one_datum d bytes w (omega (arith, room)))
+    ∙ data_laid d (bytes ++ bytes_of_word w) ws inside (omega (arith, room, longer_by))
+    ∙ ap (λ xs. Some (holding d xs)) (append_assoc bytes (bytes_of_word w) (bytes_of_words ws))
+
+bytes_of_both : (xs ys : List ℕ) → bytes_of_words (xs ++ ys) ≡ bytes_of_words xs ++ bytes_of_words ys
+unfolding bytes_of_words
+bytes_of_both xs ys = flat_map-append bytes_of_word xs ys
+
+-- the words so far are read-only
+fixed_laid : (d : Layout) (words : List ℕ) → d.version ≡ Some version.Two → with_read_only (holding d (bytes_of_words words)) ≡ Some (record d { data_bytes = bytes_of_words words; read_only = length words })
+unfolding with_read_only
+fixed_laid d words two =
+    let size = length-bytes_of_words words in
+    let by_words : (length (bytes_of_words words) % 4 == 0) ≡ true = eq-eqb (length (bytes_of_words words) % 4) 0 (omega (arith, size)) in
+    let count : length (bytes_of_words words) / 4 ≡ length words = omega (arith, size) in
+    rw (by_words, version_again version.Two (holding d (bytes_of_words words)) two, count) refl
+
+all_data_laid : (v : Version) (n : ℕ) (words : List ℕ) (d : Layout) → d.version ≡ Some v → d.in_data ≡ true → d.data_bytes ≡ [] → d.read_only ≡ 0 → n ≤ length words → length words ≤ 65536
+    → after_all (all_data v n words) d ≡ Some (record d { data_bytes = bytes_of_words words; read_only = read_only_by v n })
+all_data_laid version.One n words d said inside none free few most =
+    ap (λ (xs : List ℕ). after_all (data_lines words) (holding d xs)) none
+    ∙ data_laid d [] words inside (omega (arith, most))
+    ∙ ap (λ (q : ℕ). Some (record d { data_bytes = bytes_of_words words; read_only = q })) free
+all_data_laid version.Two n words d said inside none free few most =
+    let front = take n words in
+    let back = drop n words in
+    let count : length front ≡ n = length-take-le n words few in
+    let split : front ++ back ≡ words = take-append-drop n words in
+    let sizes : length front + length back ≡ length words = sym (length-append front back) ∙ ap length split in
+    let room : length (bytes_of_words front) + 4 * length back ≤ 262144 = omega (arith, length-bytes_of_words front, sizes, most) in
+    let fixed : after_all (data_lines front) d ≡ Some (holding d (bytes_of_words front)) =
+    ap (λ (xs : List ℕ). after_all (data_lines front) (holding d xs)) none ∙ data_laid d [] front inside (omega (arith, sizes, most)) in
+    after_both (data_lines front) (say.ReadOnly ∷ data_lines back) d (holding d (bytes_of_words front)) fixed
+    ∙ ap (λ o. o >>= after_all (data_lines back)) (fixed_laid d front said)
+    ∙ data_laid (record d { read_only = length front }) (bytes_of_words front) back inside room
+    ∙ ap (λ (xs : List ℕ). Some (record d { data_bytes = xs; read_only = length front })) (sym (bytes_of_both front back) ∙ ap bytes_of_words split)
+    ∙ ap (λ (q : ℕ). Some (record d { data_bytes = bytes_of_words words; read_only = q })) count
+
+-- the layout after the lines before the registers
+abbrev headed : Names → Bool → Image → Layout
+headed names known img = record (empty names known) { version = Some img.version; limit = common_limit img.version (slice_index img.limits 0); start = Some img.start }
+
+head_laid : (v : Version) (limit start : ℕ) (names : Names) (known : Bool) → after_all (head_lines v limit start) (empty names known) ≡ Some (record (empty names known) { version = Some v; limit = common_limit v limit; start = Some start })
+unfolding with_version
+head_laid version.One limit start names known = refl
+head_laid version.Two limit start names known = refl
+
+-- the lines of an image, from the first one on
+pub image_laid : MeansOne → (names : Names) (known : Bool) (img : Image) → length img.registers ≡ 31 → length img.limits ≡ length img.entries → img.read_only ≤ length img.words → length img.text ≤ 65536 → AllByRecursion (λ w. w < 2 ^ 32) img.text → length img.words ≤ 65536 → Above 0 (4 * length img.text) img.entries
+    → after_all (lines_of img) (empty names known) ≡ Some (layout_for names known img)
+unfolding lines_of
+image_laid law names known img thirty each fixed few fit words_few above =
+    let v = img.version in
+    let ms = marks v img.entries img.limits in
+    let body = say.Data ∷ all_data v img.read_only img.words in
+    let d₁ = headed names known img in
+    let d₂ = registers_in d₁ img.registers in
+    let d₃ = grown d₂ (entries_of ms) (limits_of ms) img.text in
+    let d₄ = record d₃ { in_data = true } in
+    let top : 4 * length img.text ≡ 4 * (0 + length img.text) = omega arith in
+    let placed = marks_are v 0 (4 * (0 + length img.text)) img.entries img.limits (subst (λ (t : ℕ). Above 0 t img.entries) top above) in
+    after_both (head_lines v (slice_index img.limits 0) img.start) (settings 1 img.registers ++ (code 0 ms img.text ++ body)) (empty names known) d₁ (head_laid v (slice_index img.limits 0) img.start names known)
+    ∙ after_both (settings 1 img.registers) (code 0 ms img.text ++ body) d₁ d₂ (settings_laid d₁ [] img.registers zeros 1 refl (sym thirty) (are_zeros zeros refl) (omega (arith, thirty)))
+    ∙ after_both (code 0 ms img.text) body d₂ d₃ (code_laid law ms img.text 0 d₂ refl refl (omega (arith, few)) fit placed)
+    ∙ all_data_laid v img.read_only img.words d₄ refl refl refl refl fixed words_few
+    ∙ ap (λ (es : List ℕ). Some (record (layout_for names known img) { entries = es; limits = limits_of ms })) (marks_entries v img.entries img.limits each)
+    ∙ ap (λ (ls : List (Option ℕ)). Some (record (layout_for names known img) { limits = ls })) (marks_limits v img.entries img.limits each)
+
+-- limits of their own are the limits
+own_limits : (limit : ℕ) (ls : List ℕ) → limits_in limit (map (own_limit version.Two) ls) ≡ ls
+own_limits limit [] = refl
+own_limits limit (l ∷ ls) = ap (λ (xs : List ℕ). l ∷ xs) (own_limits limit ls)
+
+listed_back : (v : Version) (limit : ℕ) (ls : List ℕ) → listed v (limits_in limit (map (own_limit v) ls)) ≡ listed v ls
+listed_back version.One limit ls = refl
+listed_back version.Two limit ls = own_limits limit ls
+
+own_back : (v : Version) (limit n : ℕ) → own_number v (common_limit v limit) (read_only_by v n) ≡ own_number v limit n
+own_back version.One limit n = refl
+own_back version.Two limit n = refl
+
+-- the layout of an image makes the image's file
+pub image_file : (names : Names) (known : Bool) (img : Image) → file_in (layout_for names known img) ≡ file_of img
+unfolding file_in file_of
+image_file names known img =
+    let limit = slice_index img.limits 0 in
+    let words : length (bytes_of_words img.words) / 4 ≡ length img.words = omega (arith, length-bytes_of_words img.words) in
+    rw (words, listed_back img.version (common_limit img.version limit) img.limits, own_back img.version limit img.read_only) refl

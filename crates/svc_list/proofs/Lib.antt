@@ -1,0 +1,7 @@
+pub mod NamesBack
+pub mod OperandsBack
+pub mod LinesBack
+pub mod LayoutsBack
+pub mod Printing
+pub mod Program
+pub mod Whole

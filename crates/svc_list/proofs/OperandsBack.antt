@@ -1,0 +1,222 @@
+-- Operands are read back from their text.
+use Rattle.std.proofs.Common.{◌≡◌, ℕ, zero, suc, ◌+◌, ◌-◌, ◌*◌, ◌/◌, ◌%◌, ◌^◌, ◌<◌, ◌≤◌, Bool, true, false, not, ◌&&◌, ◌==◌, nat_lt, nat_le, eqb, List, [], ◌∷◌, ◌++◌, length, Some, None, ◌⊎◌, refl, ap, sym, ◌∙◌, subst, inl, inr, arith, cond, if◌then◌else◌, decimal, codes, option_map}
+use Rattle.std.proofs.lemmas.Bool.{le-leb, lt-leb, cases_lt}
+use Rattle.std.proofs.lemmas.List.{append_assoc}
+use Rattle.svc_rv32i.specs.declared.instr.Register.{Register}
+use Rattle.svc_rv32i.specs.declared.instr.Short.{Short}
+use Rattle.svc_rv32i.specs.declared.instr.Long.{Long}
+use Rattle.svc_rv32i.specs.declared.instr.ShiftAmount.{ShiftAmount}
+use Rattle.svc_rv32i.specs.Meaning.{register, short, long}
+use Rattle.svc_asm.specs.declared.operands.Signed.{Signed}
+use Rattle.svc_draft.specs.Options.{◌>>=◌}
+use Rattle.svc_asm.specs.Characters.{is_space, is_name, past, name_at, past_name, behind, mark_at, value_on, value_of, number_of}
+use Rattle.svc_draft.specs.Layouts.{Layout, address_of}
+use Rattle.svc_asm.specs.Names.{or_else, in_file, numbered, abi_named, register_named}
+use Rattle.svc_asm.specs.Operands.{register_at, first_register_at, number_at, value_at, behind_sign, signed_from, signed_at, offset_from, offset_at, wrapped, short_of, halved, branch_of, jump_of, upper_of, amount, amount_of, short_at, branch_at, jump_at, upper_at, amount_at, address_at}
+use Rattle.svc_list.specs.Listings.{register_text, first_text, last_text, signed_text, short_text, offset_text, address_text, upper_text}
+use Rattle.svc_asm.proofs.Same.{same_register, same_short, same_long, same_amount}
+use Rattle.svc_list.proofs.NamesBack.{all_dense, stops, at_name, at_rest, no_space, is_digit, digit_no_minus, all_digits, first_digit, other_digits, digits_dense, Numeral, numerals}
+
+number_of_decimal : (n : ℕ) → n < 2 ^ 32 → number_of (decimal n) ≡ Some n
+number_of_decimal n h = (numerals n (omega arith) h).reads
+
+digits_name : (ds rest : List ℕ) → all_digits ds ≡ true → 0 < length ds → stops rest ≡ true → name_at (ds ++ rest) ≡ ds
+digits_name [] rest h k s = absurd (omega (arith, k))
+digits_name (c ∷ ds) rest h k s = at_name c ds rest (digits_dense (c ∷ ds) h) s
+
+digits_rest : (ds rest : List ℕ) → all_digits ds ≡ true → 0 < length ds → stops rest ≡ true → past_name (ds ++ rest) ≡ rest
+digits_rest [] rest h k s = absurd (omega (arith, k))
+digits_rest (c ∷ ds) rest h k s = at_rest c ds rest (digits_dense (c ∷ ds) h) s
+
+-- the name behind a space, which has some characters
+pub spaced_name : (n : ℕ) (rest : List ℕ) → n < 2 ^ 32 → stops rest ≡ true → name_at (32 ∷ (decimal n ++ rest)) ≡ decimal n
+unfolding past
+spaced_name n rest h s =
+    let facts = numerals n (omega arith) h in
+    digits_name (decimal n) rest facts.digits facts.some s
+
+pub decimal_some : (n : ℕ) → n < 2 ^ 32 → 0 < length (decimal n)
+decimal_some n h = (numerals n (omega arith) h).some
+
+-- a number, with and without a space before it
+pub number_back : (n : ℕ) (rest : List ℕ) → n < 2 ^ 32 → stops rest ≡ true → number_at (decimal n ++ rest) ≡ Some (n, rest)
+unfolding number_at
+number_back n rest h s =
+    let facts = numerals n (omega arith) h in
+    rw (digits_name (decimal n) rest facts.digits facts.some s, digits_rest (decimal n) rest facts.digits facts.some s, number_of_decimal n h) refl
+
+pub spaced_number_back : (n : ℕ) (rest : List ℕ) → n < 2 ^ 32 → stops rest ≡ true → number_at (32 ∷ (decimal n ++ rest)) ≡ Some (n, rest)
+unfolding number_at past
+spaced_number_back n rest h s = number_back n rest h s
+
+pub value_back : (d : Layout) (n : ℕ) (rest : List ℕ) → n < 2 ^ 32 → stops rest ≡ true → value_at d (decimal n ++ rest) ≡ Some (n, rest)
+unfolding value_at
+value_back d n rest h s =
+    let facts = numerals n (omega arith) h in
+    rw (digits_name (decimal n) rest facts.digits facts.some s, digits_rest (decimal n) rest facts.digits facts.some s, number_of_decimal n h) refl
+
+pub spaced_value_back : (d : Layout) (n : ℕ) (rest : List ℕ) → n < 2 ^ 32 → stops rest ≡ true → value_at d (32 ∷ (decimal n ++ rest)) ≡ Some (n, rest)
+unfolding value_at past
+spaced_value_back d n rest h s = value_back d n rest h s
+
+value_is : (ds : List ℕ) → 0 < length ds → value_of 10 ds ≡ value_on 10 0 ds
+value_is [] h = absurd (omega (arith, h))
+value_is (c ∷ ds) h = refl
+
+-- a register
+register_is : (r : Register) → register r.number ≡ r
+unfolding register
+register_is r = same_register (register r.number) r (omega (arith, r.in_range))
+
+named_back : (r : Register) → register_named (120 ∷ decimal r.number) ≡ Some r
+unfolding register_named numbered
+named_back r =
+    let facts = numerals r.number (omega (arith, r.in_range)) (omega (arith, r.in_range)) in
+    let small : nat_lt r.number 32 ≡ true = le-leb (suc r.number) 32 (omega (arith, r.in_range)) in
+    let value : value_of 10 (decimal r.number) ≡ Some r.number = value_is (decimal r.number) facts.some ∙ facts.value in
+    rw (value, small) (ap Some (register_is r))
+
+pub register_back : (r : Register) (rest : List ℕ) → stops rest ≡ true → register_at (register_text r ++ rest) ≡ Some (r, rest)
+unfolding register_at is_name
+register_back r rest s =
+    let facts = numerals r.number (omega (arith, r.in_range)) (omega (arith, r.in_range)) in
+    let dense : all_dense (120 ∷ decimal r.number) ≡ true = digits_dense (decimal r.number) facts.digits in
+    rw (at_name 120 (decimal r.number) rest dense s, at_rest 120 (decimal r.number) rest dense s, named_back r) refl
+
+pub spaced_register_back : (r : Register) (rest : List ℕ) → stops rest ≡ true → register_at (32 ∷ (register_text r ++ rest)) ≡ Some (r, rest)
+unfolding register_at past
+spaced_register_back r rest s = register_back r rest s
+
+pub first_back : (r : Register) (rest : List ℕ) → first_register_at (first_text r ++ rest) ≡ Some (r, rest)
+unfolding first_register_at past is_name
+first_back r rest =
+    rw (append_assoc (register_text r) (44 ∷ []) rest, spaced_register_back r (44 ∷ rest) refl) refl
+
+-- what a sign, and the number behind it, are read as
+abbrev sign : Bool → ℕ → Signed
+sign negative n = record { negative = negative; magnitude = n }
+
+behind_sign_back : (negative : Bool) (n : ℕ) (rest : List ℕ) → n < 2 ^ 32 → stops rest ≡ true → behind_sign negative (decimal n ++ rest) ≡ Some (sign negative n, rest)
+unfolding behind_sign
+behind_sign_back negative n rest h s = rw (number_back n rest h s) refl
+
+spaced_sign_back : (negative : Bool) (n : ℕ) (rest : List ℕ) → n < 2 ^ 32 → stops rest ≡ true → behind_sign negative (32 ∷ (decimal n ++ rest)) ≡ Some (sign negative n, rest)
+unfolding behind_sign
+spaced_sign_back negative n rest h s = rw (spaced_number_back n rest h s) refl
+
+-- digits have no sign
+signed_digits : (ds rest : List ℕ) → all_digits ds ≡ true → 0 < length ds → signed_at (32 ∷ (ds ++ rest)) ≡ behind_sign false (ds ++ rest)
+unfolding signed_at past
+signed_digits [] rest h k = absurd (omega (arith, k))
+signed_digits (c ∷ ds) rest h k =
+    let here = no_space c ds rest (digits_dense (c ∷ ds) h) in
+    let minus : (c == 45) ≡ false = digit_no_minus c (first_digit c ds h) in
+    ap signed_from here ∙ rw minus refl
+
+wrapped_low : (half n : ℕ) → n < half → wrapped half (sign false n) ≡ Some n
+wrapped_low half n h = let low : nat_lt n half ≡ true = le-leb (suc n) half (omega (arith, h)) in rw low refl
+
+wrapped_high : (half n : ℕ) → half ≤ n → n < 2 * half → wrapped half (sign true (2 * half - n)) ≡ Some n
+wrapped_high half n h k =
+    let most : nat_le (2 * half - n) half ≡ true = le-leb (2 * half - n) half (omega (arith, h, k)) in
+    let back : 2 * half - (2 * half - n) ≡ n = omega (arith, h, k) in
+    rw (most, back) refl
+
+short_is : (imm : Short) → short imm.bits ≡ imm
+unfolding short
+short_is imm = same_short (short imm.bits) imm (omega (arith, imm.in_range))
+
+long_is : (imm : Long) → long imm.bits ≡ imm
+unfolding long
+long_is imm = same_long (long imm.bits) imm (omega (arith, imm.in_range))
+
+amount_is : (a : ShiftAmount) → amount a.bits ≡ a
+unfolding amount
+amount_is a = same_amount (amount a.bits) a (omega (arith, a.in_range))
+
+-- a short immediate
+short_low : (imm : Short) (rest : List ℕ) → stops rest ≡ true → imm.bits < 2048 → short_at (short_text imm ++ rest) ≡ Some (imm, rest)
+unfolding short_at short_of
+short_low imm rest s h =
+    let low : nat_lt imm.bits 2048 ≡ true = le-leb (suc imm.bits) 2048 (omega (arith, h)) in
+    let facts = numerals imm.bits (omega (arith, h)) (omega (arith, h)) in
+    let read : signed_at (32 ∷ (decimal imm.bits ++ rest)) ≡ Some (sign false imm.bits, rest) =
+    signed_digits (decimal imm.bits) rest facts.digits facts.some ∙ behind_sign_back false imm.bits rest (omega (arith, h)) s in
+    rw (low, read, wrapped_low 2048 imm.bits h) (ap (λ x. Some (x, rest)) (short_is imm))
+
+short_high : (imm : Short) (rest : List ℕ) → stops rest ≡ true → 2048 ≤ imm.bits → short_at (short_text imm ++ rest) ≡ Some (imm, rest)
+unfolding short_at short_of signed_at past
+short_high imm rest s h =
+    let high : nat_lt imm.bits 2048 ≡ false = lt-leb (suc imm.bits) 2048 (omega (arith, h)) in
+    let read : behind_sign true (decimal (2 * 2048 - imm.bits) ++ rest) ≡ Some (sign true (2 * 2048 - imm.bits), rest) =
+    behind_sign_back true (2 * 2048 - imm.bits) rest (omega arith) s in
+    rw (high, read, wrapped_high 2048 imm.bits h (omega (arith, imm.in_range))) (ap (λ x. Some (x, rest)) (short_is imm))
+
+pub short_back : (imm : Short) (rest : List ℕ) → stops rest ≡ true → short_at (short_text imm ++ rest) ≡ Some (imm, rest)
+short_back imm rest s = elim (cases_lt imm.bits 2048) [ inl h ↦ short_low imm rest s h | inr h ↦ short_high imm rest s h ]
+
+-- an offset is read as its sign and twice its steps
+offset_low : (d : Layout) (half n : ℕ) (rest : List ℕ) → stops rest ≡ true → half ≤ 524288 → n < half → offset_at d (offset_text half n ++ rest) ≡ Some (sign false (2 * n), rest)
+unfolding offset_at past is_name
+offset_low d half n rest s small h =
+    let low : nat_lt n half ≡ true = le-leb (suc n) half (omega (arith, h)) in
+    rw low (spaced_sign_back false (2 * n) rest (omega (arith, h, small)) s)
+
+offset_high : (d : Layout) (half n : ℕ) (rest : List ℕ) → stops rest ≡ true → half ≤ 524288 → half ≤ n → n < 2 * half → offset_at d (offset_text half n ++ rest) ≡ Some (sign true (2 * (2 * half - n)), rest)
+unfolding offset_at past is_name
+offset_high d half n rest s small h k =
+    let high : nat_lt n half ≡ false = lt-leb (suc n) half (omega (arith, h)) in
+    rw high (spaced_sign_back true (2 * (2 * half - n)) rest (omega (arith, h, k, small)) s)
+
+halved_double : (negative : Bool) (n : ℕ) → halved (sign negative (2 * n)) ≡ Some (sign negative n)
+halved_double negative n =
+    let even : 2 * n % 2 ≡ 0 = omega arith in
+    let half : 2 * n / 2 ≡ n = omega arith in
+    rw (even, half) refl
+
+branch_low : (d : Layout) (imm : Short) (rest : List ℕ) → stops rest ≡ true → imm.bits < 2048 → branch_at d (offset_text 2048 imm.bits ++ rest) ≡ Some (imm, rest)
+unfolding branch_at branch_of short_of
+branch_low d imm rest s h =
+    rw (offset_low d 2048 imm.bits rest s (omega arith) h, halved_double false imm.bits, wrapped_low 2048 imm.bits h) (ap (λ x. Some (x, rest)) (short_is imm))
+
+branch_high : (d : Layout) (imm : Short) (rest : List ℕ) → stops rest ≡ true → 2048 ≤ imm.bits → branch_at d (offset_text 2048 imm.bits ++ rest) ≡ Some (imm, rest)
+unfolding branch_at branch_of short_of
+branch_high d imm rest s h =
+    let k : imm.bits < 2 * 2048 = omega (arith, imm.in_range) in
+    rw (offset_high d 2048 imm.bits rest s (omega arith) h k, halved_double true (2 * 2048 - imm.bits), wrapped_high 2048 imm.bits h k) (ap (λ x. Some (x, rest)) (short_is imm))
+
+pub branch_back : (d : Layout) (imm : Short) (rest : List ℕ) → stops rest ≡ true → branch_at d (offset_text 2048 imm.bits ++ rest) ≡ Some (imm, rest)
+branch_back d imm rest s = elim (cases_lt imm.bits 2048) [ inl h ↦ branch_low d imm rest s h | inr h ↦ branch_high d imm rest s h ]
+
+jump_low : (d : Layout) (imm : Long) (rest : List ℕ) → stops rest ≡ true → imm.bits < 524288 → jump_at d (offset_text 524288 imm.bits ++ rest) ≡ Some (imm, rest)
+unfolding jump_at jump_of
+jump_low d imm rest s h =
+    rw (offset_low d 524288 imm.bits rest s (omega arith) h, halved_double false imm.bits, wrapped_low 524288 imm.bits h) (ap (λ x. Some (x, rest)) (long_is imm))
+
+jump_high : (d : Layout) (imm : Long) (rest : List ℕ) → stops rest ≡ true → 524288 ≤ imm.bits → jump_at d (offset_text 524288 imm.bits ++ rest) ≡ Some (imm, rest)
+unfolding jump_at jump_of
+jump_high d imm rest s h =
+    let k : imm.bits < 2 * 524288 = omega (arith, imm.in_range) in
+    rw (offset_high d 524288 imm.bits rest s (omega arith) h k, halved_double true (2 * 524288 - imm.bits), wrapped_high 524288 imm.bits h k) (ap (λ x. Some (x, rest)) (long_is imm))
+
+pub jump_back : (d : Layout) (imm : Long) (rest : List ℕ) → stops rest ≡ true → jump_at d (offset_text 524288 imm.bits ++ rest) ≡ Some (imm, rest)
+jump_back d imm rest s = elim (cases_lt imm.bits 524288) [ inl h ↦ jump_low d imm rest s h | inr h ↦ jump_high d imm rest s h ]
+
+pub upper_back : (imm : Long) (rest : List ℕ) → stops rest ≡ true → upper_at (upper_text imm ++ rest) ≡ Some (imm, rest)
+unfolding upper_at upper_of
+upper_back imm rest s =
+    let fits : nat_lt imm.bits (2 ^ 20) ≡ true = le-leb (suc imm.bits) (2 ^ 20) (omega (arith, imm.in_range)) in
+    rw (spaced_number_back imm.bits rest (omega (arith, imm.in_range)) s, fits) (ap (λ x. Some (x, rest)) (long_is imm))
+
+pub amount_back : (a : ShiftAmount) (rest : List ℕ) → stops rest ≡ true → amount_at (32 ∷ (decimal a.bits ++ rest)) ≡ Some (a, rest)
+unfolding amount_at amount_of
+amount_back a rest s =
+    let fits : nat_lt a.bits 32 ≡ true = le-leb (suc a.bits) 32 (omega (arith, a.in_range)) in
+    rw (spaced_number_back a.bits rest (omega (arith, a.in_range)) s, fits) (ap (λ x. Some (x, rest)) (amount_is a))
+
+pub address_back : (imm : Short) (base : Register) (rest : List ℕ) → address_at (address_text imm base ++ rest) ≡ Some ((imm, base), rest)
+unfolding address_at past is_name
+address_back imm base rest =
+    let inside = register_text base ++ (41 ∷ []) in
+    ap address_at (append_assoc (short_text imm) (40 ∷ inside) rest ∙ ap (λ x. short_text imm ++ (40 ∷ x)) (append_assoc (register_text base) (41 ∷ []) rest))
+    ∙ rw (short_back imm (40 ∷ (register_text base ++ (41 ∷ rest))) refl, register_back base (41 ∷ rest) refl) refl

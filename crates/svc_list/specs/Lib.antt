@@ -1,0 +1,2 @@
+pub mod InstructionNames
+pub mod Listings

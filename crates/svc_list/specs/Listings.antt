@@ -1,0 +1,156 @@
+-- The text of an image: its lines, and how each is written.
+use Rattle.std.specs.Prelude.{◌≡◌, ℕ, suc, ◌+◌, ◌*◌, ◌-◌, ◌^◌, ◌<◌, Bool, true, false, nat_lt, ◌==◌, List, [], ◌∷◌, ◌++◌, take, drop, slice_index, flat_map, Option, Some, None, if◌then◌else◌, codes, decimal}
+use Rattle.svc_rv32i.specs.declared.instr.Register.{Register}
+use Rattle.svc_rv32i.specs.declared.instr.Short.{Short}
+use Rattle.svc_rv32i.specs.declared.instr.Long.{Long}
+use Rattle.svc_rv32i.specs.declared.instr.Instr.{Instr}
+use Rattle.svc_rv32i.specs.declared.instr.Instr.TheVariants as i
+use Rattle.svc_rv32i.specs.Meaning.{register, meaning}
+use Rattle.svc_image.specs.declared.version.Version.{Version}
+use Rattle.svc_image.specs.declared.version.Version.TheVariants as version
+use Rattle.svc_image.specs.Version.{version_number}
+use Rattle.svc_image.specs.Image.{Image}
+use Rattle.svc_draft.specs.declared.statement.Statement.{Statement}
+use Rattle.svc_draft.specs.declared.statement.Statement.TheVariants as say
+use Rattle.svc_list.specs.InstructionNames.{operation_name, immediate_name, shift_name, comparison_name, load_name, store_name}
+
+-- an operand behind its space, and the comma behind it
+abbrev pub register_text : Register → List ℕ
+register_text r = 120 ∷ decimal r.number
+
+abbrev pub first_text : Register → List ℕ
+first_text r = 32 ∷ (register_text r ++ (44 ∷ []))
+
+abbrev pub last_text : Register → List ℕ
+last_text r = 32 ∷ register_text r
+
+-- a number whose sign is up, of so many, and one whose sign is down
+abbrev pub signed_text : ℕ → ℕ → List ℕ
+signed_text half n = if nat_lt n half then decimal n else 45 ∷ decimal (2 * half - n)
+
+abbrev pub short_text : Short → List ℕ
+short_text imm = 32 ∷ signed_text 2048 imm.bits
+
+-- an offset from here, which is twice a number of so many
+abbrev pub offset_text : ℕ → ℕ → List ℕ
+offset_text half n = if nat_lt n half then codes " . + " ++ decimal (2 * n) else codes " . - " ++ decimal (2 * (2 * half - n))
+
+-- an address: an immediate and a register in parentheses
+abbrev pub address_text : Short → Register → List ℕ
+address_text imm base = short_text imm ++ (40 ∷ (register_text base ++ (41 ∷ [])))
+
+abbrev pub upper_text : Long → List ℕ
+upper_text imm = 32 ∷ decimal imm.bits
+
+-- an instruction: its name and its operands
+unfoldable pub instruction_text : Instr → List ℕ
+instruction_text (i.Lui rd imm) = codes "lui" ++ (first_text rd ++ upper_text imm)
+instruction_text (i.Auipc rd imm) = codes "auipc" ++ (first_text rd ++ upper_text imm)
+instruction_text (i.Jal rd imm) = codes "jal" ++ (first_text rd ++ offset_text 524288 imm.bits)
+instruction_text (i.Jalr rd rs1 imm) = codes "jalr" ++ (first_text rd ++ address_text imm rs1)
+instruction_text (i.Branch test rs1 rs2 imm) = comparison_name test ++ (first_text rs1 ++ (first_text rs2 ++ offset_text 2048 imm.bits))
+instruction_text (i.Load kind rd rs1 imm) = load_name kind ++ (first_text rd ++ address_text imm rs1)
+instruction_text (i.Store kind rs1 rs2 imm) = store_name kind ++ (first_text rs2 ++ address_text imm rs1)
+instruction_text (i.OpImm op rd rs1 imm) = immediate_name op ++ (first_text rd ++ (first_text rs1 ++ short_text imm))
+instruction_text (i.ShiftImm op rd rs1 amount) = shift_name op ++ (first_text rd ++ (first_text rs1 ++ (32 ∷ decimal amount.bits)))
+instruction_text (i.Op op rd rs1 rs2) = operation_name op ++ (first_text rd ++ (first_text rs1 ++ last_text rs2))
+instruction_text (i.Fence rd rs1 imm) = []
+instruction_text i.Ecall = codes "ecall"
+instruction_text i.Ebreak = codes "ebreak"
+
+-- the instructions that are shown as such
+abbrev pub IsShown : Instr → Type 0
+IsShown (i.Fence rd rs1 imm) = ⊥
+IsShown instr = Unit {0}
+
+-- the limit that an entry has of its own
+abbrev pub own_text : Option ℕ → List ℕ
+own_text None = []
+own_text (Some n) = 32 ∷ decimal n
+
+-- what a line says, as text
+unfoldable pub statement_text : Statement → List ℕ
+statement_text say.Nothing = []
+statement_text say.Label = []
+statement_text (say.Instruction instr) = instruction_text instr
+statement_text (say.Word n) = codes ".word " ++ decimal n
+statement_text say.Text = codes ".text"
+statement_text say.Data = codes ".data"
+statement_text (say.Version v) = codes ".svc_version " ++ decimal (version_number v)
+statement_text say.ReadOnly = codes ".svc_readonly"
+statement_text (say.Entry limit) = codes ".svc_entry" ++ own_text limit
+statement_text (say.Start n) = codes ".svc_start " ++ decimal n
+statement_text (say.Limit n) = codes ".svc_limit " ++ decimal n
+statement_text (say.Register r n) = codes ".svc_register" ++ (first_text r ++ (32 ∷ decimal n))
+
+-- what has a text that is read back
+abbrev pub HasText : Statement → Type 0
+HasText say.Label = ⊥
+HasText (say.Instruction instr) = IsShown instr
+HasText (say.Word n) = n < 2 ^ 32
+HasText (say.Entry (Some n)) = n < 2 ^ 32
+HasText (say.Start n) = n < 2 ^ 32
+HasText (say.Limit n) = n < 2 ^ 32
+HasText (say.Register r n) = n < 2 ^ 32
+HasText _ = Unit {0}
+
+abbrev pub line_of : Statement → List ℕ
+line_of s = statement_text s ++ (10 ∷ [])
+
+unfoldable pub text_of : List Statement → List ℕ
+text_of ss = flat_map line_of ss
+
+-- a word of the text is shown as its instruction; a fence, which may have fields that no text names, and a word without meaning are shown as words
+abbrev pub shown : ℕ → Option Instr → Statement
+shown w (Some (i.Fence rd rs1 imm)) = say.Word w
+shown w (Some instr) = say.Instruction instr
+shown w None = say.Word w
+
+-- the lines that set registers, from the n-th register on: those that aren't 0
+unfoldable pub setting : ℕ → ℕ → List Statement
+setting n v = if v == 0 then [] else say.Register (register n) v ∷ []
+
+abbrev pub settings : ℕ → List ℕ → List Statement
+settings n [] = []
+settings n (v ∷ vs) = setting n v ++ settings (suc n) vs
+
+-- the entries, each with the limit that its line gives it: none in version 1, where all have one
+abbrev pub own_limit : Version → ℕ → Option ℕ
+own_limit version.One limit = None
+own_limit version.Two limit = Some limit
+
+abbrev pub marks : Version → (entries limits : List ℕ) → List (ℕ × Option ℕ)
+marks v (e ∷ es) (l ∷ ls) = (e, own_limit v l) ∷ marks v es ls
+marks v [] ls = []
+marks v (e ∷ es) [] = []
+
+-- the lines of text words, of which the first is the n-th, and of the entries among them
+unfoldable pub code : ℕ → List (ℕ × Option ℕ) → List ℕ → List Statement
+code n ms [] = []
+code n [] (w ∷ ws) = shown w (meaning w) ∷ code (suc n) [] ws
+code n (m ∷ ms) (w ∷ ws) =
+    if m.0 == 4 * n then say.Entry m.1 ∷ shown w (meaning w) ∷ code (suc n) ms ws else shown w (meaning w) ∷ code (suc n) (m ∷ ms) ws
+
+abbrev pub data_lines : List ℕ → List Statement
+data_lines [] = []
+data_lines (w ∷ ws) = say.Word w ∷ data_lines ws
+
+-- the lines of the data, where in version 2 the first ones are read-only
+abbrev pub all_data : Version → ℕ → List ℕ → List Statement
+all_data version.One n words = data_lines words
+all_data version.Two n words = data_lines (take n words) ++ (say.ReadOnly ∷ data_lines (drop n words))
+
+-- the lines before the registers: in version 1 the limit of all tasks is one of them
+abbrev pub head_lines : Version → (limit start : ℕ) → List Statement
+head_lines version.One limit start = say.Version version.One ∷ say.Limit limit ∷ say.Start start ∷ []
+head_lines version.Two limit start = say.Version version.Two ∷ say.Start start ∷ []
+
+-- the lines of an image
+unfoldable pub lines_of : Image → List Statement
+lines_of img =
+    head_lines img.version (slice_index img.limits 0) img.start ++ (settings 1 img.registers
+    ++ (code 0 (marks img.version img.entries img.limits) img.text ++ (say.Data ∷ all_data img.version img.read_only img.words)))
+
+-- the listing of an image
+unfoldable pub listing_of : Image → List ℕ
+listing_of img = text_of (lines_of img)

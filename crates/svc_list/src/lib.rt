@@ -1,0 +1,10 @@
+//! The listing of an image: a text that is assembled to it.
+#![tactic(auto)]
+
+mod instruction_names;
+mod listing;
+
+pub use listing::list;
+
+#[cfg(test)]
+mod tests;

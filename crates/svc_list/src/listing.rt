@@ -1,0 +1,437 @@
+// The text of an image.
+
+ghost use Rattle.std.specs.Prelude.{◌≡◌, ℕ, suc, ◌++◌, ◌∷◌, List, codes, ◌<◌, ◌≤◌, ◌*◌, length, slice_index, decimal, IfOk, IfSome, IfNone, OnOk};
+ghost use Rattle.svc_rv32i.specs.Meaning.{meaning};
+ghost use Rattle.svc_asm.specs.Programs.{IsProgramOf};
+ghost use Rattle.svc_list.specs.Listings.{register_text, first_text, last_text, short_text, offset_text, address_text, upper_text, instruction_text, own_text, statement_text, line_of, text_of, shown, setting, settings, own_limit, marks, code, data_lines, all_data, head_lines, listing_of};
+
+use crate::instruction_names::{
+    comparison_name, immediate_name, load_name, operation_name, shift_name, store_name,
+};
+use itoa::Buffer;
+use std::alloc::{AllocError, Global};
+use svc_asm::register;
+use svc_draft::Statement;
+use svc_image::{Image, Version};
+use svc_rv32i::{Instr, Long, Register, Short, decode, one_meaning};
+
+fn put_text(out: &mut Vec<u8>, text: &str) -> Result<(), AllocError>
+    ensures { OnOk result (out.new.items ≡ out.old.items ++ text.now) }
+{
+    out.extend_from_slice(text.as_bytes())
+}
+
+fn put_number(out: &mut Vec<u8>, number: u32) -> Result<(), AllocError>
+    ensures { OnOk result (out.new.items ≡ out.old.items ++ decimal number) }
+{
+    let mut buffer = Buffer::new();
+    put_text(out, buffer.format(number))
+}
+
+fn put_register(out: &mut Vec<u8>, register: Register) -> Result<(), AllocError>
+    ensures { OnOk result (out.new.items ≡ out.old.items ++ register_text register) }
+{
+    put_text(out, "x")?;
+    put_number(out, register.number as u32)
+}
+
+// A register and the comma behind it.
+fn put_first(out: &mut Vec<u8>, register: Register) -> Result<(), AllocError>
+    ensures { OnOk result (out.new.items ≡ out.old.items ++ first_text register) }
+{
+    put_text(out, " ")?;
+    put_register(out, register)?;
+    put_text(out, ",")
+}
+
+fn put_short(out: &mut Vec<u8>, imm: Short) -> Result<(), AllocError>
+    ensures { OnOk result (out.new.items ≡ out.old.items ++ short_text imm) }
+{
+    if imm.bits < 2048 {
+        put_text(out, " ")?;
+        return put_number(out, imm.bits as u32);
+    }
+    put_text(out, " -")?;
+    put_number(out, 4096 - imm.bits as u32)
+}
+
+// How far from here, in steps of two bytes: `half` of the numbers of its bits are forward.
+fn put_offset(out: &mut Vec<u8>, half: u32, steps: u32) -> Result<(), AllocError>
+    requires half { half ≤ 524288 }
+    requires steps { steps < 2 * half }
+    ensures { OnOk result (out.new.items ≡ out.old.items ++ offset_text half steps) }
+{
+    if steps < half {
+        put_text(out, " . + ")?;
+        return put_number(out, 2 * steps);
+    }
+    put_text(out, " . - ")?;
+    put_number(out, 2 * (2 * half - steps))
+}
+
+// An immediate, and a register in parentheses.
+fn put_address(out: &mut Vec<u8>, imm: Short, base: Register) -> Result<(), AllocError>
+    ensures { OnOk result (out.new.items ≡ out.old.items ++ address_text imm base) }
+{
+    put_short(out, imm)?;
+    put_text(out, "(")?;
+    put_register(out, base)?;
+    put_text(out, ")")
+}
+
+fn put_upper(out: &mut Vec<u8>, name: &str, rd: Register, imm: Long) -> Result<(), AllocError>
+    ensures { OnOk result (out.new.items ≡ out.old.items ++ (name.now ++ (first_text rd ++ upper_text imm))) }
+{
+    put_text(out, name)?;
+    put_first(out, rd)?;
+    put_text(out, " ")?;
+    put_number(out, imm.bits)
+}
+
+// An instruction whose last operand is an address.
+fn put_access(
+    out: &mut Vec<u8>,
+    name: &str,
+    register: Register,
+    imm: Short,
+    base: Register,
+) -> Result<(), AllocError>
+    ensures { OnOk result (out.new.items
+        ≡ out.old.items ++ (name.now ++ (first_text register ++ address_text imm base))) }
+{
+    put_text(out, name)?;
+    put_first(out, register)?;
+    put_address(out, imm, base)
+}
+
+// The name of an instruction and its first two registers, each with its comma.
+fn put_two(
+    out: &mut Vec<u8>,
+    name: &str,
+    first: Register,
+    second: Register,
+) -> Result<(), AllocError>
+    ensures { OnOk result (out.new.items ≡ out.old.items ++ (name.now ++ (first_text first ++ first_text second))) }
+{
+    put_text(out, name)?;
+    put_first(out, first)?;
+    put_first(out, second)
+}
+
+#[tactic(auto, unfolding(crate::specs::Listings::instruction_text))]
+fn put_instruction(out: &mut Vec<u8>, instr: Instr) -> Result<(), AllocError>
+    ensures { OnOk result (out.new.items ≡ out.old.items ++ instruction_text instr) }
+{
+    match instr {
+        Instr::Lui { rd, imm } => put_upper(out, "lui", rd, imm),
+        Instr::Auipc { rd, imm } => put_upper(out, "auipc", rd, imm),
+        Instr::Jal { rd, imm } => {
+            put_text(out, "jal")?;
+            put_first(out, rd)?;
+            put_offset(out, 524288, imm.bits)
+        }
+        Instr::Jalr { rd, rs1, imm } => put_access(out, "jalr", rd, imm, rs1),
+        Instr::Branch {
+            test,
+            rs1,
+            rs2,
+            imm,
+        } => {
+            put_two(out, comparison_name(test), rs1, rs2)?;
+            put_offset(out, 2048, imm.bits as u32)
+        }
+        Instr::Load { kind, rd, rs1, imm } => put_access(out, load_name(kind), rd, imm, rs1),
+        Instr::Store {
+            kind,
+            rs1,
+            rs2,
+            imm,
+        } => put_access(out, store_name(kind), rs2, imm, rs1),
+        Instr::OpImm { op, rd, rs1, imm } => {
+            put_two(out, immediate_name(op), rd, rs1)?;
+            put_short(out, imm)
+        }
+        Instr::ShiftImm {
+            op,
+            rd,
+            rs1,
+            amount,
+        } => {
+            put_two(out, shift_name(op), rd, rs1)?;
+            put_text(out, " ")?;
+            put_number(out, amount.bits as u32)
+        }
+        Instr::Op { op, rd, rs1, rs2 } => {
+            put_two(out, operation_name(op), rd, rs1)?;
+            put_text(out, " ")?;
+            put_register(out, rs2)
+        }
+        Instr::Fence { .. } => Ok(()),
+        Instr::Ecall => put_text(out, "ecall"),
+        Instr::Ebreak => put_text(out, "ebreak"),
+    }
+}
+
+// A directive and its number.
+fn put_numbered(out: &mut Vec<u8>, name: &str, number: u32) -> Result<(), AllocError>
+    ensures { OnOk result (out.new.items ≡ out.old.items ++ (name.now ++ decimal number)) }
+{
+    put_text(out, name)?;
+    put_number(out, number)
+}
+
+// An entry, and the limit that it has of its own.
+fn put_entry(out: &mut Vec<u8>, limit: Option<u32>) -> Result<(), AllocError>
+    ensures { OnOk result (out.new.items ≡ out.old.items ++ (codes ".svc_entry" ++ own_text limit)) }
+{
+    match limit {
+        None => put_text(out, ".svc_entry"),
+        Some(limit) => put_numbered(out, ".svc_entry ", limit),
+    }
+}
+
+// A directive, a register and its value.
+fn put_setting(
+    out: &mut Vec<u8>,
+    name: &str,
+    register: Register,
+    value: u32,
+) -> Result<(), AllocError>
+    ensures { OnOk result (out.new.items
+        ≡ out.old.items ++ (name.now ++ (first_text register ++ (32 ∷ decimal value)))) }
+{
+    put_text(out, name)?;
+    put_first(out, register)?;
+    put_text(out, " ")?;
+    put_number(out, value)
+}
+
+#[tactic(auto, unfolding(crate::specs::Listings::statement_text))]
+fn put_statement(out: &mut Vec<u8>, statement: Statement) -> Result<(), AllocError>
+    ensures { OnOk result (out.new.items ≡ out.old.items ++ statement_text statement) }
+{
+    match statement {
+        Statement::Nothing | Statement::Label => Ok(()),
+        Statement::Instruction(instr) => put_instruction(out, instr),
+        Statement::Word(word) => put_numbered(out, ".word ", word),
+        Statement::Text => put_text(out, ".text"),
+        Statement::Data => put_text(out, ".data"),
+        Statement::Version(version) => put_numbered(out, ".svc_version ", version.number() as u32),
+        Statement::ReadOnly => put_text(out, ".svc_readonly"),
+        Statement::Entry(limit) => put_entry(out, limit),
+        Statement::Start(start) => put_numbered(out, ".svc_start ", start),
+        Statement::Limit(limit) => put_numbered(out, ".svc_limit ", limit),
+        Statement::Register(register, value) => put_setting(out, ".svc_register", register, value),
+    }
+}
+
+fn put_line(out: &mut Vec<u8>, statement: Statement) -> Result<(), AllocError>
+    ensures { OnOk result (out.new.items ≡ out.old.items ++ line_of statement) }
+{
+    put_statement(out, statement)?;
+    put_text(out, "\n")
+}
+
+// How a word of the text is shown.
+fn shown(word: u32) -> Statement
+    ensures { result ≡ shown word (meaning word) }
+{
+    match decode(word) {
+        None | Some(Instr::Fence { .. }) => Statement::Word(word),
+        Some(instr) => Statement::Instruction(instr),
+    }
+}
+
+// A register's line, where its value isn't 0.
+fn put_nonzero(out: &mut Vec<u8>, number: u32, value: u32) -> Result<(), AllocError>
+    requires { number < 32 }
+    ensures { OnOk result (out.new.items ≡ out.old.items ++ text_of (setting number value)) }
+{
+    if value == 0 {
+        return Ok(());
+    }
+    put_line(out, Statement::Register(register(number), value))?;
+    Ok(())
+}
+
+fn put_settings(out: &mut Vec<u8>, registers: &[u32]) -> Result<(), AllocError>
+    requires { length registers.now ≤ 31 }
+    ensures { OnOk result (out.new.items ≡ out.old.items ++ text_of (settings 1 registers.now)) }
+{
+    let mut number = 1;
+    for &value in registers {
+        put_nonzero(out, number, value)?;
+        number += 1;
+    }
+    Ok(())
+}
+
+// The next entry's limit, and the entries and limits behind it, where that entry stands at this address.
+fn behind<'a>(entries: &'a [u32], limits: &'a [u32], pc: u32) -> Option<(u32, &'a [u32], &'a [u32])>
+    ensures some { IfSome result (λ x. (entries.now ≡ pc ∷ x.1.now) × (limits.now ≡ x.0 ∷ x.2.now)) }
+    ensures none { IfNone result ((e l : ℕ) (es ls : List ℕ)
+        → entries.now ≡ e ∷ es → limits.now ≡ l ∷ ls → e ≡ pc → ⊥) }
+{
+    match (entries, limits) {
+        ([entry, entries @ ..], [limit, limits @ ..]) if *entry == pc => {
+            Some((*limit, entries, limits))
+        }
+        _ => None,
+    }
+}
+
+// The limit that the line of an entry gives it.
+fn own_limit(version: Version, limit: u32) -> Option<u32>
+    ensures { result ≡ own_limit version limit }
+{
+    match version {
+        Version::One => None,
+        Version::Two => Some(limit),
+    }
+}
+
+// A word of the text, behind the mark of an entry where the next one stands at it. It answers the entries that are
+// left, and their limits.
+fn put_code_word<'a>(
+    out: &mut Vec<u8>,
+    version: Version,
+    entries: &'a [u32],
+    limits: &'a [u32],
+    pc: u32,
+    word: u32,
+) -> Result<(&'a [u32], &'a [u32]), AllocError>
+    ensures { IfOk result (λ left. (n : ℕ) (words : List ℕ) → pc ≡ 4 * n
+        → out.new.items ++ text_of (code (suc n) (marks version left.0.now left.1.now) words)
+        ≡ out.old.items ++ text_of (code n (marks version entries.now limits.now) (word ∷ words))) }
+{
+    match behind(entries, limits, pc) {
+        Some(next) => {
+            put_line(out, Statement::Entry(own_limit(version, next.0)))?;
+            put_line(out, shown(word))?;
+            Ok((next.1, next.2))
+        }
+        None => {
+            put_line(out, shown(word))?;
+            Ok((entries, limits))
+        }
+    }
+}
+
+fn put_code(
+    out: &mut Vec<u8>,
+    version: Version,
+    entries: &[u32],
+    limits: &[u32],
+    text: &[u32],
+) -> Result<(), AllocError>
+    requires { length text.now ≤ 65536 }
+    ensures { OnOk result (out.new.items
+        ≡ out.old.items ++ text_of (code 0 (marks version entries.now limits.now) text.now)) }
+{
+    let mut entries = entries;
+    let mut limits = limits;
+    let mut pc = 0;
+    for &word in text {
+        let (entries_left, limits_left) = put_code_word(out, version, entries, limits, pc, word)?;
+        entries = entries_left;
+        limits = limits_left;
+        pc += 4;
+    }
+    Ok(())
+}
+
+fn put_data(out: &mut Vec<u8>, words: &[u32]) -> Result<(), AllocError>
+    ensures { OnOk result (out.new.items ≡ out.old.items ++ text_of (data_lines words.now)) }
+{
+    for &word in words {
+        put_line(out, Statement::Word(word))?;
+    }
+    Ok(())
+}
+
+// The data of an image of version 2, whose first words are read-only.
+fn put_split(out: &mut Vec<u8>, read_only: usize, words: &[u32]) -> Result<(), AllocError>
+    requires { read_only ≤ length words.now }
+    ensures { OnOk result (out.new.items ≡ out.old.items ++ text_of (all_data Version.Two read_only words.now)) }
+{
+    let parts = words.split_at(read_only);
+    put_data(out, parts.0)?;
+    put_line(out, Statement::ReadOnly)?;
+    put_data(out, parts.1)?;
+    Ok(())
+}
+
+fn put_all_data(
+    out: &mut Vec<u8>,
+    version: Version,
+    read_only: usize,
+    words: &[u32],
+) -> Result<(), AllocError>
+    requires { read_only ≤ length words.now }
+    ensures { OnOk result (out.new.items ≡ out.old.items ++ text_of (all_data version read_only words.now)) }
+{
+    match version {
+        Version::One => put_data(out, words),
+        Version::Two => put_split(out, read_only, words),
+    }
+}
+
+fn first_limit(limits: &[u32]) -> u32
+    ensures { result ≡ slice_index limits.now 0 }
+{
+    match limits {
+        [first, ..] => *first,
+        [] => 0,
+    }
+}
+
+// The lines before the registers.
+fn put_head(out: &mut Vec<u8>, version: Version, limit: u32, start: u32) -> Result<(), AllocError>
+    ensures { OnOk result (out.new.items ≡ out.old.items ++ text_of (head_lines version limit start)) }
+{
+    put_line(out, Statement::Version(version))?;
+    match version {
+        Version::One => {
+            put_line(out, Statement::Limit(limit))?;
+            put_line(out, Statement::Start(start))?;
+            Ok(())
+        }
+        Version::Two => {
+            put_line(out, Statement::Start(start))?;
+            Ok(())
+        }
+    }
+}
+
+/// The listing of an image: a text that is assembled to it.
+pub fn list(alloc: Global, image: &Image) -> Result<Vec<u8>, AllocError>
+    ensures listing { IfOk result (λ text. text.items ≡ listing_of image.now) }
+
+    // It is a program of the image, and a program of an image is assembled to that image.
+    ensures program { IfOk result (λ text. IsProgramOf text.items image.now) }
+{
+    one_meaning();
+    let mut out = Vec::new(alloc);
+    put_head(
+        &mut out,
+        image.version(),
+        first_limit(image.limits()),
+        image.start(),
+    )?;
+    put_settings(&mut out, image.registers())?;
+    put_code(
+        &mut out,
+        image.version(),
+        image.entries(),
+        image.limits(),
+        image.text_words(),
+    )?;
+    put_line(&mut out, Statement::Data)?;
+    put_all_data(
+        &mut out,
+        image.version(),
+        image.read_only() as usize,
+        image.data_words(),
+    )?;
+    Ok(out)
+}
