@@ -13,8 +13,3 @@ mod unread;
 pub use assembling::{AssembleError, assemble};
 pub use names::register;
 pub use unread::Wanted;
-
-#[cfg(test)]
-mod rows;
-#[cfg(test)]
-mod tests;

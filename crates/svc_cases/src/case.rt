@@ -1,10 +1,10 @@
 //! A line of the list of cases.
 
 use crate::error::CaseError;
-use crate::outcome::Outcome;
 use std::alloc::{AllocError, Global};
 use std::fs;
 use std::rt::Files;
+use svc_outcome::Outcome;
 
 /// One run of the program, and what is wanted of it: the fields of a line of the list.
 #[derive(Clone, Copy)]

@@ -6,17 +6,16 @@ mod case;
 mod error;
 mod folder;
 mod images;
-mod outcome;
 
 use case::Case;
 use error::CaseError;
 use folder::Folder;
-use outcome::{Outcome, Part};
 use std::fs;
 use std::rt::Files;
 use std::sync::Wait;
 use std::thread::Threads;
 use svc_command::execute;
+use svc_outcome::{Outcome, Part};
 
 fn main(rt: HostRuntime) -> Result<(), CaseError> {
     let list = fs::read_to_string(&rt, "cases.csv")?;

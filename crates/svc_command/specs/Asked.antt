@@ -40,6 +40,8 @@ Names words (request.Sequential from tasks) = IsNamed (codes "seq") words
 Names words (request.Script from config events) = IsNamed (codes "script") words
 Names words (request.Check from config trace) = IsNamed (codes "check") words
 Names words (request.Profile from config trace) = IsNamed (codes "profile") words
+Names words (request.Assemble text image) = IsNamed (codes "assemble") words
+Names words (request.List from) = IsNamed (codes "list") words
 
 -- what the words of a line may ask for: what they name, and the run of the built-in image exactly where there is none but the program's name
 pub record MayAsk (words : List (List ℕ)) (asked : Request) : Type 0 where

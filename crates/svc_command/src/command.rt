@@ -120,6 +120,27 @@ and are active still; the turns, loads and stores of committed, of squashed and 
 reads each supplier served; and how many lines were replaced. Of a faulty trace it tells the first fault,
 as check does, and no count. Give the options that the trace was made with.";
 
+const ASSEMBLE: &str = "Assembles a text of RV32I instructions, and saves the image.
+
+The text is written as for GNU's assembler: labels, instructions and their pseudo-instructions, data in
+words. Directives say what an image has besides:
+
+  .svc_entry          the next instruction begins a task (.svc_entry N: of at most N turns)
+  .svc_start LABEL    the first task; without it, the first entry
+  .svc_limit N        the most turns of a task; without it, 65536
+  .svc_register xN,V  the value that a register has at the start of each task; without it, 0
+  .svc_readonly       the data so far is read-only
+  .svc_version N      the version of the image's format: 1, or 2 where a directive needs it
+
+The first fault is told as FILE:LINE:COLUMN with what may stand there, and no file is written.
+
+Example: svcsim assemble sum.s sum.svci";
+
+const LIST: &str =
+    "Prints an image as assembly, from which assemble makes the same image, byte for byte.
+
+Example: svcsim list sum.svci";
+
 /// The whole command line.
 pub fn command<'a>(alloc: Global) -> Result<Command<'a>, AllocError> {
     Command::new(alloc, "svcsim")
@@ -134,7 +155,9 @@ pub fn command<'a>(alloc: Global) -> Result<Command<'a>, AllocError> {
         .subcommand(sequential(alloc)?)?
         .subcommand(script(alloc)?)?
         .subcommand(check(alloc)?)?
-        .subcommand(profile(alloc)?)
+        .subcommand(profile(alloc)?)?
+        .subcommand(assemble(alloc)?)?
+        .subcommand(list(alloc)?)
 }
 
 // `run`: the simulator.
@@ -184,6 +207,25 @@ fn profile<'a>(alloc: Global) -> Result<Command<'a>, AllocError> {
         .arg(image(alloc))?
         .arg(file(alloc, "TRACE").help("The trace's file"))?;
     with_configuration(alloc, command)
+}
+
+// `assemble`: a text to an image.
+fn assemble<'a>(alloc: Global) -> Result<Command<'a>, AllocError> {
+    Command::new(alloc, "assemble")
+        .about("Assembles a text, and saves the image")
+        .long_about(ASSEMBLE)
+        .after_help(STATUSES)
+        .arg(file(alloc, "FILE").help("The text's file"))?
+        .arg(file(alloc, "IMAGE").help("The file that the image is saved in"))
+}
+
+// `list`: an image as a text.
+fn list<'a>(alloc: Global) -> Result<Command<'a>, AllocError> {
+    Command::new(alloc, "list")
+        .about("Prints an image as assembly")
+        .long_about(LIST)
+        .after_help(STATUSES)
+        .arg(image(alloc))
 }
 
 // `seq`: the plain runner.

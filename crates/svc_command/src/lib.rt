@@ -6,6 +6,3 @@ mod program;
 mod reading;
 
 pub use program::execute;
-
-#[cfg(test)]
-mod tests;

@@ -125,6 +125,13 @@ fn asked<'a>(
             config: configuration(given)?,
             trace: given.get_str("TRACE").ok_or(Fault::File)?,
         }),
+        Some(("assemble", given)) if is_named(words, "assemble") => Ok(Request::Assemble {
+            text: given.get_str("FILE").ok_or(Fault::File)?,
+            image: given.get_str("IMAGE").ok_or(Fault::File)?,
+        }),
+        Some(("list", given)) if is_named(words, "list") => Ok(Request::List {
+            image: image(given)?,
+        }),
         // The parser reads no other subcommand, and no line that begins otherwise.
         _ => Err(Fault::File),
     }

@@ -19,6 +19,3 @@ pub use effect::Effect;
 pub use numbers::{compare, operate};
 pub use svc_base::limits::MAX_BURST_TURNS;
 pub use svc_core_laws::{Ask, End, Ending};
-
-#[cfg(test)]
-mod tests;

@@ -13,6 +13,3 @@ pub use recorder::Recorder;
 pub use svc_history_laws::{CutKind, Entry, Kind, ReplyKind, ServedKind, Slip};
 pub use svc_machine::{Event, Machine};
 pub use trace::{TraceFault, TraceFaultKind, check_trace};
-
-#[cfg(test)]
-mod tests;

@@ -21,8 +21,3 @@ pub use image::Image;
 pub use laws::one_meaning;
 pub use slot::{Found, Slot};
 pub use version::Version;
-
-#[cfg(test)]
-mod second_tests;
-#[cfg(test)]
-mod tests;

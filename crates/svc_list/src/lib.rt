@@ -5,6 +5,3 @@ mod instruction_names;
 mod listing;
 
 pub use listing::list;
-
-#[cfg(test)]
-mod tests;

@@ -24,6 +24,3 @@ pub use event::Event;
 pub use machine::Machine;
 pub use run::drive;
 pub use svc_machine_laws::{Cause, Cut, Reply, Served, What};
-
-#[cfg(test)]
-mod tests;

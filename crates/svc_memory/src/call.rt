@@ -33,6 +33,9 @@ fn attempt<R: Threads + Wait + Sync + AllocGlobal>(rt: &R, name: &str) -> Option
         "check" => program::check(rt),
         "run" => program::run(rt),
         "schedule" => program::schedule(rt),
+        "profile" => program::profile(rt),
+        "assemble" => program::assemble(rt),
+        "list" => program::list(rt),
         _ => return None,
     };
     Some(attempt)

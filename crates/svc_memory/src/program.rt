@@ -5,7 +5,7 @@ ghost use Rattle.std.specs.List.{starts_with};
 
 use crate::attempt::{Attempt, Refused, ready};
 use crate::texts::{EVENTS, TRACE};
-use crate::wanted::{CHECK, RUN, SCHEDULE, SCRIPT, SEQ};
+use crate::wanted::{CHECK, LIST, PROFILE, RUN, SCHEDULE, SCRIPT, SEQ};
 use std::alloc::{AllocError, Global};
 use std::sync::Wait;
 use std::thread::Threads;
@@ -26,6 +26,7 @@ impl Files for Samples {
             "p" => P.as_slice(),
             "events" => EVENTS.as_bytes(),
             "trace" => TRACE.as_bytes(),
+            "listing" => LIST.as_bytes(),
             _ => return Err(FileFault),
         };
         Vec::from_slice(self.alloc, bytes).map_err(|_| FileFault)
@@ -132,4 +133,31 @@ pub fn schedule<R: Threads + Wait + Sync + AllocGlobal>(rt: &R) -> Attempt {
         trace: Some("saved"),
     };
     asked(rt, request, SCHEDULE)
+}
+
+/// What the trace of ten events cost is told.
+pub fn profile<R: Threads + Wait + Sync + AllocGlobal>(rt: &R) -> Attempt {
+    let request = Request::Profile {
+        image: Source::File("p"),
+        config: ready(Config::new(4, 16, 2, 10, 1))?,
+        trace: "trace",
+    };
+    asked(rt, request, PROFILE)
+}
+
+/// A listing is assembled, and its image is saved.
+pub fn assemble<R: Threads + Wait + Sync + AllocGlobal>(rt: &R) -> Attempt {
+    let request = Request::Assemble {
+        text: "listing",
+        image: "saved",
+    };
+    asked(rt, request, "")
+}
+
+/// An image is listed.
+pub fn list<R: Threads + Wait + Sync + AllocGlobal>(rt: &R) -> Attempt {
+    let request = Request::List {
+        image: Source::File("p"),
+    };
+    asked(rt, request, LIST)
 }

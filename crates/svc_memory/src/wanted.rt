@@ -75,3 +75,49 @@ pub const SEQ: &str = "out,5\ntasks,2\nexit,5\n";
 
 /// By the check of the trace of ten events.
 pub const CHECK: &str = "sound,10\n";
+
+/// By the profile of the trace of ten events.
+pub const PROFILE: &str = "events,10
+tasks-begun,3
+tasks-committed,2
+tasks-violation,1
+tasks-guess,0
+tasks-cancel,0
+tasks-active,0
+turns-committed,9
+turns-squashed,2
+turns-active,0
+loads-committed,1
+loads-squashed,1
+loads-active,0
+stores-committed,1
+stores-squashed,0
+stores-active,0
+served-hit,0
+served-reuse,0
+served-version,0
+served-spill,0
+served-committed,1
+served-memory,1
+replaced,0
+";
+
+/// By the listing of the sample of two tasks.
+pub const LIST: &str = ".svc_version 1
+.svc_limit 100
+.svc_start 0
+.svc_entry
+lui x5, 256
+addi x1, x0, 5
+sw x1, 0(x5)
+.svc_entry
+lui x5, 256
+lw x10, 0(x5)
+addi x17, x0, 1
+ecall
+addi x17, x0, 0
+ecall
+.data
+.word 0
+.word 0
+";

@@ -9,6 +9,3 @@ mod task;
 pub use error::PlainError;
 pub use run::{PlainOutcome, run_tasks};
 pub use svc_core::Ending;
-
-#[cfg(test)]
-mod tests;

@@ -3,3 +3,5 @@ pub mod Requests
 pub mod Runs
 pub mod Costs
 pub mod Scripts
+pub mod Assembly
+pub mod Names

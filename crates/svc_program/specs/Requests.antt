@@ -17,6 +17,7 @@ use Rattle.svc_program.specs.declared.request.Source.TheVariants as source
 use Rattle.svc_program.specs.declared.request.Request.{Request}
 use Rattle.svc_program.specs.declared.request.Request.TheVariants as request
 use Rattle.svc_program.specs.declared.request.TheConstants.{VERSION}
+use Rattle.svc_program.specs.Assembly.{Assembles, Lists}
 use Rattle.svc_program.specs.Costs.{TellsCost}
 use Rattle.svc_program.specs.Runs.{FindsSound, GoesBy, IsRunOf, Reports, ReportsOn}
 use Rattle.svc_program.specs.Scripts.{PlaysScript}
@@ -63,6 +64,8 @@ Does (request.Check from config trace) held saved old new exit =
 Does (request.Profile from config trace) held saved old new exit =
     (img : Image) × IsOfSource held from img
     × (es : List Entry) × IsTraceIn held trace.now es × TellsCost img config es old new exit
+Does (request.Assemble text image) held saved old new exit = Assembles (held text.now) (saved image.now) exit × (new ≡ old)
+Does (request.List from) held saved old new exit = (img : Image) × IsOfSource held from img × Lists img old new exit
 
 -- there is the image that is asked for
 abbrev pub HasImage : Request → (held : List ℕ → Option (List ℕ)) → Type 0
@@ -73,8 +76,11 @@ HasImage (request.Sequential from k) held = (img : Image) × IsOfSource held fro
 HasImage (request.Script from config events) held = (img : Image) × IsOfSource held from img
 HasImage (request.Check from config trace) held = (img : Image) × IsOfSource held from img
 HasImage (request.Profile from config trace) held = (img : Image) × IsOfSource held from img
+HasImage (request.Assemble text image) held = ⊤
+HasImage (request.List from) held = (img : Image) × IsOfSource held from img
 
--- no file is changed but by a run whose trace is to be saved
+-- no file is changed but by a run whose trace is to be saved, and by assembling one
 abbrev pub KeepsFiles : Request → (held saved : List ℕ → Option (List ℕ)) → Type 0
 KeepsFiles (request.Run from config schedule (Some name)) held saved = ⊤
+KeepsFiles (request.Assemble text image) held saved = ⊤
 KeepsFiles _ held saved = saved ≡ held

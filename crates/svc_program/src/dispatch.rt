@@ -1,9 +1,11 @@
 //! What is asked for, done over any files and streams.
 
-ghost use Rattle.std.specs.Prelude.{◌≡◌, ◌⊎◌, IfOk, IfErr};
+ghost use Rattle.std.specs.Prelude.{◌≡◌, ◌⊎◌, Err, IfOk, IfErr};
 ghost use Rattle.svc_program.specs.Faults.{IsEarly, IsReportFault};
+ghost use Rattle.svc_program.specs.Names.{IsOverItself};
 ghost use Rattle.svc_program.specs.Requests.{Does, HasImage, KeepsFiles, Shows, version_row};
 
+use crate::assembly::{assemble_file, list_image};
 use crate::check::check;
 use crate::faults::Fault;
 use crate::files::Files;
@@ -22,9 +24,32 @@ use std::thread::Threads;
 /// Does what is asked for. It answers the exit status: 0 where the run came to the program's exit, a trace was sound,
 /// or help or the version was asked for, and 2 at any other ending.
 ///
-/// Errors: the first fault, looked for in this order: the image, the script or trace, the opening of the machine, the
-/// run, the output. Before a fault that isn't one of a text nothing was printed.
+/// Errors: the first fault, looked for in this order: a file that would be written over one that is read, the image, the
+/// script or trace, the opening of the machine, the run, the output. Before a fault that isn't one of a text nothing was
+/// printed.
 pub fn perform<R: Threads + Wait + Sync, F: Files, O: Write>(
+    rt: &R,
+    alloc: Global,
+    request: Request<'_>,
+    files: &mut F,
+    out: &mut O,
+) -> Result<u8, Fault>
+    ensures done { IfOk result (Does request.entry (F.held files.old) (F.held files.new) (O.contents out.old) (O.contents out.new)) }
+    ensures silent { IfErr result (λ fault. IsReportFault fault ⊎ (out.new ≡ out.old)) }
+    ensures order { IfErr result (λ fault. IsEarly fault ⊎ HasImage request.entry (F.held files.old)) }
+    ensures kept { KeepsFiles request.entry (F.held files.old) (F.held files.new) }
+
+    // Nothing is read or written where that would lose a file.
+    ensures apart { IsOverItself request.entry → (result ≡ Err Fault.File) × (F.held files.new ≡ F.held files.old) × (out.new ≡ out.old) }
+{
+    if request.is_over_itself() {
+        return Err(Fault::File);
+    }
+    dispatch(rt, alloc, request, files, out)
+}
+
+// Does what is asked for, by a function a subcommand.
+fn dispatch<R: Threads + Wait + Sync, F: Files, O: Write>(
     rt: &R,
     alloc: Global,
     request: Request<'_>,
@@ -80,6 +105,11 @@ pub fn perform<R: Threads + Wait + Sync, F: Files, O: Write>(
             let image = load_image(alloc, image, files)?;
             let entries = load_trace(alloc, trace, files)?;
             profile(alloc, &image, config, &entries, out)
+        }
+        Request::Assemble { text, image } => assemble_file(alloc, text, image, files),
+        Request::List { image } => {
+            let image = load_image(alloc, image, files)?;
+            list_image(alloc, &image, out)
         }
     }
 }

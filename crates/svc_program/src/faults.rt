@@ -34,6 +34,9 @@ pub enum Fault {
     /// A trace has a bad record: the first one, counted from 1, and its first bad column.
     #[error("report fault 4 row {row} column {column}")]
     BadTrace { row: u64, column: u8 },
+    /// A text makes no image: its name, and where and why.
+    #[error("{0}")]
+    Assembly(String),
     /// The plain runner gave up.
     #[error("plain fault {}", .0.number())]
     Plain(#[from] PlainError),

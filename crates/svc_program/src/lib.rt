@@ -1,6 +1,8 @@
 //! The program as a library: what may be asked of it, and how each request is done over any files and streams.
 #![tactic(auto)]
 
+mod apart;
+mod assembly;
 mod check;
 mod dispatch;
 mod faults;
@@ -17,6 +19,3 @@ pub use dispatch::perform;
 pub use faults::{Fault, tell};
 pub use files::{FileFault, Files};
 pub use request::{Order, Request, Schedule, Source, VERSION};
-
-#[cfg(test)]
-mod tests;

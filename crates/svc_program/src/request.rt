@@ -93,4 +93,13 @@ pub enum Request<'a> {
         config: Config,
         trace: &'a str,
     },
+    /// To assemble a text, and to save its image in this file.
+    Assemble {
+        text: &'a str,
+        image: &'a str,
+    },
+    /// To print an image as a text that is assembled to it.
+    List {
+        image: Source<'a>,
+    },
 }

@@ -19,6 +19,3 @@ pub use laws::legal_history_has_rows;
 pub use script::{Step, StepKind, read_script};
 pub use summary::write_summary;
 pub use trace::{read_trace, write_entry, write_trace};
-
-#[cfg(test)]
-mod tests;

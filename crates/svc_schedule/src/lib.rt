@@ -11,6 +11,3 @@ mod step;
 pub use policies::{Oldest, Random, Rotate, Youngest};
 pub use policy::Policy;
 pub use run::run_schedule;
-
-#[cfg(test)]
-mod tests;

@@ -5,6 +5,3 @@
 mod sequencer;
 
 pub use sequencer::{CAPACITY, Sequencer};
-
-#[cfg(test)]
-mod tests;

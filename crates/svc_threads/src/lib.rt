@@ -8,8 +8,6 @@ mod locked;
 pub mod outcome;
 pub mod port;
 pub mod run;
-#[cfg(test)]
-mod tests;
 pub mod unit;
 
 pub use board::{Board, BoardPass, BoardRow};
@@ -17,5 +15,5 @@ pub use bus::SharedBus;
 pub use fault::RunError;
 pub use outcome::{Outcome, reconcile};
 pub use port::{Gate, Phase, Port};
-pub use run::run_units;
+pub use run::{Shared, run_over, run_units};
 pub use unit::run_unit;

@@ -18,7 +18,8 @@ use svc_history::{Recorder, Slip};
 use svc_image::Image;
 
 /// A port whose recorder can be had when no thread shares it any more.
-pub(crate) trait Shared: Port + Sync + Drop {
+pub trait Shared: Port + Sync + Drop {
+    /// The recorder, with the history that the port leaves.
     fn into_recorder(self) -> Recorder;
 }
 
@@ -49,9 +50,13 @@ pub fn run_units<G: Gate + Sync, R: Threads + Wait + Sync>(
     run_over(rt, alloc, bus, reader, image, config, gate)
 }
 
-// Runs all units over a port, and compares what their threads bring back with the history that it leaves. A test hands
-// in a port that tells its threads another thing than it records.
-pub(crate) fn run_over<P: Shared, G: Gate + Sync, R: Threads + Wait + Sync>(
+/// Runs all units over a port, each in a thread of its own, and compares what the threads bring back with the history
+/// that the port leaves, as [`run_units`] does over a bus. The reader is a pass of the port's board. A port may tell
+/// its threads another thing than it records, and give back any recorder.
+///
+/// Errors: [`RunError::Memory`] and [`RunError::NotStarted`], after which the threads that were started have ended; and
+/// those of [`reconcile`].
+pub fn run_over<P: Shared, G: Gate + Sync, R: Threads + Wait + Sync>(
     rt: &R,
     alloc: Global,
     port: P,

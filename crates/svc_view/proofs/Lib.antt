@@ -2,3 +2,9 @@ pub mod Sorting
 pub mod Fewness
 pub mod Fits
 pub mod Nobody
+pub mod Buckets
+pub mod Begun
+pub mod Ordering
+pub mod Placed
+pub mod UnitRows
+pub mod Adding

@@ -2,3 +2,5 @@ pub mod Runs
 pub mod Seen
 pub mod Bounds
 pub mod Profile
+pub mod Tasks
+pub mod Units

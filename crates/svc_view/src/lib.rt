@@ -2,15 +2,19 @@
 //! it, and the totals of that.
 #![tactic(auto)]
 
+mod laws;
 pub mod profile;
 pub mod runs;
 pub mod task_run;
+pub mod tasks;
+mod text;
 pub mod totals;
+pub mod units;
 
+pub use laws::{task_rows_add_up, unit_rows_add_up};
 pub use profile::write_profile;
 pub use runs::tasks_of;
 pub use task_run::{Fate, TaskRun};
+pub use tasks::write_tasks;
 pub use totals::{Group, Measure, Total};
-
-#[cfg(test)]
-mod tests;
+pub use units::write_units;

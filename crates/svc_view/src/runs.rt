@@ -28,7 +28,11 @@ pub(crate) struct TaskRuns {
 }
 
 // Adds a task to a list where that holds.
-fn push_where(holds: bool, run: TaskRun, list: &mut Vec<TaskRun>) -> Result<(), ReportError>
+pub(crate) fn push_where(
+    holds: bool,
+    run: TaskRun,
+    list: &mut Vec<TaskRun>,
+) -> Result<(), ReportError>
     ensures list { OnOk result (list.new.items ≡ list.old.items ++ cond holds (run ∷ []) []) }
     ensures err { IfErr result (λ e. e ≡ Memory) }
 {

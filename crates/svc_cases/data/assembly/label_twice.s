@@ -1,0 +1,5 @@
+.svc_entry
+here:
+    ecall
+here:
+    ecall

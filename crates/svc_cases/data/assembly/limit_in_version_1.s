@@ -1,0 +1,3 @@
+.svc_version 1
+.svc_entry 5
+    ecall

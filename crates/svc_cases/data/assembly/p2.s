@@ -1,0 +1,16 @@
+# As p.s, but the first data word is read-only, and each task has its own limit.
+.svc_entry 3
+    lui x5, 256
+    addi x1, x0, 5
+    sw x1, 0(x5)
+.svc_entry 6
+    lui x5, 256
+    lw x10, 0(x5)
+    addi x17, x0, 1
+    ecall
+    addi x17, x0, 0
+    ecall
+.data
+    .word 0
+.svc_readonly
+    .word 0

@@ -1,0 +1,17 @@
+.svc_version 1
+.svc_limit 100
+.svc_start 0
+.svc_entry
+lui x5, 256
+addi x1, x0, 5
+sw x1, 0(x5)
+.svc_entry
+lui x5, 256
+lw x10, 0(x5)
+addi x17, x0, 1
+ecall
+addi x17, x0, 0
+ecall
+.data
+.word 0
+.word 0

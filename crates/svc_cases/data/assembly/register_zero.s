@@ -1,0 +1,3 @@
+.svc_register x0, 1
+.svc_entry
+    ecall

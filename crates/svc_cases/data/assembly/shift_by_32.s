@@ -1,0 +1,2 @@
+.svc_entry
+    slli x1, x1, 32

@@ -1,0 +1,2 @@
+.svc_entry
+    frobnicate x1, x2

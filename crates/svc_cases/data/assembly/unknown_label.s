@@ -1,0 +1,2 @@
+.svc_entry
+    beq x0, x0, nowhere

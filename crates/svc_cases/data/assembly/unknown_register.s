@@ -1,0 +1,2 @@
+.svc_entry
+    addi x1, y2, 3

@@ -1,0 +1,146 @@
+// What a unit's thread sees.
+
+use super::after;
+use crate::script::agrees;
+use std::alloc::{AllocError, Global};
+use std::process::Abort;
+use svc_base::UnitId;
+use svc_history::{Glance, Move};
+
+// A move, with the guess of the task that it begins, or the place of the task that it runs on.
+#[derive(Clone, Copy, Debug)]
+enum Step {
+    Begin(u32),
+    RunOn(u32),
+    Commit,
+    Wait,
+    Ended,
+}
+
+fn next_step(glance: Glance) -> Step {
+    match glance.next_move() {
+        Move::Begin { guess } => Step::Begin(guess),
+        Move::RunOn(lease) => Step::RunOn(lease.core.pc()),
+        Move::Commit => Step::Commit,
+        Move::Wait => Step::Wait,
+        Move::Ended => Step::Ended,
+    }
+}
+
+fn place_of(glance: Glance) -> Option<u32> {
+    match glance.lease {
+        Some(lease) => Some(lease.core.pc()),
+        None => None,
+    }
+}
+
+// Whether the run has ended, where the unit's task stands, whether that is the head, and the guess.
+fn seen(alloc: Global, glance: Glance) -> Result<String, AllocError> {
+    let ended = glance.ended;
+    let is_head = glance.is_head;
+    let guess = glance.guess;
+    let at = place_of(glance);
+    format!(in alloc; "{ended} {at:?} {is_head} {guess:?}")
+}
+
+fn moved(alloc: Global, glance: Glance) -> Result<String, AllocError> {
+    let step = next_step(glance);
+    format!(in alloc; "{step:?}")
+}
+
+// The unit's glance at a recorder with room for so many entries, after so many of the ten events.
+fn glance(rt: &impl Abort, alloc: Global, room: u32, count: usize, unit: u8) -> Glance {
+    let recorder = after(rt, alloc, room, count);
+    recorder.glance(UnitId(unit)).expect(rt, "a glance")
+}
+
+fn refuses(rt: &impl Abort, alloc: Global, unit: u8, wanted: &str) {
+    let recorder = after(rt, alloc, 1_000, 0);
+    let refused = recorder.glance(UnitId(unit)).err();
+    agrees(rt, format!(in alloc; "{refused:?}"), wanted);
+}
+
+// After so many of the ten events, what the unit sees.
+const GLANCES: [(usize, u8, &str); 7] = [
+    (0, 3, "false None false Some(0)"),
+    (1, 0, "false Some(0) true Some(12)"),
+    (2, 0, "false Some(0) true Some(0)"),
+    (2, 1, "false Some(12) false Some(0)"),
+    (5, 0, "false None false Some(12)"),
+    (10, 0, "true None false None"),
+    (10, 3, "true None false None"),
+];
+
+#[test]
+fn glances_follow_the_events(rt: HostRuntime) {
+    refuses(&rt, rt.alloc(), 9, "Some(NoSuchUnit)");
+    refuses(&rt, rt.alloc(), 4, "Some(NoSuchUnit)");
+    for (count, unit, wanted) in &GLANCES {
+        let glance = glance(&rt, rt.alloc(), 1_000, *count, *unit);
+        agrees(&rt, seen(rt.alloc(), glance), wanted);
+    }
+}
+
+#[test]
+fn a_full_history_has_ended(rt: HostRuntime) {
+    let (before, full) = ("false None false Some(12)", "true None false Some(12)");
+    let glance_before = glance(&rt, rt.alloc(), 5, 4, 1);
+    agrees(&rt, seen(rt.alloc(), glance_before), before);
+    let glance_full = glance(&rt, rt.alloc(), 5, 5, 1);
+    agrees(&rt, seen(rt.alloc(), glance_full), full);
+}
+
+// After so many of the ten events, what the unit does next.
+const MOVES: [(usize, u8, &str); 7] = [
+    (0, 1, "Begin(0)"),
+    (2, 3, "Begin(0)"),
+    (2, 1, "RunOn(12)"),
+    (4, 0, "Commit"),
+    (9, 1, "Commit"),
+    (10, 0, "Ended"),
+    (10, 3, "Ended"),
+];
+
+// A unit begins at the guess, runs its task on, and commits it once that has ended and is the head; until then it
+// waits.
+#[test]
+fn a_unit_moves_by_what_it_sees(rt: HostRuntime) {
+    for (count, unit, wanted) in &MOVES {
+        let glance = glance(&rt, rt.alloc(), 1_000, *count, *unit);
+        agrees(&rt, moved(rt.alloc(), glance), wanted);
+    }
+}
+
+// The moves of a glance, and of the same where the unit isn't the head, where it has no task and there is a guess or
+// none, and where the run has ended.
+fn turned(alloc: Global, glance: Glance) -> Result<String, AllocError> {
+    let later = Glance {
+        is_head: false,
+        ..glance
+    };
+    let idle = Glance {
+        lease: None,
+        guess: Some(12),
+        ..glance
+    };
+    let lost = Glance {
+        guess: None,
+        ..idle
+    };
+    let over = Glance {
+        ended: true,
+        ..glance
+    };
+    let (first, second) = (next_step(glance), next_step(later));
+    let (third, fourth) = (next_step(idle), next_step(lost));
+    let fifth = next_step(over);
+    format!(in alloc; "{first:?} {second:?} {third:?} {fourth:?} {fifth:?}")
+}
+
+// Each field that the move hangs on, where it alone is turned.
+#[test]
+fn the_first_case_that_holds_tells_the_move(rt: HostRuntime) {
+    let glance = glance(&rt, rt.alloc(), 1_000, 4, 0);
+    let moves = "Commit Wait Begin(12) Wait Ended";
+    agrees(&rt, turned(rt.alloc(), glance), moves);
+}

@@ -1,0 +1,56 @@
+// Scripts on the sample of two tasks, for a machine and for a recorder, and the comparison of what was told.
+//
+// A function that may end early has to let all that it holds go at each such end, which is dear to prove of a machine or
+// a recorder. So what isn't expected ends the process, and what was told is compared as text.
+
+use std::alloc::AllocError;
+use std::process::Abort;
+use svc_base::{Config, UnitId};
+use svc_core::Burst;
+use svc_machine::Machine;
+
+/// A line of a script: an event. A submission is of the unit's lease, advanced by 63 turns.
+#[derive(Clone, Copy)]
+pub enum Line {
+    Assign(u8, u32),
+    Submit(u8),
+    Cancel(u8),
+    Commit(u8),
+}
+
+/// The ten events after which both tasks of the sample are committed: the second one loads too early, is squashed, and
+/// begins anew.
+pub static TEN: [Line; 10] = [
+    Line::Assign(0, 0),
+    Line::Assign(1, 12),
+    Line::Submit(1),
+    Line::Submit(0),
+    Line::Commit(0),
+    Line::Assign(1, 0),
+    Line::Submit(1),
+    Line::Submit(1),
+    Line::Submit(1),
+    Line::Commit(1),
+];
+
+/// The first ones of the ten.
+pub fn first(count: usize) -> &'static [Line] {
+    &TEN[..count.min(10)]
+}
+
+/// The unit's lease, advanced by 63 turns; none without a lease.
+pub fn taken(machine: &Machine, unit: u8) -> Option<Burst> {
+    let lease = machine.lease(UnitId(unit))?;
+    Some(lease.advance(machine.image(), 63))
+}
+
+/// Four units, with room for so many events.
+pub fn four_units(rt: &impl Abort, events: u32) -> Config {
+    Config::new(4, 16, 2, events, 1).expect(rt, "a configuration")
+}
+
+/// What was told is what was wanted.
+pub fn agrees(rt: &impl Abort, told: Result<String, AllocError>, wanted: &str) {
+    let told = told.expect(rt, wanted);
+    assert_eq!(rt; told.as_str(), wanted);
+}

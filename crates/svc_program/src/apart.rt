@@ -1,0 +1,23 @@
+//! Files that would be written over ones that are read.
+
+ghost use Rattle.std.specs.Prelude.{◌↔◌, IsTrue};
+ghost use Rattle.svc_program.specs.Names.{IsOverItself};
+
+use crate::request::{Request, Source};
+
+impl Request<'_> {
+    /// The file that would be written is one that is read, by the names that are given.
+    pub fn is_over_itself(&self) -> bool
+        ensures { IsTrue result ↔ IsOverItself self.now }
+    {
+        match self {
+            Request::Run {
+                image: Source::File(image),
+                trace: Some(trace),
+                ..
+            } => image == trace,
+            Request::Assemble { text, image } => text == image,
+            _ => false,
+        }
+    }
+}

@@ -1,0 +1,59 @@
+//! `assemble` and `list`: a text to an image, and back.
+
+ghost use Rattle.std.specs.Prelude.{◌≡◌, ◌⊎◌, IfOk, IfErr};
+ghost use Rattle.svc_program.specs.Assembly.{Assembles, Lists};
+ghost use Rattle.svc_program.specs.Faults.{IsReportFault};
+
+use crate::faults::Fault;
+use crate::files::Files;
+use std::alloc::Global;
+use std::io::Write;
+use svc_asm::{AssembleError, assemble};
+use svc_image::Image;
+use svc_list::list;
+
+/// Assembles the text of one file, and makes its image the whole of another. It answers the exit status.
+///
+/// Errors: a file that isn't read or written, the text's first fault, or want of memory. Before the last file is written
+/// nothing is changed.
+pub fn assemble_file<F: Files>(
+    alloc: Global,
+    text: &str,
+    image: &str,
+    files: &mut F,
+) -> Result<u8, Fault>
+    ensures { IfOk result (Assembles (F.held files.old text.now) (F.held files.new image.now)) }
+{
+    let bytes = files.load(text)?;
+    let made = match assemble(alloc, &bytes) {
+        Ok(made) => made,
+        Err(error) => return Err(assembly_fault(alloc, text, error)),
+    };
+    let file = made.write(alloc)?;
+    files.save(image, &file)?;
+    Ok(0)
+}
+
+// How a fault of a named text is told: by the text's name before it.
+fn assembly_fault(alloc: Global, name: &str, error: AssembleError) -> Fault {
+    let told = match error {
+        AssembleError::Memory => return Fault::File,
+        AssembleError::Image(fault) => format!(in alloc; "{name}: {fault}"),
+        placed => format!(in alloc; "{name}:{placed}"),
+    };
+    match told {
+        Ok(told) => Fault::Assembly(told),
+        Err(_) => Fault::File,
+    }
+}
+
+/// Prints an image as a text that is assembled to it. It answers the exit status.
+pub fn list_image<O: Write>(alloc: Global, image: &Image, out: &mut O) -> Result<u8, Fault>
+    ensures listed { IfOk result (Lists image.now (O.contents out.old) (O.contents out.new)) }
+    ensures fault { IfErr result (λ fault. IsReportFault fault ⊎ (out.new ≡ out.old)) }
+{
+    let text = list(alloc, image)?;
+    out.write_all(&text)?;
+    out.flush()?;
+    Ok(0)
+}

@@ -1,0 +1,167 @@
+// What the tests play on, and how they play: images, configurations, buses, and steps.
+
+ghost use Rattle.std.specs.Prelude.{◌≡◌, IfSome};
+
+use std::alloc::Global;
+use std::sync::Wait;
+use std::thread::Threads;
+use svc_base::{Config, UnitId};
+use svc_core::MAX_BURST_TURNS;
+use svc_core_laws::Ending;
+use svc_history::{Event, Kind, Recorder, Slip};
+use svc_image::{Image, samples};
+use svc_threads::{BoardPass, Gate, Outcome, RunError, SharedBus, run_units};
+
+/// One step of a script: a unit assigns at a guess, submits a burst of its task, or asks for a commit.
+#[derive(Clone, Copy)]
+pub(crate) enum Step {
+    Assign(u8, u32),
+    Submit(u8),
+    Commit(u8),
+}
+
+/// Unit 1 loads too early, is squashed by unit 0's store, and runs again.
+pub(crate) const VIOLATION: [Step; 10] = [
+    Step::Assign(0, 0),
+    Step::Assign(1, 12),
+    Step::Submit(1),
+    Step::Submit(0),
+    Step::Commit(0),
+    Step::Assign(1, 0),
+    Step::Submit(1),
+    Step::Submit(1),
+    Step::Submit(1),
+    Step::Commit(1),
+];
+
+/// Unit 1 begins at a wrong entry, and is squashed with unit 2 by unit 0's commit.
+pub(crate) const WRONG_GUESS: [Step; 6] = [
+    Step::Assign(0, 0),
+    Step::Assign(1, 0),
+    Step::Assign(2, 12),
+    Step::Submit(0),
+    Step::Commit(0),
+    Step::Assign(1, 0),
+];
+
+/// The sample of two tasks.
+pub(crate) fn two_tasks(alloc: Global) -> Option<Image> {
+    Image::read(alloc, &samples::P).ok()
+}
+
+/// The sample of one task.
+pub(crate) fn one_task(alloc: Global) -> Option<Image> {
+    Image::read(alloc, &samples::P1).ok()
+}
+
+/// The sample of two tasks, with another limit of turns and another word in place of its store.
+pub(crate) fn changed(alloc: Global, limit: u32, word: u32) -> Option<Image> {
+    let mut bytes = samples::P;
+    bytes[16..20].copy_from_slice(&limit.to_le_bytes());
+    bytes[164..168].copy_from_slice(&word.to_le_bytes());
+    Image::read(alloc, &bytes).ok()
+}
+
+/// A configuration with two ways.
+pub(crate) fn config(units: u32, sets: u32, events: u32, turns: u32) -> Option<Config> {
+    Config::new(units, sets, 2, events, turns).ok()
+}
+
+/// A bus over an opened recorder, and a pass of its board.
+pub(crate) fn opened<R: Wait>(
+    rt: &R,
+    alloc: Global,
+    image: Image,
+    config: Config,
+) -> Option<(SharedBus, BoardPass)>
+    ensures { IfSome result (λ o. o.1.board ≡ o.0) }
+{
+    let recorder = Recorder::open(alloc, image, config).ok()?;
+    SharedBus::open(rt, alloc, recorder).ok()
+}
+
+/// Does a step on the sample of two tasks, where it is accepted.
+pub(crate) fn take<R: Wait>(rt: &R, bus: &SharedBus, image: &Image, step: Step) -> Option<Slip> {
+    match step {
+        Step::Assign(unit, guess) => {
+            let unit = UnitId(unit);
+            bus.apply(rt, Event::Assign { unit, guess }).ok()
+        }
+        Step::Submit(unit) => submit(rt, bus, image, UnitId(unit)),
+        Step::Commit(unit) => bus.apply(rt, Event::Commit { by: UnitId(unit) }).ok(),
+    }
+}
+
+// Submits a burst of the unit's task, where it has one and that is accepted.
+fn submit<R: Wait>(rt: &R, bus: &SharedBus, image: &Image, unit: UnitId) -> Option<Slip> {
+    let lease = bus.lease(rt, unit).ok()?.lease?;
+    let burst = lease.advance(image, MAX_BURST_TURNS);
+    bus.apply(rt, Event::Submit { burst: &burst }).ok()
+}
+
+/// Does steps on the sample of two tasks until one is refused, and tells how many were accepted.
+pub(crate) fn play<R: Wait>(
+    rt: &R,
+    alloc: Global,
+    bus: &SharedBus,
+    steps: &[Step],
+) -> Option<usize> {
+    let image = two_tasks(alloc)?;
+    let mut accepted = 0_usize;
+    for step in steps {
+        if take(rt, bus, &image, *step).is_none() {
+            break;
+        }
+        accepted = accepted.saturating_add(1);
+    }
+    Some(accepted)
+}
+
+/// What a run of units on threads has left, as plain values.
+#[derive(Clone, Copy)]
+pub(crate) struct Left {
+    pub(crate) entries: usize,
+    pub(crate) third: Option<Kind>,
+    pub(crate) committed: u64,
+    pub(crate) ending: Ending,
+    pub(crate) words: usize,
+    pub(crate) first_word: Option<u32>,
+    pub(crate) lists: usize,
+}
+
+fn left_by(outcome: &Outcome) -> Left {
+    let entries = outcome.recorder.entries();
+    let machine = outcome.recorder.machine();
+    let output = machine.output();
+    Left {
+        entries: entries.len(),
+        third: entries.get(2).map(|entry| entry.kind),
+        committed: machine.committed_tasks(),
+        ending: machine.ending(),
+        words: output.len(),
+        first_word: output.first().copied(),
+        lists: outcome.slips.len(),
+    }
+}
+
+/// Runs an image's units, and tells what they have left.
+pub(crate) fn run<G: Gate + Sync, R: Threads + Wait + Sync>(
+    rt: &R,
+    alloc: Global,
+    image: &Image,
+    config: Config,
+    gate: &G,
+) -> Option<Left> {
+    match run_units(rt, alloc, image, config, gate) {
+        Ok(outcome) => Some(left_by(&outcome)),
+        Err(_) => None,
+    }
+}
+
+/// How many slips a unit's thread brought back.
+pub(crate) fn count(slips: Result<Vec<Slip>, RunError>) -> Option<usize> {
+    match slips {
+        Ok(slips) => Some(slips.len()),
+        Err(_) => None,
+    }
+}
