@@ -1,0 +1,18 @@
+.svc_version 1
+.svc_limit 100
+.svc_start 0
+.svc_register x8, 1048576
+.svc_entry
+lw x5, 0(x8)
+addi x5, x5, 1
+sw x5, 0(x8)
+addi x6, x0, 3
+blt x5, x6, . - 16
+.svc_entry
+lw x10, 0(x8)
+addi x17, x0, 1
+ecall
+addi x17, x0, 0
+ecall
+.data
+.word 0
