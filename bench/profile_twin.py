@@ -1,5 +1,5 @@
 #!/usr/bin/env python3
-"""The profile of a trace, by another way than the program's: python3 profile_twin.py TRACE.csv
+"""The profile of a trace, by another way than the program's: python3 profile_twin.py TRACE.csv [task|unit|word [UNITS]]
 
 It keeps the queue of active tasks as a list of units, and counts each squash from the queue's end by the row's number
 of squashed tasks, where the program goes by the tasks' numbers.
@@ -11,23 +11,33 @@ MEASURES = ["tasks", "turns", "loads", "stores"]
 totals = {}
 
 
-def settle(task, fate):
+def settle(task, fate, last=""):
+    task["fate"], task["last"] = fate, last
     for measure in MEASURES:
         key = (measure, fate)
         totals[key] = totals.get(key, 0) + task[measure]
 
 
-queue = []
+queue, tasks = [], []
 served = {}
-events = begun = replaced = 0
-for row in csv.DictReader(open(sys.argv[1], newline="")):
+words = {}
+events = begun = replaced = committed = 0
+for at, row in enumerate(csv.DictReader(open(sys.argv[1], newline=""))):
     events += 1
     kind = row["kind"]
+    word = words.setdefault(int(row["addr"]), [0] * 6) if row["addr"] else [0] * 6
+    word[0] += row["reply"] == "loaded"
+    word[1] += row["reply"] == "stored"
+    word[2] += row["served"] == "version"
+    word[3] += row["cause"] == "violation"
     if row["served"]:
         served[row["served"]] = served.get(row["served"], 0) + 1
     if kind == "assign":
         begun += 1
-        queue.append({"unit": row["unit"], "tasks": 1, "turns": 0, "loads": 0, "stores": 0})
+        task = {"unit": row["unit"], "tasks": 1, "turns": 0, "loads": 0, "stores": 0}
+        task |= {"number": committed + len(queue), "entry": row["word"], "first": at}
+        queue.append(task)
+        tasks.append(task)
     elif kind == "submit":
         task = next(t for t in queue if t["unit"] == row["unit"])
         task["turns"] += int(row["local"]) + int(row["ask"])
@@ -36,9 +46,13 @@ for row in csv.DictReader(open(sys.argv[1], newline="")):
     elif kind == "replace":
         replaced += 1
     elif kind == "commit":
-        settle(queue.pop(0), "committed")
+        settle(queue.pop(0), "committed", at)
+        committed += 1
     for _ in range(int(row["squashed"] or 0)):
-        settle(queue.pop(), row["cause"])
+        if row["cause"] == "violation":
+            word[4] += 1
+            word[5] += queue[-1]["turns"]
+        settle(queue.pop(), row["cause"], at)
 for task in queue:
     settle(task, "active")
 
@@ -47,6 +61,35 @@ def total(measure, *fates):
     return sum(totals.get((measure, fate), 0) for fate in fates)
 
 
+def by_task():
+    columns = ["number", "unit", "entry", "first", "last", "turns", "loads", "stores", "fate"]
+    print("task," + ",".join(columns[1:]))
+    for task in tasks:
+        print(",".join(str(task[column]) for column in columns))
+
+
+def by_unit(units):
+    print("unit,begun,committed,squashed,turns-committed,turns-squashed,loads,stores")
+    for unit in range(units):
+        own = [task for task in tasks if task["unit"] == str(unit)]
+        kept = [task for task in own if task["fate"] == "committed"]
+        lost = [task for task in own if task["fate"] not in ("committed", "active")]
+        counts = [len(own), len(kept), len(lost)]
+        counts += [sum(task[name] for task in part) for name, part in
+                   (("turns", kept), ("turns", lost), ("loads", own), ("stores", own))]
+        print(",".join(map(str, [unit, *counts])))
+
+
+def by_word():
+    print("word,loads,stores,versions,violations,squashed,turns-squashed")
+    for word in sorted(words):
+        print(",".join(map(str, [word, *words[word]])))
+
+
+table = sys.argv[2] if len(sys.argv) > 2 else None
+if table:
+    {"task": by_task, "unit": lambda: by_unit(int(sys.argv[3])), "word": by_word}[table]()
+    sys.exit()
 print(f"events,{events}")
 print(f"tasks-begun,{begun}")
 for fate in ["committed", "violation", "guess", "cancel", "active"]:

@@ -39,7 +39,7 @@ Names words (request.Run (source.File name) config schedule trace) = IsNamed (co
 Names words (request.Sequential from tasks) = IsNamed (codes "seq") words
 Names words (request.Script from config events) = IsNamed (codes "script") words
 Names words (request.Check from config trace) = IsNamed (codes "check") words
-Names words (request.Profile from config trace) = IsNamed (codes "profile") words
+Names words (request.Profile from config trace by) = IsNamed (codes "profile") words
 Names words (request.Assemble text image) = IsNamed (codes "assemble") words
 Names words (request.List from) = IsNamed (codes "list") words
 

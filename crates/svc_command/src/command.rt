@@ -11,6 +11,9 @@ const MAX_TASKS: i64 = 1_000_000;
 /// The orders of a schedule, by their names.
 const ORDERS: [&str; 4] = ["rotate", "oldest", "youngest", "random"];
 
+/// The tables of a profile, by their names.
+const TABLES: [&str; 3] = ["task", "unit", "word"];
+
 const ABOUT: &str =
     "Simulates processing units that run the tasks of one sequential program at once, over caches that
 keep speculative versions of its data.
@@ -118,7 +121,12 @@ const PROFILE: &str =
 It prints how many events and tasks there were, and how many tasks were committed, squashed for each cause,
 and are active still; the turns, loads and stores of committed, of squashed and of active tasks; how many
 reads each supplier served; and how many lines were replaced. Of a faulty trace it tells the first fault,
-as check does, and no count. Give the options that the trace was made with.";
+as check does, and no count. Give the options that the trace was made with.
+
+With --by it prints a table instead, with a row for each task that was begun, squashed ones too, for
+each unit, or for each word of data that was touched.
+
+Example: svcsim profile sum.svci sum.csv --by task";
 
 const ASSEMBLE: &str = "Assembles a text of RV32I instructions, and saves the image.
 
@@ -200,12 +208,21 @@ fn check<'a>(alloc: Global) -> Result<Command<'a>, AllocError> {
 
 // `profile`: what the speculation of a trace cost.
 fn profile<'a>(alloc: Global) -> Result<Command<'a>, AllocError> {
+    let by = Arg::new(alloc, "by")
+        .long("by")
+        .value_name("TABLE")
+        .action(ArgAction::Set)
+        .value_parser(TABLES.as_slice())
+        .help(
+            "Prints a table instead, with a row for each task that was begun, for each unit, or for each word that was touched",
+        );
     let command = Command::new(alloc, "profile")
         .about("Replays a trace, and counts what its speculation cost")
         .long_about(PROFILE)
         .after_help(STATUSES)
         .arg(image(alloc))?
-        .arg(file(alloc, "TRACE").help("The trace's file"))?;
+        .arg(file(alloc, "TRACE").help("The trace's file"))?
+        .arg(by)?;
     with_configuration(alloc, command)
 }
 

@@ -9,7 +9,7 @@ use clap::{ArgMatches, Error};
 use std::alloc::Global;
 use svc_base::Config;
 use svc_core::MAX_BURST_TURNS;
-use svc_program::{Fault, Order, Request, Schedule, Source};
+use svc_program::{Fault, Order, Request, Schedule, Source, Table};
 
 const SEED_ALONE: &str = "error: the argument '--seed <N>' is of '--schedule random' alone
 
@@ -124,6 +124,7 @@ fn asked<'a>(
             image: image(given)?,
             config: configuration(given)?,
             trace: given.get_str("TRACE").ok_or(Fault::File)?,
+            by: table(given)?,
         }),
         Some(("assemble", given)) if is_named(words, "assemble") => Ok(Request::Assemble {
             text: given.get_str("FILE").ok_or(Fault::File)?,
@@ -143,6 +144,18 @@ fn image<'a>(given: &ArgMatches<'a>) -> Result<Source<'a>, Fault>
 {
     let name = given.get_str("IMAGE").ok_or(Fault::File)?;
     Ok(Source::File(name))
+}
+
+// The table of a profile that the options name, if any.
+fn table(given: &ArgMatches<'_>) -> Result<Option<Table>, Fault> {
+    match given.get_str("by") {
+        None => Ok(None),
+        Some("task") => Ok(Some(Table::Tasks)),
+        Some("unit") => Ok(Some(Table::Units)),
+        Some("word") => Ok(Some(Table::Words)),
+        // The parser reads no other name.
+        Some(_) => Err(Fault::File),
+    }
 }
 
 // The schedule that the options give, if any.

@@ -34,6 +34,8 @@ fn attempt<R: Threads + Wait + Sync + AllocGlobal>(rt: &R, name: &str) -> Option
         "run" => program::run(rt),
         "schedule" => program::schedule(rt),
         "profile" => program::profile(rt),
+        "profile_by_task" => program::profile_by_task(rt),
+        "profile_by_unit" => program::profile_by_unit(rt),
         "assemble" => program::assemble(rt),
         "list" => program::list(rt),
         _ => return None,

@@ -5,14 +5,16 @@ ghost use Rattle.std.specs.List.{starts_with};
 
 use crate::attempt::{Attempt, Refused, ready};
 use crate::texts::{EVENTS, TRACE};
-use crate::wanted::{CHECK, LIST, PROFILE, RUN, SCHEDULE, SCRIPT, SEQ};
+use crate::wanted::{
+    CHECK, LIST, PROFILE, PROFILE_BY_TASK, PROFILE_BY_UNIT, RUN, SCHEDULE, SCRIPT, SEQ,
+};
 use std::alloc::{AllocError, Global};
 use std::sync::Wait;
 use std::thread::Threads;
 use svc_base::Config;
 use svc_command::execute;
 use svc_image::samples::P;
-use svc_program::{FileFault, Files, Order, Request, Schedule, Source, perform, tell};
+use svc_program::{FileFault, Files, Order, Request, Schedule, Source, Table, perform, tell};
 
 // The files that the words name. What is saved is as if it had gone to a disk.
 #[derive(Drop)]
@@ -135,14 +137,34 @@ pub fn schedule<R: Threads + Wait + Sync + AllocGlobal>(rt: &R) -> Attempt {
     asked(rt, request, SCHEDULE)
 }
 
-/// What the trace of ten events cost is told.
-pub fn profile<R: Threads + Wait + Sync + AllocGlobal>(rt: &R) -> Attempt {
+// What the trace of ten events cost is told, by this table or in all.
+fn cost<R: Threads + Wait + Sync + AllocGlobal>(
+    rt: &R,
+    by: Option<Table>,
+    wanted: &str,
+) -> Attempt {
     let request = Request::Profile {
         image: Source::File("p"),
         config: ready(Config::new(4, 16, 2, 10, 1))?,
         trace: "trace",
+        by,
     };
-    asked(rt, request, PROFILE)
+    asked(rt, request, wanted)
+}
+
+/// What the trace of ten events cost is told.
+pub fn profile<R: Threads + Wait + Sync + AllocGlobal>(rt: &R) -> Attempt {
+    cost(rt, None, PROFILE)
+}
+
+/// The same by task.
+pub fn profile_by_task<R: Threads + Wait + Sync + AllocGlobal>(rt: &R) -> Attempt {
+    cost(rt, Some(Table::Tasks), PROFILE_BY_TASK)
+}
+
+/// The same by unit.
+pub fn profile_by_unit<R: Threads + Wait + Sync + AllocGlobal>(rt: &R) -> Attempt {
+    cost(rt, Some(Table::Units), PROFILE_BY_UNIT)
 }
 
 /// A listing is assembled, and its image is saved.

@@ -102,6 +102,22 @@ served-memory,1
 replaced,0
 ";
 
+/// What the same cost, by task.
+pub const PROFILE_BY_TASK: &str = "task,unit,entry,first,last,turns,loads,stores,fate
+0,0,0,0,4,3,0,1,committed
+1,1,12,1,3,2,1,0,violation
+1,1,12,5,9,6,1,0,committed
+";
+
+/// What the same cost, by unit.
+pub const PROFILE_BY_UNIT: &str =
+    "unit,begun,committed,squashed,turns-committed,turns-squashed,loads,stores
+0,1,1,0,3,0,0,1
+1,2,1,1,6,2,2,0
+2,0,0,0,0,0,0,0
+3,0,0,0,0,0,0,0
+";
+
 /// By the listing of the sample of two tasks.
 pub const LIST: &str = ".svc_version 1
 .svc_limit 100

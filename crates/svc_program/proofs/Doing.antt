@@ -7,6 +7,7 @@ use Rattle.svc_history_laws.specs.declared.entry.Entry.{Entry}
 use Rattle.svc_history.specs.Recorded.{Recorded}
 use Rattle.svc_program.specs.declared.request.Schedule.{Schedule}
 use Rattle.svc_program.specs.declared.request.Source.{Source}
+use Rattle.svc_program.specs.declared.request.Table.{Table}
 use Rattle.svc_program.specs.declared.request.Request.TheVariants as request
 use Rattle.svc_program.specs.Costs.{TellsCost}
 use Rattle.svc_program.specs.Requests.{Does, IsOfSource, IsTraceIn, KeepsFiles, SavesTrace}
@@ -25,10 +26,10 @@ run_keeps_files from config schedule None held loaded saved kept unsaved = unsav
 run_keeps_files from config schedule (Some name) held loaded saved kept unsaved = tt
 
 -- the trace is read from the files as the loading of the image left them
-pub profile_done : {E : Type 0} (r : Result ℕ E) (from : Source) (config : Config) (trace : Bor (List ℕ))
+pub profile_done : {E : Type 0} (r : Result ℕ E) (from : Source) (config : Config) (trace : Bor (List ℕ)) (by : Option Table)
     (img : Image) (es : List Entry) (held loaded saved : List ℕ → Option (List ℕ)) (old new : Option (List ℕ))
     → loaded ≡ held → IsOfSource held from img → IsTraceIn loaded trace.now es
-    → IfOk r (TellsCost img config es old new) → IfOk r (Does (request.Profile from config trace) held saved old new)
-profile_done (Ok exit) from config trace img es held loaded saved old new kept image is_trace told =
+    → IfOk r (TellsCost by img config es old new) → IfOk r (Does (request.Profile from config trace by) held saved old new)
+profile_done (Ok exit) from config trace by img es held loaded saved old new kept image is_trace told =
     let read : IsTraceIn held trace.now es = rw (← kept) is_trace in (img, image, es, read, told)
-profile_done (Err e) from config trace img es held loaded saved old new kept image is_trace told = tt
+profile_done (Err e) from config trace by img es held loaded saved old new kept image is_trace told = tt

@@ -61,9 +61,9 @@ Does (request.Script from config events) held saved old new exit =
     (img : Image) × IsOfSource held from img × (steps : List Step) × IsScriptIn held events.now steps × PlaysScript img config steps old new exit
 Does (request.Check from config trace) held saved old new exit =
     (img : Image) × IsOfSource held from img × (es : List Entry) × IsTraceIn held trace.now es × FindsSound img config es old new exit
-Does (request.Profile from config trace) held saved old new exit =
+Does (request.Profile from config trace by) held saved old new exit =
     (img : Image) × IsOfSource held from img
-    × (es : List Entry) × IsTraceIn held trace.now es × TellsCost img config es old new exit
+    × (es : List Entry) × IsTraceIn held trace.now es × TellsCost by img config es old new exit
 Does (request.Assemble text image) held saved old new exit = Assembles (held text.now) (saved image.now) exit × (new ≡ old)
 Does (request.List from) held saved old new exit = (img : Image) × IsOfSource held from img × Lists img old new exit
 
@@ -75,7 +75,7 @@ HasImage (request.Run from config schedule trace) held = (img : Image) × IsOfSo
 HasImage (request.Sequential from k) held = (img : Image) × IsOfSource held from img
 HasImage (request.Script from config events) held = (img : Image) × IsOfSource held from img
 HasImage (request.Check from config trace) held = (img : Image) × IsOfSource held from img
-HasImage (request.Profile from config trace) held = (img : Image) × IsOfSource held from img
+HasImage (request.Profile from config trace by) held = (img : Image) × IsOfSource held from img
 HasImage (request.Assemble text image) held = ⊤
 HasImage (request.List from) held = (img : Image) × IsOfSource held from img
 

@@ -101,10 +101,11 @@ fn dispatch<R: Threads + Wait + Sync, F: Files, O: Write>(
             image,
             config,
             trace,
+            by,
         } => {
             let image = load_image(alloc, image, files)?;
             let entries = load_trace(alloc, trace, files)?;
-            profile(alloc, &image, config, &entries, out)
+            profile(alloc, &image, config, &entries, by, out)
         }
         Request::Assemble { text, image } => assemble_file(alloc, text, image, files),
         Request::List { image } => {

@@ -18,4 +18,4 @@ mod summary;
 pub use dispatch::perform;
 pub use faults::{Fault, tell};
 pub use files::{FileFault, Files};
-pub use request::{Order, Request, Schedule, Source, VERSION};
+pub use request::{Order, Request, Schedule, Source, Table, VERSION};

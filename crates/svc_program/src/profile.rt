@@ -1,17 +1,22 @@
 //! `profile`: what the speculation of a trace cost.
 
-ghost use Rattle.std.specs.Prelude.{◌≡◌, ◌⊎◌, IfOk, IfErr};
-ghost use Rattle.svc_program.specs.Costs.{TellsCost};
+ghost use Rattle.std.specs.Prelude.{◌≡◌, ◌⊎◌, ◌≤◌, length, IfOk, IfErr, OnOk};
+ghost use Rattle.std.specs.Io.KnownBytes.{Appends};
+ghost use Rattle.svc_base.specs.declared.config.TheConstants.{MAX_EVENTS};
+ghost use Rattle.svc_report.specs.Faults.{IsWriteFault};
+ghost use Rattle.svc_program.specs.Costs.{TellsCost, cost_text};
 ghost use Rattle.svc_program.specs.Faults.{IsReportFault, TellsOfTrace};
 
 use crate::faults::Fault;
+use crate::request::Table;
 use std::alloc::Global;
 use std::io::Write;
 use svc_base::Config;
 use svc_history::{Entry, check_trace};
 use svc_history_laws::history_leads_on;
 use svc_image::Image;
-use svc_view::write_profile;
+use svc_report::ReportError;
+use svc_view::{write_profile, write_tasks, write_units, write_words};
 
 /// Replays the entries, and prints what their speculation cost. It answers the exit status.
 pub fn profile<O: Write>(
@@ -19,9 +24,10 @@ pub fn profile<O: Write>(
     image: &Image,
     config: Config,
     entries: &[Entry],
+    by: Option<Table>,
     out: &mut O,
 ) -> Result<u8, Fault>
-    ensures profile { IfOk result (TellsCost image.now config entries.now (O.contents out.old) (O.contents out.new)) }
+    ensures profile { IfOk result (TellsCost by image.now config entries.now (O.contents out.old) (O.contents out.new)) }
     ensures fault { IfErr result (λ fault.
         IsReportFault fault ⊎ (TellsOfTrace image.now config entries.now fault × (out.new ≡ out.old))) }
 {
@@ -29,7 +35,27 @@ pub fn profile<O: Write>(
     // a legal history has no more entries than the configuration allows
     let _start = image.start();
     history_leads_on();
-    write_profile(alloc, entries, out)?;
+    write_cost(alloc, config, entries, by, out)?;
     out.flush()?;
     Ok(0)
+}
+
+// Writes the profile of the entries, or the table that is asked for.
+fn write_cost<O: Write>(
+    alloc: Global,
+    config: Config,
+    entries: &[Entry],
+    by: Option<Table>,
+    out: &mut O,
+) -> Result<(), ReportError>
+    requires few { length entries.now ≤ MAX_EVENTS }
+    ensures ok { OnOk result (Appends (O.contents out.old) (O.contents out.new) (cost_text by config entries.now)) }
+    ensures err { IfErr result IsWriteFault }
+{
+    match by {
+        None => write_profile(alloc, entries, out),
+        Some(Table::Tasks) => write_tasks(alloc, entries, out),
+        Some(Table::Units) => write_units(alloc, config.units, entries, out),
+        Some(Table::Words) => write_words(alloc, entries, out),
+    }
 }

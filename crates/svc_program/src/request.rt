@@ -55,6 +55,17 @@ impl Schedule {
     }
 }
 
+/// A table of what speculation cost.
+#[derive(Clone, Copy, Debug, PartialEq, Eq)]
+pub enum Table {
+    /// A row for each task that was begun.
+    Tasks,
+    /// A row for each unit of the configuration.
+    Units,
+    /// A row for each word that was touched.
+    Words,
+}
+
 /// What is asked of the program. Files are known by their names.
 #[derive(Drop)]
 pub enum Request<'a> {
@@ -87,11 +98,12 @@ pub enum Request<'a> {
         config: Config,
         trace: &'a str,
     },
-    /// To replay a trace so, and to tell what its speculation cost.
+    /// To replay a trace so, and to tell what its speculation cost, in all or by a table.
     Profile {
         image: Source<'a>,
         config: Config,
         trace: &'a str,
+        by: Option<Table>,
     },
     /// To assemble a text, and to save its image in this file.
     Assemble {

@@ -66,7 +66,7 @@ pub(crate) fn turns_in(entry: &Entry) -> u64
 }
 
 // One for a reply that loaded.
-fn loads_in(entry: &Entry) -> bool
+pub(crate) fn loads_in(entry: &Entry) -> bool
     ensures { result ≡ is_load entry.now.reply }
 {
     match entry.reply {
@@ -75,7 +75,7 @@ fn loads_in(entry: &Entry) -> bool
     }
 }
 
-fn stores_in(entry: &Entry) -> bool
+pub(crate) fn stores_in(entry: &Entry) -> bool
     ensures { result ≡ is_store entry.now.reply }
 {
     match entry.reply {

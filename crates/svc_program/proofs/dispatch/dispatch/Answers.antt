@@ -27,10 +27,10 @@ returns-in_ok-entries-in-Profile-clause-done g c =
     let old = g.O.Write.contents c.args.out.now in
     let new = g.O.Write.contents c.profile.new.out in
     rw (c.in-Profile.is)
-    (profile_done c.profile.result c.in-Profile.image config c.in-Profile.trace img entries
+    (profile_done c.profile.result c.in-Profile.image config c.in-Profile.trace c.in-Profile.by img entries
     (g.F.Files.held c.args.files.now) (g.F.Files.held c.load_image-in-Profile.new.files)
     (g.F.Files.held c.load_trace-in-Profile.new.files) old new
     c.load_image-in-Profile.ensures.kept c.in_ok-image-in-Profile.ensures.image
     c.in_ok-entries-in-Profile.ensures.trace
-    (subst (λ (es : List Entry). IfOk c.profile.result (TellsCost img config es old new)) c.deref-in-Profile.ensures.value
+    (subst (λ (es : List Entry). IfOk c.profile.result (TellsCost c.in-Profile.by img config es old new)) c.deref-in-Profile.ensures.value
     c.profile.ensures.profile))

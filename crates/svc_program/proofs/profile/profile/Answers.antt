@@ -6,8 +6,8 @@ use Rattle.svc_history_laws.specs.Histories.{LeadsOn}
 use Rattle.svc_history_laws.specs.Legal.{LegalHistory}
 use Rattle.svc_program.proofs.profile.profile.Goals as goal
 
-pub write_profile-requires : goal.write_profile-requires
-write_profile-requires g c =
+pub write_cost-requires : goal.write_cost-requires
+write_cost-requires g c =
     let r = c.in_ok-_recorder._recorder in
     let told = c.in_ok-_recorder.ensures in
     let img = c.args.image.now in
