@@ -1,10 +1,10 @@
 #!/usr/bin/env bash
-# Makes what the cases of the teaching programs want: their images and listings by GNU's assembler and disassembler, what a run
+# Makes what the cases of the example programs want: their images and listings by GNU's assembler and disassembler, what a run
 # by a schedule prints and saves by the twin in unproved Rust, and their lines in the lists of svc_cases.
 #
 #   bench/example_cases.sh
 #
-# Needs rustc, Python and Debian's binutils-riscv64-unknown-elf. Cases whose names begin with `example_` are this script's; all
+# Needs rustc, gcc, Python and Debian's binutils-riscv64-unknown-elf. Cases whose names begin with `example_` are this script's; all
 # others stay as they are.
 set -euo pipefail
 
@@ -15,16 +15,32 @@ trap 'rm -rf "$folder"' EXIT
 rustc -O --edition 2024 -o "$folder/schedule_twin" "$root/bench/schedule_twin.rs"
 : > "$folder/cases"
 
-# A program: name, units, sets, ways, schedule.
+# A program: name, units, sets, ways, schedule, and the status of its run where that isn't 0.
 example() {
-    local name=$1 units=$2 sets=$3 ways=$4 order=$5 at=examples/$1
+    local name=$1 units=$2 sets=$3 ways=$4 order=$5 status=${6:-0} at=examples/$1
     "$root/bench/example_image.py" "$data/$at.s" "$data/$at.svci" "$data/$at.listing.s"
     "$folder/schedule_twin" "$data/$at.svci" "$units" "$sets" "$ways" 100000 1000000 "$order" 0 63 "$data/$at.csv" > "$data/$at.txt"
     cat >> "$folder/cases" <<END
 example_${name}_is_assembled,0,,,made.svci=$at.svci,assemble $at.s made.svci
 example_${name}_is_listed,0,$at.listing.s,,,list $at.svci
 example_${name}_is_assembled_again,0,,,made.svci=$at.svci,assemble $at.listing.s made.svci
-example_${name}_is_run,0,$at.txt,,trace.csv=$at.csv,run $at.svci --units $units --sets $sets --ways $ways --schedule $order --trace trace.csv
+example_${name}_is_run,$status,$at.txt,,trace.csv=$at.csv,run $at.svci --units $units --sets $sets --ways $ways --schedule $order --trace trace.csv
+END
+}
+
+# The program from C, whose text examples/c/build.sh makes: what it prints on the host, and by a schedule its summary alone, as its
+# trace is long.
+from_c() {
+    local at=examples/from_c
+    "$root/bench/example_image.py" "$data/$at.s" "$data/$at.svci" "$data/$at.listing.s"
+    "$folder/schedule_twin" "$data/$at.svci" 4 16 2 100000 1000000 rotate 0 63 - > "$data/$at.txt"
+    gcc -O2 -DHOST -o "$folder/host" "$root/examples/c/tasks.c"
+    "$folder/host" > "$data/$at.host.txt"
+    cat >> "$folder/cases" <<END
+example_from_c_is_listed,0,$at.listing.s,,,list $at.svci
+example_from_c_is_assembled_again,0,,,made.svci=$at.svci,assemble $at.listing.s made.svci
+example_from_c_is_as_on_the_host,0,$at.host.txt,,,seq $at.svci --tasks 100
+example_from_c_is_run,0,$at.txt,,,run $at.svci --units 4 --sets 16 --ways 2 --schedule rotate
 END
 }
 
@@ -32,6 +48,8 @@ example violation 2 16 2 youngest
 example handed_on 2 16 2 rotate
 example wrong_guess 2 16 2 rotate
 example full_set 2 1 1 rotate
+example lost_stack 2 16 2 rotate 2
+from_c
 
 for list in "$data/cases.csv" "$root/crates/svc_cases/stdout"; do
     grep -v '^example_' "$list" > "$folder/list"

@@ -4,8 +4,8 @@ assemble` and `list` are held against.
 
     bench/example_image.py TEXT IMAGE LISTING
 
-Knows images of version 1, and of this project's directives .svc_entry, .svc_limit and .svc_register. Needs Debian's
-binutils-riscv64-unknown-elf.
+Knows images of version 1, and of this project's directives .svc_entry, .svc_limit and .svc_register. Sections become four: text,
+read-only data, data, and zeros, of which the last three are the image's data. Needs Debian's binutils-riscv64-unknown-elf.
 """
 import re
 import struct
@@ -15,6 +15,12 @@ import tempfile
 
 ABI = "zero ra sp gp tp t0 t1 t2 s0 s1 a0 a1 a2 a3 a4 a5 a6 a7 s2 s3 s4 s5 s6 s7 s8 s9 s10 s11 t3 t4 t5 t6".split()
 TOOLS = "riscv64-unknown-elf-"
+SECTIONS = {".text": ".text", ".rodata": ".section .rodata", ".srodata": ".section .rodata", ".data": ".data", ".sdata": ".data", ".bss": ".bss", ".sbss": ".bss"}
+PLACES = """SECTIONS {
+    .text 0 : { *(.text) }
+    .data 0x100000 : { *(.rodata) . = ALIGN(4); *(.data) . = ALIGN(4); *(.bss) . = ALIGN(4); }
+}
+"""
 
 
 def tool(name, *words):
@@ -28,9 +34,15 @@ def listed(line):
     if name in ("beq", "bne", "blt", "bge", "bltu", "bgeu", "jal"):
         far = int(operands[-1], 16) - int(at.rstrip(":"), 16)
         operands[-1] = f". {'-' if far < 0 else '+'} {abs(far)}"
-    elif name in ("lui", "auipc"):
+    elif name in ("lui", "auipc", "slli", "srli", "srai"):
         operands[-1] = str(int(operands[-1], 0))
     return f"{name} {', '.join(operands)}".rstrip()
+
+
+def section(words):
+    """The line that begins the section which these words begin, or None where they begin none."""
+    name = words[1] if words[:1] == [".section"] else words[0] if words else ""
+    return SECTIONS.get("." + name.split(".")[1]) if name.startswith(".") else None
 
 
 def main(text, image, listing):
@@ -44,13 +56,17 @@ def main(text, image, listing):
             limit = int(words[1], 0)
         elif words[:1] == [".svc_register"]:
             registers[ABI.index(words[1])] = words[2]
+        elif section(words):
+            plain.append(section(words) + "\n")
         else:
             plain.append(line)
     with tempfile.TemporaryDirectory() as room:
         with open(f"{room}/a.s", "w") as it:
             it.writelines([".option norelax\n", *plain])
+        with open(f"{room}/places", "w") as it:
+            it.write(PLACES)
         tool("as", "-march=rv32i", "-mabi=ilp32", "-o", f"{room}/a.o", f"{room}/a.s")
-        tool("ld", "-m", "elf32lriscv", "-N", "-e", "0", "-Ttext=0", "-Tdata=0x100000", "-o", f"{room}/a", f"{room}/a.o")
+        tool("ld", "-m", "elf32lriscv", "-N", "-e", "0", "-T", f"{room}/places", "-o", f"{room}/a", f"{room}/a.o")
         symbols = {it[2]: int(it[0], 16) for it in map(str.split, tool("nm", f"{room}/a").splitlines()) if len(it) == 3}
         code = [listed(it) for it in tool("objdump", "-d", "-M", "numeric,no-aliases", f"{room}/a").splitlines() if re.match(r" +[0-9a-f]+:", it)]
         parts = []
