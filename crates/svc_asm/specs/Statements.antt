@@ -22,6 +22,7 @@ use Rattle.svc_asm.specs.Pseudo.{pseudo_at}
 use Rattle.svc_rv32i.specs.Meaning.{register, short}
 use Rattle.svc_asm.specs.Names.{operation_named, immediate_named, shift_named, comparison_named, load_named, store_named, form_named}
 use Rattle.svc_draft.specs.Layouts.{Layout}
+use Rattle.svc_asm.specs.Sections.{begins_data, section_named, is_passed}
 use Rattle.svc_asm.specs.Operands.{Read, register_at, first_register_at, number_at, value_at, short_at, branch_at, jump_at, upper_at, amount_at, address_at}
 
 unfoldable pub operation_at : Operation → List ℕ → Read Instr
@@ -166,6 +167,24 @@ setting_at d text = do
   n ← value_at d r.1
   Some (say.Register r.0 n.0, n.1)
 
+-- the rest of a line
+abbrev pub is_inside : ℕ → Bool
+is_inside c = not (c == 10)
+
+-- a section, whose name says whether it is text; flags and the like follow the name
+unfoldable pub section_at : List ℕ → Read Statement
+section_at text = do
+  s ← section_named (name_at text)
+  Some (s, past is_inside (past_name text))
+
+-- the directives that other assemblers have
+unfoldable pub other_at : List ℕ → List ℕ → Read Statement
+other_at name text =
+    if bytes_eq name (codes ".section") then section_at text else
+    if begins_data name then Some (say.Data, text) else
+    if is_passed name then Some (say.Nothing, past is_inside text) else
+    None
+
 unfoldable pub directive_at : Layout → List ℕ → List ℕ → Read Statement
 directive_at d name text =
     if bytes_eq name (codes ".word") then word_at d text else
@@ -177,7 +196,7 @@ directive_at d name text =
     if bytes_eq name (codes ".svc_start") then start_at d text else
     if bytes_eq name (codes ".svc_limit") then limit_at text else
     if bytes_eq name (codes ".svc_register") then setting_at d text else
-    None
+    other_at name text
 
 unfoldable pub as_statement : Layout → List ℕ → List ℕ → Read Statement
 as_statement d name text = do
@@ -191,9 +210,6 @@ named d (c ∷ name) text = if c == 46 then directive_at d (c ∷ name) text els
 
 unfoldable pub statement_at : Layout → List ℕ → Read Statement
 statement_at d text = named d (name_at text) (past_name text)
-
-abbrev pub is_inside : ℕ → Bool
-is_inside c = not (c == 10)
 
 -- what follows the end of a line, which a comment may stand before
 abbrev pub behind_end : List ℕ → Option (List ℕ)

@@ -8,6 +8,7 @@ mod line;
 mod names;
 mod operands;
 mod pseudo;
+mod sections;
 mod unread;
 
 pub use assembling::{AssembleError, assemble};

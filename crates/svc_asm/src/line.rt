@@ -4,12 +4,13 @@ ghost use Rattle.std.specs.Prelude.{◌≡◌};
 ghost use Rattle.svc_asm.specs.Characters.{past};
 ghost use Rattle.svc_draft.specs.Layouts.{layout_of};
 ghost use Rattle.svc_asm.specs.Reading.{Gives};
-ghost use Rattle.svc_asm.specs.Statements.{word_at, start_at, limit_at, known_version, version_at, limited_entry_at, entry_at, setting_at, directive_at, as_statement, statement_at, is_inside, end_at, ended_at, is_label, line_at};
+ghost use Rattle.svc_asm.specs.Statements.{word_at, start_at, limit_at, known_version, version_at, limited_entry_at, entry_at, setting_at, section_at, other_at, directive_at, as_statement, statement_at, is_inside, end_at, ended_at, is_label, line_at};
 
 use crate::characters::{skip_spaces, split_name};
 use crate::instruction::read_instruction;
 use crate::names::is_word;
 use crate::operands::{read_first_register, read_number, read_value};
+use crate::sections::{begins_data, is_passed, section_named};
 use crate::unread::{Unread, Wanted, stopped_at, stopped_at_name};
 use svc_draft::{Draft, Statement};
 use svc_image::Version;
@@ -87,6 +88,49 @@ fn read_setting<'a>(draft: &Draft, text: &'a [u8]) -> Result<(Statement, &'a [u8
     Ok((Statement::Register(register, value), rest))
 }
 
+#[tactic(auto, unfolding(crate::specs::Characters::past))]
+fn skip_inside(text: &[u8]) -> &[u8]
+    ensures { result.now ≡ past is_inside text.now }
+{
+    let mut rest = text;
+    while let [first, after @ ..] = rest {
+        if *first == b'\n' {
+            return rest;
+        }
+        rest = after;
+    }
+    rest
+}
+
+// A section's name, and what follows it on its line.
+#[tactic(auto, unfolding(crate::specs::Statements::section_at))]
+fn read_section(text: &[u8]) -> Result<(Statement, &[u8]), Unread>
+    ensures { Gives (λ x. (x.0, x.1.now)) result (section_at text.now) }
+{
+    let (name, rest) = split_name(text);
+    match section_named(name) {
+        Some(statement) => Ok((statement, skip_inside(rest))),
+        None => Err(stopped_at(text, Wanted::Section)),
+    }
+}
+
+// The directives that other assemblers have.
+#[tactic(auto, unfolding(crate::specs::Statements::other_at))]
+fn read_other<'a>(name: &[u8], text: &'a [u8]) -> Result<(Statement, &'a [u8]), Unread>
+    ensures { Gives (λ x. (x.0, x.1.now)) result (other_at name.now text.now) }
+{
+    if is_word(name, ".section") {
+        return read_section(text);
+    }
+    if begins_data(name) {
+        return Ok((Statement::Data, text));
+    }
+    if is_passed(name) {
+        return Ok((Statement::Nothing, skip_inside(text)));
+    }
+    Err(stopped_at_name(name, text, Wanted::Statement))
+}
+
 #[tactic(auto, unfolding(crate::specs::Statements::directive_at))]
 fn read_directive<'a>(
     draft: &Draft,
@@ -122,7 +166,7 @@ fn read_directive<'a>(
     if is_word(name, ".svc_register") {
         return read_setting(draft, text);
     }
-    Err(stopped_at_name(name, text, Wanted::Statement))
+    read_other(name, text)
 }
 
 #[tactic(auto, unfolding(crate::specs::Statements::as_statement))]
@@ -147,20 +191,6 @@ fn read_statement<'a>(draft: &Draft, text: &'a [u8]) -> Result<(Statement, &'a [
         [b'.', ..] => read_directive(draft, name, rest),
         _ => read_as_statement(draft, name, rest),
     }
-}
-
-#[tactic(auto, unfolding(crate::specs::Characters::past))]
-fn skip_inside(text: &[u8]) -> &[u8]
-    ensures { result.now ≡ past is_inside text.now }
-{
-    let mut rest = text;
-    while let [first, after @ ..] = rest {
-        if *first == b'\n' {
-            return rest;
-        }
-        rest = after;
-    }
-    rest
 }
 
 /// What follows the end of a line, which a comment may stand before.

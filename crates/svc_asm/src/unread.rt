@@ -48,6 +48,9 @@ pub enum Wanted {
     /// The name of an instruction or a directive.
     #[error("an instruction or a directive")]
     Statement,
+    /// The name of a section of text or of data.
+    #[error("a section of text or of data")]
+    Section,
     /// The number of a version of the image format.
     #[error("the version of the image, 1 or 2")]
     Version,

@@ -1,0 +1,3 @@
+.svc_entry
+.section .comment,"MS",@progbits,1
+ ecall
