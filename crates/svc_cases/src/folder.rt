@@ -1,6 +1,7 @@
 //! The files of a case: those of the folder, which are only read, and what the run saves, which stays in memory.
 
 use crate::images::image;
+use std::io::Cursor;
 use std::rt;
 use svc_program::{FileFault, Files};
 
@@ -30,8 +31,13 @@ impl<'a, R: AllocGlobal> Folder<'a, R> {
 }
 
 impl<R: rt::Files + AllocGlobal> Files for Folder<'_, R> {
-    fn load(&mut self, name: &str) -> Result<Vec<u8>, FileFault> {
-        image(self.rt, self.images, name).map_err(|_| FileFault)
+    type Reader = Cursor<Vec<u8>>;
+
+    fn open(&mut self, name: &str) -> Result<Cursor<Vec<u8>>, FileFault> {
+        match image(self.rt, self.images, name) {
+            Ok(bytes) => Ok(Cursor::new(bytes)),
+            Err(_) => Err(FileFault),
+        }
     }
 
     fn save(&mut self, name: &str, bytes: &[u8]) -> Result<(), FileFault> {
@@ -44,5 +50,9 @@ impl<R: rt::Files + AllocGlobal> Files for Folder<'_, R> {
             .map_err(|_| FileFault)?;
         self.saved.push(b'\n').map_err(|_| FileFault)?;
         self.saved.extend_from_slice(bytes).map_err(|_| FileFault)
+    }
+
+    fn is_same(&self, one: &str, other: &str) -> bool {
+        one == other
     }
 }

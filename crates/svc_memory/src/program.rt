@@ -18,24 +18,30 @@ use svc_program::{FileFault, Files, Order, Request, Schedule, Source, Table, per
 
 // The files that the words name. What is saved is as if it had gone to a disk.
 #[derive(Drop)]
-struct Samples {
-    alloc: Global,
-}
+struct Samples;
+
+// The image of two tasks.
+static IMAGE: [u8; 200] = P;
 
 impl Files for Samples {
-    fn load(&mut self, name: &str) -> Result<Vec<u8>, FileFault> {
-        let bytes = match name {
-            "p" => P.as_slice(),
-            "events" => EVENTS.as_bytes(),
-            "trace" => TRACE.as_bytes(),
-            "listing" => LIST.as_bytes(),
-            _ => return Err(FileFault),
-        };
-        Vec::from_slice(self.alloc, bytes).map_err(|_| FileFault)
+    type Reader = &'static [u8];
+
+    fn open(&mut self, name: &str) -> Result<&'static [u8], FileFault> {
+        match name {
+            "p" => Ok(IMAGE.as_slice()),
+            "events" => Ok(EVENTS.as_bytes()),
+            "trace" => Ok(TRACE.as_bytes()),
+            "listing" => Ok(LIST.as_bytes()),
+            _ => Err(FileFault),
+        }
     }
 
     fn save(&mut self, _name: &str, _bytes: &[u8]) -> Result<(), FileFault> {
         Ok(())
+    }
+
+    fn is_same(&self, one: &str, other: &str) -> bool {
+        one == other
     }
 }
 
@@ -68,14 +74,7 @@ pub fn seq<R: Threads + Wait + Sync + AllocGlobal>(rt: &R) -> Attempt {
     let words = ready(words(alloc))?;
     let mut out = Vec::new(alloc);
     let mut err = Vec::new(alloc);
-    let status = execute(
-        rt,
-        alloc,
-        &words,
-        &mut Samples { alloc },
-        &mut out,
-        &mut err,
-    );
+    let status = execute(rt, alloc, &words, &mut Samples, &mut out, &mut err);
     judged(status, &out, &err, SEQ)
 }
 
@@ -88,7 +87,7 @@ fn asked<R: Threads + Wait + Sync + AllocGlobal>(
     let alloc = rt.alloc();
     let mut out = Vec::new(alloc);
     let mut err = Vec::new(alloc);
-    let status = match perform(rt, alloc, request, &mut Samples { alloc }, &mut out) {
+    let status = match perform(rt, alloc, request, &mut Samples, &mut out) {
         Ok(status) => status,
         Err(fault) => tell(&fault, &mut err),
     };

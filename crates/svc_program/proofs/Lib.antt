@@ -1,4 +1,5 @@
 pub mod Doing
 pub mod Playing
+pub mod Reading
 pub mod Reported
 pub mod Scripted

@@ -3,6 +3,7 @@
 ghost use Rattle.std.specs.Prelude.{◌↔◌, IsTrue};
 ghost use Rattle.svc_program.specs.Names.{IsOverItself};
 
+use crate::files::Files;
 use crate::request::{Request, Source};
 
 impl Request<'_> {
@@ -17,6 +18,21 @@ impl Request<'_> {
                 ..
             } => image == trace,
             Request::Assemble { text, image } => text == image,
+            _ => false,
+        }
+    }
+
+    /// The file that would be written is one that is read, as far as the files tell of the names.
+    pub(crate) fn is_over_one_file<F: Files>(&self, files: &F) -> bool
+        ensures { IsOverItself self.now → IsTrue result }
+    {
+        match self {
+            Request::Run {
+                image: Source::File(image),
+                trace: Some(trace),
+                ..
+            } => files.is_same(image, trace),
+            Request::Assemble { text, image } => files.is_same(text, image),
             _ => false,
         }
     }

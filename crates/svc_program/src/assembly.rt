@@ -1,11 +1,12 @@
 //! `assemble` and `list`: a text to an image, and back.
 
-ghost use Rattle.std.specs.Prelude.{◌≡◌, ◌⊎◌, IfOk, IfErr};
+ghost use Rattle.std.specs.Prelude.{◌≡◌, ◌⊎◌, IfOk, IfErr, IfSome};
 ghost use Rattle.svc_program.specs.Assembly.{Assembles, Lists};
 ghost use Rattle.svc_program.specs.Faults.{IsReportFault};
 
 use crate::faults::Fault;
 use crate::files::Files;
+use crate::front::front_of;
 use std::alloc::Global;
 use std::io::Write;
 use svc_asm::{AssembleError, assemble};
@@ -24,7 +25,7 @@ pub fn assemble_file<F: Files>(
 ) -> Result<u8, Fault>
     ensures { IfOk result (Assembles (F.held files.old text.now) (F.held files.new image.now)) }
 {
-    let bytes = files.load(text)?;
+    let bytes = load_text(alloc, text, files)?;
     let made = match assemble(alloc, &bytes) {
         Ok(made) => made,
         Err(error) => return Err(assembly_fault(alloc, text, error)),
@@ -32,6 +33,22 @@ pub fn assemble_file<F: Files>(
     let file = made.write(alloc)?;
     files.save(image, &file)?;
     Ok(0)
+}
+
+// The bytes of the greatest text that is assembled.
+const GREATEST_TEXT: u32 = 16_777_216;
+
+// The text of a file, of which no more is read than the greatest text has and a byte.
+fn load_text<F: Files>(alloc: Global, name: &str, files: &mut F) -> Result<Vec<u8>, Fault>
+    ensures text { IfOk result (λ bytes. IfSome (F.held files.old name.now) (λ known. bytes.items ≡ known)) }
+    ensures kept { F.held files.new ≡ F.held files.old }
+{
+    let reader = files.open(name)?;
+    let bytes = front_of(alloc, reader, GREATEST_TEXT)?;
+    if bytes.len() > GREATEST_TEXT as usize {
+        return Err(Fault::File);
+    }
+    Ok(bytes)
 }
 
 // How a fault of a named text is told: by the text's name before it.

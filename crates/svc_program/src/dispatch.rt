@@ -42,7 +42,7 @@ pub fn perform<R: Threads + Wait + Sync, F: Files, O: Write>(
     // Nothing is read or written where that would lose a file.
     ensures apart { IsOverItself request.entry → (result ≡ Err Fault.File) × (F.held files.new ≡ F.held files.old) × (out.new ≡ out.old) }
 {
-    if request.is_over_itself() {
+    if request.is_over_itself() || request.is_over_one_file(files) {
         return Err(Fault::File);
     }
     dispatch(rt, alloc, request, files, out)

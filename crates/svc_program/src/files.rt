@@ -1,6 +1,8 @@
 //! The files that the program reads and writes.
 
-ghost use Rattle.std.specs.Prelude.{◌≡◌, ℕ, List, Option, None, IfOk, IfSome, OnOk};
+ghost use Rattle.std.specs.Prelude.{◌≡◌, ℕ, List, Option, None, Some, IfOk, IfSome, IsTrue, OnOk};
+
+use std::io::Read;
 
 /// A file could not be read or written.
 #[derive(Clone, Copy, Debug, PartialEq, Eq)]
@@ -11,12 +13,19 @@ pub trait Files {
     // The bytes of the file of a name, where they are known.
     ghost held: { Self → List ℕ → Option (List ℕ) } = { λ _ _. None };
 
-    /// The bytes of a file.
-    fn load(&mut self, name: &str) -> Result<Vec<u8>, FileFault>
-        ensures bytes { IfOk result (λ bytes. IfSome (held self.old name.now) (λ known. bytes.items ≡ known)) }
+    /// What gives the bytes of a file, from the first on.
+    type Reader: Read + Drop;
+
+    /// A reader of a file, which may have more bytes than there is memory for, or no end.
+    fn open(&mut self, name: &str) -> Result<Self::Reader, FileFault>
+        ensures bytes { IfOk result (λ reader. IfSome (held self.old name.now) (λ known. Self.Reader.remaining reader ≡ Some known)) }
         ensures kept { held self.new ≡ held self.old };
 
     /// Makes these bytes the whole of a file, which is made where there is none.
     fn save(&mut self, name: &str, bytes: &[u8]) -> Result<(), FileFault>
         ensures saved { OnOk result (IfSome (held self.new name.now) (λ known. known ≡ bytes.now)) };
+
+    /// Whether two names are of one file, as far as can be told. Equal names are.
+    fn is_same(&self, one: &str, other: &str) -> bool
+        ensures { one.now ≡ other.now → IsTrue result };
 }

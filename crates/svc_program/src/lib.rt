@@ -7,6 +7,7 @@ mod check;
 mod dispatch;
 mod faults;
 mod files;
+mod front;
 mod load;
 mod profile;
 mod request;

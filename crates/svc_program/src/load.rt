@@ -1,16 +1,23 @@
 //! The files of a request: its image, its script and its trace.
 
 ghost use Rattle.std.specs.Prelude.{◌≡◌, None, IfOk, IfErr, IfSome};
+ghost use Rattle.svc_image.specs.Format.{file_of};
 ghost use Rattle.svc_program.specs.Faults.{IsEarly};
 ghost use Rattle.svc_program.specs.Requests.{IsOfSource, IsScriptIn, IsTraceIn, SavesTrace};
 
 use crate::faults::Fault;
 use crate::files::Files;
+use crate::front::front_of;
 use crate::request::Source;
 use std::alloc::Global;
+use std::io::Read;
 use svc_history::Entry;
-use svc_image::{Image, samples};
+use svc_image::{Image, ImageError, samples};
 use svc_report::{ReportError, Step, read_script, read_trace, write_trace};
+
+// The bytes of the greatest image, which is one of version 2: the header with the registers, entries, as many limits, text
+// and data.
+const GREATEST_IMAGE: u32 = 148 + 4 * (1_024 + 1_024 + 65_536 + 65_536);
 
 /// The image of a source.
 pub fn load_image<F: Files>(
@@ -24,8 +31,22 @@ pub fn load_image<F: Files>(
 {
     let image = match source {
         Source::BuiltIn => Image::read(alloc, samples::P1.as_slice())?,
-        Source::File(name) => Image::read(alloc, &files.load(name)?)?,
+        Source::File(name) => read_image(alloc, files.open(name)?)?,
     };
+    Ok(image)
+}
+
+// The image that a reader gives, of which no more is read than the greatest image has and a byte. The first fault of these
+// bytes is that of the whole, since each check but the last looks at a place within an image.
+fn read_image<R: Read + Drop>(alloc: Global, reader: R) -> Result<Image, Fault>
+    ensures image { IfOk result (λ img. IfSome (R.remaining reader) (λ bytes. file_of img ≡ bytes)) }
+    ensures early { IfErr result IsEarly }
+{
+    let bytes = front_of(alloc, reader, GREATEST_IMAGE)?;
+    let image = Image::read(alloc, &bytes)?;
+    if bytes.len() > GREATEST_IMAGE as usize {
+        return Err(Fault::Image(ImageError::Trailing));
+    }
     Ok(image)
 }
 
@@ -34,8 +55,8 @@ pub fn load_script<F: Files>(alloc: Global, name: &str, files: &mut F) -> Result
     ensures script { IfOk result (λ steps. IsScriptIn (F.held files.old) name.now steps.items) }
     ensures kept { F.held files.new ≡ F.held files.old }
 {
-    let bytes = files.load(name)?;
-    match read_script(alloc, bytes.as_slice()) {
+    let reader = files.open(name)?;
+    match read_script(alloc, reader) {
         Ok(steps) => Ok(steps),
         Err(ReportError::Row { row, column }) => Err(Fault::BadScript { row, column }),
         Err(error) => Err(Fault::Report(error)),
@@ -47,8 +68,8 @@ pub fn load_trace<F: Files>(alloc: Global, name: &str, files: &mut F) -> Result<
     ensures trace { IfOk result (λ entries. IsTraceIn (F.held files.old) name.now entries.items) }
     ensures kept { F.held files.new ≡ F.held files.old }
 {
-    let bytes = files.load(name)?;
-    let entries = read_trace(alloc, bytes.as_slice())?;
+    let reader = files.open(name)?;
+    let entries = read_trace(alloc, reader)?;
     Ok(entries)
 }
 

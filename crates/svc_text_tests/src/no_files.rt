@@ -1,5 +1,6 @@
 // What stands for a disk without files.
 
+use std::io::Empty;
 use svc_program::{FileFault, Files};
 
 /// No file is there, and none may be saved.
@@ -7,11 +8,17 @@ use svc_program::{FileFault, Files};
 pub struct NoFiles;
 
 impl Files for NoFiles {
-    fn load(&mut self, _name: &str) -> Result<Vec<u8>, FileFault> {
+    type Reader = Empty;
+
+    fn open(&mut self, _name: &str) -> Result<Empty, FileFault> {
         Err(FileFault)
     }
 
     fn save(&mut self, _name: &str, _bytes: &[u8]) -> Result<(), FileFault> {
         Err(FileFault)
+    }
+
+    fn is_same(&self, one: &str, other: &str) -> bool {
+        one == other
     }
 }

@@ -2,7 +2,6 @@
 
 use crate::failing::FailingWriter;
 use crate::no_files::NoFiles;
-use std::alloc::Global;
 use std::io::{self, ErrorKind, Write};
 use std::sync::Wait;
 use std::thread::Threads;
@@ -88,22 +87,26 @@ fn output_that_fails_is_told(rt: HostRuntime) {
 
 // Two files: a script of three events, the last of which is refused, and a trace of no event.
 #[derive(Drop)]
-struct TwoFiles {
-    alloc: Global,
-}
+struct TwoFiles;
 
 impl Files for TwoFiles {
-    fn load(&mut self, name: &str) -> Result<Vec<u8>, FileFault> {
+    type Reader = &'static [u8];
+
+    fn open(&mut self, name: &str) -> Result<&'static [u8], FileFault> {
         let text = match name {
             "events" => "kind,unit,arg\nassign,0,0\nsubmit,0,63\ncommit,0,\n",
             "trace" => "kind,unit,arg,local,ask,reply,addr,word,served,from,cause,first,squashed\n",
             _ => return Err(FileFault),
         };
-        Vec::from_slice(self.alloc, text.as_bytes()).map_err(|_| FileFault)
+        Ok(text.as_bytes())
     }
 
     fn save(&mut self, _name: &str, _bytes: &[u8]) -> Result<(), FileFault> {
         Err(FileFault)
+    }
+
+    fn is_same(&self, one: &str, other: &str) -> bool {
+        one == other
     }
 }
 
@@ -142,7 +145,7 @@ fn print<R: Threads + Wait + Sync + AllocGlobal, O: Write>(
 ) -> Option<Result<u8, Fault>> {
     let config = Config::new(1, 16, 2, 10, 1).ok()?;
     let request = request_of(kind, config);
-    let mut files = TwoFiles { alloc: rt.alloc() };
+    let mut files = TwoFiles;
     Some(perform(rt, rt.alloc(), request, &mut files, out))
 }
 

@@ -3,6 +3,7 @@
 ghost use Rattle.std.specs.Prelude.{◌≡◌, IfErr};
 ghost use Rattle.svc_program.specs.declared.faults.Fault.TheVariants.{File};
 
+use std::os::unix::fs::MetadataExt;
 use std::rt::{self, Env};
 use std::{env, fs};
 use svc_program::{Fault, FileFault, Files};
@@ -14,12 +15,25 @@ pub struct Disk<'a, R> {
 }
 
 impl<R: rt::Files + AllocGlobal> Files for Disk<'_, R> {
-    fn load(&mut self, name: &str) -> Result<Vec<u8>, FileFault> {
-        fs::read(self.rt, name).map_err(|_| FileFault)
+    type Reader = R::File;
+
+    fn open(&mut self, name: &str) -> Result<R::File, FileFault> {
+        fs::open(self.rt, name).map_err(|_| FileFault)
     }
 
     fn save(&mut self, name: &str, bytes: &[u8]) -> Result<(), FileFault> {
         fs::write(self.rt, name, bytes).map_err(|_| FileFault)
+    }
+
+    // Two names lead to one file where the disk's number and the file's number on it are the same.
+    fn is_same(&self, one: &str, other: &str) -> bool {
+        if one == other {
+            return true;
+        }
+        match (fs::metadata(self.rt, one), fs::metadata(self.rt, other)) {
+            (Ok(one), Ok(other)) => one.dev() == other.dev() && one.ino() == other.ino(),
+            _ => false,
+        }
     }
 }
 

@@ -3,6 +3,7 @@
 use crate::disk::{Disk, words_of};
 use std::env::FillError;
 use std::fs;
+use std::io::Read;
 use std::rt::Env;
 use std::test::Fail;
 use svc_program::{Fault, Files};
@@ -10,14 +11,20 @@ use svc_program::{Fault, Files};
 const NAME: &str = "saved-by-a-test.csv";
 
 #[test]
-fn a_saved_file_is_loaded(rt: HostRuntime) -> Result<(), Fail> {
+fn a_saved_file_is_read(rt: HostRuntime) -> Result<(), Fail> {
     let mut disk = Disk { rt: &rt };
-    assert!(rt; disk.load(NAME).is_err());
+    assert!(rt; disk.open(NAME).is_err());
     assert!(rt; disk.save(NAME, b"kind,unit\n").is_ok());
-    let Ok(bytes) = disk.load(NAME) else {
-        return Err(Fail::from("not loaded"));
+    let Ok(mut file) = disk.open(NAME) else {
+        return Err(Fail::from("not opened"));
     };
+    let mut bytes = Vec::new(rt.alloc());
+    file.read_to_end(&mut bytes)?;
     assert_eq!(rt; bytes.as_slice(), b"kind,unit\n".as_slice());
+    assert!(rt; disk.is_same(NAME, NAME));
+    assert!(rt; disk.is_same(NAME, "./saved-by-a-test.csv"));
+    assert!(rt; !disk.is_same(NAME, "."));
+    assert!(rt; !disk.is_same(NAME, "no-such-file"));
     fs::remove_file(&rt, NAME)?;
     assert!(rt; disk.save("no-such-folder/file", b"").is_err());
     Ok(())
