@@ -36,6 +36,7 @@ fn attempt<R: Threads + Wait + Sync + AllocGlobal>(rt: &R, name: &str) -> Option
         "profile" => program::profile(rt),
         "profile_by_task" => program::profile_by_task(rt),
         "profile_by_unit" => program::profile_by_unit(rt),
+        "profile_by_word" => program::profile_by_word(rt),
         "assemble" => program::assemble(rt),
         "list" => program::list(rt),
         _ => return None,

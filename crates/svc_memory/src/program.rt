@@ -6,7 +6,8 @@ ghost use Rattle.std.specs.List.{starts_with};
 use crate::attempt::{Attempt, Refused, ready};
 use crate::texts::{EVENTS, TRACE};
 use crate::wanted::{
-    CHECK, LIST, PROFILE, PROFILE_BY_TASK, PROFILE_BY_UNIT, RUN, SCHEDULE, SCRIPT, SEQ,
+    CHECK, LIST, PROFILE, PROFILE_BY_TASK, PROFILE_BY_UNIT, PROFILE_BY_WORD, RUN, SCHEDULE, SCRIPT,
+    SEQ,
 };
 use std::alloc::{AllocError, Global};
 use std::sync::Wait;
@@ -164,6 +165,11 @@ pub fn profile_by_task<R: Threads + Wait + Sync + AllocGlobal>(rt: &R) -> Attemp
 /// The same by unit.
 pub fn profile_by_unit<R: Threads + Wait + Sync + AllocGlobal>(rt: &R) -> Attempt {
     cost(rt, Some(Table::Units), PROFILE_BY_UNIT)
+}
+
+/// The same by word.
+pub fn profile_by_word<R: Threads + Wait + Sync + AllocGlobal>(rt: &R) -> Attempt {
+    cost(rt, Some(Table::Words), PROFILE_BY_WORD)
 }
 
 /// A listing is assembled, and its image is saved.

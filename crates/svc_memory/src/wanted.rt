@@ -118,6 +118,11 @@ pub const PROFILE_BY_UNIT: &str =
 3,0,0,0,0,0,0,0
 ";
 
+/// What the same cost, by word.
+pub const PROFILE_BY_WORD: &str = "word,loads,stores,versions,violations,squashed,turns-squashed
+0,2,1,0,1,1,2
+";
+
 /// By the listing of the sample of two tasks.
 pub const LIST: &str = ".svc_version 1
 .svc_limit 100
