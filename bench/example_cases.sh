@@ -37,6 +37,7 @@ from_c() {
     gcc -O2 -DHOST -o "$folder/host" "$root/examples/c/tasks.c"
     "$folder/host" > "$data/$at.host.txt"
     cat >> "$folder/cases" <<END
+example_from_c_is_assembled,0,,,made.svci=$at.svci,assemble $at.s made.svci
 example_from_c_is_listed,0,$at.listing.s,,,list $at.svci
 example_from_c_is_assembled_again,0,,,made.svci=$at.svci,assemble $at.listing.s made.svci
 example_from_c_is_as_on_the_host,0,$at.host.txt,,,seq $at.svci --tasks 100

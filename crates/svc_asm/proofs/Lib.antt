@@ -1,3 +1,1 @@
-pub mod Same
-pub mod Past
 pub mod Program

@@ -2,13 +2,13 @@
 use Rattle.std.proofs.Common.{◌≡◌, ℕ, ◌<◌, true, false, List, [], ◌∷◌, length, Option, Some, None, ap, sym, ◌∙◌, subst, arith}
 use Rattle.svc_image.specs.Image.{Image}
 use Rattle.svc_draft.specs.declared.statement.Statement.{Statement}
-use Rattle.svc_draft.specs.Layouts.{Layout, no_names, after, empty, IsMadeOf}
-use Rattle.svc_asm.specs.Characters.{name_at}
-use Rattle.svc_asm.specs.Statements.{line_at}
+use Rattle.svc_draft.specs.Layouts.{Layout, after, first_pass, second_pass, IsMadeOf}
+use Rattle.svc_operands.specs.Characters.{name_at}
+use Rattle.svc_asm.specs.DataLines.{next_at}
 use Rattle.svc_asm.specs.Programs.{Takes, Makes, IsLaid, IsProgramOf}
 
 -- what is read and laid is one
-same_read : (d : Layout) (text : List ℕ) (s t : Statement) (rest tail : List ℕ) → line_at d text ≡ Some (s, rest) → line_at d text ≡ Some (t, tail) → (s ≡ t) × (rest ≡ tail)
+same_read : (d : Layout) (text : List ℕ) (s t : Statement) (rest tail : List ℕ) → next_at d text ≡ Some (s, rest) → next_at d text ≡ Some (t, tail) → (s ≡ t) × (rest ≡ tail)
 same_read d text s t rest tail h k =
     let both : Some (s, rest) ≡ Some (t, tail) = sym h ∙ k in
     let said : Option (Statement × List ℕ) → Statement = λ o. elim o [ None ↦ s | Some x ↦ x.0 ] in
@@ -44,12 +44,12 @@ one_made (s ∷ ss) (t ∷ ts) text d made other h k =
 -- a text has one layout
 pub one_laid : (text : List ℕ) (a b : Layout) → IsLaid text a → IsLaid text b → a ≡ b
 one_laid text a b h k =
-    let same : h.first ≡ k.first = one_made h.first_lines k.first_lines text (empty no_names false) h.first k.first h.finds k.finds in
-    let makes : Makes h.lines text (empty k.first.names true) a = subst (λ (d : Layout). Makes h.lines text (empty d.names true) a) same h.makes in
-    one_made h.lines k.lines text (empty k.first.names true) a b makes k.makes
+    let same : h.first ≡ k.first = one_made h.first_lines k.first_lines text first_pass h.first k.first h.finds k.finds in
+    let makes : Makes h.lines text (second_pass k.first) a = subst (λ (d : Layout). Makes h.lines text (second_pass d) a) same h.makes in
+    one_made h.lines k.lines text (second_pass k.first) a b makes k.makes
 
 -- two passes that go through lay the text
-pub laid_by : (text : List ℕ) (ss ts : List Statement) (a b c d : Layout) → a ≡ empty no_names false → Makes ss text a b → c ≡ empty b.names true → Makes ts text c d → IsLaid text d
+pub laid_by : (text : List ℕ) (ss ts : List Statement) (a b c d : Layout) → a ≡ first_pass → Makes ss text a b → c ≡ second_pass b → Makes ts text c d → IsLaid text d
 laid_by text ss ts a b c d e finds f makes = record {
   first_lines = ss;
   first = b;
@@ -59,13 +59,13 @@ laid_by text ss ts a b c d e finds f makes = record {
 }
 
 -- a first pass that doesn't go through, and a second one
-pub not_found : (text : List ℕ) (a : Layout) → a ≡ empty no_names false → ((ss : List Statement) (made : Layout) → Makes ss text a made → ⊥) → (made : Layout) → IsLaid text made → ⊥
+pub not_found : (text : List ℕ) (a : Layout) → a ≡ first_pass → ((ss : List Statement) (made : Layout) → Makes ss text a made → ⊥) → (made : Layout) → IsLaid text made → ⊥
 not_found text a e none made laid = none laid.first_lines laid.first (subst (λ (x : Layout). Makes laid.first_lines text x laid.first) (sym e) laid.finds)
 
-pub not_laid : (text : List ℕ) (ss : List Statement) (a b c : Layout) → a ≡ empty no_names false → Makes ss text a b → c ≡ empty b.names true → ((ts : List Statement) (made : Layout) → Makes ts text c made → ⊥) → (made : Layout) → IsLaid text made → ⊥
+pub not_laid : (text : List ℕ) (ss : List Statement) (a b c : Layout) → a ≡ first_pass → Makes ss text a b → c ≡ second_pass b → ((ts : List Statement) (made : Layout) → Makes ts text c made → ⊥) → (made : Layout) → IsLaid text made → ⊥
 not_laid text ss a b c e finds f none made laid =
-    let same : laid.first ≡ b = one_made laid.first_lines ss text (empty no_names false) laid.first b laid.finds (subst (λ (x : Layout). Makes ss text x b) e finds) in
-    let names : empty laid.first.names true ≡ empty b.names true = ap (λ (x : Layout). empty x.names true) same in
+    let same : laid.first ≡ b = one_made laid.first_lines ss text first_pass laid.first b laid.finds (subst (λ (x : Layout). Makes ss text x b) e finds) in
+    let names : second_pass laid.first ≡ second_pass b = ap (λ (x : Layout). second_pass x) same in
     none laid.lines made (subst (λ (x : Layout). Makes laid.lines text x made) (names ∙ sym f) laid.makes)
 
 -- the layout of a text makes the images that it is a program of

@@ -1,8 +1,5 @@
-pub mod Characters
-pub mod Names
-pub mod Reading
-pub mod Operands
-pub mod Pseudo
 pub mod Sections
+pub mod Blanks
 pub mod Statements
+pub mod DataLines
 pub mod Programs

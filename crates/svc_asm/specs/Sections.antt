@@ -2,33 +2,30 @@
 use Rattle.std.specs.Prelude.{ℕ, nat_eq, Bool, true, false, List, Option, Some, None, if◌then◌else◌, codes}
 use Rattle.std.specs.List.{starts_with}
 use Rattle.std.specs.Str.{bytes_eq}
+use Rattle.svc_draft.specs.declared.section.Section.TheVariants as section
 use Rattle.svc_draft.specs.declared.statement.Statement.{Statement}
 use Rattle.svc_draft.specs.declared.statement.Statement.TheVariants as say
 
--- a directive that begins a section of data
-unfoldable pub begins_data : List ℕ → Bool
+-- a directive that is the name of a section of data
+unfoldable pub begins_data : List ℕ → Option Statement
 begins_data name =
-    if bytes_eq name (codes ".rodata") then true else
-    if bytes_eq name (codes ".bss") then true else
-    if bytes_eq name (codes ".sdata") then true else
-    if bytes_eq name (codes ".sbss") then true else
-    bytes_eq name (codes ".srodata")
+    if bytes_eq name (codes ".rodata") then Some (say.Section section.Rodata) else
+    if bytes_eq name (codes ".srodata") then Some (say.Section section.Rodata) else
+    if bytes_eq name (codes ".sdata") then Some (say.Section section.Data) else
+    if bytes_eq name (codes ".bss") then Some (say.Section section.Bss) else
+    if bytes_eq name (codes ".sbss") then Some (say.Section section.Bss) else
+    None
 
--- a section of data, by how its name begins
-unfoldable pub is_data : List ℕ → Bool
-is_data name =
-    if starts_with nat_eq name (codes ".data") then true else
-    if starts_with nat_eq name (codes ".rodata") then true else
-    if starts_with nat_eq name (codes ".bss") then true else
-    if starts_with nat_eq name (codes ".sdata") then true else
-    if starts_with nat_eq name (codes ".sbss") then true else
-    starts_with nat_eq name (codes ".srodata")
-
--- what a section's name says
+-- a section, by how its name begins
 unfoldable pub section_named : List ℕ → Option Statement
 section_named name =
     if starts_with nat_eq name (codes ".text") then Some say.Text else
-    if is_data name then Some say.Data else
+    if starts_with nat_eq name (codes ".rodata") then Some (say.Section section.Rodata) else
+    if starts_with nat_eq name (codes ".srodata") then Some (say.Section section.Rodata) else
+    if starts_with nat_eq name (codes ".data") then Some (say.Section section.Data) else
+    if starts_with nat_eq name (codes ".sdata") then Some (say.Section section.Data) else
+    if starts_with nat_eq name (codes ".bss") then Some (say.Section section.Bss) else
+    if starts_with nat_eq name (codes ".sbss") then Some (say.Section section.Bss) else
     None
 
 -- a directive that says nothing of an image: it is passed over, with the rest of its line

@@ -1,125 +1,19 @@
--- What a line says: instructions and directives, read from their text.
+-- What a line says: directives and instructions, read from their text.
 use Rattle.std.specs.Prelude.{ℕ, ◌+◌, ◌*◌, ◌-◌, ◌^◌, Bool, true, false, not, ◌&&◌, ◌==◌, nat_le, nat_lt, List, [], ◌∷◌, drop, Option, Some, None, if◌then◌else◌, codes, option_map}
 use Rattle.std.specs.Str.{bytes_eq}
-use Rattle.svc_rv32i.specs.declared.instr.Register.{Register}
-use Rattle.svc_rv32i.specs.declared.instr.Operation.{Operation}
-use Rattle.svc_rv32i.specs.declared.instr.ImmediateOperation.{ImmediateOperation}
-use Rattle.svc_rv32i.specs.declared.instr.ImmediateShift.{ImmediateShift}
-use Rattle.svc_rv32i.specs.declared.instr.Comparison.{Comparison}
-use Rattle.svc_rv32i.specs.declared.instr.LoadKind.{LoadKind}
-use Rattle.svc_rv32i.specs.declared.instr.StoreKind.{StoreKind}
-use Rattle.svc_rv32i.specs.declared.instr.Instr.{Instr}
-use Rattle.svc_rv32i.specs.declared.instr.Instr.TheVariants as i
 use Rattle.svc_image.specs.declared.version.Version.{Version}
 use Rattle.svc_image.specs.declared.version.Version.TheVariants as version
-use Rattle.svc_asm.specs.declared.names.Form.{Form}
-use Rattle.svc_asm.specs.declared.names.Form.TheVariants as form
 use Rattle.svc_draft.specs.declared.statement.Statement.{Statement}
 use Rattle.svc_draft.specs.declared.statement.Statement.TheVariants as say
 use Rattle.svc_draft.specs.Options.{◌>>=◌}
-use Rattle.svc_asm.specs.Characters.{is_from_to, is_space, past, found, name_at, past_name, behind}
-use Rattle.svc_asm.specs.Pseudo.{pseudo_at}
-use Rattle.svc_rv32i.specs.Meaning.{register, short}
-use Rattle.svc_asm.specs.Names.{operation_named, immediate_named, shift_named, comparison_named, load_named, store_named, form_named}
+use Rattle.svc_operands.specs.Characters.{is_from_to, is_space, past, found, name_at, past_name, behind}
+use Rattle.svc_instructions.specs.Instructions.{instruction_at}
 use Rattle.svc_draft.specs.Layouts.{Layout}
 use Rattle.svc_asm.specs.Sections.{begins_data, section_named, is_passed}
-use Rattle.svc_asm.specs.Operands.{Read, register_at, first_register_at, number_at, value_at, short_at, branch_at, jump_at, upper_at, amount_at, address_at}
-
-unfoldable pub operation_at : Operation → List ℕ → Read Instr
-operation_at op text = do
-  rd ← first_register_at text
-  rs1 ← first_register_at rd.1
-  rs2 ← register_at rs1.1
-  Some (i.Op op rd.0 rs1.0 rs2.0, rs2.1)
-
-unfoldable pub immediate_at : ImmediateOperation → List ℕ → Read Instr
-immediate_at op text = do
-  rd ← first_register_at text
-  rs1 ← first_register_at rd.1
-  imm ← short_at rs1.1
-  Some (i.OpImm op rd.0 rs1.0 imm.0, imm.1)
-
-unfoldable pub shift_at : ImmediateShift → List ℕ → Read Instr
-shift_at op text = do
-  rd ← first_register_at text
-  rs1 ← first_register_at rd.1
-  amount ← amount_at rs1.1
-  Some (i.ShiftImm op rd.0 rs1.0 amount.0, amount.1)
-
-unfoldable pub comparison_at : Layout → Comparison → List ℕ → Read Instr
-comparison_at d test text = do
-  rs1 ← first_register_at text
-  rs2 ← first_register_at rs1.1
-  imm ← branch_at d rs2.1
-  Some (i.Branch test rs1.0 rs2.0 imm.0, imm.1)
-
-unfoldable pub load_at : LoadKind → List ℕ → Read Instr
-load_at kind text = do
-  rd ← first_register_at text
-  address ← address_at rd.1
-  Some (i.Load kind rd.0 address.0.1 address.0.0, address.1)
-
-unfoldable pub store_at : StoreKind → List ℕ → Read Instr
-store_at kind text = do
-  rs2 ← first_register_at text
-  address ← address_at rs2.1
-  Some (i.Store kind address.0.1 rs2.0 address.0.0, address.1)
-
-unfoldable pub lui_at : List ℕ → Read Instr
-lui_at text = do
-  rd ← first_register_at text
-  imm ← upper_at rd.1
-  Some (i.Lui rd.0 imm.0, imm.1)
-
-unfoldable pub auipc_at : List ℕ → Read Instr
-auipc_at text = do
-  rd ← first_register_at text
-  imm ← upper_at rd.1
-  Some (i.Auipc rd.0 imm.0, imm.1)
-
-unfoldable pub jal_to : Layout → Register → List ℕ → Read Instr
-jal_to d rd text = do
-  imm ← jump_at d text
-  Some (i.Jal rd imm.0, imm.1)
-
--- where no register stands first, it is x1
-unfoldable pub jal_at : Layout → List ℕ → Read Instr
-jal_at d text = found (first_register_at text) (λ rd. jal_to d rd.0 rd.1) (jal_to d (register 1) text)
-
-unfoldable pub jalr_to : Register → List ℕ → Read Instr
-jalr_to rd text = do
-  address ← address_at text
-  Some (i.Jalr rd address.0.1 address.0.0, address.1)
-
--- jalr rs is jalr x1, 0(rs)
-unfoldable pub jalr_by : List ℕ → Read Instr
-jalr_by text = do
-  rs ← register_at text
-  Some (i.Jalr (register 1) rs.0 (short 0), rs.1)
-
-unfoldable pub jalr_at : List ℕ → Read Instr
-jalr_at text = found (first_register_at text) (λ rd. jalr_to rd.0 rd.1) (jalr_by text)
-
--- the operands of the instructions that have operands like no other's
-unfoldable pub form_at : Layout → Form → List ℕ → Read Instr
-form_at d form.Lui text = lui_at text
-form_at d form.Auipc text = auipc_at text
-form_at d form.Jal text = jal_at d text
-form_at d form.Jalr text = jalr_at text
-form_at d form.Ecall text = Some (i.Ecall, text)
-form_at d form.Ebreak text = Some (i.Ebreak, text)
-
--- the instruction of a name and its operands
-unfoldable pub instruction_at : Layout → List ℕ → List ℕ → Read Instr
-instruction_at d name text =
-    found (operation_named name) (λ op. operation_at op text) (
-    found (immediate_named name) (λ op. immediate_at op text) (
-    found (load_named name) (λ kind. load_at kind text) (
-    found (store_named name) (λ kind. store_at kind text) (
-    found (comparison_named name) (λ test. comparison_at d test text) (
-    found (shift_named name) (λ op. shift_at op text) (
-    found (form_named name) (λ f. form_at d f text)
-    (pseudo_at d name text)))))))
+use Rattle.svc_instructions.specs.Couples.{couple_named, couple_at}
+use Rattle.svc_asm.specs.Blanks.{blank_named, blank_at}
+use Rattle.svc_operands.specs.Operands.{Read, register_at, first_register_at, number_at, branch_at, jump_at, amount_at}
+use Rattle.svc_operands.specs.Values.{value_at, short_at, upper_at, address_at}
 
 -- the directives that have a number, or a label's address
 unfoldable pub word_at : Layout → List ℕ → Read Statement
@@ -181,9 +75,10 @@ section_at text = do
 unfoldable pub other_at : List ℕ → List ℕ → Read Statement
 other_at name text =
     if bytes_eq name (codes ".section") then section_at text else
-    if begins_data name then Some (say.Data, text) else
     if is_passed name then Some (say.Nothing, past is_inside text) else
-    None
+    found (begins_data name) (λ s. Some (s, text)) (
+    found (blank_named name) (λ b. blank_at b text)
+    None)
 
 unfoldable pub directive_at : Layout → List ℕ → List ℕ → Read Statement
 directive_at d name text =
@@ -198,10 +93,14 @@ directive_at d name text =
     if bytes_eq name (codes ".svc_register") then setting_at d text else
     other_at name text
 
-unfoldable pub as_statement : Layout → List ℕ → List ℕ → Read Statement
-as_statement d name text = do
+unfoldable pub alone_at : Layout → List ℕ → List ℕ → Read Statement
+alone_at d name text = do
   instr ← instruction_at d name text
   Some (say.Instruction instr.0, instr.1)
+
+-- a name that stands for two instructions, or one instruction
+unfoldable pub as_statement : Layout → List ℕ → List ℕ → Read Statement
+as_statement d name text = found (couple_named name) (λ c. couple_at d c text) (alone_at d name text)
 
 -- what a name and what follows it say: a directive's name begins with a dot
 abbrev pub named : Layout → List ℕ → List ℕ → Read Statement

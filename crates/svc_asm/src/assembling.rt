@@ -10,12 +10,11 @@ ghost use Rattle.svc_image.specs.declared.error.ImageError.TheVariants as fault;
 ghost use Rattle.svc_draft.specs.Layouts.{Layout, layout_of};
 ghost use Rattle.svc_asm.specs.Programs.{Takes, Makes, IsLaid, IsProgramOf};
 
-use crate::characters::{skip_spaces, split_name};
-use crate::line::read_line;
-use crate::unread::{Unread, Wanted, stopped_at};
+use crate::parts::read_next;
 use std::alloc::Global;
 use svc_draft::{Draft, Refusal};
 use svc_image::{Image, ImageError};
+use svc_operands::{Unread, Wanted, skip_spaces, split_name, stopped_at};
 use thiserror::Error;
 
 /// Why a text makes no image.
@@ -56,7 +55,7 @@ fn take_line<'a>(text: &'a [u8], draft: &mut Draft<'a>) -> Result<&'a [u8], Stop
     ensures ok { IfOk result (λ rest. (s : Statement) × Takes text.now (layout_of draft.old) s rest.now (layout_of draft.new)) }
     ensures err { IfErr result (λ e. (e ≡ halt.Memory) ⊎ ((s : Statement) (rest : List ℕ) (next : Layout) → Takes text.now (layout_of draft.old) s rest next → ⊥)) }
 {
-    let (statement, rest) = match read_line(draft, text) {
+    let (statement, rest) = match read_next(draft, text) {
         Ok(read) => read,
         Err(unread) => return Err(Stop::Unread(unread)),
     };

@@ -2,15 +2,11 @@
 #![tactic(auto)]
 
 mod assembling;
-mod characters;
-mod instruction;
+mod blanks;
 mod line;
-mod names;
-mod operands;
-mod pseudo;
+mod parts;
 mod sections;
-mod unread;
+mod strings;
+mod symbols;
 
 pub use assembling::{AssembleError, assemble};
-pub use names::register;
-pub use unread::Wanted;

@@ -1,19 +1,20 @@
 // Lines: what they say, and where they end.
 
 ghost use Rattle.std.specs.Prelude.{◌≡◌};
-ghost use Rattle.svc_asm.specs.Characters.{past};
+ghost use Rattle.svc_operands.specs.Characters.{past};
 ghost use Rattle.svc_draft.specs.Layouts.{layout_of};
-ghost use Rattle.svc_asm.specs.Reading.{Gives};
-ghost use Rattle.svc_asm.specs.Statements.{word_at, start_at, limit_at, known_version, version_at, limited_entry_at, entry_at, setting_at, section_at, other_at, directive_at, as_statement, statement_at, is_inside, end_at, ended_at, is_label, line_at};
+ghost use Rattle.svc_operands.specs.Reading.{Gives};
+ghost use Rattle.svc_asm.specs.Statements.{word_at, start_at, limit_at, known_version, version_at, limited_entry_at, entry_at, setting_at, section_at, other_at, directive_at, alone_at, as_statement, statement_at, is_inside, end_at, ended_at, is_label, line_at};
 
-use crate::characters::{skip_spaces, split_name};
-use crate::instruction::read_instruction;
-use crate::names::is_word;
-use crate::operands::{read_first_register, read_number, read_value};
+use crate::blanks::{blank_named, read_blank};
 use crate::sections::{begins_data, is_passed, section_named};
-use crate::unread::{Unread, Wanted, stopped_at, stopped_at_name};
 use svc_draft::{Draft, Statement};
 use svc_image::Version;
+use svc_instructions::{couple_named, read_couple, read_instruction};
+use svc_operands::{
+    Unread, Wanted, is_word, read_first_register, read_number, read_value, skip_spaces, split_name,
+    stopped_at, stopped_at_name,
+};
 
 #[tactic(auto, unfolding(crate::specs::Statements::word_at))]
 fn read_word<'a>(draft: &Draft, text: &'a [u8]) -> Result<(Statement, &'a [u8]), Unread>
@@ -88,7 +89,7 @@ fn read_setting<'a>(draft: &Draft, text: &'a [u8]) -> Result<(Statement, &'a [u8
     Ok((Statement::Register(register, value), rest))
 }
 
-#[tactic(auto, unfolding(crate::specs::Characters::past))]
+#[tactic(auto, unfolding(svc_operands::specs::Characters::past))]
 fn skip_inside(text: &[u8]) -> &[u8]
     ensures { result.now ≡ past is_inside text.now }
 {
@@ -122,11 +123,14 @@ fn read_other<'a>(name: &[u8], text: &'a [u8]) -> Result<(Statement, &'a [u8]), 
     if is_word(name, ".section") {
         return read_section(text);
     }
-    if begins_data(name) {
-        return Ok((Statement::Data, text));
-    }
     if is_passed(name) {
         return Ok((Statement::Nothing, skip_inside(text)));
+    }
+    if let Some(section) = begins_data(name) {
+        return Ok((section, text));
+    }
+    if let Some(blank) = blank_named(name) {
+        return read_blank(blank, text);
     }
     Err(stopped_at_name(name, text, Wanted::Statement))
 }
@@ -169,6 +173,19 @@ fn read_directive<'a>(
     read_other(name, text)
 }
 
+#[tactic(auto, unfolding(crate::specs::Statements::alone_at))]
+fn read_alone<'a>(
+    draft: &Draft,
+    name: &[u8],
+    text: &'a [u8],
+) -> Result<(Statement, &'a [u8]), Unread>
+    ensures { Gives (λ x. (x.0, x.1.now)) result (alone_at (layout_of draft.now) name.now text.now) }
+{
+    let (instr, rest) = read_instruction(draft, name, text)?;
+    Ok((Statement::Instruction(instr), rest))
+}
+
+// A name that stands for two instructions, or one instruction.
 #[tactic(auto, unfolding(crate::specs::Statements::as_statement))]
 fn read_as_statement<'a>(
     draft: &Draft,
@@ -177,8 +194,10 @@ fn read_as_statement<'a>(
 ) -> Result<(Statement, &'a [u8]), Unread>
     ensures { Gives (λ x. (x.0, x.1.now)) result (as_statement (layout_of draft.now) name.now text.now) }
 {
-    let (instr, rest) = read_instruction(draft, name, text)?;
-    Ok((Statement::Instruction(instr), rest))
+    if let Some(couple) = couple_named(name) {
+        return read_couple(draft, couple, text);
+    }
+    read_alone(draft, name, text)
 }
 
 #[tactic(auto, unfolding(crate::specs::Statements::statement_at))]
@@ -195,7 +214,7 @@ fn read_statement<'a>(draft: &Draft, text: &'a [u8]) -> Result<(Statement, &'a [
 
 /// What follows the end of a line, which a comment may stand before.
 #[tactic(auto, unfolding(crate::specs::Statements::end_at))]
-fn read_end(text: &[u8]) -> Result<&[u8], Unread>
+pub fn read_end(text: &[u8]) -> Result<&[u8], Unread>
     ensures { Gives (λ x. x.now) result (end_at text.now) }
 {
     match skip_spaces(text) {
@@ -218,7 +237,8 @@ fn read_ended<'a>(draft: &Draft, text: &'a [u8]) -> Result<(Statement, &'a [u8])
     Ok((statement, rest))
 }
 
-fn is_label(name: &[u8]) -> bool
+/// Whether this may be a label's name: no digit begins it.
+pub fn is_label(name: &[u8]) -> bool
     ensures { result ≡ is_label name.now }
 {
     match name {

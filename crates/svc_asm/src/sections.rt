@@ -2,10 +2,10 @@
 
 ghost use Rattle.std.specs.Prelude.{◌≡◌, nat_eq};
 ghost use Rattle.std.specs.List.{starts_with};
-ghost use Rattle.svc_asm.specs.Sections.{begins_data, is_data, section_named, is_passed};
+ghost use Rattle.svc_asm.specs.Sections.{begins_data, section_named, is_passed};
 
-use crate::names::is_word;
-use svc_draft::Statement;
+use svc_draft::{Section, Statement};
+use svc_operands::is_word;
 
 fn begins_with(name: &[u8], word: &str) -> bool
     ensures { result ≡ starts_with nat_eq name.now word.now }
@@ -13,50 +13,30 @@ fn begins_with(name: &[u8], word: &str) -> bool
     name.starts_with(word.as_bytes())
 }
 
-/// Whether this directive begins a section of data.
+/// What a directive says that is the name of a section of data.
 #[tactic(auto, unfolding(crate::specs::Sections::begins_data))]
-pub fn begins_data(name: &[u8]) -> bool
+pub fn begins_data(name: &[u8]) -> Option<Statement>
     ensures { result ≡ begins_data name.now }
 {
     if is_word(name, ".rodata") {
-        return true;
+        return Some(Statement::Section(Section::Rodata));
     }
-    if is_word(name, ".bss") {
-        return true;
+    if is_word(name, ".srodata") {
+        return Some(Statement::Section(Section::Rodata));
     }
     if is_word(name, ".sdata") {
-        return true;
+        return Some(Statement::Section(Section::Data));
+    }
+    if is_word(name, ".bss") {
+        return Some(Statement::Section(Section::Bss));
     }
     if is_word(name, ".sbss") {
-        return true;
+        return Some(Statement::Section(Section::Bss));
     }
-    is_word(name, ".srodata")
+    None
 }
 
-// Whether a section of this name is data.
-#[tactic(auto, unfolding(crate::specs::Sections::is_data))]
-fn is_data(name: &[u8]) -> bool
-    ensures { result ≡ is_data name.now }
-{
-    if begins_with(name, ".data") {
-        return true;
-    }
-    if begins_with(name, ".rodata") {
-        return true;
-    }
-    if begins_with(name, ".bss") {
-        return true;
-    }
-    if begins_with(name, ".sdata") {
-        return true;
-    }
-    if begins_with(name, ".sbss") {
-        return true;
-    }
-    begins_with(name, ".srodata")
-}
-
-/// What the name of a section says: that what follows is text, or data.
+/// What the name of a section says, by how it begins.
 #[tactic(auto, unfolding(crate::specs::Sections::section_named))]
 pub fn section_named(name: &[u8]) -> Option<Statement>
     ensures { result ≡ section_named name.now }
@@ -64,8 +44,23 @@ pub fn section_named(name: &[u8]) -> Option<Statement>
     if begins_with(name, ".text") {
         return Some(Statement::Text);
     }
-    if is_data(name) {
-        return Some(Statement::Data);
+    if begins_with(name, ".rodata") {
+        return Some(Statement::Section(Section::Rodata));
+    }
+    if begins_with(name, ".srodata") {
+        return Some(Statement::Section(Section::Rodata));
+    }
+    if begins_with(name, ".data") {
+        return Some(Statement::Section(Section::Data));
+    }
+    if begins_with(name, ".sdata") {
+        return Some(Statement::Section(Section::Data));
+    }
+    if begins_with(name, ".bss") {
+        return Some(Statement::Section(Section::Bss));
+    }
+    if begins_with(name, ".sbss") {
+        return Some(Statement::Section(Section::Bss));
     }
     None
 }

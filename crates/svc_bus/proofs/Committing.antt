@@ -3,7 +3,6 @@ use Rattle.std.proofs.Common.{◌≡◌, ◌∙◌, refl, sym, subst, ap, ℕ, z
 use Rattle.std.specs.Bool.{◌==◌}
 use Rattle.std.proofs.lemmas.Bool.{cases_eq}
 use Rattle.std.proofs.lemmas.List.{length-replicate}
-use Rattle.svc_line.specs.Line.{SeenLine}
 use Rattle.svc_cache.specs.Lines.{commit_line}
 use Rattle.svc_cache.specs.Places.{CacheValue, line_of}
 use Rattle.svc_bus_laws.specs.LineTable.{LineTable}

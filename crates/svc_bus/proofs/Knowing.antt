@@ -1,10 +1,10 @@
 -- What holds of a sound bus: its units, its lines, its committed values, and the order of a word's versions.
-use Rattle.std.proofs.Common.{◌≡◌, ◌∙◌, refl, sym, ap, ap₂, subst, ℕ, ◌<◌, ◌≤◌, Bool, true, false, not, ◌&&◌, ◌||◌, Option, Some, None, List, length, get_or, inl, inr, true≢false}
+use Rattle.std.proofs.Common.{◌≡◌, ◌∙◌, refl, sym, ap, subst, ℕ, ◌<◌, ◌≤◌, Bool, true, false, not, ◌&&◌, ◌||◌, Option, Some, None, length, get_or, inl, inr, true≢false}
 use Rattle.std.proofs.lemmas.Bool.{cases_Bool, cases_lt}
 use Rattle.svc_line.specs.Line.{SeenLine}
 use Rattle.svc_cache.specs.Lines.{is_committed_line}
 use Rattle.svc_bus_laws.specs.Search.{all_below, least}
-use Rattle.svc_bus_laws.specs.BusLine.{BusLine, is_committed_dirty_line, is_dirty_line, value_of_line}
+use Rattle.svc_bus_laws.specs.BusLine.{is_committed_dirty_line, is_dirty_line, value_of_line}
 use Rattle.svc_bus_laws.specs.BusState.{is_dirty}
 use Rattle.svc_bus_laws.specs.BusView.{bus_committed, is_newest_line, value_of_unit}
 use Rattle.svc_bus_laws.specs.SoundState.{IsSoundState}

@@ -13,7 +13,7 @@ use Rattle.svc_bus_laws.proofs.SeenLaws.{opened_agrees}
 use Rattle.svc_links_laws.proofs.LinkedBuses.{opened_bus as opened_bus_law}
 use Rattle.svc_vcl.specs.Described.{bus_line_of}
 use Rattle.svc_retire.specs.Caches.{no_cache, cache_at}
-use Rattle.svc_bus.specs.Lines.{line_in, link_in}
+use Rattle.svc_bus.specs.Lines.{link_in}
 use Rattle.svc_bus.specs.Value.{BusValue, IsSoundBus, state_in}
 use Rattle.svc_bus.specs.Opened.{AreEmpty}
 use Rattle.svc_bus.proofs.Agreeing.{IsStep, step_agrees, step_linked}

@@ -10,8 +10,8 @@ use Rattle.svc_bus_laws.proofs.Searches.{greatest_cases}
 use Rattle.svc_vol.specs.declared.version.Version.{Version}
 use Rattle.svc_vol.specs.Lines.{UnitLines, is_committed_version, lines_in}
 use Rattle.svc_vol.specs.Versions.{AreCommitted, SeenVersion, Versions, active_version, active_versions, no_version, seen_version, unit_at, version_at}
-use Rattle.svc_vcl.specs.Listed.{entry_at, is_version, nearest_in, nearest_version_in}
-use Rattle.svc_vcl.specs.Planned.{changed_in, copies_in, fresh_beside, is_fresh_copy, is_named, passed_in, relinked_in, unmarked_entry}
+use Rattle.svc_vcl.specs.Listed.{entry_at, is_version, nearest_version_in}
+use Rattle.svc_vcl.specs.Planned.{changed_in, copies_in, fresh_beside, is_named, passed_in, relinked_in, unmarked_entry}
 use Rattle.svc_vcl.proofs.Staling.{kept_apart, kept_from}
 use Rattle.svc_retire.specs.Caches.{held_line}
 use Rattle.svc_retire.proofs.Dropping.{lines_are}

@@ -1,5 +1,5 @@
 -- An idle unit finds room in the queue: the others that can stand in it are too few to fill it.
-use Rattle.std.proofs.Common.{◌≡◌, ◌≢◌, ◌∙◌, sym, subst, ap, ℕ, zero, suc, ◌<◌, ◌≤◌, cond, List, length, get_or, inl, inr, arith, eq-eqb, ne_eqb}
+use Rattle.std.proofs.Common.{◌≡◌, ◌≢◌, ◌∙◌, sym, subst, ap, ℕ, suc, ◌<◌, ◌≤◌, cond, List, length, get_or, inl, inr, arith, eq-eqb, ne_eqb}
 use Rattle.std.specs.Bool.{◌==◌}
 use Rattle.std.proofs.lemmas.Bool.{cases_eq}
 use Rattle.svc_vol.proofs.Fewness.{few_numbers}

@@ -1,5 +1,5 @@
 -- One unit's line of a word is put, and the word is purged in the other caches: in either order.
-use Rattle.std.proofs.Common.{◌≡◌, ◌≢◌, ◌∙◌, refl, sym, ap, ap₂, subst, ℕ, ◌+◌, ◌<◌, ◌≤◌, Bool, true, false, cond, not, ◌&&◌, ◌||◌, suc, Option, Some, None, List, [], ◌∷◌, length, inl, inr, arith, eq-eqb, true≢false, Ok, Err, OnErr, MatchResult}
+use Rattle.std.proofs.Common.{◌≡◌, ◌≢◌, ◌∙◌, refl, sym, ap, subst, ℕ, ◌+◌, ◌<◌, ◌≤◌, Bool, true, false, cond, not, ◌&&◌, ◌||◌, suc, Option, Some, None, List, [], ◌∷◌, length, inl, inr, arith, eq-eqb, true≢false, Ok, Err, OnErr, MatchResult}
 use Rattle.std.specs.Prelude.{Result}
 use Rattle.std.specs.Bool.{◌==◌}
 use Rattle.std.proofs.lemmas.Bool.{and_parts, cases_Bool, cases_eq, eqb-true}

@@ -1,5 +1,5 @@
 -- A read makes of the bus what its step makes of it.
-use Rattle.std.proofs.Common.{◌≡◌, ◌∙◌, refl, sym, ap, ap₂, subst, ℕ, ◌+◌, ◌<◌, ◌≤◌, ◌^◌, Bool, true, false, cond, not, ◌&&◌, Option, Some, None, is_some, List, length, get_or, inl, inr, arith, eq-eqb, ne_eqb, true≢false, Ok, Err, MatchResult}
+use Rattle.std.proofs.Common.{◌≡◌, ◌∙◌, refl, sym, ap, ap₂, subst, ℕ, ◌<◌, ◌≤◌, ◌^◌, Bool, true, false, cond, not, ◌&&◌, Option, Some, None, is_some, List, length, get_or, inl, inr, arith, eq-eqb, ne_eqb, true≢false, Ok, Err, MatchResult}
 use Rattle.std.specs.Prelude.{Result}
 use Rattle.std.specs.Bool.{◌==◌}
 use Rattle.std.proofs.lemmas.Bool.{cases_Bool, cases_eq}

@@ -1,5 +1,5 @@
 -- A replacement on the bus.
-use Rattle.std.proofs.Common.{◌≡◌, ◌≢◌, ◌∙◌, refl, sym, ap, ap₂, subst, ℕ, ◌<◌, ◌≤◌, ◌^◌, Bool, true, false, cond, not, ◌&&◌, Option, Some, None, length, get_or, inl, inr}
+use Rattle.std.proofs.Common.{◌≡◌, ◌∙◌, refl, sym, ap, subst, ℕ, ◌≤◌, ◌^◌, Bool, true, false, cond, not, ◌&&◌, Option, Some, None, get_or, inl, inr}
 use Rattle.std.specs.Bool.{◌==◌}
 use Rattle.std.specs.Option.{option_or}
 use Rattle.svc_line.specs.Line.{SeenLine}

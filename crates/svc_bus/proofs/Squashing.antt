@@ -1,5 +1,5 @@
 -- A squash on the bus.
-use Rattle.std.proofs.Common.{◌≡◌, ◌∙◌, refl, sym, subst, ap, ap₂, ℕ, zero, suc, ◌<◌, ◌≤◌, Bool, true, false, cond, ◌&&◌, Option, None, List, length, get_or, take, lt-ltb, arith, eq-eqb, inl, inr, true≢false}
+use Rattle.std.proofs.Common.{◌≡◌, ◌∙◌, refl, sym, subst, ap, ap₂, ℕ, zero, suc, ◌<◌, ◌≤◌, Bool, true, false, cond, ◌&&◌, Option, None, List, length, get_or, take, lt-ltb, arith, eq-eqb, inl, true≢false}
 use Rattle.svc_line.specs.Line.{SeenLine}
 use Rattle.svc_cache.specs.Lines.{squash_line}
 use Rattle.svc_cache.specs.Places.{CacheValue}
@@ -14,7 +14,7 @@ use Rattle.svc_links_laws.proofs.LinkedBuses.{squash_bus}
 use Rattle.svc_vol.proofs.Validity.{HasV, line_valid}
 use Rattle.svc_vcl.specs.Described.{bus_line_of}
 use Rattle.svc_retire.specs.Caches.{cache_at, held_line, SameSizes}
-use Rattle.svc_bus.specs.Lines.{line_in, link_in}
+use Rattle.svc_bus.specs.Lines.{link_in}
 use Rattle.svc_bus.specs.Value.{BusValue, IsSoundBus, state_in}
 use Rattle.svc_bus.proofs.Agreeing.{IsStep, place_is, step_agrees, step_linked}
 use Rattle.svc_bus.proofs.Keeping.{kept_bus}

@@ -1,12 +1,12 @@
 -- What a store makes of the bus is what a write makes of it.
-use Rattle.std.proofs.Common.{◌≡◌, ◌≢◌, ◌∙◌, refl, sym, ap, ap₂, subst, ℕ, ◌+◌, ◌<◌, ◌≤◌, ◌^◌, Bool, true, false, cond, not, ◌&&◌, ◌||◌, Option, Some, None, List, length, get_or, take, inl, inr, arith, eq-eqb, ne_eqb, is_some, true≢false}
+use Rattle.std.proofs.Common.{◌≡◌, ◌≢◌, ◌∙◌, refl, sym, ap, ap₂, subst, ℕ, ◌<◌, ◌≤◌, ◌^◌, Bool, true, false, cond, not, ◌&&◌, ◌||◌, Option, Some, None, List, length, get_or, take, inl, inr, eq-eqb, ne_eqb, is_some, true≢false}
 use Rattle.std.specs.Bool.{◌==◌}
-use Rattle.std.proofs.lemmas.Bool.{cases_Bool, cases_eq, eqb-true}
-use Rattle.svc_line.specs.Bits.{Bits, overtaken_now}
+use Rattle.std.proofs.lemmas.Bool.{cases_eq, eqb-true}
+use Rattle.svc_line.specs.Bits.{overtaken_now}
 use Rattle.svc_line.specs.Line.{SeenLine}
 use Rattle.svc_cache.specs.Lines.{squash_line}
 use Rattle.svc_bus_laws.specs.Versioned.{survivors}
-use Rattle.svc_bus_laws.specs.LineTable.{Line, LineTable, is_cut, unit_at, versioned}
+use Rattle.svc_bus_laws.specs.LineTable.{Line, LineTable, is_cut, unit_at}
 use Rattle.svc_bus_laws.specs.Steps.{with_at, write, written_line}
 use Rattle.svc_bus_laws.specs.Steps as table
 use Rattle.svc_bus_laws.specs.BusLine.{BusLine, is_active_line, is_dirty_line, version_of_line}

@@ -6,7 +6,8 @@ use Rattle.svc_line.specs.Bits.{bits_of}
 use Rattle.svc_line.specs.declared.bits.LineBits.{LineBits}
 use Rattle.svc_bus_laws.specs.Versioned as map
 use Rattle.svc_bus_laws.specs.BusLine.{BusLine}
-use Rattle.svc_bus_laws.specs.BusState.{BusState}
+use Rattle.svc_bus_laws.specs.BusState.{BusState, Agrees}
+use Rattle.svc_bus_laws.specs.LineTable.{LineTable, unit_at}
 use Rattle.svc_bus_laws.specs.Refusals.{bus_cache, set_full, is_not_resident, is_pinned}
 use Rattle.svc_bus.specs.declared.victim.Victim.{Victim}
 
@@ -18,6 +19,12 @@ pub record IsAt (b : BusState) (unit place : ℕ) : Type 0 where
 -- the unit has a task
 abbrev pub IsAtWork : BusState → (unit : ℕ) → Type 0
 IsAtWork b unit = (place : ℕ) × IsAt b unit place
+
+-- the bus agrees with the line table, in which the unit runs the task at this place
+pub record RunsAt (b : BusState) (unit : ℕ) (t : LineTable) (place : ℕ) : Type 0 where
+  pub agrees : Agrees b t
+  pub within : place < length t.units
+  pub unit_is : unit_at t place ≡ unit
 
 -- a full set refuses a read or a write with the word to be replaced first
 abbrev pub full_refusal : BusState → (unit word : ℕ) → Option Refusal

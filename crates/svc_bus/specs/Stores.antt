@@ -1,5 +1,5 @@
 -- What a store makes of the lines of the caches.
-use Rattle.std.specs.Prelude.{◌≡◌, ℕ, ◌==◌, true, false, cond, ◌&&◌, Option, None, List}
+use Rattle.std.specs.Prelude.{◌≡◌, ℕ, ◌==◌, true, false, cond, ◌&&◌, Option, List}
 use Rattle.svc_line.specs.Line.{SeenLine}
 use Rattle.svc_cache.specs.Lines.{squash_line}
 use Rattle.svc_cache.specs.Places.{CacheValue}

@@ -39,7 +39,8 @@ fn is_same(unit: Option<UnitId>, other: UnitId) -> bool
 
 // The version's line with T, and linked to the writer's where it is the one before.
 fn marked(version: &Version, mark: &Mark) -> Line
-    ensures line { Some (seen result) ≡ overtaken_line (option_map (λ (u : UnitId). u.0) mark.now.previous) mark.now.writer.0 version.now.unit.0 (Some (seen version.now.line)) }
+    ensures line { Some (seen result) ≡ overtaken_line (option_map (λ (u : UnitId). u.0) mark.now.previous)
+        mark.now.writer.0 version.now.unit.0 (Some (seen version.now.line)) }
     ensures valid { (bits_of version.now.line.bits).valid ≡ true → (bits_of result.bits).valid ≡ true }
 {
     let next = if is_same(mark.previous, version.unit) {
@@ -74,7 +75,9 @@ fn mark_version(caches: &mut [Cache], version: &Version, mark: &Mark, probes: &m
     requires held { IsHeld caches.old mark.now.word.0 version.now }
     requires ends { (bound : ℕ) × EndBelow caches.old bound }
     requires room { HasRoomFor probes.old caches.old 1 }
-    ensures lines { (u a : ℕ) → held_line caches.new u a ≡ overtaken_where (option_map (λ (u : UnitId). u.0) mark.now.previous) mark.now.writer.0 u ((a == mark.now.word.0) && (version.now.unit.0 == u)) (held_line caches.old u a) }
+    ensures lines { (u a : ℕ) → held_line caches.new u a ≡ overtaken_where
+        (option_map (λ (u : UnitId). u.0) mark.now.previous) mark.now.writer.0 u
+        ((a == mark.now.word.0) && (version.now.unit.0 == u)) (held_line caches.old u a) }
     ensures sizes { SameSizes caches.old caches.new }
     ensures counted { CountsSearches probes.old probes.new 1 }
 {
@@ -98,7 +101,9 @@ pub(crate) fn mark_versions(
     requires held { AreHeld caches.old mark.now.word.0 versions.now }
     requires ends { (bound : ℕ) × EndBelow caches.old bound }
     requires room { HasRoomFor probes.old caches.old (length versions.now) }
-    ensures lines { (u a : ℕ) → held_line caches.new u a ≡ overtaken_where (option_map (λ (u : UnitId). u.0) mark.now.previous) mark.now.writer.0 u ((a == mark.now.word.0) && is_named versions.now u) (held_line caches.old u a) }
+    ensures lines { (u a : ℕ) → held_line caches.new u a ≡ overtaken_where
+        (option_map (λ (u : UnitId). u.0) mark.now.previous) mark.now.writer.0 u
+        ((a == mark.now.word.0) && is_named versions.now u) (held_line caches.old u a) }
     ensures sizes { SameSizes caches.old caches.new }
     ensures counted { CountsSearches probes.old probes.new (length versions.now) }
 {

@@ -10,14 +10,14 @@ ghost use Rattle.svc_retire.specs.Caches.{cache_at, held_line, SameSizes};
 ghost use Rattle.svc_retire.specs.Purges.{committed_in, HasRoomFor};
 ghost use Rattle.svc_vcl.specs.Planned.{supplier_of};
 ghost use Rattle.svc_bus_laws.specs.Versioned.{view};
-ghost use Rattle.svc_bus_laws.specs.LineTable.{LineTable, unit_at, versioned};
+ghost use Rattle.svc_bus_laws.specs.LineTable.{LineTable, versioned};
 ghost use Rattle.svc_bus_laws.specs.Supplier.{supplier};
 ghost use Rattle.svc_bus_laws.specs.Steps.{read};
 ghost use Rattle.svc_bus_laws.specs.BusState.{Agrees};
 ghost use Rattle.svc_bus.specs.Observed.{observed};
 ghost use Rattle.svc_bus.specs.Room.{full_in};
 ghost use Rattle.svc_bus.specs.Carried.{is_hit, lines_after, memory_after};
-ghost use Rattle.svc_bus.specs.Calls.{IsAtWork, full_refusal};
+ghost use Rattle.svc_bus.specs.Calls.{IsAtWork, RunsAt, full_refusal};
 ghost use Rattle.svc_bus.specs.Looking.{CountsUpTo, IsOne, LookUps};
 
 use crate::Bus;
@@ -53,11 +53,16 @@ fn carry_out(
     requires valid { (bits_of outcome.now.line.bits).valid ≡ true }
     requires active { (bits_of outcome.now.line.bits).commit ≡ false }
     requires room { HasRoomFor probes.old caches.old (1 + length caches.old) }
-    ensures refused { MatchResult result (λ _. is_hit outcome.now.served ≡ false → full_in caches.old unit.0 (length backing.old) word.0 ≡ None) (λ e. full_in caches.old unit.0 (length backing.old) word.0 ≡ Some e.0.0) }
+    ensures refused { MatchResult result (λ _. is_hit outcome.now.served ≡ false
+        → full_in caches.old unit.0 (length backing.old) word.0 ≡ None)
+        (λ e. full_in caches.old unit.0 (length backing.old) word.0 ≡ Some e.0.0) }
     ensures same_caches { OnErr result (caches.new ≡ caches.old) }
     ensures same_memory { OnErr result (backing.new ≡ backing.old) }
-    ensures lines { OnOk result ((u a : ℕ) → held_line caches.new u a ≡ lines_after outcome.now.served (held_line caches.old) unit.0 word.0 (Some (seen outcome.now.line)) u a) }
-    ensures memory { OnOk result ((a : ℕ) → get_or backing.new a 0 ≡ memory_after outcome.now.served (λ x. get_or backing.old x 0) word.0 (committed_in caches.old backing.old word.0) a) }
+    ensures lines { OnOk result ((u a : ℕ) → held_line caches.new u a
+        ≡ lines_after outcome.now.served (held_line caches.old) unit.0 word.0 (Some (seen outcome.now.line)) u a) }
+    ensures memory { OnOk result ((a : ℕ) → get_or backing.new a 0
+        ≡ memory_after outcome.now.served (λ x. get_or backing.old x 0) word.0
+        (committed_in caches.old backing.old word.0) a) }
     ensures sizes { SameSizes caches.old caches.new }
     ensures searches { OnOk result (CountsUpTo probes.old probes.new (length caches.old)) }
 {
@@ -79,11 +84,15 @@ impl Bus {
     pub fn read(&mut self, unit: UnitId, word: WordAddr) -> Result<(u32, Served), Refusal>
         requires at_work { IsAtWork (observed self.old) unit.0 }
         requires in_memory { word.0 < (observed self.old).words }
-        ensures refused { MatchResult result (λ _. full_refusal (observed self.old) unit.0 word.0 ≡ None) (λ e. full_refusal (observed self.old) unit.0 word.0 ≡ Some e) }
+        ensures refused { MatchResult result (λ _. full_refusal (observed self.old) unit.0 word.0 ≡ None)
+            (λ e. full_refusal (observed self.old) unit.0 word.0 ≡ Some e) }
         ensures unchanged { OnErr result (self.new ≡ self.old) }
-        ensures value { (t : LineTable) → (place : ℕ) → Agrees (observed self.old) t → place < length t.units → unit_at t place ≡ unit.0 → IfOk result (λ r. r.0 ≡ view (versioned t) place word.0) }
-        ensures served { (t : LineTable) → (place : ℕ) → Agrees (observed self.old) t → place < length t.units → unit_at t place ≡ unit.0 → IfOk result (λ r. supplier_of r.1 ≡ supplier t place word.0) }
-        ensures table { (t : LineTable) → (place : ℕ) → Agrees (observed self.old) t → place < length t.units → unit_at t place ≡ unit.0 → OnOk result (Agrees (observed self.new) (read t place word.0)) }
+        ensures value { (t : LineTable) → (place : ℕ) → RunsAt (observed self.old) unit.0 t place
+            → IfOk result (λ r. r.0 ≡ view (versioned t) place word.0) }
+        ensures served { (t : LineTable) → (place : ℕ) → RunsAt (observed self.old) unit.0 t place
+            → IfOk result (λ r. supplier_of r.1 ≡ supplier t place word.0) }
+        ensures table { (t : LineTable) → (place : ℕ) → RunsAt (observed self.old) unit.0 t place
+            → OnOk result (Agrees (observed self.new) (read t place word.0)) }
         ensures probes { IfOk result (λ r. LookUps r.1 (observed self.new).probes (observed self.old).caches) }
     {
         let mut look = Probes::new();
@@ -122,11 +131,15 @@ impl Bus {
         requires line { lines_in self.old.caches word.0 unit.0 ≡ option_map seen line }
         requires idle { ForSome line (λ own. is_active (bits_of own.bits) ≡ false) }
         requires one { IsOne probes }
-        ensures refused { MatchResult result (λ _. full_refusal (observed self.old) unit.0 word.0 ≡ None) (λ e. full_refusal (observed self.old) unit.0 word.0 ≡ Some e) }
+        ensures refused { MatchResult result (λ _. full_refusal (observed self.old) unit.0 word.0 ≡ None)
+            (λ e. full_refusal (observed self.old) unit.0 word.0 ≡ Some e) }
         ensures unchanged { OnErr result (self.new ≡ self.old) }
-        ensures value { (t : LineTable) → (place : ℕ) → Agrees (observed self.old) t → place < length t.units → unit_at t place ≡ unit.0 → IfOk result (λ r. r.0 ≡ view (versioned t) place word.0) }
-        ensures served { (t : LineTable) → (place : ℕ) → Agrees (observed self.old) t → place < length t.units → unit_at t place ≡ unit.0 → IfOk result (λ r. supplier_of r.1 ≡ supplier t place word.0) }
-        ensures table { (t : LineTable) → (place : ℕ) → Agrees (observed self.old) t → place < length t.units → unit_at t place ≡ unit.0 → OnOk result (Agrees (observed self.new) (read t place word.0)) }
+        ensures value { (t : LineTable) → (place : ℕ) → RunsAt (observed self.old) unit.0 t place
+            → IfOk result (λ r. r.0 ≡ view (versioned t) place word.0) }
+        ensures served { (t : LineTable) → (place : ℕ) → RunsAt (observed self.old) unit.0 t place
+            → IfOk result (λ r. supplier_of r.1 ≡ supplier t place word.0) }
+        ensures table { (t : LineTable) → (place : ℕ) → RunsAt (observed self.old) unit.0 t place
+            → OnOk result (Agrees (observed self.new) (read t place word.0)) }
         ensures probes { IfOk result (λ r. LookUps r.1 (observed self.new).probes (observed self.old).caches) }
     {
         let place = place_of(&self.queue, unit);

@@ -36,11 +36,21 @@ impl Bus {
         self.backing[word.0 as usize]
     }
 
+    /// The head's version of the word whose line was replaced, if any.
+    #[tactic(auto, unfolding(crate::specs::Observed::observed))]
+    pub fn spilled(&self, word: WordAddr) -> Option<u32>
+        requires in_memory { word.0 < (observed self.now).words }
+        ensures value { (t : LineTable) → Agrees (observed self.now) t → result ≡ t.spill word.0 }
+    {
+        self.spill.get(word)
+    }
+
     /// The bits and the value of the unit's valid line of the word. No other bit is set than those of the line that have names.
     #[tactic(auto, unfolding(crate::specs::Observed::observed))]
     pub fn line_at(&self, unit: UnitId, word: WordAddr) -> Option<(LineBits, u32)>
         requires known { unit.0 < (observed self.now).caches }
-        ensures line { (t : LineTable) → Agrees (observed self.now) t → option_map line_shown result ≡ unnumbered (t.lines unit.0 word.0) }
+        ensures line { (t : LineTable) → Agrees (observed self.now) t
+            → option_map line_shown result ≡ unnumbered (t.lines unit.0 word.0) }
         ensures valid { IfSome result (λ line. (bits_of line.0).valid ≡ true) }
         ensures named { IfSome result (λ line. (bits_of line.0).unnamed ≡ 0) }
     {
@@ -53,7 +63,8 @@ impl Bus {
     #[tactic(auto, unfolding(crate::specs::Observed::observed))]
     pub fn set_full(&self, unit: UnitId, word: WordAddr) -> Option<WordAddr>
         requires known { unit.0 < (observed self.now).caches }
-        ensures address { option_map (λ named. named.0) result ≡ set_full (bus_cache (observed self.now) unit.0) word.0 }
+        ensures address { option_map (λ named. named.0) result
+            ≡ set_full (bus_cache (observed self.now) unit.0) word.0 }
     {
         self.caches[unit.0 as usize].full(word, &mut Probes::new())
     }

@@ -24,7 +24,8 @@ use svc_vol::VersionList;
 fn spill_version(spill: &mut Spill, word: WordAddr, line: &Line)
     requires known { word.0 < length spill.old }
     requires valid { (bits_of line.now.bits).valid ≡ true }
-    ensures versions { (a : ℕ) → get_or spill.new a None ≡ with_at (λ x. get_or spill.old x None) word.0 (option_or (version_of_line (bus_line_of (Some (seen line.now)))) (get_or spill.old word.0 None)) a }
+    ensures versions { (a : ℕ) → get_or spill.new a None ≡ with_at (λ x. get_or spill.old x None) word.0
+        (option_or (version_of_line (bus_line_of (Some (seen line.now)))) (get_or spill.old word.0 None)) a }
     ensures size { length spill.new ≡ length spill.old }
 {
     if line.bits.is_active() && line.bits.is_dirty() {
@@ -48,9 +49,11 @@ impl Bus {
     #[tactic(auto, unfolding(crate::specs::Observed::observed))]
     pub fn replace(&mut self, unit: UnitId, word: WordAddr) -> Result<(), Refusal>
         requires known { unit.0 < (observed self.old).caches }
-        ensures refused { MatchResult result (λ _. replace_refusal (observed self.old) unit.0 word.0 ≡ None) (λ e. replace_refusal (observed self.old) unit.0 word.0 ≡ Some e) }
+        ensures refused { MatchResult result (λ _. replace_refusal (observed self.old) unit.0 word.0 ≡ None)
+            (λ e. replace_refusal (observed self.old) unit.0 word.0 ≡ Some e) }
         ensures unchanged { OnErr result (self.new ≡ self.old) }
-        ensures table { (t : LineTable) → Agrees (observed self.old) t → OnOk result (Agrees (observed self.new) (replace t unit.0 word.0)) }
+        ensures table { (t : LineTable) → Agrees (observed self.old) t
+            → OnOk result (Agrees (observed self.new) (replace t unit.0 word.0)) }
         ensures probes { (observed self.new).probes ≡ (observed self.old).probes }
     {
         let mut probes = Probes::new();

@@ -53,9 +53,12 @@ pub(crate) fn fill_in(
     requires known { unit.0 < length caches.old }
     requires valid { (bits_of line.bits).valid ≡ true }
     requires room { HasRoomFor probes.old caches.old 1 }
-    ensures refused { (bound : ℕ) → EndsBelow (line_of (cache_at caches.old unit.0)) bound → MatchResult result (λ _. full_in caches.old unit.0 bound word.0 ≡ None) (λ e. full_in caches.old unit.0 bound word.0 ≡ Some e.0.0) }
+    ensures refused { (bound : ℕ) → EndsBelow (line_of (cache_at caches.old unit.0)) bound
+        → MatchResult result (λ _. full_in caches.old unit.0 bound word.0 ≡ None)
+        (λ e. full_in caches.old unit.0 bound word.0 ≡ Some e.0.0) }
     ensures unchanged { OnErr result (caches.new ≡ caches.old) }
-    ensures lines { OnOk result ((u a : ℕ) → held_line caches.new u a ≡ with_line (held_line caches.old) unit.0 word.0 (Some (seen line)) (λ other. other) u a) }
+    ensures lines { OnOk result ((u a : ℕ) → held_line caches.new u a
+        ≡ with_line (held_line caches.old) unit.0 word.0 (Some (seen line)) (λ other. other) u a) }
     ensures others { OnOk result ((u : ℕ) → u ≢ unit.0 → cache_at caches.new u ≡ cache_at caches.old u) }
     ensures sizes { SameSizes caches.old caches.new }
     ensures counted { CountsSearches probes.old probes.new 1 }
@@ -67,7 +70,8 @@ pub(crate) fn fill_in(
 fn drop_in(caches: &mut [Cache], unit: UnitId, word: WordAddr, probes: &mut Probes)
     requires known { unit.0 < length caches.old }
     requires room { HasRoomFor probes.old caches.old 1 }
-    ensures lines { (u a : ℕ) → held_line caches.new u a ≡ with_line (held_line caches.old) unit.0 word.0 None (λ other. other) u a }
+    ensures lines { (u a : ℕ) → held_line caches.new u a ≡ with_line (held_line caches.old) unit.0 word.0 None
+        (λ other. other) u a }
     ensures sizes { SameSizes caches.old caches.new }
     ensures counted { CountsSearches probes.old probes.new 1 }
 {
@@ -102,11 +106,14 @@ pub(crate) fn put_line(
     requires valid { (bits_of line.bits).valid ≡ true }
     requires active { (bits_of line.bits).commit ≡ false }
     requires room { HasRoomFor probes.old caches.old (1 + length caches.old) }
-    ensures refused { MatchResult result (λ _. full_in caches.old unit.0 (length backing.old) word.0 ≡ None) (λ e. full_in caches.old unit.0 (length backing.old) word.0 ≡ Some e.0.0) }
+    ensures refused { MatchResult result (λ _. full_in caches.old unit.0 (length backing.old) word.0 ≡ None)
+        (λ e. full_in caches.old unit.0 (length backing.old) word.0 ≡ Some e.0.0) }
     ensures same_caches { OnErr result (caches.new ≡ caches.old) }
     ensures same_memory { OnErr result (backing.new ≡ backing.old) }
-    ensures lines { OnOk result ((u a : ℕ) → held_line caches.new u a ≡ with_line (held_line caches.old) unit.0 word.0 (Some (seen line)) purged_line u a) }
-    ensures memory { OnOk result ((a : ℕ) → get_or backing.new a 0 ≡ with_at (λ x. get_or backing.old x 0) word.0 (committed_in caches.old backing.old word.0) a) }
+    ensures lines { OnOk result ((u a : ℕ) → held_line caches.new u a
+        ≡ with_line (held_line caches.old) unit.0 word.0 (Some (seen line)) purged_line u a) }
+    ensures memory { OnOk result ((a : ℕ) → get_or backing.new a 0
+        ≡ with_at (λ x. get_or backing.old x 0) word.0 (committed_in caches.old backing.old word.0) a) }
     ensures sizes { SameSizes caches.old caches.new }
     ensures counted { OnOk result (CountsSearches probes.old probes.new (purges caches.old (Some unit) word.0 + 1)) }
 {
@@ -134,8 +141,10 @@ pub(crate) fn take_line(
     requires ranked { IsRanked (length caches.old) (lines_in caches.old word.0) }
     requires in_memory { word.0 < length backing.old }
     requires room { HasRoomFor probes.old caches.old (1 + length caches.old) }
-    ensures lines { (u a : ℕ) → held_line caches.new u a ≡ with_line (held_line caches.old) unit.0 word.0 None purged_line u a }
-    ensures memory { (a : ℕ) → get_or backing.new a 0 ≡ with_at (λ x. get_or backing.old x 0) word.0 (committed_in caches.old backing.old word.0) a }
+    ensures lines { (u a : ℕ) → held_line caches.new u a ≡ with_line
+        (held_line caches.old) unit.0 word.0 None purged_line u a }
+    ensures memory { (a : ℕ) → get_or backing.new a 0 ≡ with_at (λ x. get_or backing.old x 0) word.0
+        (committed_in caches.old backing.old word.0) a }
     ensures sizes { SameSizes caches.old caches.new }
 {
     purge(caches, backing, list, word, Some(unit), probes);

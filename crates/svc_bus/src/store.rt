@@ -65,11 +65,16 @@ pub(crate) fn store_line(
     requires valid { (bits_of store.now.line.bits).valid ≡ true }
     requires active { (bits_of store.now.line.bits).commit ≡ false }
     requires room { HasRoomFor probes.old caches.old (1 + (length caches.old + length caches.old)) }
-    ensures refused { MatchResult result (λ _. full_in caches.old store.now.unit.0 (length backing.old) store.now.word.0 ≡ None) (λ e. option_map (λ named. refusal.SetFull (record { 0 = named })) (full_in caches.old store.now.unit.0 (length backing.old) store.now.word.0) ≡ Some e) }
+    ensures refused { let full = full_in caches.old store.now.unit.0 (length backing.old) store.now.word.0 in
+        MatchResult result (λ _. full ≡ None) (λ e. option_map (λ named. refusal.SetFull (record { 0 = named })) full ≡ Some e) }
     ensures same_caches { OnErr result (caches.new ≡ caches.old) }
     ensures same_memory { OnErr result (backing.new ≡ backing.old) }
-    ensures lines { OnOk result ((u a : ℕ) → held_line caches.new u a ≡ left_line queue.now store.now.left u (stored_line (held_line caches.old) store.now.unit.0 store.now.word.0 (Some (seen store.now.line)) (option_map (λ (u : UnitId). u.0) store.now.previous) store.now.changed.now u a)) }
-    ensures memory { OnOk result ((a : ℕ) → get_or backing.new a 0 ≡ with_at (λ x. get_or backing.old x 0) store.now.word.0 (committed_in caches.old backing.old store.now.word.0) a) }
+    ensures lines { OnOk result ((u a : ℕ) → held_line caches.new u a
+        ≡ left_line queue.now store.now.left u (stored_line (held_line caches.old) store.now.unit.0 store.now.word.0
+        (Some (seen store.now.line)) (option_map (λ (u : UnitId). u.0) store.now.previous) store.now.changed.now u a)) }
+    ensures memory { OnOk result ((a : ℕ) → get_or backing.new a 0
+        ≡ with_at (λ x. get_or backing.old x 0) store.now.word.0
+        (committed_in caches.old backing.old store.now.word.0) a) }
     ensures sizes { SameSizes caches.old caches.new }
     ensures searches { OnOk result (CountsUpTo probes.old probes.new (length caches.old)) }
 {
@@ -96,7 +101,8 @@ pub(crate) fn store_line(
 /// The head's version of the word is no longer the spilled one, once the head has stored the word.
 pub(crate) fn empty_spill(spill: &mut Spill, place: usize, word: WordAddr)
     requires { word.0 < length spill.old }
-    ensures versions { (a : ℕ) → get_or spill.new a None ≡ with_at (λ x. get_or spill.old x None) word.0 (cond (place == 0) None (get_or spill.old word.0 None)) a }
+    ensures versions { (a : ℕ) → get_or spill.new a None ≡ with_at (λ x. get_or spill.old x None) word.0
+        (cond (place == 0) None (get_or spill.old word.0 None)) a }
     ensures size { length spill.new ≡ length spill.old }
 {
     if place == 0 {

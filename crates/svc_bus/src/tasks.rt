@@ -1,10 +1,10 @@
 ghost use Rattle.std.specs.Prelude.{◌≡◌, ℕ, ◌<◌, ◌^◌, false, length};
-ghost use Rattle.svc_bus_laws.specs.LineTable.{LineTable, unit_at};
+ghost use Rattle.svc_bus_laws.specs.LineTable.{LineTable};
 ghost use Rattle.svc_bus_laws.specs.Steps.{begin, commit, squash};
 ghost use Rattle.svc_bus_laws.specs.BusState.{Agrees};
 ghost use Rattle.svc_bus_laws.specs.Refusals.{is_head};
 ghost use Rattle.svc_bus.specs.Observed.{observed};
-ghost use Rattle.svc_bus.specs.Calls.{IsAtWork};
+ghost use Rattle.svc_bus.specs.Calls.{IsAtWork, RunsAt};
 
 use crate::Bus;
 use svc_base::UnitId;
@@ -41,7 +41,8 @@ impl Bus {
     pub fn squash_from(&mut self, unit: UnitId)
         requires at_work { IsAtWork (observed self.old) unit.0 }
         requires later { is_head (observed self.old).units unit.0 ≡ false }
-        ensures table { (t : LineTable) → (place : ℕ) → Agrees (observed self.old) t → place < length t.units → unit_at t place ≡ unit.0 → Agrees (observed self.new) (squash t place) }
+        ensures table { (t : LineTable) → (place : ℕ) → RunsAt (observed self.old) unit.0 t place
+            → Agrees (observed self.new) (squash t place) }
         ensures probes { (observed self.new).probes ≡ (observed self.old).probes }
     {
         let Some(position) = self.queue.position(unit) else {

@@ -1,11 +1,11 @@
 ghost use Rattle.std.specs.Prelude.{◌≡◌, ℕ, ◌+◌, ◌-◌, ◌^◌, ◌<◌, ◌≤◌, Option, Some, None, length, option_map, IfOk, IfSome, OnOk, OnErr, MatchResult};
 ghost use Rattle.svc_vol.specs.declared.list.TheConstants.{CAPACITY};
 ghost use Rattle.svc_bus_laws.specs.Versioned.{victim_answer};
-ghost use Rattle.svc_bus_laws.specs.LineTable.{LineTable, unit_at, versioned};
+ghost use Rattle.svc_bus_laws.specs.LineTable.{LineTable, versioned};
 ghost use Rattle.svc_bus_laws.specs.Steps.{write};
 ghost use Rattle.svc_bus_laws.specs.BusState.{Agrees};
 ghost use Rattle.svc_bus.specs.Observed.{observed};
-ghost use Rattle.svc_bus.specs.Calls.{IsAtWork, full_refusal, victim_shown};
+ghost use Rattle.svc_bus.specs.Calls.{IsAtWork, RunsAt, full_refusal, victim_shown};
 ghost use Rattle.svc_bus.specs.Looking.{LookUpsFrom};
 
 use crate::Bus;
@@ -23,7 +23,8 @@ fn victim_of(commits: u64, victim: Option<usize>, tasks: usize) -> Option<Victim
     requires few_commits { commits ≤ 2 ^ 63 }
     requires few_tasks { tasks ≤ CAPACITY }
     requires within { IfSome victim (λ place. place < tasks) }
-    ensures { option_map victim_shown result ≡ option_map (λ place. record { first = commits + place; tasks = tasks - place }) victim }
+    ensures { option_map victim_shown result
+        ≡ option_map (λ place. record { first = commits + place; tasks = tasks - place }) victim }
 {
     match victim {
         Some(place) => Some(Victim {
@@ -48,11 +49,15 @@ impl Bus {
     ) -> Result<Option<Victim>, Refusal>
         requires at_work { IsAtWork (observed self.old) unit.0 }
         requires in_memory { word.0 < (observed self.old).words }
-        ensures refused { MatchResult result (λ _. full_refusal (observed self.old) unit.0 word.0 ≡ None) (λ e. full_refusal (observed self.old) unit.0 word.0 ≡ Some e) }
+        ensures refused { MatchResult result (λ _. full_refusal (observed self.old) unit.0 word.0 ≡ None)
+            (λ e. full_refusal (observed self.old) unit.0 word.0 ≡ Some e) }
         ensures unchanged { OnErr result (self.new ≡ self.old) }
-        ensures victim { (t : LineTable) → (place : ℕ) → Agrees (observed self.old) t → place < length t.units → unit_at t place ≡ unit.0 → IfOk result (λ v. option_map victim_shown v ≡ victim_answer (versioned t) place word.0) }
-        ensures table { (t : LineTable) → (place : ℕ) → Agrees (observed self.old) t → place < length t.units → unit_at t place ≡ unit.0 → OnOk result (Agrees (observed self.new) (write t place word.0 value)) }
-        ensures probes { OnOk result (LookUpsFrom (observed self.old).caches (observed self.new).probes (observed self.old).caches) }
+        ensures victim { (t : LineTable) → (place : ℕ) → RunsAt (observed self.old) unit.0 t place
+            → IfOk result (λ v. option_map victim_shown v ≡ victim_answer (versioned t) place word.0) }
+        ensures table { (t : LineTable) → (place : ℕ) → RunsAt (observed self.old) unit.0 t place
+            → OnOk result (Agrees (observed self.new) (write t place word.0 value)) }
+        ensures probes { OnOk result (LookUpsFrom (observed self.old).caches (observed self.new).probes
+            (observed self.old).caches) }
     {
         let place = place_of(&self.queue, unit);
         let mut probes = Probes::new();

@@ -101,7 +101,9 @@ impl Cache {
     /// `word` has no line and its set is full.
     pub fn full(&self, word: WordAddr, probes: &mut Probes) -> Option<WordAddr>
         requires room { HasRoom probes.old self.now.ways }
-        ensures address { (bound : ℕ) → EndsBelow (line_of self.now) bound → option_map (λ named. named.0) result ≡ full_address self.now.sets self.now.ways bound (line_of self.now) word.0 }
+        ensures address { (bound : ℕ) → EndsBelow (line_of self.now) bound
+            → option_map (λ named. named.0) result ≡ full_address self.now.sets self.now.ways bound
+            (line_of self.now) word.0 }
         ensures counted { CountsOneSearch probes.old probes.new self.now.ways }
     {
         match seat_of(self.row(word), word, probes) {
@@ -115,7 +117,9 @@ impl Cache {
     pub fn fill(&mut self, word: WordAddr, line: Line, probes: &mut Probes) -> Result<(), SetFull>
         requires valid { (bits_of line.bits).valid ≡ true }
         requires room { HasRoom probes.old self.old.ways }
-        ensures refused { (bound : ℕ) → EndsBelow (line_of self.old) bound → MatchResult result (λ _. full_address self.old.sets self.old.ways bound (line_of self.old) word.0 ≡ None) (λ e. full_address self.old.sets self.old.ways bound (line_of self.old) word.0 ≡ Some e.0.0) }
+        ensures refused { (bound : ℕ) → EndsBelow (line_of self.old) bound
+            → MatchResult result (λ _. full_address self.old.sets self.old.ways bound (line_of self.old) word.0 ≡ None)
+            (λ e. full_address self.old.sets self.old.ways bound (line_of self.old) word.0 ≡ Some e.0.0) }
         ensures unchanged { OnErr result (self.new ≡ self.old) }
         ensures line { OnOk result (line_of self.new ≡ with_line (line_of self.old) word.0 (Some (seen line))) }
         ensures sets { self.new.sets ≡ self.old.sets }

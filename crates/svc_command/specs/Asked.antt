@@ -40,6 +40,8 @@ Names words (request.Sequential from tasks) = IsNamed (codes "seq") words
 Names words (request.Script from config events) = IsNamed (codes "script") words
 Names words (request.Check from config trace) = IsNamed (codes "check") words
 Names words (request.Profile from config trace by) = IsNamed (codes "profile") words
+Names words (request.Show from config trace at) = IsNamed (codes "show") words
+Names words (request.Draw from config trace picture first count) = IsNamed (codes "draw") words
 Names words (request.Assemble text image) = IsNamed (codes "assemble") words
 Names words (request.List from) = IsNamed (codes "list") words
 

@@ -74,7 +74,8 @@ and 1 at a fault, which standard error names in one line:
                   the event of this entry, counted from 0, is refused there, or the entry lacks a number
   trace fault 3 at entry I
                   the event of this entry is answered otherwise there
-  file fault      a file could not be read or written, or memory was refused elsewhere";
+  file fault      a file could not be read or written, a trace has fewer entries than --at or --from says, or
+                  memory was refused elsewhere";
 
 const RUN: &str = "Runs an image on the simulated machine, and prints the summary.
 
@@ -128,6 +129,42 @@ each unit, or for each word of data that was touched.
 
 Example: svcsim profile sum.svci sum.csv --by task";
 
+const SHOW: &str =
+    "Replays a trace as check does, and prints the machine after its last entry, or with --at N after its
+first N entries. Its rows, in this order:
+
+  at,N                   how many entries lead to it
+  tasks,K                how many tasks were committed
+  due,E                  the entry of the next task to commit; empty once the run has stopped
+  guess,E                the entry at which the next assignment should begin; empty once it has stopped
+  exit,C or another      how the run stands, as in a summary
+  task,J,U,E,T,STATE     an active task, oldest first: its number, its unit, the entry at which it began, and
+                         its turns so far. It is running, or has ended: next, exit or trap
+  line,U,A,V,BITS        a valid line of unit U, by unit and then word: data word A, its value, and the bits
+                         that are set of VSLCT: valid, stored, loaded, committed, stale
+  spill,A,V              the oldest task's version of a word whose line was replaced
+  memory,A,C,B           a word that is in a line or spilled: what the committed tasks left in it, and what
+                         memory itself holds
+
+Of a faulty trace it tells the first fault, as check does, and no row. N past the last entry is a file
+fault. Give the options that the trace was made with.
+
+Example: svcsim show sum.svci sum.csv --at 4";
+
+const DRAW: &str =
+    "Replays a trace as check does, and saves a picture of it: one SVG file, which any browser shows.
+
+A lane is a unit, and time goes to the right, an entry of the trace after another. A bar is a task, from its
+assignment to its commit or squash, and its filling tells which. Marks are loads, stores and words put out;
+a thin arrow goes from the store of a version to a read that was given it, and a bold one from a store to
+the read that it found too early, for which a task was squashed. Held over a mark, the pointer shows its
+row of the trace. Of a faulty trace it tells the first fault, as check does, and saves nothing. Give the
+options that the trace was made with.
+
+Nothing is printed. The time that a picture takes grows as the square of the entries that it shows.
+
+Example: svcsim draw sum.svci sum.csv sum.svg --from 100 --count 200";
+
 const ASSEMBLE: &str = "Assembles a text of RV32I instructions, and saves the image.
 
 The text is written as for GNU's assembler: labels, instructions and their pseudo-instructions, data in
@@ -164,6 +201,8 @@ pub fn command<'a>(alloc: Global) -> Result<Command<'a>, AllocError> {
         .subcommand(script(alloc)?)?
         .subcommand(check(alloc)?)?
         .subcommand(profile(alloc)?)?
+        .subcommand(show(alloc)?)?
+        .subcommand(draw(alloc)?)?
         .subcommand(assemble(alloc)?)?
         .subcommand(list(alloc)?)
 }
@@ -223,6 +262,48 @@ fn profile<'a>(alloc: Global) -> Result<Command<'a>, AllocError> {
         .arg(image(alloc))?
         .arg(file(alloc, "TRACE").help("The trace's file"))?
         .arg(by)?;
+    with_configuration(alloc, command)
+}
+
+// `show`: the machine where a trace leads.
+fn show<'a>(alloc: Global) -> Result<Command<'a>, AllocError> {
+    let at = Arg::new(alloc, "at")
+        .long("at")
+        .value_name("N")
+        .action(ArgAction::Set)
+        .value_parser(clap::value_parser!(u64))
+        .help(
+            "Shows the machine after so many of the trace's entries, and after all where none is given",
+        );
+    let command = Command::new(alloc, "show")
+        .about("Replays a trace, and shows the machine to which it leads")
+        .long_about(SHOW)
+        .after_help(STATUSES)
+        .arg(image(alloc))?
+        .arg(file(alloc, "TRACE").help("The trace's file"))?
+        .arg(at)?;
+    with_configuration(alloc, command)
+}
+
+// `draw`: a picture of a trace.
+fn draw<'a>(alloc: Global) -> Result<Command<'a>, AllocError> {
+    let from = number(alloc, "from", "0").help("The first entry that is shown, counted from 0");
+    let count = Arg::new(alloc, "count")
+        .long("count")
+        .value_name("N")
+        .action(ArgAction::Set)
+        .value_parser(clap::value_parser!(u32).range(1..))
+        .default_value("400")
+        .help("How many entries are shown, as far as there are any: 1 to 4294967295");
+    let command = Command::new(alloc, "draw")
+        .about("Replays a trace, and saves a picture of it")
+        .long_about(DRAW)
+        .after_help(STATUSES)
+        .arg(image(alloc))?
+        .arg(file(alloc, "TRACE").help("The trace's file"))?
+        .arg(file(alloc, "FILE.svg").help("The file that the picture is saved in"))?
+        .arg(from)?
+        .arg(count)?;
     with_configuration(alloc, command)
 }
 

@@ -126,6 +126,20 @@ fn asked<'a>(
             trace: given.get_str("TRACE").ok_or(Fault::File)?,
             by: table(given)?,
         }),
+        Some(("show", given)) if is_named(words, "show") => Ok(Request::Show {
+            image: image(given)?,
+            config: configuration(given)?,
+            trace: given.get_str("TRACE").ok_or(Fault::File)?,
+            at: given.get_one::<u64>("at"),
+        }),
+        Some(("draw", given)) if is_named(words, "draw") => Ok(Request::Draw {
+            image: image(given)?,
+            config: configuration(given)?,
+            trace: given.get_str("TRACE").ok_or(Fault::File)?,
+            picture: given.get_str("FILE.svg").ok_or(Fault::File)?,
+            from: number(given, "from")?,
+            count: number(given, "count")?,
+        }),
         Some(("assemble", given)) if is_named(words, "assemble") => Ok(Request::Assemble {
             text: given.get_str("FILE").ok_or(Fault::File)?,
             image: given.get_str("IMAGE").ok_or(Fault::File)?,

@@ -1,5 +1,5 @@
 -- Where the lines of a program put what they say, and the image that this makes.
-use Rattle.std.specs.Prelude.{◌≡◌, ℕ, ◌+◌, ◌*◌, ◌-◌, ◌/◌, ◌%◌, ◌≤◌, Bool, true, false, nat_le, nat_lt, is_some, ◌==◌, List, [], ◌∷◌, ◌++◌, length, map, Option, Some, None, unwrap_or, if◌then◌else◌, slice_set}
+use Rattle.std.specs.Prelude.{◌≡◌, ℕ, ◌+◌, ◌*◌, ◌-◌, ◌/◌, ◌%◌, ◌^◌, ◌≤◌, Bool, true, false, nat_le, nat_lt, is_some, ◌==◌, List, [], ◌∷◌, ◌++◌, length, map, Option, Some, None, unwrap_or, if◌then◌else◌, slice_set, option_map}
 use Rattle.std.specs.Str.{bytes_eq}
 use Rattle.std.specs.Map.{update}
 use Rattle.std.specs.HashMap.{get_by}
@@ -10,23 +10,28 @@ use Rattle.svc_image.specs.declared.version.Version.TheVariants as version
 use Rattle.svc_image.specs.Version.{version_number, own_number, listed}
 use Rattle.svc_image.specs.Image.{Image}
 use Rattle.svc_image.specs.Format.{magic, bytes_of_half, bytes_of_word, bytes_of_words, file_of}
+use Rattle.svc_draft.specs.declared.section.Section.{Section}
+use Rattle.svc_draft.specs.declared.section.Section.TheVariants as section
+use Rattle.svc_draft.specs.declared.section.Spot.{Spot}
+use Rattle.svc_draft.specs.declared.statement.Width.{Width}
+use Rattle.svc_draft.specs.declared.statement.Width.TheVariants as wide
+use Rattle.svc_draft.specs.declared.statement.Next.{Next}
+use Rattle.svc_draft.specs.declared.statement.Next.TheVariants as go
 use Rattle.svc_draft.specs.declared.statement.Statement.{Statement}
 use Rattle.svc_draft.specs.declared.statement.Statement.TheVariants as say
 use Rattle.svc_draft.specs.declared.draft.Draft.{Draft}
-use Rattle.svc_draft.specs.declared.draft.Refusal.{Refusal}
-use Rattle.svc_draft.specs.declared.draft.Refusal.TheVariants as refusal
 use Rattle.svc_draft.specs.Options.{◌>>=◌}
-use Rattle.svc_draft.specs.Filled.{filled}
+use Rattle.svc_draft.specs.Areas.{padding, with_more, with_zeros, bytes_in, data_of}
 use Rattle.svc_draft.specs.Versions.{has_other, version_in}
 
--- what names stand for: the addresses of labels
+-- what names stand for: places in sections
 abbrev pub Names : Type 0
-Names = List ℕ → Option ℕ
+Names = List ℕ → Option Spot
 
 abbrev pub no_names : Names
 no_names name = None
 
--- what an image is made of so far: the version where it is said; the limit of the entries that have none of their own; how many of the first data words are read-only; the start where it is said; the registers; the entries, and the limit that each has of its own; the words of the text, the bytes of the data, and whether what follows is data; the names of the labels, and whether these are all the names of the program, as they are in the second pass
+-- what an image is made of so far: the version where it is said; the limit of the entries that have none of their own; how many of the first data words are read-only; the start where it is said; the registers; the entries, and the limit that each has of its own; the words of the text, the bytes of each section of data, the section of what follows, and what is read next; the names, whether these are all the names of the program, as they are in the second pass, and how far behind the data's beginning .data and .bss begin then
 pub record Layout : Type 0 where
   pub version : Option Version
   pub limit : ℕ
@@ -36,10 +41,15 @@ pub record Layout : Type 0 where
   pub entries : List ℕ
   pub limits : List (Option ℕ)
   pub text : List ℕ
+  pub rodata_bytes : List ℕ
   pub data_bytes : List ℕ
-  pub in_data : Bool
+  pub bss_bytes : List ℕ
+  pub section : Section
+  pub next : Next
   pub names : Names
   pub known : Bool
+  pub data_from : ℕ
+  pub bss_from : ℕ
 
 abbrev pub layout_of : Draft → Layout
 layout_of d = record {
@@ -51,18 +61,23 @@ layout_of d = record {
   entries = d.entries.items;
   limits = d.limits.items;
   text = d.text.items;
+  rodata_bytes = d.rodata_bytes.items;
   data_bytes = d.data_bytes.items;
-  in_data = d.in_data;
+  bss_bytes = d.bss_bytes.items;
+  section = d.section;
+  next = d.next;
   names = λ name. get_by (λ key. bytes_eq name key.now) d.names;
   known = d.known;
+  data_from = d.data_from;
+  bss_from = d.bss_from;
 }
 
 abbrev pub zeros : List ℕ
 zeros = 0 ∷ 0 ∷ 0 ∷ 0 ∷ 0 ∷ 0 ∷ 0 ∷ 0 ∷ 0 ∷ 0 ∷ 0 ∷ 0 ∷ 0 ∷ 0 ∷ 0 ∷ 0 ∷ 0 ∷ 0 ∷ 0 ∷ 0 ∷ 0 ∷ 0 ∷ 0 ∷ 0 ∷ 0 ∷ 0 ∷ 0 ∷ 0 ∷ 0 ∷ 0 ∷ 0 ∷ []
 
--- the layout of a program without lines, in a pass with these names
-abbrev pub empty : Names → Bool → Layout
-empty names known = record {
+-- the layout of a program without lines, in a pass with these names and sections
+abbrev pub empty : Names → Bool → (data_from bss_from : ℕ) → Layout
+empty names known data_from bss_from = record {
   version = None;
   limit = 65536;
   read_only = 0;
@@ -71,38 +86,127 @@ empty names known = record {
   entries = [];
   limits = [];
   text = [];
+  rodata_bytes = [];
   data_bytes = [];
-  in_data = false;
+  bss_bytes = [];
+  section = section.Text;
+  next = go.Line;
   names = names;
   known = known;
+  data_from = data_from;
+  bss_from = bss_from;
 }
 
--- the byte address of what comes next: the text begins at 0, the data at 0x00100000
+-- a section in whole words
+abbrev pub whole_size : List ℕ → ℕ
+whole_size bytes = length bytes + padding 4 (length bytes)
+
+-- no lines yet, in the first pass, and in the second pass behind such a first one
+abbrev pub first_pass : Layout
+first_pass = empty no_names false 0 0
+
+abbrev pub second_pass : Layout → Layout
+second_pass d = empty d.names true (whole_size d.rodata_bytes) (whole_size d.rodata_bytes + whole_size d.data_bytes)
+
+-- how many bytes of the section of what follows there are so far
+abbrev pub size_in : Section → Layout → ℕ
+size_in section.Text d = 4 * length d.text
+size_in section.Rodata d = length d.rodata_bytes
+size_in section.Data d = length d.data_bytes
+size_in section.Bss d = length d.bss_bytes
+
+abbrev pub size : Layout → ℕ
+size d = size_in d.section d
+
+-- where a section begins: the text at 0, the data at 0x00100000
+abbrev pub base : Section → Layout → ℕ
+base section.Text d = 0
+base section.Rodata d = 1048576
+base section.Data d = 1048576 + d.data_from
+base section.Bss d = 1048576 + d.bss_from
+
+-- the byte address of a place, and of what comes next
+abbrev pub place : Layout → Spot → ℕ
+place d s = (base s.section d + s.offset) % 2 ^ 32
+
+abbrev pub spot_here : Layout → Spot
+spot_here d = record { section = d.section; offset = size d }
+
 abbrev pub here : Layout → ℕ
-here d = if d.in_data then 1048576 + length d.data_bytes else 4 * length d.text
+here d = place d (spot_here d)
 
 -- the address that a name stands for; in the first pass any name may yet come to stand for one
 abbrev pub address_of : Layout → List ℕ → Option ℕ
-address_of d name = if d.known then d.names name else Some (here d)
+address_of d name = if d.known then option_map (place d) (d.names name) else Some (here d)
 
 -- a word more of the text, of which an image has at most 65,536
 unfoldable pub with_word : ℕ → Layout → Option Layout
 with_word w d = if nat_lt (length d.text) 65536 then Some (record d { text = d.text ++ (w ∷ []) }) else None
 
--- a word more of the data, of which an image has as many at most
-unfoldable pub with_data : ℕ → Layout → Option Layout
-with_data w d = if nat_le (length d.data_bytes) 262140 then Some (record d { data_bytes = d.data_bytes ++ bytes_of_word w }) else None
+-- a change of the bytes of the section of what follows, where it is one of data
+abbrev pub in_section : (List ℕ → Option (List ℕ)) → Section → Layout → Option Layout
+in_section change section.Text d = None
+in_section change section.Rodata d = change d.rodata_bytes >>= (λ bytes. Some (record d { rodata_bytes = bytes }))
+in_section change section.Data d = change d.data_bytes >>= (λ bytes. Some (record d { data_bytes = bytes }))
+in_section change section.Bss d = change d.bss_bytes >>= (λ bytes. Some (record d { bss_bytes = bytes }))
+
+unfoldable pub with_bytes : List ℕ → Layout → Option Layout
+with_bytes more d = in_section (with_more more) d.section d
+
+unfoldable pub with_blank : ℕ → Layout → Option Layout
+with_blank count d = if count == 0 then Some d else in_section (with_zeros count) d.section d
+
+-- zeros up to the next multiple of a step
+unfoldable pub with_align : ℕ → Layout → Option Layout
+with_align step d = with_blank (padding step (size d)) d
+
+-- a number of so many bytes; the text takes words
+abbrev pub with_number : Section → Width → ℕ → Layout → Option Layout
+with_number section.Text wide.Word n d = with_word n d
+with_number section.Text wide.Half n d = None
+with_number section.Text wide.Byte n d = None
+with_number section.Rodata width n d = with_bytes (bytes_in width n) d
+with_number section.Data width n d = with_bytes (bytes_in width n) d
+with_number section.Bss width n d = with_bytes (bytes_in width n) d
+
+unfoldable pub with_value : Width → ℕ → Layout → Option Layout
+with_value width n d = with_number d.section width n d
+
+-- what is read next
+abbrev pub going_on : Next → Layout → Option Layout
+going_on n d = Some (record d { next = n })
+
+-- an instruction, which stands in the text
+abbrev pub word_in : Section → ℕ → Layout → Option Layout
+word_in section.Text w d = with_word w d
+word_in section.Rodata w d = None
+word_in section.Data w d = None
+word_in section.Bss w d = None
+
+abbrev pub with_instruction : ℕ → Layout → Option Layout
+with_instruction w d = word_in d.section w d
+
+-- two instructions
+unfoldable pub with_pair : ℕ → ℕ → Layout → Option Layout
+with_pair first second d = with_instruction first d >>= with_instruction second
 
 -- the version, of which a program has one
 unfoldable pub with_version : Version → Layout → Option Layout
 with_version v d = if has_other v d.version then None else Some (record d { version = Some v })
 
--- the data so far is read-only, which only version 2 has, by the word
-abbrev pub read_only_so_far : Layout → Option Layout
-read_only_so_far d = Some (record d { read_only = length d.data_bytes / 4 })
+-- how many bytes the image's data has up to the end of a section so far; the text stands for .data
+abbrev pub data_up_to : Section → Layout → ℕ
+data_up_to section.Text d = d.data_from + length d.data_bytes
+data_up_to section.Rodata d = length d.rodata_bytes
+data_up_to section.Data d = d.data_from + length d.data_bytes
+data_up_to section.Bss d = d.bss_from + length d.bss_bytes
+
+-- the data up to here is read-only, which only version 2 has, by the word
+abbrev pub read_only_up_to : ℕ → Layout → Option Layout
+read_only_up_to bytes d = Some (record d { read_only = bytes / 4 })
 
 unfoldable pub with_read_only : Layout → Option Layout
-with_read_only d = if length d.data_bytes % 4 == 0 then with_version version.Two d >>= read_only_so_far else None
+with_read_only d = if data_up_to d.section d % 4 == 0 then with_version version.Two d >>= read_only_up_to (data_up_to d.section d) else None
 
 -- an entry at the next word of the text; only version 2 gives it a limit of its own
 unfoldable pub with_place : Option ℕ → Layout → Option Layout
@@ -122,31 +226,42 @@ abbrev pub is_place : ℕ → Option ℕ → Bool
 is_place place None = false
 is_place place (Some address) = address == place
 
--- a label: in the first pass no other has its name, and in the second it stands where the first found it
-unfoldable pub with_label : List ℕ → Layout → Option Layout
-with_label name d =
-    if d.known then if is_place (here d) (d.names name) then Some d else None
-    else if is_some (d.names name) then None else Some (record d { names = update bytes_eq d.names name (Some (here d)) })
+-- a name: in the first pass no other is the same, and in the second it stands where the first found it
+unfoldable pub with_symbol : List ℕ → Spot → Layout → Option Layout
+with_symbol name s d =
+    if d.known then if is_place (place d s) (option_map (place d) (d.names name)) then Some d else None
+    else if is_some (d.names name) then None else Some (record d { names = update bytes_eq d.names name (Some s) })
+
+-- so many zeros in .bss, behind zeros up to a multiple of a step, which a name stands for; what follows stands where it stood before
+unfoldable pub with_common : List ℕ → ℕ → ℕ → Layout → Option Layout
+with_common name count step d = do
+  aligned ← with_align step (record d { section = section.Bss })
+  named ← with_symbol name (spot_here aligned) aligned
+  put ← with_blank count named
+  Some (record put { section = d.section; next = go.Line })
 
 -- the layout after a line, where the line may stand there; a label's line is what has this name and a colon
 abbrev pub after : List ℕ → Statement → Layout → Option Layout
 after name say.Nothing d = Some d
-after name say.Label d = with_label name d
-after name (say.Instruction i) d = if d.in_data then None else with_word (word_of i) d
-after name (say.Word n) d = if d.in_data then with_data n d else with_word n d
-after name say.Text d = Some (record d { in_data = false })
-after name say.Data d = Some (record d { in_data = true })
+after name say.Label d = with_symbol name (spot_here d) d
+after name (say.Instruction i) d = with_instruction (word_of i) d
+after name (say.Word n) d = with_value wide.Word n d
+after name say.Text d = Some (record d { section = section.Text })
+after name say.Data d = Some (record d { section = section.Data })
 after name (say.Version v) d = with_version v d
 after name say.ReadOnly d = with_read_only d
 after name (say.Entry limit) d = with_entry limit d
 after name (say.Start n) d = Some (record d { start = Some n })
 after name (say.Limit n) d = Some (record d { limit = n })
 after name (say.Register r n) d = with_register r n d
-
--- a refusal is right where there is no layout after the line, or memory ran out
-abbrev pub Refuses : Refusal → Option Layout → Type 0
-Refuses refusal.Memory next = Unit {0}
-Refuses _ next = next ≡ None
+after name (say.Section s) d = Some (record d { section = s })
+after name (say.Zeros n) d = with_blank n d
+after name (say.Align step) d = with_align step d
+after name (say.Open n) d = going_on n d
+after name (say.Value width n next) d = with_value width n d >>= going_on next
+after name (say.Symbol s) d = with_symbol name s d >>= going_on go.Line
+after name (say.Common count step) d = with_common name count step d
+after name (say.Pair i j) d = with_pair (word_of i) (word_of j) d
 
 -- where the first task begins: where it is said, and else at the first entry
 abbrev pub first_entry : List ℕ → ℕ
@@ -161,25 +276,25 @@ start_in None entries = first_entry entries
 abbrev pub limits_in : ℕ → List (Option ℕ) → List ℕ
 limits_in limit own = map (λ o. unwrap_or o limit) own
 
--- the bytes of the image's file, where the data is whole words
-unfoldable pub file_in : Layout → List ℕ
-file_in d =
+-- the bytes of the image's file that has this data
+unfoldable pub file_in : Layout → List ℕ → List ℕ
+file_in d bytes =
     magic ++ (bytes_of_half (version_number (version_in d.version)) ++ (bytes_of_half (length d.entries) ++ (bytes_of_word (length d.text)
-    ++ (bytes_of_word (length d.data_bytes / 4) ++ (bytes_of_word (own_number (version_in d.version) d.limit d.read_only) ++ (bytes_of_word (start_in d.start d.entries)
+    ++ (bytes_of_word (length bytes / 4) ++ (bytes_of_word (own_number (version_in d.version) d.limit d.read_only) ++ (bytes_of_word (start_in d.start d.entries)
     ++ (bytes_of_words d.registers ++ (bytes_of_words d.entries ++ (bytes_of_words (listed (version_in d.version) (limits_in d.limit d.limits))
-    ++ (bytes_of_words d.text ++ d.data_bytes))))))))))
+    ++ (bytes_of_words d.text ++ bytes))))))))))
 
--- a layout has no more parts than an image may have
-pub record HasFewParts (d : Layout) : Type 0 where
+-- a layout and its data have no more parts than an image may have
+pub record HasFewParts (d : Layout) (bytes : List ℕ) : Type 0 where
   pub entries_few : length d.entries ≤ 1024
   pub text_few : length d.text ≤ 65536
-  pub data_few : length d.data_bytes / 4 ≤ 65536
+  pub data_few : length bytes / 4 ≤ 65536
 
--- the layout with its last word of data filled
-abbrev pub whole : Layout → Layout
-whole d = record d { data_bytes = filled d.data_bytes }
+-- the data of a layout: its sections, one behind the other
+abbrev pub data_in : Layout → List ℕ
+data_in d = data_of d.rodata_bytes d.data_bytes d.bss_bytes
 
 -- the image that a layout makes
 pub record IsMadeOf (d : Layout) (img : Image) : Type 0 where
-  pub few : HasFewParts (whole d)
-  pub file : file_of img ≡ file_in (whole d)
+  pub few : HasFewParts d (data_in d)
+  pub file : file_of img ≡ file_in d (data_in d)

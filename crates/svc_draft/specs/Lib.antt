@@ -1,4 +1,5 @@
 pub mod Options
-pub mod Filled
+pub mod Areas
+pub mod Refusals
 pub mod Versions
 pub mod Layouts

@@ -4,71 +4,24 @@ ghost use Rattle.std.specs.Prelude.{◌≡◌, ◌++◌, ◌/◌, ◌%◌, ◌�
 ghost use Rattle.std.specs.Str.{bytes_eq};
 ghost use Rattle.std.specs.HashMap.{get_by};
 ghost use Rattle.svc_image.specs.declared.error.ImageError.TheVariants as image_error;
-ghost use Rattle.svc_draft.specs.declared.draft.Refusal.TheVariants as refusal;
-ghost use Rattle.svc_draft.specs.Filled.{filled};
 ghost use Rattle.svc_draft.specs.Versions.{has_other};
 
-use crate::bytes::{put_half, put_limits, put_word, put_words};
-use crate::statement::Statement;
-use std::alloc::{AllocError, AllocFailed, Global};
+use crate::area::{join, padding, put_more, put_zeros, whole_size};
+use crate::bytes::{half_bytes, put_half, put_limits, put_word, put_words, word_bytes};
+use crate::refusal::Refusal;
+use crate::section::{Section, Spot};
+use crate::statement::{Next, Statement, Width};
+use std::alloc::Global;
 use std::collections::HashMap;
 use svc_image::{Image, ImageError, Version};
 use svc_rv32i::{Register, encode};
-use thiserror::Error;
 
 /// The most words of a text.
 const MOST_WORDS: usize = 65_536;
-/// The most bytes of data.
-const MOST_BYTES: usize = 4 * MOST_WORDS;
 /// The byte address of the data.
 const DATA_PLACE: u32 = 0x0010_0000;
 /// The most entries.
 const MOST_ENTRIES: usize = 1024;
-
-/// Why a line may not stand where it stands.
-#[derive(Clone, Copy, Debug, Error)]
-pub enum Refusal {
-    /// The text has 65,536 words already.
-    #[error("a text has at most 65536 words")]
-    FullText,
-    /// The data has 65,536 words already.
-    #[error("data has at most 65536 words")]
-    FullData,
-    /// An instruction among the data.
-    #[error("an instruction stands in the text")]
-    InData,
-    /// Register x0, which is always 0.
-    #[error("x0 is always 0")]
-    ZeroRegister,
-    /// A label whose name another one has.
-    #[error("a label has a name of its own")]
-    LabelTwice,
-    /// A directive of another version than the program has.
-    #[error("the program has another version of the image format")]
-    OtherVersion,
-    /// A part of a word that would be read-only.
-    #[error("data is read-only by the word")]
-    PartOfWord,
-    /// Memory ran out.
-    #[error("out of memory")]
-    Memory,
-}
-
-impl From<AllocError> for Refusal {
-    ghost from_gives = { λ _ e. e ≡ refusal.Memory };
-
-    fn from(_error: AllocError) -> Refusal {
-        Refusal::Memory
-    }
-}
-
-impl<T: Drop> From<AllocFailed<T>> for Refusal {
-    ghost from_gives = { λ _ e. e ≡ refusal.Memory };
-
-    fn from(_error: AllocFailed<T>) -> Refusal {
-        Refusal::Memory
-    }
-}
 
 /// What the lines read so far make.
 #[derive(Drop)]
@@ -84,15 +37,26 @@ pub struct Draft<'a> {
     // The limit that each entry has of its own.
     limits: Vec<Option<u32>>,
     text: Vec<u32>,
-    // In bytes, the lowest of a word first.
+    // The sections of data, in bytes.
+    rodata_bytes: Vec<u8>,
     data_bytes: Vec<u8>,
-    in_data: bool,
-    // The addresses of labels.
-    names: HashMap<&'a [u8], u32>,
+    bss_bytes: Vec<u8>,
+    // The section of what follows.
+    section: Section,
+    // What is read next.
+    next: Next,
+    names: HashMap<&'a [u8], Spot>,
     // Whether these are all the names of the program, as they are in the second pass.
     known: bool,
+    // How far behind the data's beginning these sections begin, which the second pass knows.
+    data_from: u32,
+    bss_from: u32,
     ghost text_few: { length text.items ≤ 65536 },
+    ghost rodata_few: { length rodata_bytes.items ≤ 262144 },
     ghost data_few: { length data_bytes.items ≤ 262144 },
+    ghost bss_few: { length bss_bytes.items ≤ 262144 },
+    ghost data_near: { data_from ≤ 262144 },
+    ghost bss_near: { bss_from ≤ 524288 },
 }
 
 impl<'a> Draft<'a> {
@@ -103,24 +67,37 @@ impl<'a> Draft<'a> {
     ghost use Rattle.svc_image.specs.Version.{own_number, listed};
     ghost use Rattle.svc_image.specs.Format.{bytes_of_words};
     ghost use Rattle.svc_draft.specs.Versions.{version_in};
-    ghost use Rattle.svc_draft.specs.Layouts.{layout_of, empty, no_names, here, address_of, with_word, with_data, with_label, with_version, with_read_only, with_own, with_place, with_entry, with_register, after, Refuses, start_in, limits_in, file_in, HasFewParts, IsMadeOf};
+    ghost use Rattle.svc_draft.specs.Areas.{bytes_in};
+    ghost use Rattle.svc_draft.specs.Refusals.{Refuses};
+    ghost use Rattle.svc_draft.specs.Layouts.{layout_of, empty, no_names, first_pass, second_pass, size, base, place, spot_here, here, address_of, with_word, with_bytes, with_blank, with_align, with_value, with_symbol, with_common, with_instruction, with_pair, with_version, data_up_to, with_read_only, with_own, with_place, with_entry, with_register, after, start_in, limits_in, file_in, data_in, HasFewParts, IsMadeOf};
 
     /// No lines yet, in the first pass.
     pub fn new(alloc: Global) -> Draft<'a>
-        ensures { layout_of result ≡ empty no_names false }
+        ensures { layout_of result ≡ first_pass }
     {
-        Draft::with_names(HashMap::new(alloc), false, alloc)
+        Draft::with_names(HashMap::new(alloc), false, 0, 0, alloc)
     }
 
     /// No lines yet, in the second pass, behind a first one that ended so.
     pub fn again(self, alloc: Global) -> Draft<'a>
-        ensures { layout_of result ≡ empty (layout_of self.entry).names true }
+        ensures { layout_of result ≡ second_pass (layout_of self.entry) }
     {
-        Draft::with_names(self.names, true, alloc)
+        let data_from = whole_size(&self.rodata_bytes);
+        let bss_from = data_from + whole_size(&self.data_bytes);
+        Draft::with_names(self.names, true, data_from, bss_from, alloc)
     }
 
-    fn with_names(names: HashMap<&'a [u8], u32>, known: bool, alloc: Global) -> Draft<'a>
-        ensures { layout_of result ≡ empty (λ name. get_by (λ key. bytes_eq name key.now) names.entry) known }
+    fn with_names(
+        names: HashMap<&'a [u8], Spot>,
+        known: bool,
+        data_from: u32,
+        bss_from: u32,
+        alloc: Global,
+    ) -> Draft<'a>
+        requires data_near { data_from ≤ 262144 }
+        requires bss_near { bss_from ≤ 524288 }
+        ensures { layout_of result
+            ≡ empty (λ name. get_by (λ key. bytes_eq name key.now) names.entry) known data_from bss_from }
     {
         Draft {
             version: None,
@@ -131,10 +108,63 @@ impl<'a> Draft<'a> {
             entries: Vec::new(alloc),
             limits: Vec::new(alloc),
             text: Vec::new(alloc),
+            rodata_bytes: Vec::new(alloc),
             data_bytes: Vec::new(alloc),
-            in_data: false,
+            bss_bytes: Vec::new(alloc),
+            section: Section::Text,
+            next: Next::Line,
             names,
             known,
+            data_from,
+            bss_from,
+        }
+    }
+
+    /// What is read next.
+    pub fn next(&self) -> Next
+        ensures { result ≡ (layout_of self.now).next }
+    {
+        self.next
+    }
+
+    // How many bytes of the section of what follows there are so far.
+    fn size(&self) -> u32
+        ensures { result ≡ size (layout_of self.now) }
+    {
+        match self.section {
+            Section::Text => 4 * self.text.len() as u32,
+            Section::Rodata => self.rodata_bytes.len() as u32,
+            Section::Data => self.data_bytes.len() as u32,
+            Section::Bss => self.bss_bytes.len() as u32,
+        }
+    }
+
+    // Where a section begins.
+    fn base(&self, section: Section) -> u32
+        ensures { result ≡ base section (layout_of self.now) }
+    {
+        match section {
+            Section::Text => 0,
+            Section::Rodata => DATA_PLACE,
+            Section::Data => DATA_PLACE + self.data_from,
+            Section::Bss => DATA_PLACE + self.bss_from,
+        }
+    }
+
+    // The byte address of a place.
+    fn place(&self, spot: Spot) -> u32
+        ensures { result ≡ place (layout_of self.now) spot }
+    {
+        self.base(spot.section).wrapping_add(spot.offset)
+    }
+
+    /// The place of what comes next.
+    pub fn spot_here(&self) -> Spot
+        ensures { result ≡ spot_here (layout_of self.now) }
+    {
+        Spot {
+            section: self.section,
+            offset: self.size(),
         }
     }
 
@@ -142,11 +172,14 @@ impl<'a> Draft<'a> {
     pub fn here(&self) -> u32
         ensures { result ≡ here (layout_of self.now) }
     {
-        if self.in_data {
-            DATA_PLACE + self.data_bytes.len() as u32
-        } else {
-            4 * self.text.len() as u32
-        }
+        self.place(self.spot_here())
+    }
+
+    /// The place that a name stands for, where a line before has said it or the second pass reads.
+    pub fn spot_of(&self, name: &[u8]) -> Option<Spot>
+        ensures { result ≡ (layout_of self.now).names name.now }
+    {
+        self.names.get(name).copied()
     }
 
     /// The address that a name stands for. In the first pass any name may yet come to stand for one.
@@ -156,39 +189,59 @@ impl<'a> Draft<'a> {
         if !self.known {
             return Some(self.here());
         }
-        self.names.get(name).copied()
+        match self.spot_of(name) {
+            Some(spot) => Some(self.place(spot)),
+            None => None,
+        }
     }
 
-    /// Adds what a line says, which is a label if it has this name and a colon.
+    /// Adds what a line says, which is about this name if it is a label or sets a symbol.
     pub fn take(&mut self, name: &'a [u8], statement: Statement) -> Result<(), Refusal>
         ensures ok { OnOk result (after name.now statement (layout_of self.old) ≡ Some (layout_of self.new)) }
         ensures err { IfErr result (λ e. Refuses e (after name.now statement (layout_of self.old))) }
     {
         match statement {
             Statement::Nothing => {}
-            Statement::Label => return self.set_label(name),
-            Statement::Instruction(instr) => {
-                if self.in_data {
-                    return Err(Refusal::InData);
-                }
-                return self.push_word(encode(&instr));
-            }
-            Statement::Word(word) => {
-                if !self.in_data {
-                    return self.push_word(word);
-                }
-                return self.push_data(word);
-            }
-            Statement::Text => self.in_data = false,
-            Statement::Data => self.in_data = true,
+            Statement::Label => return self.set_symbol(name, self.spot_here()),
+            Statement::Instruction(instr) => return self.push_instruction(encode(&instr)),
+            Statement::Word(word) => return self.push_value(Width::Word, word),
+            Statement::Text => self.section = Section::Text,
+            Statement::Data => self.section = Section::Data,
             Statement::Version(version) => return self.set_version(version),
             Statement::ReadOnly => return self.set_read_only(),
             Statement::Entry(limit) => return self.push_entry(limit),
             Statement::Start(start) => self.start = Some(start),
             Statement::Limit(limit) => self.limit = limit,
             Statement::Register(register, value) => return self.set_register(register, value),
+            Statement::Section(section) => self.section = section,
+            Statement::Zeros(count) => return self.push_blank(count),
+            Statement::Align(step) => return self.align(step),
+            Statement::Open(next) => self.next = next,
+            Statement::Value(width, value, next) => {
+                self.push_value(width, value)?;
+                self.next = next;
+            }
+            Statement::Symbol(spot) => {
+                self.set_symbol(name, spot)?;
+                self.next = Next::Line;
+            }
+            Statement::Common(count, step) => return self.push_common(name, count, step),
+            Statement::Pair(first, second) => return self.push_pair(
+                encode(&first),
+                encode(&second),
+            ),
         }
         Ok(())
+    }
+
+    fn push_instruction(&mut self, word: u32) -> Result<(), Refusal>
+        ensures ok { OnOk result (with_instruction word (layout_of self.old) ≡ Some (layout_of self.new)) }
+        ensures err { IfErr result (λ e. Refuses e (with_instruction word (layout_of self.old))) }
+    {
+        match self.section {
+            Section::Text => self.push_word(word),
+            _ => Err(Refusal::InData),
+        }
     }
 
     #[tactic(auto, unfolding(crate::specs::Layouts::with_word))]
@@ -203,38 +256,112 @@ impl<'a> Draft<'a> {
         Ok(())
     }
 
-    #[tactic(auto, unfolding(crate::specs::Layouts::with_label))]
-    fn set_label(&mut self, name: &'a [u8]) -> Result<(), Refusal>
-        ensures ok { OnOk result (with_label name.now (layout_of self.old) ≡ Some (layout_of self.new)) }
-        ensures err { IfErr result (λ e. Refuses e (with_label name.now (layout_of self.old))) }
+    #[tactic(auto, unfolding(crate::specs::Layouts::with_pair))]
+    fn push_pair(&mut self, first: u32, second: u32) -> Result<(), Refusal>
+        ensures ok { OnOk result (with_pair first second (layout_of self.old) ≡ Some (layout_of self.new)) }
+        ensures err { IfErr result (λ e. Refuses e (with_pair first second (layout_of self.old))) }
     {
-        let place = self.here();
-        let address = self.names.get(name).copied();
+        match self.push_instruction(first) {
+            Ok(()) => self.push_instruction(second),
+            Err(refusal) => Err(refusal),
+        }
+    }
+
+    #[tactic(auto, unfolding(crate::specs::Layouts::with_symbol))]
+    fn set_symbol(&mut self, name: &'a [u8], spot: Spot) -> Result<(), Refusal>
+        ensures ok { OnOk result (with_symbol name.now spot (layout_of self.old) ≡ Some (layout_of self.new)) }
+        ensures err { IfErr result (λ e. Refuses e (with_symbol name.now spot (layout_of self.old))) }
+    {
+        let place = self.place(spot);
+        let found = self.names.get(name).copied();
         if self.known {
-            return match address {
-                Some(address) if address == place => Ok(()),
+            return match found {
+                Some(found) if self.place(found) == place => Ok(()),
                 _ => Err(Refusal::LabelTwice),
             };
         }
-        if address.is_some() {
+        if found.is_some() {
             return Err(Refusal::LabelTwice);
         }
-        self.names.insert(name, place)?;
+        self.names.insert(name, spot)?;
         Ok(())
     }
 
-    #[tactic(auto, unfolding(crate::specs::Layouts::with_data))]
-    fn push_data(&mut self, word: u32) -> Result<(), Refusal>
-        ensures ok { OnOk result (with_data word (layout_of self.old) ≡ Some (layout_of self.new)) }
-        ensures err { IfErr result (λ e. Refuses e (with_data word (layout_of self.old))) }
+    #[tactic(auto, unfolding(crate::specs::Layouts::with_bytes))]
+    fn push_bytes(&mut self, bytes: &[u8]) -> Result<(), Refusal>
+        ensures ok { OnOk result (with_bytes bytes.now (layout_of self.old) ≡ Some (layout_of self.new)) }
+        ensures err { IfErr result (λ e. Refuses e (with_bytes bytes.now (layout_of self.old))) }
     {
-        if self.data_bytes.len() > MOST_BYTES - 4 {
-            return Err(Refusal::FullData);
+        match self.section {
+            Section::Text => Err(Refusal::InText),
+            Section::Rodata => put_more(&mut self.rodata_bytes, bytes),
+            Section::Data => put_more(&mut self.data_bytes, bytes),
+            Section::Bss => put_more(&mut self.bss_bytes, bytes),
         }
-        match put_word(&mut self.data_bytes, word) {
-            Ok(()) => Ok(()),
-            Err(_) => Err(Refusal::Memory),
+    }
+
+    #[tactic(auto, unfolding(crate::specs::Layouts::with_blank))]
+    fn push_blank(&mut self, count: u32) -> Result<(), Refusal>
+        ensures ok { OnOk result (with_blank count (layout_of self.old) ≡ Some (layout_of self.new)) }
+        ensures err { IfErr result (λ e. Refuses e (with_blank count (layout_of self.old))) }
+    {
+        if count == 0 {
+            return Ok(());
         }
+        match self.section {
+            Section::Text => Err(Refusal::InText),
+            Section::Rodata => put_zeros(&mut self.rodata_bytes, count),
+            Section::Data => put_zeros(&mut self.data_bytes, count),
+            Section::Bss => put_zeros(&mut self.bss_bytes, count),
+        }
+    }
+
+    #[tactic(auto, unfolding(crate::specs::Layouts::with_align))]
+    fn align(&mut self, step: u32) -> Result<(), Refusal>
+        ensures ok { OnOk result (with_align step (layout_of self.old) ≡ Some (layout_of self.new)) }
+        ensures err { IfErr result (λ e. Refuses e (with_align step (layout_of self.old))) }
+    {
+        self.push_blank(padding(step, self.size()))
+    }
+
+    // A number as bytes of a section of data.
+    fn push_number(&mut self, width: Width, number: u32) -> Result<(), Refusal>
+        ensures ok { OnOk result
+            (with_bytes (bytes_in width number) (layout_of self.old) ≡ Some (layout_of self.new)) }
+        ensures err { IfErr result (λ e. Refuses e (with_bytes (bytes_in width number) (layout_of self.old))) }
+    {
+        match width {
+            Width::Byte => self.push_bytes(&[(number % 256) as u8]),
+            Width::Half => self.push_bytes(&half_bytes((number % 65536) as u16)),
+            Width::Word => self.push_bytes(&word_bytes(number)),
+        }
+    }
+
+    #[tactic(auto, unfolding(crate::specs::Layouts::with_value))]
+    fn push_value(&mut self, width: Width, number: u32) -> Result<(), Refusal>
+        ensures ok { OnOk result (with_value width number (layout_of self.old) ≡ Some (layout_of self.new)) }
+        ensures err { IfErr result (λ e. Refuses e (with_value width number (layout_of self.old))) }
+    {
+        match (self.section, width) {
+            (Section::Text, Width::Word) => self.push_word(number),
+            (Section::Text, _) => Err(Refusal::InText),
+            _ => self.push_number(width, number),
+        }
+    }
+
+    #[tactic(auto, unfolding(crate::specs::Layouts::with_common))]
+    fn push_common(&mut self, name: &'a [u8], count: u32, step: u32) -> Result<(), Refusal>
+        ensures ok { OnOk result (with_common name.now count step (layout_of self.old) ≡ Some (layout_of self.new)) }
+        ensures err { IfErr result (λ e. Refuses e (with_common name.now count step (layout_of self.old))) }
+    {
+        let section = self.section;
+        self.section = Section::Bss;
+        self.align(step)?;
+        self.set_symbol(name, self.spot_here())?;
+        self.push_blank(count)?;
+        self.section = section;
+        self.next = Next::Line;
+        Ok(())
     }
 
     #[tactic(auto, unfolding(crate::specs::Layouts::with_version))]
@@ -249,17 +376,29 @@ impl<'a> Draft<'a> {
         Ok(())
     }
 
+    // How many bytes the data has up to the end of the section so far; the text stands for .data.
+    fn data_up_to_here(&self) -> u32
+        ensures { result ≡ data_up_to (layout_of self.now).section (layout_of self.now) }
+    {
+        match self.section {
+            Section::Rodata => self.rodata_bytes.len() as u32,
+            Section::Text | Section::Data => self.data_from + self.data_bytes.len() as u32,
+            Section::Bss => self.bss_from + self.bss_bytes.len() as u32,
+        }
+    }
+
     #[tactic(auto, unfolding(crate::specs::Layouts::with_read_only))]
     fn set_read_only(&mut self) -> Result<(), Refusal>
         ensures ok { OnOk result (with_read_only (layout_of self.old) ≡ Some (layout_of self.new)) }
         ensures err { IfErr result (λ e. Refuses e (with_read_only (layout_of self.old))) }
     {
-        if self.data_bytes.len() % 4 != 0 {
+        let bytes = self.data_up_to_here();
+        if bytes % 4 != 0 {
             return Err(Refusal::PartOfWord);
         }
         match self.set_version(Version::Two) {
             Ok(()) => {
-                self.read_only = self.data_bytes.len() as u32 / 4;
+                self.read_only = bytes / 4;
                 Ok(())
             }
             Err(refusal) => Err(refusal),
@@ -316,24 +455,25 @@ impl<'a> Draft<'a> {
 
     /// The image that the lines make. Where no line says so, the first task begins at the first entry, the limit is
     /// 65,536, every register is 0, and the data is one word 0; zeros fill its last word.
-    pub fn finish(mut self, alloc: Global) -> Result<Image, ImageError>
+    pub fn finish(self, alloc: Global) -> Result<Image, ImageError>
         ensures ok { IfOk result (IsMadeOf (layout_of self.entry)) }
         // What the lines make is made, unless memory runs out.
         ensures whole { (img : value.Image) → IsImage img → IsMadeOf (layout_of self.entry) img → MatchResult result (λ i. i ≡ img) (λ e. e ≡ image_error.Memory) }
     {
-        fill_word(&mut self.data_bytes)?;
-        let bytes = self.file(alloc)?;
+        let joined = join(alloc, &self.rodata_bytes, &self.data_bytes, &self.bss_bytes)?;
+        let bytes = self.file(alloc, &joined)?;
         Image::read(alloc, &bytes)
     }
 
-    // The bytes of the image's file.
+    // The bytes of the image's file that has this data.
     #[tactic(auto, unfolding(crate::specs::Layouts::file_in))]
-    fn file(&self, alloc: Global) -> Result<Vec<u8>, ImageError>
-        ensures few { IfOk result (λ _. HasFewParts (layout_of self.now)) }
-        ensures ok { IfOk result (λ bytes. bytes.items ≡ file_in (layout_of self.now)) }
-        ensures err { IfErr result (λ e. (e ≡ image_error.Memory) ⊎ (HasFewParts (layout_of self.now) → ⊥)) }
+    fn file(&self, alloc: Global, words: &[u8]) -> Result<Vec<u8>, ImageError>
+        ensures few { IfOk result (λ _. HasFewParts (layout_of self.now) words.now) }
+        ensures ok { IfOk result (λ bytes. bytes.items ≡ file_in (layout_of self.now) words.now) }
+        ensures err { IfErr result (λ e.
+            (e ≡ image_error.Memory) ⊎ (HasFewParts (layout_of self.now) words.now → ⊥)) }
     {
-        let data_words = self.data_bytes.len() / 4;
+        let data_words = words.len() / 4;
         if self.entries.len() > MOST_ENTRIES
             || self.text.len() > MOST_WORDS
             || data_words > MOST_WORDS
@@ -352,7 +492,7 @@ impl<'a> Draft<'a> {
         put_words(&mut bytes, &self.entries)?;
         self.put_listed(&mut bytes)?;
         put_words(&mut bytes, &self.text)?;
-        bytes.extend_from_slice(&self.data_bytes)?;
+        bytes.extend_from_slice(words)?;
         Ok(bytes)
     }
 
@@ -410,24 +550,4 @@ fn has_other(version: Version, said: Option<Version>) -> bool
             false,
         _ => true,
     }
-}
-
-// Fills the last word of the data with zeros, of which there is at least one.
-#[tactic(auto, unfolding(crate::specs::Filled::filled))]
-fn fill_word(bytes: &mut Vec<u8>) -> Result<(), ImageError>
-    ensures ok { OnOk result (bytes.new.items ≡ filled bytes.old.items) }
-    ensures few { length bytes.old.items ≤ 262144 → length bytes.new.items ≤ 262144 }
-    ensures err { IfErr result (λ e. e ≡ image_error.Memory) }
-{
-    if bytes.is_empty() {
-        bytes.extend_from_slice(&[0, 0, 0, 0])?;
-        return Ok(());
-    }
-    match bytes.len() % 4 {
-        0 => {}
-        1 => bytes.extend_from_slice(&[0, 0, 0])?,
-        2 => bytes.extend_from_slice(&[0, 0])?,
-        _ => bytes.extend_from_slice(&[0])?,
-    }
-    Ok(())
 }

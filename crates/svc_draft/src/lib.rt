@@ -1,9 +1,14 @@
 //! An image in the making: what the lines of a program say, and the image that they make.
 #![tactic(auto)]
 
+mod area;
 mod bytes;
 mod draft;
+mod refusal;
+mod section;
 mod statement;
 
-pub use draft::{Draft, Refusal};
-pub use statement::Statement;
+pub use draft::Draft;
+pub use refusal::Refusal;
+pub use section::{Section, Spot};
+pub use statement::{Ending, Next, Statement, Width};

@@ -1,7 +1,43 @@
 // What a line says.
 
+use crate::section::{Section, Spot};
 use svc_image::Version;
 use svc_rv32i::{Instr, Register};
+
+/// How many bytes a number takes.
+#[derive(Clone, Copy)]
+pub enum Width {
+    /// One.
+    Byte,
+    /// Two, the lowest first.
+    Half,
+    /// Four, the lowest first.
+    Word,
+}
+
+/// How the bytes of a string end.
+#[derive(Clone, Copy)]
+pub enum Ending {
+    /// With its last character.
+    Bare,
+    /// With a zero behind it.
+    Zero,
+}
+
+/// What is read next. A list, a string or a name with its value is read part by part, as a label is read up to its colon.
+#[derive(Clone, Copy)]
+pub enum Next {
+    /// A line.
+    Line,
+    /// A number of a list, each of which takes so many bytes.
+    Value(Width),
+    /// A character of a string, or the quote behind its last one.
+    Character(Ending),
+    /// A name, and what it is to stand for.
+    Symbol,
+    /// A name, and the size and the alignment of the zeros that it is to name.
+    Common,
+}
 
 /// What a line says that needs no other line.
 #[derive(Clone, Copy)]
@@ -20,7 +56,7 @@ pub enum Statement {
     Data,
     /// `.svc_version 1` or `.svc_version 2`: the version of the image's file.
     Version(Version),
-    /// `.svc_readonly`: the data so far is read-only.
+    /// `.svc_readonly`: the data up to here is read-only.
     ReadOnly,
     /// `.svc_entry`: a task begins at the next instruction; `.svc_entry N` gives it a limit of turns of its own.
     Entry(Option<u32>),
@@ -30,4 +66,20 @@ pub enum Statement {
     Limit(u32),
     /// `.svc_register xN, VALUE`: the value with which every task finds the register.
     Register(Register, u32),
+    /// `.rodata` and its like: what follows stands in this section.
+    Section(Section),
+    /// `.zero N`: so many zeros of the section.
+    Zeros(u32),
+    /// `.align N`: zeros up to the next address that this number divides.
+    Align(u32),
+    /// The beginning of a list, a string or a name with its value, which this begins.
+    Open(Next),
+    /// A number of a list, or a character of a string, and what is read next.
+    Value(Width, u32, Next),
+    /// A name and what it stands for: the end of `.set NAME, VALUE`.
+    Symbol(Spot),
+    /// A name, and the size and the alignment of the zeros in `.bss` that it names: the end of `.comm NAME, SIZE, ALIGNMENT`.
+    Common(u32, u32),
+    /// Two instructions that one name stands for, as `call`.
+    Pair(Instr, Instr),
 }

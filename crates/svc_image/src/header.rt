@@ -68,7 +68,8 @@ impl Header {
 #[tactic(auto, unfolding(crate::specs::Format::half_at))]
 pub fn half(bytes: &[u8], place: usize) -> Result<u32, ImageError>
     requires { place < 2 ^ 32 }
-    ensures { result ≡ (if nat_lt (length bytes.now) (place + 2) then Err ImageError.Short else Ok (half_at bytes.now place)) }
+    ensures { result ≡ (if nat_lt (length bytes.now) (place + 2) then Err ImageError.Short
+        else Ok (half_at bytes.now place)) }
 {
     if bytes.len() < place + 2 {
         return Err(ImageError::Short);
@@ -88,7 +89,8 @@ pub fn whole_word(bytes: &[u8], place: usize) -> u32
 /// The number of 32 bits at a place of the file.
 pub fn word(bytes: &[u8], place: usize) -> Result<u32, ImageError>
     requires { place < 2 ^ 32 }
-    ensures { result ≡ (if nat_lt (length bytes.now) (place + 4) then Err ImageError.Short else Ok (word_at bytes.now place)) }
+    ensures { result ≡ (if nat_lt (length bytes.now) (place + 4) then Err ImageError.Short
+        else Ok (word_at bytes.now place)) }
 {
     if bytes.len() < place + 4 {
         return Err(ImageError::Short);

@@ -15,11 +15,16 @@ use Rattle.svc_image.specs.declared.version.Version.TheVariants as version
 use Rattle.svc_image.specs.Version.{read_only_by, own_number, listed}
 use Rattle.svc_image.specs.Image.{Image}
 use Rattle.svc_image.specs.Format.{bytes_of_word, bytes_of_words, file_of}
+use Rattle.svc_draft.specs.declared.section.Section.{Section}
+use Rattle.svc_draft.specs.declared.section.Section.TheVariants as section
+use Rattle.svc_draft.specs.declared.statement.Width.TheVariants as wide
+use Rattle.svc_draft.specs.declared.statement.Next.TheVariants as go
 use Rattle.svc_draft.specs.declared.statement.Statement.{Statement}
 use Rattle.svc_draft.specs.declared.statement.Statement.TheVariants as say
 use Rattle.svc_draft.specs.Options.{◌>>=◌}
+use Rattle.svc_draft.specs.Areas.{with_more}
 use Rattle.svc_draft.specs.Versions.{has_other, version_in}
-use Rattle.svc_draft.specs.Layouts.{Layout, Names, zeros, empty, with_word, with_data, with_version, with_read_only, with_own, with_place, with_entry, with_register, after, limits_in, file_in}
+use Rattle.svc_draft.specs.Layouts.{Layout, Names, zeros, empty, with_word, with_bytes, with_value, with_number, with_version, with_read_only, with_own, with_place, with_entry, with_register, after, limits_in, file_in}
 use Rattle.svc_draft.proofs.Wordwise.{length-bytes_of_word, length-bytes_of_words}
 use Rattle.svc_list.specs.Listings.{shown, setting, settings, own_limit, marks, code, data_lines, all_data, head_lines, lines_of}
 
@@ -38,8 +43,8 @@ common_limit version.One limit = limit
 common_limit version.Two limit = 65536
 
 -- the layout of an image, in a pass with these names
-abbrev pub layout_for : Names → Bool → Image → Layout
-layout_for names known img = record {
+abbrev pub layout_for : Names → Bool → ℕ → Image → Layout
+layout_for names known from img = record {
   version = Some img.version;
   limit = common_limit img.version (slice_index img.limits 0);
   read_only = read_only_by img.version img.read_only;
@@ -48,10 +53,15 @@ layout_for names known img = record {
   entries = img.entries;
   limits = map (own_limit img.version) img.limits;
   text = img.text;
+  rodata_bytes = [];
   data_bytes = bytes_of_words img.words;
-  in_data = true;
+  bss_bytes = [];
+  section = section.Data;
+  next = go.Line;
   names = names;
   known = known;
+  data_from = 0;
+  bss_from = from;
 }
 
 -- lines after lines
@@ -105,10 +115,14 @@ settings_laid d done (v ∷ vs) (z ∷ zs) n e same none h =
     ∙ ap (λ xs. after_all (settings (suc n) vs) (registers_in d xs)) (sym from)
     ∙ rest ∙ ap (λ xs. Some (registers_in d xs)) to
 
+value_in_text : (d : Layout) (w : ℕ) → d.section ≡ section.Text → with_value wide.Word w d ≡ with_word w d
+unfolding with_value
+value_in_text d w text = rw text refl
+
 -- a word is laid as what it is shown as
-shown_laid : MeansOne → (w : ℕ) (meant : Option Instr) (d : Layout) → w < 2 ^ 32 → meaning w ≡ meant → d.in_data ≡ false → after [] (shown w meant) d ≡ with_word w d
-shown_laid law w None d h e text = rw text refl
-shown_laid law w (Some (i.Fence rd rs1 imm)) d h e text = rw text refl
+shown_laid : MeansOne → (w : ℕ) (meant : Option Instr) (d : Layout) → w < 2 ^ 32 → meaning w ≡ meant → d.section ≡ section.Text → after [] (shown w meant) d ≡ with_word w d
+shown_laid law w None d h e text = value_in_text d w text
+shown_laid law w (Some (i.Fence rd rs1 imm)) d h e text = value_in_text d w text
 shown_laid law w (Some instr) d h e text = rw (text, (law w instr h).0 e) refl
 
 -- the version that a layout has is said again
@@ -175,7 +189,7 @@ abbrev grown : Layout → List ℕ → List (Option ℕ) → List ℕ → Layout
 grown d entries limits text = record d { entries = d.entries ++ entries; limits = d.limits ++ limits; text = d.text ++ text }
 
 -- a word and what is laid behind it
-word_laid : MeansOne → (d : Layout) (rest : List Statement) (w : ℕ) (es : List ℕ) (ls : List (Option ℕ)) (ws : List ℕ) → d.in_data ≡ false → length d.text < 65536 → w < 2 ^ 32
+word_laid : MeansOne → (d : Layout) (rest : List Statement) (w : ℕ) (es : List ℕ) (ls : List (Option ℕ)) (ws : List ℕ) → d.section ≡ section.Text → length d.text < 65536 → w < 2 ^ 32
     → after_all rest (worded d w) ≡ Some (grown (worded d w) es ls ws)
     → after_all (shown w (meaning w) ∷ rest) d ≡ Some (grown d es ls (w ∷ ws))
 word_laid law d rest w es ls ws text room fit h =
@@ -194,7 +208,7 @@ mark_laid d rest m es ls ws room same allowed h =
 longer : (text : List ℕ) (w n : ℕ) → length text ≡ n → length (text ++ (w ∷ [])) ≡ suc n
 longer text w n len = omega (arith, len, length-append text (w ∷ []))
 
-code_laid : MeansOne → (ms : List (ℕ × Option ℕ)) (ws : List ℕ) (n : ℕ) (d : Layout) → d.in_data ≡ false → length d.text ≡ n → n + length ws ≤ 65536 → AllByRecursion (λ w. w < 2 ^ 32) ws → AreMarks d.version (4 * n) (4 * (n + length ws)) ms
+code_laid : MeansOne → (ms : List (ℕ × Option ℕ)) (ws : List ℕ) (n : ℕ) (d : Layout) → d.section ≡ section.Text → length d.text ≡ n → n + length ws ≤ 65536 → AllByRecursion (λ w. w < 2 ^ 32) ws → AreMarks d.version (4 * n) (4 * (n + length ws)) ms
     → after_all (code n ms ws) d ≡ Some (grown d (entries_of ms) (limits_of ms) ws)
 unfolding code
 code_laid law [] [] n d text len most fit placed =
@@ -249,21 +263,23 @@ marks_limits v (e ∷ es) (l ∷ ls) h = ap (λ (xs : List (Option ℕ)). own_li
 abbrev holding : Layout → List ℕ → Layout
 holding d xs = record d { data_bytes = xs }
 
-one_datum : (d : Layout) (bytes : List ℕ) (w : ℕ) → length bytes + 4 ≤ 262144 → with_data w (holding d bytes) ≡ Some (holding d (bytes ++ bytes_of_word w))
-unfolding with_data
-one_datum d bytes w room =
-    let fits : nat_le (length bytes) 262140 ≡ true = le-leb (length bytes) 262140 (omega (arith, room)) in
-    rw fits refl
+one_datum : (d : Layout) (bytes : List ℕ) (w : ℕ) → d.section ≡ section.Data → length bytes + 4 ≤ 262144 → with_bytes (bytes_of_word w) (holding d bytes) ≡ Some (holding d (bytes ++ bytes_of_word w))
+unfolding with_bytes with_more
+one_datum d bytes w inside room =
+    let four : length (bytes_of_word w) ≡ 4 = length-bytes_of_word w in
+    let fits : nat_le (length bytes + length (bytes_of_word w)) 262144 ≡ true = le-leb (length bytes + length (bytes_of_word w)) 262144 (omega (arith, room, four)) in
+    rw (inside, fits) refl
 
-word_in_data : (d : Layout) (w : ℕ) → d.in_data ≡ true → after [] (say.Word w) d ≡ with_data w d
+word_in_data : (d : Layout) (w : ℕ) → d.section ≡ section.Data → after [] (say.Word w) d ≡ with_bytes (bytes_of_word w) d
+unfolding with_value
 word_in_data d w h = rw h refl
 
-data_laid : (d : Layout) (bytes ws : List ℕ) → d.in_data ≡ true → length bytes + 4 * length ws ≤ 262144 → after_all (data_lines ws) (holding d bytes) ≡ Some (holding d (bytes ++ bytes_of_words ws))
+data_laid : (d : Layout) (bytes ws : List ℕ) → d.section ≡ section.Data → length bytes + 4 * length ws ≤ 262144 → after_all (data_lines ws) (holding d bytes) ≡ Some (holding d (bytes ++ bytes_of_words ws))
 unfolding bytes_of_words
 data_laid d bytes [] inside room = rw (append-nil bytes) refl
 data_laid d bytes (w ∷ ws) inside room =
     let longer_by : length (bytes ++ bytes_of_word w) ≡ length bytes + 4 = length-append bytes (bytes_of_word w) ∙ ap (λ n. length bytes + n) (length-bytes_of_word w) in
-    ap (λ o. o >>= after_all (data_lines ws)) (word_in_data (holding d bytes) w inside ∙ one_datum d bytes w (omega (arith, room)))
+    ap (λ o. o >>= after_all (data_lines ws)) (word_in_data (holding d bytes) w inside ∙ one_datum d bytes w inside (omega (arith, room)))
     ∙ data_laid d (bytes ++ bytes_of_word w) ws inside (omega (arith, room, longer_by))
     ∙ ap (λ xs. Some (holding d xs)) (append_assoc bytes (bytes_of_word w) (bytes_of_words ws))
 
@@ -272,21 +288,22 @@ unfolding bytes_of_words
 bytes_of_both xs ys = flat_map-append bytes_of_word xs ys
 
 -- the words so far are read-only
-fixed_laid : (d : Layout) (words : List ℕ) → d.version ≡ Some version.Two → with_read_only (holding d (bytes_of_words words)) ≡ Some (record d { data_bytes = bytes_of_words words; read_only = length words })
+fixed_laid : (d : Layout) (words : List ℕ) → d.section ≡ section.Data → d.data_from ≡ 0 → d.version ≡ Some version.Two → with_read_only (holding d (bytes_of_words words)) ≡ Some (record d { data_bytes = bytes_of_words words; read_only = length words })
 unfolding with_read_only
-fixed_laid d words two =
+fixed_laid d words inside first two =
     let size = length-bytes_of_words words in
+    let up_to : d.data_from + length (bytes_of_words words) ≡ length (bytes_of_words words) = omega (arith, first) in
     let by_words : (length (bytes_of_words words) % 4 == 0) ≡ true = eq-eqb (length (bytes_of_words words) % 4) 0 (omega (arith, size)) in
     let count : length (bytes_of_words words) / 4 ≡ length words = omega (arith, size) in
-    rw (by_words, version_again version.Two (holding d (bytes_of_words words)) two, count) refl
+    rw (version_again version.Two (holding d (bytes_of_words words)) two, inside, up_to, by_words, count) refl
 
-all_data_laid : (v : Version) (n : ℕ) (words : List ℕ) (d : Layout) → d.version ≡ Some v → d.in_data ≡ true → d.data_bytes ≡ [] → d.read_only ≡ 0 → n ≤ length words → length words ≤ 65536
+all_data_laid : (v : Version) (n : ℕ) (words : List ℕ) (d : Layout) → d.version ≡ Some v → d.section ≡ section.Data → d.data_from ≡ 0 → d.data_bytes ≡ [] → d.read_only ≡ 0 → n ≤ length words → length words ≤ 65536
     → after_all (all_data v n words) d ≡ Some (record d { data_bytes = bytes_of_words words; read_only = read_only_by v n })
-all_data_laid version.One n words d said inside none free few most =
+all_data_laid version.One n words d said inside first none free few most =
     ap (λ (xs : List ℕ). after_all (data_lines words) (holding d xs)) none
     ∙ data_laid d [] words inside (omega (arith, most))
     ∙ ap (λ (q : ℕ). Some (record d { data_bytes = bytes_of_words words; read_only = q })) free
-all_data_laid version.Two n words d said inside none free few most =
+all_data_laid version.Two n words d said inside first none free few most =
     let front = take n words in
     let back = drop n words in
     let count : length front ≡ n = length-take-le n words few in
@@ -296,40 +313,40 @@ all_data_laid version.Two n words d said inside none free few most =
     let fixed : after_all (data_lines front) d ≡ Some (holding d (bytes_of_words front)) =
     ap (λ (xs : List ℕ). after_all (data_lines front) (holding d xs)) none ∙ data_laid d [] front inside (omega (arith, sizes, most)) in
     after_both (data_lines front) (say.ReadOnly ∷ data_lines back) d (holding d (bytes_of_words front)) fixed
-    ∙ ap (λ o. o >>= after_all (data_lines back)) (fixed_laid d front said)
+    ∙ ap (λ o. o >>= after_all (data_lines back)) (fixed_laid d front inside first said)
     ∙ data_laid (record d { read_only = length front }) (bytes_of_words front) back inside room
     ∙ ap (λ (xs : List ℕ). Some (record d { data_bytes = xs; read_only = length front })) (sym (bytes_of_both front back) ∙ ap bytes_of_words split)
     ∙ ap (λ (q : ℕ). Some (record d { data_bytes = bytes_of_words words; read_only = q })) count
 
 -- the layout after the lines before the registers
-abbrev headed : Names → Bool → Image → Layout
-headed names known img = record (empty names known) { version = Some img.version; limit = common_limit img.version (slice_index img.limits 0); start = Some img.start }
+abbrev headed : Names → Bool → ℕ → Image → Layout
+headed names known from img = record (empty names known 0 from) { version = Some img.version; limit = common_limit img.version (slice_index img.limits 0); start = Some img.start }
 
-head_laid : (v : Version) (limit start : ℕ) (names : Names) (known : Bool) → after_all (head_lines v limit start) (empty names known) ≡ Some (record (empty names known) { version = Some v; limit = common_limit v limit; start = Some start })
+head_laid : (v : Version) (limit start : ℕ) (names : Names) (known : Bool) (from : ℕ) → after_all (head_lines v limit start) (empty names known 0 from) ≡ Some (record (empty names known 0 from) { version = Some v; limit = common_limit v limit; start = Some start })
 unfolding with_version
-head_laid version.One limit start names known = refl
-head_laid version.Two limit start names known = refl
+head_laid version.One limit start names known from = refl
+head_laid version.Two limit start names known from = refl
 
 -- the lines of an image, from the first one on
-pub image_laid : MeansOne → (names : Names) (known : Bool) (img : Image) → length img.registers ≡ 31 → length img.limits ≡ length img.entries → img.read_only ≤ length img.words → length img.text ≤ 65536 → AllByRecursion (λ w. w < 2 ^ 32) img.text → length img.words ≤ 65536 → Above 0 (4 * length img.text) img.entries
-    → after_all (lines_of img) (empty names known) ≡ Some (layout_for names known img)
+pub image_laid : MeansOne → (names : Names) (known : Bool) (from : ℕ) (img : Image) → length img.registers ≡ 31 → length img.limits ≡ length img.entries → img.read_only ≤ length img.words → length img.text ≤ 65536 → AllByRecursion (λ w. w < 2 ^ 32) img.text → length img.words ≤ 65536 → Above 0 (4 * length img.text) img.entries
+    → after_all (lines_of img) (empty names known 0 from) ≡ Some (layout_for names known from img)
 unfolding lines_of
-image_laid law names known img thirty each fixed few fit words_few above =
+image_laid law names known from img thirty each fixed few fit words_few above =
     let v = img.version in
     let ms = marks v img.entries img.limits in
     let body = say.Data ∷ all_data v img.read_only img.words in
-    let d₁ = headed names known img in
+    let d₁ = headed names known from img in
     let d₂ = registers_in d₁ img.registers in
     let d₃ = grown d₂ (entries_of ms) (limits_of ms) img.text in
-    let d₄ = record d₃ { in_data = true } in
+    let d₄ = record d₃ { section = section.Data } in
     let top : 4 * length img.text ≡ 4 * (0 + length img.text) = omega arith in
     let placed = marks_are v 0 (4 * (0 + length img.text)) img.entries img.limits (subst (λ (t : ℕ). Above 0 t img.entries) top above) in
-    after_both (head_lines v (slice_index img.limits 0) img.start) (settings 1 img.registers ++ (code 0 ms img.text ++ body)) (empty names known) d₁ (head_laid v (slice_index img.limits 0) img.start names known)
+    after_both (head_lines v (slice_index img.limits 0) img.start) (settings 1 img.registers ++ (code 0 ms img.text ++ body)) (empty names known 0 from) d₁ (head_laid v (slice_index img.limits 0) img.start names known from)
     ∙ after_both (settings 1 img.registers) (code 0 ms img.text ++ body) d₁ d₂ (settings_laid d₁ [] img.registers zeros 1 refl (sym thirty) (are_zeros zeros refl) (omega (arith, thirty)))
     ∙ after_both (code 0 ms img.text) body d₂ d₃ (code_laid law ms img.text 0 d₂ refl refl (omega (arith, few)) fit placed)
-    ∙ all_data_laid v img.read_only img.words d₄ refl refl refl refl fixed words_few
-    ∙ ap (λ (es : List ℕ). Some (record (layout_for names known img) { entries = es; limits = limits_of ms })) (marks_entries v img.entries img.limits each)
-    ∙ ap (λ (ls : List (Option ℕ)). Some (record (layout_for names known img) { limits = ls })) (marks_limits v img.entries img.limits each)
+    ∙ all_data_laid v img.read_only img.words d₄ refl refl refl refl refl fixed words_few
+    ∙ ap (λ (es : List ℕ). Some (record (layout_for names known from img) { entries = es; limits = limits_of ms })) (marks_entries v img.entries img.limits each)
+    ∙ ap (λ (ls : List (Option ℕ)). Some (record (layout_for names known from img) { limits = ls })) (marks_limits v img.entries img.limits each)
 
 -- limits of their own are the limits
 own_limits : (limit : ℕ) (ls : List ℕ) → limits_in limit (map (own_limit version.Two) ls) ≡ ls
@@ -345,9 +362,9 @@ own_back version.One limit n = refl
 own_back version.Two limit n = refl
 
 -- the layout of an image makes the image's file
-pub image_file : (names : Names) (known : Bool) (img : Image) → file_in (layout_for names known img) ≡ file_of img
+pub image_file : (names : Names) (known : Bool) (from : ℕ) (img : Image) → file_in (layout_for names known from img) (bytes_of_words img.words) ≡ file_of img
 unfolding file_in file_of
-image_file names known img =
+image_file names known from img =
     let limit = slice_index img.limits 0 in
     let words : length (bytes_of_words img.words) / 4 ≡ length img.words = omega (arith, length-bytes_of_words img.words) in
     rw (words, listed_back img.version (common_limit img.version limit) img.limits, own_back img.version limit img.read_only) refl

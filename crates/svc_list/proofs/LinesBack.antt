@@ -1,5 +1,5 @@
 -- A line is read back from its text.
-use Rattle.std.proofs.Common.{◌≡◌, ℕ, ◌+◌, ◌*◌, ◌-◌, ◌^◌, ◌<◌, ◌≤◌, Bool, true, false, not, ◌&&◌, ◌==◌, List, [], ◌∷◌, ◌++◌, length, Some, None, refl, ap, sym, ◌∙◌, arith, decimal, codes}
+use Rattle.std.proofs.Common.{◌≡◌, ℕ, ◌+◌, ◌*◌, ◌-◌, ◌^◌, ◌<◌, ◌≤◌, Bool, true, false, not, ◌&&◌, ◌==◌, List, [], ◌∷◌, ◌++◌, length, Option, Some, None, is_some, refl, ap, sym, ◌∙◌, arith, decimal, codes}
 use Rattle.std.proofs.lemmas.Bool.{and_parts, not-true}
 use Rattle.std.proofs.lemmas.List.{append_assoc}
 use Rattle.svc_rv32i.specs.declared.instr.Register.{Register}
@@ -23,15 +23,22 @@ use Rattle.svc_rv32i.specs.declared.instr.Instr.TheVariants as i
 use Rattle.svc_image.specs.declared.version.Version.{Version}
 use Rattle.svc_image.specs.declared.version.Version.TheVariants as version
 use Rattle.svc_image.specs.Version.{version_number}
+use Rattle.svc_draft.specs.declared.statement.Next.{Next}
+use Rattle.svc_draft.specs.declared.statement.Next.TheVariants as go
 use Rattle.svc_draft.specs.declared.statement.Statement.{Statement}
 use Rattle.svc_draft.specs.declared.statement.Statement.TheVariants as say
 use Rattle.svc_draft.specs.Options.{◌>>=◌}
-use Rattle.svc_asm.specs.Characters.{is_space, is_name, past, name_at, past_name, behind}
+use Rattle.svc_operands.specs.Characters.{is_space, is_name, past, name_at, past_name, behind}
 use Rattle.svc_draft.specs.Layouts.{Layout}
-use Rattle.svc_asm.specs.Names.{operation_named, immediate_named, load_named, store_named, comparison_named, shift_named, form_named}
+use Rattle.svc_operands.specs.Names.{operation_named, immediate_named, load_named, store_named, comparison_named, shift_named, form_named}
 use Rattle.svc_list.specs.InstructionNames.{operation_name, immediate_name, load_name, store_name, comparison_name, shift_name}
-use Rattle.svc_asm.specs.Operands.{Read, first_register_at, register_at, number_at, value_at}
-use Rattle.svc_asm.specs.Statements.{operation_at, immediate_at, shift_at, comparison_at, load_at, store_at, lui_at, auipc_at, jal_to, jal_at, jalr_to, jalr_at, form_at, instruction_at, word_at, start_at, limit_at, version_at, limited_entry_at, entry_before, entry_at, setting_at, directive_at, as_statement, statement_at, ended_at, end_at, line_at}
+use Rattle.svc_operands.specs.Operands.{Read, first_register_at, register_at, number_at}
+use Rattle.svc_operands.specs.Values.{value_at}
+use Rattle.svc_instructions.specs.declared.couple.Couple.{Couple}
+use Rattle.svc_instructions.specs.Couples.{couple_named}
+use Rattle.svc_instructions.specs.Instructions.{operation_at, immediate_at, shift_at, comparison_at, load_at, store_at, lui_at, auipc_at, jal_to, jal_at, jalr_to, jalr_at, form_at, instruction_at}
+use Rattle.svc_asm.specs.Statements.{word_at, start_at, limit_at, version_at, limited_entry_at, entry_before, entry_at, setting_at, directive_at, alone_at, as_statement, statement_at, ended_at, end_at, line_at}
+use Rattle.svc_asm.specs.DataLines.{first_at, part_at, next_at}
 use Rattle.svc_list.specs.Listings.{register_text, first_text, last_text, short_text, offset_text, address_text, upper_text, instruction_text, statement_text, IsShown, HasText, line_of}
 use Rattle.svc_list.proofs.NamesBack.{all_dense, stops, at_name, at_rest, no_colon}
 use Rattle.svc_list.proofs.OperandsBack.{spaced_name, decimal_some, spaced_number_back, spaced_value_back, spaced_register_back, first_back, short_back, branch_back, jump_back, upper_back, amount_back, address_back}
@@ -39,19 +46,36 @@ use Rattle.svc_list.proofs.OperandsBack.{spaced_name, decimal_some, spaced_numbe
 -- the name of an instruction: no dot begins it
 abbrev names : List ℕ → Bool
 names [] = false
-names (c ∷ w) = all_dense (c ∷ w) && not (c == 46)
+names (c ∷ w) = all_dense (c ∷ w) && (not (c == 46) && not (is_some (couple_named (c ∷ w))))
 
-by_name : (d : Layout) (name rest : List ℕ) → names name ≡ true → stops rest ≡ true → statement_at d (name ++ rest) ≡ as_statement d name rest
-unfolding statement_at
+-- the parts of this
+names_dense : (c : ℕ) (w : List ℕ) → names (c ∷ w) ≡ true → all_dense (c ∷ w) ≡ true
+names_dense c w h = (and_parts (all_dense (c ∷ w)) (not (c == 46) && not (is_some (couple_named (c ∷ w)))) h).0
+
+names_no_dot : (c : ℕ) (w : List ℕ) → names (c ∷ w) ≡ true → (c == 46) ≡ false
+names_no_dot c w h =
+    let both = (and_parts (all_dense (c ∷ w)) (not (c == 46) && not (is_some (couple_named (c ∷ w)))) h).1 in
+    not-true (c == 46) (and_parts (not (c == 46)) (not (is_some (couple_named (c ∷ w)))) both).0
+
+no_couple : (o : Option Couple) → not (is_some o) ≡ true → o ≡ None
+no_couple None h = refl
+no_couple (Some x) h = absurd (cc)
+
+names_alone : (c : ℕ) (w : List ℕ) → names (c ∷ w) ≡ true → couple_named (c ∷ w) ≡ None
+names_alone c w h =
+    let both = (and_parts (all_dense (c ∷ w)) (not (c == 46) && not (is_some (couple_named (c ∷ w)))) h).1 in
+    no_couple (couple_named (c ∷ w)) (and_parts (not (c == 46)) (not (is_some (couple_named (c ∷ w)))) both).1
+
+by_name : (d : Layout) (name rest : List ℕ) → names name ≡ true → stops rest ≡ true → statement_at d (name ++ rest) ≡ alone_at d name rest
+unfolding statement_at as_statement
 by_name d [] rest h s = absurd (cc)
 by_name d (c ∷ w) rest h s =
-    let dense = (and_parts (all_dense (c ∷ w)) (not (c == 46)) h).0 in
-    let dot : (c == 46) ≡ false = not-true (c == 46) (and_parts (all_dense (c ∷ w)) (not (c == 46)) h).1 in
-    rw (at_name c w rest dense s, at_rest c w rest dense s, dot) refl
+    let dense = names_dense c w h in
+    rw (at_name c w rest dense s, at_rest c w rest dense s, names_no_dot c w h, names_alone c w h) refl
 
 -- a name finds its own instruction
 operation_names : (op : Operation) → names (operation_name op) ≡ true
-unfolding is_name
+unfolding is_name couple_named
 operation_names op.Add = refl
 operation_names op.Sub = refl
 operation_names op.ShiftLeft = refl
@@ -77,7 +101,7 @@ operation_found d op.Or text = refl
 operation_found d op.And text = refl
 
 immediate_names : (op : ImmediateOperation) → names (immediate_name op) ≡ true
-unfolding is_name
+unfolding is_name couple_named
 immediate_names imm.Add = refl
 immediate_names imm.SetLess = refl
 immediate_names imm.SetLessUnsigned = refl
@@ -85,7 +109,7 @@ immediate_names imm.Xor = refl
 immediate_names imm.Or = refl
 immediate_names imm.And = refl
 
-immediate_found : (d : Layout) (op : ImmediateOperation) (text : List ℕ) → instruction_at d (immediate_name op) text ≡ immediate_at op text
+immediate_found : (d : Layout) (op : ImmediateOperation) (text : List ℕ) → instruction_at d (immediate_name op) text ≡ immediate_at d op text
 unfolding instruction_at operation_named immediate_named load_named store_named comparison_named shift_named
 immediate_found d imm.Add text = refl
 immediate_found d imm.SetLess text = refl
@@ -95,14 +119,14 @@ immediate_found d imm.Or text = refl
 immediate_found d imm.And text = refl
 
 load_names : (kind : LoadKind) → names (load_name kind) ≡ true
-unfolding is_name
+unfolding is_name couple_named
 load_names load.Byte = refl
 load_names load.Half = refl
 load_names load.Word = refl
 load_names load.ByteUnsigned = refl
 load_names load.HalfUnsigned = refl
 
-load_found : (d : Layout) (kind : LoadKind) (text : List ℕ) → instruction_at d (load_name kind) text ≡ load_at kind text
+load_found : (d : Layout) (kind : LoadKind) (text : List ℕ) → instruction_at d (load_name kind) text ≡ load_at d kind text
 unfolding instruction_at operation_named immediate_named load_named store_named comparison_named shift_named
 load_found d load.Byte text = refl
 load_found d load.Half text = refl
@@ -111,19 +135,19 @@ load_found d load.ByteUnsigned text = refl
 load_found d load.HalfUnsigned text = refl
 
 store_names : (kind : StoreKind) → names (store_name kind) ≡ true
-unfolding is_name
+unfolding is_name couple_named
 store_names store.Byte = refl
 store_names store.Half = refl
 store_names store.Word = refl
 
-store_found : (d : Layout) (kind : StoreKind) (text : List ℕ) → instruction_at d (store_name kind) text ≡ store_at kind text
+store_found : (d : Layout) (kind : StoreKind) (text : List ℕ) → instruction_at d (store_name kind) text ≡ store_at d kind text
 unfolding instruction_at operation_named immediate_named load_named store_named comparison_named shift_named
 store_found d store.Byte text = refl
 store_found d store.Half text = refl
 store_found d store.Word text = refl
 
 comparison_names : (test : Comparison) → names (comparison_name test) ≡ true
-unfolding is_name
+unfolding is_name couple_named
 comparison_names compare.Equal = refl
 comparison_names compare.NotEqual = refl
 comparison_names compare.Less = refl
@@ -141,7 +165,7 @@ comparison_found d compare.LessUnsigned text = refl
 comparison_found d compare.GreaterEqualUnsigned text = refl
 
 shift_names : (op : ImmediateShift) → names (shift_name op) ≡ true
-unfolding is_name
+unfolding is_name couple_named
 shift_names shift.Left = refl
 shift_names shift.Right = refl
 shift_names shift.RightArithmetic = refl
@@ -163,11 +187,11 @@ operation_back op rd rs1 rs2 rest s =
     ap (operation_at op) (three (first_text rd) (first_text rs1) (last_text rs2) rest)
     ∙ rw (first_back rd (first_text rs1 ++ (last_text rs2 ++ rest)), first_back rs1 (last_text rs2 ++ rest), spaced_register_back rs2 rest s) refl
 
-immediate_back : (op : ImmediateOperation) (rd rs1 : Register) (imm : Short) (rest : List ℕ) → stops rest ≡ true → immediate_at op ((first_text rd ++ (first_text rs1 ++ short_text imm)) ++ rest) ≡ Some (i.OpImm op rd rs1 imm, rest)
+immediate_back : (d : Layout) (op : ImmediateOperation) (rd rs1 : Register) (imm : Short) (rest : List ℕ) → stops rest ≡ true → immediate_at d op ((first_text rd ++ (first_text rs1 ++ short_text imm)) ++ rest) ≡ Some (i.OpImm op rd rs1 imm, rest)
 unfolding immediate_at
-immediate_back op rd rs1 imm rest s =
-    ap (immediate_at op) (three (first_text rd) (first_text rs1) (short_text imm) rest)
-    ∙ rw (first_back rd (first_text rs1 ++ (short_text imm ++ rest)), first_back rs1 (short_text imm ++ rest), short_back imm rest s) refl
+immediate_back d op rd rs1 imm rest s =
+    ap (immediate_at d op) (three (first_text rd) (first_text rs1) (short_text imm) rest)
+    ∙ rw (first_back rd (first_text rs1 ++ (short_text imm ++ rest)), first_back rs1 (short_text imm ++ rest), short_back d imm rest s) refl
 
 shift_back : (op : ImmediateShift) (rd rs1 : Register) (a : ShiftAmount) (rest : List ℕ) → stops rest ≡ true → shift_at op ((first_text rd ++ (first_text rs1 ++ (32 ∷ decimal a.bits))) ++ rest) ≡ Some (i.ShiftImm op rd rs1 a, rest)
 unfolding shift_at
@@ -181,29 +205,29 @@ comparison_back d test rs1 rs2 imm rest s =
     ap (comparison_at d test) (three (first_text rs1) (first_text rs2) (offset_text 2048 imm.bits) rest)
     ∙ rw (first_back rs1 (first_text rs2 ++ (offset_text 2048 imm.bits ++ rest)), first_back rs2 (offset_text 2048 imm.bits ++ rest), branch_back d imm rest s) refl
 
-load_back : (kind : LoadKind) (rd rs1 : Register) (imm : Short) (rest : List ℕ) → load_at kind ((first_text rd ++ address_text imm rs1) ++ rest) ≡ Some (i.Load kind rd rs1 imm, rest)
+load_back : (d : Layout) (kind : LoadKind) (rd rs1 : Register) (imm : Short) (rest : List ℕ) → load_at d kind ((first_text rd ++ address_text imm rs1) ++ rest) ≡ Some (i.Load kind rd rs1 imm, rest)
 unfolding load_at
-load_back kind rd rs1 imm rest =
-    ap (load_at kind) (append_assoc (first_text rd) (address_text imm rs1) rest)
-    ∙ rw (first_back rd (address_text imm rs1 ++ rest), address_back imm rs1 rest) refl
+load_back d kind rd rs1 imm rest =
+    ap (load_at d kind) (append_assoc (first_text rd) (address_text imm rs1) rest)
+    ∙ rw (first_back rd (address_text imm rs1 ++ rest), address_back d imm rs1 rest) refl
 
-store_back : (kind : StoreKind) (rs1 rs2 : Register) (imm : Short) (rest : List ℕ) → store_at kind ((first_text rs2 ++ address_text imm rs1) ++ rest) ≡ Some (i.Store kind rs1 rs2 imm, rest)
+store_back : (d : Layout) (kind : StoreKind) (rs1 rs2 : Register) (imm : Short) (rest : List ℕ) → store_at d kind ((first_text rs2 ++ address_text imm rs1) ++ rest) ≡ Some (i.Store kind rs1 rs2 imm, rest)
 unfolding store_at
-store_back kind rs1 rs2 imm rest =
-    ap (store_at kind) (append_assoc (first_text rs2) (address_text imm rs1) rest)
-    ∙ rw (first_back rs2 (address_text imm rs1 ++ rest), address_back imm rs1 rest) refl
+store_back d kind rs1 rs2 imm rest =
+    ap (store_at d kind) (append_assoc (first_text rs2) (address_text imm rs1) rest)
+    ∙ rw (first_back rs2 (address_text imm rs1 ++ rest), address_back d imm rs1 rest) refl
 
-lui_back : (rd : Register) (imm : Long) (rest : List ℕ) → stops rest ≡ true → lui_at ((first_text rd ++ upper_text imm) ++ rest) ≡ Some (i.Lui rd imm, rest)
+lui_back : (d : Layout) (rd : Register) (imm : Long) (rest : List ℕ) → stops rest ≡ true → lui_at d ((first_text rd ++ upper_text imm) ++ rest) ≡ Some (i.Lui rd imm, rest)
 unfolding lui_at
-lui_back rd imm rest s =
-    ap lui_at (append_assoc (first_text rd) (upper_text imm) rest)
-    ∙ rw (first_back rd (upper_text imm ++ rest), upper_back imm rest s) refl
+lui_back d rd imm rest s =
+    ap (lui_at d) (append_assoc (first_text rd) (upper_text imm) rest)
+    ∙ rw (first_back rd (upper_text imm ++ rest), upper_back d imm rest s) refl
 
-auipc_back : (rd : Register) (imm : Long) (rest : List ℕ) → stops rest ≡ true → auipc_at ((first_text rd ++ upper_text imm) ++ rest) ≡ Some (i.Auipc rd imm, rest)
+auipc_back : (d : Layout) (rd : Register) (imm : Long) (rest : List ℕ) → stops rest ≡ true → auipc_at d ((first_text rd ++ upper_text imm) ++ rest) ≡ Some (i.Auipc rd imm, rest)
 unfolding auipc_at
-auipc_back rd imm rest s =
-    ap auipc_at (append_assoc (first_text rd) (upper_text imm) rest)
-    ∙ rw (first_back rd (upper_text imm ++ rest), upper_back imm rest s) refl
+auipc_back d rd imm rest s =
+    ap (auipc_at d) (append_assoc (first_text rd) (upper_text imm) rest)
+    ∙ rw (first_back rd (upper_text imm ++ rest), upper_back d imm rest s) refl
 
 jal_back : (d : Layout) (rd : Register) (imm : Long) (rest : List ℕ) → stops rest ≡ true → jal_at d ((first_text rd ++ offset_text 524288 imm.bits) ++ rest) ≡ Some (i.Jal rd imm, rest)
 unfolding jal_at jal_to
@@ -211,32 +235,32 @@ jal_back d rd imm rest s =
     ap (jal_at d) (append_assoc (first_text rd) (offset_text 524288 imm.bits) rest)
     ∙ rw (first_back rd (offset_text 524288 imm.bits ++ rest), jump_back d imm rest s) refl
 
-jalr_back : (rd rs1 : Register) (imm : Short) (rest : List ℕ) → jalr_at ((first_text rd ++ address_text imm rs1) ++ rest) ≡ Some (i.Jalr rd rs1 imm, rest)
+jalr_back : (d : Layout) (rd rs1 : Register) (imm : Short) (rest : List ℕ) → jalr_at d ((first_text rd ++ address_text imm rs1) ++ rest) ≡ Some (i.Jalr rd rs1 imm, rest)
 unfolding jalr_at jalr_to
-jalr_back rd rs1 imm rest =
-    ap jalr_at (append_assoc (first_text rd) (address_text imm rs1) rest)
-    ∙ rw (first_back rd (address_text imm rs1 ++ rest), address_back imm rs1 rest) refl
+jalr_back d rd rs1 imm rest =
+    ap (jalr_at d) (append_assoc (first_text rd) (address_text imm rs1) rest)
+    ∙ rw (first_back rd (address_text imm rs1 ++ rest), address_back d imm rs1 rest) refl
 
 -- an instruction whose name finds a reader that gives it
 whole : (d : Layout) (name operands rest : List ℕ) (instr : Instr) → names name ≡ true → stops (operands ++ rest) ≡ true → instruction_at d name (operands ++ rest) ≡ Some (instr, rest) → statement_at d ((name ++ operands) ++ rest) ≡ Some (say.Instruction instr, rest)
-unfolding as_statement
+unfolding alone_at
 whole d name operands rest instr h s e =
     ap (statement_at d) (append_assoc name operands rest) ∙ by_name d name (operands ++ rest) h s ∙ rw e refl
 
-as_is : (d : Layout) (name : List ℕ) (instr : Instr) (rest : List ℕ) → instruction_at d name rest ≡ Some (instr, rest) → as_statement d name rest ≡ Some (say.Instruction instr, rest)
-unfolding as_statement
+as_is : (d : Layout) (name : List ℕ) (instr : Instr) (rest : List ℕ) → instruction_at d name rest ≡ Some (instr, rest) → alone_at d name rest ≡ Some (say.Instruction instr, rest)
+unfolding alone_at
 as_is d name instr rest e = rw e refl
 
 pub instruction_back : (d : Layout) (instr : Instr) (rest : List ℕ) → IsShown instr → stops rest ≡ true → statement_at d (instruction_text instr ++ rest) ≡ Some (say.Instruction instr, rest)
-unfolding instruction_text is_name instruction_at form_at form_named operation_named immediate_named load_named store_named comparison_named shift_named
-instruction_back d (i.Lui rd imm) rest h s = whole d (codes "lui") (first_text rd ++ upper_text imm) rest (i.Lui rd imm) refl refl (lui_back rd imm rest s)
-instruction_back d (i.Auipc rd imm) rest h s = whole d (codes "auipc") (first_text rd ++ upper_text imm) rest (i.Auipc rd imm) refl refl (auipc_back rd imm rest s)
+unfolding instruction_text is_name couple_named instruction_at form_at form_named operation_named immediate_named load_named store_named comparison_named shift_named
+instruction_back d (i.Lui rd imm) rest h s = whole d (codes "lui") (first_text rd ++ upper_text imm) rest (i.Lui rd imm) refl refl (lui_back d rd imm rest s)
+instruction_back d (i.Auipc rd imm) rest h s = whole d (codes "auipc") (first_text rd ++ upper_text imm) rest (i.Auipc rd imm) refl refl (auipc_back d rd imm rest s)
 instruction_back d (i.Jal rd imm) rest h s = whole d (codes "jal") (first_text rd ++ offset_text 524288 imm.bits) rest (i.Jal rd imm) refl refl (jal_back d rd imm rest s)
-instruction_back d (i.Jalr rd rs1 imm) rest h s = whole d (codes "jalr") (first_text rd ++ address_text imm rs1) rest (i.Jalr rd rs1 imm) refl refl (jalr_back rd rs1 imm rest)
+instruction_back d (i.Jalr rd rs1 imm) rest h s = whole d (codes "jalr") (first_text rd ++ address_text imm rs1) rest (i.Jalr rd rs1 imm) refl refl (jalr_back d rd rs1 imm rest)
 instruction_back d (i.Branch test rs1 rs2 imm) rest h s = let text = first_text rs1 ++ (first_text rs2 ++ offset_text 2048 imm.bits) in whole d (comparison_name test) text rest (i.Branch test rs1 rs2 imm) (comparison_names test) refl (comparison_found d test (text ++ rest) ∙ comparison_back d test rs1 rs2 imm rest s)
-instruction_back d (i.Load kind rd rs1 imm) rest h s = let text = first_text rd ++ address_text imm rs1 in whole d (load_name kind) text rest (i.Load kind rd rs1 imm) (load_names kind) refl (load_found d kind (text ++ rest) ∙ load_back kind rd rs1 imm rest)
-instruction_back d (i.Store kind rs1 rs2 imm) rest h s = let text = first_text rs2 ++ address_text imm rs1 in whole d (store_name kind) text rest (i.Store kind rs1 rs2 imm) (store_names kind) refl (store_found d kind (text ++ rest) ∙ store_back kind rs1 rs2 imm rest)
-instruction_back d (i.OpImm op rd rs1 imm) rest h s = let text = first_text rd ++ (first_text rs1 ++ short_text imm) in whole d (immediate_name op) text rest (i.OpImm op rd rs1 imm) (immediate_names op) refl (immediate_found d op (text ++ rest) ∙ immediate_back op rd rs1 imm rest s)
+instruction_back d (i.Load kind rd rs1 imm) rest h s = let text = first_text rd ++ address_text imm rs1 in whole d (load_name kind) text rest (i.Load kind rd rs1 imm) (load_names kind) refl (load_found d kind (text ++ rest) ∙ load_back d kind rd rs1 imm rest)
+instruction_back d (i.Store kind rs1 rs2 imm) rest h s = let text = first_text rs2 ++ address_text imm rs1 in whole d (store_name kind) text rest (i.Store kind rs1 rs2 imm) (store_names kind) refl (store_found d kind (text ++ rest) ∙ store_back d kind rs1 rs2 imm rest)
+instruction_back d (i.OpImm op rd rs1 imm) rest h s = let text = first_text rd ++ (first_text rs1 ++ short_text imm) in whole d (immediate_name op) text rest (i.OpImm op rd rs1 imm) (immediate_names op) refl (immediate_found d op (text ++ rest) ∙ immediate_back d op rd rs1 imm rest s)
 instruction_back d (i.ShiftImm op rd rs1 a) rest h s = let text = first_text rd ++ (first_text rs1 ++ (32 ∷ decimal a.bits)) in whole d (shift_name op) text rest (i.ShiftImm op rd rs1 a) (shift_names op) refl (shift_found d op (text ++ rest) ∙ shift_back op rd rs1 a rest s)
 instruction_back d (i.Op op rd rs1 rs2) rest h s = let text = first_text rd ++ (first_text rs1 ++ last_text rs2) in whole d (operation_name op) text rest (i.Op op rd rs1 rs2) (operation_names op) refl (operation_found d op (text ++ rest) ∙ operation_back op rd rs1 rs2 rest s)
 instruction_back d (i.Fence rd rs1 imm) rest h s = absurd h
@@ -248,13 +272,13 @@ by_directive : (d : Layout) (w rest : List ℕ) → all_dense (46 ∷ w) ≡ tru
 unfolding statement_at
 by_directive d w rest h s = rw (at_name 46 w rest h s, at_rest 46 w rest h s) refl
 
-word_back : (d : Layout) (n : ℕ) (rest : List ℕ) → n < 2 ^ 32 → stops rest ≡ true → word_at d (32 ∷ (decimal n ++ rest)) ≡ Some (say.Word n, rest)
+word_back : (d : Layout) (n : ℕ) (tail : List ℕ) → n < 2 ^ 32 → word_at d (32 ∷ (decimal n ++ (10 ∷ tail))) ≡ Some (say.Word n, 10 ∷ tail)
 unfolding word_at
-word_back d n rest h s = rw (spaced_value_back d n rest h s) refl
+word_back d n tail h = rw (spaced_value_back d n tail h) refl
 
-start_back : (d : Layout) (n : ℕ) (rest : List ℕ) → n < 2 ^ 32 → stops rest ≡ true → start_at d (32 ∷ (decimal n ++ rest)) ≡ Some (say.Start n, rest)
+start_back : (d : Layout) (n : ℕ) (tail : List ℕ) → n < 2 ^ 32 → start_at d (32 ∷ (decimal n ++ (10 ∷ tail))) ≡ Some (say.Start n, 10 ∷ tail)
 unfolding start_at
-start_back d n rest h s = rw (spaced_value_back d n rest h s) refl
+start_back d n tail h = rw (spaced_value_back d n tail h) refl
 
 limit_back : (n : ℕ) (rest : List ℕ) → n < 2 ^ 32 → stops rest ≡ true → limit_at (32 ∷ (decimal n ++ rest)) ≡ Some (say.Limit n, rest)
 unfolding limit_at
@@ -284,11 +308,11 @@ bare_entry_back : (tail : List ℕ) → entry_at (10 ∷ tail) ≡ Some (say.Ent
 unfolding entry_at past is_name
 bare_entry_back tail = refl
 
-setting_back : (d : Layout) (r : Register) (n : ℕ) (rest : List ℕ) → n < 2 ^ 32 → stops rest ≡ true → setting_at d ((first_text r ++ (32 ∷ decimal n)) ++ rest) ≡ Some (say.Register r n, rest)
+setting_back : (d : Layout) (r : Register) (n : ℕ) (tail : List ℕ) → n < 2 ^ 32 → setting_at d ((first_text r ++ (32 ∷ decimal n)) ++ (10 ∷ tail)) ≡ Some (say.Register r n, 10 ∷ tail)
 unfolding setting_at
-setting_back d r n rest h s =
-    ap (setting_at d) (append_assoc (first_text r) (32 ∷ decimal n) rest)
-    ∙ rw (first_back r (32 ∷ (decimal n ++ rest)), spaced_value_back d n rest h s) refl
+setting_back d r n tail h =
+    ap (setting_at d) (append_assoc (first_text r) (32 ∷ decimal n) (10 ∷ tail))
+    ∙ rw (first_back r (32 ∷ (decimal n ++ (10 ∷ tail))), spaced_value_back d n tail h) refl
 
 -- nothing: the end of the line comes first
 nothing_back : (d : Layout) (tail : List ℕ) → statement_at d (10 ∷ tail) ≡ Some (say.Nothing, 10 ∷ tail)
@@ -300,16 +324,24 @@ unfolding statement_text is_name directive_at
 statement_back d say.Nothing tail h = nothing_back d tail
 statement_back d say.Label tail h = absurd h
 statement_back d (say.Instruction instr) tail h = instruction_back d instr (10 ∷ tail) h refl
-statement_back d (say.Word n) tail h = by_directive d (codes "word") (32 ∷ (decimal n ++ (10 ∷ tail))) refl refl ∙ word_back d n (10 ∷ tail) h refl
+statement_back d (say.Word n) tail h = by_directive d (codes "word") (32 ∷ (decimal n ++ (10 ∷ tail))) refl refl ∙ word_back d n tail h
 statement_back d say.Text tail h = by_directive d (codes "text") (10 ∷ tail) refl refl
 statement_back d say.Data tail h = by_directive d (codes "data") (10 ∷ tail) refl refl
 statement_back d (say.Version v) tail h = by_directive d (codes "svc_version") (32 ∷ (decimal (version_number v) ++ (10 ∷ tail))) refl refl ∙ version_back v (10 ∷ tail) refl
 statement_back d say.ReadOnly tail h = by_directive d (codes "svc_readonly") (10 ∷ tail) refl refl
 statement_back d (say.Entry None) tail h = by_directive d (codes "svc_entry") (10 ∷ tail) refl refl ∙ bare_entry_back tail
 statement_back d (say.Entry (Some n)) tail h = by_directive d (codes "svc_entry") (32 ∷ (decimal n ++ (10 ∷ tail))) refl refl ∙ entry_back n (10 ∷ tail) h refl
-statement_back d (say.Start n) tail h = by_directive d (codes "svc_start") (32 ∷ (decimal n ++ (10 ∷ tail))) refl refl ∙ start_back d n (10 ∷ tail) h refl
+statement_back d (say.Start n) tail h = by_directive d (codes "svc_start") (32 ∷ (decimal n ++ (10 ∷ tail))) refl refl ∙ start_back d n tail h
 statement_back d (say.Limit n) tail h = by_directive d (codes "svc_limit") (32 ∷ (decimal n ++ (10 ∷ tail))) refl refl ∙ limit_back n (10 ∷ tail) h refl
-statement_back d (say.Register r n) tail h = by_directive d (codes "svc_register") ((first_text r ++ (32 ∷ decimal n)) ++ (10 ∷ tail)) refl refl ∙ setting_back d r n (10 ∷ tail) h refl
+statement_back d (say.Register r n) tail h = by_directive d (codes "svc_register") ((first_text r ++ (32 ∷ decimal n)) ++ (10 ∷ tail)) refl refl ∙ setting_back d r n tail h
+statement_back d (say.Pair i j) tail h = absurd h
+statement_back d (say.Section s) tail h = absurd h
+statement_back d (say.Zeros n) tail h = absurd h
+statement_back d (say.Align step) tail h = absurd h
+statement_back d (say.Open n) tail h = absurd h
+statement_back d (say.Value w n next) tail h = absurd h
+statement_back d (say.Symbol s) tail h = absurd h
+statement_back d (say.Common n step) tail h = absurd h
 
 -- a line that begins with no label
 unlabelled : (d : Layout) (text : List ℕ) → behind 58 (past_name text) ≡ None → line_at d text ≡ ended_at d text
@@ -320,7 +352,7 @@ unlabelled d text h = rw h refl
 names_stop : (name operands rest : List ℕ) → names name ≡ true → stops (operands ++ rest) ≡ true → behind 58 (past_name ((name ++ operands) ++ rest)) ≡ None
 names_stop [] operands rest h s = absurd (cc)
 names_stop (c ∷ w) operands rest h s =
-    let dense = (and_parts (all_dense (c ∷ w)) (not (c == 46)) h).0 in
+    let dense = names_dense c w h in
     ap (λ x. behind 58 (past_name x)) (append_assoc (c ∷ w) operands rest)
     ∙ ap (behind 58) (at_rest c w (operands ++ rest) dense s) ∙ no_colon (operands ++ rest) s
 
@@ -328,7 +360,7 @@ directive_stops : (w rest : List ℕ) → all_dense (46 ∷ w) ≡ true → stop
 directive_stops w rest h s = ap (behind 58) (at_rest 46 w rest h s) ∙ no_colon rest s
 
 instruction_stops : (instr : Instr) (rest : List ℕ) → IsShown instr → stops rest ≡ true → behind 58 (past_name (instruction_text instr ++ rest)) ≡ None
-unfolding instruction_text is_name
+unfolding instruction_text is_name couple_named
 instruction_stops (i.Lui rd imm) rest h s = names_stop (codes "lui") (first_text rd ++ upper_text imm) rest refl refl
 instruction_stops (i.Auipc rd imm) rest h s = names_stop (codes "auipc") (first_text rd ++ upper_text imm) rest refl refl
 instruction_stops (i.Jal rd imm) rest h s = names_stop (codes "jal") (first_text rd ++ offset_text 524288 imm.bits) rest refl refl
@@ -358,6 +390,14 @@ statement_stops (say.Entry (Some n)) tail h = directive_stops (codes "svc_entry"
 statement_stops (say.Start n) tail h = directive_stops (codes "svc_start") (32 ∷ (decimal n ++ (10 ∷ tail))) refl refl
 statement_stops (say.Limit n) tail h = directive_stops (codes "svc_limit") (32 ∷ (decimal n ++ (10 ∷ tail))) refl refl
 statement_stops (say.Register r n) tail h = directive_stops (codes "svc_register") ((first_text r ++ (32 ∷ decimal n)) ++ (10 ∷ tail)) refl refl
+statement_stops (say.Pair i j) tail h = absurd h
+statement_stops (say.Section s) tail h = absurd h
+statement_stops (say.Zeros n) tail h = absurd h
+statement_stops (say.Align step) tail h = absurd h
+statement_stops (say.Open n) tail h = absurd h
+statement_stops (say.Value w n next) tail h = absurd h
+statement_stops (say.Symbol s) tail h = absurd h
+statement_stops (say.Common n step) tail h = absurd h
 
 -- a line is read as what it says
 pub line_back : (d : Layout) (s : Statement) (tail : List ℕ) → HasText s → line_at d (line_of s ++ tail) ≡ Some (s, tail)
@@ -366,3 +406,12 @@ line_back d s tail h =
     ap (line_at d) (append_assoc (statement_text s) (10 ∷ []) tail)
     ∙ unlabelled d (statement_text s ++ (10 ∷ tail)) (statement_stops s tail h)
     ∙ rw (statement_back d s tail h) refl
+
+-- where a line is read next, the next part is that line
+first_found : (d : Layout) (text : List ℕ) (read : Statement × List ℕ) → line_at d text ≡ Some read → first_at d text ≡ Some read
+first_found d text read h = rw h refl
+
+pub part_back : (d : Layout) (s : Statement) (tail : List ℕ) → d.next ≡ go.Line → HasText s → next_at d (line_of s ++ tail) ≡ Some (s, tail)
+unfolding next_at
+part_back d s tail line h =
+    ap (λ (n : Next). part_at n d (line_of s ++ tail)) line ∙ first_found d (line_of s ++ tail) (s, tail) (line_back d s tail h)

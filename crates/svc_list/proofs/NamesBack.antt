@@ -5,7 +5,7 @@ use Rattle.std.proofs.lemmas.Bool.{and_parts, and_from, not-true, le-leb, ne_eqb
 use Rattle.std.proofs.lemmas.Fmt.{decimal_by_steps}
 use Rattle.std.proofs.lemmas.List.{length-append}
 use Rattle.svc_draft.specs.Options.{◌>>=◌}
-use Rattle.svc_asm.specs.Characters.{is_space, is_name, past, name_at, past_name, behind, digit, push_value, push_digit, value_on, value_of, behind_zero, number_of}
+use Rattle.svc_operands.specs.Characters.{is_space, is_name, past, name_at, past_name, behind, digit, push_value, push_digit, value_on, value_of, behind_zero, number_of}
 
 -- a character of a name, which no space is
 abbrev pub dense : ℕ → Bool

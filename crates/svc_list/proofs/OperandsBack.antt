@@ -1,20 +1,21 @@
 -- Operands are read back from their text.
 use Rattle.std.proofs.Common.{◌≡◌, ℕ, zero, suc, ◌+◌, ◌-◌, ◌*◌, ◌/◌, ◌%◌, ◌^◌, ◌<◌, ◌≤◌, Bool, true, false, not, ◌&&◌, ◌==◌, nat_lt, nat_le, eqb, List, [], ◌∷◌, ◌++◌, length, Some, None, ◌⊎◌, refl, ap, sym, ◌∙◌, subst, inl, inr, arith, cond, if◌then◌else◌, decimal, codes, option_map}
-use Rattle.std.proofs.lemmas.Bool.{le-leb, lt-leb, cases_lt}
+use Rattle.std.proofs.lemmas.Bool.{le-leb, lt-leb, cases_lt, cases_eq, ne_eqb}
 use Rattle.std.proofs.lemmas.List.{append_assoc}
 use Rattle.svc_rv32i.specs.declared.instr.Register.{Register}
 use Rattle.svc_rv32i.specs.declared.instr.Short.{Short}
 use Rattle.svc_rv32i.specs.declared.instr.Long.{Long}
 use Rattle.svc_rv32i.specs.declared.instr.ShiftAmount.{ShiftAmount}
 use Rattle.svc_rv32i.specs.Meaning.{register, short, long}
-use Rattle.svc_asm.specs.declared.operands.Signed.{Signed}
+use Rattle.svc_operands.specs.declared.operands.Signed.{Signed}
 use Rattle.svc_draft.specs.Options.{◌>>=◌}
-use Rattle.svc_asm.specs.Characters.{is_space, is_name, past, name_at, past_name, behind, mark_at, value_on, value_of, number_of}
+use Rattle.svc_operands.specs.Characters.{is_space, is_name, past, found, name_at, past_name, behind, mark_at, value_on, value_of, number_of}
 use Rattle.svc_draft.specs.Layouts.{Layout, address_of}
-use Rattle.svc_asm.specs.Names.{or_else, in_file, numbered, abi_named, register_named}
-use Rattle.svc_asm.specs.Operands.{register_at, first_register_at, number_at, value_at, behind_sign, signed_from, signed_at, offset_from, offset_at, wrapped, short_of, halved, branch_of, jump_of, upper_of, amount, amount_of, short_at, branch_at, jump_at, upper_at, amount_at, address_at}
+use Rattle.svc_operands.specs.Names.{or_else, in_file, numbered, abi_named, register_named}
+use Rattle.svc_operands.specs.Operands.{register_at, first_register_at, number_at, behind_sign, signed_from, signed_at, offset_from, offset_at, wrapped, short_of, halved, branch_of, jump_of, upper_of, amount, amount_of, number_short_at, branch_at, jump_at, number_upper_at, amount_at}
+use Rattle.svc_operands.specs.Values.{plain_term_at, term_from, term_at, value_at, short_at, upper_at, address_at}
 use Rattle.svc_list.specs.Listings.{register_text, first_text, last_text, signed_text, short_text, offset_text, address_text, upper_text}
-use Rattle.svc_asm.proofs.Same.{same_register, same_short, same_long, same_amount}
+use Rattle.svc_operands.proofs.Same.{same_register, same_short, same_long, same_amount}
 use Rattle.svc_list.proofs.NamesBack.{all_dense, stops, at_name, at_rest, no_space, is_digit, digit_no_minus, all_digits, first_digit, other_digits, digits_dense, Numeral, numerals}
 
 number_of_decimal : (n : ℕ) → n < 2 ^ 32 → number_of (decimal n) ≡ Some n
@@ -49,15 +50,28 @@ pub spaced_number_back : (n : ℕ) (rest : List ℕ) → n < 2 ^ 32 → stops re
 unfolding number_at past
 spaced_number_back n rest h s = number_back n rest h s
 
-pub value_back : (d : Layout) (n : ℕ) (rest : List ℕ) → n < 2 ^ 32 → stops rest ≡ true → value_at d (decimal n ++ rest) ≡ Some (n, rest)
-unfolding value_at
-value_back d n rest h s =
+-- a number where a value stands
+plain_back : (d : Layout) (n : ℕ) (rest : List ℕ) → n < 2 ^ 32 → stops rest ≡ true → plain_term_at d (decimal n ++ rest) ≡ Some (n, rest)
+unfolding plain_term_at
+plain_back d n rest h s =
     let facts = numerals n (omega arith) h in
     rw (digits_name (decimal n) rest facts.digits facts.some s, digits_rest (decimal n) rest facts.digits facts.some s, number_of_decimal n h) refl
 
-pub spaced_value_back : (d : Layout) (n : ℕ) (rest : List ℕ) → n < 2 ^ 32 → stops rest ≡ true → value_at d (32 ∷ (decimal n ++ rest)) ≡ Some (n, rest)
-unfolding value_at past
-spaced_value_back d n rest h s = value_back d n rest h s
+-- digits have no sign
+term_digits : (d : Layout) (ds rest : List ℕ) → all_digits ds ≡ true → 0 < length ds → term_at d (32 ∷ (ds ++ rest)) ≡ plain_term_at d (ds ++ rest)
+unfolding term_at past
+term_digits d [] rest h k = absurd (omega (arith, k))
+term_digits d (c ∷ ds) rest h k =
+    let here = no_space c ds rest (digits_dense (c ∷ ds) h) in
+    let minus : (c == 45) ≡ false = digit_no_minus c (first_digit c ds h) in
+    ap (term_from d) here ∙ rw minus refl
+
+-- a value, behind which the line ends
+pub spaced_value_back : (d : Layout) (n : ℕ) (tail : List ℕ) → n < 2 ^ 32 → value_at d (32 ∷ (decimal n ++ (10 ∷ tail))) ≡ Some (n, 10 ∷ tail)
+unfolding value_at past is_name
+spaced_value_back d n tail h =
+    let facts = numerals n (omega arith) h in
+    rw (term_digits d (decimal n) (10 ∷ tail) facts.digits facts.some, plain_back d n (10 ∷ tail) h refl) refl
 
 value_is : (ds : List ℕ) → 0 < length ds → value_of 10 ds ≡ value_on 10 0 ds
 value_is [] h = absurd (omega (arith, h))
@@ -91,6 +105,11 @@ pub first_back : (r : Register) (rest : List ℕ) → first_register_at (first_t
 unfolding first_register_at past is_name
 first_back r rest =
     rw (append_assoc (register_text r) (44 ∷ []) rest, spaced_register_back r (44 ∷ rest) refl) refl
+
+-- no digit is a percent sign
+no_percent : is_digit 37 ≡ true → ⊥
+unfolding is_name
+no_percent h = absurd (cc)
 
 -- what a sign, and the number behind it, are read as
 abbrev sign : Bool → ℕ → Signed
@@ -134,9 +153,22 @@ amount_is : (a : ShiftAmount) → amount a.bits ≡ a
 unfolding amount
 amount_is a = same_amount (amount a.bits) a (omega (arith, a.in_range))
 
+-- digits are no percent sign
+digit_no_percent : (c : ℕ) → is_digit c ≡ true → (c == 37) ≡ false
+unfolding is_name
+digit_no_percent c h = elim (cases_eq c 37) [ inl same ↦ absurd (no_percent (subst (λ (x : ℕ). is_digit x ≡ true) same h)) | inr other ↦ ne_eqb c 37 other ]
+
+no_mark : (ds rest : List ℕ) → all_digits ds ≡ true → 0 < length ds → mark_at 37 (32 ∷ (ds ++ rest)) ≡ None
+unfolding past
+no_mark [] rest h k = absurd (omega (arith, k))
+no_mark (c ∷ ds) rest h k =
+    let here = no_space c ds rest (digits_dense (c ∷ ds) h) in
+    let percent : (c == 37) ≡ false = digit_no_percent c (first_digit c ds h) in
+    ap (behind 37) here ∙ rw percent refl
+
 -- a short immediate
-short_low : (imm : Short) (rest : List ℕ) → stops rest ≡ true → imm.bits < 2048 → short_at (short_text imm ++ rest) ≡ Some (imm, rest)
-unfolding short_at short_of
+short_low : (imm : Short) (rest : List ℕ) → stops rest ≡ true → imm.bits < 2048 → number_short_at (short_text imm ++ rest) ≡ Some (imm, rest)
+unfolding number_short_at short_of
 short_low imm rest s h =
     let low : nat_lt imm.bits 2048 ≡ true = le-leb (suc imm.bits) 2048 (omega (arith, h)) in
     let facts = numerals imm.bits (omega (arith, h)) (omega (arith, h)) in
@@ -144,16 +176,33 @@ short_low imm rest s h =
     signed_digits (decimal imm.bits) rest facts.digits facts.some ∙ behind_sign_back false imm.bits rest (omega (arith, h)) s in
     rw (low, read, wrapped_low 2048 imm.bits h) (ap (λ x. Some (x, rest)) (short_is imm))
 
-short_high : (imm : Short) (rest : List ℕ) → stops rest ≡ true → 2048 ≤ imm.bits → short_at (short_text imm ++ rest) ≡ Some (imm, rest)
-unfolding short_at short_of signed_at past
+short_high : (imm : Short) (rest : List ℕ) → stops rest ≡ true → 2048 ≤ imm.bits → number_short_at (short_text imm ++ rest) ≡ Some (imm, rest)
+unfolding number_short_at short_of signed_at past
 short_high imm rest s h =
     let high : nat_lt imm.bits 2048 ≡ false = lt-leb (suc imm.bits) 2048 (omega (arith, h)) in
     let read : behind_sign true (decimal (2 * 2048 - imm.bits) ++ rest) ≡ Some (sign true (2 * 2048 - imm.bits), rest) =
     behind_sign_back true (2 * 2048 - imm.bits) rest (omega arith) s in
     rw (high, read, wrapped_high 2048 imm.bits h (omega (arith, imm.in_range))) (ap (λ x. Some (x, rest)) (short_is imm))
 
-pub short_back : (imm : Short) (rest : List ℕ) → stops rest ≡ true → short_at (short_text imm ++ rest) ≡ Some (imm, rest)
-short_back imm rest s = elim (cases_lt imm.bits 2048) [ inl h ↦ short_low imm rest s h | inr h ↦ short_high imm rest s h ]
+number_short_back : (imm : Short) (rest : List ℕ) → stops rest ≡ true → number_short_at (short_text imm ++ rest) ≡ Some (imm, rest)
+number_short_back imm rest s = elim (cases_lt imm.bits 2048) [ inl h ↦ short_low imm rest s h | inr h ↦ short_high imm rest s h ]
+
+short_no_mark : (imm : Short) (rest : List ℕ) → mark_at 37 (short_text imm ++ rest) ≡ None
+unfolding past
+short_no_mark imm rest =
+    elim (cases_lt imm.bits 2048) [
+      | inl h ↦
+          let low : nat_lt imm.bits 2048 ≡ true = le-leb (suc imm.bits) 2048 (omega (arith, h)) in
+          let facts = numerals imm.bits (omega (arith, h)) (omega (arith, h)) in
+          rw low (no_mark (decimal imm.bits) rest facts.digits facts.some)
+      | inr h ↦
+          let high : nat_lt imm.bits 2048 ≡ false = lt-leb (suc imm.bits) 2048 (omega (arith, h)) in
+          rw high refl
+    ]
+
+pub short_back : (d : Layout) (imm : Short) (rest : List ℕ) → stops rest ≡ true → short_at d (short_text imm ++ rest) ≡ Some (imm, rest)
+unfolding short_at
+short_back d imm rest s = rw (short_no_mark imm rest) (number_short_back imm rest s)
 
 -- an offset is read as its sign and twice its steps
 offset_low : (d : Layout) (half n : ℕ) (rest : List ℕ) → stops rest ≡ true → half ≤ 524288 → n < half → offset_at d (offset_text half n ++ rest) ≡ Some (sign false (2 * n), rest)
@@ -202,11 +251,12 @@ jump_high d imm rest s h =
 pub jump_back : (d : Layout) (imm : Long) (rest : List ℕ) → stops rest ≡ true → jump_at d (offset_text 524288 imm.bits ++ rest) ≡ Some (imm, rest)
 jump_back d imm rest s = elim (cases_lt imm.bits 524288) [ inl h ↦ jump_low d imm rest s h | inr h ↦ jump_high d imm rest s h ]
 
-pub upper_back : (imm : Long) (rest : List ℕ) → stops rest ≡ true → upper_at (upper_text imm ++ rest) ≡ Some (imm, rest)
-unfolding upper_at upper_of
-upper_back imm rest s =
+pub upper_back : (d : Layout) (imm : Long) (rest : List ℕ) → stops rest ≡ true → upper_at d (upper_text imm ++ rest) ≡ Some (imm, rest)
+unfolding upper_at number_upper_at upper_of
+upper_back d imm rest s =
+    let facts = numerals imm.bits (omega (arith, imm.in_range)) (omega (arith, imm.in_range)) in
     let fits : nat_lt imm.bits (2 ^ 20) ≡ true = le-leb (suc imm.bits) (2 ^ 20) (omega (arith, imm.in_range)) in
-    rw (spaced_number_back imm.bits rest (omega (arith, imm.in_range)) s, fits) (ap (λ x. Some (x, rest)) (long_is imm))
+    rw (no_mark (decimal imm.bits) rest facts.digits facts.some, spaced_number_back imm.bits rest (omega (arith, imm.in_range)) s, fits) (ap (λ x. Some (x, rest)) (long_is imm))
 
 pub amount_back : (a : ShiftAmount) (rest : List ℕ) → stops rest ≡ true → amount_at (32 ∷ (decimal a.bits ++ rest)) ≡ Some (a, rest)
 unfolding amount_at amount_of
@@ -214,9 +264,9 @@ amount_back a rest s =
     let fits : nat_lt a.bits 32 ≡ true = le-leb (suc a.bits) 32 (omega (arith, a.in_range)) in
     rw (spaced_number_back a.bits rest (omega (arith, a.in_range)) s, fits) (ap (λ x. Some (x, rest)) (amount_is a))
 
-pub address_back : (imm : Short) (base : Register) (rest : List ℕ) → address_at (address_text imm base ++ rest) ≡ Some ((imm, base), rest)
+pub address_back : (d : Layout) (imm : Short) (base : Register) (rest : List ℕ) → address_at d (address_text imm base ++ rest) ≡ Some ((imm, base), rest)
 unfolding address_at past is_name
-address_back imm base rest =
+address_back d imm base rest =
     let inside = register_text base ++ (41 ∷ []) in
-    ap address_at (append_assoc (short_text imm) (40 ∷ inside) rest ∙ ap (λ x. short_text imm ++ (40 ∷ x)) (append_assoc (register_text base) (41 ∷ []) rest))
-    ∙ rw (short_back imm (40 ∷ (register_text base ++ (41 ∷ rest))) refl, register_back base (41 ∷ rest) refl) refl
+    ap (address_at d) (append_assoc (short_text imm) (40 ∷ inside) rest ∙ ap (λ x. short_text imm ++ (40 ∷ x)) (append_assoc (register_text base) (41 ∷ []) rest))
+    ∙ rw (short_back d imm (40 ∷ (register_text base ++ (41 ∷ rest))) refl, register_back base (41 ∷ rest) refl) refl

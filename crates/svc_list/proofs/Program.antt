@@ -1,9 +1,10 @@
 -- The listing of an image is a program of it.
-use Rattle.std.proofs.Common.{◌≡◌, ℕ, zero, suc, ◌+◌, ◌*◌, ◌^◌, ◌%◌, ◌<◌, ◌≤◌, Bool, true, false, ◌==◌, List, [], ◌∷◌, ◌++◌, length, take, drop, slice_index, Option, Some, None, All, refl, ap, sym, ◌∙◌, subst, arith, flat_map, ◌⊎◌, inl, inr, if◌then◌else◌}
+use Rattle.std.proofs.Common.{◌≡◌, ℕ, zero, suc, ◌+◌, ◌-◌, ◌*◌, ◌^◌, ◌%◌, ◌<◌, ◌≤◌, Bool, true, false, ◌==◌, List, [], ◌∷◌, ◌++◌, length, take, drop, slice_index, Option, Some, None, All, refl, ap, sym, ◌∙◌, subst, arith, flat_map, ◌⊎◌, inl, inr, if◌then◌else◌}
+use Rattle.std.specs.Prelude.{replicate}
 use Rattle.std.specs.List.{AllByRecursion, list_any}
 use Rattle.std.specs.List.Sorted.{IsStrictlyIncreasing}
 use Rattle.std.proofs.lemmas.Bool.{eqb-true, or_cases, eq-eqb, ne_eqb}
-use Rattle.std.proofs.lemmas.List.{length-append}
+use Rattle.std.proofs.lemmas.List.{length-append, append-nil}
 use Rattle.std.proofs.lemmas.List.Elements.{All-head, All-tail, recursion_from_All}
 use Rattle.svc_rv32i.specs.declared.instr.Instr.{Instr}
 use Rattle.svc_rv32i.specs.declared.instr.Instr.TheVariants as i
@@ -12,17 +13,19 @@ use Rattle.svc_image.specs.declared.version.Version.{Version}
 use Rattle.svc_image.specs.declared.version.Version.TheVariants as version
 use Rattle.svc_image.specs.Image.{Image, IsImage, IsLimit, AreWords, StartsWord, is_entry}
 use Rattle.svc_image.specs.Format.{bytes_of_words}
+use Rattle.svc_draft.specs.declared.statement.Next.TheVariants as go
 use Rattle.svc_draft.specs.declared.statement.Statement.{Statement}
 use Rattle.svc_draft.specs.declared.statement.Statement.TheVariants as say
 use Rattle.svc_draft.specs.Options.{◌>>=◌}
-use Rattle.svc_draft.specs.Filled.{filled}
-use Rattle.svc_draft.specs.Layouts.{Layout, Names, no_names, after, empty, file_in, HasFewParts, whole, IsMadeOf}
+use Rattle.svc_draft.specs.Areas.{filled, data_of, some_word}
+use Rattle.svc_draft.specs.Layouts.{Layout, Names, no_names, after, empty, whole_size, file_in, data_in, HasFewParts, IsMadeOf}
 use Rattle.svc_draft.proofs.Wordwise.{length-bytes_of_words}
-use Rattle.svc_asm.specs.Characters.{name_at}
+use Rattle.svc_operands.specs.Characters.{name_at}
 use Rattle.svc_asm.specs.Programs.{Makes, IsProgramOf}
 use Rattle.svc_asm.proofs.Program.{same_laid}
 use Rattle.svc_list.specs.Listings.{HasText, IsShown, statement_text, line_of, text_of, shown, setting, settings, own_limit, marks, code, data_lines, all_data, head_lines, lines_of, listing_of}
-use Rattle.svc_list.proofs.LinesBack.{line_back}
+use Rattle.svc_list.proofs.LinesBack.{part_back}
+use Rattle.svc_list.proofs.Keeping.{line_keeps, kept}
 use Rattle.svc_list.proofs.LayoutsBack.{MeansOne, after_all, Above, layout_for, image_laid, image_file}
 
 line_takes : (s : Statement) (tail : List ℕ) → length tail < length (line_of s ++ tail)
@@ -46,14 +49,23 @@ no_label name (say.Entry limit) d h = refl
 no_label name (say.Start n) d h = refl
 no_label name (say.Limit n) d h = refl
 no_label name (say.Register r n) d h = refl
+no_label name (say.Pair i j) d h = absurd h
+no_label name (say.Section s) d h = absurd h
+no_label name (say.Zeros n) d h = absurd h
+no_label name (say.Align step) d h = absurd h
+no_label name (say.Open n) d h = absurd h
+no_label name (say.Value w n next) d h = absurd h
+no_label name (say.Symbol s) d h = absurd h
+no_label name (say.Common n step) d h = absurd h
 
 -- the text of lines that make a layout makes it
-pub lines_are_made : (ss : List Statement) (d made : Layout) → AllByRecursion HasText ss → after_all ss d ≡ Some made → Makes ss (text_of ss) d made
+pub lines_are_made : (ss : List Statement) (d made : Layout) → d.next ≡ go.Line → AllByRecursion HasText ss → after_all ss d ≡ Some made → Makes ss (text_of ss) d made
 unfolding text_of
-lines_are_made [] d made h k = (refl, same_laid d made k)
-lines_are_made (s ∷ ss) d made h k =
+lines_are_made [] d made line h k = (refl, same_laid d made k)
+lines_are_made (s ∷ ss) d made line h k =
     let step = next_of s ss d made (after [] s d) k in
-    (text_of ss, step.0, record { read = line_back d s (text_of ss) h.0; shorter = line_takes s (text_of ss); laid = no_label (name_at (text_of (s ∷ ss))) s d h.0 ∙ step.1 }, lines_are_made ss step.0 made h.1 step.2)
+    let same = kept go.Line (after [] s d) step.0 (line_keeps go.Line s d h.0 line) step.1 in
+    (text_of ss, step.0, record { read = part_back d s (text_of ss) line h.0; shorter = line_takes s (text_of ss); laid = no_label (name_at (text_of (s ∷ ss))) s d h.0 ∙ step.1 }, lines_are_made ss step.0 made same h.1 step.2)
 
 -- the entries of an image stand one above another at words of the text
 next_above : (e : ℕ) (es : List ℕ) (f : ℕ) (fs : List ℕ) → es ≡ f ∷ fs → IsStrictlyIncreasing (e ∷ es) → e + 1 ≤ f
@@ -162,49 +174,66 @@ lines_text img sound =
     (tt, all_data_text v img.read_only img.words (fits img.words sound.words_fit))))
 
 -- the lines of an image make its layout
-pub lines_make : MeansOne → (names : Names) (known : Bool) (img : Image) → IsImage img → after_all (lines_of img) (empty names known) ≡ Some (layout_for names known img)
-lines_make law names known img sound =
-    image_laid law names known img sound.registers_all sound.limits_each sound.read_only_few sound.text_few (recursion_from_All (λ w. w < 2 ^ 32) img.text sound.text_fits) sound.words_few
+pub lines_make : MeansOne → (names : Names) (known : Bool) (from : ℕ) (img : Image) → IsImage img → after_all (lines_of img) (empty names known 0 from) ≡ Some (layout_for names known from img)
+lines_make law names known from img sound =
+    image_laid law names known from img sound.registers_all sound.limits_each sound.read_only_few sound.text_few (recursion_from_All (λ w. w < 2 ^ 32) img.text sound.text_fits) sound.words_few
     (above_from (length img.text) 0 img.entries sound.entries_rise sound.entries_placed (λ e fs same. omega arith))
 
-few_parts : (names : Names) (known : Bool) (img : Image) → IsImage img → HasFewParts (layout_for names known img)
-few_parts names known img sound = record {
+few_parts : (names : Names) (known : Bool) (from : ℕ) (img : Image) → IsImage img → HasFewParts (layout_for names known from img) (bytes_of_words img.words)
+few_parts names known from img sound = record {
   entries_few = sound.entries_few;
   text_few = sound.text_few;
   data_few = omega (arith, sound.words_few, length-bytes_of_words img.words);
 }
 
-filled_words : (words : List ℕ) → 1 ≤ length words → filled (bytes_of_words words) ≡ bytes_of_words words
+no_zeros : (words : List ℕ) → (4 - length (bytes_of_words words) % 4) % 4 ≡ 0
+no_zeros words = omega (arith, length-bytes_of_words words)
+
+filled_words : (words : List ℕ) → filled (bytes_of_words words) ≡ bytes_of_words words
 unfolding filled
-filled_words words some =
-    let size = length-bytes_of_words words in
-    let none : (length (bytes_of_words words) == 0) ≡ false = ne_eqb (length (bytes_of_words words)) 0 (λ zero_is. omega (arith, size, some, zero_is)) in
-    let whole_words : (length (bytes_of_words words) % 4 == 0) ≡ true = eq-eqb (length (bytes_of_words words) % 4) 0 (omega (arith, size)) in
-    rw (none, whole_words) refl
+filled_words words = ap (λ (n : ℕ). bytes_of_words words ++ replicate n 0) (no_zeros words) ∙ append-nil (bytes_of_words words)
 
-listed : MeansOne → (names : Names) (known : Bool) (img : Image) → IsImage img → Makes (lines_of img) (listing_of img) (empty names known) (layout_for names known img)
+some_is : (bytes : List ℕ) → 1 ≤ length bytes → some_word bytes ≡ bytes
+some_is [] some = absurd (omega (arith, some))
+some_is (b ∷ bytes) some = refl
+
+none_filled : filled [] ≡ []
+unfolding filled
+none_filled = refl
+
+words_are_data : (words : List ℕ) → 1 ≤ length words → data_of [] (bytes_of_words words) [] ≡ bytes_of_words words
+unfolding data_of
+words_are_data words some =
+    let bytes = bytes_of_words words in
+    rw (none_filled, filled_words words, append-nil bytes) (some_is bytes (omega (arith, some, length-bytes_of_words words)))
+
+listed : MeansOne → (names : Names) (known : Bool) (from : ℕ) (img : Image) → IsImage img → Makes (lines_of img) (listing_of img) (empty names known 0 from) (layout_for names known from img)
 unfolding listing_of
-listed law names known img sound = lines_are_made (lines_of img) (empty names known) (layout_for names known img) (lines_text img sound) (lines_make law names known img sound)
+listed law names known from img sound = lines_are_made (lines_of img) (empty names known 0 from) (layout_for names known from img) refl (lines_text img sound) (lines_make law names known from img sound)
 
-made_image : (names : Names) (known : Bool) (img : Image) → IsImage img → IsMadeOf (layout_for names known img) img
-made_image names known img sound =
-    let d = layout_for names known img in
-    let same : whole d ≡ d = ap (λ (bytes : List ℕ). record d { data_bytes = bytes }) (filled_words img.words sound.words_some) in
+made_image : (names : Names) (known : Bool) (from : ℕ) (img : Image) → IsImage img → IsMadeOf (layout_for names known from img) img
+made_image names known from img sound =
+    let d = layout_for names known from img in
+    let same : data_in d ≡ bytes_of_words img.words = words_are_data img.words sound.words_some in
     record {
-      few = subst (λ (e : Layout). HasFewParts e) (sym same) (few_parts names known img sound);
-      file = sym (ap file_in same ∙ image_file names known img);
+      few = subst (λ (bytes : List ℕ). HasFewParts d bytes) (sym same) (few_parts names known from img sound);
+      file = sym (ap (file_in d) same ∙ image_file names known from img);
     }
+
+-- how far behind the data's beginning .bss begins, by the first pass
+abbrev bss_behind : Image → ℕ
+bss_behind img = whole_size [] + whole_size (bytes_of_words img.words)
 
 -- the listing of an image is a program of it
 pub listing_is_program : MeansOne → (img : Image) → IsImage img → IsProgramOf (listing_of img) img
 listing_is_program law img sound = record {
-  layout = layout_for no_names true img;
+  layout = layout_for no_names true (bss_behind img) img;
   laid = record {
     first_lines = lines_of img;
-    first = layout_for no_names false img;
-    finds = listed law no_names false img sound;
+    first = layout_for no_names false 0 img;
+    finds = listed law no_names false 0 img sound;
     lines = lines_of img;
-    makes = listed law no_names true img sound;
+    makes = listed law no_names true (bss_behind img) img sound;
   };
-  image = made_image no_names true img sound;
+  image = made_image no_names true (bss_behind img) img sound;
 }

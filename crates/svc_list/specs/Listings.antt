@@ -82,6 +82,14 @@ statement_text (say.Entry limit) = codes ".svc_entry" ++ own_text limit
 statement_text (say.Start n) = codes ".svc_start " ++ decimal n
 statement_text (say.Limit n) = codes ".svc_limit " ++ decimal n
 statement_text (say.Register r n) = codes ".svc_register" ++ (first_text r ++ (32 ∷ decimal n))
+statement_text (say.Pair i j) = []
+statement_text (say.Section s) = []
+statement_text (say.Zeros n) = []
+statement_text (say.Align step) = []
+statement_text (say.Open n) = []
+statement_text (say.Value w n next) = []
+statement_text (say.Symbol s) = []
+statement_text (say.Common n step) = []
 
 -- what has a text that is read back
 abbrev pub HasText : Statement → Type 0
@@ -92,6 +100,14 @@ HasText (say.Entry (Some n)) = n < 2 ^ 32
 HasText (say.Start n) = n < 2 ^ 32
 HasText (say.Limit n) = n < 2 ^ 32
 HasText (say.Register r n) = n < 2 ^ 32
+HasText (say.Pair i j) = ⊥
+HasText (say.Section s) = ⊥
+HasText (say.Zeros n) = ⊥
+HasText (say.Align step) = ⊥
+HasText (say.Open n) = ⊥
+HasText (say.Value w n next) = ⊥
+HasText (say.Symbol s) = ⊥
+HasText (say.Common n step) = ⊥
 HasText _ = Unit {0}
 
 abbrev pub line_of : Statement → List ℕ

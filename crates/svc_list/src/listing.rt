@@ -10,9 +10,9 @@ use crate::instruction_names::{
 };
 use itoa::Buffer;
 use std::alloc::{AllocError, Global};
-use svc_asm::register;
 use svc_draft::Statement;
 use svc_image::{Image, Version};
+use svc_operands::register;
 use svc_rv32i::{Instr, Long, Register, Short, decode, one_meaning};
 
 fn put_text(out: &mut Vec<u8>, text: &str) -> Result<(), AllocError>
@@ -211,7 +211,11 @@ fn put_statement(out: &mut Vec<u8>, statement: Statement) -> Result<(), AllocErr
     ensures { OnOk result (out.new.items ≡ out.old.items ++ statement_text statement) }
 {
     match statement {
-        Statement::Nothing | Statement::Label => Ok(()),
+        // These stand in no listing.
+        Statement::Nothing | Statement::Label | Statement::Pair(..) => Ok(()),
+        Statement::Section(_) | Statement::Zeros(_) | Statement::Align(_) => Ok(()),
+        Statement::Open(_) | Statement::Value(..) => Ok(()),
+        Statement::Symbol(_) | Statement::Common(..) => Ok(()),
         Statement::Instruction(instr) => put_instruction(out, instr),
         Statement::Word(word) => put_numbered(out, ".word ", word),
         Statement::Text => put_text(out, ".text"),

@@ -21,7 +21,8 @@ use Rattle.svc_machine_laws.specs.declared.reply.Reply.{Reply}
 use Rattle.svc_machine_laws.specs.declared.reply.What.TheVariants as what
 use Rattle.svc_machine_laws.specs.WholeMachine.{Seat, at_core}
 use Rattle.svc_machine_laws.proofs.Lines.{read_keeps}
-use Rattle.svc_machine.specs.Asked.{IsDone, IsPrepared, IsRead, RunsAt, read_first, stored_cut, word_written}
+use Rattle.svc_bus.specs.Calls.{RunsAt}
+use Rattle.svc_machine.specs.Asked.{IsDone, IsPrepared, IsRead, read_first, stored_cut, word_written}
 
 -- the line that a step puts there
 here : (lines : ℕ → ℕ → Option Line) (u a : ℕ) (line : Option Line) (others : Option Line → Option Line) → with_line lines u a line others u a ≡ line

@@ -2,6 +2,7 @@ mod AskedTurns
 pub mod Keeping
 pub mod Seats
 pub mod Reading
+pub mod ActiveTasks
 pub mod Assigning
 pub mod Cancelling
 pub mod Replacing

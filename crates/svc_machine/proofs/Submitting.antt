@@ -50,7 +50,8 @@ use Rattle.svc_machine_laws.proofs.Places.{found, within}
 use Rattle.svc_machine_laws.proofs.Followed.{map_count, submit_guide}
 use Rattle.svc_machine_laws.proofs.Lines.{rows_units}
 use Rattle.svc_machine_laws.proofs.Wants.{asked_within}
-use Rattle.svc_machine.specs.Asked.{IsDone, RunsAt, full_for}
+use Rattle.svc_bus.specs.Calls.{RunsAt}
+use Rattle.svc_machine.specs.Asked.{IsDone, full_for}
 use Rattle.svc_machine.specs.declared.seat.Seat as declared
 use Rattle.svc_machine.specs.Value.{MachineValue, StandsAt}
 use Rattle.svc_machine.specs.Kept.{Parts, Kept, whole_seat}

@@ -1,6 +1,6 @@
 -- What an asked turn does to its task's seat and to the lines, and what it is answered, over each line table that the
 -- bus agrees with.
-use Rattle.std.specs.Prelude.{◌≡◌, ◌<◌, ◌^◌, ◌%◌, ℕ, Option, Some, None, length, option_map}
+use Rattle.std.specs.Prelude.{◌≡◌, ◌^◌, ◌%◌, ℕ, Option, Some, None, option_map}
 use Rattle.svc_base.specs.declared.served.Served.{Served}
 use Rattle.svc_rv32i.specs.declared.instr.StoreKind.{StoreKind}
 use Rattle.svc_rv32i.specs.declared.instr.StoreKind.TheVariants as store
@@ -9,22 +9,17 @@ use Rattle.svc_core_laws.specs.State.{State}
 use Rattle.svc_core_laws.specs.Program.{Memory, Want, Local, Load, Store, Narrow, Emit}
 use Rattle.svc_core_laws.specs.Words.{program, stored}
 use Rattle.svc_bus_laws.specs.Versioned.{Victim, view, victim_answer}
-use Rattle.svc_bus_laws.specs.LineTable.{LineTable, unit_at, versioned}
+use Rattle.svc_bus_laws.specs.LineTable.{LineTable, versioned}
 use Rattle.svc_bus_laws.specs.Steps.{read}
 use Rattle.svc_bus_laws.specs.BusState.{BusState, Agrees}
 use Rattle.svc_bus_laws.specs.Refusals.{bus_cache, set_full}
+use Rattle.svc_bus.specs.Calls.{RunsAt}
 use Rattle.svc_machine_laws.specs.declared.reply.Cause.TheVariants as cause
 use Rattle.svc_machine_laws.specs.declared.reply.Cut.{Cut}
 use Rattle.svc_machine_laws.specs.declared.reply.Reply.{Reply}
 use Rattle.svc_machine_laws.specs.WholeMachine.{Seat, seat_turn}
 use Rattle.svc_machine_laws.specs.LineEvents.{line_ask}
 use Rattle.svc_machine_laws.specs.Replies.{ran, serves_at, turn_done}
-
--- the bus agrees with the line table, in which the unit runs the task at this place
-pub record RunsAt (b : BusState) (unit : ℕ) (t : LineTable) (place : ℕ) : Type 0 where
-  pub agrees : Agrees b t
-  pub within : place < length t.units
-  pub unit_is : unit_at t place ≡ unit
 
 -- there is such a line table, and such a place
 abbrev pub IsRunning : BusState → (unit : ℕ) → Type 0

@@ -1,12 +1,13 @@
 -- What the reads of a machine tell.
-use Rattle.std.specs.Prelude.{ℕ, Bool, nat_le, Option, map, option_map}
+use Rattle.std.specs.Prelude.{ℕ, Bool, nat_le, Option, map, option_map, slice_get}
 use Rattle.svc_core.specs.declared.burst.Lease.{Lease}
 use Rattle.svc_core_laws.specs.State.{State}
 use Rattle.svc_core_laws.specs.Words.{program}
-use Rattle.svc_machine_laws.specs.PlainMachine.{unit_of}
+use Rattle.svc_machine_laws.specs.PlainMachine.{Running, running, unit_of}
 use Rattle.svc_machine_laws.specs.WholeMachine.{Seat, machine_of}
 use Rattle.svc_machine_laws.specs.Refusals.{seat_at}
 use Rattle.svc_bus_laws.specs.Refusals as bus
+use Rattle.svc_machine.specs.declared.shown.ActiveTask.{ActiveTask}
 use Rattle.svc_machine.specs.Value.{MachineValue}
 
 -- the unit runs the head
@@ -24,3 +25,11 @@ lease_of m unit = option_map lease_from (seat_at (machine_of (program m.image) m
 -- no further event is accepted
 abbrev pub is_full : MachineValue → Bool
 is_full m = nat_le m.config.events m.plain.accepted
+
+-- an active task as it stands: its unit, its entry, its turns so far, and how it has ended, where it has
+abbrev pub task_shown : Running State → ActiveTask
+task_shown x = record { unit = record { 0 = x.task.unit }; entry = x.task.entry; turns = x.task.turns; done = x.run.core.done }
+
+-- the active task at a place, counted from the oldest
+abbrev pub task_of : MachineValue → (place : ℕ) → Option ActiveTask
+task_of m place = option_map task_shown (slice_get (running (program m.image) m.plain) place)

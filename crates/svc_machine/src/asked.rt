@@ -12,12 +12,12 @@ ghost use Rattle.svc_bus_laws.specs.LineTable.{LineTable};
 ghost use Rattle.svc_bus_laws.specs.Steps.{write};
 ghost use Rattle.svc_bus_laws.specs.BusState.{Agrees};
 ghost use Rattle.svc_bus_laws.specs.Refusals.{bus_cache, set_full};
-ghost use Rattle.svc_bus.specs.Calls.{victim_shown};
+ghost use Rattle.svc_bus.specs.Calls.{RunsAt, victim_shown};
 ghost use Rattle.svc_bus.specs.Observed.{observed};
 ghost use Rattle.svc_machine_laws.specs.WholeMachine.{seat_turn};
 ghost use Rattle.svc_machine_laws.specs.Events.{want_of};
 ghost use Rattle.svc_machine_laws.specs.Refusals.{asked_word};
-ghost use Rattle.svc_machine.specs.Asked.{IsDone, IsPrepared, IsRead, IsRunning, RunsAt};
+ghost use Rattle.svc_machine.specs.Asked.{IsDone, IsPrepared, IsRead, IsRunning};
 ghost use Rattle.svc_machine.specs.Asked.{full_for, stored_cut, violated};
 ghost use Rattle.svc_machine.specs.Kept.{whole_seat};
 
@@ -97,7 +97,8 @@ fn do_store(
     requires in_time { seat.old.core.count < seat.old.core.limit }
     requires running { IsRunning (observed bus.old) seat.old.unit.0 }
     requires size { (observed bus.old).words ≡ data_words image.now }
-    requires free { full_for (observed bus.old) seat.old.unit.0 (asked_word image.now (Ask.Store kind addr value)) ≡ None }
+    requires free { full_for (observed bus.old) seat.old.unit.0 (asked_word image.now (Ask.Store kind addr value))
+        ≡ None }
     ensures { let trap = store_trap (data_words image.now) image.now.read_only (store_bytes kind) addr in
         (t : LineTable) → (place : ℕ) → RunsAt (observed bus.old) seat.old.unit.0 t place
         → IsDone image.now (Some (wants_store image.now seat.old.core kind addr value trap)) t place

@@ -18,9 +18,11 @@ mod reads;
 mod replace;
 mod run;
 pub mod seat;
+pub mod shown;
 mod submit;
 
 pub use event::Event;
 pub use machine::Machine;
 pub use run::drive;
+pub use shown::ActiveTask;
 pub use svc_machine_laws::{Cause, Cut, Reply, Served, What};

@@ -17,22 +17,36 @@ ghost use Rattle.svc_machine_laws.specs.Reached.{IsReached};
 /// are cut, also after a task that has ended where the next one was guessed wrongly, and at a commit the
 /// next tasks are cut where it says so, the successor is remembered, and the oldest task leaves.
 pub fn guide_steps<C>()
-    ensures opening { (p : Program C) → (entries : List ℕ) → (first : ℕ) → guide_of p entries (plain_opening first) ≡ guide_opened entries p.first }
-    ensures assign { (p : Program C) → (entries : List ℕ) → (s : Plain) → (unit guess : ℕ) → guide_of p entries (plain.assign p s unit guess) ≡ guide_assigned guess (guide_of p entries s) }
-    ensures submit { (p : Program C) → (entries : List ℕ) → (s : Plain) → (place local : ℕ) → (ask : Bool) → guide_of p entries (plain.submit p s place local ask) ≡ guide_cut (length (plain.submit p s place local ask).tasks) (guide_of p entries s) }
-    ensures check { (p : Program C) → (entries : List ℕ) → (s : Plain) → (place : ℕ) → guide_of p entries (plain.check p s place) ≡ guide_cut (length (plain.check p s place).tasks) (guide_of p entries s) }
-    ensures replace { (p : Program C) → (entries : List ℕ) → (s : Plain) → guide_of p entries (plain.replace s) ≡ guide_of p entries s }
-    ensures cancel { (p : Program C) → (entries : List ℕ) → (s : Plain) → (place : ℕ) → guide_of p entries (plain.cancel s place) ≡ guide_cut place (guide_of p entries s) }
-    ensures commit { (p : Program C) → IsProgram p → (entries : List ℕ) → (s : Plain) → (x : Running C) → slice_get (running p s) 0 ≡ Some x → IsDue (seq p s.commits).due s.tasks → (done : HasEnded p s) → guide_of p entries (plain.commit p s) ≡ guide_committed done.end (guide_settled done.end (guide_of p entries s)) }
+    ensures opening { (p : Program C) → (entries : List ℕ) → (first : ℕ)
+        → guide_of p entries (plain_opening first) ≡ guide_opened entries p.first }
+    ensures assign { (p : Program C) → (entries : List ℕ) → (s : Plain) → (unit guess : ℕ)
+        → guide_of p entries (plain.assign p s unit guess) ≡ guide_assigned guess (guide_of p entries s) }
+    ensures submit { (p : Program C) → (entries : List ℕ) → (s : Plain) → (place local : ℕ) → (ask : Bool)
+        → guide_of p entries (plain.submit p s place local ask)
+        ≡ guide_cut (length (plain.submit p s place local ask).tasks) (guide_of p entries s) }
+    ensures check { (p : Program C) → (entries : List ℕ) → (s : Plain) → (place : ℕ)
+        → guide_of p entries (plain.check p s place) ≡ guide_cut (length (plain.check p s place).tasks)
+        (guide_of p entries s) }
+    ensures replace { (p : Program C) → (entries : List ℕ) → (s : Plain)
+        → guide_of p entries (plain.replace s) ≡ guide_of p entries s }
+    ensures cancel { (p : Program C) → (entries : List ℕ) → (s : Plain) → (place : ℕ)
+        → guide_of p entries (plain.cancel s place) ≡ guide_cut place (guide_of p entries s) }
+    ensures commit { (p : Program C) → IsProgram p → (entries : List ℕ) → (s : Plain) → (x : Running C)
+        → slice_get (running p s) 0 ≡ Some x → IsDue (seq p s.commits).due s.tasks → (done : HasEnded p s)
+        → guide_of p entries (plain.commit p s)
+        ≡ guide_committed done.end (guide_settled done.end (guide_of p entries s)) }
 {}
 
 /// The guess that a sequencer gives, told how the youngest active task has ended, is the one that is read
 /// off the sequential run.
 pub fn guess_is_guided()
-    ensures { (img : Image) → (config : Config) → (s : Standing) → IsReached img config s → guess_of (last_end (run_done (program img)) (running (program img) s.plain)) (guide_of (program img) img.entries s.plain) ≡ guess (program img) img.entries s.plain }
+    ensures { (img : Image) → (config : Config) → (s : Standing) → IsReached img config s
+        → guess_of (last_end (run_done (program img)) (running (program img) s.plain))
+        (guide_of (program img) img.entries s.plain) ≡ guess (program img) img.entries s.plain }
 {}
 
 /// Once the run has stopped there is no guess; until then there is one, and it is an entry.
 pub fn guess_is_entry()
-    ensures { (img : Image) → IsImage img → (config : Config) → (s : Standing) → IsReached img config s → IsGuess img s.plain }
+    ensures { (img : Image) → IsImage img → (config : Config) → (s : Standing) → IsReached img config s
+        → IsGuess img s.plain }
 {}

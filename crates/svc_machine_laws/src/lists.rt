@@ -16,33 +16,43 @@ ghost use Rattle.svc_machine_laws.specs.Headline.{IsSequential};
 
 /// What holds of every standing that events lead to holds before any event.
 pub fn opening_is_reached()
-    ensures { (img : Image) → IsImage img → (config : Config) → (first : ℕ) → IsReached img config (opened_at img config first) }
+    ensures { (img : Image) → IsImage img → (config : Config) → (first : ℕ)
+        → IsReached img config (opened_at img config first) }
 {}
 
 /// Every list of events keeps it.
 pub fn list_keeps()
-    ensures { (img : Image) → IsImage img → (config : Config) → (s : Standing) → (events : List Event) → AllByRecursion IsEvent events → IsReached img config s → IsReached img config (after_events img config s events) }
+    ensures { (img : Image) → IsImage img → (config : Config) → (s : Standing) → (events : List Event)
+        → AllByRecursion IsEvent events → IsReached img config s
+        → IsReached img config (after_events img config s events) }
 {}
 
 /// After every list of events the whole machine, which runs nothing anew, is what the plain machine says
 /// of it.
 pub fn whole_machine_anew()
-    ensures { (img : Image) → IsImage img → (config : Config) → (s : Standing) → (events : List Event) → AllByRecursion IsEvent events → IsReached img config s → whole_of img (after_events img config s events) ≡ whole_after_events img config (whole_of img s) events }
+    ensures { (img : Image) → IsImage img → (config : Config) → (s : Standing) → (events : List Event)
+        → AllByRecursion IsEvent events → IsReached img config s
+        → whole_of img (after_events img config s events) ≡ whole_after_events img config (whole_of img s) events }
 {}
 
 /// A standing that events lead to has committed the first tasks of the sequential run, and nothing else.
 pub fn reached_is_sequential()
-    ensures { (img : Image) → IsImage img → (config : Config) → (s : Standing) → IsReached img config s → IsSequential img s.plain.commits (whole_of img s) }
+    ensures { (img : Image) → IsImage img → (config : Config) → (s : Standing) → IsReached img config s
+        → IsSequential img s.plain.commits (whole_of img s) }
 {}
 
 /// There are at most as many active tasks as units.
 pub fn tasks_are_few()
-    ensures { (img : Image) → (config : Config) → (s : Standing) → IsReached img config s → length s.plain.tasks ≤ config.units }
+    ensures { (img : Image) → (config : Config) → (s : Standing) → IsReached img config s
+        → length s.plain.tasks ≤ config.units }
 {}
 
 /// Who serves a read of an active task holds the word that the task's run sees, when it is run anew.
 pub fn supplier_holds()
-    ensures { (img : Image) → (config : Config) → (s : Standing) → IsReached img config s → (place a : ℕ) → (t : Task) → slice_get s.plain.tasks place ≡ Some t → supplied s.lines place a (supplier s.lines place a) ≡ Some (over (wrote (run_at (program img) s.plain place t).log) (memory_at (program img) (seq (program img) s.plain.commits).memory s.plain.tasks place) a) }
+    ensures { (img : Image) → (config : Config) → (s : Standing) → IsReached img config s → (place a : ℕ) → (t : Task)
+        → slice_get s.plain.tasks place ≡ Some t → supplied s.lines place a (supplier s.lines place a)
+        ≡ Some (over (wrote (run_at (program img) s.plain place t).log)
+        (memory_at (program img) (seq (program img) s.plain.commits).memory s.plain.tasks place) a) }
 {}
 
 /// The headline: for every image, every configuration and every list of events, after these events the
@@ -50,5 +60,8 @@ pub fn supplier_holds()
 /// accepted commits, and committed memory and output are exactly what running those k tasks one after
 /// another on one flat memory of bytes leaves.
 pub fn headline()
-    ensures { (img : Image) → IsImage img → (config : Config) → (first : ℕ) → (events : List Event) → AllByRecursion IsEvent events → IsSequential img (accepted_commits img config (whole_opened img config first) events) (whole_after_events img config (whole_opened img config first) events) }
+    ensures { (img : Image) → IsImage img → (config : Config) → (first : ℕ) → (events : List Event)
+        → AllByRecursion IsEvent events
+        → let opened = whole_opened img config first in
+        IsSequential img (accepted_commits img config opened events) (whole_after_events img config opened events) }
 {}

@@ -14,9 +14,13 @@ ghost use Rattle.svc_machine_laws.specs.Standing.{opened_at, refused};
 /// unless all epochs were given, and after it the guess is the entry after the start. Of entries at 0 and
 /// 12, the one after 0 is 12, and the one after 12 is 0.
 pub fn first_assignment()
-    ensures opening { (img : Image) → (first : ℕ) → guess (program img) img.entries (plain_opening first) ≡ Some img.start }
-    ensures accepted { (img : Image) → (config : Config) → (first choice : ℕ) → first ≢ 2 ^ 64 - 1 → refused img config (opened_at img config first) (Assign 0 choice) ≡ None }
-    ensures guess { (img : Image) → (first unit choice : ℕ) → guess (program img) img.entries (plain.assign (program img) (plain_opening first) unit choice) ≡ Some (entry_after img.entries img.start) }
+    ensures opening { (img : Image) → (first : ℕ) → guess (program img) img.entries (plain_opening first)
+        ≡ Some img.start }
+    ensures accepted { (img : Image) → (config : Config) → (first choice : ℕ) → first ≢ 2 ^ 64 - 1
+        → refused img config (opened_at img config first) (Assign 0 choice) ≡ None }
+    ensures guess { (img : Image) → (first unit choice : ℕ)
+        → guess (program img) img.entries (plain.assign (program img) (plain_opening first) unit choice)
+        ≡ Some (entry_after img.entries img.start) }
     ensures next { entry_after (0 ∷ 12 ∷ []) 0 ≡ 12 }
     ensures wraps { entry_after (0 ∷ 12 ∷ []) 12 ≡ 0 }
 {}

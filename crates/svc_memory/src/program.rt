@@ -7,7 +7,7 @@ use crate::attempt::{Attempt, Refused, ready};
 use crate::texts::{EVENTS, TRACE};
 use crate::wanted::{
     CHECK, LIST, PROFILE, PROFILE_BY_TASK, PROFILE_BY_UNIT, PROFILE_BY_WORD, RUN, SCHEDULE, SCRIPT,
-    SEQ,
+    SEQ, SHOW, SHOW_AT,
 };
 use std::alloc::{AllocError, Global};
 use std::sync::Wait;
@@ -170,6 +170,40 @@ pub fn profile_by_unit<R: Threads + Wait + Sync + AllocGlobal>(rt: &R) -> Attemp
 /// The same by word.
 pub fn profile_by_word<R: Threads + Wait + Sync + AllocGlobal>(rt: &R) -> Attempt {
     cost(rt, Some(Table::Words), PROFILE_BY_WORD)
+}
+
+// The machine to which the trace of ten events leads is shown, after so many of them or after all.
+fn shown<R: Threads + Wait + Sync + AllocGlobal>(rt: &R, at: Option<u64>, wanted: &str) -> Attempt {
+    let request = Request::Show {
+        image: Source::File("p"),
+        config: ready(Config::new(4, 16, 2, 10, 1))?,
+        trace: "trace",
+        at,
+    };
+    asked(rt, request, wanted)
+}
+
+/// The machine is shown after all ten events.
+pub fn show<R: Threads + Wait + Sync + AllocGlobal>(rt: &R) -> Attempt {
+    shown(rt, None, SHOW)
+}
+
+/// The machine is shown after four of them.
+pub fn show_at<R: Threads + Wait + Sync + AllocGlobal>(rt: &R) -> Attempt {
+    shown(rt, Some(4), SHOW_AT)
+}
+
+/// A picture of the ten events is made, and saved.
+pub fn draw<R: Threads + Wait + Sync + AllocGlobal>(rt: &R) -> Attempt {
+    let request = Request::Draw {
+        image: Source::File("p"),
+        config: ready(Config::new(4, 16, 2, 10, 1))?,
+        trace: "trace",
+        picture: "saved",
+        from: 0,
+        count: 400,
+    };
+    asked(rt, request, "")
 }
 
 /// A listing is assembled, and its image is saved.

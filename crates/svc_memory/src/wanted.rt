@@ -123,6 +123,27 @@ pub const PROFILE_BY_WORD: &str = "word,loads,stores,versions,violations,squashe
 0,2,1,0,1,1,2
 ";
 
+/// By the machine after ten events.
+pub const SHOW: &str = "at,10
+tasks,2
+due,
+guess,
+exit,5
+line,1,0,5,V-LC-
+memory,0,5,5
+";
+
+/// By the machine after four of them.
+pub const SHOW_AT: &str = "at,4
+tasks,0
+due,0
+guess,12
+open,0
+task,0,0,0,3,next
+line,0,0,5,VS---
+memory,0,0,0
+";
+
 /// By the listing of the sample of two tasks.
 pub const LIST: &str = ".svc_version 1
 .svc_limit 100

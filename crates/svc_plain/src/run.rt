@@ -30,9 +30,11 @@ pub struct PlainOutcome {
 pub fn run_tasks(alloc: Global, image: &Image, k: u64) -> Result<PlainOutcome, PlainError>
     ensures tasks { IfOk result (λ o. o.tasks ≡ tasks_run image.now k) }
     ensures size { IfOk result (λ o. length o.memory.items ≡ length image.now.words) }
-    ensures memory { IfOk result (λ o. (a : ℕ) → slice_index o.memory.items a ≡ word_at (plain_seq image.now k).memory a) }
+    ensures memory { IfOk result (λ o. (a : ℕ) → slice_index o.memory.items a
+        ≡ word_at (plain_seq image.now k).memory a) }
     ensures output { IfOk result (λ o. o.output.items ≡ (plain_seq image.now k).output) }
-    ensures ending { IfOk result (λ o. o.ending ≡ ending_of false (plain_seq image.now k).stopped (plain_seq image.now k).due) }
+    ensures ending { IfOk result (λ o.
+        o.ending ≡ ending_of false (plain_seq image.now k).stopped (plain_seq image.now k).due) }
 {
     let mut due = Some(image.start());
     let slots = image.slots();

@@ -1,4 +1,4 @@
--- What was reported is what was asked for: a run, and what a trace cost.
+-- What was done is what was asked for: a run, what a trace cost, the machine where it leads, and a picture.
 use Rattle.std.specs.Prelude.{IfOk, IfSome}
 use Rattle.std.proofs.Common.{◌≡◌, ◌∙◌, refl, ℕ, List, Option, Some, None, Result, Ok, Err, Bor}
 use Rattle.svc_base.specs.declared.config.Config.{Config}
@@ -10,8 +10,10 @@ use Rattle.svc_program.specs.declared.request.Source.{Source}
 use Rattle.svc_program.specs.declared.request.Table.{Table}
 use Rattle.svc_program.specs.declared.request.Request.TheVariants as request
 use Rattle.svc_program.specs.Costs.{TellsCost}
+use Rattle.svc_program.specs.Drawings.{IsDrawn}
 use Rattle.svc_program.specs.Requests.{Does, IsOfSource, IsTraceIn, KeepsFiles, SavesTrace}
 use Rattle.svc_program.specs.Runs.{GoesBy, IsRunOf, ReportsOn}
+use Rattle.svc_program.specs.Shown.{TellsMachine}
 
 pub run_done : {E : Type 0} (r : Result ℕ E) (from : Source) (config : Config) (schedule : Option Schedule) (trace : Option (Bor (List ℕ))) (img : Image) (run : Recorded) (held saved : List ℕ → Option (List ℕ)) (old new : Option (List ℕ))
     → IsOfSource held from img → IsRunOf img config run → GoesBy schedule img config run → IfSome trace (λ name. SavesTrace saved name.now run.entries) → IfOk r (ReportsOn run old new)
@@ -33,3 +35,19 @@ pub profile_done : {E : Type 0} (r : Result ℕ E) (from : Source) (config : Con
 profile_done (Ok exit) from config trace by img es held loaded saved old new kept image is_trace told =
     let read : IsTraceIn held trace.now es = rw (← kept) is_trace in (img, image, es, read, told)
 profile_done (Err e) from config trace by img es held loaded saved old new kept image is_trace told = tt
+
+-- so it is where the machine is shown
+pub show_done : {E : Type 0} (r : Result ℕ E) (from : Source) (config : Config) (trace : Bor (List ℕ)) (at : Option ℕ)
+    (img : Image) (es : List Entry) (held loaded saved : List ℕ → Option (List ℕ)) (old new : Option (List ℕ))
+    → loaded ≡ held → IsOfSource held from img → IsTraceIn loaded trace.now es
+    → IfOk r (TellsMachine at img config es old new) → IfOk r (Does (request.Show from config trace at) held saved old new)
+show_done (Ok exit) from config trace at img es held loaded saved old new kept image is_trace told =
+    let read : IsTraceIn held trace.now es = rw (← kept) is_trace in (img, image, es, read, told)
+show_done (Err e) from config trace at img es held loaded saved old new kept image is_trace told = tt
+
+pub draw_done : (from : Source) (config : Config) (trace picture : Bor (List ℕ)) (first count : ℕ)
+    (img : Image) (es : List Entry) (held loaded saved : List ℕ → Option (List ℕ)) (old : Option (List ℕ))
+    → loaded ≡ held → IsOfSource held from img → IsTraceIn loaded trace.now es → IsDrawn img config es first
+    → Does (request.Draw from config trace picture first count) held saved old old 0
+draw_done from config trace picture first count img es held loaded saved old kept image is_trace drawn =
+    let read : IsTraceIn held trace.now es = rw (← kept) is_trace in (img, image, es, read, drawn, refl, refl)

@@ -8,7 +8,7 @@ use Rattle.svc_history_laws.specs.Legal.{LegalHistory}
 use Rattle.svc_view.specs.Profile.{profile_of}
 use Rattle.svc_view.specs.Tasks.{task_table}
 use Rattle.svc_view.specs.Units.{unit_table}
-use Rattle.svc_view.specs.Words.{word_table}
+use Rattle.svc_words.specs.Words.{word_table}
 use Rattle.svc_program.specs.declared.request.Table.{Table}
 use Rattle.svc_program.specs.declared.request.Table.TheVariants as table
 

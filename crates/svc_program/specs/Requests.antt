@@ -19,8 +19,10 @@ use Rattle.svc_program.specs.declared.request.Request.TheVariants as request
 use Rattle.svc_program.specs.declared.request.TheConstants.{VERSION}
 use Rattle.svc_program.specs.Assembly.{Assembles, Lists}
 use Rattle.svc_program.specs.Costs.{TellsCost}
+use Rattle.svc_program.specs.Drawings.{IsDrawn}
 use Rattle.svc_program.specs.Runs.{FindsSound, GoesBy, IsRunOf, Reports, ReportsOn}
 use Rattle.svc_program.specs.Scripts.{PlaysScript}
+use Rattle.svc_program.specs.Shown.{TellsMachine}
 
 -- the image is the built-in one, or that of the named file, where it is known what that holds
 abbrev pub IsOfSource : (List ℕ → Option (List ℕ)) → Source → Image → Type 0
@@ -64,6 +66,12 @@ Does (request.Check from config trace) held saved old new exit =
 Does (request.Profile from config trace by) held saved old new exit =
     (img : Image) × IsOfSource held from img
     × (es : List Entry) × IsTraceIn held trace.now es × TellsCost by img config es old new exit
+Does (request.Show from config trace at) held saved old new exit =
+    (img : Image) × IsOfSource held from img
+    × (es : List Entry) × IsTraceIn held trace.now es × TellsMachine at img config es old new exit
+Does (request.Draw from config trace picture first count) held saved old new exit =
+    (img : Image) × IsOfSource held from img
+    × (es : List Entry) × IsTraceIn held trace.now es × IsDrawn img config es first × (new ≡ old) × (exit ≡ 0)
 Does (request.Assemble text image) held saved old new exit = Assembles (held text.now) (saved image.now) exit × (new ≡ old)
 Does (request.List from) held saved old new exit = (img : Image) × IsOfSource held from img × Lists img old new exit
 
@@ -76,11 +84,14 @@ HasImage (request.Sequential from k) held = (img : Image) × IsOfSource held fro
 HasImage (request.Script from config events) held = (img : Image) × IsOfSource held from img
 HasImage (request.Check from config trace) held = (img : Image) × IsOfSource held from img
 HasImage (request.Profile from config trace by) held = (img : Image) × IsOfSource held from img
+HasImage (request.Show from config trace at) held = (img : Image) × IsOfSource held from img
+HasImage (request.Draw from config trace picture first count) held = (img : Image) × IsOfSource held from img
 HasImage (request.Assemble text image) held = ⊤
 HasImage (request.List from) held = (img : Image) × IsOfSource held from img
 
--- no file is changed but by a run whose trace is to be saved, and by assembling one
+-- no file is changed but by a run whose trace is to be saved, by drawing a trace, and by assembling one
 abbrev pub KeepsFiles : Request → (held saved : List ℕ → Option (List ℕ)) → Type 0
 KeepsFiles (request.Run from config schedule (Some name)) held saved = ⊤
+KeepsFiles (request.Draw from config trace picture first count) held saved = ⊤
 KeepsFiles (request.Assemble text image) held saved = ⊤
 KeepsFiles _ held saved = saved ≡ held

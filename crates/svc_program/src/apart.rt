@@ -17,6 +17,18 @@ impl Request<'_> {
                 trace: Some(trace),
                 ..
             } => image == trace,
+            Request::Draw {
+                image: Source::File(image),
+                trace,
+                picture,
+                ..
+            } => image == picture || trace == picture,
+            Request::Draw {
+                image: Source::BuiltIn,
+                trace,
+                picture,
+                ..
+            } => trace == picture,
             Request::Assemble { text, image } => text == image,
             _ => false,
         }
@@ -32,6 +44,18 @@ impl Request<'_> {
                 trace: Some(trace),
                 ..
             } => files.is_same(image, trace),
+            Request::Draw {
+                image: Source::File(image),
+                trace,
+                picture,
+                ..
+            } => files.is_same(image, picture) || files.is_same(trace, picture),
+            Request::Draw {
+                image: Source::BuiltIn,
+                trace,
+                picture,
+                ..
+            } => files.is_same(trace, picture),
             Request::Assemble { text, image } => files.is_same(text, image),
             _ => false,
         }

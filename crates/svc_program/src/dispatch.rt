@@ -7,6 +7,7 @@ ghost use Rattle.svc_program.specs.Requests.{Does, HasImage, KeepsFiles, Shows, 
 
 use crate::assembly::{assemble_file, list_image};
 use crate::check::check;
+use crate::draw::draw_trace;
 use crate::faults::Fault;
 use crate::files::Files;
 use crate::load::{load_image, load_script, load_trace, save_trace};
@@ -15,6 +16,7 @@ use crate::request::{Request, VERSION};
 use crate::run::run_image;
 use crate::script::script;
 use crate::sequential::sequential;
+use crate::show::show;
 use crate::summary::print_recorded;
 use std::alloc::Global;
 use std::io::Write;
@@ -106,6 +108,30 @@ fn dispatch<R: Threads + Wait + Sync, F: Files, O: Write>(
             let image = load_image(alloc, image, files)?;
             let entries = load_trace(alloc, trace, files)?;
             profile(alloc, &image, config, &entries, by, out)
+        }
+        Request::Show {
+            image,
+            config,
+            trace,
+            at,
+        } => {
+            let image = load_image(alloc, image, files)?;
+            let entries = load_trace(alloc, trace, files)?;
+            show(alloc, &image, config, &entries, at, out)
+        }
+        Request::Draw {
+            image,
+            config,
+            trace,
+            picture,
+            from,
+            count,
+        } => {
+            let image = load_image(alloc, image, files)?;
+            let entries = load_trace(alloc, trace, files)?;
+            let text = draw_trace(alloc, &image, config, &entries, from, count)?;
+            files.save(picture, &text)?;
+            Ok(0)
         }
         Request::Assemble { text, image } => assemble_file(alloc, text, image, files),
         Request::List { image } => {

@@ -5,6 +5,7 @@ mod apart;
 mod assembly;
 mod check;
 mod dispatch;
+mod draw;
 mod faults;
 mod files;
 mod front;
@@ -14,6 +15,7 @@ mod request;
 mod run;
 mod script;
 mod sequential;
+mod show;
 mod summary;
 
 pub use dispatch::perform;

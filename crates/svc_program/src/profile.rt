@@ -16,7 +16,8 @@ use svc_history::{Entry, check_trace};
 use svc_history_laws::history_leads_on;
 use svc_image::Image;
 use svc_report::ReportError;
-use svc_view::{write_profile, write_tasks, write_units, write_words};
+use svc_view::{write_profile, write_tasks, write_units};
+use svc_words::write_words;
 
 /// Replays the entries, and prints what their speculation cost. It answers the exit status.
 pub fn profile<O: Write>(

@@ -105,6 +105,22 @@ pub enum Request<'a> {
         trace: &'a str,
         by: Option<Table>,
     },
+    /// To replay a trace so, and to show the machine after the first so many of its entries, or after all.
+    Show {
+        image: Source<'a>,
+        config: Config,
+        trace: &'a str,
+        at: Option<u64>,
+    },
+    /// To replay a trace so, and to save a picture of this many of its entries, from one on, in a file.
+    Draw {
+        image: Source<'a>,
+        config: Config,
+        trace: &'a str,
+        picture: &'a str,
+        from: u32,
+        count: u32,
+    },
     /// To assemble a text, and to save its image in this file.
     Assemble {
         text: &'a str,

@@ -11,6 +11,7 @@ use Rattle.svc_history_laws.specs.declared.entry.Entry.{Entry}
 use Rattle.svc_base.specs.declared.ids.UnitId.{UnitId}
 use Rattle.svc_report.specs.Faults.{IsStreamFault}
 use Rattle.svc_report.specs.Fields.{kind_word, unit_text}
+use Rattle.svc_report.specs.Limit.{readable, readable_from}
 use Rattle.svc_report.specs.Lines.{joined, line}
 use Rattle.svc_report.specs.Records.{FirstOther, IsBadHeader, IsText}
 use Rattle.svc_report.specs.Trace.{FirstBad, HasRow, IsBadEntry, IsReadFault, columns, header, row_of, text_of, trace_records}
@@ -22,6 +23,9 @@ use Rattle.std.specs.Prelude.{IfOk, IfErr, MatchResult, Vec}
 use Rattle.std.specs.declared.alloc.Global.{Global}
 use Rattle.svc_report.proofs.PlainLines.{row_of_entry}
 use Rattle.svc_report.proofs.SameColumns.{columns_same}
+use Rattle.svc_report.proofs.Short.{trace_short}
+use Rattle.svc_report.proofs.Whole.{IsShort, reads_record}
+use Rattle.std.proofs.Common.{zero-le}
 
 -- the bytes read as these records, one after the other
 abbrev pub ReadsAs : List (List (List ℕ)) → List ℕ → Type 0
@@ -54,6 +58,19 @@ entries_read (e ∷ es) all = (flat_map row_of es, row_read e all.0 (flat_map ro
 text_read : (h : List Entry) → AllByRecursion HasRow h → ReadsAs (trace_records h) (strip_bom (text_of h))
 unfolding strip_bom joined
 text_read h all = (flat_map row_of h, header_read (flat_map row_of h), entries_read h all)
+
+all_read : (rows : List (List (List ℕ))) (xs : List ℕ) → AllByRecursion IsShort rows → ReadsAs rows xs → readable_from st.StartRecord 0 xs ≡ xs
+unfolding readable_from
+all_read [] xs short r = rw r refl
+all_read (f ∷ rows) xs short r =
+    let (rest, first, others) = r in
+    reads_record st.StartRecord 0 [] [] xs (f, st.StartRecord, rest) tt zero-le short.0 first (all_read rows rest short.1 others)
+
+-- what is read of a history's text is the same
+text_readable : (h : List Entry) → AllByRecursion HasRow h → ReadsAs (trace_records h) (readable (text_of h))
+text_readable h all =
+    let read = text_read h all in
+    subst (λ (t : List ℕ). ReadsAs (trace_records h) t) (sym (all_read (trace_records h) (strip_bom (text_of h)) (trace_short h all) read)) read
 
 -- records that were taken from the front are the first ones, and the others follow
 unique : (rows rs : List (List (List ℕ))) (xs ys : List ℕ) (s : State) → ReadsAs rows xs → Reached default_config st.StartRecord xs rs s ys
@@ -105,13 +122,13 @@ not_bad e f (suc k) p same bad = bad.2 e p (ap (λ (x : List (List ℕ)). get_or
 good_header : (h : List Entry) (row column : ℕ) → AllByRecursion HasRow h → IsBadHeader (text_of h) header row column → ⊥
 good_header h row column p (at, inl bad) =
     let (s, ys, reached, none) = bad.0 in
-    let (start, more, split, after) = unique (trace_records h) [] (strip_bom (text_of h)) ys s (text_read h p) reached in
+    let (start, more, split, after) = unique (trace_records h) [] (readable (text_of h)) ys s (text_readable h p) reached in
     let end = no_more more ys s start after none in
     cc (split, end)
 good_header h row column p (at, inr bad) =
     let (fields, begins, other) = bad in
     let (s, ys, reached) = begins in
-    let (start, more, split, after) = unique (trace_records h) (fields ∷ []) (strip_bom (text_of h)) ys s (text_read h p) reached in
+    let (start, more, split, after) = unique (trace_records h) (fields ∷ []) (readable (text_of h)) ys s (text_readable h p) reached in
     let same : fields ≡ header = cc split in
     not_other header column (subst (λ (f : List (List ℕ)). FirstOther f header column) same other)
 
@@ -126,7 +143,7 @@ good_entries : (h : List Entry) (row column : ℕ) → AllByRecursion HasRow h �
 good_entries h row column p bad =
     let (es, all, at, fields, begins, first) = bad in
     let (s, ys, reached) = begins in
-    let (start, more, split, after) = unique (trace_records h) (trace_records es ++ (fields ∷ [])) (strip_bom (text_of h)) ys s (text_read h p) reached in
+    let (start, more, split, after) = unique (trace_records h) (trace_records es ++ (fields ∷ [])) (readable (text_of h)) ys s (text_readable h p) reached in
     let tail : map columns h ≡ (map columns es ++ (fields ∷ [])) ++ more = cc split in
     let (e, range, same) = member h (map columns es) fields more p tail in
     not_bad e fields column range same first

@@ -7,3 +7,5 @@ pub mod Rows
 pub mod Script
 pub mod Summary
 pub mod Trace
+pub mod Limit
+pub mod Places

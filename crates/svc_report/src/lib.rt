@@ -4,6 +4,7 @@
 mod counts;
 mod error;
 mod laws;
+mod limited;
 mod lines;
 mod numbers;
 mod reading;

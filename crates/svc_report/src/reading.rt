@@ -3,7 +3,7 @@
 ghost use Rattle.std.specs.Prelude.{◌≡◌, ◌≤◌, ℕ, List, length, map, IfOk, IfErr, IfSome, MatchResult};
 ghost use Rattle.std.specs.List.{AllByRecursion};
 ghost use Rattle.csv.specs.Records.{fields_of};
-ghost use Rattle.svc_report.specs.Records.{IsText};
+ghost use Rattle.svc_report.specs.Records.{IsRead};
 ghost use Rattle.svc_report.specs.Rows.{IsRowsFault, records_of};
 
 use crate::error::ReportError;
@@ -35,8 +35,9 @@ pub(crate) fn read_rows<T: Row, R: Read + Drop>(
     names: &[&[u8]],
 ) -> Result<Vec<T>, ReportError>
     requires { length names.now ≤ 100 }
-    // The text is the names of the columns and the rows of these items, and no other record.
-    ensures ok { IfOk result (λ v. AllByRecursion T.has_row v.items × IfSome (R.remaining reader) (λ text. IsText text (records_of (map (λ n. n.now) names.now) T.columns v.items))) }
+    // What is read of the text is the names of the columns and the rows of these items, and no other record.
+    ensures ok { IfOk result (λ v. AllByRecursion T.has_row v.items × IfSome (R.remaining reader)
+        (λ text. IsRead text (records_of (map (λ n. n.now) names.now) T.columns v.items))) }
     // The first bad record and its first bad column.
     ensures err { IfErr result (λ e. IsRowsFault (map (λ n. n.now) names.now) T.columns T.has_row T.first_bad (R.remaining reader) e) }
 {

@@ -1,28 +1,31 @@
 // Reads records of fields.
 
 ghost use Rattle.std.specs.Prelude.{◌≡◌, ◌≤◌, [], length, get_or, map, option_map, IfOk, IfErr, MatchResult};
-ghost use Rattle.csv.specs.Reading.{ReadRecord, source_of, reader_state, strip_bom};
+ghost use Rattle.csv.specs.Reading.{ReadRecord, source_of, reader_state};
 ghost use Rattle.csv.specs.Records.{fields_of};
 ghost use Rattle.csv.specs.declared.parser.State.TheVariants as st;
 ghost use Rattle.svc_report.specs.Faults.{IsStreamFault};
+ghost use Rattle.svc_report.specs.Limit.{readable};
+ghost use Rattle.svc_report.specs.Places.{known_through};
 ghost use Rattle.svc_report.specs.Records.{FirstOther, IsOpen};
 
 use crate::error::ReportError;
+use crate::limited::Limited;
 use csv::{ByteRecord, ErrorKind, Reader, ReaderBuilder};
 use std::alloc::Global;
 use std::io::Read;
 
-/// A reader of records with the usual settings. A record may have any number of fields, since it is for the caller to
-/// name one that has another number.
-pub(crate) fn open<R: Read>(alloc: Global, reader: R) -> Reader<R>
+/// A reader of records with the usual settings, which reads no record further than the most bytes that one may have. A
+/// record may have any number of fields, since it is for the caller to name one that has another number.
+pub(crate) fn open<R: Read>(alloc: Global, reader: R) -> Reader<Limited<R>>
     ensures open { IsOpen result }
     ensures state { reader_state result ≡ st.StartRecord }
-    ensures source { source_of R.remaining result ≡ option_map strip_bom (R.remaining reader) }
+    ensures source { source_of (known_through R.remaining) result ≡ option_map readable (R.remaining reader) }
 {
     ReaderBuilder::new()
         .has_headers(false)
         .flexible(true)
-        .from_reader(alloc, reader)
+        .from_reader(alloc, Limited::new(reader))
 }
 
 /// Reads the next record, and says whether there was one.

@@ -19,7 +19,8 @@ pub fn commit_lines(cache: &mut Cache)
 /// The tasks from a position on are squashed: all active lines of their units become invalid.
 pub fn squash_lines(caches: &mut [Cache], queue: &TaskQueue, position: usize)
     requires { (p : ℕ) → p < length queue.now → get_or queue.now p 0 < length caches.old }
-    ensures lines { (u a : ℕ) → held_line caches.new u a ≡ cond (is_cut queue.now position u) (squash_line (held_line caches.old u a)) (held_line caches.old u a) }
+    ensures lines { (u a : ℕ) → held_line caches.new u a ≡ cond (is_cut queue.now position u)
+        (squash_line (held_line caches.old u a)) (held_line caches.old u a) }
     ensures sizes { SameSizes caches.old caches.new }
 {
     for cut in position..queue.len() {

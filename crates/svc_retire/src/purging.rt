@@ -42,7 +42,8 @@ fn drop_version(
 )
     requires known { version.now.unit.0 < length caches.old }
     requires room { HasRoomFor probes.old caches.old 1 }
-    ensures lines { (u a : ℕ) → held_line caches.new u a ≡ cond ((a == word.0) && (drops keep version.now && (version.now.unit.0 == u))) None (held_line caches.old u a) }
+    ensures lines { (u a : ℕ) → held_line caches.new u a
+        ≡ cond ((a == word.0) && (drops keep version.now && (version.now.unit.0 == u))) None (held_line caches.old u a) }
     ensures sizes { SameSizes caches.old caches.new }
     ensures counted { CountsSearches probes.old probes.new (cond (drops keep version.now) 1 0) }
 {
@@ -88,7 +89,8 @@ pub fn purge(
     requires in_memory { word.0 < length backing.old }
     requires room { HasRoomFor probes.old caches.old (length caches.old) }
     ensures lines { (u a : ℕ) → held_line caches.new u a ≡ line_after_purge keep word.0 u a (held_line caches.old u a) }
-    ensures memory { (a : ℕ) → get_or backing.new a 0 ≡ cond (a == word.0) (committed_in caches.old backing.old word.0) (get_or backing.old a 0) }
+    ensures memory { (a : ℕ) → get_or backing.new a 0 ≡ cond (a == word.0) (committed_in caches.old backing.old word.0)
+        (get_or backing.old a 0) }
     ensures sizes { SameSizes caches.old caches.new }
     ensures counted { CountsSearches probes.old probes.new (purges caches.old keep word.0) }
 {

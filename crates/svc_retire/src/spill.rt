@@ -152,7 +152,8 @@ impl Spill {
     /// The head is committed: the spilled versions go to the backing memory, and the table is empty.
     pub fn write_back(&mut self, backing: &mut [u32])
         requires { length backing.old ≡ length self.old }
-        ensures memory { (a : ℕ) → get_or backing.new a 0 ≡ unwrap_or (get_or self.old a None) (get_or backing.old a 0) }
+        ensures memory { (a : ℕ) → get_or backing.new a 0 ≡ unwrap_or (get_or self.old a None)
+            (get_or backing.old a 0) }
         ensures empty { self.new ≡ replicate (length self.old) None }
     {
         for k in 0..self.count {

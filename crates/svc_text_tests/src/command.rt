@@ -93,7 +93,7 @@ const OPTIONS: [&str; 11] = [
 
 #[test]
 fn help_explains_each_option(rt: HostRuntime) {
-    for subcommand in ["run", "script", "check", "profile"] {
+    for subcommand in ["run", "script", "check", "profile", "show", "draw"] {
         let missing = missing_in_help(&rt, &["svcsim", subcommand], &OPTIONS, "");
         assert_eq!(rt; missing, None, "{subcommand}");
     }
@@ -112,7 +112,8 @@ const FAULTS: [&str; 8] = [
 
 #[test]
 fn help_ends_with_the_faults(rt: HostRuntime) {
-    let last = "a file could not be read or written, or memory was refused elsewhere\n";
+    let last =
+        "a trace has fewer entries than --at or --from says, or\n                  memory was refused elsewhere\n";
     assert_eq!(rt; missing_in_help(&rt, &["svcsim"], &FAULTS, last), None);
 }
 

@@ -1,6 +1,6 @@
-// A writer that fails once.
+// A writer and a reader that fail once.
 
-use std::io::{self, ErrorKind, Write};
+use std::io::{self, ErrorKind, Read, Write};
 
 /// A writer that is to be given a text: it takes a byte at a time, and fails once, after so many bytes.
 #[derive(Drop)]
@@ -59,5 +59,42 @@ impl Write for FailingWriter<'_> {
 
     fn flush(&mut self) -> io::Result<()> {
         Ok(())
+    }
+}
+
+/// A reader that gives a text byte by byte, and fails once, after so many bytes.
+#[derive(Drop)]
+pub struct FailingReader<'a> {
+    text: &'a [u8],
+    left: usize,
+    failed: bool,
+}
+
+impl FailingReader<'_> {
+    /// A reader that gives this text, and fails after so many bytes.
+    pub fn after(text: &[u8], left: usize) -> FailingReader<'_> {
+        FailingReader {
+            text,
+            left,
+            failed: false,
+        }
+    }
+}
+
+impl Read for FailingReader<'_> {
+    fn read(&mut self, buf: &mut [u8]) -> io::Result<usize> {
+        if self.left == 0 && !self.failed {
+            self.failed = true;
+            return Err(io::Error::from(ErrorKind::Other));
+        }
+        self.left = self.left.saturating_sub(1);
+        match (self.text.split_first(), buf.first_mut()) {
+            (Some((byte, rest)), Some(place)) => {
+                *place = *byte;
+                self.text = rest;
+                Ok(1)
+            }
+            _ => Ok(0),
+        }
     }
 }

@@ -1,11 +1,12 @@
 // What cases over text can't say: streams that fail.
 
-use crate::failing::FailingWriter;
+use crate::failing::{FailingReader, FailingWriter};
 use crate::no_files::NoFiles;
 use std::io::{self, ErrorKind, Write};
 use std::sync::Wait;
 use std::thread::Threads;
 use svc_base::Config;
+use svc_image::samples::P;
 use svc_program::{Fault, FileFault, Files, Request, Source, perform, tell};
 use svc_report::ReportError;
 
@@ -116,6 +117,8 @@ enum Printing {
     Summary,
     Script,
     Check,
+    Profile,
+    List,
     Version,
 }
 
@@ -133,6 +136,13 @@ fn request_of<'a>(kind: Printing, config: Config) -> Request<'a> {
             config,
             trace: "trace",
         },
+        Printing::Profile => Request::Profile {
+            image,
+            config,
+            trace: "trace",
+            by: None,
+        },
+        Printing::List => Request::List { image },
         Printing::Version => Request::Version,
     }
 }
@@ -190,8 +200,71 @@ fn output_that_fails_once_is_told(rt: HostRuntime) {
         Printing::Summary,
         Printing::Script,
         Printing::Check,
+        Printing::Profile,
+        Printing::List,
         Printing::Version,
     ] {
         assert!(rt; failures_are_told(&rt, kind));
+    }
+}
+
+static IMAGE: [u8; 200] = P;
+
+const TEXT: &[u8] = b".data\n";
+
+// Files that fail once while they are read, after so many bytes.
+#[derive(Drop)]
+struct FailingFiles {
+    left: usize,
+}
+
+impl Files for FailingFiles {
+    type Reader = FailingReader<'static>;
+
+    fn open(&mut self, name: &str) -> Result<FailingReader<'static>, FileFault> {
+        match name {
+            "image" => Ok(FailingReader::after(&IMAGE, self.left)),
+            "text" => Ok(FailingReader::after(TEXT, self.left)),
+            _ => Err(FileFault),
+        }
+    }
+
+    fn save(&mut self, _name: &str, _bytes: &[u8]) -> Result<(), FileFault> {
+        Ok(())
+    }
+
+    fn is_same(&self, one: &str, other: &str) -> bool {
+        one == other
+    }
+}
+
+// Whether a request is told as a fault of its file, which fails after so many bytes.
+fn file_fails<R: Threads + Wait + Sync + AllocGlobal>(
+    rt: &R,
+    request: Request<'_>,
+    left: usize,
+) -> bool {
+    let mut files = FailingFiles { left };
+    let mut out = Vec::new(rt.alloc());
+    let answer = perform(rt, rt.alloc(), request, &mut files, &mut out);
+    matches!(answer, Err(Fault::File)) && out.is_empty()
+}
+
+#[test]
+fn an_image_over_a_reader_that_fails(rt: HostRuntime) {
+    for left in 0..IMAGE.len() + 1 {
+        let image = Source::File("image");
+        assert!(rt; file_fails(&rt, Request::Sequential { image, tasks: 1 }, left));
+    }
+}
+
+#[test]
+fn a_program_text_over_a_reader_that_fails(rt: HostRuntime) {
+    for left in 0..TEXT.len() + 1 {
+        let request = Request::Assemble {
+            text: "text",
+            image: "saved",
+        };
+        assert!(rt; file_fails(&rt, request, left));
     }
 }

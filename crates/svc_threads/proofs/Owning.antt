@@ -8,14 +8,13 @@ use Rattle.svc_machine.specs.declared.event.Event.{Event}
 use Rattle.svc_machine.specs.declared.event.Event.TheVariants.{Assign, Submit, Replace, Cancel, Commit}
 use Rattle.svc_machine.specs.Events.{event_of}
 use Rattle.svc_machine_laws.specs.declared.reply.Reply.{Reply}
-use Rattle.svc_machine_laws.specs.Standing.{reply_to}
 use Rattle.svc_history_laws.specs.declared.entry.Entry.{Entry}
 use Rattle.svc_history_laws.specs.declared.entry.Slip.{Slip}
 use Rattle.svc_history_laws.specs.Entries.{entry_of}
 use Rattle.svc_history.specs.declared.glance.Glance.{Glance}
 use Rattle.svc_history.specs.Glances.{IsGlance}
-use Rattle.svc_history.specs.Recorded.{Recorded, IsLegal, standing_of}
-use Rattle.svc_threads.specs.Ports.{IsAppliedToSome, IsEntryOf, IsGlanceOfSome, IsOf, unit_of}
+use Rattle.svc_history.specs.Recorded.{Recorded, IsLegal}
+use Rattle.svc_threads.specs.Ports.{IsEntryOf, IsGlanceOfSome, IsOf, unit_of}
 
 entry_unit : (x : Event) (r : Reply) → (entry_of (event_of x) r).unit ≡ unit_of x
 unfolding entry_of
@@ -33,11 +32,6 @@ owns x unit s asks is = ap (λ (e : Entry). e.unit) is.1 ∙ (entry_unit x is.0 
 pub glanced : (r : Recorded) (unit : UnitId) (o : Result Glance Refusal) → IsLegal r → IfOk o (IsGlance r.machine unit.0) → IfOk o (λ g. IsGlanceOfSome unit g)
 glanced r unit (Ok g) legal is = (r, legal, is)
 glanced r unit (Err e) legal is = tt
-
--- what some recorder answers, where it accepts, is an entry of the event
-pub entry_of_some : (x : Event) (o : Result Slip Refusal) → IsAppliedToSome (event_of x) o → IfOk o (λ s. IsEntryOf x s.entry)
-entry_of_some x (Ok s) is = (reply_to is.0.machine.image (standing_of is.0) (event_of x), is.2.entry)
-entry_of_some x (Err e) is = tt
 
 one : (P : Slip → Type 0) (s : Slip) → P s → All P (s ∷ [])
 one P s holds zero d below = holds

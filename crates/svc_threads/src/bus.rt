@@ -14,15 +14,10 @@ use crate::board::{Board, BoardPass};
 use crate::locked::{Locked, counts_of};
 use crate::port::Port;
 use std::alloc::Global;
-use std::hint;
 use std::marker::Model;
-use std::sync::{Arc, Mutex, MutexGuard, Wait};
+use std::sync::{Arc, Mutex, Wait};
 use svc_base::{OpenError, Refusal, UnitId};
 use svc_history::{Event, Glance, Recorder, Slip};
-
-// How often a thread looks for the lock before it sleeps: an event is shorter than it takes to put a thread to sleep
-// and to wake it.
-const LOOKS: u32 = 100;
 
 /// One recorder under one lock, for all units, and the board that shows the numbers of its history.
 #[derive(Drop)]
@@ -83,7 +78,7 @@ impl SharedBus {
         ensures glance { IfOk result (λ glance. IsGlanceOfSome unit glance) }
         ensures refused { IfErr result (λ e. e ≡ refusal.NoSuchUnit) }
     {
-        self.taken(rt).glance(unit)
+        self.lock.lock(rt).glance(unit)
     }
 
     /// One event, as the recorder takes it, under the lock. The board shows the new numbers after an accepted event,
@@ -93,18 +88,7 @@ impl SharedBus {
     pub fn apply<R: Wait>(&self, rt: &R, event: Event<'_>) -> Result<Slip, Refusal>
         ensures { IsAppliedToSome (event_of event.entry) result }
     {
-        self.taken(rt).apply(rt, event)
-    }
-
-    // The lock, taken.
-    fn taken<R: Wait>(&self, rt: &R) -> MutexGuard<'_, Locked> {
-        for _ in 0..LOOKS {
-            if let Some(guard) = self.lock.try_lock() {
-                return guard;
-            }
-            hint::spin_loop();
-        }
-        self.lock.lock(rt)
+        self.lock.lock(rt).apply(rt, event)
     }
 
     /// The recorder, when no thread shares it any more.

@@ -29,8 +29,12 @@ pub struct ReadPlan {
 // spilled value, else the newest committed version, else the backing memory.
 fn supplier(list: &VersionList, place: usize, spill: Option<u32>, backing: u32) -> (Served, u32)
     requires { place < length list.now.active }
-    ensures served { (b : BusState) (t : LineTable) (a unit : ℕ) → IsReadRequest b t a list.now unit place spill backing → supplier_of result.0 ≡ bus_by_version b a (greatest place (λ q. is_some (version_of_line (bus_line_at b q a)))) }
-    ensures value { (b : BusState) (t : LineTable) (a unit : ℕ) → IsReadRequest b t a list.now unit place spill backing → bus_supplied b place a (supplier_of result.0) ≡ Some result.1 }
+    ensures served { (b : BusState) (t : LineTable) (a unit : ℕ)
+        → IsReadRequest b t a list.now unit place spill backing
+        → supplier_of result.0 ≡ bus_by_version b a (greatest place
+        (λ q. is_some (version_of_line (bus_line_at b q a)))) }
+    ensures value { (b : BusState) (t : LineTable) (a unit : ℕ) → IsReadRequest b t a list.now unit place spill backing
+        → bus_supplied b place a (supplier_of result.0) ≡ Some result.1 }
 {
     if let Some(version) = nearest(list.active(), place) {
         return (Served::Version(version.unit), version.line.value);
@@ -62,10 +66,14 @@ pub fn plan_read(
     backing: u32,
 ) -> ReadPlan
     requires { place < length list.now.active }
-    ensures served { (b : BusState) (t : LineTable) (a : ℕ) → IsReadRequest b t a list.now unit.0 place spill backing → supplier_of result.served ≡ bus_supplier b place a }
-    ensures value { (b : BusState) (t : LineTable) (a : ℕ) → IsReadRequest b t a list.now unit.0 place spill backing → result.value ≡ bus_view b place a }
-    ensures line { (b : BusState) (t : LineTable) (a : ℕ) → IsReadRequest b t a list.now unit.0 place spill backing → (bus_read b place a).lines unit.0 a ≡ Some (line_with result.value (bits_of result.bits)) }
-    ensures valid { (b : BusState) (t : LineTable) (a : ℕ) → IsReadRequest b t a list.now unit.0 place spill backing → (bits_of result.bits).valid ≡ true }
+    ensures served { (b : BusState) (t : LineTable) (a : ℕ) → IsReadRequest b t a list.now unit.0 place spill backing
+        → supplier_of result.served ≡ bus_supplier b place a }
+    ensures value { (b : BusState) (t : LineTable) (a : ℕ) → IsReadRequest b t a list.now unit.0 place spill backing
+        → result.value ≡ bus_view b place a }
+    ensures line { (b : BusState) (t : LineTable) (a : ℕ) → IsReadRequest b t a list.now unit.0 place spill backing
+        → (bus_read b place a).lines unit.0 a ≡ Some (line_with result.value (bits_of result.bits)) }
+    ensures valid { (b : BusState) (t : LineTable) (a : ℕ) → IsReadRequest b t a list.now unit.0 place spill backing
+        → (bits_of result.bits).valid ≡ true }
 {
     if let Some(own) = list.active()[place] {
         return ReadPlan {

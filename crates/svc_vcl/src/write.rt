@@ -126,17 +126,29 @@ fn unit_of(version: Option<Version>) -> Option<UnitId>
 /// purges the word, so no committed version is left.)
 pub fn plan_write(list: &VersionList, unit: UnitId, place: usize) -> WritePlan
     requires { place < length list.now.active }
-    ensures victim { (b : BusState) (t : LineTable) (a : ℕ) → IsRequest b t a list.now unit.0 place → result.victim ≡ victim (bus_map b) place a }
-    ensures line { (b : BusState) (t : LineTable) (a value : ℕ) → IsRequest b t a list.now unit.0 place → (bus_write b place a value).lines unit.0 a ≡ Some (line_with value (bits_of result.bits)) }
+    ensures victim { (b : BusState) (t : LineTable) (a : ℕ) → IsRequest b t a list.now unit.0 place
+        → result.victim ≡ victim (bus_map b) place a }
+    ensures line { (b : BusState) (t : LineTable) (a value : ℕ) → IsRequest b t a list.now unit.0 place
+        → (bus_write b place a value).lines unit.0 a ≡ Some (line_with value (bits_of result.bits)) }
     ensures valid { (bits_of result.bits).valid ≡ true }
     // the links
-    ensures next { (b : BusState) (t : LineTable) (a : ℕ) → IsRequest b t a list.now unit.0 place → option_map (λ unit. unit.0) result.next ≡ unit_of b.units (place_after (survivors (bus_map b) place a) (λ q. is_some (version_of_line (bus_line_at b q a))) place) }
-    ensures previous { (b : BusState) (t : LineTable) (a : ℕ) → IsRequest b t a list.now unit.0 place → option_map (λ unit. unit.0) result.previous ≡ unit_of b.units (place_before (λ q. is_some (version_of_line (bus_line_at b q a))) place) }
-    ensures linked { (other : ℕ) → option_map (λ unit. unit.0) result.previous ≡ Some other → is_named result.changed.items other ≡ true }
+    ensures next { (b : BusState) (t : LineTable) (a : ℕ) → IsRequest b t a list.now unit.0 place
+        → option_map (λ unit. unit.0) result.next ≡ unit_of b.units
+        (place_after (survivors (bus_map b) place a) (λ q. is_some (version_of_line (bus_line_at b q a))) place) }
+    ensures previous { (b : BusState) (t : LineTable) (a : ℕ) → IsRequest b t a list.now unit.0 place
+        → option_map (λ unit. unit.0) result.previous ≡ unit_of b.units
+        (place_before (λ q. is_some (version_of_line (bus_line_at b q a))) place) }
+    ensures linked { (other : ℕ) → option_map (λ unit. unit.0) result.previous ≡ Some other
+        → is_named result.changed.items other ≡ true }
     ensures listed { result.changed.items ≡ changed_in list.now unit.0 place }
     // what the write makes of another unit's line
-    ensures others { (b : BusState) (t : LineTable) (a value other : ℕ) → IsRequest b t a list.now unit.0 place → other ≢ unit.0 → (bus_write b place a value).lines other a ≡ marked_where (is_named result.changed.items other) (purged_line (line_after_cut b (survivors (bus_map b) place a) other a)) }
-    ensures stale { (b : BusState) (t : LineTable) (a other : ℕ) → IsRequest b t a list.now unit.0 place → is_named result.changed.items other ≡ (becomes_stale b place a other || is_named (relinked_in (nearest_version_in list.now.active place)) other) }
+    ensures others { (b : BusState) (t : LineTable) (a value other : ℕ) → IsRequest b t a list.now unit.0 place
+        → other ≢ unit.0 → (bus_write b place a value).lines other a
+        ≡ marked_where (is_named result.changed.items other)
+        (purged_line (line_after_cut b (survivors (bus_map b) place a) other a)) }
+    ensures stale { (b : BusState) (t : LineTable) (a other : ℕ) → IsRequest b t a list.now unit.0 place
+        → is_named result.changed.items other
+        ≡ (becomes_stale b place a other || is_named (relinked_in (nearest_version_in list.now.active place)) other) }
 {
     let active = list.active();
     let victim = victim(active, place);

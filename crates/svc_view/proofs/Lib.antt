@@ -8,6 +8,3 @@ pub mod Ordering
 pub mod Placed
 pub mod UnitRows
 pub mod Adding
-pub mod Tallies
-pub mod Inside
-pub mod WordRows

@@ -4,5 +4,3 @@ pub mod Bounds
 pub mod Profile
 pub mod Tasks
 pub mod Units
-pub mod Words
-pub mod Columns

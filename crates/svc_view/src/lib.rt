@@ -5,13 +5,11 @@
 mod laws;
 pub mod profile;
 pub mod runs;
-pub mod shares;
 pub mod task_run;
 pub mod tasks;
-mod text;
+pub mod text;
 pub mod totals;
 pub mod units;
-pub mod words;
 
 pub use laws::{task_rows_add_up, unit_rows_add_up};
 pub use profile::write_profile;
@@ -20,4 +18,3 @@ pub use task_run::{Fate, TaskRun};
 pub use tasks::write_tasks;
 pub use totals::{Group, Measure, Total};
 pub use units::write_units;
-pub use words::write_words;

@@ -65,8 +65,8 @@ pub(crate) fn turns_in(entry: &Entry) -> u64
     u64::from(entry.local.unwrap_or(0)) + u64::from(entry.ask.unwrap_or(false))
 }
 
-// One for a reply that loaded.
-pub(crate) fn loads_in(entry: &Entry) -> bool
+/// Whether the entry was answered that a word was loaded.
+pub fn loads_in(entry: &Entry) -> bool
     ensures { result ≡ is_load entry.now.reply }
 {
     match entry.reply {
@@ -75,7 +75,8 @@ pub(crate) fn loads_in(entry: &Entry) -> bool
     }
 }
 
-pub(crate) fn stores_in(entry: &Entry) -> bool
+/// Whether the entry was answered that a word was stored.
+pub fn stores_in(entry: &Entry) -> bool
     ensures { result ≡ is_store entry.now.reply }
 {
     match entry.reply {

@@ -7,8 +7,10 @@ ghost use Rattle.svc_report.specs.Faults.{IsWriteFault};
 use std::io::Write;
 use svc_report::ReportError;
 
-// Writes a text.
-pub(crate) fn write_text<W: Write>(text: &[u8], w: &mut W) -> Result<(), ReportError>
+/// Writes a text.
+///
+/// Errors: [`ReportError::Write`].
+pub fn write_text<W: Write>(text: &[u8], w: &mut W) -> Result<(), ReportError>
     ensures ok { OnOk result (Appends (W.contents w.old) (W.contents w.new) text.now) }
     ensures err { IfErr result IsWriteFault }
 {

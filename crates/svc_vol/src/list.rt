@@ -57,7 +57,8 @@ fn find(
     requires empty { found.old.items ≡ [] }
     requires few { length caches.now ≤ CAPACITY }
     requires room { HasRoomForEach probes.old caches.now }
-    ensures lines { map (option_map seen) found.new.items ≡ map (λ (cache : CacheValue). line_of cache word.0) caches.now }
+    ensures lines { map (option_map seen) found.new.items ≡ map
+        (λ (cache : CacheValue). line_of cache word.0) caches.now }
     ensures counted { CountsOneOfEach probes.old probes.new caches.now }
 {
     for cache in caches {
@@ -75,7 +76,8 @@ fn line_beside(
 ) -> Option<Line>
     requires room { HasRoom probes.old cache.now.ways }
     ensures known { IsTrue is_known → (result ≡ line) × (probes.new ≡ probes.old) }
-    ensures found { IsFalse is_known → (option_map seen result ≡ line_of cache.now word.0) × CountsOneSearch probes.old probes.new cache.now.ways }
+    ensures found { IsFalse is_known → (option_map seen result ≡ line_of cache.now word.0)
+        × CountsOneSearch probes.old probes.new cache.now.ways }
 {
     if is_known {
         line
@@ -98,7 +100,8 @@ fn find_others(
     requires known { unit.0 < length caches.now }
     requires line { lines_in caches.now word.0 unit.0 ≡ option_map seen line }
     requires room { HasRoomForEach probes.old caches.now }
-    ensures lines { map (option_map seen) found.new.items ≡ map (λ (cache : CacheValue). line_of cache word.0) caches.now }
+    ensures lines { map (option_map seen) found.new.items ≡ map
+        (λ (cache : CacheValue). line_of cache word.0) caches.now }
     ensures counted { CountsEachOther probes.old probes.new caches.now }
 {
     for cache in caches {
@@ -129,10 +132,12 @@ fn list_versions(
     order: &[usize],
     found: &[Option<Line>],
 )
-    requires known { (i : ℕ) → i < length order.now → versions_of (lines_at (map (option_map seen) found.now)) (get_or order.now i 0) ≡ true }
+    requires known { (i : ℕ) → i < length order.now → versions_of (lines_at (map (option_map seen) found.now))
+        (get_or order.now i 0) ≡ true }
     requires few { length found.now ≤ CAPACITY }
     requires room { length committed.old.items + length order.now ≤ CAPACITY }
-    ensures { ListsAfter (lines_at (map (option_map seen) found.now)) committed.old.items order.now (length order.now) committed.new.items }
+    ensures { ListsAfter (lines_at (map (option_map seen) found.now)) committed.old.items order.now
+        (length order.now) committed.new.items }
 {
     for unit in order {
         if let Some(line) = found[*unit] {
@@ -166,7 +171,8 @@ fn list_active(
 )
     requires empty { active.old.items ≡ [] }
     requires known { (place : ℕ) → place < length queue.now → get_or queue.now place 0 < length found.now }
-    ensures { map (option_map seen_version) active.new.items ≡ active_versions (lines_at (map (option_map seen) found.now)) queue.now }
+    ensures { map (option_map seen_version) active.new.items
+        ≡ active_versions (lines_at (map (option_map seen) found.now)) queue.now }
 {
     for place in 0..queue.len() {
         let unit = queue.unit_at(place);
@@ -187,7 +193,8 @@ impl VersionList {
         requires ranked { IsRanked (length caches.now) (lines_in caches.now word.0) }
         requires room { HasRoomForEach probes.old caches.now }
         ensures committed { AreCommitted (lines_in caches.now word.0) (length caches.now) result.committed }
-        ensures active { map (option_map seen_version) result.active ≡ active_versions (lines_in caches.now word.0) queue.now }
+        ensures active { map (option_map seen_version) result.active
+            ≡ active_versions (lines_in caches.now word.0) queue.now }
         ensures counted { CountsOneOfEach probes.old probes.new caches.now }
     {
         let mut found = ArrayVec::new();
@@ -211,7 +218,8 @@ impl VersionList {
         requires ranked { IsRanked (length caches.now) (lines_in caches.now word.0) }
         requires room { HasRoomForEach probes.old caches.now }
         ensures committed { AreCommitted (lines_in caches.now word.0) (length caches.now) result.committed }
-        ensures active { map (option_map seen_version) result.active ≡ active_versions (lines_in caches.now word.0) queue.now }
+        ensures active { map (option_map seen_version) result.active
+            ≡ active_versions (lines_in caches.now word.0) queue.now }
         ensures counted { CountsEachOther probes.old probes.new caches.now }
     {
         let mut found = ArrayVec::new();
@@ -225,8 +233,10 @@ impl VersionList {
         requires known { (place : ℕ) → place < length queue.now → get_or queue.now place 0 < length found.now }
         requires valid { AreValid (lines_at (map (option_map seen) found.now)) }
         requires ranked { IsRanked (length found.now) (lines_at (map (option_map seen) found.now)) }
-        ensures committed { AreCommitted (lines_at (map (option_map seen) found.now)) (length found.now) result.committed }
-        ensures active { map (option_map seen_version) result.active ≡ active_versions (lines_at (map (option_map seen) found.now)) queue.now }
+        ensures committed { AreCommitted (lines_at (map (option_map seen) found.now))
+            (length found.now) result.committed }
+        ensures active { map (option_map seen_version) result.active
+            ≡ active_versions (lines_at (map (option_map seen) found.now)) queue.now }
     {
         let mut list = VersionList {
             committed: ArrayVec::new(),

@@ -45,8 +45,10 @@ fn is_before(line: &Option<Line>, unit: usize) -> bool
 
 // Some committed version links to the unit.
 fn is_named(found: &[Option<Line>], unit: usize) -> bool
-    ensures named { IsTrue result → (v : ℕ) × (versions_of (lines_at (map (option_map seen) found.now)) v ≡ true) × (links_of (lines_at (map (option_map seen) found.now)) v ≡ Some unit) }
-    ensures unnamed { IsFalse result → (v : ℕ) → versions_of (lines_at (map (option_map seen) found.now)) v ≡ true → links_of (lines_at (map (option_map seen) found.now)) v ≡ Some unit → ⊥ }
+    ensures named { IsTrue result → (v : ℕ) × (versions_of (lines_at (map (option_map seen) found.now)) v ≡ true)
+        × (links_of (lines_at (map (option_map seen) found.now)) v ≡ Some unit) }
+    ensures unnamed { IsFalse result → (v : ℕ) → versions_of (lines_at (map (option_map seen) found.now)) v ≡ true
+        → links_of (lines_at (map (option_map seen) found.now)) v ≡ Some unit → ⊥ }
 {
     for place in 0..found.len() {
         if is_before(&found[place], unit) {
@@ -59,7 +61,9 @@ fn is_named(found: &[Option<Line>], unit: usize) -> bool
 // The unit of the oldest committed version, if there is one.
 fn first_of(found: &[Option<Line>]) -> Option<usize>
     requires { IsRanked (length found.now) (lines_at (map (option_map seen) found.now)) }
-    ensures { MatchOption result ((u : ℕ) → versions_of (lines_at (map (option_map seen) found.now)) u ≡ false) (λ first. IsFirst (versions_of (lines_at (map (option_map seen) found.now))) (links_of (lines_at (map (option_map seen) found.now))) first) }
+    ensures { MatchOption result ((u : ℕ) → versions_of (lines_at (map (option_map seen) found.now)) u ≡ false)
+        (λ first. IsFirst (versions_of (lines_at (map (option_map seen) found.now)))
+        (links_of (lines_at (map (option_map seen) found.now))) first) }
 {
     for place in 0..found.len() {
         if is_version(&found[place]) && !is_named(found, place) {
@@ -79,7 +83,10 @@ fn has_version(found: &[Option<Line>], unit: usize) -> bool
 // The unit of the next newer committed version.
 fn next_of(found: &[Option<Line>], unit: usize) -> Option<usize>
     requires { unit < length found.now }
-    ensures { MatchOption result ((v : ℕ) → links_of (lines_at (map (option_map seen) found.now)) unit ≡ Some v → versions_of (lines_at (map (option_map seen) found.now)) v ≡ false) (λ next. (links_of (lines_at (map (option_map seen) found.now)) unit ≡ Some next) × (versions_of (lines_at (map (option_map seen) found.now)) next ≡ true)) }
+    ensures { MatchOption result ((v : ℕ) → links_of (lines_at (map (option_map seen) found.now)) unit ≡ Some v
+        → versions_of (lines_at (map (option_map seen) found.now)) v ≡ false)
+        (λ next. (links_of (lines_at (map (option_map seen) found.now)) unit ≡ Some next)
+        × (versions_of (lines_at (map (option_map seen) found.now)) next ≡ true)) }
 {
     let next = found[unit]?.next?.0 as usize;
     if has_version(found, next) {

@@ -151,7 +151,9 @@ impl SearchedLines {
     /// `word` has no line and its set is full.
     pub(crate) fn full(&self, word: WordAddr, probes: &mut Probes) -> Option<WordAddr>
         requires room { HasRoom probes.old (length self.now.places) }
-        ensures address { (bound : ℕ) → EndsBelow (line_in self.now) bound → option_map (λ named. named.0) result ≡ full_address self.now.sets self.now.ways bound (line_in self.now) word.0 }
+        ensures address { (bound : ℕ) → EndsBelow (line_in self.now) bound
+            → option_map (λ named. named.0) result ≡ full_address self.now.sets self.now.ways bound
+            (line_in self.now) word.0 }
         ensures counted { CountsOneSearch probes.old probes.new (length self.now.places) }
     {
         count_search(&self.places, probes);
@@ -175,10 +177,13 @@ impl SearchedLines {
     ) -> Result<Result<(), SetFull>, AllocError>
         requires valid { (bits_of line.bits).valid ≡ true }
         requires room { HasRoom probes.old (length self.old.places) }
-        ensures refused { IfOk result (λ answer. (bound : ℕ) → EndsBelow (line_in self.old) bound → MatchResult answer (λ _. full_address self.old.sets self.old.ways bound (line_in self.old) word.0 ≡ None) (λ e. full_address self.old.sets self.old.ways bound (line_in self.old) word.0 ≡ Some e.0.0)) }
+        ensures refused { IfOk result (λ answer. (bound : ℕ) → EndsBelow (line_in self.old) bound
+            → MatchResult answer (λ _. full_address self.old.sets self.old.ways bound (line_in self.old) word.0 ≡ None)
+            (λ e. full_address self.old.sets self.old.ways bound (line_in self.old) word.0 ≡ Some e.0.0)) }
         ensures memory { OnErr result (self.new ≡ self.old) }
         ensures unchanged { IfOk result (λ answer. OnErr answer (self.new ≡ self.old)) }
-        ensures line { IfOk result (λ answer. OnOk answer (line_in self.new ≡ with_line (line_in self.old) word.0 (Some (seen line)))) }
+        ensures line { IfOk result (λ answer. OnOk answer (line_in self.new
+            ≡ with_line (line_in self.old) word.0 (Some (seen line)))) }
         ensures sets { self.new.sets ≡ self.old.sets }
         ensures ways { self.new.ways ≡ self.old.ways }
         ensures counted { CountsOneSearch probes.old probes.new (length self.old.places) }

@@ -1,10 +1,9 @@
 // Writers and readers that fail.
 
 use super::{is_written, long_history, long_trace};
-use crate::failing::FailingWriter;
+use crate::failing::{FailingReader, FailingWriter};
 use crate::history::{TRACE, entries};
 use std::alloc::{AllocError, Global};
-use std::io::{self, Read};
 use svc_core_laws::Ending;
 use svc_history_laws::Entry;
 use svc_report::{Counts, ReportError, read_script, read_trace, write_summary, write_trace};
@@ -27,42 +26,6 @@ cut-violation,1
 cut-guess,0
 cut-cancel,0
 ";
-
-// A reader that gives a text byte by byte, and fails once, after so many bytes.
-#[derive(Drop)]
-struct FailingReader<'a> {
-    text: &'a [u8],
-    left: usize,
-    failed: bool,
-}
-
-impl FailingReader<'_> {
-    fn after(text: &[u8], left: usize) -> FailingReader<'_> {
-        FailingReader {
-            text,
-            left,
-            failed: false,
-        }
-    }
-}
-
-impl Read for FailingReader<'_> {
-    fn read(&mut self, buf: &mut [u8]) -> io::Result<usize> {
-        if self.left == 0 && !self.failed {
-            self.failed = true;
-            return Err(io::Error::from(io::ErrorKind::Other));
-        }
-        self.left = self.left.saturating_sub(1);
-        match (self.text.split_first(), buf.first_mut()) {
-            (Some((byte, rest)), Some(place)) => {
-                *place = *byte;
-                self.text = rest;
-                Ok(1)
-            }
-            _ => Ok(0),
-        }
-    }
-}
 
 // Whether writing a trace fails where the writer does, after so many bytes of its text.
 fn trace_breaks(alloc: Global, history: &[Entry], text: &str, left: usize) -> bool {

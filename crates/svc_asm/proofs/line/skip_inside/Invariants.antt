@@ -1,5 +1,5 @@
 use Rattle.std.proofs.Common.{◌≡◌, length}
-use Rattle.svc_asm.specs.Characters.{past}
+use Rattle.svc_operands.specs.Characters.{past}
 use Rattle.svc_asm.specs.Statements.{is_inside}
 use Rattle.svc_asm.proofs.line.skip_inside.Given as goal
 

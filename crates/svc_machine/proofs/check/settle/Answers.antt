@@ -52,7 +52,7 @@ returns c =
           ∙ sym (ap {B = Option Cut} (λ x. cond x (Some (cut_from cause.WrongGuess c.args.commits c.args.count (suc place))) None) cuts);
       lines = λ t agrees.
           let here = next_place (observed c.args.bus.now) units.0 units.1 seats units.2 place c.index.result.now more (there seats c.args.place c.index.result.now c.index.ensures) t agrees in
-          subst (λ x. Agrees (observed c.squash_from.new.self) (cond x (squash t (suc place)) t)) (sym cuts) (c.squash_from.ensures.table t (suc place) agrees here.0 here.1);
+          subst (λ x. Agrees (observed c.squash_from.new.self) (cond x (squash t (suc place)) t)) (sym cuts) (c.squash_from.ensures.table t (suc place) (record { agrees = agrees; within = here.0; unit_is = here.1 }));
       seats = c.truncate.ensures.items ∙ ap (λ k. take k seats) one ∙ sym (ap {B = List Seat} (λ x. cond x (take (suc place) seats) seats) cuts);
       guide = c.cut_from.ensures ∙ ap (λ k. guide_cut k c.args.sequencer.now) one ∙ sym (ap {B = Guide} (λ x. cond x (guide_cut (suc place) c.args.sequencer.now) c.args.sequencer.now) cuts);
       capacity = c.truncate.ensures.capacity;

@@ -2,7 +2,8 @@ use Rattle.std.specs.Prelude.{IfOk}
 use Rattle.std.proofs.Common.{List, subst, sym}
 use Rattle.svc_history_laws.specs.declared.entry.Entry.{Entry}
 use Rattle.svc_program.specs.Costs.{TellsCost}
-use Rattle.svc_program.proofs.Doing.{profile_done, run_done, run_keeps_files}
+use Rattle.svc_program.specs.Shown.{TellsMachine}
+use Rattle.svc_program.proofs.Doing.{profile_done, run_done, run_keeps_files, show_done}
 use Rattle.svc_program.proofs.dispatch.dispatch.Goals as goal
 
 pub returns-in_ok-save_trace-in-Run-clause-done : goal.returns-in_ok-save_trace-in-Run-clause-done
@@ -34,3 +35,19 @@ returns-in_ok-entries-in-Profile-clause-done g c =
     c.in_ok-entries-in-Profile.ensures.trace
     (subst (λ (es : List Entry). IfOk c.profile.result (TellsCost c.in-Profile.by img config es old new)) c.deref-in-Profile.ensures.value
     c.profile.ensures.profile))
+
+pub returns-in_ok-entries-in-Show-clause-done : goal.returns-in_ok-entries-in-Show-clause-done
+returns-in_ok-entries-in-Show-clause-done g c =
+    let img = c.in_ok-image-in-Show.image in
+    let config = c.in-Show.config in
+    let entries = c.in_ok-entries-in-Show.entries.items in
+    let old = g.O.Write.contents c.args.out.now in
+    let new = g.O.Write.contents c.show.new.out in
+    rw (c.in-Show.is)
+    (show_done c.show.result c.in-Show.image config c.in-Show.trace c.in-Show.at img entries
+    (g.F.Files.held c.args.files.now) (g.F.Files.held c.load_image-in-Show.new.files)
+    (g.F.Files.held c.load_trace-in-Show.new.files) old new
+    c.load_image-in-Show.ensures.kept c.in_ok-image-in-Show.ensures.image
+    c.in_ok-entries-in-Show.ensures.trace
+    (subst (λ (es : List Entry). IfOk c.show.result (TellsMachine c.in-Show.at img config es old new)) c.deref-in-Show.ensures.value
+    c.show.ensures.shown))

@@ -1,6 +1,7 @@
 use Rattle.std.proofs.Common.{◌≡◌, [], refl, true, rules, arith, Bor, List, ℕ, map}
 use Rattle.std.specs.Result.{is_ok}
 use Rattle.std.proofs.lemmas.List.{length-append}
+use Rattle.svc_report.specs.Places.{known_through}
 use Rattle.svc_report.proofs.Tracks.{all_more, bad_row, begun, ended, no_header, other_header, rows_more, went_on}
 use Rattle.svc_report.proofs.reading.read_rows.Goals as goal
 
@@ -9,10 +10,10 @@ texts ns = map (λ n. n.now) ns
 
 pub returns-then-not-branch-clause-err : goal.returns-then-not-branch-clause-err
 returns-then-not-branch-clause-err g c =
-    let rem = g.R.Read.remaining in
+    let rem = known_through g.R.Read.remaining in
     let t = g.T.Row in
     let names = texts c.args.names.now in
-    let known = rem c.args.reader in
+    let known = g.R.Read.remaining c.args.reader in
     let o = c.open-reader.ensures in
     let start = begun rem known c.open-reader.result o.state o.source in
     let read = rw c.if-not-branch.true at c.in_ok-next_row.ensures.reads in
@@ -20,10 +21,10 @@ returns-then-not-branch-clause-err g c =
 
 pub returns-in-Err-clause-err : goal.returns-in-Err-clause-err
 returns-in-Err-clause-err g c =
-    let rem = g.R.Read.remaining in
+    let rem = known_through g.R.Read.remaining in
     let t = g.T.Row in
     let names = texts c.args.names.now in
-    let known = rem c.args.reader in
+    let known = g.R.Read.remaining c.args.reader in
     let o = c.open-reader.ensures in
     let start = begun rem known c.open-reader.result o.state o.source in
     let read = rw c.if-not-branch.false at c.in_ok-next_row.ensures.reads in
@@ -31,10 +32,10 @@ returns-in-Err-clause-err g c =
 
 pub loop-number-init : goal.loop-number-init
 loop-number-init g c =
-    let rem = g.R.Read.remaining in
+    let rem = known_through g.R.Read.remaining in
     let t = g.T.Row in
     let names = texts c.args.names.now in
-    let known = rem c.args.reader in
+    let known = g.R.Read.remaining c.args.reader in
     let o = c.open-reader.ensures in
     let start = begun rem known c.open-reader.result o.state o.source in
     let read = rw c.if-not-branch.false at c.in_ok-next_row.ensures.reads in
@@ -47,20 +48,20 @@ loop-number-init g c =
 
 pub returns-then-not-branch-2-clause-ok : goal.returns-then-not-branch-2-clause-ok
 returns-then-not-branch-2-clause-ok g c =
-    let rem = g.R.Read.remaining in
+    let rem = known_through g.R.Read.remaining in
     let t = g.T.Row in
     let names = texts c.args.names.now in
-    let known = rem c.args.reader in
+    let known = g.R.Read.remaining c.args.reader in
     let inv = c.loop-number.invariant in
     let read = rw c.if-not-branch-2.true at c.in_ok-next_row-2.ensures.reads in
     (inv.in_range, ended rem known c.loop-number.reader c.next_row-in-loop-number.new.reader _ _ inv.is_open.2 inv.tracks read.1)
 
 pub returns-in-Err-of-clause-err : goal.returns-in-Err-of-clause-err
 returns-in-Err-of-clause-err g c =
-    let rem = g.R.Read.remaining in
+    let rem = known_through g.R.Read.remaining in
     let t = g.T.Row in
     let names = texts c.args.names.now in
-    let known = rem c.args.reader in
+    let known = g.R.Read.remaining c.args.reader in
     let inv = c.loop-number.invariant in
     let read = rw c.if-not-branch-2.false at c.in_ok-next_row-2.ensures.reads in
     bad_row names t.columns t.has_row t.first_bad rem known c.next_row-in-loop-number.new.reader c.loop-number.items.items _ _ _
@@ -68,10 +69,10 @@ returns-in-Err-of-clause-err g c =
 
 pub loop-number-preserved : goal.loop-number-preserved
 loop-number-preserved g c =
-    let rem = g.R.Read.remaining in
+    let rem = known_through g.R.Read.remaining in
     let t = g.T.Row in
     let names = texts c.args.names.now in
-    let known = rem c.args.reader in
+    let known = g.R.Read.remaining c.args.reader in
     let inv = c.loop-number.invariant in
     let read = rw c.if-not-branch-2.false at c.in_ok-next_row-2.ensures.reads in
     let good : is_ok c.push.result ≡ true = search rules in

@@ -1,6 +1,7 @@
 use Rattle.std.proofs.Common.{◌≡◌, ◌+◌, length, map}
 use Rattle.std.specs.List.{AllByRecursion}
 use Rattle.svc_report.specs.Records.{IsOpen}
+use Rattle.svc_report.specs.Places.{known_through}
 use Rattle.svc_report.specs.Rows.{records_of}
 use Rattle.svc_report.proofs.Tracks.{Tracks}
 use Rattle.svc_report.proofs.reading.read_rows.Given as goal
@@ -10,5 +11,5 @@ invariant-loop-number g l = record {
   is_open : IsOpen l.reader;
   in_range : AllByRecursion g.T.Row.has_row l.items.items;
   count : l.number ≡ length l.items.items + 2;
-  tracks : Tracks g.R.Read.remaining (g.R.Read.remaining l.fn.reader) l.reader (records_of (map (λ n. n.now) l.names) g.T.Row.columns l.items.items);
+  tracks : Tracks (known_through g.R.Read.remaining) (g.R.Read.remaining l.fn.reader) l.reader (records_of (map (λ n. n.now) l.names) g.T.Row.columns l.items.items);
 }

@@ -13,11 +13,11 @@ active : (c : goal.After-self-1) → is_active (bits_of c.in-Some.line.bits) ≡
 active c = sym c.if-is_active.ensures
 
 pub returns-in-Some-clause-value : goal.returns-in-Some-clause-value
-returns-in-Some-clause-value c = λ t place agrees within at. hit_value (observed c.args.self.now) t place c.args.word.0 c.args.unit.0 agrees within at c.in-Some.line (held c) (active c) (subst (λ n. c.args.word.0 < n) agrees.words c.requires.in_memory)
+returns-in-Some-clause-value c = λ t place runs. hit_value (observed c.args.self.now) t place c.args.word.0 c.args.unit.0 runs.agrees runs.within runs.unit_is c.in-Some.line (held c) (active c) (subst (λ n. c.args.word.0 < n) runs.agrees.words c.requires.in_memory)
 
 pub returns-in-Some-clause-served : goal.returns-in-Some-clause-served
-returns-in-Some-clause-served c = λ t place agrees within at. hit_served (observed c.args.self.now) t place c.args.word.0 c.args.unit.0 agrees within at c.in-Some.line (held c) (active c) (subst (λ n. c.args.word.0 < n) agrees.words c.requires.in_memory)
+returns-in-Some-clause-served c = λ t place runs. hit_served (observed c.args.self.now) t place c.args.word.0 c.args.unit.0 runs.agrees runs.within runs.unit_is c.in-Some.line (held c) (active c) (subst (λ n. c.args.word.0 < n) runs.agrees.words c.requires.in_memory)
 
 pub returns-in-Some-clause-table : goal.returns-in-Some-clause-table
 unfolding observed
-returns-in-Some-clause-table c = λ t place agrees within at. hit_kept (observed c.args.self.now) t place c.args.word.0 c.args.unit.0 agrees within at c.in-Some.line (held c) (active c) (subst (λ n. c.args.word.0 < n) agrees.words c.requires.in_memory) _ (rw (← c.self.view_is) (record { caches = refl; sets = refl; ways = refl; words = refl; lines = λ u a. refl; order = λ a u v. refl; spill = λ a. refl; backing = λ a. refl; commits = refl; units = refl }))
+returns-in-Some-clause-table c = λ t place runs. hit_kept (observed c.args.self.now) t place c.args.word.0 c.args.unit.0 runs.agrees runs.within runs.unit_is c.in-Some.line (held c) (active c) (subst (λ n. c.args.word.0 < n) runs.agrees.words c.requires.in_memory) _ (rw (← c.self.view_is) (record { caches = refl; sets = refl; ways = refl; words = refl; lines = λ u a. refl; order = λ a u v. refl; spill = λ a. refl; backing = λ a. refl; commits = refl; units = refl }))

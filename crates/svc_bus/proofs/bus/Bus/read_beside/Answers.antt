@@ -173,17 +173,17 @@ pub returns-clause-value : goal.returns-clause-value
 unfolding observed
 returns-clause-value c =
     let known : c.args.word.0 < length (before c).backing = rw (← c.self.view_is) at c.requires.in_memory in
-    rw (← c.self.view_is) (λ t place agrees within at.
-    value_seen (before c) c.self.invariant t agrees c.place_of-place.result place c.args.word.0 c.place_of-place.ensures.within within (at ∙ sym c.place_of-place.ensures.at_work) c.plan_read-plan.result.value
-    (c.plan_read-plan.ensures.value (observed (before c)) t c.args.word.0 (asked (before c) t c.beside-list.result c.place_of-place.result c.args.word.0 c.args.unit.0 c.index-backing.result.now c.get.result agrees (seen c known))))
+    rw (← c.self.view_is) (λ t place runs.
+    value_seen (before c) c.self.invariant t runs.agrees c.place_of-place.result place c.args.word.0 c.place_of-place.ensures.within runs.within (runs.unit_is ∙ sym c.place_of-place.ensures.at_work) c.plan_read-plan.result.value
+    (c.plan_read-plan.ensures.value (observed (before c)) t c.args.word.0 (asked (before c) t c.beside-list.result c.place_of-place.result c.args.word.0 c.args.unit.0 c.index-backing.result.now c.get.result runs.agrees (seen c known))))
 
 pub returns-clause-served : goal.returns-clause-served
 unfolding observed
 returns-clause-served c =
     let known : c.args.word.0 < length (before c).backing = rw (← c.self.view_is) at c.requires.in_memory in
-    rw (← c.self.view_is) (λ t place agrees within at.
-    served_seen (before c) c.self.invariant t agrees c.place_of-place.result place c.args.word.0 c.place_of-place.ensures.within within (at ∙ sym c.place_of-place.ensures.at_work) c.plan_read-plan.result.served
-    (c.plan_read-plan.ensures.served (observed (before c)) t c.args.word.0 (asked (before c) t c.beside-list.result c.place_of-place.result c.args.word.0 c.args.unit.0 c.index-backing.result.now c.get.result agrees (seen c known))))
+    rw (← c.self.view_is) (λ t place runs.
+    served_seen (before c) c.self.invariant t runs.agrees c.place_of-place.result place c.args.word.0 c.place_of-place.ensures.within runs.within (runs.unit_is ∙ sym c.place_of-place.ensures.at_work) c.plan_read-plan.result.served
+    (c.plan_read-plan.ensures.served (observed (before c)) t c.args.word.0 (asked (before c) t c.beside-list.result c.place_of-place.result c.args.word.0 c.args.unit.0 c.index-backing.result.now c.get.result runs.agrees (seen c known))))
 
 pub returns-clause-table : goal.returns-clause-table
 unfolding observed
@@ -192,9 +192,9 @@ returns-clause-table c =
     let known : c.args.word.0 < length (before c).backing = rw (← c.self.view_is) at c.requires.in_memory in
     let count : length c.carry_out.new.caches ≡ inside.caches.len = (sizes_are c 0).caches.count ∙ sym inside.caches.ok.0 in
     let words : length c.carry_out.new.backing ≡ inside.backing.len = (sizes_are c 0).backing ∙ sym inside.backing.ok.0 in
-    rw (with_items_is inside.caches c.carry_out.new.caches count, with_items_is inside.backing c.carry_out.new.backing words, ← c.self.view_is) (λ t place agrees within at.
+    rw (with_items_is inside.caches c.carry_out.new.caches count, with_items_is inside.backing c.carry_out.new.backing words, ← c.self.view_is) (λ t place runs.
     read_kept (before c) c.self.invariant c.place_of-place.result c.args.word.0 c.plan_read-plan.result.served c.plan_read-plan.result.value (bits_of c.plan_read-plan.result.bits) (seen_plan c known) (after c _) (sizes_are c _) refl refl refl (lines_are c) (memory_is c)
-    t place agrees within (at ∙ sym c.place_of-place.ensures.at_work))
+    t place runs.agrees runs.within (runs.unit_is ∙ sym c.place_of-place.ensures.at_work))
 
 pub returns-clause-probes : goal.returns-clause-probes
 unfolding observed

@@ -1,4 +1,4 @@
-use Rattle.std.proofs.Common.{◌≡◌, ◌∙◌, ◌<◌, refl, sym, ap, subst, false, cond, ◌&&◌, None, ℕ, List, length}
+use Rattle.std.proofs.Common.{◌≡◌, ◌∙◌, ◌<◌, refl, sym, ap, subst, false, cond, ℕ, List, length}
 use Rattle.std.proofs.lemmas.List.{with_items_is}
 use Rattle.svc_cache.specs.Lines.{squash_line}
 use Rattle.svc_cache.specs.Places.{CacheValue}
@@ -33,6 +33,6 @@ returns-clause-table c =
     let was : c.deref_mut.result.now ≡ c.self.inside.caches.items = c.deref_mut.ensures.value in
     let size : length c.squash_lines.new.caches ≡ c.self.inside.caches.len = c.squash_lines.auto.caches ∙ ap length was ∙ sym c.self.inside.caches.ok.0 in
     rw (with_items_is c.self.inside.caches c.squash_lines.new.caches size, c.cut_from.ensures, ← c.self.view_is)
-    (λ t place agrees here is. squashed_table _ c.squash_lines.new.caches c.in-Some.position c.self.invariant above at.0
+    (λ t place runs. squashed_table _ c.squash_lines.new.caches c.in-Some.position c.self.invariant above at.0
     (subst (λ (cs : List CacheValue). SameSizes cs c.squash_lines.new.caches) was c.squash_lines.ensures.sizes)
-    (subst (λ (cs : List CacheValue). (u a : ℕ) → held_line c.squash_lines.new.caches u a ≡ cond (is_cut queue c.in-Some.position u) (squash_line (held_line cs u a)) (held_line cs u a)) was c.squash_lines.ensures.lines) t place agrees here (is ∙ sym at.1))
+    (subst (λ (cs : List CacheValue). (u a : ℕ) → held_line c.squash_lines.new.caches u a ≡ cond (is_cut queue c.in-Some.position u) (squash_line (held_line cs u a)) (held_line cs u a)) was c.squash_lines.ensures.lines) t place runs.agrees runs.within (runs.unit_is ∙ sym at.1))

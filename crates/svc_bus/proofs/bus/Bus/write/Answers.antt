@@ -1,4 +1,4 @@
-use Rattle.std.proofs.Common.{rules, ◌≡◌, ◌∙◌, ◌<◌, ◌+◌, refl, sym, ap, ap₂, subst, ℕ, Option, Some, List, length, get_or, option_map, arith}
+use Rattle.std.proofs.Common.{rules, ◌≡◌, ◌∙◌, ◌<◌, refl, sym, ap, ap₂, subst, ℕ, Option, Some, List, length, get_or, option_map, arith}
 use Rattle.std.proofs.lemmas.List.{with_items_is}
 use Rattle.svc_vol.specs.declared.version.Version.{Version}
 use Rattle.svc_base.specs.declared.ids.UnitId.{UnitId}
@@ -142,7 +142,7 @@ pub returns-clause-victim : goal.returns-clause-victim
 unfolding observed
 returns-clause-victim c =
     let list : HasList (before c) c.args.word.0 c.of-list.result = listed (before c) c.self.invariant c.args.word.0 c.of-list.result c.deref.result.now c.deref.ensures.value c.of-list.ensures.committed c.of-list.ensures.active in
-    rw (← c.self.view_is) (λ s p agrees here is. c.victim_of.ensures ∙ chosen_shown (before c) c.self.invariant c.args.unit.0 c.place_of-place.result c.args.word.0 c.place_of-place.ensures.within c.place_of-place.ensures.at_work c.of-list.result list c.plan_write-plan.result.victim c.len-tasks.result c.len-tasks.ensures.count c.plan_write-plan.ensures.victim s p agrees here is)
+    rw (← c.self.view_is) (λ s p runs. c.victim_of.ensures ∙ chosen_shown (before c) c.self.invariant c.args.unit.0 c.place_of-place.result c.args.word.0 c.place_of-place.ensures.within c.place_of-place.ensures.at_work c.of-list.result list c.plan_write-plan.result.victim c.len-tasks.result c.len-tasks.ensures.count c.plan_write-plan.ensures.victim s p runs.agrees runs.within runs.unit_is)
 
 pub returns-clause-table : goal.returns-clause-table
 unfolding observed
@@ -152,7 +152,7 @@ returns-clause-table c =
     let count : length c.store_line.new.caches ≡ inside.caches.len = (sizes_are c 0).caches.count ∙ sym inside.caches.ok.0 in
     let words : length c.store_line.new.backing ≡ inside.backing.len = (sizes_are c 0).backing ∙ sym inside.backing.ok.0 in
     rw (with_items_is inside.caches c.store_line.new.caches count, with_items_is inside.backing c.store_line.new.backing words, ← c.self.view_is)
-    (λ s p agrees here is. written_agreed (before c) c.self.invariant c.place_of-place.result c.args.word.0 c.args.value (line c) (previous c) (changed c) c.unwrap_or-left.result c.place_of-place.ensures.within known (plan_of c) (after c _) (written c _) s p agrees here (is ∙ sym c.place_of-place.ensures.at_work))
+    (λ s p runs. written_agreed (before c) c.self.invariant c.place_of-place.result c.args.word.0 c.args.value (line c) (previous c) (changed c) c.unwrap_or-left.result c.place_of-place.ensures.within known (plan_of c) (after c _) (written c _) s p runs.agrees runs.within (runs.unit_is ∙ sym c.place_of-place.ensures.at_work))
 
 pub returns-clause-probes : goal.returns-clause-probes
 unfolding observed

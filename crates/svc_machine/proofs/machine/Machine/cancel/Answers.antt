@@ -60,7 +60,8 @@ module _ (c : goal.After-self-1) where
       cancelled (parts_of c.self.inside) c.self.invariant c.self.inside.seats.items refl c.args.unit.0 c.args.place found ok
       c.truncate.new.self.items c.truncate.ensures.items
       c.cut_from.new.self c.cut_from.ensures
-      c.squash_from.new.self c.squash_from.ensures.table
+      c.squash_from.new.self
+      (λ t place agrees within at. c.squash_from.ensures.table t place (record { agrees = agrees; within = within; unit_is = at }))
       (vec_capacity c.truncate.new.self) (omega (arith, same))
 
 pub invariant_of-self : goal.invariant_of-self

@@ -1,6 +1,0 @@
-use Rattle.std.proofs.Common.{◌≡◌, drop}
-use Rattle.svc_asm.specs.Characters.{value_on}
-use Rattle.svc_asm.proofs.characters.value_of.Given as goal
-
-abbrev pub invariant-loop-c : goal.invariant-loop-c
-invariant-loop-c l = value_on l.radix l.value (drop l.c-index l.digits) ≡ value_on l.radix 0 l.digits

@@ -1,0 +1,243 @@
+-- Lists of numbers, strings, and names with what they stand for: they are read part by part.
+use Rattle.std.specs.Prelude.{ℕ, ◌+◌, ◌*◌, ◌-◌, ◌%◌, ◌^◌, Bool, true, false, ◌==◌, nat_le, List, [], ◌∷◌, Option, Some, None, if◌then◌else◌, codes}
+use Rattle.std.specs.Str.{bytes_eq}
+use Rattle.svc_draft.specs.declared.section.Section.TheVariants as section
+use Rattle.svc_draft.specs.declared.section.Spot.{Spot}
+use Rattle.svc_draft.specs.declared.statement.Width.{Width}
+use Rattle.svc_draft.specs.declared.statement.Width.TheVariants as wide
+use Rattle.svc_draft.specs.declared.statement.Ending.{Ending}
+use Rattle.svc_draft.specs.declared.statement.Ending.TheVariants as ending
+use Rattle.svc_draft.specs.declared.statement.Next.{Next}
+use Rattle.svc_draft.specs.declared.statement.Next.TheVariants as go
+use Rattle.svc_draft.specs.declared.statement.Statement.{Statement}
+use Rattle.svc_draft.specs.declared.statement.Statement.TheVariants as say
+use Rattle.svc_draft.specs.Options.{◌>>=◌}
+use Rattle.svc_draft.specs.Layouts.{Layout, spot_here}
+use Rattle.svc_operands.specs.declared.operands.Signed.{Signed}
+use Rattle.svc_operands.specs.Characters.{is_from_to, is_space, past, found, name_at, past_name, mark_at, number_of}
+use Rattle.svc_operands.specs.Operands.{Read, number_at, behind_sign}
+use Rattle.svc_operands.specs.Values.{value_at}
+use Rattle.svc_asm.specs.Statements.{end_at, is_label, line_at}
+
+-- the directives that are read part by part
+unfoldable pub opened_by : List ℕ → Option Next
+opened_by name =
+    if bytes_eq name (codes ".word") then Some (go.Value wide.Word) else
+    if bytes_eq name (codes ".4byte") then Some (go.Value wide.Word) else
+    if bytes_eq name (codes ".half") then Some (go.Value wide.Half) else
+    if bytes_eq name (codes ".2byte") then Some (go.Value wide.Half) else
+    if bytes_eq name (codes ".short") then Some (go.Value wide.Half) else
+    if bytes_eq name (codes ".byte") then Some (go.Value wide.Byte) else
+    if bytes_eq name (codes ".set") then Some go.Symbol else
+    if bytes_eq name (codes ".equ") then Some go.Symbol else
+    if bytes_eq name (codes ".comm") then Some go.Common else
+    if bytes_eq name (codes ".lcomm") then Some go.Common else
+    None
+
+unfoldable pub string_named : List ℕ → Option Ending
+string_named name =
+    if bytes_eq name (codes ".ascii") then Some ending.Bare else
+    if bytes_eq name (codes ".asciz") then Some ending.Zero else
+    if bytes_eq name (codes ".string") then Some ending.Zero else
+    None
+
+-- what is left, of which there is some: no text ends within a list
+abbrev pub some_left : List ℕ → Option (List ℕ)
+some_left [] = None
+some_left (c ∷ rest) = Some (c ∷ rest)
+
+-- what begins a list, up to its first part
+unfoldable pub open_at : Next → List ℕ → Read Statement
+open_at n text = do
+  rest ← some_left text
+  Some (say.Open n, rest)
+
+-- a string's opening quote
+unfoldable pub quote_at : Ending → List ℕ → Read Statement
+quote_at e text = do
+  inside ← mark_at 34 text
+  open_at (go.Character e) inside
+
+unfoldable pub opened_at : List ℕ → Read Statement
+opened_at text =
+    found (string_named (name_at text)) (λ e. quote_at e (past_name text)) (
+    found (opened_by (name_at text)) (λ n. open_at n (past_name text))
+    None)
+
+-- a number that may have a minus sign, or a label's address
+unfoldable pub positive_at : Layout → List ℕ → Read Signed
+positive_at d text = do
+  n ← value_at d text
+  Some (record { negative = false; magnitude = n.0 }, n.1)
+
+abbrev pub datum_from : Layout → List ℕ → Read Signed
+datum_from d [] = None
+datum_from d (c ∷ rest) = if c == 45 then behind_sign true rest else positive_at d (c ∷ rest)
+
+unfoldable pub datum_at : Layout → List ℕ → Read Signed
+datum_at d text = datum_from d (past is_space text)
+
+-- how far below 0, and how great, a number of so many bytes may be
+abbrev pub least : Width → ℕ
+least wide.Byte = 128
+least wide.Half = 32768
+least wide.Word = 2147483648
+
+abbrev pub greatest : Width → ℕ
+greatest wide.Byte = 255
+greatest wide.Half = 65535
+greatest wide.Word = 4294967295
+
+-- the 32 bits of a number that so many bytes have room for
+unfoldable pub fitted : Width → Signed → Option ℕ
+fitted w s =
+    if s.negative then if nat_le s.magnitude (least w) then Some ((2 ^ 32 - s.magnitude) % 2 ^ 32) else None
+    else if nat_le s.magnitude (greatest w) then Some s.magnitude else None
+
+-- the end of a line, behind which a line is read
+unfoldable pub over_at : List ℕ → Read Next
+over_at text = do
+  rest ← end_at text
+  Some (go.Line, rest)
+
+-- behind a number: a comma and more, or the end of the line
+unfoldable pub more_at : Next → List ℕ → Read Next
+more_at n text = do
+  rest ← some_left text
+  Some (n, rest)
+
+unfoldable pub going_at : Next → List ℕ → Read Next
+going_at n text = found (mark_at 44 text) (λ rest. more_at n rest) (over_at text)
+
+unfoldable pub item_at : Layout → Width → List ℕ → Read Statement
+item_at d w text = do
+  s ← datum_at d text
+  n ← fitted w s.0
+  then_ ← going_at (go.Value w) s.1
+  Some (say.Value w n then_.0, then_.1)
+
+-- behind a string: a comma and another one's quote, or the end of the line
+unfoldable pub next_quote_at : Ending → List ℕ → Read Next
+next_quote_at e text = do
+  inside ← mark_at 34 text
+  more_at (go.Character e) inside
+
+unfoldable pub next_string_at : Ending → List ℕ → Read Next
+next_string_at e text = found (mark_at 44 text) (λ rest. next_quote_at e rest) (over_at text)
+
+abbrev pub closed : Ending → Next → Statement
+closed ending.Bare n = say.Open n
+closed ending.Zero n = say.Value wide.Byte 0 n
+
+unfoldable pub close_at : Ending → List ℕ → Read Statement
+close_at e text = do
+  n ← next_string_at e text
+  Some (closed e n.0, n.1)
+
+-- a character, behind which the string goes on
+unfoldable pub put_at : Ending → ℕ → List ℕ → Read Statement
+put_at e c text = do
+  rest ← some_left text
+  Some (say.Value wide.Byte c (go.Character e), rest)
+
+-- what a letter behind a backslash stands for
+unfoldable pub escaped : ℕ → Option ℕ
+escaped c =
+    if c == 110 then Some 10 else
+    if c == 116 then Some 9 else
+    if c == 34 then Some 34 else
+    if c == 92 then Some 92 else
+    if c == 98 then Some 8 else
+    if c == 102 then Some 12 else
+    if c == 114 then Some 13 else
+    None
+
+abbrev pub octal_digit : List ℕ → Read ℕ
+octal_digit [] = None
+octal_digit (c ∷ rest) = if is_from_to 48 55 c then Some (c - 48, rest) else None
+
+-- a number and one octal digit more, where one follows
+unfoldable pub octal_on : ℕ → List ℕ → ℕ × List ℕ
+octal_on n text = found (octal_digit text) (λ d. (8 * n + d.0, d.1)) (n, text)
+
+-- a character by one to three octal digits
+unfoldable pub octal_at : Ending → List ℕ → Read Statement
+octal_at e text = do
+  d ← octal_digit text
+  put_at e ((octal_on (octal_on d.0 d.1).0 (octal_on d.0 d.1).1).0 % 256) (octal_on (octal_on d.0 d.1).0 (octal_on d.0 d.1).1).1
+
+unfoldable pub escape_at : Ending → List ℕ → Read Statement
+escape_at e [] = None
+escape_at e (c ∷ rest) = found (escaped c) (λ b. put_at e b rest) (octal_at e (c ∷ rest))
+
+-- a character of a string, or the quote behind its last one; a string ends on its line
+unfoldable pub character_at : Ending → List ℕ → Read Statement
+character_at e [] = None
+character_at e (c ∷ rest) =
+    if c == 34 then close_at e rest else
+    if c == 92 then escape_at e rest else
+    if c == 10 then None else
+    put_at e c rest
+
+-- a place so many bytes on, and so many back
+abbrev pub moved_on : Spot → ℕ → Spot
+moved_on s n = record { section = s.section; offset = (s.offset + n) % 2 ^ 32 }
+
+unfoldable pub moved_by : Bool → Spot → List ℕ → Read Spot
+moved_by back s text = do
+  n ← number_at text
+  Some (moved_on s (if back then (2 ^ 32 - n.0) % 2 ^ 32 else n.0), n.1)
+
+-- a place and what is added to it or taken away
+abbrev pub moved_from : Spot → List ℕ → List ℕ → Read Spot
+moved_from s rest [] = Some (s, rest)
+moved_from s rest (c ∷ more) = if c == 43 then moved_by false s more else if c == 45 then moved_by true s more else Some (s, rest)
+
+-- what a number, a dot or a name before stands for
+unfoldable pub spot_named : Layout → List ℕ → Option Spot
+spot_named d name =
+    found (number_of name) (λ n. Some (record { section = section.Text; offset = n }))
+    (if bytes_eq name (codes ".") then Some (spot_here d) else d.names name)
+
+unfoldable pub spot_at : Layout → List ℕ → Read Spot
+spot_at d text = do
+  s ← spot_named d (name_at text)
+  moved_from s (past_name text) (past is_space (past_name text))
+
+-- a name and the comma behind it
+unfoldable pub named_at : List ℕ → Option (List ℕ)
+named_at text = if is_label (name_at text) then mark_at 44 (past_name text) else None
+
+unfoldable pub symbol_at : Layout → List ℕ → Read Statement
+symbol_at d text = do
+  rest ← named_at text
+  s ← spot_at d rest
+  tail ← end_at s.1
+  Some (say.Symbol s.0, tail)
+
+-- an alignment, which is 4 where none stands
+unfoldable pub step_at : List ℕ → Read ℕ
+step_at text = found (mark_at 44 text) (λ rest. number_at rest) (Some (4, text))
+
+unfoldable pub common_at : List ℕ → Read Statement
+common_at text = do
+  rest ← named_at text
+  n ← number_at rest
+  step ← step_at n.1
+  tail ← end_at step.1
+  Some (say.Common n.0 step.0, tail)
+
+-- a line, up to the colon where it begins with a label, and up to the first part where it begins what has parts
+abbrev pub first_at : Layout → List ℕ → Read Statement
+first_at d text = found (line_at d text) (λ s. Some s) (opened_at text)
+
+-- what is read next
+abbrev pub part_at : Next → Layout → List ℕ → Read Statement
+part_at go.Line d text = first_at d text
+part_at (go.Value w) d text = item_at d w text
+part_at (go.Character e) d text = character_at e text
+part_at go.Symbol d text = symbol_at d text
+part_at go.Common d text = common_at text
+
+unfoldable pub next_at : Layout → List ℕ → Read Statement
+next_at d text = part_at d.next d text

@@ -1,0 +1,3 @@
+.data
+.word 1,
+.word 2

@@ -1,0 +1,35 @@
+-- The bytes of sections of data.
+use Rattle.std.specs.Prelude.{ℕ, ◌+◌, ◌-◌, ◌%◌, ◌==◌, nat_le, List, [], ◌∷◌, ◌++◌, length, replicate, Option, Some, None, if◌then◌else◌}
+use Rattle.svc_image.specs.Format.{bytes_of_half, bytes_of_word}
+use Rattle.svc_draft.specs.declared.statement.Width.{Width}
+use Rattle.svc_draft.specs.declared.statement.Width.TheVariants as wide
+
+-- how far it is to the next multiple of a step
+abbrev pub padding : (step size : ℕ) → ℕ
+padding step size = if step == 0 then 0 else (step - size % step) % step
+
+-- a section with more bytes, and with more zeros: it has at most 262,144 bytes
+unfoldable pub with_more : (more bytes : List ℕ) → Option (List ℕ)
+with_more more bytes = if nat_le (length bytes + length more) 262144 then Some (bytes ++ more) else None
+
+unfoldable pub with_zeros : ℕ → List ℕ → Option (List ℕ)
+with_zeros count bytes = if nat_le (length bytes + count) 262144 then Some (bytes ++ replicate count 0) else None
+
+-- a number as bytes, the lowest first
+abbrev pub bytes_in : Width → ℕ → List ℕ
+bytes_in wide.Byte n = n % 256 ∷ []
+bytes_in wide.Half n = bytes_of_half (n % 65536)
+bytes_in wide.Word n = bytes_of_word n
+
+-- whole words, of which zeros fill the last one
+unfoldable pub filled : List ℕ → List ℕ
+filled bytes = bytes ++ replicate (padding 4 (length bytes)) 0
+
+-- at least one word
+abbrev pub some_word : List ℕ → List ℕ
+some_word [] = 0 ∷ 0 ∷ 0 ∷ 0 ∷ []
+some_word (b ∷ bytes) = b ∷ bytes
+
+-- the data of an image: its sections one behind the other, each in whole words
+unfoldable pub data_of : (rodata data_bytes bss : List ℕ) → List ℕ
+data_of rodata data_bytes bss = some_word (filled rodata ++ (filled data_bytes ++ filled bss))

@@ -1,0 +1,23 @@
+// The sections of a program, and places in them.
+
+/// A section of a program. Those of data stand one behind the other in the image, in this order.
+#[derive(Clone, Copy)]
+pub enum Section {
+    /// Instructions, from the address 0 on.
+    Text,
+    /// `.rodata`: the first of the data.
+    Rodata,
+    /// `.data`.
+    Data,
+    /// `.bss`: the last of the data.
+    Bss,
+}
+
+/// What a name stands for: so many bytes behind the beginning of a section. A number stands so far behind the text's.
+#[derive(Clone, Copy)]
+pub struct Spot {
+    /// The section.
+    pub section: Section,
+    /// How many bytes behind its beginning.
+    pub offset: u32,
+}

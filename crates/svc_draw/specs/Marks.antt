@@ -1,0 +1,127 @@
+-- The marks of a picture: what each entry that is shown did.
+use Rattle.std.specs.Prelude.{ℕ, suc, ◌-◌, ◌==◌, Bool, true, false, cond, ◌&&◌, List, [], ◌∷◌, ◌++◌, Option, Some, None, slice_range}
+use Rattle.svc_base.specs.declared.ids.UnitId.{UnitId}
+use Rattle.svc_base.specs.declared.ids.WordAddr.{WordAddr}
+use Rattle.svc_history_laws.specs.declared.entry.Entry.{Entry}
+use Rattle.svc_history_laws.specs.declared.entry.CutKind.{CutKind}
+use Rattle.svc_history_laws.specs.declared.entry.CutKind.TheVariants as cause
+use Rattle.svc_history_laws.specs.declared.entry.ReplyKind.{ReplyKind}
+use Rattle.svc_history_laws.specs.declared.entry.ReplyKind.TheVariants as reply
+use Rattle.svc_history_laws.specs.declared.entry.ServedKind.{ServedKind}
+use Rattle.svc_history_laws.specs.declared.entry.ServedKind.TheVariants as by
+use Rattle.svc_view.specs.declared.task_run.TaskRun.{TaskRun}
+use Rattle.svc_view.specs.Runs.{is_number, is_store}
+use Rattle.svc_draw.specs.declared.bars.Bar.{Bar}
+use Rattle.svc_draw.specs.declared.bars.Window.{Window}
+use Rattle.svc_draw.specs.declared.marks.Mark.{Mark}
+use Rattle.svc_draw.specs.declared.marks.Spot.{Spot}
+use Rattle.svc_draw.specs.declared.marks.MarkKind.{MarkKind}
+use Rattle.svc_draw.specs.declared.marks.MarkKind.TheVariants as mark
+use Rattle.svc_draw.specs.Bars.{runs}
+
+-- what a reply tells, if anything
+abbrev pub kind_of : ReplyKind → Option MarkKind
+kind_of reply.Loaded = Some mark.Load
+kind_of reply.Stored = Some mark.Store
+kind_of reply.Emitted = Some mark.PutOut
+kind_of reply.Committed = Some mark.Commit
+kind_of _ = None
+
+-- the read was given another unit's version
+abbrev pub is_given : Option ServedKind → Bool
+is_given (Some by.Version) = true
+is_given (Some by.Spill) = true
+is_given (Some by.Committed) = true
+is_given _ = false
+
+-- the read was served, and not by the task's own version
+abbrev pub is_taken : Option ServedKind → Bool
+is_taken None = false
+is_taken (Some by.Hit) = false
+is_taken _ = true
+
+-- both words are there, and are the same
+abbrev pub is_same_word : Option WordAddr → Option WordAddr → Bool
+is_same_word (Some a) (Some b) = a.0 == b.0
+is_same_word _ _ = false
+
+-- the entry is a store of that word by the unit; a read of it by the unit that was served from elsewhere
+abbrev pub stores : UnitId → Option WordAddr → Entry → Bool
+stores unit word e = is_store e.reply && ((e.unit.0 == unit.0) && is_same_word e.addr word)
+
+abbrev pub takes : UnitId → Option WordAddr → Entry → Bool
+takes unit word e = is_taken e.served && ((e.unit.0 == unit.0) && is_same_word e.addr word)
+
+-- the index of the first such entry, and of the last, where these begin at an index
+unfoldable pub first_where : (Entry → Bool) → (at : ℕ) → List Entry → Option ℕ
+first_where p at [] = None
+first_where p at (e ∷ es) = cond (p e) (Some at) (first_where p (suc at) es)
+
+unfoldable pub last_where : (Entry → Bool) → (found : Option ℕ) → (at : ℕ) → List Entry → Option ℕ
+last_where p found at [] = found
+last_where p found at (e ∷ es) = last_where p (cond (p e) (Some at) found) (suc at) es
+
+-- the entries from one index on and before another
+abbrev pub between : (from : ℕ) → (to : ℕ) → List Entry → List Entry
+between from to es = slice_range es from to
+
+-- the first such bar
+unfoldable pub first_bar : (Bar → Bool) → List Bar → Option Bar
+first_bar p [] = None
+first_bar p (b ∷ bs) = cond (p b) (Some b) (first_bar p bs)
+
+abbrev pub task_of : Option Bar → Option TaskRun
+task_of None = None
+task_of (Some b) = Some b.task
+
+-- the task that runs on the unit then
+abbrev pub task_at : List Bar → (unit : ℕ) → (at : ℕ) → Option TaskRun
+task_at bs unit at = task_of (first_bar (runs unit at) bs)
+
+-- the first task that the entry squashes: its number is told, and the entry ended it
+abbrev pub is_victim : Entry → (at : ℕ) → Bar → Bool
+is_victim e at b = is_number e.first b.task.number && is_number b.task.last at
+
+-- where a given version was last stored, if that is shown
+abbrev pub handed : List Entry → Window → (at : ℕ) → Entry → Option UnitId → Option Spot
+handed es w at e None = None
+handed es w at e (Some unit) =
+    cond (is_given e.served)
+    (Some (record { lane = unit; place = last_where (stores unit e.addr) None w.from (between w.from at es) }))
+    None
+
+-- where a task first took the word from elsewhere, if that is shown
+abbrev pub taken : List Entry → (at : ℕ) → Entry → Option Bar → Option Spot
+taken es at e None = None
+taken es at e (Some b) =
+    Some (record { lane = b.task.unit; place = first_where (takes b.task.unit e.addr) b.start (between b.start at es) })
+
+abbrev pub squashed : List Entry → List Bar → (at : ℕ) → Entry → Option CutKind → Option Spot
+squashed es bs at e (Some cause.Violation) = taken es at e (first_bar (is_victim e at) bs)
+squashed es bs at e _ = None
+
+-- a mark of the entry, of a kind if there is one; an arrow, if it has another end
+abbrev pub shape : List Bar → (at : ℕ) → Entry → Option MarkKind → List Mark
+shape bs at e None = []
+shape bs at e (Some kind) =
+    record { kind = kind; entry = e; place = at; task = task_at bs e.unit.0 at; other = None } ∷ []
+
+abbrev pub arrow : MarkKind → List Bar → (at : ℕ) → Entry → Option Spot → List Mark
+arrow kind bs at e None = []
+arrow kind bs at e (Some spot) =
+    record { kind = kind; entry = e; place = at; task = task_at bs e.unit.0 at; other = Some spot } ∷ []
+
+abbrev pub marks_at : List Entry → Window → List Bar → (at : ℕ) → Entry → List Mark
+marks_at es w bs at e =
+    shape bs at e (kind_of e.reply)
+    ++ (arrow mark.Handed bs at e (handed es w at e e.from)
+    ++ arrow mark.Squash bs at e (squashed es bs at e e.cause))
+
+-- those of the entries from an index on
+unfoldable pub marks_from : List Entry → Window → List Bar → (at : ℕ) → List Entry → List Mark
+marks_from es w bs at [] = []
+marks_from es w bs at (e ∷ rest) = marks_at es w bs at e ++ marks_from es w bs (suc at) rest
+
+-- the marks of the entries that are shown
+abbrev pub marks_of : List Entry → Window → List Bar → List Mark
+marks_of es w bs = marks_from es w bs w.from (between w.from w.to es)

@@ -1,0 +1,200 @@
+// The bars and marks of a picture, as they are drawn.
+
+ghost use Rattle.std.specs.Prelude.{◌≤◌};
+
+use crate::bars::Bar;
+use crate::defs::{fill_of, name_of};
+use crate::frame::{BOTTOM, Frame, Point, TOP};
+use crate::marks::{Mark, MarkKind};
+use crate::shapes::{diamond, put, ring, square};
+use std::alloc::{AllocError, Global};
+use std::io::Write;
+use svc_report::write_entry;
+use svc_view::TaskRun;
+
+// What a text stands in: black on a white rim.
+const RIM: &str = "paint-order='stroke' stroke='#fff' stroke-width='4' stroke-linejoin='round'";
+
+const THIN: &str = "stroke='#14508c' stroke-width='2' marker-end='url(#thin)'";
+
+const BOLD: &str = "stroke='#b01010' stroke-width='4' marker-end='url(#bold)'";
+
+/// Writes a bar.
+pub(crate) fn write_bar(frame: &Frame, bar: &Bar, text: &mut Vec<u8>) -> Result<(), AllocError> {
+    let x = frame.bar_left(bar);
+    let y = frame.bar_top(bar.task.unit.0);
+    let width = frame.bar_width(bar);
+    let height = frame.bar_height();
+    let fill = fill_of(bar.task.fate);
+    let fate = name_of(bar.task.fate);
+    let number = bar.task.number;
+    let entry = bar.task.entry;
+    let first = bar.task.first;
+    let turns = bar.task.turns;
+    put!(
+        text,
+        "<rect x='{x}' y='{y}' width='{width}' height='{height}' rx='3' fill='{fill}' stroke='#333'>"
+    )?;
+    put!(
+        text,
+        "<title>task {number} at address {entry}, begun by entry {first}: {fate}; turns: {turns}</title></rect>\n"
+    )
+}
+
+// What a bar of so many letters says of its task: its number and entry, as far as there is room.
+fn name_within(alloc: Global, task: &TaskRun, letters: u64) -> Result<String, AllocError> {
+    let number = task.number;
+    let entry = task.entry;
+    let whole = format!(in alloc; "task {number} @ {entry}")?;
+    if whole.len() as u64 <= letters {
+        return Ok(whole);
+    }
+    let short = format!(in alloc; "{number}@{entry}")?;
+    if short.len() as u64 <= letters {
+        return Ok(short);
+    }
+    let bare = format!(in alloc; "{number}")?;
+    if bare.len() as u64 <= letters {
+        return Ok(bare);
+    }
+    Ok(String::new(alloc))
+}
+
+/// Writes what a bar says of its task.
+pub(crate) fn write_name(
+    alloc: Global,
+    frame: &Frame,
+    bar: &Bar,
+    text: &mut Vec<u8>,
+) -> Result<(), AllocError> {
+    let x = frame.bar_left(bar) + 4;
+    let y = frame.bar_top(bar.task.unit.0) + 12;
+    let letters = frame.bar_width(bar).saturating_sub(8) / 7;
+    let name = name_within(alloc, &bar.task, letters)?;
+    if name.is_empty() {
+        return Ok(());
+    }
+    put!(
+        text,
+        "<text x='{x}' y='{y}' font-size='12' {RIM}>{name}</text>\n"
+    )
+}
+
+// Writes a mark's row of the trace, for the pointer.
+fn write_title(alloc: Global, mark: &Mark, text: &mut Vec<u8>) -> Result<(), AllocError> {
+    let place = mark.place;
+    put!(text, "<title>entry {place}: ")?;
+    match write_entry(alloc, &mark.entry, text) {
+        Ok(()) => {}
+        Err(_) => return Err(AllocError),
+    }
+    put!(text, "</title>")
+}
+
+// Writes a commit's line.
+fn commit(text: &mut Vec<u8>, x: u64) -> Result<(), AllocError> {
+    put!(
+        text,
+        "<path d='M{x} {TOP}V{BOTTOM}' fill='none' stroke='#2e7d32' stroke-width='2' stroke-dasharray='6 4'>"
+    )
+}
+
+// Writes an arrow of this form.
+fn arrow(text: &mut Vec<u8>, from: Point, to: Point, form: &str) -> Result<(), AllocError> {
+    let Point { x, y } = from;
+    let right = to.x;
+    let down = to.y;
+    put!(
+        text,
+        "<path d='M{x} {y}L{right} {down}' fill='none' {form}>"
+    )
+}
+
+/// Writes a mark: what it is, and its row of the trace.
+pub(crate) fn write_mark(
+    alloc: Global,
+    frame: &Frame,
+    mark: &Mark,
+    text: &mut Vec<u8>,
+) -> Result<(), AllocError> {
+    let middle = frame.at(mark);
+    let size = frame.radius();
+    match mark.kind {
+        MarkKind::Load => ring(text, middle, size)?,
+        MarkKind::Store => square(text, middle, size)?,
+        MarkKind::PutOut => diamond(text, middle, size)?,
+        MarkKind::Commit => commit(text, middle.x)?,
+        MarkKind::Handed => arrow(text, frame.other_end(mark), middle, THIN)?,
+        MarkKind::Squash => arrow(text, middle, frame.other_end(mark), BOLD)?,
+    }
+    write_title(alloc, mark, text)?;
+    let close = close_of(mark.kind);
+    put!(text, "</{close}>\n")
+}
+
+// The element that a mark is.
+fn close_of(kind: MarkKind) -> &'static str {
+    match kind {
+        MarkKind::Load => "circle",
+        MarkKind::Store => "rect",
+        MarkKind::PutOut | MarkKind::Commit | MarkKind::Handed | MarkKind::Squash => "path",
+    }
+}
+
+// Writes what an arrow says, at its middle.
+fn write_saying(
+    from: Point,
+    to: Point,
+    saying: &str,
+    text: &mut Vec<u8>,
+) -> Result<(), AllocError> {
+    let x = (from.x + to.x) / 2 + 12;
+    let y = (from.y + to.y) / 2 + 2;
+    put!(
+        text,
+        "<text x='{x}' y='{y}' font-style='italic' {RIM}>{saying}</text>\n"
+    )
+}
+
+// Writes the value of a shape before it.
+fn write_value(frame: &Frame, mark: &Mark, text: &mut Vec<u8>) -> Result<(), AllocError> {
+    let middle = frame.at(mark);
+    let x = middle.x - frame.radius() - 6;
+    let y = middle.y + 5;
+    let word = mark.entry.word.unwrap_or(0);
+    put!(text, "<text x='{x}' y='{y}' text-anchor='end' {RIM}>")?;
+    match mark.entry.addr {
+        Some(addr) => {
+            let addr = addr.0;
+            put!(text, "word {addr} = {word}</text>\n")
+        }
+        None => put!(text, "{word}</text>\n"),
+    }
+}
+
+// Writes what a commit's line stands for, at its top.
+fn write_committed(frame: &Frame, mark: &Mark, text: &mut Vec<u8>) -> Result<(), AllocError> {
+    let x = frame.x(mark.place) - 6;
+    let y = TOP + 18;
+    let number = mark.entry.word.unwrap_or(0);
+    put!(
+        text,
+        "<text x='{x}' y='{y}' text-anchor='end' {RIM}>task {number} is committed</text>\n"
+    )
+}
+
+/// Writes what a mark stands for.
+pub(crate) fn write_words(
+    frame: &Frame,
+    mark: &Mark,
+    text: &mut Vec<u8>,
+) -> Result<(), AllocError> {
+    let middle = frame.at(mark);
+    let end = frame.other_end(mark);
+    match mark.kind {
+        MarkKind::Load | MarkKind::Store | MarkKind::PutOut => write_value(frame, mark, text),
+        MarkKind::Commit => write_committed(frame, mark, text),
+        MarkKind::Handed => write_saying(middle, end, "the version goes to a reader", text),
+        MarkKind::Squash => write_saying(middle, end, "read too early", text),
+    }
+}

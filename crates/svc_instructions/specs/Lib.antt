@@ -1,0 +1,3 @@
+pub mod Pseudo
+pub mod Instructions
+pub mod Couples

@@ -1,0 +1,9 @@
+//! Instructions in a line of assembly: RV32I's own, other names of them, and names of two.
+#![tactic(auto)]
+
+mod couple;
+mod instruction;
+mod pseudo;
+
+pub use couple::{Couple, couple_named, read_couple};
+pub use instruction::read_instruction;

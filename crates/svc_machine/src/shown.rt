@@ -1,0 +1,54 @@
+// The active tasks and the spilled words, for whoever looks at a machine.
+
+ghost use Rattle.std.specs.Prelude.{◌≡◌, ◌<◌, length};
+ghost use Rattle.svc_core_laws.specs.Turns.{data_words};
+ghost use Rattle.svc_machine_laws.specs.Standing.{Standing};
+ghost use Rattle.svc_machine.specs.Reads.{task_of};
+ghost use Rattle.svc_machine.specs.Value.{StandsAt};
+
+use crate::machine::Machine;
+use svc_base::{UnitId, WordAddr};
+use svc_core_laws::End;
+
+/// An active task, as it stands.
+#[derive(Clone, Copy, Debug, PartialEq, Eq)]
+pub struct ActiveTask {
+    /// The unit that runs it.
+    pub unit: UnitId,
+    /// The entry at which it began, a byte address.
+    pub entry: u32,
+    /// The turns that it has taken so far.
+    pub turns: u32,
+    /// How it has ended, where it has.
+    pub done: Option<End>,
+}
+
+impl Machine {
+    /// How many tasks are active.
+    pub fn active_tasks(&self) -> usize
+        ensures { result ≡ length self.now.plain.tasks }
+    {
+        self.seats.len()
+    }
+
+    /// The active task at a place, counted from the oldest; none where there are fewer.
+    pub fn task_at(&self, place: usize) -> Option<ActiveTask>
+        ensures { result ≡ task_of self.now place }
+    {
+        let seat = self.seats.get(place)?;
+        Some(ActiveTask {
+            unit: seat.unit,
+            entry: seat.entry,
+            turns: seat.core.count(),
+            done: seat.core.done(),
+        })
+    }
+
+    /// The head's version of the word whose line was replaced, if any.
+    pub fn spilled(&self, addr: WordAddr) -> Option<u32>
+        requires in_data { addr.0 < data_words self.now.image }
+        ensures { (s : Standing) → StandsAt self.now s → result ≡ s.lines.spill addr.0 }
+    {
+        self.bus.spilled(addr)
+    }
+}

@@ -1,0 +1,132 @@
+// The characters of a program's text: spaces, names, marks and numbers.
+
+ghost use Rattle.std.specs.Prelude.{◌≡◌, ◌<◌, ◌≤◌, ◌^◌, length, Some, IfSome, option_map};
+ghost use Rattle.svc_operands.specs.Characters.{is_space, is_name, past, name_at, past_name, mark_at, digit, push_digit, value_of, behind_zero, number_of};
+
+fn is_space(c: u8) -> bool
+    ensures { result ≡ is_space c }
+{
+    matches!(c, b' ' | b'\t' | b'\r')
+}
+
+#[tactic(auto, unfolding(crate::specs::Characters::is_name))]
+fn is_name(c: u8) -> bool
+    ensures { result ≡ is_name c }
+{
+    matches!(c, b'a'..=b'z' | b'A'..=b'Z' | b'0'..=b'9' | b'.' | b'_' | b'$')
+}
+
+/// What is left behind spaces.
+#[tactic(auto, unfolding(crate::specs::Characters::past))]
+pub fn skip_spaces(text: &[u8]) -> &[u8]
+    ensures { result.now ≡ past is_space text.now }
+{
+    let mut rest = text;
+    while let [first, after @ ..] = rest {
+        if !is_space(*first) {
+            return rest;
+        }
+        rest = after;
+    }
+    rest
+}
+
+#[tactic(auto, unfolding(crate::specs::Characters::past))]
+fn skip_name(text: &[u8]) -> &[u8]
+    ensures { result.now ≡ past is_name text.now }
+{
+    let mut rest = text;
+    while let [first, after @ ..] = rest {
+        if !is_name(*first) {
+            return rest;
+        }
+        rest = after;
+    }
+    rest
+}
+
+/// The next name, which may be empty, and what follows it.
+#[tactic(auto, using(crate::proofs::Past::past_within, crate::proofs::Past::front_of_past))]
+pub fn split_name(text: &[u8]) -> (&[u8], &[u8])
+    ensures name { result.0.now ≡ name_at text.now }
+    ensures rest { result.1.now ≡ past_name text.now }
+{
+    let text = skip_spaces(text);
+    let rest = skip_name(text);
+    let (name, _) = text.split_at(text.len() - rest.len());
+    (name, rest)
+}
+
+/// What follows a mark, where it stands next.
+pub fn skip_mark(mark: u8, text: &[u8]) -> Option<&[u8]>
+    ensures { option_map (λ r. r.now) result ≡ mark_at mark text.now }
+{
+    match skip_spaces(text) {
+        [first, rest @ ..] if *first == mark => Some(rest),
+        _ => None,
+    }
+}
+
+#[tactic(auto, unfolding(crate::specs::Characters::digit))]
+fn digit(c: u8) -> Option<u32>
+    ensures value { result ≡ digit c }
+    ensures small { IfSome result (λ d. d < 16) }
+{
+    match c {
+        b'0'..=b'9' => Some((c - b'0') as u32),
+        b'a'..=b'f' => Some((c - b'a' + 10) as u32),
+        b'A'..=b'F' => Some((c - b'A' + 10) as u32),
+        _ => None,
+    }
+}
+
+#[tactic(auto, unfolding(crate::specs::Characters::push_digit))]
+fn push_digit(radix: u32, value: u32, c: u8) -> Option<u32>
+    requires { radix ≤ 16 }
+    ensures { result ≡ push_digit radix value c }
+{
+    let digit = digit(c)?;
+    if digit >= radix {
+        return None;
+    }
+    value.checked_mul(radix)?.checked_add(digit)
+}
+
+#[tactic(auto, unfolding(crate::specs::Characters::value_on))]
+pub fn value_of(radix: u32, digits: &[u8]) -> Option<u32>
+    requires { radix ≤ 16 }
+    ensures { result ≡ value_of radix digits.now }
+{
+    if digits.is_empty() {
+        return None;
+    }
+    let mut value = 0;
+    for &c in digits {
+        value = push_digit(radix, value, c)?;
+    }
+    Some(value)
+}
+
+// The number that 0 and these digits are.
+#[tactic(auto, unfolding(crate::specs::Characters::behind_zero))]
+fn behind_zero(digits: &[u8]) -> Option<u32>
+    ensures { result ≡ behind_zero digits.now }
+{
+    match digits {
+        [] => Some(0),
+        [b'x' | b'X', digits @ ..] => value_of(16, digits),
+        [b'b' | b'B', digits @ ..] => value_of(2, digits),
+        _ => value_of(8, digits),
+    }
+}
+
+/// The number that a name is: decimal, hexadecimal behind 0x, binary behind 0b, octal behind 0.
+#[tactic(auto, unfolding(crate::specs::Characters::number_of))]
+pub fn number_of(name: &[u8]) -> Option<u32>
+    ensures { result ≡ number_of name.now }
+{
+    match name {
+        [b'0', digits @ ..] => behind_zero(digits),
+        _ => value_of(10, name),
+    }
+}

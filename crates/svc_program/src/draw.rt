@@ -1,0 +1,45 @@
+//! `draw`: a picture of a trace.
+
+ghost use Rattle.std.specs.Prelude.{◌≡◌, ◌⊎◌, IfOk, IfErr};
+ghost use Rattle.svc_program.specs.declared.faults.Fault.TheVariants.{File};
+ghost use Rattle.svc_program.specs.Drawings.{IsDrawn};
+ghost use Rattle.svc_program.specs.Faults.{IsReportFault, TellsOfTrace};
+
+use crate::faults::Fault;
+use std::alloc::Global;
+use svc_base::Config;
+use svc_draw::draw;
+use svc_history::{Entry, check_trace};
+use svc_history_laws::history_leads_on;
+use svc_image::Image;
+
+/// Replays the entries, and draws so many of them, from one on.
+///
+/// Errors: the trace's first fault; [`Fault::File`] where it has no such entry to begin with; want of memory.
+pub fn draw_trace(
+    alloc: Global,
+    image: &Image,
+    config: Config,
+    entries: &[Entry],
+    from: u32,
+    count: u32,
+) -> Result<Vec<u8>, Fault>
+    ensures drawn { IfOk result (λ _. IsDrawn image.now config entries.now from) }
+    ensures fault { IfErr result (λ fault. (fault ≡ File) ⊎ IsReportFault fault ⊎ TellsOfTrace image.now config entries.now fault) }
+{
+    let _recorder = check_trace(alloc, image, config, entries)?;
+    if from as usize > entries.len() {
+        return Err(Fault::File);
+    }
+    // a legal history has no more entries than the configuration allows
+    let _start = image.start();
+    history_leads_on();
+    let text = draw(
+        alloc,
+        entries,
+        config.units,
+        u64::from(from),
+        u64::from(count),
+    )?;
+    Ok(text)
+}

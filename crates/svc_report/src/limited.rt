@@ -1,0 +1,154 @@
+// Reads a text no further than into its first record that is too long.
+
+ghost use Rattle.std.specs.Prelude.{◌≡◌, ◌≤◌, ◌<◌, ◌++◌, ℕ, List, None, Some, length, take};
+ghost use Rattle.svc_report.specs.Limit.{most_bytes};
+ghost use Rattle.svc_report.specs.Places.{gauge_after, known_through, passed, plain_after, place_after, start_after};
+
+use std::io::{Read, Result};
+
+// The most bytes of a record that are read, its line end not counted.
+const MOST_BYTES: u16 = 4096;
+
+// Where in a text its next byte stands. A line end within quotes ends nothing.
+#[derive(Clone, Copy, PartialEq, Eq, Debug)]
+enum Place {
+    // At the text's start, or after one or two bytes of a byte order mark.
+    Front,
+    MarkBegun,
+    MarkHalf,
+    // Between two records.
+    Between,
+    // At the start of a field after the record's first one.
+    Field,
+    // In a field without quotes, or past those that it has.
+    Plain,
+    // Within quotes.
+    Quoted,
+    // After a quote within quotes: it ends them, or stands for one together with the next.
+    Quote,
+}
+
+impl Place {
+    // After a byte that stands outside of quotes and opens none.
+    fn plain_after(byte: u8) -> Place
+        ensures { result ≡ plain_after byte }
+    {
+        if byte == b',' {
+            Place::Field
+        } else if byte == b'\r' || byte == b'\n' {
+            Place::Between
+        } else {
+            Place::Plain
+        }
+    }
+
+    // After a byte with which a field may begin.
+    fn start_after(byte: u8) -> Place
+        ensures { result ≡ start_after byte }
+    {
+        if byte == b'"' {
+            Place::Quoted
+        } else {
+            Place::plain_after(byte)
+        }
+    }
+
+    // After this byte.
+    fn after(self, byte: u8) -> Place
+        ensures { result ≡ place_after self byte }
+    {
+        match self {
+            Place::Front if byte == 0xEF => Place::MarkBegun,
+            Place::MarkBegun if byte == 0xBB => Place::MarkHalf,
+            Place::MarkHalf if byte == 0xBF => Place::Between,
+            Place::Quoted if byte == b'"' => Place::Quote,
+            Place::Quoted => Place::Quoted,
+            Place::Quote if byte == b'"' => Place::Quoted,
+            Place::Front | Place::Between | Place::Field => Place::start_after(byte),
+            Place::MarkBegun | Place::MarkHalf | Place::Plain | Place::Quote => Place::plain_after(
+                byte,
+            ),
+        }
+    }
+}
+
+// How far a text was read: its place, and how many bytes the record there has up to it.
+#[derive(Clone, Copy)]
+struct Gauge {
+    place: Place,
+    size: u16,
+}
+
+impl Gauge {
+    // After this byte, unless it makes its record too long.
+    fn after(self, byte: u8) -> Option<Gauge>
+        ensures { result ≡ gauge_after self byte }
+    {
+        let place = self.place.after(byte);
+        if place == Place::Between {
+            Some(Gauge { place, size: 0 })
+        } else if self.size < MOST_BYTES {
+            Some(Gauge {
+                place,
+                size: self.size + 1,
+            })
+        } else {
+            None
+        }
+    }
+
+    // After as many of these bytes as may be read, and how many those are.
+    fn after_all(self, bytes: &[u8]) -> (Option<Gauge>, usize)
+        ensures count { result.1 ≤ length bytes.now }
+        ensures less { result.1 < length bytes.now → result.0 ≡ None }
+        ensures passes { (rest : List ℕ)
+            → passed (Some self) (bytes.now ++ rest) ≡ take result.1 bytes.now ++ passed result.0 rest }
+    {
+        let mut gauge = self;
+        for count in 0..bytes.len() {
+            match gauge.after(bytes[count]) {
+                Some(next) => gauge = next,
+                None => return (None, count),
+            }
+        }
+        (Some(gauge), bytes.len())
+    }
+}
+
+/// A reader that ends within the first record that is too long, after the most bytes that are read of one.
+#[derive(Drop)]
+pub(crate) struct Limited<R> {
+    reader: R,
+    // None once it has ended there.
+    gauge: Option<Gauge>,
+}
+
+impl<R> Limited<R> {
+    /// Over a reader that gives a text from its start.
+    pub(crate) fn new(reader: R) -> Limited<R>
+        ensures reader { result.reader ≡ reader }
+        ensures gauge { result.gauge ≡ Some (record { place = Place.Front; size = 0 }) }
+    {
+        Limited {
+            reader,
+            gauge: Some(Gauge {
+                place: Place::Front,
+                size: 0,
+            }),
+        }
+    }
+}
+
+impl<R: Read> Read for Limited<R> {
+    ghost remaining = { known_through R.remaining };
+
+    fn read(&mut self, buffer: &mut [u8]) -> Result<usize> {
+        let Some(gauge) = self.gauge else {
+            return Ok(0);
+        };
+        let count = self.reader.read(buffer)?;
+        let (gauge, kept) = gauge.after_all(&buffer[..count]);
+        self.gauge = gauge;
+        Ok(kept)
+    }
+}

@@ -1,0 +1,4 @@
+pub mod Told
+pub mod Ranges
+pub mod TaskRows
+pub mod Standings

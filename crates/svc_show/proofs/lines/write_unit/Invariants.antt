@@ -1,0 +1,7 @@
+use Rattle.std.specs.Io.KnownBytes.{Appends}
+use Rattle.svc_bus.specs.Observed.{observed}
+use Rattle.svc_show.specs.Show.{unit_rows}
+use Rattle.svc_show.proofs.lines.write_unit.Given as goal
+
+abbrev pub invariant-loop-word : goal.invariant-loop-word
+invariant-loop-word g l = Appends (g.W.Write.contents l.fn.w) (g.W.Write.contents l.w) (unit_rows l.word (observed l.machine.bus) l.unit.0)

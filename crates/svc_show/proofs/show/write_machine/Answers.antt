@@ -1,0 +1,33 @@
+use Rattle.std.proofs.Common.{◌++◌, ◌≤◌, ℕ, subst}
+use Rattle.std.specs.Io.KnownBytes.{Appends}
+use Rattle.svc_core_laws.specs.Turns.{data_words}
+use Rattle.svc_core_laws.specs.Words.{program}
+use Rattle.svc_bus.specs.Observed.{observed}
+use Rattle.svc_machine_laws.specs.PlainMachine.{running}
+use Rattle.svc_report.proofs.PlainLines.{on_ok, then_appends}
+use Rattle.svc_show.specs.Show.{line_rows, memory_rows, progress_rows, spill_rows, task_rows}
+use Rattle.svc_show.proofs.show.write_machine.Goals as goal
+
+pub returns-clause-ok : goal.returns-clause-ok
+returns-clause-ok g c =
+    let now = g.W.Write.contents in
+    let m = c.args.machine.now in
+    let bus = observed m.bus in
+    let units = m.config.units in
+    let words = data_words m.image in
+    let a = now c.args.w.now in
+    let b = now c.write_progress.new.w in
+    let d = now c.write_tasks.new.w in
+    let e = now c.write_all_lines.new.w in
+    let f = now c.write_all_spills.new.w in
+    let h = now c.write_all_words.new.w in
+    let progress = progress_rows m.image m.config m.plain in
+    let tasks = task_rows m.plain.commits (running (program m.image) m.plain) in
+    let lines = line_rows units words bus in
+    let spills = spill_rows words bus in
+    let memory = memory_rows m.image m.config m.plain bus words in
+    on_ok c.write_all_words.result (λ k.
+    then_appends a b h progress (tasks ++ (lines ++ (spills ++ memory))) c.in_ok-write_progress.ensures.ok (
+    then_appends b d h tasks (lines ++ (spills ++ memory)) c.in_ok-write_tasks.ensures.ok (
+    then_appends d e h lines (spills ++ memory) c.in_ok-write_all_lines.ensures.ok (
+    then_appends e f h spills memory c.in_ok-write_all_spills.ensures.ok k)))) c.write_all_words.ensures.ok

@@ -1,0 +1,27 @@
+use Rattle.std.proofs.Common.{◌≡◌, ◌++◌, ◌∙◌, ℕ, List, codes, length, ap, subst}
+use Rattle.std.specs.Io.KnownBytes.{Appends}
+use Rattle.svc_bus.specs.Observed.{observed}
+use Rattle.svc_machine.specs.Value.{MachineValue}
+use Rattle.svc_history_laws.specs.declared.entry.Entry.{Entry}
+use Rattle.svc_history.specs.Recorded.{standing_of}
+use Rattle.svc_report.specs.Summary.{number_row}
+use Rattle.svc_report.proofs.PlainLines.{on_ok, then_appends}
+use Rattle.svc_show.specs.Show.{machine_rows, standing_rows}
+use Rattle.svc_show.proofs.Standings.{shown_at}
+use Rattle.svc_show.proofs.show.write_rows.Goals as goal
+
+pub returns-clause-ok : goal.returns-clause-ok
+returns-clause-ok g c =
+    let now = g.W.Write.contents in
+    let r = c.args.recorder.now in
+    let a = now c.args.w.now in
+    let b = now c.write_number.new.w in
+    let d = now c.write_machine.new.w in
+    let told = number_row (codes "at") (length r.entries) in
+    let rows = λ (m : MachineValue). machine_rows m.image m.config m.plain (observed m.bus) in
+    let same : rows c.machine-machine.result.now ≡ standing_rows r.machine.image r.machine.config (standing_of r) =
+    ap rows c.machine-machine.ensures.machine ∙ shown_at r.machine (standing_of r) c.machine-machine.ensures.legal.here in
+    let first : Appends a b told =
+    subst (λ (es : List Entry). Appends a b (number_row (codes "at") (length es))) c.entries-count.ensures.entries c.in_ok-write_number.ensures.ok in
+    on_ok c.write_machine.result (λ h. then_appends a b d told (standing_rows r.machine.image r.machine.config (standing_of r)) first
+    (subst (λ (text : List ℕ). Appends b d text) same h)) c.write_machine.ensures.ok

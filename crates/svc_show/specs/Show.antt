@@ -1,0 +1,74 @@
+-- The text that shows the machine where a history leads.
+use Rattle.std.specs.Prelude.{ℕ, suc, ◌||◌, Bool, cond, List, [], ◌∷◌, ◌++◌, codes, flat_map, is_some, length, nat_le}
+use Rattle.std.specs.List.{list_any, range_with_len}
+use Rattle.svc_base.specs.declared.config.Config.{Config}
+use Rattle.svc_image.specs.Image.{Image}
+use Rattle.svc_core_laws.specs.Bytes.{word_at}
+use Rattle.svc_core_laws.specs.Sequence.{ending_of, plain_seq}
+use Rattle.svc_core_laws.specs.State.{State}
+use Rattle.svc_core_laws.specs.Turns.{data_words}
+use Rattle.svc_core_laws.specs.Words.{program}
+use Rattle.svc_bus_laws.specs.BusState.{BusState, state_of}
+use Rattle.svc_machine_laws.specs.Guess.{guess}
+use Rattle.svc_machine_laws.specs.PlainMachine.{Plain, Running, running}
+use Rattle.svc_machine_laws.specs.Standing.{Standing}
+use Rattle.svc_machine.specs.Reads.{task_shown}
+use Rattle.svc_history_laws.specs.declared.entry.Entry.{Entry}
+use Rattle.svc_history_laws.specs.Legal.{led_to}
+use Rattle.svc_report.specs.Fields.{optional}
+use Rattle.svc_report.specs.Summary.{ending_row, number_row}
+use Rattle.svc_show.specs.Rows.{entry_row, line_row, memory_row, spill_row, task_row}
+
+-- how far the run has come, where it goes on, and how it has ended
+abbrev pub progress_rows : Image → Config → Plain → List ℕ
+progress_rows img config s =
+    let done = plain_seq img s.commits in
+    number_row (codes "tasks") s.commits ++ (entry_row (codes "due") done.due
+    ++ (entry_row (codes "guess") (guess (program img) img.entries s)
+    ++ ending_row (ending_of (nat_le config.events s.accepted) done.stopped done.due)))
+
+-- a row for each of the active tasks, which are numbered from this one on, oldest first
+abbrev pub task_rows : (number : ℕ) → List (Running State) → List ℕ
+task_rows number [] = []
+task_rows number (x ∷ runs) = task_row number (task_shown x) ++ task_rows (suc number) runs
+
+-- a row for each valid line of a unit, by word
+abbrev pub unit_rows : (words : ℕ) → BusState → (unit : ℕ) → List ℕ
+unit_rows words b unit = flat_map (λ word. optional (line_row unit word) (b.lines unit word)) (range_with_len 0 words)
+
+-- a row for each valid line, by unit and then word
+abbrev pub line_rows : (units words : ℕ) → BusState → List ℕ
+line_rows units words b = flat_map (unit_rows words b) (range_with_len 0 units)
+
+-- a row for each spilled word
+abbrev pub spill_rows : (words : ℕ) → BusState → List ℕ
+spill_rows words b = flat_map (λ word. optional (spill_row word) (b.spill word)) (range_with_len 0 words)
+
+-- some unit has a valid line of the word
+abbrev pub is_cached : BusState → (units word : ℕ) → Bool
+is_cached b units word = list_any (λ unit. is_some (b.lines unit word)) (range_with_len 0 units)
+
+-- the row of a word that has a valid line or is spilled; its committed value is what the committed tasks leave, run one
+-- after another
+abbrev pub word_row : Image → Config → Plain → BusState → (word : ℕ) → List ℕ
+word_row img config s b word =
+    cond (is_some (b.spill word) || is_cached b config.units word)
+    (memory_row word (word_at (plain_seq img s.commits).memory word) (b.backing word)) []
+
+-- a row for each such word
+abbrev pub memory_rows : Image → Config → Plain → BusState → (words : ℕ) → List ℕ
+memory_rows img config s b words = flat_map (word_row img config s b) (range_with_len 0 words)
+
+-- the rows of a machine: the plain machine, and what callers see of its bus
+abbrev pub machine_rows : Image → Config → Plain → BusState → List ℕ
+machine_rows img config s b =
+    progress_rows img config s ++ (task_rows s.commits (running (program img) s)
+    ++ (line_rows config.units (data_words img) b ++ (spill_rows (data_words img) b ++ memory_rows img config s b (data_words img))))
+
+-- those of where a machine stands: the plain machine, and the line table
+abbrev pub standing_rows : Image → Config → Standing → List ℕ
+standing_rows img config s = machine_rows img config s.plain (state_of 0 s.lines)
+
+-- the text that shows the machine where a history leads: how many entries it has, and the rows of that machine
+abbrev pub show_of : Image → Config → List Entry → List ℕ
+show_of img config es = number_row (codes "at") (length es) ++ standing_rows img config (led_to img config es)

@@ -1,0 +1,14 @@
+//! The machine where a history leads, as rows: its active tasks, the lines of its caches with their bits, its spilled words,
+//! and the memory of the words that these hold.
+#![tactic(auto)]
+
+mod bits;
+mod holds;
+mod lines;
+mod memory;
+mod progress;
+mod show;
+mod tasks;
+mod text;
+
+pub use show::write_show;

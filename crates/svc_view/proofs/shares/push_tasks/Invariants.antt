@@ -1,7 +1,0 @@
-use Rattle.std.proofs.Common.{◌≡◌, ◌++◌, take}
-use Rattle.std.specs.Prelude.{flat_map}
-use Rattle.svc_view.specs.Words.{task_share}
-use Rattle.svc_view.proofs.shares.push_tasks.Given as goal
-
-abbrev pub invariant-loop-run : goal.invariant-loop-run
-invariant-loop-run l = l.shares.items ≡ l.fn.shares.items ++ flat_map (task_share l.column l.entries) (take l.run-index l.runs)
