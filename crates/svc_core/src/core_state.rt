@@ -4,6 +4,7 @@ ghost use Rattle.std.specs.Prelude.{◌≡◌, ◌<◌, true, false, IsTrue, ◌
 ghost use Rattle.svc_image.specs.Image.{is_entry};
 ghost use Rattle.svc_core_laws.specs.State.{value_of, start};
 ghost use Rattle.svc_core_laws.specs.Same.{same_end, same_words, same_state};
+ghost use Rattle.svc_core.specs.Empty.{exited};
 
 use std::marker::Model;
 use svc_core_laws::End;
@@ -77,9 +78,9 @@ impl Core {
         }
     }
 
-    // The core of some task that has ended.
+    // The core of a task that has ended without a turn.
     pub(crate) fn ended() -> Core
-        ensures { is_none result.done ≡ false }
+        ensures { result ≡ exited }
     {
         Core {
             pc: 0,
@@ -147,10 +148,10 @@ fn is_same_end(a: Option<End>, b: Option<End>) -> bool
 fn are_same_words(a: &[u32; 32], b: &[u32; 32]) -> bool
     ensures { result ≡ same_words a.now b.now }
 {
+    // No branch for each word: cores that are compared are mostly one.
+    let mut differing = 0;
     for place in 0..a.len() {
-        if a[place] != b[place] {
-            return false;
-        }
+        differing |= a[place] ^ b[place];
     }
-    true
+    differing == 0
 }

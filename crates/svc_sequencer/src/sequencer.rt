@@ -1,11 +1,12 @@
 // The sequencer.
 
-ghost use Rattle.std.specs.Prelude.{◌≡◌, ◌<◌, suc, Some, IfOk, IfErr, length, drop, slice_get, unwrap_or};
+ghost use Rattle.std.specs.Prelude.{◌≡◌, ◌<◌, suc, Some, Decides, IfOk, IfErr, length, slice_index, drop, slice_get, unwrap_or};
 ghost use Rattle.std.specs.List.Sorted.{IsStrictlyIncreasing};
 ghost use Rattle.svc_core_laws.specs.Program.{due_after};
 ghost use Rattle.svc_machine_laws.specs.PlainMachine.{cuts_next, entry_for};
 ghost use Rattle.svc_machine_laws.specs.Guess.{entry_after};
 ghost use Rattle.svc_machine_laws.specs.Guide.{guess_of, guide_opened, guide_assigned, guide_cut, guide_committed, successor_in, with_successor};
+ghost use Rattle.svc_sequencer.specs.Tables.{IsPlace};
 
 use arrayvec::ArrayVec;
 use std::alloc::{AllocError, Global};
@@ -18,7 +19,8 @@ use svc_image::Image;
 pub const CAPACITY: usize = 16;
 
 /// Keeps the due entry, the successor of the last committed task that began at each entry, and the entries
-/// of the active tasks, oldest first.
+/// of the active tasks, oldest first. Beside each of these stands its place in the table of entries, so
+/// that a guess needs no search.
 ///
 /// Contracts see it as a guide, which is what the plain machine says of it.
 #[derive(Drop)]
@@ -27,6 +29,7 @@ pub struct Sequencer {
     successors: Vec<Option<u32>>,
     due: Option<u32>,
     active: ArrayVec<u32, CAPACITY>,
+    places: ArrayVec<usize, CAPACITY>,
 }
 
 impl Model for Sequencer {
@@ -37,7 +40,7 @@ impl Model for Sequencer {
 
     ghost view = { λ s. record { entries = s.entries.items; due = s.due; successors = s.successors.items; active = s.active.items } };
 
-    ghost invariant = { λ s. AreTables (record { entries = s.entries.items; due = s.due; successors = s.successors.items; active = s.active.items }) };
+    ghost invariant = { λ s. AreTables (record { entries = s.entries.items; due = s.due; successors = s.successors.items; active = s.active.items }) s.places.items };
 }
 
 // The entry at a place; the first follows the last.
@@ -50,18 +53,40 @@ fn entry_from(entries: &[u32], i: usize) -> u32
     }
 }
 
-// The successor of an entry, or else the entry after it in the table.
-fn following(entries: &[u32], successors: &[Option<u32>], entry: u32) -> u32
-    requires rising { IsStrictlyIncreasing entries.now }
-    requires as_many { length successors.now ≡ length entries.now }
-    ensures { result ≡ unwrap_or (successor_in entries.now successors.now entry) (entry_after entries.now entry) }
+// The place of an entry in the table, or where it would stand.
+fn place_of(entries: &[u32], entry: u32) -> usize
+    requires { IsStrictlyIncreasing entries.now }
+    ensures { IsPlace entries.now entry result }
 {
     match entries.binary_search(&entry) {
-        Ok(i) => match successors[i] {
-            Some(successor) => successor,
-            None => entry_from(entries, i + 1),
-        },
-        Err(i) => entry_from(entries, i),
+        Ok(i) => i,
+        Err(i) => i,
+    }
+}
+
+// Whether the entry stands at the place.
+fn stands_at(entries: &[u32], entry: u32, place: usize) -> bool
+    ensures { Decides result ((place < length entries.now) × (slice_index entries.now place ≡ entry)) }
+{
+    match entries.get(place) {
+        Some(&found) => found == entry,
+        None => false,
+    }
+}
+
+// The successor of an entry whose place this is, or else the entry after it in the table.
+fn following(entries: &[u32], successors: &[Option<u32>], entry: u32, place: usize) -> u32
+    requires rising { IsStrictlyIncreasing entries.now }
+    requires as_many { length successors.now ≡ length entries.now }
+    requires place { IsPlace entries.now entry place }
+    ensures { result ≡ unwrap_or (successor_in entries.now successors.now entry) (entry_after entries.now entry) }
+{
+    if !stands_at(entries, entry, place) {
+        return entry_from(entries, place);
+    }
+    match successors[place] {
+        Some(successor) => successor,
+        None => entry_from(entries, place + 1),
     }
 }
 
@@ -112,6 +137,7 @@ impl Sequencer {
             successors,
             due: Some(image.start()),
             active: ArrayVec::new(),
+            places: ArrayVec::new(),
         })
     }
 
@@ -133,7 +159,10 @@ impl Sequencer {
         match self.active.last() {
             Some(&youngest) => match handed_on(ended) {
                 Some(entry) => Some(entry),
-                None => Some(following(&self.entries, &self.successors, youngest)),
+                None => {
+                    let place = self.places[self.active.len() - 1];
+                    Some(following(&self.entries, &self.successors, youngest, place))
+                }
             },
             None => self.due,
         }
@@ -167,6 +196,7 @@ impl Sequencer {
         } else {
             guess
         };
+        self.places.push(place_of(&self.entries, entry));
         self.active.push(entry);
         entry
     }
@@ -178,6 +208,7 @@ impl Sequencer {
         ensures { self.new ≡ guide_committed end self.old }
     {
         let head = self.active.remove(0);
+        let _place = self.places.remove(0);
         self.due = end.next();
         remember(&self.entries, &mut self.successors, head, self.due);
     }
@@ -187,5 +218,6 @@ impl Sequencer {
         ensures { self.new ≡ guide_cut position self.old }
     {
         self.active.truncate(position);
+        self.places.truncate(position);
     }
 }

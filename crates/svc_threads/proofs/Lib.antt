@@ -2,3 +2,4 @@ pub mod Rises
 pub mod Counting
 pub mod Agreeing
 pub mod Owning
+pub mod Leasing

@@ -1,5 +1,5 @@
 -- What a unit's thread is answered, and what it brings back.
-use Rattle.std.specs.Prelude.{◌≡◌, Result}
+use Rattle.std.specs.Prelude.{◌≡◌, IfSome, Result}
 use Rattle.svc_base.specs.declared.ids.UnitId.{UnitId}
 use Rattle.svc_base.specs.declared.refusal.Refusal.{Refusal}
 use Rattle.svc_machine.specs.declared.event.Event.{Event}
@@ -10,6 +10,7 @@ use Rattle.svc_machine_laws.specs.Events as laws
 use Rattle.svc_history_laws.specs.declared.entry.Entry.{Entry}
 use Rattle.svc_history_laws.specs.declared.entry.Slip.{Slip}
 use Rattle.svc_history_laws.specs.Entries.{entry_of}
+use Rattle.svc_core.specs.declared.burst.Lease.{Lease}
 use Rattle.svc_history.specs.declared.glance.Glance.{Glance}
 use Rattle.svc_history.specs.Applying.{IsApplied}
 use Rattle.svc_history.specs.Glances.{IsGlance}
@@ -38,3 +39,7 @@ IsOf unit s = s.entry.unit ≡ unit
 -- the glance shows the unit some machine with a legal history
 abbrev pub IsGlanceOfSome : UnitId → Glance → Type 0
 IsGlanceOfSome unit glance = (r : Recorded) × IsLegal r × IsGlance r.machine unit.0 glance
+
+-- a lease that the glance has is the unit's own
+abbrev pub LeasesTo : UnitId → Glance → Type 0
+LeasesTo unit glance = IfSome glance.lease (λ (lease : Lease). lease.unit ≡ unit)

@@ -8,7 +8,7 @@ ghost use Rattle.svc_history.specs.Glances.{IsGlance};
 ghost use Rattle.svc_history.specs.Recorded.{Recorded, IsLegal};
 ghost use Rattle.svc_threads.specs.Boards.{knower};
 ghost use Rattle.svc_threads.specs.Counts.{row_of_entries};
-ghost use Rattle.svc_threads.specs.Ports.{IsAppliedToSome, IsGlanceOfSome};
+ghost use Rattle.svc_threads.specs.Ports.{IsAppliedToSome, IsGlanceOfSome, LeasesTo};
 
 use crate::board::{Board, BoardPass};
 use crate::locked::{Locked, counts_of};
@@ -76,6 +76,7 @@ impl SharedBus {
     /// Errors: [`Refusal::NoSuchUnit`].
     pub fn lease<R: Wait>(&self, rt: &R, unit: UnitId) -> Result<Glance, Refusal>
         ensures glance { IfOk result (λ glance. IsGlanceOfSome unit glance) }
+        ensures own { IfOk result (LeasesTo unit) }
         ensures refused { IfErr result (λ e. e ≡ refusal.NoSuchUnit) }
     {
         self.lock.lock(rt).glance(unit)

@@ -1,7 +1,7 @@
 // What a unit's thread knows of the bus, and who is asked round its events.
 
 ghost use Rattle.std.specs.Prelude.{◌≡◌, IfOk};
-ghost use Rattle.svc_threads.specs.Ports.{IsEntryOf};
+ghost use Rattle.svc_threads.specs.Ports.{IsEntryOf, LeasesTo};
 
 use crate::board::Board;
 use std::sync::Wait;
@@ -31,10 +31,11 @@ pub trait Port {
     /// The board that shows the numbers.
     ghost board_of: { Self → TableId };
 
-    /// What the unit's thread needs to know for its next event.
+    /// What the unit's thread needs to know for its next event. A lease in it is the unit's own.
     ///
     /// Errors: [`Refusal::NoSuchUnit`].
-    fn lease<R: Wait>(&self, rt: &R, unit: UnitId) -> Result<Glance, Refusal>;
+    fn lease<R: Wait>(&self, rt: &R, unit: UnitId) -> Result<Glance, Refusal>
+        ensures { IfOk result (LeasesTo unit) };
 
     /// One event, in one step.
     ///

@@ -10,7 +10,7 @@ use crossbeam_utils::Backoff;
 use std::alloc::Allocator;
 use std::sync::Wait;
 use svc_base::{Refusal, UnitId, WordAddr};
-use svc_core::{Lease, MAX_BURST_TURNS};
+use svc_core::{Burst, MAX_BURST_TURNS};
 use svc_history::{Event, Move, Slip};
 use svc_image::Image;
 
@@ -62,6 +62,7 @@ pub fn run_unit<P: Port, G: Gate, A: Allocator, R: Wait>(
     ensures err { IfErr result (λ e. e ≡ RunError.Memory) }
 {
     let mut slips = Vec::new(alloc);
+    let mut burst = Burst::empty(unit);
     let backoff = Backoff::new();
     let mut stalled_at: Option<BoardRow> = None;
     for _ in 0..turns {
@@ -70,7 +71,7 @@ pub fn run_unit<P: Port, G: Gate, A: Allocator, R: Wait>(
             backoff.snooze();
             continue;
         }
-        match take_turn(rt, port, unit, image, gate, &mut slips)? {
+        match take_turn(rt, port, unit, image, &mut burst, gate, &mut slips)? {
             Turn::Went => {
                 stalled_at = None;
                 backoff.reset();
@@ -91,13 +92,14 @@ fn take_turn<P: Port, G: Gate, A: Allocator, R: Wait>(
     port: &P,
     unit: UnitId,
     image: &Image,
+    burst: &mut Burst,
     gate: &G,
     slips: &mut Vec<Slip, A>,
 ) -> Result<Turn, RunError>
     ensures own { All (IsOf unit) slips.old.items → All (IsOf unit) slips.new.items }
     ensures err { IfErr result (λ e. e ≡ RunError.Memory) }
 {
-    let tried = match make_move(rt, port, unit, image, gate, slips)? {
+    let tried = match make_move(rt, port, unit, image, burst, gate, slips)? {
         Tried::Refused(Refusal::SetFull(addr)) => {
             attempt(rt, port, unit, Event::Replace { unit, addr }, gate, slips)?
         }
@@ -106,12 +108,13 @@ fn take_turn<P: Port, G: Gate, A: Allocator, R: Wait>(
     Ok(ended(tried))
 }
 
-// Asks for the event that the unit does next, by a glance. A burst is made without the lock.
+// Asks for the event that the unit does next, by a glance. A burst is made without the lock, in the place of the last.
 fn make_move<P: Port, G: Gate, A: Allocator, R: Wait>(
     rt: &R,
     port: &P,
     unit: UnitId,
     image: &Image,
+    burst: &mut Burst,
     gate: &G,
     slips: &mut Vec<Slip, A>,
 ) -> Result<Tried, RunError>
@@ -129,9 +132,8 @@ fn make_move<P: Port, G: Gate, A: Allocator, R: Wait>(
         }
         Move::Commit => attempt(rt, port, unit, Event::Commit { by: unit }, gate, slips),
         Move::RunOn(lease) => {
-            let lease = Lease::new(unit, lease.epoch, lease.core);
-            let burst = lease.advance(image, MAX_BURST_TURNS);
-            attempt(rt, port, unit, Event::Submit { burst: &burst }, gate, slips)
+            burst.refill(&lease, image, MAX_BURST_TURNS);
+            attempt(rt, port, unit, Event::Submit { burst }, gate, slips)
         }
     }
 }

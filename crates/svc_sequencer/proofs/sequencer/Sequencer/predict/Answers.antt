@@ -1,7 +1,9 @@
-use Rattle.std.proofs.Common.{◌≡◌, ◌∙◌, ℕ, List, Option, Some, ap, ap₂, sym, unwrap_or, length, slice_get, ◌-◌}
+use Rattle.std.proofs.Common.{◌≡◌, ◌∙◌, ℕ, List, Option, Some, ap, ap₂, sym, subst, unwrap_or, length, slice_get, get_or, arith, ◌-◌}
 use Rattle.svc_core_laws.specs.Program.{due_after}
 use Rattle.svc_machine_laws.specs.Guess.{youngest, entry_after}
 use Rattle.svc_machine_laws.specs.Guide.{Guide, guess_of, successor_in}
+use Rattle.svc_sequencer.specs.Tables.{IsPlace}
+use Rattle.svc_sequencer.proofs.Placed.{as_long, place_of_youngest, some_active}
 use Rattle.svc_sequencer.proofs.Guided.{youngest_last, predicted}
 use Rattle.svc_sequencer.proofs.sequencer.Sequencer.predict.Goals as goal
 
@@ -20,6 +22,30 @@ returns-in-Some-handed_on c =
     ∙ ap (guess_of c.args.ended) c.self.view_is
 
 -- it didn't
+pub bounds-deref-len : goal.bounds-deref-len
+bounds-deref-len c =
+    let active = c.self.inside.active.items in
+    let places = c.self.inside.places.items in
+    let last : youngest active ≡ Some c.in-Some.field-0.now =
+    sym (youngest_last active) ∙ sym (c.in-Some.ensures.value ∙ ap (λ xs. slice_get xs (length xs - 1)) c.deref.ensures.0) in
+    let some = some_active active c.in-Some.field-0.now last in
+    let long = as_long c.self.inside.entries.items active places c.self.invariant.placed in
+    let same = ap (λ (ps : List ℕ). length ps) c.deref-in-None-handed_on.ensures.0 in
+    omega (arith, some, long, same, c.len.ensures.value)
+
+pub following-requires-clause-place : goal.following-requires-clause-place
+following-requires-clause-place c =
+    let active = c.self.inside.active.items in
+    let places = c.self.inside.places.items in
+    let e = c.in-Some.field-0.now in
+    let last : youngest active ≡ Some e =
+    sym (youngest_last active) ∙ sym (c.in-Some.ensures.value ∙ ap (λ xs. slice_get xs (length xs - 1)) c.deref.ensures.0) in
+    let place = place_of_youngest c.self.inside.entries.items active places e c.self.invariant.placed last in
+    let there : get_or c.deref-in-None-handed_on.result.now (c.len.result - 1) 0 ≡ get_or places (length active - 1) 0 =
+    ap (λ (ps : List ℕ). get_or ps (c.len.result - 1) 0) c.deref-in-None-handed_on.ensures.0 ∙ ap (λ (n : ℕ). get_or places (n - 1) 0) c.len.ensures.value in
+    subst (λ (xs : List ℕ). IsPlace xs e (get_or c.deref-in-None-handed_on.result.now (c.len.result - 1) 0)) (sym c.deref-in-None-handed_on-2.ensures.value)
+    (subst (IsPlace c.self.inside.entries.items e) (sym there) place)
+
 pub returns-in-None-handed_on : goal.returns-in-None-handed_on
 returns-in-None-handed_on c =
     let active = c.self.inside.active.items in
@@ -30,7 +56,7 @@ returns-in-None-handed_on c =
     sym (youngest_last active) ∙ sym (c.in-Some.ensures.value ∙ ap (λ xs. slice_get xs (length xs - 1)) c.deref.ensures.0) in
     let is : c.following.result ≡ unwrap_or (successor_in entries successors e) (entry_after entries e) =
     c.following.ensures
-    ∙ ap₂ (λ (xs : List ℕ) (os : List (Option ℕ)). unwrap_or (successor_in xs os e) (entry_after xs e)) c.deref-in-None-handed_on.ensures.value c.deref-in-None-handed_on-2.ensures.value in
+    ∙ ap₂ (λ (xs : List ℕ) (os : List (Option ℕ)). unwrap_or (successor_in xs os e) (entry_after xs e)) c.deref-in-None-handed_on-2.ensures.value c.deref-in-None-handed_on-3.ensures.value in
     predicted (record { entries = entries; due = c.self.inside.due; successors = successors; active = active }) c.args.ended e c.following.result last
     (is ∙ ap (λ o. unwrap_or o (unwrap_or (successor_in entries successors e) (entry_after entries e))) c.in-None-handed_on.ensures)
     ∙ ap (guess_of c.args.ended) c.self.view_is
