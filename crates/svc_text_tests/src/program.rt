@@ -7,7 +7,7 @@ use std::sync::Wait;
 use std::thread::Threads;
 use svc_base::Config;
 use svc_image::samples::P;
-use svc_program::{Fault, FileFault, Files, Request, Source, perform, tell};
+use svc_program::{Fault, FileFault, Files, Request, Source, Table, perform, tell};
 use svc_report::ReportError;
 
 // A writer that takes some bytes, and then fails.
@@ -86,7 +86,7 @@ fn output_that_fails_is_told(rt: HostRuntime) {
     }
 }
 
-// Two files: a script of three events, the last of which is refused, and a trace of no event.
+// Two files: a script of three events, the last of which is refused, and a trace of an assignment and a store.
 #[derive(Drop)]
 struct TwoFiles;
 
@@ -96,7 +96,8 @@ impl Files for TwoFiles {
     fn open(&mut self, name: &str) -> Result<&'static [u8], FileFault> {
         let text = match name {
             "events" => "kind,unit,arg\nassign,0,0\nsubmit,0,63\ncommit,0,\n",
-            "trace" => "kind,unit,arg,local,ask,reply,addr,word,served,from,cause,first,squashed\n",
+            "trace" => "kind,unit,arg,local,ask,reply,addr,word,served,from,cause,first,squashed\n\
+                assign,0,0,,,assigned,,0,,,,,\nsubmit,0,,2,1,stored,0,5,,,,,\n",
             _ => return Err(FileFault),
         };
         Ok(text.as_bytes())
@@ -118,6 +119,8 @@ enum Printing {
     Script,
     Check,
     Profile,
+    Tasks,
+    Show,
     List,
     Version,
 }
@@ -141,6 +144,18 @@ fn request_of<'a>(kind: Printing, config: Config) -> Request<'a> {
             config,
             trace: "trace",
             by: None,
+        },
+        Printing::Tasks => Request::Profile {
+            image,
+            config,
+            trace: "trace",
+            by: Some(Table::Tasks),
+        },
+        Printing::Show => Request::Show {
+            image,
+            config,
+            trace: "trace",
+            at: None,
         },
         Printing::List => Request::List { image },
         Printing::Version => Request::Version,
@@ -201,6 +216,8 @@ fn output_that_fails_once_is_told(rt: HostRuntime) {
         Printing::Script,
         Printing::Check,
         Printing::Profile,
+        Printing::Tasks,
+        Printing::Show,
         Printing::List,
         Printing::Version,
     ] {
