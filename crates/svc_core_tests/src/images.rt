@@ -187,9 +187,9 @@ fn words_are_fetched(rt: HostRuntime) {
 fn decoded(alloc: Global, bytes: &[u8]) -> Result<([Option<Decoded>; 3], usize), ImageError> {
     let image = Image::read(alloc, bytes)?;
     let found = [
-        image.find(4).decoded,
-        image.find(6).decoded,
-        image.find(36).decoded,
+        image.find(4).decoded.copied(),
+        image.find(6).decoded.copied(),
+        image.find(36).decoded.copied(),
     ];
     Ok((found, image.slots().len()))
 }
@@ -197,7 +197,7 @@ fn decoded(alloc: Global, bytes: &[u8]) -> Result<([Option<Decoded>; 3], usize),
 // What is decoded at 4 of a copy.
 fn decoded_in_copy(alloc: Global, bytes: &[u8]) -> Result<Option<Decoded>, ImageError> {
     let image = Image::read(alloc, bytes)?;
-    Ok(image.copy(alloc)?.find(4).decoded)
+    Ok(image.copy(alloc)?.find(4).decoded.copied())
 }
 
 #[test]
