@@ -3,20 +3,41 @@ use Rattle.std.specs.Prelude.{ℕ, Bool, if◌then◌else◌, is_none, Option, N
 use Rattle.svc_core.specs.declared.burst.Lease.{Lease}
 use Rattle.svc_history.specs.declared.glance.Glance.{Glance}
 use Rattle.svc_history.specs.declared.glance.Move.{Move}
-use Rattle.svc_history.specs.declared.glance.Move.TheVariants.{Begin, RunOn, Commit, Wait, Ended}
+use Rattle.svc_history.specs.declared.glance.Move.TheVariants as move
+
+-- a unit's next move, with its lease as a value
+pub data NextMove : Type 0 where
+  -- it starts a task at this guess
+  Begin : (guess : ℕ) → NextMove
+  -- it runs its task on from here
+  RunOn : Lease → NextMove
+  -- it commits the head, which is its own
+  Commit : NextMove
+  -- it can do nothing before another unit's event
+  Wait : NextMove
+  -- the run has ended
+  Ended : NextMove
+
+-- the move that code tells, which lends the lease
+abbrev pub told : Move → NextMove
+told (move.Begin guess) = Begin guess
+told (move.RunOn lease) = RunOn lease.now
+told move.Commit = Commit
+told move.Wait = Wait
+told move.Ended = Ended
 
 -- with a task: that is run on until it has ended, and then committed by the unit of the head
-abbrev pub with_task : Lease → (is_head : Bool) → Move
+abbrev pub with_task : Lease → (is_head : Bool) → NextMove
 with_task lease is_head = if is_none lease.core.done then RunOn lease else if is_head then Commit else Wait
 
 -- without one
-abbrev pub without_task : (guess : Option ℕ) → Move
+abbrev pub without_task : (guess : Option ℕ) → NextMove
 without_task (Some guess) = Begin guess
 without_task None = Wait
 
-abbrev pub in_run : Option Lease → (is_head : Bool) → (guess : Option ℕ) → Move
+abbrev pub in_run : Option Lease → (is_head : Bool) → (guess : Option ℕ) → NextMove
 in_run (Some lease) is_head guess = with_task lease is_head
 in_run None is_head guess = without_task guess
 
-abbrev pub next_move : Glance → Move
+abbrev pub next_move : Glance → NextMove
 next_move g = if g.ended then Ended else in_run g.lease g.is_head g.guess

@@ -1,7 +1,7 @@
 // What a unit sees of a recorder, and what it does next.
 
 ghost use Rattle.std.specs.Prelude.{◌≡◌};
-ghost use Rattle.svc_history.specs.Moves.{next_move};
+ghost use Rattle.svc_history.specs.Moves.{next_move, told};
 
 use svc_core::Lease;
 
@@ -18,13 +18,13 @@ pub struct Glance {
     pub guess: Option<u32>,
 }
 
-/// What a unit does next.
+/// What a unit does next. It lends the lease, so a move costs nothing to hand on.
 #[derive(Clone, Copy, Debug, PartialEq, Eq)]
-pub enum Move {
+pub enum Move<'a> {
     /// It starts a task at the guess.
     Begin { guess: u32 },
     /// It runs its task on from the lease.
-    RunOn(Lease),
+    RunOn(&'a Lease),
     /// It commits the head, which is its own.
     Commit,
     /// It can do nothing before another unit's event.
@@ -36,13 +36,13 @@ pub enum Move {
 impl Glance {
     /// What the unit does next, by what it sees: nothing more in a run that has ended; without a task it begins one at
     /// the guess; it runs a task on that has not ended, and commits one that has where that is the head. Else it waits.
-    pub fn next_move(&self) -> Move
-        ensures { result ≡ next_move self.now }
+    pub fn next_move(&self) -> Move<'_>
+        ensures { told result ≡ next_move self.now }
     {
         if self.ended {
             return Move::Ended;
         }
-        match self.lease {
+        match &self.lease {
             None => match self.guess {
                 Some(guess) => Move::Begin { guess },
                 None => Move::Wait,

@@ -27,10 +27,9 @@ use Rattle.svc_machine_laws.proofs.Guessing.{is_guess}
 use Rattle.svc_machine.specs.Reads.{lease_of, lease_from, runs_head, is_full}
 use Rattle.svc_history_laws.specs.Histories.{LeadsOn}
 use Rattle.svc_history_laws.proofs.Histories.{leads_on}
-use Rattle.svc_history.specs.declared.glance.Move.{Move}
-use Rattle.svc_history.specs.declared.glance.Move.TheVariants as move
 use Rattle.svc_history.specs.Glances.{has_ended}
-use Rattle.svc_history.specs.Moves.{in_run, without_task}
+use Rattle.svc_history.specs.Moves.{NextMove, in_run, without_task}
+use Rattle.svc_history.specs.Moves as move
 use Rattle.svc_history.specs.Recorded.{Recorded, IsLegal, standing_of}
 use Rattle.svc_schedule.specs.Moves.{Asks, IsBurstOf, IsPassed, move_of}
 use Rattle.svc_schedule.proofs.Accepting.{IsGoing, IsOwnBurst, is_at, assign_passes, commit_passes, replace_passes, submit_passes}
@@ -178,7 +177,7 @@ module _ (r : Recorded) (legal : IsLegal r) (is : IsImage r.machine.image) where
   -- ---- moves
 
   -- a move that asks for nothing, or for an event that is refused
-  abbrev Stuck : (most unit : ℕ) → Move → Type 0
+  abbrev Stuck : (most unit : ℕ) → NextMove → Type 0
   Stuck most unit mv = ((mv ≡ move.Wait) ⊎ (mv ≡ move.Ended)) ⊎ ((x : Event) × Asks img config s most unit mv x × (is_some (refused img config s x) ≡ true))
 
   stuck : (most unit : ℕ) → unit < config.units → IsPassed most r (record { 0 = unit }) → Stuck most unit (move_of r.machine unit)

@@ -20,10 +20,9 @@ use Rattle.svc_history_laws.specs.declared.entry.Entry.{Entry}
 use Rattle.svc_history_laws.specs.declared.entry.Slip.{Slip}
 use Rattle.svc_history.specs.Applying.{IsApplied, refused_at}
 use Rattle.svc_history.specs.declared.glance.Glance.{Glance}
-use Rattle.svc_history.specs.declared.glance.Move.{Move}
-use Rattle.svc_history.specs.declared.glance.Move.TheVariants as move
 use Rattle.svc_history.specs.Glances.{IsGlance, has_ended}
-use Rattle.svc_history.specs.Moves.{in_run, next_move}
+use Rattle.svc_history.specs.Moves.{NextMove, in_run, next_move}
+use Rattle.svc_history.specs.Moves as move
 use Rattle.svc_history.specs.Recorded.{Recorded, standing_of}
 use Rattle.svc_machine.specs.Reads.{lease_of, runs_head}
 use Rattle.svc_schedule.specs.Bursts.{AreReady}
@@ -69,14 +68,14 @@ recorded old new x slip is = record {
 }
 
 module _ (most : ℕ) (old new : Recorded) (unit : UnitId) (known : unit.0 < old.machine.config.units) where
-  abbrev Wants : Move → Event → Type 0
+  abbrev Wants : NextMove → Event → Type 0
   Wants mv x = Asks old.machine.image old.machine.config (standing_of old) most unit.0 mv x
 
   abbrev why_not : Event → Option Refusal
   why_not x = refused old.machine.image old.machine.config (standing_of old) x
 
   -- the event of its move is accepted
-  pub made : (mv : Move) (x : Event) → move_of old.machine unit.0 ≡ mv → Wants mv x → Records old new x → IsMade most old new unit
+  pub made : (mv : NextMove) (x : Event) → move_of old.machine unit.0 ≡ mv → Wants mv x → Records old new x → IsMade most old new unit
   made mv x is asks records = record {
     event = x;
     move_is = record { known = known; asks = subst (λ v. Wants v x) (sym is) asks };
@@ -84,7 +83,7 @@ module _ (most : ℕ) (old new : Recorded) (unit : UnitId) (known : unit.0 < old
   }
 
   -- it is refused
-  pub passed : (mv : Move) (x : Event) (why : Refusal) → move_of old.machine unit.0 ≡ mv → Wants mv x → why_not x ≡ Some why → IsPassed most old unit
+  pub passed : (mv : NextMove) (x : Event) (why : Refusal) → move_of old.machine unit.0 ≡ mv → Wants mv x → why_not x ≡ Some why → IsPassed most old unit
   passed mv x why is asks says = inr (record {
     event = x;
     move_is = record { known = known; asks = subst (λ v. Wants v x) (sym is) asks };
@@ -92,12 +91,12 @@ module _ (most : ℕ) (old new : Recorded) (unit : UnitId) (known : unit.0 < old
   })
 
   -- what was answered to the event of its move
-  pub asked_passed : (mv : Move) (x : Event) → move_of old.machine unit.0 ≡ mv → Wants mv x → (o : Result Slip Refusal) (ok : Bool) → ok ≡ is_ok o → IsApplied old new x o
+  pub asked_passed : (mv : NextMove) (x : Event) → move_of old.machine unit.0 ≡ mv → Wants mv x → (o : Result Slip Refusal) (ok : Bool) → ok ≡ is_ok o → IsApplied old new x o
       → ok ≡ false → (new ≡ old) × IsPassed most old unit
   asked_passed mv x is asks (Ok slip) ok ok_is applied e = absurd (both_ways ok e ok_is)
   asked_passed mv x is asks (Err why) ok ok_is applied e = (applied.unchanged, passed mv x why is asks applied.refused)
 
-  pub asked_made : (mv : Move) (x : Event) → move_of old.machine unit.0 ≡ mv → Wants mv x → (o : Result Slip Refusal) (ok : Bool) → ok ≡ is_ok o → IsApplied old new x o
+  pub asked_made : (mv : NextMove) (x : Event) → move_of old.machine unit.0 ≡ mv → Wants mv x → (o : Result Slip Refusal) (ok : Bool) → ok ≡ is_ok o → IsApplied old new x o
       → ok ≡ true → IsMade most old new unit
   asked_made mv x is asks (Ok slip) ok ok_is applied e = made mv x is asks (recorded old new x slip applied)
   asked_made mv x is asks (Err why) ok ok_is applied e = absurd (both_ways ok ok_is e)

@@ -16,10 +16,9 @@ use Rattle.svc_machine.specs.Value.{MachineValue}
 use Rattle.svc_machine.specs.Reads.{lease_of, runs_head}
 use Rattle.svc_history_laws.specs.Entries.{entry_of}
 use Rattle.svc_history.specs.declared.glance.Glance.{Glance}
-use Rattle.svc_history.specs.declared.glance.Move.{Move}
-use Rattle.svc_history.specs.declared.glance.Move.TheVariants as move
 use Rattle.svc_history.specs.Glances.{has_ended}
-use Rattle.svc_history.specs.Moves.{next_move}
+use Rattle.svc_history.specs.Moves.{NextMove, next_move}
+use Rattle.svc_history.specs.Moves as move
 use Rattle.svc_history.specs.Recorded.{Recorded, standing_of}
 
 -- what a unit sees of a machine
@@ -27,7 +26,7 @@ abbrev pub seen : MachineValue → (unit : ℕ) → Glance
 seen m unit = record { ended = has_ended m; lease = lease_of m unit; is_head = runs_head m unit; guess = guess (program m.image) m.image.entries m.plain }
 
 -- what it does next, by that
-abbrev pub move_of : MachineValue → (unit : ℕ) → Move
+abbrev pub move_of : MachineValue → (unit : ℕ) → NextMove
 move_of m unit = next_move (seen m unit)
 
 -- the burst is what advancing the lease by at most so many turns makes
@@ -44,7 +43,7 @@ SubmitsOrReplaces unit b why x =
     ((x ≡ Submit b) × ((addr : WordAddr) → why ≡ Some (SetFull addr) → ⊥)) ⊎ ((addr : WordAddr) × (why ≡ Some (SetFull addr)) × (x ≡ Replace unit addr.0))
 
 -- what a move asks for
-abbrev pub Asks : Image → Config → Standing → (most unit : ℕ) → Move → Event → Type 0
+abbrev pub Asks : Image → Config → Standing → (most unit : ℕ) → NextMove → Event → Type 0
 Asks img config s most unit (move.Begin entry) x = x ≡ Assign unit entry
 Asks img config s most unit (move.RunOn lease) x = (b : Advance) × IsBurstOf img most lease b × SubmitsOrReplaces unit b (refused img config s (Submit b)) x
 Asks img config s most unit move.Commit x = x ≡ Commit unit

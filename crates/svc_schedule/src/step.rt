@@ -3,6 +3,7 @@
 ghost use Rattle.std.specs.Prelude.{◌≡◌, ◌<◌, false, IsTrue, IsFalse, All};
 ghost use Rattle.svc_core_laws.specs.Bursts.{IsAdvance};
 ghost use Rattle.svc_history.specs.Glances.{has_ended};
+ghost use Rattle.svc_history.specs.Moves.{RunOn};
 ghost use Rattle.svc_history.specs.Recorded.{IsLegal};
 ghost use Rattle.svc_schedule.specs.Bursts.{AreReady};
 ghost use Rattle.svc_schedule.specs.Moves.{IsMade, IsPassed, move_of};
@@ -91,7 +92,7 @@ fn make_move(recorder: &mut Recorder, bursts: &mut [Burst], unit: UnitId, most: 
         Move::Commit => recorder.apply(Event::Commit { by: unit }).is_ok(),
         Move::RunOn(lease) => {
             let place = usize::from(unit.0);
-            run_on(recorder, &mut bursts[place], unit, &lease, most)
+            run_on(recorder, &mut bursts[place], unit, lease, most)
         }
     }
 }
@@ -105,7 +106,7 @@ fn run_on(
     most: u32,
 ) -> bool
     requires known { unit.0 < recorder.old.machine.config.units }
-    requires runs { move_of recorder.old.machine unit.0 ≡ Move.RunOn lease.now }
+    requires runs { move_of recorder.old.machine unit.0 ≡ RunOn lease.now }
     requires ready { IsAdvance recorder.old.machine.image most burst.old }
     ensures made { IsTrue result → IsMade most recorder.old recorder.new unit }
     ensures passed { IsFalse result → (recorder.new ≡ recorder.old) × IsPassed most recorder.old unit }

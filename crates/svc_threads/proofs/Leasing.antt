@@ -16,9 +16,8 @@ use Rattle.svc_machine.specs.Reads.{lease_from}
 use Rattle.svc_machine.specs.Value.{MachineValue}
 use Rattle.svc_history.specs.declared.glance.Glance.{Glance}
 use Rattle.svc_history.specs.Glances.{IsGlance}
-use Rattle.svc_history.specs.declared.glance.Move.{Move}
-use Rattle.svc_history.specs.declared.glance.Move.TheVariants as move
-use Rattle.svc_history.specs.Moves.{in_run, next_move}
+use Rattle.svc_history.specs.Moves.{NextMove, in_run, next_move}
+use Rattle.svc_history.specs.Moves as move
 use Rattle.svc_threads.specs.Ports.{LeasesTo}
 
 -- the seat of a unit's task is that unit's
@@ -48,7 +47,7 @@ pub leases_own : (m : MachineValue) (unit : UnitId) (o : Result Glance Refusal) 
 leases_own m unit o is = IfOk-weaker o (IsGlance m unit.0) (LeasesTo unit) (leases m unit) is
 
 -- the unit whose task a move runs on
-abbrev unit_moved : UnitId → Move → UnitId
+abbrev unit_moved : UnitId → NextMove → UnitId
 unit_moved unit (move.Begin guess) = unit
 unit_moved unit (move.RunOn lease) = lease.unit
 unit_moved unit move.Commit = unit

@@ -132,7 +132,7 @@ fn make_move<P: Port, G: Gate, A: Allocator, R: Wait>(
         }
         Move::Commit => attempt(rt, port, unit, Event::Commit { by: unit }, gate, slips),
         Move::RunOn(lease) => {
-            burst.refill(&lease, image, MAX_BURST_TURNS);
+            burst.refill(lease, image, MAX_BURST_TURNS);
             attempt(rt, port, unit, Event::Submit { burst }, gate, slips)
         }
     }
