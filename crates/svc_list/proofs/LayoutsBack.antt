@@ -1,11 +1,10 @@
 -- The lines of an image make its layout.
-use Rattle.std.proofs.Common.{◌≡◌, ℕ, zero, suc, ◌+◌, ◌-◌, ◌*◌, ◌/◌, ◌%◌, ◌^◌, ◌<◌, ◌≤◌, ◌⊎◌, ◌↔◌, inl, inr, Bool, true, false, ◌==◌, ◌&&◌, nat_le, nat_lt, List, [], ◌∷◌, ◌++◌, length, map, set, slice_set, slice_index, take, drop, Option, Some, None, unwrap_or, refl, ap, sym, ◌∙◌, subst, arith, if◌then◌else◌, cond, flat_map}
+use Rattle.std.proofs.Common.{◌≡◌, ℕ, suc, ◌+◌, ◌-◌, ◌*◌, ◌/◌, ◌%◌, ◌^◌, ◌<◌, ◌≤◌, ◌↔◌, inl, inr, Bool, true, false, ◌==◌, ◌&&◌, nat_le, nat_lt, List, [], ◌∷◌, ◌++◌, length, map, slice_index, take, drop, Option, Some, None, refl, ap, sym, ◌∙◌, subst, arith}
 use Rattle.std.proofs.Math.Seq.{set-append_seam}
 use Rattle.std.proofs.lemmas.Bool.{eq-eqb, eqb-true, ne_eqb, le-leb, cases_eq, and_parts}
 use Rattle.std.proofs.lemmas.List.{append_assoc, append-nil, length-append, length-take-le, take-append-drop}
 use Rattle.std.proofs.lemmas.Grind.{flat_map-append}
 use Rattle.std.specs.List.{AllByRecursion}
-use Rattle.svc_rv32i.specs.declared.instr.Register.{Register}
 use Rattle.svc_rv32i.specs.declared.instr.Instr.{Instr}
 use Rattle.svc_rv32i.specs.declared.instr.Instr.TheVariants as i
 use Rattle.svc_rv32i.specs.Words.{word_of}
@@ -15,27 +14,24 @@ use Rattle.svc_image.specs.declared.version.Version.TheVariants as version
 use Rattle.svc_image.specs.Version.{read_only_by, own_number, listed}
 use Rattle.svc_image.specs.Image.{Image}
 use Rattle.svc_image.specs.Format.{bytes_of_word, bytes_of_words, file_of}
-use Rattle.svc_draft.specs.declared.section.Section.{Section}
 use Rattle.svc_draft.specs.declared.section.Section.TheVariants as section
 use Rattle.svc_draft.specs.declared.statement.Width.TheVariants as wide
 use Rattle.svc_draft.specs.declared.statement.Next.TheVariants as go
-use Rattle.svc_draft.specs.declared.statement.Statement.{Statement}
 use Rattle.svc_draft.specs.declared.statement.Statement.TheVariants as say
 use Rattle.svc_draft.specs.Options.{◌>>=◌}
 use Rattle.svc_draft.specs.Areas.{with_more}
-use Rattle.svc_draft.specs.Versions.{has_other, version_in}
-use Rattle.svc_draft.specs.Layouts.{Layout, Names, zeros, empty, with_word, with_bytes, with_value, with_number, with_version, with_read_only, with_own, with_place, with_entry, with_register, after, limits_in, file_in}
+use Rattle.svc_draft.specs.Layouts.{Layout, Names, zeros, empty, with_word, with_bytes, with_value, with_version, with_read_only, with_own, with_place, with_entry, with_register, after, limits_in, file_in}
 use Rattle.svc_draft.proofs.Wordwise.{length-bytes_of_word, length-bytes_of_words}
-use Rattle.svc_list.specs.Listings.{shown, setting, settings, own_limit, marks, code, data_lines, all_data, head_lines, lines_of}
+use Rattle.svc_list.specs.Listings.{Line, bare, shown, coded, setting, settings, own_limit, marks, code, data_lines, all_data, head_lines, lines_of}
 
 -- an instruction has the word that means it, which a law says
 abbrev pub MeansOne : Type 0
 MeansOne = (word : ℕ) (instr : Instr) → word < 2 ^ 32 → (meaning word ≡ Some instr) ↔ (word_of instr ≡ word)
 
 -- the layout after all of these lines, of which none is a label
-abbrev pub after_all : List Statement → Layout → Option Layout
+abbrev pub after_all : List Line → Layout → Option Layout
 after_all [] d = Some d
-after_all (s ∷ ss) d = after [] s d >>= after_all ss
+after_all (l ∷ ls) d = after [] l.says d >>= after_all ls
 
 -- the limit that the lines of an image set for all its entries
 abbrev pub common_limit : Version → ℕ → ℕ
@@ -69,9 +65,9 @@ after_step : (o : Option Layout) (f g : Layout → Option Layout) (e : Layout) (
 after_step None f g e r same h = absurd (cc)
 after_step (Some d) f g e r same h = same d h
 
-after_both : (ss ts : List Statement) (d e : Layout) → after_all ss d ≡ Some e → after_all (ss ++ ts) d ≡ after_all ts e
+after_both : (ss ts : List Line) (d e : Layout) → after_all ss d ≡ Some e → after_all (ss ++ ts) d ≡ after_all ts e
 after_both [] ts d e h = ap (λ o. o >>= after_all ts) h
-after_both (s ∷ ss) ts d e h = after_step (after [] s d) (after_all ss) (after_all (ss ++ ts)) e (after_all ts e) (λ x k. after_both ss ts x e k) h
+after_both (s ∷ ss) ts d e h = after_step (after [] s.says d) (after_all ss) (after_all (ss ++ ts)) e (after_all ts e) (λ x k. after_both ss ts x e k) h
 
 -- a layout with these registers
 abbrev registers_in : Layout → List ℕ → Layout
@@ -189,17 +185,17 @@ abbrev grown : Layout → List ℕ → List (Option ℕ) → List ℕ → Layout
 grown d entries limits text = record d { entries = d.entries ++ entries; limits = d.limits ++ limits; text = d.text ++ text }
 
 -- a word and what is laid behind it
-word_laid : MeansOne → (d : Layout) (rest : List Statement) (w : ℕ) (es : List ℕ) (ls : List (Option ℕ)) (ws : List ℕ) → d.section ≡ section.Text → length d.text < 65536 → w < 2 ^ 32
+word_laid : MeansOne → (d : Layout) (rest : List Line) (address w : ℕ) (es : List ℕ) (ls : List (Option ℕ)) (ws : List ℕ) → d.section ≡ section.Text → length d.text < 65536 → w < 2 ^ 32
     → after_all rest (worded d w) ≡ Some (grown (worded d w) es ls ws)
-    → after_all (shown w (meaning w) ∷ rest) d ≡ Some (grown d es ls (w ∷ ws))
-word_laid law d rest w es ls ws text room fit h =
+    → after_all (coded address w ∷ rest) d ≡ Some (grown d es ls (w ∷ ws))
+word_laid law d rest address w es ls ws text room fit h =
     ap (λ o. o >>= after_all rest) (shown_laid law w (meaning w) d fit refl text ∙ one_word d w room)
     ∙ h ∙ ap (λ xs. Some (record d { entries = d.entries ++ es; limits = d.limits ++ ls; text = xs })) (append_assoc d.text (w ∷ []) ws)
 
 -- a mark and what is laid behind it
-mark_laid : (d : Layout) (rest : List Statement) (m : ℕ × Option ℕ) (es : List ℕ) (ls : List (Option ℕ)) (ws : List ℕ) → length d.text < 65536 → m.0 ≡ 4 * length d.text → Allows d.version m.1
+mark_laid : (d : Layout) (rest : List Line) (m : ℕ × Option ℕ) (es : List ℕ) (ls : List (Option ℕ)) (ws : List ℕ) → length d.text < 65536 → m.0 ≡ 4 * length d.text → Allows d.version m.1
     → after_all rest (marked d m) ≡ Some (grown (marked d m) es ls ws)
-    → after_all (say.Entry m.1 ∷ rest) d ≡ Some (grown d (m.0 ∷ es) (m.1 ∷ ls) ws)
+    → after_all (bare (say.Entry m.1) ∷ rest) d ≡ Some (grown d (m.0 ∷ es) (m.1 ∷ ls) ws)
 mark_laid d rest m es ls ws room same allowed h =
     ap (λ o. o >>= after_all rest) (one_entry d m room same allowed)
     ∙ h ∙ ap (λ xs. Some (record d { entries = xs; limits = (d.limits ++ (m.1 ∷ [])) ++ ls; text = d.text ++ ws })) (append_assoc d.entries (m.0 ∷ []) es)
@@ -216,7 +212,7 @@ code_laid law [] [] n d text len most fit placed =
 code_laid law (m ∷ ms) [] n d text len most fit placed =
     absurd (omega (arith, placed.0, placed.2))
 code_laid law [] (w ∷ ws) n d text len most fit placed =
-    word_laid law d (code (suc n) [] ws) w [] [] ws text (omega (arith, len, most)) fit.0
+    word_laid law d (code (suc n) [] ws) (4 * n) w [] [] ws text (omega (arith, len, most)) fit.0
     (code_laid law [] ws (suc n) (worded d w) text (longer d.text w n len) (omega (arith, most)) fit.1 tt)
 code_laid law (m ∷ ms) (w ∷ ws) n d text len most fit placed =
     elim (cases_eq m.0 (4 * n)) [
@@ -224,13 +220,13 @@ code_laid law (m ∷ ms) (w ∷ ws) n d text len most fit placed =
           let here : (m.0 == 4 * n) ≡ true = eq-eqb m.0 (4 * n) same in
           let more = top_marks d.version (4 * suc n) n (length ws) ms (next_marks d.version n m.0 (4 * (n + suc (length ws))) ms same placed.4) in
           rw here (
-          mark_laid d (shown w (meaning w) ∷ code (suc n) ms ws) m (entries_of ms) (limits_of ms) (w ∷ ws) (omega (arith, len, most)) (omega (arith, same, len)) placed.3
-          (word_laid law (marked d m) (code (suc n) ms ws) w (entries_of ms) (limits_of ms) ws text (omega (arith, len, most)) fit.0
+          mark_laid d (coded (4 * n) w ∷ code (suc n) ms ws) m (entries_of ms) (limits_of ms) (w ∷ ws) (omega (arith, len, most)) (omega (arith, same, len)) placed.3
+          (word_laid law (marked d m) (code (suc n) ms ws) (4 * n) w (entries_of ms) (limits_of ms) ws text (omega (arith, len, most)) fit.0
           (code_laid law ms ws (suc n) (worded (marked d m) w) text (longer d.text w n len) (omega (arith, most)) fit.1 more)))
       | inr other ↦
           let here : (m.0 == 4 * n) ≡ false = ne_eqb m.0 (4 * n) other in
           let next : 4 * suc n ≤ m.0 = omega (arith, placed.0, placed.1, other) in
-          rw here (word_laid law d (code (suc n) (m ∷ ms) ws) w (entries_of (m ∷ ms)) (limits_of (m ∷ ms)) ws text (omega (arith, len, most)) fit.0
+          rw here (word_laid law d (code (suc n) (m ∷ ms) ws) (4 * n) w (entries_of (m ∷ ms)) (limits_of (m ∷ ms)) ws text (omega (arith, len, most)) fit.0
           (code_laid law (m ∷ ms) ws (suc n) (worded d w) text (longer d.text w n len) (omega (arith, most)) fit.1 (top_marks d.version (4 * suc n) n (length ws) (m ∷ ms) (next, placed.1, placed.2, placed.3, placed.4))))
     ]
 
@@ -274,13 +270,13 @@ word_in_data : (d : Layout) (w : ℕ) → d.section ≡ section.Data → after [
 unfolding with_value
 word_in_data d w h = rw h refl
 
-data_laid : (d : Layout) (bytes ws : List ℕ) → d.section ≡ section.Data → length bytes + 4 * length ws ≤ 262144 → after_all (data_lines ws) (holding d bytes) ≡ Some (holding d (bytes ++ bytes_of_words ws))
+data_laid : (d : Layout) (n : ℕ) (bytes ws : List ℕ) → d.section ≡ section.Data → length bytes + 4 * length ws ≤ 262144 → after_all (data_lines n ws) (holding d bytes) ≡ Some (holding d (bytes ++ bytes_of_words ws))
 unfolding bytes_of_words
-data_laid d bytes [] inside room = rw (append-nil bytes) refl
-data_laid d bytes (w ∷ ws) inside room =
+data_laid d n bytes [] inside room = rw (append-nil bytes) refl
+data_laid d n bytes (w ∷ ws) inside room =
     let longer_by : length (bytes ++ bytes_of_word w) ≡ length bytes + 4 = length-append bytes (bytes_of_word w) ∙ ap (λ n. length bytes + n) (length-bytes_of_word w) in
-    ap (λ o. o >>= after_all (data_lines ws)) (word_in_data (holding d bytes) w inside ∙ one_datum d bytes w inside (omega (arith, room)))
-    ∙ data_laid d (bytes ++ bytes_of_word w) ws inside (omega (arith, room, longer_by))
+    ap (λ o. o >>= after_all (data_lines (n + 4) ws)) (word_in_data (holding d bytes) w inside ∙ one_datum d bytes w inside (omega (arith, room)))
+    ∙ data_laid d (n + 4) (bytes ++ bytes_of_word w) ws inside (omega (arith, room, longer_by))
     ∙ ap (λ xs. Some (holding d xs)) (append_assoc bytes (bytes_of_word w) (bytes_of_words ws))
 
 bytes_of_both : (xs ys : List ℕ) → bytes_of_words (xs ++ ys) ≡ bytes_of_words xs ++ bytes_of_words ys
@@ -300,8 +296,8 @@ fixed_laid d words inside first two =
 all_data_laid : (v : Version) (n : ℕ) (words : List ℕ) (d : Layout) → d.version ≡ Some v → d.section ≡ section.Data → d.data_from ≡ 0 → d.data_bytes ≡ [] → d.read_only ≡ 0 → n ≤ length words → length words ≤ 65536
     → after_all (all_data v n words) d ≡ Some (record d { data_bytes = bytes_of_words words; read_only = read_only_by v n })
 all_data_laid version.One n words d said inside first none free few most =
-    ap (λ (xs : List ℕ). after_all (data_lines words) (holding d xs)) none
-    ∙ data_laid d [] words inside (omega (arith, most))
+    ap (λ (xs : List ℕ). after_all (data_lines 1048576 words) (holding d xs)) none
+    ∙ data_laid d 1048576 [] words inside (omega (arith, most))
     ∙ ap (λ (q : ℕ). Some (record d { data_bytes = bytes_of_words words; read_only = q })) free
 all_data_laid version.Two n words d said inside first none free few most =
     let front = take n words in
@@ -310,11 +306,11 @@ all_data_laid version.Two n words d said inside first none free few most =
     let split : front ++ back ≡ words = take-append-drop n words in
     let sizes : length front + length back ≡ length words = sym (length-append front back) ∙ ap length split in
     let room : length (bytes_of_words front) + 4 * length back ≤ 262144 = omega (arith, length-bytes_of_words front, sizes, most) in
-    let fixed : after_all (data_lines front) d ≡ Some (holding d (bytes_of_words front)) =
-    ap (λ (xs : List ℕ). after_all (data_lines front) (holding d xs)) none ∙ data_laid d [] front inside (omega (arith, sizes, most)) in
-    after_both (data_lines front) (say.ReadOnly ∷ data_lines back) d (holding d (bytes_of_words front)) fixed
-    ∙ ap (λ o. o >>= after_all (data_lines back)) (fixed_laid d front inside first said)
-    ∙ data_laid (record d { read_only = length front }) (bytes_of_words front) back inside room
+    let fixed : after_all (data_lines 1048576 front) d ≡ Some (holding d (bytes_of_words front)) =
+    ap (λ (xs : List ℕ). after_all (data_lines 1048576 front) (holding d xs)) none ∙ data_laid d 1048576 [] front inside (omega (arith, sizes, most)) in
+    after_both (data_lines 1048576 front) (bare say.ReadOnly ∷ data_lines (1048576 + 4 * n) back) d (holding d (bytes_of_words front)) fixed
+    ∙ ap (λ o. o >>= after_all (data_lines (1048576 + 4 * n) back)) (fixed_laid d front inside first said)
+    ∙ data_laid (record d { read_only = length front }) (1048576 + 4 * n) (bytes_of_words front) back inside room
     ∙ ap (λ (xs : List ℕ). Some (record d { data_bytes = xs; read_only = length front })) (sym (bytes_of_both front back) ∙ ap bytes_of_words split)
     ∙ ap (λ (q : ℕ). Some (record d { data_bytes = bytes_of_words words; read_only = q })) count
 
@@ -334,7 +330,7 @@ unfolding lines_of
 image_laid law names known from img thirty each fixed few fit words_few above =
     let v = img.version in
     let ms = marks v img.entries img.limits in
-    let body = say.Data ∷ all_data v img.read_only img.words in
+    let body = bare say.Data ∷ all_data v img.read_only img.words in
     let d₁ = headed names known from img in
     let d₂ = registers_in d₁ img.registers in
     let d₃ = grown d₂ (entries_of ms) (limits_of ms) img.text in

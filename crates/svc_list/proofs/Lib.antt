@@ -1,6 +1,7 @@
 pub mod NamesBack
 pub mod OperandsBack
 pub mod LinesBack
+pub mod NotesBack
 pub mod LayoutsBack
 pub mod Keeping
 pub mod Printing

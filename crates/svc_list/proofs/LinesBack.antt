@@ -1,5 +1,5 @@
 -- A line is read back from its text.
-use Rattle.std.proofs.Common.{◌≡◌, ℕ, ◌+◌, ◌*◌, ◌-◌, ◌^◌, ◌<◌, ◌≤◌, Bool, true, false, not, ◌&&◌, ◌==◌, List, [], ◌∷◌, ◌++◌, length, Option, Some, None, is_some, refl, ap, sym, ◌∙◌, arith, decimal, codes}
+use Rattle.std.proofs.Common.{◌≡◌, ℕ, ◌^◌, ◌<◌, Bool, true, false, not, ◌&&◌, ◌==◌, List, [], ◌∷◌, ◌++◌, length, Option, Some, None, is_some, refl, ap, ◌∙◌, arith, decimal, codes}
 use Rattle.std.proofs.lemmas.Bool.{and_parts, not-true}
 use Rattle.std.proofs.lemmas.List.{append_assoc}
 use Rattle.svc_rv32i.specs.declared.instr.Register.{Register}
@@ -27,20 +27,17 @@ use Rattle.svc_draft.specs.declared.statement.Next.{Next}
 use Rattle.svc_draft.specs.declared.statement.Next.TheVariants as go
 use Rattle.svc_draft.specs.declared.statement.Statement.{Statement}
 use Rattle.svc_draft.specs.declared.statement.Statement.TheVariants as say
-use Rattle.svc_draft.specs.Options.{◌>>=◌}
-use Rattle.svc_operands.specs.Characters.{is_space, is_name, past, name_at, past_name, behind}
+use Rattle.svc_operands.specs.Characters.{is_name, past, past_name, behind}
 use Rattle.svc_draft.specs.Layouts.{Layout}
 use Rattle.svc_operands.specs.Names.{operation_named, immediate_named, load_named, store_named, comparison_named, shift_named, form_named}
 use Rattle.svc_list.specs.InstructionNames.{operation_name, immediate_name, load_name, store_name, comparison_name, shift_name}
-use Rattle.svc_operands.specs.Operands.{Read, first_register_at, register_at, number_at}
-use Rattle.svc_operands.specs.Values.{value_at}
 use Rattle.svc_instructions.specs.declared.couple.Couple.{Couple}
 use Rattle.svc_instructions.specs.Couples.{couple_named}
 use Rattle.svc_instructions.specs.Instructions.{operation_at, immediate_at, shift_at, comparison_at, load_at, store_at, lui_at, auipc_at, jal_to, jal_at, jalr_to, jalr_at, form_at, instruction_at}
-use Rattle.svc_asm.specs.Statements.{word_at, start_at, limit_at, version_at, limited_entry_at, entry_before, entry_at, setting_at, directive_at, alone_at, as_statement, statement_at, ended_at, end_at, line_at}
+use Rattle.svc_asm.specs.Statements.{word_at, start_at, limit_at, version_at, limited_entry_at, entry_before, entry_at, setting_at, directive_at, alone_at, as_statement, statement_at, ended_at, line_at}
 use Rattle.svc_asm.specs.DataLines.{first_at, part_at, next_at}
-use Rattle.svc_list.specs.Listings.{register_text, first_text, last_text, short_text, offset_text, address_text, upper_text, instruction_text, statement_text, IsShown, HasText, line_of}
-use Rattle.svc_list.proofs.NamesBack.{all_dense, stops, at_name, at_rest, no_colon}
+use Rattle.svc_list.specs.Listings.{first_text, last_text, short_text, offset_text, address_text, upper_text, instruction_text, statement_text, IsShown, HasText, Line, line_of}
+use Rattle.svc_list.proofs.NamesBack.{all_dense, stops, Ends, at_name, at_rest, no_colon}
 use Rattle.svc_list.proofs.OperandsBack.{spaced_name, decimal_some, spaced_number_back, spaced_value_back, spaced_register_back, first_back, short_back, branch_back, jump_back, upper_back, amount_back, address_back}
 
 -- the name of an instruction: no dot begins it
@@ -272,13 +269,13 @@ by_directive : (d : Layout) (w rest : List ℕ) → all_dense (46 ∷ w) ≡ tru
 unfolding statement_at
 by_directive d w rest h s = rw (at_name 46 w rest h s, at_rest 46 w rest h s) refl
 
-word_back : (d : Layout) (n : ℕ) (tail : List ℕ) → n < 2 ^ 32 → word_at d (32 ∷ (decimal n ++ (10 ∷ tail))) ≡ Some (say.Word n, 10 ∷ tail)
+word_back : (d : Layout) (n : ℕ) (rest tail : List ℕ) → n < 2 ^ 32 → Ends rest tail → word_at d (32 ∷ (decimal n ++ rest)) ≡ Some (say.Word n, rest)
 unfolding word_at
-word_back d n tail h = rw (spaced_value_back d n tail h) refl
+word_back d n rest tail h e = rw (spaced_value_back d n rest tail h e) refl
 
-start_back : (d : Layout) (n : ℕ) (tail : List ℕ) → n < 2 ^ 32 → start_at d (32 ∷ (decimal n ++ (10 ∷ tail))) ≡ Some (say.Start n, 10 ∷ tail)
+start_back : (d : Layout) (n : ℕ) (rest tail : List ℕ) → n < 2 ^ 32 → Ends rest tail → start_at d (32 ∷ (decimal n ++ rest)) ≡ Some (say.Start n, rest)
 unfolding start_at
-start_back d n tail h = rw (spaced_value_back d n tail h) refl
+start_back d n rest tail h e = rw (spaced_value_back d n rest tail h e) refl
 
 limit_back : (n : ℕ) (rest : List ℕ) → n < 2 ^ 32 → stops rest ≡ true → limit_at (32 ∷ (decimal n ++ rest)) ≡ Some (say.Limit n, rest)
 unfolding limit_at
@@ -304,44 +301,39 @@ entry_back n rest h s =
     ∙ entry_limited (decimal n) (32 ∷ (decimal n ++ rest)) (decimal_some n h)
     ∙ limited_entry_back n rest h s
 
-bare_entry_back : (tail : List ℕ) → entry_at (10 ∷ tail) ≡ Some (say.Entry None, 10 ∷ tail)
-unfolding entry_at past is_name
-bare_entry_back tail = refl
+bare_entry_back : (rest tail : List ℕ) → Ends rest tail → entry_at rest ≡ Some (say.Entry None, rest)
+unfolding entry_at
+bare_entry_back rest tail e = ap (λ (name : List ℕ). entry_before name rest) e.no_name
 
-setting_back : (d : Layout) (r : Register) (n : ℕ) (tail : List ℕ) → n < 2 ^ 32 → setting_at d ((first_text r ++ (32 ∷ decimal n)) ++ (10 ∷ tail)) ≡ Some (say.Register r n, 10 ∷ tail)
+setting_back : (d : Layout) (r : Register) (n : ℕ) (rest tail : List ℕ) → n < 2 ^ 32 → Ends rest tail → setting_at d ((first_text r ++ (32 ∷ decimal n)) ++ rest) ≡ Some (say.Register r n, rest)
 unfolding setting_at
-setting_back d r n tail h =
-    ap (setting_at d) (append_assoc (first_text r) (32 ∷ decimal n) (10 ∷ tail))
-    ∙ rw (first_back r (32 ∷ (decimal n ++ (10 ∷ tail))), spaced_value_back d n tail h) refl
+setting_back d r n rest tail h e =
+    ap (setting_at d) (append_assoc (first_text r) (32 ∷ decimal n) rest)
+    ∙ rw (first_back r (32 ∷ (decimal n ++ rest)), spaced_value_back d n rest tail h e) refl
 
--- nothing: the end of the line comes first
-nothing_back : (d : Layout) (tail : List ℕ) → statement_at d (10 ∷ tail) ≡ Some (say.Nothing, 10 ∷ tail)
-unfolding statement_at past is_name
-nothing_back d tail = refl
-
-pub statement_back : (d : Layout) (s : Statement) (tail : List ℕ) → HasText s → statement_at d (statement_text s ++ (10 ∷ tail)) ≡ Some (s, 10 ∷ tail)
+pub statement_back : (d : Layout) (s : Statement) (rest tail : List ℕ) → HasText s → Ends rest tail → statement_at d (statement_text s ++ rest) ≡ Some (s, rest)
 unfolding statement_text is_name directive_at
-statement_back d say.Nothing tail h = nothing_back d tail
-statement_back d say.Label tail h = absurd h
-statement_back d (say.Instruction instr) tail h = instruction_back d instr (10 ∷ tail) h refl
-statement_back d (say.Word n) tail h = by_directive d (codes "word") (32 ∷ (decimal n ++ (10 ∷ tail))) refl refl ∙ word_back d n tail h
-statement_back d say.Text tail h = by_directive d (codes "text") (10 ∷ tail) refl refl
-statement_back d say.Data tail h = by_directive d (codes "data") (10 ∷ tail) refl refl
-statement_back d (say.Version v) tail h = by_directive d (codes "svc_version") (32 ∷ (decimal (version_number v) ++ (10 ∷ tail))) refl refl ∙ version_back v (10 ∷ tail) refl
-statement_back d say.ReadOnly tail h = by_directive d (codes "svc_readonly") (10 ∷ tail) refl refl
-statement_back d (say.Entry None) tail h = by_directive d (codes "svc_entry") (10 ∷ tail) refl refl ∙ bare_entry_back tail
-statement_back d (say.Entry (Some n)) tail h = by_directive d (codes "svc_entry") (32 ∷ (decimal n ++ (10 ∷ tail))) refl refl ∙ entry_back n (10 ∷ tail) h refl
-statement_back d (say.Start n) tail h = by_directive d (codes "svc_start") (32 ∷ (decimal n ++ (10 ∷ tail))) refl refl ∙ start_back d n tail h
-statement_back d (say.Limit n) tail h = by_directive d (codes "svc_limit") (32 ∷ (decimal n ++ (10 ∷ tail))) refl refl ∙ limit_back n (10 ∷ tail) h refl
-statement_back d (say.Register r n) tail h = by_directive d (codes "svc_register") ((first_text r ++ (32 ∷ decimal n)) ++ (10 ∷ tail)) refl refl ∙ setting_back d r n tail h
-statement_back d (say.Pair i j) tail h = absurd h
-statement_back d (say.Section s) tail h = absurd h
-statement_back d (say.Zeros n) tail h = absurd h
-statement_back d (say.Align step) tail h = absurd h
-statement_back d (say.Open n) tail h = absurd h
-statement_back d (say.Value w n next) tail h = absurd h
-statement_back d (say.Symbol s) tail h = absurd h
-statement_back d (say.Common n step) tail h = absurd h
+statement_back d say.Nothing rest tail h e = absurd h
+statement_back d say.Label rest tail h e = absurd h
+statement_back d (say.Instruction instr) rest tail h e = instruction_back d instr rest h e.stop
+statement_back d (say.Word n) rest tail h e = by_directive d (codes "word") (32 ∷ (decimal n ++ rest)) refl refl ∙ word_back d n rest tail h e
+statement_back d say.Text rest tail h e = by_directive d (codes "text") rest refl e.stop
+statement_back d say.Data rest tail h e = by_directive d (codes "data") rest refl e.stop
+statement_back d (say.Version v) rest tail h e = by_directive d (codes "svc_version") (32 ∷ (decimal (version_number v) ++ rest)) refl refl ∙ version_back v rest e.stop
+statement_back d say.ReadOnly rest tail h e = by_directive d (codes "svc_readonly") rest refl e.stop
+statement_back d (say.Entry None) rest tail h e = by_directive d (codes "svc_entry") rest refl e.stop ∙ bare_entry_back rest tail e
+statement_back d (say.Entry (Some n)) rest tail h e = by_directive d (codes "svc_entry") (32 ∷ (decimal n ++ rest)) refl refl ∙ entry_back n rest h e.stop
+statement_back d (say.Start n) rest tail h e = by_directive d (codes "svc_start") (32 ∷ (decimal n ++ rest)) refl refl ∙ start_back d n rest tail h e
+statement_back d (say.Limit n) rest tail h e = by_directive d (codes "svc_limit") (32 ∷ (decimal n ++ rest)) refl refl ∙ limit_back n rest h e.stop
+statement_back d (say.Register r n) rest tail h e = by_directive d (codes "svc_register") ((first_text r ++ (32 ∷ decimal n)) ++ rest) refl refl ∙ setting_back d r n rest tail h e
+statement_back d (say.Pair i j) rest tail h e = absurd h
+statement_back d (say.Section s) rest tail h e = absurd h
+statement_back d (say.Zeros n) rest tail h e = absurd h
+statement_back d (say.Align step) rest tail h e = absurd h
+statement_back d (say.Open n) rest tail h e = absurd h
+statement_back d (say.Value w n next) rest tail h e = absurd h
+statement_back d (say.Symbol s) rest tail h e = absurd h
+statement_back d (say.Common n step) rest tail h e = absurd h
 
 -- a line that begins with no label
 unlabelled : (d : Layout) (text : List ℕ) → behind 58 (past_name text) ≡ None → line_at d text ≡ ended_at d text
@@ -375,43 +367,52 @@ instruction_stops (i.Fence rd rs1 imm) rest h s = absurd h
 instruction_stops i.Ecall rest h s = names_stop (codes "ecall") [] rest refl s
 instruction_stops i.Ebreak rest h s = names_stop (codes "ebreak") [] rest refl s
 
-statement_stops : (s : Statement) (tail : List ℕ) → HasText s → behind 58 (past_name (statement_text s ++ (10 ∷ tail))) ≡ None
+statement_stops : (s : Statement) (rest : List ℕ) → HasText s → stops rest ≡ true → behind 58 (past_name (statement_text s ++ rest)) ≡ None
 unfolding statement_text is_name past
-statement_stops say.Nothing tail h = refl
-statement_stops say.Label tail h = absurd h
-statement_stops (say.Instruction instr) tail h = instruction_stops instr (10 ∷ tail) h refl
-statement_stops (say.Word n) tail h = directive_stops (codes "word") (32 ∷ (decimal n ++ (10 ∷ tail))) refl refl
-statement_stops say.Text tail h = directive_stops (codes "text") (10 ∷ tail) refl refl
-statement_stops say.Data tail h = directive_stops (codes "data") (10 ∷ tail) refl refl
-statement_stops (say.Version v) tail h = directive_stops (codes "svc_version") (32 ∷ (decimal (version_number v) ++ (10 ∷ tail))) refl refl
-statement_stops say.ReadOnly tail h = directive_stops (codes "svc_readonly") (10 ∷ tail) refl refl
-statement_stops (say.Entry None) tail h = directive_stops (codes "svc_entry") (10 ∷ tail) refl refl
-statement_stops (say.Entry (Some n)) tail h = directive_stops (codes "svc_entry") (32 ∷ (decimal n ++ (10 ∷ tail))) refl refl
-statement_stops (say.Start n) tail h = directive_stops (codes "svc_start") (32 ∷ (decimal n ++ (10 ∷ tail))) refl refl
-statement_stops (say.Limit n) tail h = directive_stops (codes "svc_limit") (32 ∷ (decimal n ++ (10 ∷ tail))) refl refl
-statement_stops (say.Register r n) tail h = directive_stops (codes "svc_register") ((first_text r ++ (32 ∷ decimal n)) ++ (10 ∷ tail)) refl refl
-statement_stops (say.Pair i j) tail h = absurd h
-statement_stops (say.Section s) tail h = absurd h
-statement_stops (say.Zeros n) tail h = absurd h
-statement_stops (say.Align step) tail h = absurd h
-statement_stops (say.Open n) tail h = absurd h
-statement_stops (say.Value w n next) tail h = absurd h
-statement_stops (say.Symbol s) tail h = absurd h
-statement_stops (say.Common n step) tail h = absurd h
+statement_stops say.Nothing rest h k = absurd h
+statement_stops say.Label rest h k = absurd h
+statement_stops (say.Instruction instr) rest h k = instruction_stops instr rest h k
+statement_stops (say.Word n) rest h k = directive_stops (codes "word") (32 ∷ (decimal n ++ rest)) refl refl
+statement_stops say.Text rest h k = directive_stops (codes "text") rest refl k
+statement_stops say.Data rest h k = directive_stops (codes "data") rest refl k
+statement_stops (say.Version v) rest h k = directive_stops (codes "svc_version") (32 ∷ (decimal (version_number v) ++ rest)) refl refl
+statement_stops say.ReadOnly rest h k = directive_stops (codes "svc_readonly") rest refl k
+statement_stops (say.Entry None) rest h k = directive_stops (codes "svc_entry") rest refl k
+statement_stops (say.Entry (Some n)) rest h k = directive_stops (codes "svc_entry") (32 ∷ (decimal n ++ rest)) refl refl
+statement_stops (say.Start n) rest h k = directive_stops (codes "svc_start") (32 ∷ (decimal n ++ rest)) refl refl
+statement_stops (say.Limit n) rest h k = directive_stops (codes "svc_limit") (32 ∷ (decimal n ++ rest)) refl refl
+statement_stops (say.Register r n) rest h k = directive_stops (codes "svc_register") ((first_text r ++ (32 ∷ decimal n)) ++ rest) refl refl
+statement_stops (say.Pair i j) rest h k = absurd h
+statement_stops (say.Section s) rest h k = absurd h
+statement_stops (say.Zeros n) rest h k = absurd h
+statement_stops (say.Align step) rest h k = absurd h
+statement_stops (say.Open n) rest h k = absurd h
+statement_stops (say.Value w n next) rest h k = absurd h
+statement_stops (say.Symbol s) rest h k = absurd h
+statement_stops (say.Common n step) rest h k = absurd h
+
+-- a line whose comment ends it
+abbrev pub Trails : List ℕ → Type 0
+Trails note = (tail : List ℕ) → Ends (note ++ (10 ∷ tail)) tail
+
+abbrev pub IsRead : Line → Type 0
+IsRead l = HasText l.says × Trails l.note
 
 -- a line is read as what it says
-pub line_back : (d : Layout) (s : Statement) (tail : List ℕ) → HasText s → line_at d (line_of s ++ tail) ≡ Some (s, tail)
-unfolding ended_at end_at past
-line_back d s tail h =
-    ap (line_at d) (append_assoc (statement_text s) (10 ∷ []) tail)
-    ∙ unlabelled d (statement_text s ++ (10 ∷ tail)) (statement_stops s tail h)
-    ∙ rw (statement_back d s tail h) refl
+pub line_back : (d : Layout) (l : Line) (tail : List ℕ) → IsRead l → line_at d (line_of l ++ tail) ≡ Some (l.says, tail)
+unfolding ended_at
+line_back d l tail h =
+    let rest = l.note ++ (10 ∷ tail) in
+    let ends = h.1 tail in
+    ap (line_at d) (three (statement_text l.says) l.note (10 ∷ []) tail)
+    ∙ unlabelled d (statement_text l.says ++ rest) (statement_stops l.says rest h.0 ends.stop)
+    ∙ rw (statement_back d l.says rest tail h.0 ends, ends.over) refl
 
 -- where a line is read next, the next part is that line
 first_found : (d : Layout) (text : List ℕ) (read : Statement × List ℕ) → line_at d text ≡ Some read → first_at d text ≡ Some read
 first_found d text read h = rw h refl
 
-pub part_back : (d : Layout) (s : Statement) (tail : List ℕ) → d.next ≡ go.Line → HasText s → next_at d (line_of s ++ tail) ≡ Some (s, tail)
+pub part_back : (d : Layout) (l : Line) (tail : List ℕ) → d.next ≡ go.Line → IsRead l → next_at d (line_of l ++ tail) ≡ Some (l.says, tail)
 unfolding next_at
-part_back d s tail line h =
-    ap (λ (n : Next). part_at n d (line_of s ++ tail)) line ∙ first_found d (line_of s ++ tail) (s, tail) (line_back d s tail h)
+part_back d l tail line h =
+    ap (λ (n : Next). part_at n d (line_of l ++ tail)) line ∙ first_found d (line_of l ++ tail) (l.says, tail) (line_back d l tail h)

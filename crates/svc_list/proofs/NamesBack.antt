@@ -1,11 +1,13 @@
 -- A name or a number is read back from its text.
-use Rattle.std.proofs.Common.{◌≡◌, ℕ, zero, suc, ◌+◌, ◌-◌, ◌*◌, ◌/◌, ◌%◌, ◌^◌, ◌<◌, ◌≤◌, Bool, true, false, not, ◌&&◌, ◌==◌, nat_lt, eqb, List, [], ◌∷◌, ◌++◌, length, Some, None, refl, ap, sym, ◌∙◌, arith, cond, if◌then◌else◌, decimal, take_while, option_map, slice_index}
+use Rattle.std.proofs.Common.{◌≡◌, ℕ, zero, suc, ◌+◌, ◌*◌, ◌/◌, ◌%◌, ◌^◌, ◌<◌, Bool, true, false, not, ◌&&◌, ◌==◌, nat_lt, List, [], ◌∷◌, ◌++◌, length, Some, None, refl, ap, ◌∙◌, arith, decimal, take_while, slice_index}
 use Rattle.std.proofs.lemmas.List.Sums.{take_while-cons}
 use Rattle.std.proofs.lemmas.Bool.{and_parts, and_from, not-true, le-leb, ne_eqb, agree_below_at}
 use Rattle.std.proofs.lemmas.Fmt.{decimal_by_steps}
 use Rattle.std.proofs.lemmas.List.{length-append}
 use Rattle.svc_draft.specs.Options.{◌>>=◌}
-use Rattle.svc_operands.specs.Characters.{is_space, is_name, past, name_at, past_name, behind, digit, push_value, push_digit, value_on, value_of, behind_zero, number_of}
+use Rattle.svc_operands.specs.Characters.{is_space, is_name, past, name_at, past_name, behind, digit, push_digit, value_on, behind_zero, number_of}
+use Rattle.svc_operands.specs.Values.{sum_from}
+use Rattle.svc_asm.specs.Statements.{end_at}
 
 -- a character of a name, which no space is
 abbrev pub dense : ℕ → Bool
@@ -48,6 +50,13 @@ at_name c w rest h k = ap (take_while is_name) (no_space c w rest h) ∙ name_fr
 
 pub at_rest : (c : ℕ) (w rest : List ℕ) → all_dense (c ∷ w) ≡ true → stops rest ≡ true → past_name ((c ∷ w) ++ rest) ≡ rest
 at_rest c w rest h k = ap (past is_name) (no_space c w rest h) ∙ name_behind (c ∷ w) rest h k
+
+-- the line ends here, maybe behind a comment, and this follows it
+pub record Ends (rest tail : List ℕ) : Type 0 where
+  pub stop : stops rest ≡ true
+  pub no_name : name_at rest ≡ []
+  pub no_sign : (n : ℕ) → sum_from n rest (past is_space rest) ≡ Some (n, rest)
+  pub over : end_at rest ≡ Some tail
 
 pub no_colon : (rest : List ℕ) → stops rest ≡ true → behind 58 rest ≡ None
 no_colon [] k = refl

@@ -1,5 +1,5 @@
 -- Operands are read back from their text.
-use Rattle.std.proofs.Common.{◌≡◌, ℕ, zero, suc, ◌+◌, ◌-◌, ◌*◌, ◌/◌, ◌%◌, ◌^◌, ◌<◌, ◌≤◌, Bool, true, false, not, ◌&&◌, ◌==◌, nat_lt, nat_le, eqb, List, [], ◌∷◌, ◌++◌, length, Some, None, ◌⊎◌, refl, ap, sym, ◌∙◌, subst, inl, inr, arith, cond, if◌then◌else◌, decimal, codes, option_map}
+use Rattle.std.proofs.Common.{◌≡◌, ℕ, suc, ◌-◌, ◌*◌, ◌/◌, ◌%◌, ◌^◌, ◌<◌, ◌≤◌, Bool, true, false, ◌==◌, nat_lt, nat_le, List, [], ◌∷◌, ◌++◌, length, Some, None, refl, ap, ◌∙◌, subst, inl, inr, arith, decimal}
 use Rattle.std.proofs.lemmas.Bool.{le-leb, lt-leb, cases_lt, cases_eq, ne_eqb}
 use Rattle.std.proofs.lemmas.List.{append_assoc}
 use Rattle.svc_rv32i.specs.declared.instr.Register.{Register}
@@ -8,15 +8,14 @@ use Rattle.svc_rv32i.specs.declared.instr.Long.{Long}
 use Rattle.svc_rv32i.specs.declared.instr.ShiftAmount.{ShiftAmount}
 use Rattle.svc_rv32i.specs.Meaning.{register, short, long}
 use Rattle.svc_operands.specs.declared.operands.Signed.{Signed}
-use Rattle.svc_draft.specs.Options.{◌>>=◌}
-use Rattle.svc_operands.specs.Characters.{is_space, is_name, past, found, name_at, past_name, behind, mark_at, value_on, value_of, number_of}
-use Rattle.svc_draft.specs.Layouts.{Layout, address_of}
-use Rattle.svc_operands.specs.Names.{or_else, in_file, numbered, abi_named, register_named}
-use Rattle.svc_operands.specs.Operands.{register_at, first_register_at, number_at, behind_sign, signed_from, signed_at, offset_from, offset_at, wrapped, short_of, halved, branch_of, jump_of, upper_of, amount, amount_of, number_short_at, branch_at, jump_at, number_upper_at, amount_at}
+use Rattle.svc_operands.specs.Characters.{is_name, past, name_at, past_name, behind, mark_at, value_on, value_of, number_of}
+use Rattle.svc_draft.specs.Layouts.{Layout}
+use Rattle.svc_operands.specs.Names.{numbered, register_named}
+use Rattle.svc_operands.specs.Operands.{register_at, first_register_at, number_at, behind_sign, signed_from, signed_at, offset_at, wrapped, short_of, halved, branch_of, jump_of, upper_of, amount, amount_of, number_short_at, branch_at, jump_at, number_upper_at, amount_at}
 use Rattle.svc_operands.specs.Values.{plain_term_at, term_from, term_at, value_at, short_at, upper_at, address_at}
-use Rattle.svc_list.specs.Listings.{register_text, first_text, last_text, signed_text, short_text, offset_text, address_text, upper_text}
+use Rattle.svc_list.specs.Listings.{register_text, first_text, short_text, offset_text, address_text, upper_text}
 use Rattle.svc_operands.proofs.Same.{same_register, same_short, same_long, same_amount}
-use Rattle.svc_list.proofs.NamesBack.{all_dense, stops, at_name, at_rest, no_space, is_digit, digit_no_minus, all_digits, first_digit, other_digits, digits_dense, Numeral, numerals}
+use Rattle.svc_list.proofs.NamesBack.{all_dense, stops, Ends, at_name, at_rest, no_space, is_digit, digit_no_minus, all_digits, first_digit, digits_dense, numerals}
 
 number_of_decimal : (n : ℕ) → n < 2 ^ 32 → number_of (decimal n) ≡ Some n
 number_of_decimal n h = (numerals n (omega arith) h).reads
@@ -67,11 +66,11 @@ term_digits d (c ∷ ds) rest h k =
     ap (term_from d) here ∙ rw minus refl
 
 -- a value, behind which the line ends
-pub spaced_value_back : (d : Layout) (n : ℕ) (tail : List ℕ) → n < 2 ^ 32 → value_at d (32 ∷ (decimal n ++ (10 ∷ tail))) ≡ Some (n, 10 ∷ tail)
-unfolding value_at past is_name
-spaced_value_back d n tail h =
+pub spaced_value_back : (d : Layout) (n : ℕ) (rest tail : List ℕ) → n < 2 ^ 32 → Ends rest tail → value_at d (32 ∷ (decimal n ++ rest)) ≡ Some (n, rest)
+unfolding value_at
+spaced_value_back d n rest tail h e =
     let facts = numerals n (omega arith) h in
-    rw (term_digits d (decimal n) (10 ∷ tail) facts.digits facts.some, plain_back d n (10 ∷ tail) h refl) refl
+    rw (term_digits d (decimal n) rest facts.digits facts.some, plain_back d n rest h e.stop) (e.no_sign n)
 
 value_is : (ds : List ℕ) → 0 < length ds → value_of 10 ds ≡ value_on 10 0 ds
 value_is [] h = absurd (omega (arith, h))

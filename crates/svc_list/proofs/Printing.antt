@@ -1,14 +1,13 @@
 -- The parts of a listing, one after another.
-use Rattle.std.proofs.Common.{◌≡◌, ℕ, zero, suc, ◌+◌, ◌*◌, ◌<◌, ◌≤◌, Bool, true, false, ◌==◌, List, [], ◌∷◌, ◌++◌, length, take, drop, slice_index, Option, Some, None, refl, ap, sym, ◌∙◌, arith, add-one, drop-cons, append_assoc, flat_map, ◌≢◌}
+use Rattle.std.proofs.Common.{◌≡◌, ℕ, zero, suc, ◌+◌, ◌*◌, ◌<◌, ◌≤◌, true, false, ◌==◌, List, [], ◌∷◌, ◌++◌, length, take, drop, slice_index, Option, refl, ap, sym, ◌∙◌, arith, add-one, drop-cons, append_assoc}
 use Rattle.std.proofs.lemmas.Bool.{eq-eqb, ne_eqb}
 use Rattle.std.proofs.lemmas.List.{append-nil}
-use Rattle.svc_rv32i.specs.Meaning.{register, meaning}
+use Rattle.svc_rv32i.specs.Meaning.{register}
 use Rattle.svc_image.specs.declared.version.Version.{Version}
 use Rattle.svc_image.specs.declared.version.Version.TheVariants as version
 use Rattle.svc_image.specs.Image.{Image}
-use Rattle.svc_draft.specs.declared.statement.Statement.{Statement}
 use Rattle.svc_draft.specs.declared.statement.Statement.TheVariants as say
-use Rattle.svc_list.specs.Listings.{line_of, text_of, shown, setting, settings, own_limit, marks, code, data_lines, all_data, head_lines, lines_of, listing_of}
+use Rattle.svc_list.specs.Listings.{Line, bare, line_of, text_of, coded, datum, setting, settings, own_limit, marks, code, data_lines, all_data, head_lines, lines_of, listing_of}
 
 -- what is put, and what is left to put, is the whole
 pub goes_on : (out new line part rest whole : List ℕ) → new ≡ out ++ line → part ≡ line ++ rest → out ++ part ≡ whole → new ++ rest ≡ whole
@@ -24,15 +23,15 @@ none_left [] (suc i) h = refl
 none_left (x ∷ xs) zero h = absurd (omega (arith, h))
 none_left (x ∷ xs) (suc i) h = none_left xs i (omega (arith, h))
 
-pub data_step : (words : List ℕ) (i : ℕ) → i < length words → text_of (data_lines (drop i words)) ≡ line_of (say.Word (slice_index words i)) ++ text_of (data_lines (drop (i + 1) words))
+pub data_step : (words : List ℕ) (i n : ℕ) → i < length words → text_of (data_lines n (drop i words)) ≡ line_of (datum n (slice_index words i)) ++ text_of (data_lines (n + 4) (drop (i + 1) words))
 unfolding text_of
-data_step words i h = rw (add-one, drop-cons words i 0) refl
+data_step words i n h = rw (add-one, drop-cons words i 0) refl
 
-pub data_none : (words : List ℕ) (i : ℕ) → length words ≤ i → text_of (data_lines (drop i words)) ≡ []
+pub data_none : (words : List ℕ) (i n : ℕ) → length words ≤ i → text_of (data_lines n (drop i words)) ≡ []
 unfolding text_of
-data_none words i h = rw (none_left words i h) refl
+data_none words i n h = rw (none_left words i h) refl
 
-text_both : (ss ts : List Statement) → text_of (ss ++ ts) ≡ text_of ss ++ text_of ts
+text_both : (ss ts : List Line) → text_of (ss ++ ts) ≡ text_of ss ++ text_of ts
 unfolding text_of
 text_both [] ts = refl
 text_both (s ∷ ss) ts = ap (λ (xs : List ℕ). line_of s ++ xs) (text_both ss ts) ∙ sym (append_assoc (line_of s) (text_of ss) (text_of ts))
@@ -45,20 +44,20 @@ unfolding text_of
 settings_none values i n h = rw (none_left values i h) refl
 
 -- a word at which an entry stands, and one at which none stands
-pub entry_step : (n : ℕ) (m : ℕ × Option ℕ) (w : ℕ) (ms : List (ℕ × Option ℕ)) (ws : List ℕ) → m.0 ≡ 4 * n → text_of (code n (m ∷ ms) (w ∷ ws)) ≡ line_of (say.Entry m.1) ++ (line_of (shown w (meaning w)) ++ text_of (code (suc n) ms ws))
+pub entry_step : (n : ℕ) (m : ℕ × Option ℕ) (w : ℕ) (ms : List (ℕ × Option ℕ)) (ws : List ℕ) → m.0 ≡ 4 * n → text_of (code n (m ∷ ms) (w ∷ ws)) ≡ line_of (bare (say.Entry m.1)) ++ (line_of (coded (4 * n) w) ++ text_of (code (suc n) ms ws))
 unfolding text_of code
 entry_step n m w ms ws same = let here : (m.0 == 4 * n) ≡ true = eq-eqb m.0 (4 * n) same in rw here refl
 
-other_step : (n : ℕ) (m : ℕ × Option ℕ) (w : ℕ) (ms : List (ℕ × Option ℕ)) (ws : List ℕ) → (m.0 ≡ 4 * n → ⊥) → text_of (code n (m ∷ ms) (w ∷ ws)) ≡ line_of (shown w (meaning w)) ++ text_of (code (suc n) (m ∷ ms) ws)
+other_step : (n : ℕ) (m : ℕ × Option ℕ) (w : ℕ) (ms : List (ℕ × Option ℕ)) (ws : List ℕ) → (m.0 ≡ 4 * n → ⊥) → text_of (code n (m ∷ ms) (w ∷ ws)) ≡ line_of (coded (4 * n) w) ++ text_of (code (suc n) (m ∷ ms) ws)
 unfolding text_of code
 other_step n m w ms ws other = let here : (m.0 == 4 * n) ≡ false = ne_eqb m.0 (4 * n) other in rw here refl
 
-last_step : (n w : ℕ) (ws : List ℕ) → text_of (code n [] (w ∷ ws)) ≡ line_of (shown w (meaning w)) ++ text_of (code (suc n) [] ws)
+last_step : (n w : ℕ) (ws : List ℕ) → text_of (code n [] (w ∷ ws)) ≡ line_of (coded (4 * n) w) ++ text_of (code (suc n) [] ws)
 unfolding text_of code
 last_step n w ws = refl
 
 -- no entry stands at the word
-pub none_step : (v : Version) (es ls : List ℕ) (n w : ℕ) (ws : List ℕ) → ((e l : ℕ) (fs ks : List ℕ) → es ≡ e ∷ fs → ls ≡ l ∷ ks → e ≡ 4 * n → ⊥) → text_of (code n (marks v es ls) (w ∷ ws)) ≡ line_of (shown w (meaning w)) ++ text_of (code (suc n) (marks v es ls) ws)
+pub none_step : (v : Version) (es ls : List ℕ) (n w : ℕ) (ws : List ℕ) → ((e l : ℕ) (fs ks : List ℕ) → es ≡ e ∷ fs → ls ≡ l ∷ ks → e ≡ 4 * n → ⊥) → text_of (code n (marks v es ls) (w ∷ ws)) ≡ line_of (coded (4 * n) w) ++ text_of (code (suc n) (marks v es ls) ws)
 none_step v [] ls n w ws other = last_step n w ws
 none_step v (e ∷ es) [] n w ws other = last_step n w ws
 none_step v (e ∷ es) (l ∷ ls) n w ws other = other_step n (e, own_limit v l) w (marks v es ls) ws (λ same. other e l es ls refl refl same)
@@ -73,17 +72,17 @@ unfolding text_of
 code_none ms words i n h = rw (none_left words i h, code_over n ms) refl
 
 -- the data's lines where the first ones are read-only
-pub fixed_data : (front back : List ℕ) → text_of (data_lines front ++ (say.ReadOnly ∷ data_lines back)) ≡ text_of (data_lines front) ++ (line_of say.ReadOnly ++ text_of (data_lines back))
+pub fixed_data : (n : ℕ) (front back : List ℕ) → text_of (data_lines 1048576 front ++ (bare say.ReadOnly ∷ data_lines (1048576 + 4 * n) back)) ≡ text_of (data_lines 1048576 front) ++ (line_of (bare say.ReadOnly) ++ text_of (data_lines (1048576 + 4 * n) back))
 unfolding text_of
-fixed_data front back = text_both (data_lines front) (say.ReadOnly ∷ data_lines back)
+fixed_data n front back = text_both (data_lines 1048576 front) (bare say.ReadOnly ∷ data_lines (1048576 + 4 * n) back)
 
 -- the listing, part by part
-pub listing_parts : (img : Image) → listing_of img ≡ text_of (head_lines img.version (slice_index img.limits 0) img.start) ++ (text_of (settings 1 img.registers) ++ (text_of (code 0 (marks img.version img.entries img.limits) img.text) ++ (line_of say.Data ++ text_of (all_data img.version img.read_only img.words))))
+pub listing_parts : (img : Image) → listing_of img ≡ text_of (head_lines img.version (slice_index img.limits 0) img.start) ++ (text_of (settings 1 img.registers) ++ (text_of (code 0 (marks img.version img.entries img.limits) img.text) ++ (line_of (bare say.Data) ++ text_of (all_data img.version img.read_only img.words))))
 unfolding listing_of lines_of text_of
 listing_parts img =
     let head = head_lines img.version (slice_index img.limits 0) img.start in
     let words = code 0 (marks img.version img.entries img.limits) img.text in
-    let body = say.Data ∷ all_data img.version img.read_only img.words in
+    let body = bare say.Data ∷ all_data img.version img.read_only img.words in
     text_both head (settings 1 img.registers ++ (words ++ body))
     ∙ ap (λ (xs : List ℕ). text_of head ++ xs) (text_both (settings 1 img.registers) (words ++ body)
     ∙ ap (λ (xs : List ℕ). text_of (settings 1 img.registers) ++ xs) (text_both words body))
@@ -108,11 +107,11 @@ pub setting_zero : (o : List ℕ) (n v : ℕ) → v ≡ 0 → o ≡ o ++ text_of
 unfolding text_of setting
 setting_zero o n v none = let here : (v == 0) ≡ true = eq-eqb v 0 none in rw here (sym (append-nil o))
 
-pub setting_some : (o p : List ℕ) (n v : ℕ) → (v ≡ 0 → ⊥) → p ≡ o ++ line_of (say.Register (register n) v) → p ≡ o ++ text_of (setting n v)
+pub setting_some : (o p : List ℕ) (n v : ℕ) → (v ≡ 0 → ⊥) → p ≡ o ++ line_of (bare (say.Register (register n) v)) → p ≡ o ++ text_of (setting n v)
 unfolding text_of setting
 setting_some o p n v some put =
     let here : (v == 0) ≡ false = ne_eqb v 0 some in
-    rw here (put ∙ ap (λ (xs : List ℕ). o ++ xs) (sym (append-nil (line_of (say.Register (register n) v)))))
+    rw here (put ∙ ap (λ (xs : List ℕ). o ++ xs) (sym (append-nil (line_of (bare (say.Register (register n) v))))))
 
 -- two and three lines put
 two_lines : (o o₁ o₂ a b : List ℕ) → o₁ ≡ o ++ a → o₂ ≡ o₁ ++ b → o₂ ≡ o ++ (a ++ (b ++ []))
@@ -124,29 +123,29 @@ three_lines o o₁ o₂ o₃ a b c e₁ e₂ e₃ =
     two_lines o₁ o₂ o₃ b c e₂ e₃ ∙ ap (λ (xs : List ℕ). xs ++ (b ++ (c ++ []))) e₁ ∙ append_assoc o a (b ++ (c ++ []))
 
 -- the lines before the registers, in each version
-pub head_one : (v : Version) (limit start : ℕ) (o o₁ o₂ o₃ : List ℕ) → v ≡ version.One → o₁ ≡ o ++ line_of (say.Version v) → o₂ ≡ o₁ ++ line_of (say.Limit limit) → o₃ ≡ o₂ ++ line_of (say.Start start) → o₃ ≡ o ++ text_of (head_lines v limit start)
+pub head_one : (v : Version) (limit start : ℕ) (o o₁ o₂ o₃ : List ℕ) → v ≡ version.One → o₁ ≡ o ++ line_of (bare (say.Version v)) → o₂ ≡ o₁ ++ line_of (bare (say.Limit limit)) → o₃ ≡ o₂ ++ line_of (bare (say.Start start)) → o₃ ≡ o ++ text_of (head_lines v limit start)
 unfolding text_of
 head_one v limit start o o₁ o₂ o₃ one e₁ e₂ e₃ =
-    let first : o₁ ≡ o ++ line_of (say.Version version.One) = e₁ ∙ ap (λ (x : Version). o ++ line_of (say.Version x)) one in
-    three_lines o o₁ o₂ o₃ (line_of (say.Version version.One)) (line_of (say.Limit limit)) (line_of (say.Start start)) first e₂ e₃
+    let first : o₁ ≡ o ++ line_of (bare (say.Version version.One)) = e₁ ∙ ap (λ (x : Version). o ++ line_of (bare (say.Version x))) one in
+    three_lines o o₁ o₂ o₃ (line_of (bare (say.Version version.One))) (line_of (bare (say.Limit limit))) (line_of (bare (say.Start start))) first e₂ e₃
     ∙ ap (λ (x : Version). o ++ text_of (head_lines x limit start)) (sym one)
 
-pub head_two : (v : Version) (limit start : ℕ) (o o₁ o₂ : List ℕ) → v ≡ version.Two → o₁ ≡ o ++ line_of (say.Version v) → o₂ ≡ o₁ ++ line_of (say.Start start) → o₂ ≡ o ++ text_of (head_lines v limit start)
+pub head_two : (v : Version) (limit start : ℕ) (o o₁ o₂ : List ℕ) → v ≡ version.Two → o₁ ≡ o ++ line_of (bare (say.Version v)) → o₂ ≡ o₁ ++ line_of (bare (say.Start start)) → o₂ ≡ o ++ text_of (head_lines v limit start)
 unfolding text_of
 head_two v limit start o o₁ o₂ two e₁ e₂ =
-    let first : o₁ ≡ o ++ line_of (say.Version version.Two) = e₁ ∙ ap (λ (x : Version). o ++ line_of (say.Version x)) two in
-    two_lines o o₁ o₂ (line_of (say.Version version.Two)) (line_of (say.Start start)) first e₂
+    let first : o₁ ≡ o ++ line_of (bare (say.Version version.Two)) = e₁ ∙ ap (λ (x : Version). o ++ line_of (bare (say.Version x))) two in
+    two_lines o o₁ o₂ (line_of (bare (say.Version version.Two))) (line_of (bare (say.Start start))) first e₂
     ∙ ap (λ (x : Version). o ++ text_of (head_lines x limit start)) (sym two)
 
 -- data of which the first words are read-only
-pub split_put : (n : ℕ) (words front back o o₁ o₂ o₃ : List ℕ) → front ≡ take n words → back ≡ drop n words → o₁ ≡ o ++ text_of (data_lines front) → o₂ ≡ o₁ ++ line_of say.ReadOnly → o₃ ≡ o₂ ++ text_of (data_lines back) → o₃ ≡ o ++ text_of (all_data version.Two n words)
+pub split_put : (n : ℕ) (words front back o o₁ o₂ o₃ : List ℕ) → front ≡ take n words → back ≡ drop n words → o₁ ≡ o ++ text_of (data_lines 1048576 front) → o₂ ≡ o₁ ++ line_of (bare say.ReadOnly) → o₃ ≡ o₂ ++ text_of (data_lines (1048576 + 4 * n) back) → o₃ ≡ o ++ text_of (all_data version.Two n words)
 split_put n words front back o o₁ o₂ o₃ f b e₁ e₂ e₃ =
-    e₃ ∙ ap (λ (xs : List ℕ). xs ++ text_of (data_lines back)) e₂ ∙ append_assoc o₁ (line_of say.ReadOnly) (text_of (data_lines back))
-    ∙ ap (λ (xs : List ℕ). xs ++ (line_of say.ReadOnly ++ text_of (data_lines back))) e₁
-    ∙ append_assoc o (text_of (data_lines front)) (line_of say.ReadOnly ++ text_of (data_lines back))
-    ∙ ap (λ (xs : List ℕ). o ++ xs) (sym (fixed_data front back))
-    ∙ ap (λ (xs : List ℕ). o ++ text_of (data_lines xs ++ (say.ReadOnly ∷ data_lines back))) f
-    ∙ ap (λ (xs : List ℕ). o ++ text_of (data_lines (take n words) ++ (say.ReadOnly ∷ data_lines xs))) b
+    e₃ ∙ ap (λ (xs : List ℕ). xs ++ text_of (data_lines (1048576 + 4 * n) back)) e₂ ∙ append_assoc o₁ (line_of (bare say.ReadOnly)) (text_of (data_lines (1048576 + 4 * n) back))
+    ∙ ap (λ (xs : List ℕ). xs ++ (line_of (bare say.ReadOnly) ++ text_of (data_lines (1048576 + 4 * n) back))) e₁
+    ∙ append_assoc o (text_of (data_lines 1048576 front)) (line_of (bare say.ReadOnly) ++ text_of (data_lines (1048576 + 4 * n) back))
+    ∙ ap (λ (xs : List ℕ). o ++ xs) (sym (fixed_data n front back))
+    ∙ ap (λ (xs : List ℕ). o ++ text_of (data_lines 1048576 xs ++ (bare say.ReadOnly ∷ data_lines (1048576 + 4 * n) back))) f
+    ∙ ap (λ (xs : List ℕ). o ++ text_of (data_lines 1048576 (take n words) ++ (bare say.ReadOnly ∷ data_lines (1048576 + 4 * n) xs))) b
 
 -- a word, and the rest of the text
 pub code_step : (ms left : List (ℕ × Option ℕ)) (words out new whole : List ℕ) (i : ℕ) → i < length words
@@ -159,17 +158,19 @@ code_step ms left words out new whole i low step so_far =
 
 -- a word behind the mark of its entry, and one where no entry stands
 pub mark_put : (v : Version) (n pc word limit : ℕ) (entries limits es ls words o o₁ o₂ : List ℕ) → pc ≡ 4 * n → entries ≡ pc ∷ es → limits ≡ limit ∷ ls
-    → o₁ ≡ o ++ line_of (say.Entry (own_limit v limit)) → o₂ ≡ o₁ ++ line_of (shown word (meaning word))
+    → o₁ ≡ o ++ line_of (bare (say.Entry (own_limit v limit))) → o₂ ≡ o₁ ++ line_of (coded pc word)
     → o₂ ++ text_of (code (suc n) (marks v es ls) words) ≡ o ++ text_of (code n (marks v entries limits) (word ∷ words))
 mark_put v n pc word limit entries limits es ls words o o₁ o₂ same f g e₁ e₂ =
+    let at : line_of (coded pc word) ≡ line_of (coded (4 * n) word) = ap (λ (address : ℕ). line_of (coded address word)) same in
     let step = entry_step n (pc, own_limit v limit) word (marks v es ls) words same in
     let whole : text_of (code n (marks v entries limits) (word ∷ words)) ≡ text_of (code n (marks v (pc ∷ es) (limit ∷ ls)) (word ∷ words)) =
     ap (λ (xs : List ℕ). text_of (code n (marks v xs limits) (word ∷ words))) f ∙ ap (λ (xs : List ℕ). text_of (code n (marks v (pc ∷ es) xs) (word ∷ words))) g in
-    two_put o o₁ o₂ (line_of (say.Entry (own_limit v limit))) (line_of (shown word (meaning word))) (text_of (code n (marks v entries limits) (word ∷ words))) (text_of (code (suc n) (marks v es ls) words)) e₁ e₂ (whole ∙ step)
+    two_put o o₁ o₂ (line_of (bare (say.Entry (own_limit v limit)))) (line_of (coded (4 * n) word)) (text_of (code n (marks v entries limits) (word ∷ words))) (text_of (code (suc n) (marks v es ls) words)) e₁ (e₂ ∙ ap (λ (xs : List ℕ). o₁ ++ xs) at) (whole ∙ step)
 
 pub word_put : (v : Version) (n pc word : ℕ) (entries limits words o o₁ : List ℕ) → pc ≡ 4 * n → ((e l : ℕ) (es ls : List ℕ) → entries ≡ e ∷ es → limits ≡ l ∷ ls → e ≡ pc → ⊥)
-    → o₁ ≡ o ++ line_of (shown word (meaning word))
+    → o₁ ≡ o ++ line_of (coded pc word)
     → o₁ ++ text_of (code (suc n) (marks v entries limits) words) ≡ o ++ text_of (code n (marks v entries limits) (word ∷ words))
 word_put v n pc word entries limits words o o₁ same other e₁ =
-    one_put o o₁ (line_of (shown word (meaning word))) (text_of (code n (marks v entries limits) (word ∷ words))) (text_of (code (suc n) (marks v entries limits) words)) e₁
+    let at : line_of (coded pc word) ≡ line_of (coded (4 * n) word) = ap (λ (address : ℕ). line_of (coded address word)) same in
+    one_put o o₁ (line_of (coded (4 * n) word)) (text_of (code n (marks v entries limits) (word ∷ words))) (text_of (code (suc n) (marks v entries limits) words)) (e₁ ∙ ap (λ (xs : List ℕ). o ++ xs) at)
     (none_step v entries limits n word words (λ e l es ls f g here. other e l es ls f g (here ∙ sym same)))

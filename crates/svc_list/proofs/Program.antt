@@ -1,9 +1,9 @@
 -- The listing of an image is a program of it.
-use Rattle.std.proofs.Common.{◌≡◌, ℕ, zero, suc, ◌+◌, ◌-◌, ◌*◌, ◌^◌, ◌%◌, ◌<◌, ◌≤◌, Bool, true, false, ◌==◌, List, [], ◌∷◌, ◌++◌, length, take, drop, slice_index, Option, Some, None, All, refl, ap, sym, ◌∙◌, subst, arith, flat_map, ◌⊎◌, inl, inr, if◌then◌else◌}
+use Rattle.std.proofs.Common.{◌≡◌, ℕ, zero, suc, ◌+◌, ◌-◌, ◌*◌, ◌^◌, ◌%◌, ◌<◌, ◌≤◌, Bool, true, false, ◌==◌, List, [], ◌∷◌, ◌++◌, length, take, drop, slice_index, Option, Some, None, All, refl, ap, sym, ◌∙◌, subst, arith, inl, inr, if◌then◌else◌}
 use Rattle.std.specs.Prelude.{replicate}
 use Rattle.std.specs.List.{AllByRecursion, list_any}
 use Rattle.std.specs.List.Sorted.{IsStrictlyIncreasing}
-use Rattle.std.proofs.lemmas.Bool.{eqb-true, or_cases, eq-eqb, ne_eqb}
+use Rattle.std.proofs.lemmas.Bool.{eqb-true, or_cases}
 use Rattle.std.proofs.lemmas.List.{length-append, append-nil}
 use Rattle.std.proofs.lemmas.List.Elements.{All-head, All-tail, recursion_from_All}
 use Rattle.svc_rv32i.specs.declared.instr.Instr.{Instr}
@@ -23,17 +23,18 @@ use Rattle.svc_draft.proofs.Wordwise.{length-bytes_of_words}
 use Rattle.svc_operands.specs.Characters.{name_at}
 use Rattle.svc_asm.specs.Programs.{Makes, IsProgramOf}
 use Rattle.svc_asm.proofs.Program.{same_laid}
-use Rattle.svc_list.specs.Listings.{HasText, IsShown, statement_text, line_of, text_of, shown, setting, settings, own_limit, marks, code, data_lines, all_data, head_lines, lines_of, listing_of}
-use Rattle.svc_list.proofs.LinesBack.{part_back}
+use Rattle.svc_list.specs.Listings.{HasText, statement_text, Line, bare, line_of, text_of, shown, coded, setting, settings, own_limit, marks, code, data_lines, all_data, head_lines, lines_of, listing_of}
+use Rattle.svc_list.proofs.LinesBack.{IsRead, part_back}
+use Rattle.svc_list.proofs.NotesBack.{bare_ends, address_ends, word_ends}
 use Rattle.svc_list.proofs.Keeping.{line_keeps, kept}
 use Rattle.svc_list.proofs.LayoutsBack.{MeansOne, after_all, Above, layout_for, image_laid, image_file}
 
-line_takes : (s : Statement) (tail : List ℕ) → length tail < length (line_of s ++ tail)
-line_takes s tail = omega (arith, length-append (line_of s) tail, length-append (statement_text s) (10 ∷ []))
+line_takes : (l : Line) (tail : List ℕ) → length tail < length (line_of l ++ tail)
+line_takes l tail = omega (arith, length-append (line_of l) tail, length-append (statement_text l.says) (l.note ++ (10 ∷ [])), length-append l.note (10 ∷ []))
 
-next_of : (s : Statement) (ss : List Statement) (d made : Layout) (o : Option Layout) → (o >>= after_all ss) ≡ Some made → (next : Layout) × (o ≡ Some next) × (after_all ss next ≡ Some made)
-next_of s ss d made None h = absurd (cc)
-next_of s ss d made (Some next) h = (next, refl, h)
+next_of : (ss : List Line) (d made : Layout) (o : Option Layout) → (o >>= after_all ss) ≡ Some made → (next : Layout) × (o ≡ Some next) × (after_all ss next ≡ Some made)
+next_of ss d made None h = absurd (cc)
+next_of ss d made (Some next) h = (next, refl, h)
 
 -- no line with a text is a label
 no_label : (name : List ℕ) (s : Statement) (d : Layout) → HasText s → after name s d ≡ after [] s d
@@ -58,14 +59,19 @@ no_label name (say.Value w n next) d h = absurd h
 no_label name (say.Symbol s) d h = absurd h
 no_label name (say.Common n step) d h = absurd h
 
+-- what lines say
+abbrev pub said : List Line → List Statement
+said [] = []
+said (l ∷ ls) = l.says ∷ said ls
+
 -- the text of lines that make a layout makes it
-pub lines_are_made : (ss : List Statement) (d made : Layout) → d.next ≡ go.Line → AllByRecursion HasText ss → after_all ss d ≡ Some made → Makes ss (text_of ss) d made
+pub lines_are_made : (ls : List Line) (d made : Layout) → d.next ≡ go.Line → AllByRecursion IsRead ls → after_all ls d ≡ Some made → Makes (said ls) (text_of ls) d made
 unfolding text_of
 lines_are_made [] d made line h k = (refl, same_laid d made k)
-lines_are_made (s ∷ ss) d made line h k =
-    let step = next_of s ss d made (after [] s d) k in
-    let same = kept go.Line (after [] s d) step.0 (line_keeps go.Line s d h.0 line) step.1 in
-    (text_of ss, step.0, record { read = part_back d s (text_of ss) line h.0; shorter = line_takes s (text_of ss); laid = no_label (name_at (text_of (s ∷ ss))) s d h.0 ∙ step.1 }, lines_are_made ss step.0 made same h.1 step.2)
+lines_are_made (l ∷ ls) d made line h k =
+    let step = next_of ls d made (after [] l.says d) k in
+    let same = kept go.Line (after [] l.says d) step.0 (line_keeps go.Line l.says d h.0.0 line) step.1 in
+    (text_of ls, step.0, record { read = part_back d l (text_of ls) line h.0; shorter = line_takes l (text_of ls); laid = no_label (name_at (text_of (l ∷ ls))) l.says d h.0.0 ∙ step.1 }, lines_are_made ls step.0 made same h.1 step.2)
 
 -- the entries of an image stand one above another at words of the text
 next_above : (e : ℕ) (es : List ℕ) (f : ℕ) (fs : List ℕ) → es ≡ f ∷ fs → IsStrictlyIncreasing (e ∷ es) → e + 1 ≤ f
@@ -81,15 +87,15 @@ above_from n low (e ∷ es) rise placed least =
     let here = All-head (StartsWord n) e es placed in
     (least e es refl, here.0, here.1, above_from n (e + 1) es (λ k h. let same : suc k + 1 ≡ suc (k + 1) = omega arith in subst (λ (j : ℕ). slice_index (e ∷ es) (suc k) < slice_index (e ∷ es) j) same (rise (suc k) (omega (arith, h)))) (All-tail (StartsWord n) e es placed) (λ f fs same. next_above e es f fs same rise))
 
-both : (ss ts : List Statement) → AllByRecursion HasText ss → AllByRecursion HasText ts → AllByRecursion HasText (ss ++ ts)
+both : (ss ts : List Line) → AllByRecursion IsRead ss → AllByRecursion IsRead ts → AllByRecursion IsRead (ss ++ ts)
 both [] ts h k = k
 both (s ∷ ss) ts h k = (h.0, both ss ts h.1 k)
 
-setting_text : (n v : ℕ) → v < 2 ^ 32 → AllByRecursion HasText (setting n v)
+setting_text : (n v : ℕ) → v < 2 ^ 32 → AllByRecursion IsRead (setting n v)
 unfolding setting
-setting_text n v h = elim (v == 0) as (λ b. AllByRecursion HasText (if b then [] else say.Register (register n) v ∷ [])) [ true ↦ tt | false ↦ (h, tt) ]
+setting_text n v h = elim (v == 0) as (λ b. AllByRecursion IsRead (if b then [] else bare (say.Register (register n) v) ∷ [])) [ true ↦ tt | false ↦ ((h, bare_ends), tt) ]
 
-settings_text : (n : ℕ) (vs : List ℕ) → AllByRecursion (λ w. w < 2 ^ 32) vs → AllByRecursion HasText (settings n vs)
+settings_text : (n : ℕ) (vs : List ℕ) → AllByRecursion (λ w. w < 2 ^ 32) vs → AllByRecursion IsRead (settings n vs)
 settings_text n [] h = tt
 settings_text n (v ∷ vs) h = both (setting n v) (settings (suc n) vs) (setting_text n v h.0) (settings_text (suc n) vs h.1)
 
@@ -98,15 +104,18 @@ shown_text w None h = h
 shown_text w (Some (i.Fence rd rs1 imm)) h = h
 shown_text w (Some instr) h = tt
 
-code_text : (n : ℕ) (ms : List (ℕ × Option ℕ)) (ws : List ℕ) → AllByRecursion (λ (m : ℕ × Option ℕ). HasText (say.Entry m.1)) ms → AllByRecursion (λ w. w < 2 ^ 32) ws → AllByRecursion HasText (code n ms ws)
+coded_text : (address w : ℕ) → w < 2 ^ 32 → IsRead (coded address w)
+coded_text address w h = (shown_text w (meaning w) h, word_ends address w)
+
+code_text : (n : ℕ) (ms : List (ℕ × Option ℕ)) (ws : List ℕ) → AllByRecursion (λ (m : ℕ × Option ℕ). HasText (say.Entry m.1)) ms → AllByRecursion (λ w. w < 2 ^ 32) ws → AllByRecursion IsRead (code n ms ws)
 unfolding code
 code_text n [] [] g h = tt
 code_text n (m ∷ ms) [] g h = tt
-code_text n [] (w ∷ ws) g h = (shown_text w (meaning w) h.0, code_text (suc n) [] ws g h.1)
+code_text n [] (w ∷ ws) g h = (coded_text (4 * n) w h.0, code_text (suc n) [] ws g h.1)
 code_text n (m ∷ ms) (w ∷ ws) g h =
-    elim (m.0 == 4 * n) as (λ b. AllByRecursion HasText (if b then say.Entry m.1 ∷ shown w (meaning w) ∷ code (suc n) ms ws else shown w (meaning w) ∷ code (suc n) (m ∷ ms) ws)) [
-      | true ↦ (g.0, (shown_text w (meaning w) h.0, code_text (suc n) ms ws g.1 h.1))
-      | false ↦ (shown_text w (meaning w) h.0, code_text (suc n) (m ∷ ms) ws g h.1)
+    elim (m.0 == 4 * n) as (λ b. AllByRecursion IsRead (if b then bare (say.Entry m.1) ∷ coded (4 * n) w ∷ code (suc n) ms ws else coded (4 * n) w ∷ code (suc n) (m ∷ ms) ws)) [
+      | true ↦ ((g.0, bare_ends), (coded_text (4 * n) w h.0, code_text (suc n) ms ws g.1 h.1))
+      | false ↦ (coded_text (4 * n) w h.0, code_text (suc n) (m ∷ ms) ws g h.1)
     ]
 
 own_text_fits : (v : Version) (l : ℕ) → l < 2 ^ 32 → HasText (say.Entry (own_limit v l))
@@ -118,9 +127,9 @@ marks_text v [] ls h = tt
 marks_text v (e ∷ es) [] h = tt
 marks_text v (e ∷ es) (l ∷ ls) h = (own_text_fits v l h.0, marks_text v es ls h.1)
 
-data_text : (ws : List ℕ) → AllByRecursion (λ w. w < 2 ^ 32) ws → AllByRecursion HasText (data_lines ws)
-data_text [] h = tt
-data_text (w ∷ ws) h = (h.0, data_text ws h.1)
+data_text : (n : ℕ) (ws : List ℕ) → AllByRecursion (λ w. w < 2 ^ 32) ws → AllByRecursion IsRead (data_lines n ws)
+data_text n [] h = tt
+data_text n (w ∷ ws) h = ((h.0, address_ends n), data_text (n + 4) ws h.1)
 
 take_fits : (n : ℕ) (ws : List ℕ) → AllByRecursion (λ w. w < 2 ^ 32) ws → AllByRecursion (λ w. w < 2 ^ 32) (take n ws)
 take_fits zero ws h = tt
@@ -132,14 +141,14 @@ drop_fits zero ws h = h
 drop_fits (suc n) [] h = tt
 drop_fits (suc n) (w ∷ ws) h = drop_fits n ws h.1
 
-all_data_text : (v : Version) (n : ℕ) (ws : List ℕ) → AllByRecursion (λ w. w < 2 ^ 32) ws → AllByRecursion HasText (all_data v n ws)
-all_data_text version.One n ws h = data_text ws h
+all_data_text : (v : Version) (n : ℕ) (ws : List ℕ) → AllByRecursion (λ w. w < 2 ^ 32) ws → AllByRecursion IsRead (all_data v n ws)
+all_data_text version.One n ws h = data_text 1048576 ws h
 all_data_text version.Two n ws h =
-    both (data_lines (take n ws)) (say.ReadOnly ∷ data_lines (drop n ws)) (data_text (take n ws) (take_fits n ws h)) (tt, data_text (drop n ws) (drop_fits n ws h))
+    both (data_lines 1048576 (take n ws)) (bare say.ReadOnly ∷ data_lines (1048576 + 4 * n) (drop n ws)) (data_text 1048576 (take n ws) (take_fits n ws h)) ((tt, bare_ends), data_text (1048576 + 4 * n) (drop n ws) (drop_fits n ws h))
 
-head_text : (v : Version) (limit start : ℕ) → limit < 2 ^ 32 → start < 2 ^ 32 → AllByRecursion HasText (head_lines v limit start)
-head_text version.One limit start h k = (tt, (h, (k, tt)))
-head_text version.Two limit start h k = (tt, (k, tt))
+head_text : (v : Version) (limit start : ℕ) → limit < 2 ^ 32 → start < 2 ^ 32 → AllByRecursion IsRead (head_lines v limit start)
+head_text version.One limit start h k = ((tt, bare_ends), ((h, bare_ends), ((k, bare_ends), tt)))
+head_text version.Two limit start h k = ((tt, bare_ends), ((k, bare_ends), tt))
 
 -- limits have 32 bits
 limits_small : (ls : List ℕ) → All IsLimit ls → AllByRecursion (λ l. l < 2 ^ 32) ls
@@ -159,19 +168,19 @@ start_small n s (e ∷ es) few placed any =
     ]
 
 -- each line of an image has a text that is read back
-pub lines_text : (img : Image) → IsImage img → AllByRecursion HasText (lines_of img)
+pub lines_text : (img : Image) → IsImage img → AllByRecursion IsRead (lines_of img)
 unfolding lines_of is_entry
 lines_text img sound =
     let v = img.version in
     let fits = λ (xs : List ℕ) (h : AreWords xs). recursion_from_All (λ w. w < 2 ^ 32) xs h in
     let limits = limits_small img.limits sound.limits_fit in
     let words = code 0 (marks v img.entries img.limits) img.text in
-    let body = say.Data ∷ all_data v img.read_only img.words in
+    let body = bare say.Data ∷ all_data v img.read_only img.words in
     let start = start_small (length img.text) img.start img.entries sound.text_few sound.entries_placed sound.start_entry in
     both (head_lines v (slice_index img.limits 0) img.start) (settings 1 img.registers ++ (words ++ body)) (head_text v (slice_index img.limits 0) img.start (first_small img.limits limits) start)
     (both (settings 1 img.registers) (words ++ body) (settings_text 1 img.registers (fits img.registers sound.registers_fit))
     (both words body (code_text 0 (marks v img.entries img.limits) img.text (marks_text v img.entries img.limits limits) (fits img.text sound.text_fits))
-    (tt, all_data_text v img.read_only img.words (fits img.words sound.words_fit))))
+    ((tt, bare_ends), all_data_text v img.read_only img.words (fits img.words sound.words_fit))))
 
 -- the lines of an image make its layout
 pub lines_make : MeansOne → (names : Names) (known : Bool) (from : ℕ) (img : Image) → IsImage img → after_all (lines_of img) (empty names known 0 from) ≡ Some (layout_for names known from img)
@@ -207,7 +216,7 @@ words_are_data words some =
     let bytes = bytes_of_words words in
     rw (none_filled, filled_words words, append-nil bytes) (some_is bytes (omega (arith, some, length-bytes_of_words words)))
 
-listed : MeansOne → (names : Names) (known : Bool) (from : ℕ) (img : Image) → IsImage img → Makes (lines_of img) (listing_of img) (empty names known 0 from) (layout_for names known from img)
+listed : MeansOne → (names : Names) (known : Bool) (from : ℕ) (img : Image) → IsImage img → Makes (said (lines_of img)) (listing_of img) (empty names known 0 from) (layout_for names known from img)
 unfolding listing_of
 listed law names known from img sound = lines_are_made (lines_of img) (empty names known 0 from) (layout_for names known from img) refl (lines_text img sound) (lines_make law names known from img sound)
 
@@ -229,10 +238,10 @@ pub listing_is_program : MeansOne → (img : Image) → IsImage img → IsProgra
 listing_is_program law img sound = record {
   layout = layout_for no_names true (bss_behind img) img;
   laid = record {
-    first_lines = lines_of img;
+    first_lines = said (lines_of img);
     first = layout_for no_names false 0 img;
     finds = listed law no_names false 0 img sound;
-    lines = lines_of img;
+    lines = said (lines_of img);
     makes = listed law no_names true (bss_behind img) img sound;
   };
   image = made_image no_names true (bss_behind img) img sound;

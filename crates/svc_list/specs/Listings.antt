@@ -1,5 +1,5 @@
 -- The text of an image: its lines, and how each is written.
-use Rattle.std.specs.Prelude.{◌≡◌, ℕ, suc, ◌+◌, ◌*◌, ◌-◌, ◌^◌, ◌<◌, Bool, true, false, nat_lt, ◌==◌, List, [], ◌∷◌, ◌++◌, take, drop, slice_index, flat_map, Option, Some, None, if◌then◌else◌, codes, decimal}
+use Rattle.std.specs.Prelude.{ℕ, suc, ◌+◌, ◌*◌, ◌-◌, ◌/◌, ◌%◌, ◌^◌, ◌<◌, nat_lt, ◌==◌, List, [], ◌∷◌, ◌++◌, take, drop, slice_index, flat_map, Option, Some, None, if◌then◌else◌, codes, decimal}
 use Rattle.svc_rv32i.specs.declared.instr.Register.{Register}
 use Rattle.svc_rv32i.specs.declared.instr.Short.{Short}
 use Rattle.svc_rv32i.specs.declared.instr.Long.{Long}
@@ -93,6 +93,7 @@ statement_text (say.Common n step) = []
 
 -- what has a text that is read back
 abbrev pub HasText : Statement → Type 0
+HasText say.Nothing = ⊥
 HasText say.Label = ⊥
 HasText (say.Instruction instr) = IsShown instr
 HasText (say.Word n) = n < 2 ^ 32
@@ -110,11 +111,35 @@ HasText (say.Symbol s) = ⊥
 HasText (say.Common n step) = ⊥
 HasText _ = Unit {0}
 
-abbrev pub line_of : Statement → List ℕ
-line_of s = statement_text s ++ (10 ∷ [])
+-- a word in eight hexadecimal digits
+abbrev pub hex_digit : ℕ → ℕ
+hex_digit n = if nat_lt n 10 then 48 + n else 87 + n
 
-unfoldable pub text_of : List Statement → List ℕ
-text_of ss = flat_map line_of ss
+unfoldable pub hex_text : ℕ → List ℕ
+hex_text n =
+    hex_digit (n / 2 ^ 28 % 16) ∷ hex_digit (n / 2 ^ 24 % 16) ∷ hex_digit (n / 2 ^ 20 % 16) ∷ hex_digit (n / 2 ^ 16 % 16)
+    ∷ hex_digit (n / 2 ^ 12 % 16) ∷ hex_digit (n / 2 ^ 8 % 16) ∷ hex_digit (n / 2 ^ 4 % 16) ∷ hex_digit (n % 16) ∷ []
+
+-- the comments behind a word of the text, by its address and its bits, and behind a word of the data, by its address
+abbrev pub address_note : ℕ → List ℕ
+address_note address = 9 ∷ (codes "# 0x" ++ hex_text address)
+
+abbrev pub word_note : (address word : ℕ) → List ℕ
+word_note address word = address_note address ++ (32 ∷ hex_text word)
+
+-- a line: what it says, and the comment behind it, if any
+pub record Line : Type 0 where
+  pub says : Statement
+  pub note : List ℕ
+
+abbrev pub bare : Statement → Line
+bare s = record { says = s; note = [] }
+
+abbrev pub line_of : Line → List ℕ
+line_of l = statement_text l.says ++ (l.note ++ (10 ∷ []))
+
+unfoldable pub text_of : List Line → List ℕ
+text_of ls = flat_map line_of ls
 
 -- a word of the text is shown as its instruction; a fence, which may have fields that no text names, and a word without meaning are shown as words
 abbrev pub shown : ℕ → Option Instr → Statement
@@ -123,10 +148,10 @@ shown w (Some instr) = say.Instruction instr
 shown w None = say.Word w
 
 -- the lines that set registers, from the n-th register on: those that aren't 0
-unfoldable pub setting : ℕ → ℕ → List Statement
-setting n v = if v == 0 then [] else say.Register (register n) v ∷ []
+unfoldable pub setting : ℕ → ℕ → List Line
+setting n v = if v == 0 then [] else bare (say.Register (register n) v) ∷ []
 
-abbrev pub settings : ℕ → List ℕ → List Statement
+abbrev pub settings : ℕ → List ℕ → List Line
 settings n [] = []
 settings n (v ∷ vs) = setting n v ++ settings (suc n) vs
 
@@ -140,32 +165,39 @@ marks v (e ∷ es) (l ∷ ls) = (e, own_limit v l) ∷ marks v es ls
 marks v [] ls = []
 marks v (e ∷ es) [] = []
 
--- the lines of text words, of which the first is the n-th, and of the entries among them
-unfoldable pub code : ℕ → List (ℕ × Option ℕ) → List ℕ → List Statement
-code n ms [] = []
-code n [] (w ∷ ws) = shown w (meaning w) ∷ code (suc n) [] ws
-code n (m ∷ ms) (w ∷ ws) =
-    if m.0 == 4 * n then say.Entry m.1 ∷ shown w (meaning w) ∷ code (suc n) ms ws else shown w (meaning w) ∷ code (suc n) (m ∷ ms) ws
+-- the line of a word of the text, and that of a word of the data, at this address
+abbrev pub coded : (address word : ℕ) → Line
+coded address word = record { says = shown word (meaning word); note = word_note address word }
 
-abbrev pub data_lines : List ℕ → List Statement
-data_lines [] = []
-data_lines (w ∷ ws) = say.Word w ∷ data_lines ws
+abbrev pub datum : (address word : ℕ) → Line
+datum address word = record { says = say.Word word; note = address_note address }
+
+-- the lines of text words, of which the first is the n-th, and of the entries among them
+unfoldable pub code : ℕ → List (ℕ × Option ℕ) → List ℕ → List Line
+code n ms [] = []
+code n [] (w ∷ ws) = coded (4 * n) w ∷ code (suc n) [] ws
+code n (m ∷ ms) (w ∷ ws) = if m.0 == 4 * n then bare (say.Entry m.1) ∷ coded (4 * n) w ∷ code (suc n) ms ws else coded (4 * n) w ∷ code (suc n) (m ∷ ms) ws
+
+-- the lines of data words from an address on; the data begins at 0x00100000
+abbrev pub data_lines : ℕ → List ℕ → List Line
+data_lines address [] = []
+data_lines address (w ∷ ws) = datum address w ∷ data_lines (address + 4) ws
 
 -- the lines of the data, where in version 2 the first ones are read-only
-abbrev pub all_data : Version → ℕ → List ℕ → List Statement
-all_data version.One n words = data_lines words
-all_data version.Two n words = data_lines (take n words) ++ (say.ReadOnly ∷ data_lines (drop n words))
+abbrev pub all_data : Version → ℕ → List ℕ → List Line
+all_data version.One n words = data_lines 1048576 words
+all_data version.Two n words = data_lines 1048576 (take n words) ++ (bare say.ReadOnly ∷ data_lines (1048576 + 4 * n) (drop n words))
 
 -- the lines before the registers: in version 1 the limit of all tasks is one of them
-abbrev pub head_lines : Version → (limit start : ℕ) → List Statement
-head_lines version.One limit start = say.Version version.One ∷ say.Limit limit ∷ say.Start start ∷ []
-head_lines version.Two limit start = say.Version version.Two ∷ say.Start start ∷ []
+abbrev pub head_lines : Version → (limit start : ℕ) → List Line
+head_lines version.One limit start = bare (say.Version version.One) ∷ bare (say.Limit limit) ∷ bare (say.Start start) ∷ []
+head_lines version.Two limit start = bare (say.Version version.Two) ∷ bare (say.Start start) ∷ []
 
 -- the lines of an image
-unfoldable pub lines_of : Image → List Statement
+unfoldable pub lines_of : Image → List Line
 lines_of img =
     head_lines img.version (slice_index img.limits 0) img.start ++ (settings 1 img.registers
-    ++ (code 0 (marks img.version img.entries img.limits) img.text ++ (say.Data ∷ all_data img.version img.read_only img.words)))
+    ++ (code 0 (marks img.version img.entries img.limits) img.text ++ (bare say.Data ∷ all_data img.version img.read_only img.words)))
 
 -- the listing of an image
 unfoldable pub listing_of : Image → List ℕ

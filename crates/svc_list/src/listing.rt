@@ -1,9 +1,9 @@
 // The text of an image.
 
-ghost use Rattle.std.specs.Prelude.{◌≡◌, ℕ, suc, ◌++◌, ◌∷◌, List, codes, ◌<◌, ◌≤◌, ◌*◌, length, slice_index, decimal, IfOk, IfSome, IfNone, OnOk};
+ghost use Rattle.std.specs.Prelude.{◌≡◌, ℕ, suc, ◌++◌, ◌∷◌, List, codes, ◌<◌, ◌≤◌, ◌*◌, ◌^◌, length, slice_index, decimal, IfOk, IfSome, IfNone, OnOk};
 ghost use Rattle.svc_rv32i.specs.Meaning.{meaning};
 ghost use Rattle.svc_asm.specs.Programs.{IsProgramOf};
-ghost use Rattle.svc_list.specs.Listings.{register_text, first_text, last_text, short_text, offset_text, address_text, upper_text, instruction_text, own_text, statement_text, line_of, text_of, shown, setting, settings, own_limit, marks, code, data_lines, all_data, head_lines, listing_of};
+ghost use Rattle.svc_list.specs.Listings.{register_text, first_text, last_text, short_text, offset_text, address_text, upper_text, instruction_text, own_text, statement_text, hex_digit, hex_text, address_note, word_note, bare, line_of, text_of, shown, coded, datum, setting, settings, own_limit, marks, code, data_lines, all_data, head_lines, listing_of};
 
 use crate::instruction_names::{
     comparison_name, immediate_name, load_name, operation_name, shift_name, store_name,
@@ -14,6 +14,9 @@ use svc_draft::Statement;
 use svc_image::{Image, Version};
 use svc_operands::register;
 use svc_rv32i::{Instr, Long, Register, Short, decode, one_meaning};
+
+// Where the data begins.
+const DATA_BASE: u32 = 0x0010_0000;
 
 fn put_text(out: &mut Vec<u8>, text: &str) -> Result<(), AllocError>
     ensures { OnOk result (out.new.items ≡ out.old.items ++ text.now) }
@@ -230,9 +233,70 @@ fn put_statement(out: &mut Vec<u8>, statement: Statement) -> Result<(), AllocErr
 }
 
 fn put_line(out: &mut Vec<u8>, statement: Statement) -> Result<(), AllocError>
-    ensures { OnOk result (out.new.items ≡ out.old.items ++ line_of statement) }
+    ensures { OnOk result (out.new.items ≡ out.old.items ++ line_of (bare statement)) }
 {
     put_statement(out, statement)?;
+    put_text(out, "\n")
+}
+
+// The digit that is worth so much.
+fn hex_digit(value: u32) -> u8
+    requires { value < 16 }
+    ensures { result ≡ hex_digit value }
+{
+    if value < 10 {
+        return 48 + value as u8;
+    }
+    87 + value as u8
+}
+
+#[tactic(auto, unfolding(crate::specs::Listings::hex_text))]
+fn hex_digits(word: u32) -> [u8; 8]
+    ensures { result ≡ hex_text word }
+{
+    [
+        hex_digit(word / 0x1000_0000 % 16),
+        hex_digit(word / 0x0100_0000 % 16),
+        hex_digit(word / 0x0010_0000 % 16),
+        hex_digit(word / 0x0001_0000 % 16),
+        hex_digit(word / 0x0000_1000 % 16),
+        hex_digit(word / 0x0000_0100 % 16),
+        hex_digit(word / 0x0000_0010 % 16),
+        hex_digit(word % 16),
+    ]
+}
+
+fn put_hex(out: &mut Vec<u8>, word: u32) -> Result<(), AllocError>
+    ensures { OnOk result (out.new.items ≡ out.old.items ++ hex_text word) }
+{
+    out.extend_from_slice(&hex_digits(word))
+}
+
+// A comment that tells an address.
+fn put_address_note(out: &mut Vec<u8>, address: u32) -> Result<(), AllocError>
+    ensures { OnOk result (out.new.items ≡ out.old.items ++ address_note address) }
+{
+    put_text(out, "\t# 0x")?;
+    put_hex(out, address)
+}
+
+// A word of the text, with its address and its bits behind it.
+fn put_coded(out: &mut Vec<u8>, address: u32, word: u32) -> Result<(), AllocError>
+    ensures { OnOk result (out.new.items ≡ out.old.items ++ line_of (coded address word)) }
+{
+    put_statement(out, shown(word))?;
+    put_address_note(out, address)?;
+    put_text(out, " ")?;
+    put_hex(out, word)?;
+    put_text(out, "\n")
+}
+
+// A word of the data, with its address behind it.
+fn put_datum(out: &mut Vec<u8>, address: u32, word: u32) -> Result<(), AllocError>
+    ensures { OnOk result (out.new.items ≡ out.old.items ++ line_of (datum address word)) }
+{
+    put_statement(out, Statement::Word(word))?;
+    put_address_note(out, address)?;
     put_text(out, "\n")
 }
 
@@ -311,11 +375,11 @@ fn put_code_word<'a>(
     match behind(entries, limits, pc) {
         Some(next) => {
             put_line(out, Statement::Entry(own_limit(version, next.0)))?;
-            put_line(out, shown(word))?;
+            put_coded(out, pc, word)?;
             Ok((next.1, next.2))
         }
         None => {
-            put_line(out, shown(word))?;
+            put_coded(out, pc, word)?;
             Ok((entries, limits))
         }
     }
@@ -344,24 +408,30 @@ fn put_code(
     Ok(())
 }
 
-fn put_data(out: &mut Vec<u8>, words: &[u32]) -> Result<(), AllocError>
-    ensures { OnOk result (out.new.items ≡ out.old.items ++ text_of (data_lines words.now)) }
+// Words of the data, from this address on.
+fn put_data(out: &mut Vec<u8>, address: u32, words: &[u32]) -> Result<(), AllocError>
+    requires address { address ≤ 2 ^ 31 }
+    requires few { length words.now ≤ 65536 }
+    ensures { OnOk result (out.new.items ≡ out.old.items ++ text_of (data_lines address words.now)) }
 {
+    let mut address = address;
     for &word in words {
-        put_line(out, Statement::Word(word))?;
+        put_datum(out, address, word)?;
+        address += 4;
     }
     Ok(())
 }
 
 // The data of an image of version 2, whose first words are read-only.
 fn put_split(out: &mut Vec<u8>, read_only: usize, words: &[u32]) -> Result<(), AllocError>
-    requires { read_only ≤ length words.now }
+    requires fixed { read_only ≤ length words.now }
+    requires few { length words.now ≤ 65536 }
     ensures { OnOk result (out.new.items ≡ out.old.items ++ text_of (all_data Version.Two read_only words.now)) }
 {
     let parts = words.split_at(read_only);
-    put_data(out, parts.0)?;
+    put_data(out, DATA_BASE, parts.0)?;
     put_line(out, Statement::ReadOnly)?;
-    put_data(out, parts.1)?;
+    put_data(out, DATA_BASE + 4 * read_only as u32, parts.1)?;
     Ok(())
 }
 
@@ -371,11 +441,12 @@ fn put_all_data(
     read_only: usize,
     words: &[u32],
 ) -> Result<(), AllocError>
-    requires { read_only ≤ length words.now }
+    requires fixed { read_only ≤ length words.now }
+    requires few { length words.now ≤ 65536 }
     ensures { OnOk result (out.new.items ≡ out.old.items ++ text_of (all_data version read_only words.now)) }
 {
     match version {
-        Version::One => put_data(out, words),
+        Version::One => put_data(out, DATA_BASE, words),
         Version::Two => put_split(out, read_only, words),
     }
 }

@@ -1,17 +1,17 @@
 .svc_version 2
 .svc_start 0
 .svc_entry 3
-lui x5, 256
-addi x1, x0, 5
-sw x1, 0(x5)
+lui x5, 256	# 0x00000000 001002b7
+addi x1, x0, 5	# 0x00000004 00500093
+sw x1, 0(x5)	# 0x00000008 0012a023
 .svc_entry 6
-lui x5, 256
-lw x10, 0(x5)
-addi x17, x0, 1
-ecall
-addi x17, x0, 0
-ecall
+lui x5, 256	# 0x0000000c 001002b7
+lw x10, 0(x5)	# 0x00000010 0002a503
+addi x17, x0, 1	# 0x00000014 00100893
+ecall	# 0x00000018 00000073
+addi x17, x0, 0	# 0x0000001c 00000893
+ecall	# 0x00000020 00000073
 .data
-.word 0
+.word 0	# 0x00100000
 .svc_readonly
-.word 0
+.word 0	# 0x00100004

@@ -3,18 +3,18 @@
 .svc_start 0
 .svc_register x8, 1048576
 .svc_entry
-addi x5, x0, 6
-sw x5, 0(x8)
+addi x5, x0, 6	# 0x00000000 00600293
+sw x5, 0(x8)	# 0x00000004 00542023
 .svc_entry
-lw x5, 0(x8)
-add x5, x5, x5
-sw x5, 4(x8)
+lw x5, 0(x8)	# 0x00000008 00042283
+add x5, x5, x5	# 0x0000000c 005282b3
+sw x5, 4(x8)	# 0x00000010 00542223
 .svc_entry
-lw x10, 4(x8)
-addi x17, x0, 1
-ecall
-addi x17, x0, 0
-ecall
+lw x10, 4(x8)	# 0x00000014 00442503
+addi x17, x0, 1	# 0x00000018 00100893
+ecall	# 0x0000001c 00000073
+addi x17, x0, 0	# 0x00000020 00000893
+ecall	# 0x00000024 00000073
 .data
-.word 0
-.word 0
+.word 0	# 0x00100000
+.word 0	# 0x00100004

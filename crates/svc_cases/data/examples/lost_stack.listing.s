@@ -2,44 +2,44 @@
 .svc_limit 100
 .svc_start 0
 .svc_entry
-lui x2, 256
-addi x2, x2, 64
-addi x10, x0, 5
-jal x1, . + 24
+lui x2, 256	# 0x00000000 00100137
+addi x2, x2, 64	# 0x00000004 04010113
+addi x10, x0, 5	# 0x00000008 00500513
+jal x1, . + 24	# 0x0000000c 018000ef
 .svc_entry
-addi x10, x0, 7
-jal x1, . + 16
-lw x10, 0(x15)
-addi x17, x0, 0
-ecall
-addi x2, x2, -16
-sw x1, 12(x2)
-jal x1, . + 36
-lui x15, 256
-addi x15, x15, 64
-lw x14, 0(x15)
-add x14, x14, x10
-sw x14, 0(x15)
-lw x1, 12(x2)
-addi x2, x2, 16
-jalr x0, 0(x1)
-add x10, x10, x10
-jalr x0, 0(x1)
+addi x10, x0, 7	# 0x00000010 00700513
+jal x1, . + 16	# 0x00000014 010000ef
+lw x10, 0(x15)	# 0x00000018 0007a503
+addi x17, x0, 0	# 0x0000001c 00000893
+ecall	# 0x00000020 00000073
+addi x2, x2, -16	# 0x00000024 ff010113
+sw x1, 12(x2)	# 0x00000028 00112623
+jal x1, . + 36	# 0x0000002c 024000ef
+lui x15, 256	# 0x00000030 001007b7
+addi x15, x15, 64	# 0x00000034 04078793
+lw x14, 0(x15)	# 0x00000038 0007a703
+add x14, x14, x10	# 0x0000003c 00a70733
+sw x14, 0(x15)	# 0x00000040 00e7a023
+lw x1, 12(x2)	# 0x00000044 00c12083
+addi x2, x2, 16	# 0x00000048 01010113
+jalr x0, 0(x1)	# 0x0000004c 00008067
+add x10, x10, x10	# 0x00000050 00a50533
+jalr x0, 0(x1)	# 0x00000054 00008067
 .data
-.word 0
-.word 0
-.word 0
-.word 0
-.word 0
-.word 0
-.word 0
-.word 0
-.word 0
-.word 0
-.word 0
-.word 0
-.word 0
-.word 0
-.word 0
-.word 0
-.word 0
+.word 0	# 0x00100000
+.word 0	# 0x00100004
+.word 0	# 0x00100008
+.word 0	# 0x0010000c
+.word 0	# 0x00100010
+.word 0	# 0x00100014
+.word 0	# 0x00100018
+.word 0	# 0x0010001c
+.word 0	# 0x00100020
+.word 0	# 0x00100024
+.word 0	# 0x00100028
+.word 0	# 0x0010002c
+.word 0	# 0x00100030
+.word 0	# 0x00100034
+.word 0	# 0x00100038
+.word 0	# 0x0010003c
+.word 0	# 0x00100040

@@ -3,16 +3,16 @@
 .svc_start 0
 .svc_register x8, 1048576
 .svc_entry
-lw x5, 0(x8)
-addi x5, x5, 1
-sw x5, 0(x8)
-addi x6, x0, 3
-blt x5, x6, . - 16
+lw x5, 0(x8)	# 0x00000000 00042283
+addi x5, x5, 1	# 0x00000004 00128293
+sw x5, 0(x8)	# 0x00000008 00542023
+addi x6, x0, 3	# 0x0000000c 00300313
+blt x5, x6, . - 16	# 0x00000010 fe62c8e3
 .svc_entry
-lw x10, 0(x8)
-addi x17, x0, 1
-ecall
-addi x17, x0, 0
-ecall
+lw x10, 0(x8)	# 0x00000014 00042503
+addi x17, x0, 1	# 0x00000018 00100893
+ecall	# 0x0000001c 00000073
+addi x17, x0, 0	# 0x00000020 00000893
+ecall	# 0x00000024 00000073
 .data
-.word 0
+.word 0	# 0x00100000

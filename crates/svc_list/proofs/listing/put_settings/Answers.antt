@@ -1,4 +1,4 @@
-use Rattle.std.proofs.Common.{◌≡◌, ◌+◌, suc, slice_index, arith}
+use Rattle.std.proofs.Common.{◌≡◌, ◌+◌, suc, arith}
 use Rattle.svc_list.proofs.Printing.{goes_on, ends, settings_step, settings_none}
 use Rattle.svc_list.proofs.listing.put_settings.Goals as goal
 

@@ -1,4 +1,4 @@
-use Rattle.std.proofs.Common.{◌≡◌, ◌++◌, ◌+◌, drop, suc}
+use Rattle.std.proofs.Common.{◌≡◌, ◌++◌, drop, suc}
 use Rattle.svc_list.specs.Listings.{text_of, settings}
 use Rattle.svc_list.proofs.listing.put_settings.Given as goal
 
