@@ -1,11 +1,20 @@
 -- What a search has left to do, one step on and at the end.
-use Rattle.std.proofs.Common.{◌≡◌, ◌<◌, ◌≤◌, ◌+◌, ◌-◌, ◌&&◌, ◌++◌, ◌∷◌, [], ◌∙◌, Bool, cond, true, false, refl, ap, sym, ℕ, suc, List, Option, Some, None, take, drop, get_or, length, append_assoc, add-one, arith, drop-cons}
-use Rattle.std.proofs.lemmas.List.{append-nil, at_drop_all, at_drop_more}
+use Rattle.std.proofs.Common.{◌≡◌, ◌<◌, ◌≤◌, ◌+◌, ◌-◌, ◌&&◌, ◌++◌, ◌∷◌, [], ◌∙◌, ◌==◌, Bool, cond, true, false, refl, ap, sym, ℕ, zero, suc, List, Option, Some, None, take, drop, get_or, length, append_assoc, add-one, arith, drop-cons}
+use Rattle.std.proofs.lemmas.List.{append-nil, at_drop_all, at_drop_more, drop_more}
+use Rattle.std.proofs.lemmas.Bool.{and_parts, and_right, lt-leb, ltb-true, ne_eqb}
+use Rattle.std.specs.Prelude.{nat_le, nat_lt}
+use Rattle.svc_history_laws.specs.declared.entry.CutKind.{CutKind}
+use Rattle.svc_history_laws.specs.declared.entry.CutKind.TheVariants as cause
 use Rattle.svc_history_laws.specs.declared.entry.Entry.{Entry}
+use Rattle.svc_view.specs.Runs.{is_number}
 use Rattle.svc_draw.specs.declared.bars.Bar.{Bar}
 use Rattle.svc_draw.specs.declared.bars.Window.{Window}
 use Rattle.svc_draw.specs.declared.marks.Mark.{Mark}
-use Rattle.svc_draw.specs.Marks.{between, first_bar, first_where, last_where, marks_at, marks_from}
+use Rattle.svc_draw.specs.declared.marks.MarkKind.{MarkKind}
+use Rattle.svc_draw.specs.declared.marks.MarkKind.TheVariants as mark
+use Rattle.svc_draw.specs.declared.marks.Spot.{Spot}
+use Rattle.svc_draw.specs.Bars.{runs}
+use Rattle.svc_draw.specs.Marks.{arrow, between, first_bar, first_where, handed, is_before, is_over, is_victim, kind_of, last_where, left_at, marks_at, marks_from, shape, squashed, taken, task_at, task_of}
 
 -- both fail where one does
 pub first_fails : (x y : Bool) → false ≡ x → (x && y) ≡ false
@@ -44,18 +53,114 @@ pub no_entry : (p : Entry → Bool) (at : ℕ) (es : List Entry) (i : ℕ) → l
 unfolding first_where
 no_entry p at es i over = at_drop_all (first_where p at) es i over
 
--- the last such entry: each step, and the end
-pub last_goes_on : (p : Entry → Bool) (found : Option ℕ) (at : ℕ) (es : List Entry) (i : ℕ) (d : Entry) (b : Bool) → i < length es → b ≡ p (get_or es i d)
-    → last_where p found at (drop i es) ≡ last_where p (cond b (Some at) found) (at + 1) (drop (i + 1) es)
+-- the last such entry, where there is one entry more
+last_more : (p : Entry → Bool) (found : Option ℕ) (at : ℕ) (es : List Entry) (n : ℕ) (d : Entry) → n < length es
+    → last_where p found at (take (suc n) es) ≡ cond (p (get_or es n d)) (Some (at + n)) (last_where p found at (take n es))
 unfolding last_where
-last_goes_on p found at es i d b inside is =
-    at_drop_more (last_where p found at) es i d inside
-    ∙ ap (λ c. last_where p (cond c (Some at) found) (suc at) (drop (i + 1) es)) (sym is)
-    ∙ ap (λ n. last_where p (cond b (Some at) found) n (drop (i + 1) es)) (sym (add-one at))
+last_more p found at [] n d inside = absurd (omega (arith, inside))
+last_more p found at (e ∷ es) zero d inside = let same : at ≡ at + 0 = omega arith in ap (λ n. cond (p e) (Some n) found) same
+last_more p found at (e ∷ es) (suc n) d inside =
+    let within : n < length es = omega (arith, inside) in
+    let place : suc at + n ≡ at + suc n = omega arith in
+    last_more p (cond (p e) (Some at) found) (suc at) es n d within
+    ∙ ap (λ m. cond (p (get_or es n d)) (Some m) (last_where p (cond (p e) (Some at) found) (suc at) (take n es))) place
 
-pub last_found : (p : Entry → Bool) (found : Option ℕ) (at : ℕ) (es : List Entry) (i : ℕ) → length es ≤ i → last_where p found at (drop i es) ≡ found
+-- a search from the end goes on past an entry that is not such, and ends at one that is
+pub last_goes_on : (p : Entry → Bool) (at : ℕ) (es : List Entry) (m n : ℕ) (d : Entry) → m ≡ suc n → n < length es → p (get_or es n d) ≡ false
+    → last_where p None at (take m es) ≡ last_where p None at (take n es)
+last_goes_on p at es m n d is inside other =
+    ap (λ k. last_where p None at (take k es)) is ∙ last_more p None at es n d inside
+    ∙ ap (λ b. cond b (Some (at + n)) (last_where p None at (take n es))) other
+
+pub last_found : (p : Entry → Bool) (at : ℕ) (es : List Entry) (m n : ℕ) (d : Entry) → m ≡ suc n → n < length es → p (get_or es n d) ≡ true
+    → last_where p None at (take m es) ≡ Some (at + n)
+last_found p at es m n d is inside such =
+    ap (λ k. last_where p None at (take k es)) is ∙ last_more p None at es n d inside
+    ∙ ap (λ b. cond b (Some (at + n)) (last_where p None at (take n es))) such
+
+pub none_found : (p : Entry → Bool) (at : ℕ) (es : List Entry) (m : ℕ) → m ≡ 0 → last_where p None at (take m es) ≡ None
 unfolding last_where
-last_found p found at es i over = at_drop_all (last_where p found at) es i over
+none_found p at es m is = ap (λ k. last_where p None at (take k es)) is
+
+-- bars that are over are left out, and the first that isn't is where that ends
+pub left_goes_on : (at : ℕ) (bs : List Bar) (i : ℕ) (d : Bar) → i < length bs → is_over at (get_or bs i d) ≡ true → left_at at (drop i bs) ≡ left_at at (drop (i + 1) bs)
+unfolding left_at
+left_goes_on at bs i d inside over = at_drop_more (left_at at) bs i d inside ∙ ap (λ b. cond b (left_at at (drop (i + 1) bs)) (get_or bs i d ∷ drop (i + 1) bs)) over
+
+pub left_from : (at : ℕ) (bs : List Bar) (i : ℕ) (d : Bar) → i < length bs → is_over at (get_or bs i d) ≡ false → left_at at (drop i bs) ≡ drop i bs
+unfolding left_at
+left_from at bs i d inside other =
+    at_drop_more (left_at at) bs i d inside ∙ ap (λ b. cond b (left_at at (drop (i + 1) bs)) (get_or bs i d ∷ drop (i + 1) bs)) other
+    ∙ sym (drop_more bs i d inside)
+
+pub none_left : (at : ℕ) (bs : List Bar) (i : ℕ) → length bs ≤ i → left_at at (drop i bs) ≡ []
+unfolding left_at
+none_left at bs i over = at_drop_all (left_at at) bs i over
+
+-- a search that no bar that is over passes finds the same among those that are left
+same_first : (p : Bar → Bool) (at : ℕ) → ((b : Bar) → is_over at b ≡ true → p b ≡ false) → (bs : List Bar) → first_bar p (left_at at bs) ≡ first_bar p bs
+unfolding first_bar left_at
+same_first p at fails [] = refl
+same_first p at fails (b ∷ bs) = by (is_over at b) refl (same_first p at fails bs)
+  where
+    by : (over : Bool) → is_over at b ≡ over → first_bar p (left_at at bs) ≡ first_bar p bs
+        → first_bar p (cond over (left_at at bs) (b ∷ bs)) ≡ first_bar p (b ∷ bs)
+    by true is rest = rest ∙ sym (ap (λ c. cond c (Some b) (first_bar p bs)) (fails b is))
+    by false is rest = refl
+
+-- a bar that is over runs no more, and no later entry decides its task
+over_is_still : (at later : ℕ) (unit : ℕ) (b : Bar) → at ≤ later → is_over at b ≡ true → runs unit later b ≡ false
+over_is_still at later unit b le over =
+    let parts = and_parts (is_before b.task.last at) (nat_lt b.end at) over in
+    let ends = ltb-true b.end at parts.1 in
+    and_right (b.task.unit.0 == unit) (nat_le b.start later && nat_le later b.end) (and_right (nat_le b.start later) (nat_le later b.end) (lt-leb later b.end (omega (arith, le, ends))))
+
+not_decided : (last : Option ℕ) (at later : ℕ) → at ≤ later → is_before last at ≡ true → is_number last later ≡ false
+not_decided None at later le is = refl
+not_decided (Some m) at later le is = let before = ltb-true m at is in ne_eqb m later (λ e. omega (arith, le, before, e))
+
+over_is_no_victim : (at later : ℕ) (e : Entry) (b : Bar) → at ≤ later → is_over at b ≡ true → is_victim e later b ≡ false
+over_is_no_victim at later e b le over =
+    let parts = and_parts (is_before b.task.last at) (nat_lt b.end at) over in
+    and_right (is_number e.first b.task.number) (is_number b.task.last later) (not_decided b.task.last at later le parts.0)
+
+-- so an entry's marks are the same, and those of all from there on
+same_squash : (es : List Entry) (bs : List Bar) (at later : ℕ) (e : Entry) (why : Option CutKind) → at ≤ later
+    → squashed es (left_at at bs) later e why ≡ squashed es bs later e why
+same_squash es bs at later e (Some cause.Violation) le = ap (taken es later e) (same_first (is_victim e later) at (λ b. over_is_no_victim at later e b le) bs)
+same_squash es bs at later e (Some cause.Guess) le = refl
+same_squash es bs at later e (Some cause.Cancel) le = refl
+same_squash es bs at later e None le = refl
+
+same_task : (bs : List Bar) (at later unit : ℕ) → at ≤ later → task_at (left_at at bs) unit later ≡ task_at bs unit later
+same_task bs at later unit le = ap task_of (same_first (runs unit later) at (λ b. over_is_still at later unit b le) bs)
+
+same_shape : (bs : List Bar) (at later : ℕ) (e : Entry) (kind : Option MarkKind) → at ≤ later → shape (left_at at bs) later e kind ≡ shape bs later e kind
+same_shape bs at later e None le = refl
+same_shape bs at later e (Some kind) le = rw (same_task bs at later e.unit.0 le) refl
+
+same_arrow : (kind : MarkKind) (bs : List Bar) (at later : ℕ) (e : Entry) (other : Option Spot) → at ≤ later
+    → arrow kind (left_at at bs) later e other ≡ arrow kind bs later e other
+same_arrow kind bs at later e None le = refl
+same_arrow kind bs at later e (Some spot) le = rw (same_task bs at later e.unit.0 le) refl
+
+same_marks : (es : List Entry) (w : Window) (bs : List Bar) (at later : ℕ) (e : Entry) → at ≤ later
+    → marks_at es w (left_at at bs) later e ≡ marks_at es w bs later e
+same_marks es w bs at later e le =
+    let one = same_shape bs at later e (kind_of e.reply) le in
+    let two = same_arrow mark.Handed bs at later e (handed es w later e e.from) le in
+    let three = same_squash es bs at later e e.cause le in
+    let four = same_arrow mark.Squash bs at later e (squashed es bs later e e.cause) le in
+    let right = ap (arrow mark.Squash (left_at at bs) later e) three ∙ four in
+    rw (one, two, right) refl
+
+marks_of_left : (es : List Entry) (w : Window) (bs : List Bar) (at later : ℕ) (rest : List Entry) → at ≤ later
+    → marks_from es w (left_at at bs) later rest ≡ marks_from es w bs later rest
+unfolding marks_from
+marks_of_left es w bs at later [] le = refl
+marks_of_left es w bs at later (e ∷ rest) le =
+    ap (λ ms. ms ++ marks_from es w (left_at at bs) (suc later) rest) (same_marks es w bs at later e le)
+    ∙ ap (λ ms. marks_at es w bs later e ++ ms) (marks_of_left es w bs at (suc later) rest (omega (arith, le)))
 
 -- nothing stands between an index and one that isn't above it
 pub nothing_between : (from to : ℕ) (es : List Entry) → to ≤ from → between from to es ≡ []
@@ -94,3 +199,12 @@ pub all_marks : (es : List Entry) (w : Window) (bs : List Bar) (at to : ℕ) (ma
     → marks ++ marks_from es w bs at (between at to es) ≡ all → marks ≡ all
 all_marks es w bs at to marks all over so_far =
     sym (append-nil marks) ∙ ap (λ xs. marks ++ xs) (sym (no_marks es w bs at to over)) ∙ so_far
+
+-- the same where the bars that are over are left out first
+pub one_more_left : (es : List Entry) (w : Window) (bs left : List Bar) (at to : ℕ) (d : Entry) (old new all : List Mark) → at < to → to ≤ length es
+    → left ≡ left_at at bs → new ≡ old ++ marks_at es w left at (get_or es at d) → old ++ marks_from es w bs at (between at to es) ≡ all
+    → new ++ marks_from es w left (at + 1) (between (at + 1) to es) ≡ all
+one_more_left es w bs left at to d old new all below inside is pushed so_far =
+    let here : at ≤ at = omega arith in
+    one_more_mark es w left at to d old new all below inside pushed
+    (ap (λ ms. old ++ ms) (ap (λ l. marks_from es w l at (between at to es)) is ∙ marks_of_left es w bs at at (between at to es) here) ∙ so_far)

@@ -1,5 +1,5 @@
 -- The marks of a picture: what each entry that is shown did.
-use Rattle.std.specs.Prelude.{ℕ, suc, ◌-◌, ◌==◌, Bool, true, false, cond, ◌&&◌, List, [], ◌∷◌, ◌++◌, Option, Some, None, slice_range}
+use Rattle.std.specs.Prelude.{ℕ, suc, ◌==◌, nat_lt, Bool, true, false, cond, ◌&&◌, List, [], ◌∷◌, ◌++◌, Option, Some, None, slice_range}
 use Rattle.svc_base.specs.declared.ids.UnitId.{UnitId}
 use Rattle.svc_base.specs.declared.ids.WordAddr.{WordAddr}
 use Rattle.svc_history_laws.specs.declared.entry.Entry.{Entry}
@@ -69,6 +69,20 @@ between from to es = slice_range es from to
 unfoldable pub first_bar : (Bar → Bool) → List Bar → Option Bar
 first_bar p [] = None
 first_bar p (b ∷ bs) = cond (p b) (Some b) (first_bar p bs)
+
+-- the entry is before this one, if there is one
+abbrev pub is_before : Option ℕ → (at : ℕ) → Bool
+is_before None at = false
+is_before (Some m) at = nat_lt m at
+
+-- the bar's task was decided before an index, and the bar ended before it
+abbrev pub is_over : (at : ℕ) → Bar → Bool
+is_over at b = is_before b.task.last at && nat_lt b.end at
+
+-- the bars without the first ones that are over
+unfoldable pub left_at : (at : ℕ) → List Bar → List Bar
+left_at at [] = []
+left_at at (b ∷ bs) = cond (is_over at b) (left_at at bs) (b ∷ bs)
 
 abbrev pub task_of : Option Bar → Option TaskRun
 task_of None = None

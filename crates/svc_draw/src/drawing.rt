@@ -6,10 +6,10 @@ use crate::bars::Bar;
 use crate::defs::{fill_of, name_of};
 use crate::frame::{BOTTOM, Frame, Point, TOP};
 use crate::marks::{Mark, MarkKind};
+use crate::rows::Rows;
 use crate::shapes::{diamond, put, ring, square};
 use std::alloc::{AllocError, Global};
 use std::io::Write;
-use svc_report::write_entry;
 use svc_view::TaskRun;
 
 // What a text stands in: black on a white rim.
@@ -81,13 +81,16 @@ pub(crate) fn write_name(
 }
 
 // Writes a mark's row of the trace, for the pointer.
-fn write_title(alloc: Global, mark: &Mark, text: &mut Vec<u8>) -> Result<(), AllocError> {
+fn write_title(
+    frame: &Frame,
+    rows: &Rows,
+    mark: &Mark,
+    text: &mut Vec<u8>,
+) -> Result<(), AllocError> {
     let place = mark.place;
+    let index = place.saturating_sub(frame.window.from);
     put!(text, "<title>entry {place}: ")?;
-    match write_entry(alloc, &mark.entry, text) {
-        Ok(()) => {}
-        Err(_) => return Err(AllocError),
-    }
+    text.extend_from_slice(rows.row(index as usize))?;
     put!(text, "</title>")
 }
 
@@ -112,8 +115,8 @@ fn arrow(text: &mut Vec<u8>, from: Point, to: Point, form: &str) -> Result<(), A
 
 /// Writes a mark: what it is, and its row of the trace.
 pub(crate) fn write_mark(
-    alloc: Global,
     frame: &Frame,
+    rows: &Rows,
     mark: &Mark,
     text: &mut Vec<u8>,
 ) -> Result<(), AllocError> {
@@ -127,7 +130,7 @@ pub(crate) fn write_mark(
         MarkKind::Handed => arrow(text, frame.other_end(mark), middle, THIN)?,
         MarkKind::Squash => arrow(text, middle, frame.other_end(mark), BOLD)?,
     }
-    write_title(alloc, mark, text)?;
+    write_title(frame, rows, mark, text)?;
     let close = close_of(mark.kind);
     put!(text, "</{close}>\n")
 }

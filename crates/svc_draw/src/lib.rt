@@ -9,6 +9,7 @@ mod frame;
 mod legend;
 pub mod marks;
 mod picture;
+mod rows;
 mod shapes;
 
 pub use bars::{Bar, Window, bars_of};

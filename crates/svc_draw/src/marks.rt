@@ -4,7 +4,7 @@ ghost use Rattle.std.specs.Prelude.{◌≡◌, ◌+◌, ◌≤◌, ◌++◌, Non
 ghost use Rattle.svc_base.specs.declared.config.TheConstants.{MAX_EVENTS};
 ghost use Rattle.svc_report.specs.declared.error.ReportError.TheVariants.{Memory};
 ghost use Rattle.svc_view.specs.Runs.{is_number, is_store};
-ghost use Rattle.svc_draw.specs.Marks.{arrow, between, first_bar, first_where, handed, is_given, is_same_word, is_taken, is_victim, kind_of, last_where, marks_at, marks_of, shape, squashed, stores, takes, taken, task_at};
+ghost use Rattle.svc_draw.specs.Marks.{arrow, between, first_bar, first_where, handed, is_given, is_over, is_same_word, is_taken, is_victim, kind_of, last_where, left_at, marks_at, marks_of, shape, squashed, stores, takes, taken, task_at};
 
 use crate::bars::{Bar, Window};
 use std::alloc::Global;
@@ -122,20 +122,17 @@ fn takes(unit: UnitId, word: Option<WordAddr>, entry: &Entry) -> bool
 }
 
 // The index of the last of these entries by which the unit stored the word. The first of them has this index.
-
 fn stored_at(entries: &[Entry], unit: UnitId, word: Option<WordAddr>, from: u64) -> Option<u64>
     requires few { from + length entries.now ≤ MAX_EVENTS }
     ensures { result ≡ last_where (stores unit word) None from entries.now }
 {
-    let mut found = None;
-    let mut at = from;
-    for entry in entries {
-        if stores(unit, word, entry) {
-            found = Some(at);
+    for after in 0..entries.len() {
+        let index = entries.len() - 1 - after;
+        if stores(unit, word, &entries[index]) {
+            return Some(from + index as u64);
         }
-        at += 1;
     }
-    found
+    None
 }
 
 // The index of the first of these entries by which the unit took the word from elsewhere.
@@ -343,6 +340,29 @@ fn push_marks(
     )
 }
 
+// The bar's task was decided before an index, and so the bar has ended there.
+fn is_over(bar: &Bar, at: u64) -> bool
+    ensures { result ≡ is_over at bar.now }
+{
+    match bar.task.last {
+        Some(last) => last < at && bar.end < at,
+        None => false,
+    }
+}
+
+// The bars without the first ones that are over. Tasks stand in the order in which they were decided, so few are left before
+// those that run.
+fn left_at(bars: &[Bar], at: u64) -> &[Bar]
+    ensures { result.now ≡ left_at at bars.now }
+{
+    for index in 0..bars.len() {
+        if !is_over(&bars[index], at) {
+            return &bars[index..];
+        }
+    }
+    &[]
+}
+
 /// The marks of the entries shown, in their order.
 ///
 /// Errors: [`ReportError::Memory`].
@@ -358,8 +378,10 @@ pub fn marks_of(
     ensures err { IfErr result (λ e. e ≡ Memory) }
 {
     let mut marks = Vec::new(alloc);
+    let mut left = bars;
     for at in window.from..window.to {
-        push_marks(entries, window, bars, at, &entries[at as usize], &mut marks)?;
+        left = left_at(left, at);
+        push_marks(entries, window, left, at, &entries[at as usize], &mut marks)?;
     }
     Ok(marks)
 }

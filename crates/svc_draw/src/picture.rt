@@ -10,6 +10,7 @@ use crate::drawing::{write_bar, write_mark, write_name, write_words};
 use crate::frame::Frame;
 use crate::legend::{write_axis, write_heads, write_lanes, write_legend};
 use crate::marks::{Mark, MarkKind, marks_of};
+use crate::rows::Rows;
 use crate::shapes::put;
 use std::alloc::{AllocError, Global};
 use std::io::Write;
@@ -27,15 +28,15 @@ fn layer(kind: MarkKind) -> u8 {
 
 // Writes the marks of a layer.
 fn write_layer(
-    alloc: Global,
     frame: &Frame,
+    rows: &Rows,
     marks: &[Mark],
     wanted: u8,
     text: &mut Vec<u8>,
 ) -> Result<(), AllocError> {
     for mark in marks {
         if layer(mark.kind) == wanted {
-            write_mark(alloc, frame, mark, text)?;
+            write_mark(frame, rows, mark, text)?;
         }
     }
     Ok(())
@@ -73,11 +74,12 @@ fn write_names(
     Ok(())
 }
 
-// The text of a picture of these bars and marks, of a history of so many entries.
+// The text of a picture of these rows, bars and marks, of a history of so many entries.
 fn text_of(
     alloc: Global,
     frame: &Frame,
     total: usize,
+    rows: &Rows,
     bars: &[Bar],
     marks: &[Mark],
 ) -> Result<Vec<u8>, AllocError> {
@@ -88,7 +90,7 @@ fn text_of(
     write_lanes(frame, &mut text)?;
     write_bars(frame, bars, &mut text)?;
     for wanted in 0..3 {
-        write_layer(alloc, frame, marks, wanted, &mut text)?;
+        write_layer(frame, rows, marks, wanted, &mut text)?;
     }
     write_values(frame, marks, &mut text)?;
     write_names(alloc, frame, bars, &mut text)?;
@@ -115,10 +117,11 @@ pub fn draw(
     let window = Window::of(entries, from, count);
     let bars = bars_of(alloc, entries, &window)?;
     let marks = marks_of(alloc, entries, &window, &bars)?;
+    let rows = Rows::of(alloc, &entries[window.from as usize..window.to as usize])?;
     let frame = Frame {
         window,
         units: units as u8,
     };
-    let text = text_of(alloc, &frame, entries.len(), &bars, &marks)?;
+    let text = text_of(alloc, &frame, entries.len(), &rows, &bars, &marks)?;
     Ok(text)
 }

@@ -4,5 +4,5 @@ use Rattle.svc_draw.proofs.marks.marks_of.Given as goal
 
 abbrev pub invariant-loop-at : goal.invariant-loop-at
 invariant-loop-at l =
-    l.marks.items ++ marks_from l.entries l.window l.bars l.at (between l.at l.window.to l.entries)
+    l.marks.items ++ marks_from l.entries l.window l.left l.at (between l.at l.window.to l.entries)
     ≡ marks_of l.entries l.window l.bars
