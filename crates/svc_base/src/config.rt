@@ -22,7 +22,7 @@ pub const MAX_EVENTS: u32 = 1_000_000;
 /// The greatest number of turns of a unit thread's loop.
 pub const MAX_TURNS: u32 = 10_000_000;
 
-/// The numbers of a run. Each is in its range, by the type.
+/// The numbers of a run. The type guarantees that each is in its range.
 #[derive(Clone, Copy, Debug, PartialEq, Eq)]
 pub struct Config {
     /// How many units there are.
@@ -31,9 +31,9 @@ pub struct Config {
     pub sets: u32,
     /// How many lines a set holds.
     pub ways: u32,
-    /// How many events are accepted at most.
+    /// The largest number of events that are accepted.
     pub events: u32,
-    /// How many turns each unit thread's loop takes at most.
+    /// The largest number of turns that each unit thread's loop takes.
     pub turns: u32,
     pub ghost some_units: { 1 ≤ units },
     pub ghost few_units: { units ≤ MAX_UNITS },
@@ -115,7 +115,7 @@ impl Config {
 }
 
 impl ConfigError {
-    /// The number by which the program tells of this error.
+    /// The number by which the program reports this error.
     pub fn number(self) -> u8
         ensures { result ≡ error_number self }
     {

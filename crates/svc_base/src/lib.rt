@@ -1,5 +1,5 @@
-//! What every part of the simulator speaks of: units, tasks, word addresses, the configuration of a run, limits, the
-//! reasons for which a call is refused, and who supplies a read.
+//! The vocabulary of the whole simulator: units, tasks, word addresses, the configuration of a run,
+//! limits, the reasons for which an event is refused, and who supplies a read.
 #![tactic(auto)]
 
 pub mod config;

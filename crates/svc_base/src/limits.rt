@@ -1,7 +1,7 @@
 // The limits of tasks that no configuration sets.
 
-/// The most turns in a burst, an asked one among them.
+/// The most turns in a burst, including an asked one.
 pub const MAX_BURST_TURNS: u32 = 63;
 
-/// The most words that one task puts out.
+/// The most words that one task can output.
 pub const MAX_TASK_OUTPUT: usize = 64;

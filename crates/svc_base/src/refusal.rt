@@ -15,7 +15,7 @@ pub enum OpenError {
 }
 
 impl OpenError {
-    /// The number by which the program tells of this error.
+    /// The number by which the program reports this error.
     pub fn number(self) -> u8
         ensures { result ≡ 1 }
     {
@@ -30,13 +30,14 @@ impl OpenError {
 pub enum Refusal {
     /// The named unit is not one of the machine's.
     NoSuchUnit,
-    /// The unit has a task already.
+    /// The unit already has a task.
     Busy,
     /// The unit has no task.
     Idle,
-    /// The burst is not of the unit's task as it stands: its epoch or its start core is another.
+    /// The burst doesn't start where the unit's task is: its epoch or its start core is a different
+    /// one.
     Stale,
-    /// The burst looked at text that the machine's image has not.
+    /// The burst looked at text that isn't the machine's image's.
     ForeignText,
     /// A task is active, and the guess is not an entry.
     NotEntry,
@@ -44,9 +45,9 @@ pub enum Refusal {
     Stopped,
     /// The unit's task has ended.
     Done,
-    /// The unit's cache has no room for the word that the burst asks for: there is no line of it, and every
-    /// place of its set is taken. The address is the word to replace first: the lowest in the set whose line
-    /// is committed, and where no line of the set is, the lowest.
+    /// The unit's cache has no room for the word that the burst asks for: there is no line of it, and every place of
+    /// its set is taken. The address is the word to replace first: the lowest in the set whose line is committed, or if
+    /// no line of the set is, the lowest.
     SetFull(WordAddr),
     /// The unit's cache has nothing to replace at that word.
     NotResident,
@@ -60,15 +61,15 @@ pub enum Refusal {
     IsHead,
     /// As many events were accepted as the configuration allows.
     HistoryFull,
-    /// All epochs were given.
+    /// All epochs have been given out.
     EpochsSpent,
     /// The burst has no turn and asks for nothing.
     EmptyBurst,
 }
 
 impl Refusal {
-    /// The number by which scripts and reports name this refusal, 1 to 17. Where several refusals
-    /// apply to an event, the one of the lowest number is answered.
+    /// The number by which scripts and reports name this refusal, 1 to 17. If several refusals
+    /// apply to an event, the one with the lowest number is the answer.
     #[tactic(auto, unfolding(crate::specs::Refusals::number_of))]
     pub fn number(self) -> u8
         ensures { result ≡ number_of self }

@@ -2,8 +2,8 @@
 
 use crate::ids::UnitId;
 
-/// Who supplies the value that a task reads: the first of these that is there. The bus plans a read by it, and a reply
-/// tells it. (Terms: Gopal, Vijaykumar, Smith, Sohi, "Speculative Versioning Cache", HPCA 1998: the version control
+/// Who supplies the value that a task reads: the first of these that exists. The bus plans a read by it, and a reply
+/// reports it. (Terms: Gopal, Vijaykumar, Smith, Sohi, "Speculative Versioning Cache", HPCA 1998: the version control
 /// logic supplies a load with the nearest version before it. The order of the suppliers is this simulator's own.)
 #[derive(Clone, Copy, Debug, PartialEq, Eq)]
 pub enum Served {
