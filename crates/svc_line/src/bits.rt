@@ -3,13 +3,14 @@ ghost use Rattle.svc_line.specs.Bits.{bits_of, loaded, stored, committed, squash
 
 use bitflags::{Flag, Flags, bitflag_items};
 
-/// The bits of a line. A line without V is not there, whatever its other bits.
+/// The bits of a line (the V, S, L, C and T bits of HPCA 1998). A line without V isn't valid,
+/// whatever its other bits.
 #[derive(Clone, Copy, PartialEq, Eq, Debug)]
 pub struct LineBits(u8);
 
 bitflag_items! {
     impl LineBits: u8 {
-        /// V: the line is there.
+        /// V: the line is valid.
         const VALID = 1;
         /// S: the line was stored to, so it holds a version.
         const STORE = 2;
@@ -56,21 +57,21 @@ impl LineBits {
         self.contains(LineBits::VALID)
     }
 
-    /// The line is there and its task is not committed.
+    /// The line is valid and its task is not committed.
     pub fn is_active(self) -> bool
         ensures { result ≡ is_active (bits_of self) }
     {
         self.is_valid() && !self.contains(LineBits::COMMIT)
     }
 
-    /// The line is there and its task is committed.
+    /// The line is valid and its task is committed.
     pub fn is_committed(self) -> bool
         ensures { result ≡ is_committed (bits_of self) }
     {
         self.is_valid() && self.contains(LineBits::COMMIT)
     }
 
-    /// The line is there and holds a version.
+    /// The line is valid and holds a version.
     pub fn is_dirty(self) -> bool
         ensures { result ≡ is_dirty (bits_of self) }
     {
@@ -84,16 +85,16 @@ impl LineBits {
         self.is_active() && self.contains(LineBits::LOAD)
     }
 
-    /// The line is a committed copy that no later store has passed: its unit's next task may use it
-    /// without a bus request.
+    /// The line is a committed copy that no later store has made stale: its unit's next task may
+    /// use it without a bus request.
     pub fn is_reusable(self) -> bool
         ensures { result ≡ is_reusable (bits_of self) }
     {
         self.is_committed() && !self.contains(LineBits::STORE) && !self.contains(LineBits::STALE)
     }
 
-    /// The bits of a line that a load fills. `first_use` says that the task depends on the value, as it
-    /// does unless it is its own; `overtaken` that a later task has a version.
+    /// The bits of a line that a load fills. `first_use` says that the task depends on the value,
+    /// as it does unless the value is its own; `overtaken` that a later task has a version.
     pub fn on_load(first_use: bool, overtaken: bool) -> LineBits
         ensures { bits_of result ≡ loaded first_use overtaken }
     {
