@@ -1,4 +1,4 @@
-//! The order of the active tasks, as the units that run them: tasks are assigned at the end and leave
+//! The order of the active tasks, as the units that run them: tasks are added at the tail and leave
 //! at the head (Sohi, Breach, Vijaykumar, "Multiscalar Processors", ISCA 1995).
 #![tactic(auto)]
 

@@ -7,7 +7,7 @@ use svc_base::UnitId;
 /// How many tasks can be active at once: as many as there can be units.
 pub const CAPACITY: usize = 16;
 
-/// The units of the active tasks, oldest first. No unit stands in it twice.
+/// The units of the active tasks, oldest first. No unit is in it twice.
 ///
 /// Contracts see the list of the units' numbers. A task's position counts from 0, which is the head's.
 #[derive(Drop)]
@@ -51,7 +51,7 @@ impl TaskQueue {
         self.units.is_empty()
     }
 
-    /// Puts a new task of the unit last.
+    /// Adds a new task of the unit at the tail.
     pub fn push(&mut self, unit: UnitId)
         requires room { length self.old < CAPACITY }
         requires idle { ¬ Contains self.old unit.0 }
@@ -87,14 +87,14 @@ impl TaskQueue {
         self.units[position]
     }
 
-    /// Takes out the task at the position and all that are younger.
+    /// Removes the task at the position and all that are younger.
     pub fn cut_from(&mut self, position: usize)
         ensures { self.new ≡ take position self.old }
     {
         self.units.truncate(position);
     }
 
-    /// Takes out the oldest task, and answers its unit.
+    /// Removes the oldest task, and returns its unit.
     pub fn pop_head(&mut self) -> UnitId
         requires { 0 < length self.old }
         ensures { self.old ≡ result.0 ∷ self.new }
