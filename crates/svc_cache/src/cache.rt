@@ -17,7 +17,7 @@ use svc_line::Line;
 
 /// A cache of one unit.
 ///
-/// Contracts see the map `line_of` from word address to line. A line without V is not there.
+/// Contracts see the map `line_of` from word address to line. A line without V isn't in it.
 #[derive(Drop)]
 pub struct Cache {
     sets: u32,
@@ -37,7 +37,7 @@ impl Model for Cache {
     ghost invariant = { λ cache. IsSound (value_of cache) };
 }
 
-// So many empty places.
+// A number of empty places.
 fn empty_places(alloc: Global, count: usize) -> Result<Vec<Place>, AllocError>
     ensures size { IfOk result (λ places. length places.items ≡ count) }
     ensures empty { IfOk result (λ places. All (λ place. is_held place ≡ false) places.items) }
@@ -48,7 +48,7 @@ fn empty_places(alloc: Global, count: usize) -> Result<Vec<Place>, AllocError>
 impl Cache {
     ghost use Rattle.svc_cache.specs.Sound.{IsSound};
 
-    /// A cache without lines. It takes its memory here, and no more later.
+    /// A cache without lines. It allocates all its memory here.
     pub fn open(alloc: Global, sets: u32, ways: u32) -> Result<Cache, OpenError>
         requires power { IsTrue (is_power_of_two sets) }
         requires few_sets { sets ≤ MAX_SETS }
@@ -97,8 +97,8 @@ impl Cache {
         Some(row[place].line)
     }
 
-    /// The word whose line is to be replaced before a line of `word` can be filled, exactly where
-    /// `word` has no line and its set is full.
+    /// The word whose line has to be replaced before a line of `word` can be filled: there is one
+    /// exactly if `word` has no line and its set is full.
     pub fn full(&self, word: WordAddr, probes: &mut Probes) -> Option<WordAddr>
         requires room { HasRoom probes.old self.now.ways }
         ensures address { (bound : ℕ) → EndsBelow (line_of self.now) bound
@@ -112,7 +112,7 @@ impl Cache {
         }
     }
 
-    /// Puts the line of the word in its place, over the line that the word had, if any. Where the set
+    /// Puts the line of the word in its place, over the line that the word had, if any. If the set
     /// is full, nothing changes.
     pub fn fill(&mut self, word: WordAddr, line: Line, probes: &mut Probes) -> Result<(), SetFull>
         requires valid { (bits_of line.bits).valid ≡ true }

@@ -6,7 +6,7 @@ use bitflags::Flags;
 use svc_base::WordAddr;
 use svc_line::{Line, LineBits};
 
-/// A place of a cache. It holds its word while the line's bits have V, and else it is empty.
+/// A place of a cache. It holds its word while the line's bits have V; otherwise it is empty.
 #[derive(Clone, Copy, Debug, PartialEq, Eq)]
 pub struct Place {
     /// The word of the line.
@@ -52,8 +52,8 @@ impl Place {
         self.is_held() && self.word.0 == word.0
     }
 
-    /// Of two places that hold lines, this one's goes first when a line has to leave: a committed line
-    /// before an active one, and else the lower word.
+    /// Of two places that hold lines, this one's leaves first when a line has to: a committed line
+    /// before an active one, otherwise the lower word.
     pub fn precedes(&self, other: &Place) -> bool
         ensures { result ≡ precedes self.now other.now }
     {

@@ -1,6 +1,6 @@
 ghost use Rattle.std.specs.Prelude.{◌≡◌};
 
-/// The work that look-ups did, as its lender counts it.
+/// The work that look-ups have done, counted for the caller that passes it in.
 #[derive(Clone, Copy, Debug, Default, PartialEq, Eq)]
 pub struct Probes {
     /// How many times a cache's set was searched.

@@ -1,4 +1,4 @@
-//! A cache as a searched list of places: what the rows of places are measured by.
+//! A cache as a searched list of places, with which the rows of places are compared.
 //!
 //! The list has its places in no order, so a search of it looks at all of them. Each is counted as
 //! visited once, however often the search comes back to it.
@@ -17,9 +17,9 @@ use std::test::Fail;
 use svc_base::WordAddr;
 use svc_line::Line;
 
-/// A list of the lines that a cache would have. Contracts see the map `line_in` from word address to
-/// line, and say of it what a cache's contracts say of the cache's map. The searches are counted as a
-/// cache's are, but a search visits as many places as the list has, and not as a set has ways.
+/// A list of the lines that a cache would have. Contracts see the map `line_in` from word address to line, and say
+/// about it what a cache's contracts say about the cache's map. The searches are counted as a cache's are, but a search
+/// visits as many places as the list has, not as many as a set has ways.
 #[derive(Drop)]
 pub(crate) struct SearchedLines {
     sets: u32,
@@ -147,8 +147,8 @@ impl SearchedLines {
         Some(self.places[place].line)
     }
 
-    /// The word whose line is to be replaced before a line of `word` can be filled, exactly where
-    /// `word` has no line and its set is full.
+    /// The word whose line has to be replaced before a line of `word` can be filled: there is one
+    /// exactly if `word` has no line and its set is full.
     pub(crate) fn full(&self, word: WordAddr, probes: &mut Probes) -> Option<WordAddr>
         requires room { HasRoom probes.old (length self.now.places) }
         ensures address { (bound : ℕ) → EndsBelow (line_in self.now) bound
@@ -167,8 +167,8 @@ impl SearchedLines {
         Some(self.places[victim].word)
     }
 
-    /// Puts the line of the word in the list, over the line that the word had, if any. Where the set is
-    /// full, or memory runs out, nothing changes.
+    /// Puts the line of the word in the list, over the line that the word had, if any. If the set
+    /// is full, or memory runs out, nothing changes.
     pub(crate) fn fill(
         &mut self,
         word: WordAddr,
