@@ -20,8 +20,8 @@ pub const CAPACITY: usize = 16;
 
 /// The valid lines of a word, in order: the committed ones, then the active ones.
 ///
-/// Among the committed lines those that were stored to stand in the order of their tasks, oldest first.
-/// An active line stands at the place of its task in the queue.
+/// Among the committed lines those that were stored to are in the order of their tasks, oldest
+/// first. An active line is at the place of its task in the queue.
 #[derive(Drop)]
 pub struct VersionList {
     committed: ArrayVec<Version, CAPACITY>,
@@ -36,7 +36,7 @@ impl Model for VersionList {
     ghost view = { λ list. record { committed = list.committed.items; active = list.active.items } };
 }
 
-// The line, where it is committed and was not stored to.
+// The line, if it is committed and was not stored to.
 fn copy_in(line: &Option<Line>) -> Option<Line>
     ensures { IsCopyIn line.now result }
 {
@@ -46,8 +46,8 @@ fn copy_in(line: &Option<Line>) -> Option<Line>
     }
 }
 
-// One look into each cache: the word's line in it. A list is filled where it stays: to hand one on costs more than to fill
-// it.
+// One look-up in each cache: the word's line in it. A list is filled in place, since passing one on
+// costs more than filling it.
 fn find(
     found: &mut ArrayVec<Option<Line>, CAPACITY>,
     caches: &[Cache],
@@ -66,7 +66,7 @@ fn find(
     }
 }
 
-// The word's line in a cache, which is searched where the line isn't known.
+// The word's line in a cache, which is searched if the line isn't known.
 fn line_beside(
     cache: &Cache,
     word: WordAddr,
@@ -86,7 +86,7 @@ fn line_beside(
     }
 }
 
-// The same of all caches but the unit's, whose line is known.
+// The same for all caches but the unit's, whose line is known.
 fn find_others(
     found: &mut ArrayVec<Option<Line>, CAPACITY>,
     caches: &[Cache],
@@ -202,7 +202,7 @@ impl VersionList {
         VersionList::of_found(&found, queue)
     }
 
-    /// The same, where the unit's line is known already. Each other cache is searched once.
+    /// The same, if the unit's line is known already. Each other cache is searched once.
     pub fn beside(
         caches: &[Cache],
         queue: &TaskQueue,

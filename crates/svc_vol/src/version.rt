@@ -30,7 +30,7 @@ impl Default for Version {
 }
 
 impl Version {
-    /// The unit's line, where it is active.
+    /// The unit's line, if it is active.
     pub(crate) fn active(unit: UnitId, line: Option<Line>) -> Option<Version>
         ensures { option_map seen_version result ≡ active_version unit.0 (option_map seen line) }
     {

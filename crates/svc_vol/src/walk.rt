@@ -96,7 +96,8 @@ fn next_of(found: &[Option<Line>], unit: usize) -> Option<usize>
     }
 }
 
-/// The units of the committed versions, oldest first: along the links, from the version that no other links to.
+/// The units of the committed versions, oldest first: along the links, from the version to which no
+/// other links.
 pub(crate) fn oldest_first(order: &mut ArrayVec<usize, CAPACITY>, found: &[Option<Line>])
     requires empty { order.old.items ≡ [] }
     requires few { length found.now ≤ CAPACITY }
