@@ -1,5 +1,5 @@
-//! Version control logic: what the bus does about a request, by the word's version list (Gopal,
-//! Vijaykumar, Smith, Sohi, "Speculative Versioning Cache", HPCA 1998). It decides and changes nothing.
+//! Version control logic: what the bus does about a request, decided from the word's version list (Gopal,
+//! Vijaykumar, Smith, Sohi, "Speculative Versioning Cache", HPCA 1998). It only decides, and changes nothing.
 #![tactic(auto)]
 
 pub mod read;

@@ -25,8 +25,8 @@ pub struct ReadPlan {
     pub bits: LineBits,
 }
 
-// The supplier where the unit's own line is none, and its value: the nearest earlier version, else the
-// spilled value, else the newest committed version, else the backing memory.
+// The supplier if the unit's own line isn't, and its value: the nearest earlier version, otherwise
+// the spilled value, otherwise the newest committed version, otherwise the backing memory.
 fn supplier(list: &VersionList, place: usize, spill: Option<u32>, backing: u32) -> (Served, u32)
     requires { place < length list.now.active }
     ensures served { (b : BusState) (t : LineTable) (a unit : ℕ)
@@ -55,9 +55,9 @@ fn is_first_use(place: usize, spill: Option<u32>) -> bool
     place != 0 || spill.is_none()
 }
 
-/// The plan of a read by the unit of the task at a place: whoever supplies the value, the value that
-/// the task sees, and the bits that the unit's line then has. `spill` is the word's spilled value, and
-/// `backing` its word in memory.
+/// The plan of a read by the unit of the task at a place: who supplies the value, the value that
+/// the task sees, and the bits that the unit's line then has. `spill` is the word's spilled value,
+/// and `backing` its value in memory.
 pub fn plan_read(
     list: &VersionList,
     unit: UnitId,

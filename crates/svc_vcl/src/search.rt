@@ -94,7 +94,7 @@ pub(crate) fn newest(committed: &[Version]) -> Option<Version>
     newest
 }
 
-/// The unit's committed copy, where no later store has passed it.
+/// The unit's committed copy, if no later store has made it stale.
 pub(crate) fn reusable(committed: &[Version], unit: UnitId) -> Option<Version>
     ensures { result ≡ reusable_version_in committed.now unit.0 }
 {

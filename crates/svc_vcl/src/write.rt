@@ -18,7 +18,7 @@ use svc_base::UnitId;
 use svc_line::LineBits;
 use svc_vol::{CAPACITY, Version, VersionList};
 
-/// How many lines can become stale at most, as the types tell: all of a version list.
+/// How many lines can become stale at most, going by the types: all of a version list.
 pub const STALE_CAPACITY: usize = 2 * CAPACITY;
 
 /// What a write does.
@@ -44,7 +44,7 @@ fn is_stale(bits: LineBits) -> bool
     bits.contains(LineBits::STALE)
 }
 
-// The bits of the unit's active line, and none where it has no such line.
+// The bits of the unit's active line, or no bits if it has no such line.
 #[tactic(auto, unfolding(svc_line::specs::Bits::bits_of))]
 fn own_bits(entry: &Option<Version>) -> LineBits
     ensures { bits_of result ≡ own_bits entry.now }
@@ -75,7 +75,7 @@ fn list_copies(stale: &mut ArrayVec<Version, STALE_CAPACITY>, committed: &[Versi
     }
 }
 
-// The entry's line, where T is clear.
+// The entry's line, if T is clear.
 fn unmarked(entry: &Option<Version>) -> Option<Version>
     ensures { result ≡ unmarked_entry entry.now }
 {
@@ -98,7 +98,7 @@ fn list_earlier(stale: &mut ArrayVec<Version, STALE_CAPACITY>, earlier: &[Option
     }
 }
 
-// Lists the version, where T is set on it already.
+// Lists the version, if T is set on it already.
 fn list_previous(stale: &mut ArrayVec<Version, STALE_CAPACITY>, previous: Option<Version>)
     requires room { length stale.old.items < STALE_CAPACITY }
     ensures listed { stale.new.items ≡ stale.old.items ++ relinked_in previous }
