@@ -1,5 +1,5 @@
-//! How versions move out of the caches: the parts of a commit, a squash, a bus request and a replacement
-//! that take lines out or settle them, and that move values to the backing memory.
+//! How versions move out of the caches: the parts of a commit, a squash, a bus request and a
+//! replacement that remove lines or set their bits, and that move values to the backing memory.
 //!
 //! A commit moves no line. The newest committed version of a word stays in its cache until the word is
 //! *purged*, at the next bus request for it or replacement of it (the efficient commit design of Gopal,

@@ -32,7 +32,7 @@ fn is_kept(keep: Option<UnitId>, unit: UnitId) -> bool
     }
 }
 
-// The committed line becomes invalid where it holds a version, unless its unit keeps it.
+// The committed line becomes invalid if it holds a version, unless its unit keeps it.
 fn drop_version(
     caches: &mut [Cache],
     version: &Version,
@@ -52,7 +52,7 @@ fn drop_version(
     }
 }
 
-// All of these become invalid that hold versions, except the one of the unit that keeps it.
+// All of these that hold versions become invalid, except the one of the unit that keeps it.
 fn drop_versions(
     caches: &mut [Cache],
     committed: &[Version],

@@ -57,8 +57,8 @@ impl Place {
 /// The spill table: for each word of the memory, the head's version of it whose line was replaced, if
 /// any. A new head finds it empty.
 ///
-/// The words with a version are also kept in a list, so that a commit costs as much as was spilled
-/// since the last one, whatever the memory's size. There is room for both from the opening on.
+/// The words with a version are also kept in a list, so that the cost of a commit depends on what
+/// was spilled since the last one, not on the memory's size. Both are allocated at opening.
 ///
 /// Contracts see the list of the versions by word.
 #[derive(Drop)]
@@ -79,14 +79,14 @@ impl Model for Spill {
     ghost invariant = { λ table. IsListed table.places.items table.words.items table.count };
 }
 
-// So many places without a version.
+// A number of places without a version.
 fn empty_places(alloc: Global, words: usize) -> Result<Vec<Place>, AllocError>
     ensures { IfOk result (λ places. places.items ≡ replicate words Unlisted) }
 {
     vec![in alloc; Place::Unlisted; words]
 }
 
-// So many places for words.
+// A number of places for words.
 fn empty_words(alloc: Global, words: usize) -> Result<Vec<u32>, AllocError>
     ensures { IfOk result (λ list. length list.items ≡ words) }
 {
@@ -94,8 +94,7 @@ fn empty_words(alloc: Global, words: usize) -> Result<Vec<u32>, AllocError>
 }
 
 impl Spill {
-    /// A table without versions, for a memory of so many words. It takes its memory here, and no more
-    /// later.
+    /// A table without versions, for a memory of that many words. It allocates all its memory here.
     pub fn open(alloc: Global, words: usize) -> Result<Spill, OpenError>
         ensures { IfOk result (λ table. table ≡ replicate words None) }
     {
@@ -140,7 +139,7 @@ impl Spill {
         self.places[place] = Place::Spilled(value);
     }
 
-    /// The head stored the word again, so the spilled version of it is its version no more.
+    /// The head stored the word again, so the spilled version of it is no longer its version.
     pub fn clear(&mut self, word: WordAddr)
         requires { word.0 < length self.old }
         ensures { self.new ≡ set self.old word.0 None }
