@@ -17,8 +17,9 @@ use svc_retire::Spill;
 
 /// The bus: it serves one call at a time, and each is one step.
 ///
-/// What callers may know of it is `observed`: the lines with their bits, each word's order of dirty lines, spilled values,
-/// backing memory and active tasks. The clauses of a step are said for every line table that agrees with that.
+/// What callers may know of it is `observed`: the lines with their bits, each word's order of dirty
+/// lines, spilled values, backing memory and active tasks. The clauses of a step are stated for
+/// every line table that agrees with that.
 #[derive(Drop)]
 pub struct Bus {
     pub(crate) caches: Vec<Cache>,
@@ -63,8 +64,8 @@ fn open_caches(alloc: Global, units: u32, sets: u32, ways: u32) -> Result<Vec<Ca
 }
 
 impl Bus {
-    /// A bus over `units` caches of `sets` times `ways` lines each, without lines and tasks, and over this memory. It makes
-    /// all the room that it ever fills; nothing else of it takes memory.
+    /// A bus over `units` caches of `sets` times `ways` lines each, without lines or tasks, and
+    /// over this memory. It allocates all that it will ever need; no other call of it takes memory.
     ///
     /// Errors: [`OpenError::Memory`].
     #[tactic(auto, unfolding(crate::specs::Observed::observed))]

@@ -16,7 +16,7 @@ use svc_cache::{Cache, Probes};
 use svc_line::Line;
 use svc_vol::Version;
 
-/// The store whose mark other lines of its word get.
+/// The store that marks other lines of its word.
 #[derive(Clone, Copy)]
 pub(crate) struct Mark {
     /// The word.
@@ -37,7 +37,7 @@ fn is_same(unit: Option<UnitId>, other: UnitId) -> bool
     }
 }
 
-// The version's line with T, and linked to the writer's where it is the one before.
+// The version's line with T, and linked to the writer's if it is the one before.
 fn marked(version: &Version, mark: &Mark) -> Line
     ensures line { Some (seen result) ≡ overtaken_line (option_map (λ (u : UnitId). u.0) mark.now.previous)
         mark.now.writer.0 version.now.unit.0 (Some (seen version.now.line)) }

@@ -35,7 +35,7 @@ struct Outcome {
     line: Line,
 }
 
-// The lines are changed as the read asks: by a hit none, by a reuse the unit's own.
+// The lines are changed as the read requires: by a hit none, by a reuse the unit's own.
 fn carry_out(
     caches: &mut [Cache],
     backing: &mut [u32],
@@ -79,7 +79,8 @@ impl Bus {
     /// The unit's task reads the word: the value of the nearest earlier version, and who supplied it. A hit makes one look-up,
     /// and another read at most two for each unit.
     ///
-    /// Errors: [`Refusal::SetFull`] where the unit's cache has no line of the word and no room for one. Then nothing changes.
+    /// Errors: [`Refusal::SetFull`] if the unit's cache has no line of the word and no room for
+    /// one. Then nothing changes.
     #[tactic(auto, unfolding(crate::specs::Observed::observed))]
     pub fn read(&mut self, unit: UnitId, word: WordAddr) -> Result<(u32, Served), Refusal>
         requires at_work { IsAtWork (observed self.old) unit.0 }
@@ -117,7 +118,7 @@ impl Bus {
         self.caches[unit.0 as usize].lookup(word, probes)
     }
 
-    // A read where the unit's line is known and may not hit: the other caches are searched.
+    // A read for which the unit's line is known and isn't a hit: the other caches are searched.
     #[tactic(auto, unfolding(crate::specs::Observed::observed))]
     fn read_beside(
         &mut self,

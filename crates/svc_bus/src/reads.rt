@@ -14,7 +14,8 @@ use svc_retire::purging::newest;
 use svc_vol::VersionList;
 
 impl Bus {
-    /// The word that the committed tasks have left: that of the newest committed dirty line, else the backing word.
+    /// The word that the committed tasks have left: that of the newest committed dirty line,
+    /// otherwise the backing word.
     #[tactic(auto, unfolding(crate::specs::Observed::observed))]
     pub fn committed_memory(&self, word: WordAddr) -> u32
         requires in_memory { word.0 < (observed self.now).words }
@@ -45,7 +46,8 @@ impl Bus {
         self.spill.get(word)
     }
 
-    /// The bits and the value of the unit's valid line of the word. No other bit is set than those of the line that have names.
+    /// The bits and the value of the unit's valid line of the word. No bits are set but those of
+    /// the line that have names.
     #[tactic(auto, unfolding(crate::specs::Observed::observed))]
     pub fn line_at(&self, unit: UnitId, word: WordAddr) -> Option<(LineBits, u32)>
         requires known { unit.0 < (observed self.now).caches }
@@ -58,8 +60,8 @@ impl Bus {
         Some((line.bits.named(), line.value))
     }
 
-    /// The word that a read or a write of this word by the unit would name as the one to be replaced first, where its set is
-    /// full.
+    /// The word that a read or a write of this word by the unit would name as the one to be
+    /// replaced first, if its set is full.
     #[tactic(auto, unfolding(crate::specs::Observed::observed))]
     pub fn set_full(&self, unit: UnitId, word: WordAddr) -> Option<WordAddr>
         requires known { unit.0 < (observed self.now).caches }
@@ -69,8 +71,8 @@ impl Bus {
         self.caches[unit.0 as usize].full(word, &mut Probes::new())
     }
 
-    /// How many tasks were committed. Some line table agrees with the bus, so that a caller who is handed it can use the
-    /// clauses of its calls.
+    /// How many tasks were committed. The contract also says that some line table agrees with the
+    /// bus, so that a caller who is given one can use the clauses of its calls.
     #[tactic(auto, unfolding(crate::specs::Observed::observed))]
     pub fn committed_tasks(&self) -> u64
         ensures count { result ≡ (observed self.now).commits }

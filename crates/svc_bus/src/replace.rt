@@ -20,7 +20,7 @@ use svc_order::TaskQueue;
 use svc_retire::Spill;
 use svc_vol::VersionList;
 
-// The line that was replaced goes to the spill table where it is an active task's version.
+// The line that was replaced goes to the spill table if it is an active task's version.
 fn spill_version(spill: &mut Spill, word: WordAddr, line: &Line)
     requires known { word.0 < length spill.old }
     requires valid { (bits_of line.now.bits).valid ≡ true }
@@ -42,10 +42,12 @@ fn is_pinned(queue: &TaskQueue, unit: UnitId, line: &Line) -> bool
 }
 
 impl Bus {
-    /// The unit's line of the word is taken out of its cache; a version of the head goes to the spill table.
+    /// The unit's line of the word is removed from its cache; a version of the head goes to the
+    /// spill table.
     ///
-    /// Errors: [`Refusal::NotResident`] where the unit has no valid line of the word; [`Refusal::Pinned`] where the line is
-    /// active and the unit doesn't run the head. Then nothing changes.
+    /// Errors: [`Refusal::NotResident`] if the unit has no valid line of the word;
+    /// [`Refusal::Pinned`] if the line is active and the unit doesn't run the head. Then nothing
+    /// changes.
     #[tactic(auto, unfolding(crate::specs::Observed::observed))]
     pub fn replace(&mut self, unit: UnitId, word: WordAddr) -> Result<(), Refusal>
         requires known { unit.0 < (observed self.old).caches }

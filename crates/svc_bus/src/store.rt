@@ -40,9 +40,9 @@ pub(crate) struct Store<'a> {
     pub left: usize,
 }
 
-/// The unit's line of the word becomes the stored one, the word is purged in the other caches, T is set on the lines that
-/// were overtaken, the version before links to the unit, and only the tasks that are left keep their lines. Where the unit's
-/// cache has no line of the word and no room for one, nothing changes.
+/// The unit's line of the word becomes the stored one, the word is purged in the other caches, T is set on the lines
+/// that were overtaken, the version before links to the unit, and only the tasks that are left keep their lines. If the
+/// unit's cache has no line of the word and no room for one, nothing changes.
 ///
 /// `list` is the version list of the word. There are at most as many searches as caches.
 pub(crate) fn store_line(

@@ -11,7 +11,7 @@ use svc_base::UnitId;
 use svc_retire::{commit_lines, squash_lines};
 
 impl Bus {
-    /// The idle unit's new task begins, the last.
+    /// The idle unit's new task begins, as the youngest.
     #[tactic(auto, unfolding(crate::specs::Observed::observed))]
     pub fn begin(&mut self, unit: UnitId)
         requires known { unit.0 < (observed self.old).caches }
@@ -22,7 +22,8 @@ impl Bus {
         self.queue.push(unit);
     }
 
-    /// The head is committed: its lines are, where they stand, and spilled versions go to the backing memory.
+    /// The head is committed: its lines are committed in place, and spilled versions go to the
+    /// backing memory.
     #[tactic(auto, unfolding(crate::specs::Observed::observed))]
     pub fn commit_head(&mut self)
         requires head { 0 < length (observed self.old).units }

@@ -17,7 +17,7 @@ mod plain;
 mod random;
 mod rows;
 
-// What the calls require, asked of a bus.
+// What the calls require, checked on a bus.
 #[tactic(auto, unfolding(crate::specs::Observed::observed))]
 impl Bus {
     fn units(&self) -> usize
@@ -106,7 +106,7 @@ fn open(rt: &impl Abort, alloc: Global, sets: u32, ways: u32, words: &[u32]) -> 
     open_with(rt, alloc, UNITS, sets, ways, words)
 }
 
-// A bus of so many units.
+// A bus of this many units.
 fn open_with(
     rt: &impl Abort,
     alloc: Global,
@@ -226,8 +226,9 @@ fn perform(rt: &impl Abort, bus: &mut Bus, step: Step) -> Answer {
     }
 }
 
-// A hit makes one look-up, a reuse at least one, any other accepted read or write at least one for each unit, and none more
-// than two for each; what is no accepted read or write leaves the number.
+// A hit makes one look-up, a reuse at least one, any other accepted read or write at least one for
+// each unit, and none more than two for each; anything but an accepted read or write leaves the
+// number.
 fn check_probes(rt: &impl Abort, units: u32, answer: Answer, before: u32, after: u32) {
     let few = u64::from(after) <= 2 * u64::from(units);
     match answer {

@@ -1,6 +1,6 @@
 use svc_base::TaskNo;
 
-/// The tasks that a write squashed, since the first of them had read the word too early.
+/// The tasks that a write squashed because the first of them had read the word too early.
 #[derive(Clone, Copy, Debug, PartialEq, Eq)]
 pub struct Victim {
     /// The first of them.

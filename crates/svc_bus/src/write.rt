@@ -39,7 +39,8 @@ impl Bus {
     /// The unit's task stores the word. The first later task that read the word too early is squashed with all after it,
     /// and named. It makes at most two look-ups for each unit.
     ///
-    /// Errors: [`Refusal::SetFull`] where the unit's cache has no line of the word and no room for one. Then nothing changes.
+    /// Errors: [`Refusal::SetFull`] if the unit's cache has no line of the word and no room for
+    /// one. Then nothing changes.
     #[tactic(auto, unfolding(crate::specs::Observed::observed))]
     pub fn write(
         &mut self,

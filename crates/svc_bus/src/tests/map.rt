@@ -44,7 +44,7 @@ impl Map {
         Ok(())
     }
 
-    // The version of the latest task not after this one that has one, else the committed word.
+    // The version of the latest task not after this one that has one, otherwise the committed word.
     fn view(&self, task: usize, word: usize) -> u32
         requires { word < WORDS }
     {

@@ -119,7 +119,7 @@ impl Plain {
         (count, first, committed)
     }
 
-    // The word to be replaced first, where the word has no line and its set is full.
+    // The word to be replaced first, if the word has no line and its set is full.
     pub(super) fn full(&self, unit: usize, word: usize) -> Option<WordAddr>
         requires known { unit < UNITS }
         requires in_memory { word < WORDS }
@@ -150,7 +150,7 @@ impl Plain {
         newest
     }
 
-    // The newest committed version goes to memory, and all of them are there no more.
+    // The newest committed version goes to memory, and all of them are dropped.
     fn purge(&mut self, word: usize) -> Option<UnitId>
         requires { word < WORDS }
     {

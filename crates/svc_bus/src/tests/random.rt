@@ -142,7 +142,7 @@ impl Beside {
         assert_eq!(rt; answer, self.plain.replace(unit, word));
     }
 
-    // Whatever can be seen of one word is the same.
+    // Everything that can be seen of one word is the same.
     fn compare_word(&self, rt: &impl Abort, word: usize)
         requires { word < WORDS }
     {
@@ -170,7 +170,7 @@ impl Beside {
     }
 }
 
-// So many random steps, from an opened bus.
+// A number of random steps, from an opened bus.
 fn walk(rt: &impl Abort, alloc: Global, size: Size, ways: u32) -> Result<(), Fail>
     requires some_ways { 1 ≤ ways }
     requires few_ways { ways ≤ MAX_WAYS }
@@ -194,7 +194,7 @@ fn walk(rt: &impl Abort, alloc: Global, size: Size, ways: u32) -> Result<(), Fai
 // Thirty walks make 100,020 steps.
 const STEPS: u32 = 3334;
 
-// The walks of a bus of so many units, over one to three words.
+// The walks of a bus of this many units, over one to three words.
 fn walks(rt: &impl Abort, alloc: Global, units: u32) -> Result<(), Fail> {
     for words in 1..4 {
         let size = Size { units, words };

@@ -286,8 +286,8 @@ fn a_squash_in_the_middle_keeps_the_order(rt: HostRuntime) -> Result<(), Fail> {
     )
 }
 
-// One look into each of the four caches, one for the line that is put in, and one for each line that is purged or marked
-// stale; a hit looks into its own cache alone.
+// One look-up in each of the four caches, one for the line that is put in, and one for each line that is purged or
+// marked stale; a hit looks into its own cache alone.
 #[test]
 fn the_look_ups_of_each_call_are_told(rt: HostRuntime) -> Result<(), Fail> {
     let calls = [
