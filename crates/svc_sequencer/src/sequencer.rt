@@ -18,11 +18,11 @@ use svc_image::Image;
 /// How many tasks can be active at once: as many as there can be units.
 pub const CAPACITY: usize = 16;
 
-/// Keeps the due entry, the successor of the last committed task that began at each entry, and the entries
-/// of the active tasks, oldest first. Beside each of these stands its place in the table of entries, so
-/// that a guess needs no search.
+/// Keeps the due entry, the successor of the last committed task that began at each entry, and the entries of the
+/// active tasks, oldest first. With each of these goes its place in the table of entries, so that a guess needs no
+/// search.
 ///
-/// Contracts see it as a guide, which is what the plain machine says of it.
+/// Contracts see it as a guide, which is stated in terms of the plain machine.
 #[derive(Drop)]
 pub struct Sequencer {
     entries: Vec<u32>,
@@ -53,7 +53,7 @@ fn entry_from(entries: &[u32], i: usize) -> u32
     }
 }
 
-// The place of an entry in the table, or where it would stand.
+// The place of an entry in the table, or where it would be.
 fn place_of(entries: &[u32], entry: u32) -> usize
     requires { IsStrictlyIncreasing entries.now }
     ensures { IsPlace entries.now entry result }
@@ -64,7 +64,7 @@ fn place_of(entries: &[u32], entry: u32) -> usize
     }
 }
 
-// Whether the entry stands at the place.
+// Whether the entry is at the place.
 fn stands_at(entries: &[u32], entry: u32, place: usize) -> bool
     ensures { Decides result ((place < length entries.now) × (slice_index entries.now place ≡ entry)) }
 {
@@ -74,7 +74,7 @@ fn stands_at(entries: &[u32], entry: u32, place: usize) -> bool
     }
 }
 
-// The successor of an entry whose place this is, or else the entry after it in the table.
+// The successor of the entry with this place, or else the entry after it in the table.
 fn following(entries: &[u32], successors: &[Option<u32>], entry: u32, place: usize) -> u32
     requires rising { IsStrictlyIncreasing entries.now }
     requires as_many { length successors.now ≡ length entries.now }
@@ -90,7 +90,7 @@ fn following(entries: &[u32], successors: &[Option<u32>], entry: u32, place: usi
     }
 }
 
-// Remembers the successor, where there is one, of a task that began at an entry.
+// Remembers the successor, if there is one, of a task that began at an entry.
 fn remember(entries: &[u32], successors: &mut Vec<Option<u32>>, entry: u32, successor: Option<u32>)
     requires rising { IsStrictlyIncreasing entries.now }
     requires as_many { length successors.old.items ≡ length entries.now }
@@ -104,7 +104,7 @@ fn remember(entries: &[u32], successors: &mut Vec<Option<u32>>, entry: u32, succ
     }
 }
 
-// The entry that a task hands on to, where it has ended so.
+// The entry to which a task with this end hands on, if it does.
 fn handed_on(ended: Option<End>) -> Option<u32>
     ensures { result ≡ due_after ended }
 {
@@ -115,7 +115,7 @@ fn handed_on(ended: Option<End>) -> Option<u32>
 }
 
 impl Sequencer {
-    /// The sequencer of an image before any event. All the room that it ever fills is taken here.
+    /// The sequencer of an image before any event. It allocates all that it will ever need.
     pub fn open(alloc: Global, image: &Image) -> Result<Sequencer, OpenError>
         ensures ok { IfOk result (λ s. s ≡ guide_opened image.now.entries image.now.start) }
         ensures err { IfErr result (λ e. e ≡ OpenError.Memory) }
@@ -149,10 +149,11 @@ impl Sequencer {
         self.due
     }
 
-    /// The guess for the next task, a byte address, where the youngest active task has ended so, or hasn't:
-    /// with no task active the due entry. Else the entry to which the youngest handed on. Else the successor
-    /// of the last committed task that began where the youngest did, and without one the entry after that,
-    /// where the first follows the last.
+    /// The guess for the next task, a byte address, given how the youngest active task has ended,
+    /// if it has. With no task active it is the due entry. Otherwise it is the entry to which the
+    /// youngest handed on. If it hasn't, it is the successor of the last committed task that began
+    /// where the youngest did or, without one, the entry after that, in which the first follows the
+    /// last.
     pub fn predict(&self, ended: Option<End>) -> Option<u32>
         ensures { result ≡ guess_of ended self.now }
     {
@@ -168,9 +169,9 @@ impl Sequencer {
         }
     }
 
-    /// Whether the end of the task at a position, counted from the oldest, cuts the ones after it: always at an
-    /// exit or trap, and else exactly where the next task began at another entry than the one that it handed on
-    /// to. Without a next task there is nothing to cut.
+    /// Whether the end of the task at a position, counted from the oldest, cuts the ones after it:
+    /// always at an exit or trap, and otherwise exactly if the next task began at an entry other
+    /// than the one to which it handed on. Without a next task there is nothing to cut.
     pub fn settle(&self, position: usize, end: End) -> bool
         ensures { result ≡ cuts_next end (drop (suc position) self.now.active) }
     {
@@ -184,8 +185,8 @@ impl Sequencer {
         }
     }
 
-    /// Puts a new task last, and answers its entry, a byte address: the due one where no task is active,
-    /// else the guess.
+    /// Adds a new task as the youngest, and returns its entry, a byte address: the due one if no
+    /// task is active, otherwise the guess.
     pub fn assign(&mut self, guess: u32) -> u32
         requires room { length self.old.active < CAPACITY }
         ensures entry { result ≡ entry_for self.old.due self.old.active guess }
@@ -201,8 +202,8 @@ impl Sequencer {
         entry
     }
 
-    /// Takes out the oldest task, which ended so: its successor is due, and is remembered. At an exit or trap
-    /// no task is due any more.
+    /// Removes the oldest task, which has this end: its successor becomes due, and is remembered.
+    /// After an exit or trap no task is due any more.
     pub fn commit(&mut self, end: End)
         requires { 0 < length self.old.active }
         ensures { self.new ≡ guide_committed end self.old }
@@ -213,7 +214,7 @@ impl Sequencer {
         remember(&self.entries, &mut self.successors, head, self.due);
     }
 
-    /// Takes out the task at a position, counted from the oldest, and all that are younger.
+    /// Removes the task at a position, counted from the oldest, and all that are younger.
     pub fn cut_from(&mut self, position: usize)
         ensures { self.new ≡ guide_cut position self.old }
     {
