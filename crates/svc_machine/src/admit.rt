@@ -1,4 +1,5 @@
-//! Admission: for each kind of event its refusals, in the order of their numbers, and what is found where none applies.
+//! Admission: for each kind of event its refusals, in the order of their numbers, and what is found
+//! if none applies.
 
 ghost use Rattle.std.specs.Prelude.{◌≡◌, ◌<◌, ◌-◌, ◌^◌, ◌==◌, false, not, Some, IfOk};
 ghost use Rattle.std.specs.Prelude.{is_some, option_map, slice_get, unwrap_or};
@@ -28,7 +29,8 @@ use svc_core::{Burst, load_place, store_place};
 use svc_core_laws::{Ask, End};
 use svc_image::Image;
 
-/// An event that isn't refused, with what its refusals' tests have found, so that nothing is searched for again.
+/// An event that isn't refused, with what the tests for refusals have found, so that nothing is
+/// searched for again.
 #[derive(Clone, Copy)]
 pub(crate) enum Admitted<'a> {
     /// The unit is idle.
@@ -39,12 +41,12 @@ pub(crate) enum Admitted<'a> {
     Replace { unit: UnitId, addr: WordAddr },
     /// The unit's seat has this place, which isn't the head's.
     Cancel { unit: UnitId, place: usize },
-    /// The head has ended so.
+    /// The head has this end.
     Commit { by: UnitId, end: End },
 }
 
 impl Machine {
-    /// The event with what was found of it.
+    /// The event with what was found about it.
     ///
     /// Errors: exactly the refusal that the table of refusals has for it.
     pub(crate) fn admit<'a>(&self, event: Event<'a>) -> Result<Admitted<'a>, Refusal>
@@ -244,7 +246,7 @@ impl Machine {
         self.seats.first()
     }
 
-    // The word to be replaced before the unit has room for what is asked, where it has none.
+    // The word to be replaced before the unit has room for what is asked, if it has none.
     fn full_set(&self, unit: UnitId, ask: Ask) -> Option<WordAddr>
         requires { unit.0 < self.now.config.units }
         ensures { (t : LineTable) → Agrees (observed self.now.bus) t
@@ -254,8 +256,8 @@ impl Machine {
         self.bus.set_full(unit, addr)
     }
 
-    // Where the unit has a valid line of the word, whether it is pinned: it is active, and the unit doesn't run the
-    // head.
+    // If the unit has a valid line of the word, whether it is pinned: it is active, and the unit
+    // doesn't run the head.
     fn pinned(&self, unit: UnitId, addr: WordAddr) -> Option<bool>
         requires { unit.0 < self.now.config.units }
         ensures resident { (t : LineTable) → Agrees (observed self.now.bus) t

@@ -31,8 +31,8 @@ use svc_machine_laws::{Cause, Cut, Reply, What};
 use svc_rv32i::{LoadKind, Register, StoreKind};
 
 /// Does the asked turn, if there is one: a load or store that is misaligned or outside the data traps, and so does a
-/// store into a read-only word; a store of less than a word reads its word and writes it; a word that is put out waits in
-/// the seat. The tasks that a store squashes stay in their seats: the answer says which they are.
+/// store into a read-only word; a store of less than a word reads its word and writes it; an output word waits in the
+/// seat. The tasks that a store squashes stay in their seats: the answer says which they are.
 pub(crate) fn do_asked(image: &Image, bus: &mut Bus, seat: &mut Seat, ask: Ask) -> Reply
     requires ready { IsReady seat.old.core ask }
     requires running { IsRunning (observed bus.old) seat.old.unit.0 }
@@ -124,7 +124,7 @@ fn do_store(
     }
 }
 
-// A word is put out. It waits for the task's commit.
+// A word is output. It waits for the task's commit.
 fn do_emit(image: &Image, seat: &mut Seat, word: u32) -> Reply
     requires going { seat.old.core.done ≡ None }
     requires in_time { seat.old.core.count < seat.old.core.limit }
@@ -155,8 +155,8 @@ fn without_cut(what: What) -> Reply
     Reply { what, cut: None }
 }
 
-// The whole word that a store leaves, and who served the read that it takes: a store of less than a word reads the word
-// there, and these bytes of it are replaced.
+// The whole word that a store leaves, and who served the read that it takes: a store of less than a
+// word reads the whole word, and replaces these bytes of it.
 fn word_to_store(
     bus: &mut Bus,
     unit: UnitId,

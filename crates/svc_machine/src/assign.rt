@@ -11,7 +11,8 @@ use svc_core::Core;
 use svc_machine_laws::{Reply, What};
 
 impl Machine {
-    // The next task begins on the unit: at the guess, or where no task is active at the entry that is due.
+    // The next task begins on the unit: at the guess or, if no task is active, at the entry that is
+    // due.
     pub(crate) fn assign(&mut self, unit: UnitId, guess: u32) -> Reply
         requires { Accepts self.old (Assign unit.0 guess) }
         ensures { IsTaken self.old self.new (Assign unit.0 guess) result }

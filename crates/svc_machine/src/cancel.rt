@@ -29,7 +29,8 @@ impl Machine {
     }
 }
 
-/// Of so many active tasks after so many commits, the cut of those from a place on.
+/// The cut of the active tasks from a place on, given how many tasks are active and how many were
+/// committed.
 pub(crate) fn cut_from(cause: Cause, commits: u64, count: usize, place: usize) -> Cut
     requires number { commits + place < 2 ^ 64 }
     requires few { count < 2 ^ 32 }

@@ -19,8 +19,9 @@ use svc_core_laws::End;
 use svc_machine_laws::{Cause, Cut};
 use svc_sequencer::Sequencer;
 
-/// Once the task at a place has ended, the tasks after it are squashed where the next one was guessed wrongly. The cut
-/// counts them among so many tasks, those that the same event has squashed before too.
+/// Once the task at a place has ended, the tasks after it are squashed if the next one was guessed
+/// wrongly. The cut counts them out of the given number of tasks, including those that the same
+/// event has already squashed.
 pub(crate) fn check_guess(
     bus: &mut Bus,
     sequencer: &mut Sequencer,
@@ -51,7 +52,8 @@ pub(crate) fn check_guess(
     }
 }
 
-/// Of a task at a place that ended so, the tasks after it are squashed where the next one was guessed wrongly.
+/// The tasks after the one at a place, which has this end, are squashed if the next one was guessed
+/// wrongly.
 pub(crate) fn settle(
     bus: &mut Bus,
     sequencer: &mut Sequencer,

@@ -67,7 +67,8 @@ impl Model for Machine {
 }
 
 impl Machine {
-    /// A machine before any event. It makes all the room that it ever fills; nothing else of it takes memory.
+    /// A machine before any event. It allocates all that it will ever need; no other call of it
+    /// takes memory.
     ///
     /// Errors: [`OpenError::Memory`].
     pub fn open(alloc: Global, image: Image, config: Config) -> Result<Machine, OpenError>
@@ -78,7 +79,8 @@ impl Machine {
         Machine::open_from(alloc, image, config, 0)
     }
 
-    /// The same, but the first assignment gets this epoch. (`u64::MAX` is never given: it is refused.)
+    /// The same, but the first assignment gets this epoch. (`u64::MAX` is never given out: such an
+    /// assignment is refused.)
     ///
     /// Errors: [`OpenError::Memory`].
     pub fn open_from(
@@ -110,8 +112,8 @@ impl Machine {
         })
     }
 
-    /// One event. No memory is taken. What it does and answers is said for every standing that the machine is at: the
-    /// plain machine with any line table that the bus agrees with.
+    /// One event. It takes no memory. What it does and answers is stated for every standing that
+    /// the machine is at: the plain machine with any line table that the bus agrees with.
     ///
     /// Errors: exactly the refusal that the table of refusals has for it, the first that applies. Then nothing changes.
     pub fn step(&mut self, event: Event<'_>) -> Result<Reply, Refusal>

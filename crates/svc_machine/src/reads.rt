@@ -1,5 +1,5 @@
-//! What a machine tells. What each read answers of the committed tasks is what running them one after another on one
-//! flat memory leaves.
+//! What can be read from a machine. What each read answers about the committed tasks is what
+//! running them one after another on one flat memory leaves.
 
 ghost use Rattle.std.specs.Prelude.{◌≡◌, ◌<◌, true, IfSome, option_map};
 ghost use Rattle.svc_line.specs.Bits.{bits_of};
@@ -50,8 +50,8 @@ impl Machine {
         }
     }
 
-    /// What the unit may run its task on from, without the machine; none where the unit has no task. Its core is that
-    /// of the task's part, run anew on what the tasks before it leave.
+    /// From what the unit may run its task on, without the machine; none if the unit has no task.
+    /// Its core is that of the task's part, run again on what the tasks before it leave.
     #[tactic(auto, unfolding(crate::specs::Refusing::machine_at))]
     pub fn lease(&self, unit: UnitId) -> Option<Lease>
         ensures { result ≡ lease_of self.now unit.0 }
@@ -111,7 +111,8 @@ impl Machine {
         self.bus.line_at(unit, addr)
     }
 
-    /// The words that the committed tasks have put out, the oldest first: what running them one after another puts out.
+    /// The words that the committed tasks have output, the oldest first: what running them one
+    /// after another outputs.
     pub fn output(&self) -> &[u32]
         ensures { result.now ≡ (plain_seq self.now.image self.now.plain.commits).output }
     {
@@ -125,8 +126,8 @@ impl Machine {
         self.stopped
     }
 
-    /// How the run has ended: by the exit or trap that stopped it; else it is full where no further event is accepted,
-    /// or open, with the entry that is due.
+    /// How the run has ended: by the exit or trap that stopped it; otherwise it is full if no
+    /// further event is accepted, or else open, with the entry that is due.
     pub fn ending(&self) -> Ending
         ensures { let seq = plain_seq self.now.image self.now.plain.commits in
             result ≡ ending_of (is_full self.now) seq.stopped seq.due }

@@ -12,7 +12,7 @@ use std::alloc::Global;
 use svc_base::{Config, OpenError};
 use svc_image::Image;
 
-/// A machine after these events, where refused ones are passed over.
+/// A machine after these events; refused ones are skipped.
 ///
 /// **The headline**: the committed tasks are the first k tasks of the program's sequential order, where k is the number
 /// of accepted commits among the events, and committed memory and output are exactly what the plain evaluator gives by

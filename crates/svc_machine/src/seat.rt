@@ -19,9 +19,9 @@ pub(crate) struct Seat {
     pub(crate) epoch: u64,
     /// The entry at which it began.
     pub(crate) entry: u32,
-    /// The words that it has put out, which wait for its commit.
+    /// The words that it has output, which wait for its commit.
     pub(crate) waiting: ArrayVec<u32, MAX_TASK_OUTPUT>,
-    /// Where it stands.
+    /// Its current core.
     pub(crate) core: Core,
 }
 
@@ -32,7 +32,7 @@ pub(crate) fn place_of(seats: &[Seat], unit: UnitId) -> Option<usize>
     seats.iter().position(|seat| seat.unit.0 == unit.0)
 }
 
-/// How the task at a place has ended, where there is one and it has.
+/// How the task at a place has ended, if there is one and it has.
 pub(crate) fn end_at(seats: &[Seat], place: usize) -> Option<End>
     ensures { result ≡ option_and_then (λ seat. seat.core.done) (slice_get seats.now place) }
 {
@@ -42,7 +42,7 @@ pub(crate) fn end_at(seats: &[Seat], place: usize) -> Option<End>
     }
 }
 
-/// How the youngest task has ended, where there is one and it has.
+/// How the youngest task has ended, if there is one and it has.
 pub(crate) fn last_end(seats: &[Seat]) -> Option<End>
     ensures { result ≡ last_end (λ seat. seat.core.done) seats.now }
 {

@@ -1,4 +1,4 @@
-// The active tasks and the spilled words, for whoever looks at a machine.
+// The active tasks and the spilled words, for whoever inspects a machine.
 
 ghost use Rattle.std.specs.Prelude.{◌≡◌, ◌<◌, length};
 ghost use Rattle.svc_core_laws.specs.Turns.{data_words};
@@ -10,7 +10,7 @@ use crate::machine::Machine;
 use svc_base::{UnitId, WordAddr};
 use svc_core_laws::End;
 
-/// An active task, as it stands.
+/// The state of an active task.
 #[derive(Clone, Copy, Debug, PartialEq, Eq)]
 pub struct ActiveTask {
     /// The unit that runs it.
@@ -19,7 +19,7 @@ pub struct ActiveTask {
     pub entry: u32,
     /// The turns that it has taken so far.
     pub turns: u32,
-    /// How it has ended, where it has.
+    /// How it has ended, if it has.
     pub done: Option<End>,
 }
 
@@ -31,7 +31,7 @@ impl Machine {
         self.seats.len()
     }
 
-    /// The active task at a place, counted from the oldest; none where there are fewer.
+    /// The active task at a place, counted from the oldest; none if there are fewer.
     pub fn task_at(&self, place: usize) -> Option<ActiveTask>
         ensures { result ≡ task_of self.now place }
     {

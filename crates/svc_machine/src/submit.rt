@@ -26,9 +26,9 @@ use svc_image::Image;
 use svc_machine_laws::{Cut, Reply};
 
 impl Machine {
-    // The burst's local turns are taken over by the seat at this place, which is its unit's, and then its asked turn,
-    // if it has one, is done. Where the task has ended with them, the guess of the next one is checked: a wrong guess
-    // that is found is told in place of a later victim.
+    // The seat at this place, which is the unit's, takes over the burst's local turns, and then the
+    // asked turn, if there is one, is done. If the task has ended with them, the guess for the next
+    // one is checked: a wrong guess that is found is reported instead of a later victim.
     pub(crate) fn submit(&mut self, place: usize, burst: &Burst) -> Reply
         requires accepted { Accepts self.old (Submit burst.now) }
         requires found { seat_place (machine_at self.old) burst.now.unit.0 ≡ Some place }
@@ -56,7 +56,7 @@ impl Machine {
     }
 }
 
-// The task in the seat comes to this core, and then does the asked turn.
+// The task in the seat moves to this core, and then does the asked turn.
 fn go_on(image: &Image, bus: &mut Bus, seat: &mut Seat, core: &Core, ask: Ask) -> Reply
     requires ready { IsReady core.now ask }
     requires running { IsRunning (observed bus.old) seat.old.unit.0 }
@@ -71,7 +71,7 @@ fn go_on(image: &Image, bus: &mut Bus, seat: &mut Seat, core: &Core, ask: Ask) -
     do_asked(image, bus, seat, ask)
 }
 
-// How many of so many tasks are left.
+// How many of these tasks the cut leaves.
 fn tasks_left(count: usize, cut: Option<Cut>) -> usize
     requires { tasks_cut cut ≤ count }
     ensures { result ≡ count - tasks_cut cut }
