@@ -11,9 +11,9 @@ use svc_history_laws::{CutKind, Entry, Kind, ServedKind};
 pub struct Counts {
     /// Tasks that were begun.
     pub assign: u64,
-    /// Bursts that were taken over.
+    /// Bursts that were submitted.
     pub submit: u64,
-    /// Lines that were taken out.
+    /// Lines that were replaced.
     pub replace: u64,
     /// Tasks that were cancelled.
     pub cancel: u64,
@@ -31,11 +31,12 @@ pub struct Counts {
     pub committed: u64,
     /// Reads from the backing memory.
     pub memory: u64,
-    /// Stores to a word which a later task had read too early.
+    /// Stores to a word that a later task had read too early.
     pub violation: u64,
-    /// Commits after which another entry was due than the next task's, or after which the run had stopped.
+    /// Submits that ended their task, and commits, that squashed tasks begun at a wrong guess or
+    /// after the run's end.
     pub guess: u64,
-    /// Cancels.
+    /// Cuts by cancels.
     pub cancelled: u64,
 }
 
@@ -73,7 +74,7 @@ impl Counts {
         }
     }
 
-    // One entry more.
+    // One more entry.
     fn add(&mut self, entry: &Entry)
         requires kinds { HaveRoomForKind self.old }
         requires suppliers { HaveRoomForSupplier self.old }
@@ -89,7 +90,7 @@ impl Counts {
         }
     }
 
-    // One entry of a kind more.
+    // One more entry of a kind.
     fn add_kind(&mut self, kind: Kind)
         requires { HaveRoomForKind self.old }
         ensures { self.new ≡ with_kind self.old kind }
@@ -103,7 +104,7 @@ impl Counts {
         }
     }
 
-    // One entry more whose read has that supplier.
+    // One more entry whose read has this supplier.
     fn add_supplier(&mut self, served: ServedKind)
         requires { HaveRoomForSupplier self.old }
         ensures { self.new ≡ with_supplier self.old (Some served) }
@@ -118,7 +119,7 @@ impl Counts {
         }
     }
 
-    // One entry more whose cut has that cause.
+    // One more entry whose cut has this cause.
     fn add_cause(&mut self, cause: CutKind)
         requires { HaveRoomForCause self.old }
         ensures { self.new ≡ with_cause self.old (Some cause) }

@@ -22,15 +22,17 @@ pub enum ReportError {
     /// The text has a bad record: the first one, and its first bad column.
     #[error("row {row} column {column}")]
     Row {
-        /// The record, counted from 1; the first has the names of the columns. A blank line is no record.
+        /// The record, counted from 1; the first has the names of the columns. A blank line is not
+        /// a record.
         row: u64,
-        /// The column, counted from 1; 0 where the number of fields is wrong, or where the text has no record.
+        /// The column, counted from 1; 0 if the number of fields is wrong, or if the text has no
+        /// record.
         column: u8,
     },
 }
 
 impl ReportError {
-    /// The number by which the program tells this error: 1 to 4.
+    /// The number by which the program reports this error: 1 to 4.
     pub fn number(self) -> u8
         ensures { result ≡ fault_number self }
     {

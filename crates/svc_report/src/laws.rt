@@ -1,4 +1,4 @@
-// The law of rows: a legal history can be written and read again.
+// The law of rows: a legal history can be written and read back.
 
 ghost use Rattle.std.specs.List.{AllByRecursion};
 ghost use Rattle.svc_base.specs.declared.config.Config.{Config};
@@ -9,7 +9,8 @@ ghost use Rattle.svc_report.specs.Trace.{HasRow};
 
 use svc_history_laws::Entry;
 
-// An entry that is legal somewhere has a row. It is taken by value, since only then its type tells the ranges of its numbers.
+// An entry that is legal somewhere has a row. It is taken by value, since only then does its type
+// give the ranges of its numbers.
 fn legal_entry_has_row(entry: Entry)
     ensures { (img : Image) → (config : Config) → (s : Standing) → LegalEntry img config s entry → HasRow entry }
 {}
@@ -19,7 +20,8 @@ fn legal_entry_has_row(entry: Entry)
 pub fn legal_history_has_rows(entries: &[Entry])
     ensures { (img : Image) → (config : Config) → LegalHistory img config entries.now → AllByRecursion HasRow entries.now }
 {
-    // A slice tells no ranges of what is in it, so this goes over the entries.
+    // The type of a slice says nothing of the ranges of what is in it, so this goes over the
+    // entries.
     for entry in entries {
         legal_entry_has_row(*entry);
     }

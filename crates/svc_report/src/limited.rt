@@ -6,10 +6,10 @@ ghost use Rattle.svc_report.specs.Places.{gauge_after, known_through, passed, pl
 
 use std::io::{Read, Result};
 
-// The most bytes of a record that are read, its line end not counted.
+// The most bytes of a record that are read, not counting its line end.
 const MOST_BYTES: u16 = 4096;
 
-// Where in a text its next byte stands. A line end within quotes ends nothing.
+// Where in a text its next byte is. A line end within quotes ends nothing.
 #[derive(Clone, Copy, PartialEq, Eq, Debug)]
 enum Place {
     // At the text's start, or after one or two bytes of a byte order mark.
@@ -20,16 +20,16 @@ enum Place {
     Between,
     // At the start of a field after the record's first one.
     Field,
-    // In a field without quotes, or past those that it has.
+    // In a field without quotes, or after those that it has.
     Plain,
     // Within quotes.
     Quoted,
-    // After a quote within quotes: it ends them, or stands for one together with the next.
+    // After a quote within quotes: it ends them or, together with the next one, stands for a quote.
     Quote,
 }
 
 impl Place {
-    // After a byte that stands outside of quotes and opens none.
+    // After a byte that is outside quotes and opens none.
     fn plain_after(byte: u8) -> Place
         ensures { result ≡ plain_after byte }
     {
@@ -72,7 +72,7 @@ impl Place {
     }
 }
 
-// How far a text was read: its place, and how many bytes the record there has up to it.
+// How far a text has been read: the place, and how many bytes the record there has so far.
 #[derive(Clone, Copy)]
 struct Gauge {
     place: Place,
@@ -97,7 +97,7 @@ impl Gauge {
         }
     }
 
-    // After as many of these bytes as may be read, and how many those are.
+    // After as many of these bytes as may be read, and how many that is.
     fn after_all(self, bytes: &[u8]) -> (Option<Gauge>, usize)
         ensures count { result.1 ≤ length bytes.now }
         ensures less { result.1 < length bytes.now → result.0 ≡ None }

@@ -12,8 +12,8 @@ use std::io::Write;
 use std::marker::Model;
 use std::mem;
 
-// So many bytes are gathered before they are written: a call of the writer costs more than a line, and so does a new
-// writer of `csv`, which has a buffer of its own.
+// This many bytes are gathered before they are written: a call of the writer costs more than a
+// line, and so does a new writer of `csv`, which has a buffer of its own.
 const ENOUGH: usize = 4096;
 
 /// Lines that are still to be written.
@@ -35,7 +35,8 @@ impl Model for Pending {
     ghost invariant = { λ p. (writer_setup p.lines ≡ default_writer) × (fields_written p.lines ≡ 0) × (has_written p.lines ≡ false) };
 }
 
-// Begins anew. (It stands by itself because room for the new writer would be made at each line else.)
+// Starts again. (It is a function of its own because otherwise room for the new writer would be
+// made at each line.)
 fn renew(lines: &mut Writer<Vec<u8>>, alloc: Global)
     ensures setup { writer_setup lines.new ≡ default_writer }
     ensures fields { fields_written lines.new ≡ 0 }
@@ -55,7 +56,8 @@ impl Pending {
         }
     }
 
-    // Adds a line of these fields, as `csv` writes them. A writer over memory fails only for want of memory.
+    // Adds a line of these fields, as `csv` writes them. A writer over memory fails only for lack
+    // of memory.
     fn push(&mut self, fields: &[&[u8]]) -> Result<(), AllocError>
         ensures { OnOk result (self.new ≡ self.old ++ row_text default_writer (map (λ f. f.now) fields.now)) }
     {

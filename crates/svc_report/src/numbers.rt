@@ -1,4 +1,4 @@
-// Numbers in fields: decimal, without a sign and without zeros in front.
+// Numbers in fields: decimal, without a sign and without leading zeros.
 
 ghost use Rattle.std.specs.Prelude.{◌≡◌, ◌<◌, ◌≤◌, ◌^◌, IfSome, decimal};
 ghost use Rattle.svc_report.specs.Fields.{Reads, optional, unit_text, address_text};
@@ -61,7 +61,7 @@ pub(crate) fn number_of(field: &[u8]) -> Option<u32>
     let Ok(number) = text.parse::<u32>() else {
         return None;
     };
-    // A sign or a zero in front is lost in the number, so its text is another one.
+    // A sign or a leading zero is lost in the number, so its text is a different one.
     let mut buffer = Buffer::new();
     if buffer.format(number).as_bytes() == field {
         Some(number)

@@ -64,6 +64,6 @@ pub(crate) fn read_rows<T: Row, R: Read + Drop>(
             }
         }
     }
-    // So many items fit no memory.
+    // No memory holds that many items.
     Err(ReportError::Memory)
 }

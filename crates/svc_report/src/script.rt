@@ -21,15 +21,15 @@ use svc_base::{UnitId, WordAddr};
 pub enum StepKind {
     /// To begin a task, with this byte address as the guess of its entry.
     Assign(u32),
-    /// To take the unit's task on by at most so many turns, and to submit that burst.
+    /// To run the unit's task on by at most this many turns, and to submit that burst.
     Submit(u32),
-    /// To take the line of this word out of the unit's cache.
+    /// To remove the line of this word from the unit's cache.
     Replace(WordAddr),
     /// To squash the unit's task and all after it.
     Cancel,
     /// To commit the head.
     Commit,
-    /// To take the unit's task on by at most so many turns, and to keep that burst.
+    /// To run the unit's task on by at most this many turns, and to keep that burst.
     Take(u32),
     /// To submit the burst that was kept for the unit.
     Give,
@@ -38,7 +38,7 @@ pub enum StepKind {
 /// One step of a script.
 #[derive(Clone, Copy, Debug, PartialEq, Eq)]
 pub struct Step {
-    /// The unit that it is about; of a commit, the one that asks for it.
+    /// The unit that it is about; for a commit, the one that asks for it.
     pub unit: UnitId,
     /// What it asks for.
     pub kind: StepKind,
@@ -72,8 +72,8 @@ impl StepWord {
         }
     }
 
-    // The kind with this word and number, where the word needs a number and there is one, or needs none and there is
-    // none.
+    // The kind with this word and number, if the word needs a number and there is one, or needs
+    // none and there is none.
     fn with(self, arg: Option<u32>) -> Option<StepKind>
         ensures { result ≡ kind_with self arg }
     {

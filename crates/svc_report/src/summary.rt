@@ -30,7 +30,7 @@ fn write_number<W: Write>(
     pending.write_line(&fields, w)
 }
 
-// Writes a row for each word that was put out.
+// Writes a row for each output word.
 fn write_output<W: Write>(
     pending: &mut Pending,
     output: &[u32],
@@ -109,7 +109,7 @@ fn write_causes<W: Write>(
     write_number(pending, "cut-cancel", counts.cancelled, w)
 }
 
-// Writes the counts, where they are given.
+// Writes the counts, if they are given.
 fn write_counts<W: Write>(
     pending: &mut Pending,
     counts: Option<Counts>,
@@ -126,8 +126,8 @@ fn write_counts<W: Write>(
     write_causes(pending, &counts, w)
 }
 
-/// Writes the summary of a run: the words put out, how many tasks were run or committed, the ending, and the counts
-/// where they are given.
+/// Writes the summary of a run: the output words, how many tasks were run or committed, the ending,
+/// and the counts if they are given.
 pub fn write_summary<W: Write>(
     alloc: Global,
     output: &[u32],

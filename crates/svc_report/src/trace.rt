@@ -143,7 +143,7 @@ pub fn read_trace<R: Read + Drop>(alloc: Global, reader: R) -> Result<Vec<Entry>
     ensures ok { IfOk result (λ v. AllByRecursion HasRow v.items × IfSome (R.remaining reader) (λ text. IsText text (trace_records v.items))) }
     // The first bad record and its first bad column.
     ensures err { IfErr result (λ e. IsReadFault (R.remaining reader) e) }
-    // The text of a history is read again, unless memory or the reader fails.
+    // The text of a history is read back, unless memory or the reader fails.
     ensures back { (h : List Entry) → AllByRecursion HasRow h → R.remaining reader ≡ Some (text_of h) → MatchResult result (λ v. v.items ≡ h) IsStreamFault }
 {
     read_rows(alloc, reader, &HEADER)

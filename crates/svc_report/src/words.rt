@@ -62,7 +62,7 @@ pub(crate) fn cause_text(cause: Option<CutKind>) -> &'static str
     }
 }
 
-/// 1 with an ask and 0 without one, where that applies.
+/// 1 with an ask and 0 without one, if that applies.
 pub(crate) fn ask_text(ask: Option<bool>) -> &'static str
     ensures { result.now ≡ optional ask_word ask }
 {
@@ -134,7 +134,7 @@ pub(crate) fn cause_of(field: &[u8]) -> Option<Option<CutKind>>
     }
 }
 
-/// Whether there is an ask, or nothing where that doesn't apply.
+/// Whether there is an ask, or nothing if that doesn't apply.
 pub(crate) fn ask_of(field: &[u8]) -> Option<Option<bool>>
     ensures { Reads IsAny (optional ask_word) field.now result }
 {
