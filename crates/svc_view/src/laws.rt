@@ -1,4 +1,4 @@
-// The laws of sums: what the rows of a table come to together is the total that the profile tells.
+// The laws of sums: what the rows of a table add up to is the total in the profile.
 
 ghost use Rattle.std.specs.Prelude.{◌≡◌, ◌<◌};
 ghost use Rattle.std.specs.List.{AllByRecursion, range_with_len, sum_by};
@@ -15,8 +15,8 @@ pub fn task_rows_add_up(entries: &[Entry])
     ensures { (t : Total) → total (tasks_in_order entries.now) t ≡ total (tasks_of entries.now) t }
 {}
 
-/// Where so many units are all that the entries name, each total over the rows of the table of units is that of the
-/// profile.
+/// If the entries name only this many units, each total over the rows of the table of units is that
+/// of the profile.
 pub fn unit_rows_add_up(units: u32, entries: &[Entry])
     requires named { AllByRecursion (λ e. e.unit.0 < units) entries.now }
     ensures { (t : Total) → sum_by (λ unit. total (tasks_on (tasks_of entries.now) unit) t) (range_with_len 0 units)

@@ -1,5 +1,5 @@
-//! What a history's speculation cost, read off its entries: the tasks that it begins, what each did and what became of
-//! it, and the totals of that.
+//! What a history's speculation cost, worked out from its entries: the tasks that it begins, what
+//! each did and what became of it, and the totals of that.
 #![tactic(auto)]
 
 mod laws;

@@ -58,7 +58,7 @@ fn write_totals<W: Write>(totals: &[Total], runs: &[TaskRun], w: &mut W) -> Resu
     Ok(())
 }
 
-// The totals that are told.
+// The totals that are reported.
 fn totals_told() -> [Total; 15]
     ensures { result ≡ totals_told }
 {
@@ -82,7 +82,7 @@ fn totals_told() -> [Total; 15]
     ]
 }
 
-// How many reads were served so, and the word of that.
+// How many reads this supplier served.
 fn served_count(counts: &Counts, served: ServedKind) -> u64
     ensures { result ≡ served_count counts.now served }
 {
@@ -141,7 +141,7 @@ fn write_served<W: Write>(
     Ok(())
 }
 
-// The suppliers that are told.
+// The suppliers that are reported.
 const SUPPLIERS: [ServedKind; 6] = [
     ServedKind::Hit,
     ServedKind::Reuse,

@@ -27,7 +27,7 @@ pub(crate) struct TaskRuns {
     pub(crate) spare: Vec<TaskRun>,
 }
 
-// Adds a task to a list where that holds.
+// Adds a task to a list if the condition holds.
 pub(crate) fn push_where(
     holds: bool,
     run: TaskRun,
@@ -153,7 +153,7 @@ impl TaskRuns {
         let mut runs = TaskRuns::none(alloc);
         for index in 0..entries.len() {
             let entry = &entries[index];
-            // what the entry's type keeps: it took over few turns
+            // what the entry's type guarantees: it took over few turns
             let _turns = turns_in(entry);
             runs.step(index as u64, entry)?;
         }

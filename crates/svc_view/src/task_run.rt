@@ -10,20 +10,20 @@ use svc_history_laws::{CutKind, Entry, Kind, ReplyKind};
 /// What became of a task.
 #[derive(Clone, Copy, Debug, PartialEq, Eq)]
 pub enum Fate {
-    /// It is active still.
+    /// It is still active.
     Active,
     /// It was committed.
     Committed,
-    /// It was squashed with the first of tasks that had read a word too early.
+    /// It was squashed by a violation: it, or a task before it, had read a word too early.
     Violation,
-    /// It was squashed with the first of tasks that had begun at a wrong guess.
+    /// It was squashed for a wrong guess: it, or a task before it, had begun at a wrong entry.
     Guess,
-    /// It was squashed with the first of tasks that was cancelled.
+    /// It was squashed by a cancel, of its unit's task or of one before it.
     Cancel,
 }
 
 impl Fate {
-    /// Whether the task is active still.
+    /// Whether the task is still active.
     pub fn is_active(self) -> bool
         ensures { result ≡ is_active self }
     {
@@ -47,7 +47,7 @@ pub struct TaskRun {
     pub first: u64,
     /// The entry that decided its fate, if one did.
     pub last: Option<u64>,
-    /// The turns that were taken over.
+    /// The turns that its submits took over.
     pub turns: u64,
     /// How many of these loaded.
     pub loads: u64,
@@ -65,7 +65,7 @@ pub(crate) fn turns_in(entry: &Entry) -> u64
     u64::from(entry.local.unwrap_or(0)) + u64::from(entry.ask.unwrap_or(false))
 }
 
-/// Whether the entry was answered that a word was loaded.
+/// Whether the entry's reply is that a word was loaded.
 pub fn loads_in(entry: &Entry) -> bool
     ensures { result ≡ is_load entry.now.reply }
 {
@@ -75,7 +75,7 @@ pub fn loads_in(entry: &Entry) -> bool
     }
 }
 
-/// Whether the entry was answered that a word was stored.
+/// Whether the entry's reply is that a word was stored.
 pub fn stores_in(entry: &Entry) -> bool
     ensures { result ≡ is_store entry.now.reply }
 {
@@ -117,7 +117,7 @@ fn is_not_above(told: Option<u32>, number: u64) -> bool
     }
 }
 
-// The entry that decided a fate, where it is decided.
+// The entry that decided a fate, if it is decided.
 fn last_by(fate: Fate, at: u64) -> Option<u64>
     ensures { result ≡ cond (is_active fate) None (Some at) }
 {
@@ -148,7 +148,7 @@ impl TaskRun {
         }
     }
 
-    // The active task with so much more done.
+    // The active task with what this entry adds.
     fn run_on(&self, entry: &Entry) -> TaskRun
         requires { work self.now + 514 < 2 ^ 64 }
         ensures { result ≡ ran entry.now self.now }

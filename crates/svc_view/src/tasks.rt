@@ -16,7 +16,7 @@ use svc_history_laws::Entry;
 use svc_report::ReportError;
 
 impl Fate {
-    /// The word by which a fate is told.
+    /// The word for a fate.
     pub fn word(self) -> &'static str
         ensures { result.now ≡ fate_word self }
     {
@@ -45,7 +45,7 @@ fn write_front<W: Write>(run: &TaskRun, w: &mut W) -> Result<(), ReportError>
     }
 }
 
-// Writes a number, where there is one.
+// Writes a number, if there is one.
 fn write_optional<W: Write>(number: Option<u64>, w: &mut W) -> Result<(), ReportError>
     ensures ok { OnOk result (Appends (W.contents w.old) (W.contents w.new) (optional_text number)) }
     ensures err { IfErr result IsWriteFault }
@@ -105,7 +105,7 @@ fn write_table<W: Write>(runs: &[TaskRun], w: &mut W) -> Result<(), ReportError>
     write_rows(runs, w)
 }
 
-// The text of that table. A writer over memory fails only for want of memory.
+// The text of that table. A writer over memory fails only for lack of memory.
 fn table_of(alloc: Global, runs: &[TaskRun]) -> Result<Vec<u8>, ReportError>
     ensures text { IfOk result (λ text. text.items ≡ task_header ++ flat_map task_row runs.now) }
     ensures err { IfErr result (λ e. e ≡ Memory) }

@@ -23,11 +23,11 @@ pub enum Group {
     Cancel,
     /// Those that were squashed, whatever the cause.
     Squashed,
-    /// Those that are active still.
+    /// Those that are still active.
     Active,
 }
 
-/// What of them is counted.
+/// What is counted of them.
 #[derive(Clone, Copy, Debug, PartialEq, Eq)]
 pub enum Measure {
     /// The tasks themselves.
@@ -66,7 +66,7 @@ impl Group {
         }
     }
 
-    /// The word by which a group is told.
+    /// The word for a group.
     pub fn word(self) -> &'static str
         ensures { result.now ≡ group_word self }
     {
@@ -83,7 +83,7 @@ impl Group {
 }
 
 impl Measure {
-    /// How much of it a task comes to.
+    /// How much of it a task has.
     pub fn of(self, run: &TaskRun) -> u64
         ensures { result ≡ measured self run.now }
     {
@@ -95,7 +95,7 @@ impl Measure {
         }
     }
 
-    /// The word by which a measure is told.
+    /// The word for a measure.
     pub fn word(self) -> &'static str
         ensures { result.now ≡ measure_word self }
     {
@@ -120,7 +120,7 @@ impl Total {
         }
     }
 
-    /// How much the tasks come to.
+    /// How much the tasks of the group add up to.
     pub fn over(self, runs: &[TaskRun]) -> u64
         requires few { length runs.now ≤ MAX_EVENTS }
         requires light { AllByRecursion (IsLight MAX_EVENTS) runs.now }

@@ -51,7 +51,7 @@ fn write_column<W: Write>(total: Total, runs: &[TaskRun], w: &mut W) -> Result<(
     }
 }
 
-// What is told of a unit.
+// What is reported for a unit.
 fn unit_columns() -> [Total; 7]
     ensures { result ≡ unit_columns }
 {
@@ -110,7 +110,7 @@ fn write_unit<W: Write>(
     write_text(b"\n", w)
 }
 
-// Writes a row for each of so many units.
+// Writes a row for each of this many units.
 fn write_rows<W: Write>(
     alloc: Global,
     units: u32,
@@ -128,7 +128,7 @@ fn write_rows<W: Write>(
     Ok(())
 }
 
-// Writes the table of so many units.
+// Writes the table of this many units.
 fn write_table<W: Write>(
     alloc: Global,
     units: u32,
@@ -148,7 +148,7 @@ fn write_table<W: Write>(
     write_rows(alloc, units, runs, w)
 }
 
-// The text of that table. A writer over memory fails only for want of memory.
+// The text of that table. A writer over memory fails only for lack of memory.
 fn table_of(alloc: Global, units: u32, runs: &[TaskRun]) -> Result<Vec<u8>, ReportError>
     requires few { length runs.now ≤ MAX_EVENTS }
     requires light { AllByRecursion (IsLight MAX_EVENTS) runs.now }
@@ -162,7 +162,8 @@ fn table_of(alloc: Global, units: u32, runs: &[TaskRun]) -> Result<Vec<u8>, Repo
     }
 }
 
-/// Writes the table of so many units: a header, and a row for each with totals over the tasks that it ran in a history.
+/// Writes the table of a number of units: a header, and a row for each with totals over the tasks
+/// that it ran in a history.
 ///
 /// Errors: [`ReportError::Memory`], [`ReportError::Write`].
 pub fn write_units<W: Write>(
