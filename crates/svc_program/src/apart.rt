@@ -7,7 +7,8 @@ use crate::files::Files;
 use crate::request::{Request, Source};
 
 impl Request<'_> {
-    /// The file that would be written is one that is read, by the names that are given.
+    /// Whether the file that would be written is one that is read, going by the names that are
+    /// given.
     pub fn is_over_itself(&self) -> bool
         ensures { IsTrue result ↔ IsOverItself self.now }
     {
@@ -34,7 +35,8 @@ impl Request<'_> {
         }
     }
 
-    /// The file that would be written is one that is read, as far as the files tell of the names.
+    /// Whether the file that would be written is one that is read, as far as `files` can tell from
+    /// the names.
     pub(crate) fn is_over_one_file<F: Files>(&self, files: &F) -> bool
         ensures { IsOverItself self.now → IsTrue result }
     {

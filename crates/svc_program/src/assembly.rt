@@ -13,10 +13,11 @@ use svc_asm::{AssembleError, assemble};
 use svc_image::Image;
 use svc_list::list;
 
-/// Assembles the text of one file, and makes its image the whole of another. It answers the exit status.
+/// Assembles the text of one file, and makes its image the whole content of another. It returns the
+/// exit status.
 ///
-/// Errors: a file that isn't read or written, the text's first fault, or want of memory. Before the last file is written
-/// nothing is changed.
+/// Errors: a file that can't be read or written, the text's first fault, or lack of memory. Nothing
+/// is changed before the image's file is written.
 pub fn assemble_file<F: Files>(
     alloc: Global,
     text: &str,
@@ -35,10 +36,10 @@ pub fn assemble_file<F: Files>(
     Ok(0)
 }
 
-// The bytes of the greatest text that is assembled.
+// The size in bytes of the largest text that is assembled.
 const GREATEST_TEXT: u32 = 16_777_216;
 
-// The text of a file, of which no more is read than the greatest text has and a byte.
+// The text of a file, of which no more is read than the largest text has, and one byte.
 fn load_text<F: Files>(alloc: Global, name: &str, files: &mut F) -> Result<Vec<u8>, Fault>
     ensures text { IfOk result (λ bytes. IfSome (F.held files.old name.now) (λ known. bytes.items ≡ known)) }
     ensures kept { F.held files.new ≡ F.held files.old }
@@ -51,7 +52,7 @@ fn load_text<F: Files>(alloc: Global, name: &str, files: &mut F) -> Result<Vec<u
     Ok(bytes)
 }
 
-// How a fault of a named text is told: by the text's name before it.
+// How a fault of a named text is reported: with the text's name before it.
 fn assembly_fault(alloc: Global, name: &str, error: AssembleError) -> Fault {
     let told = match error {
         AssembleError::Memory => return Fault::File,
@@ -64,7 +65,7 @@ fn assembly_fault(alloc: Global, name: &str, error: AssembleError) -> Fault {
     }
 }
 
-/// Prints an image as a text that is assembled to it. It answers the exit status.
+/// Prints an image as a text that assembles to it. It returns the exit status.
 pub fn list_image<O: Write>(alloc: Global, image: &Image, out: &mut O) -> Result<u8, Fault>
     ensures listed { IfOk result (Lists image.now (O.contents out.old) (O.contents out.new)) }
     ensures fault { IfErr result (λ fault. IsReportFault fault ⊎ (out.new ≡ out.old)) }

@@ -12,7 +12,7 @@ use svc_base::Config;
 use svc_history::{Entry, check_trace};
 use svc_image::Image;
 
-/// Replays the entries, and says that they are sound. It answers the exit status.
+/// Replays the entries, and prints that they are sound. It returns the exit status.
 pub fn check<O: Write>(
     alloc: Global,
     image: &Image,

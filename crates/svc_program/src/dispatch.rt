@@ -1,4 +1,4 @@
-//! What is asked for, done over any files and streams.
+//! Does what is asked for, over any files and streams.
 
 ghost use Rattle.std.specs.Prelude.{◌≡◌, ◌⊎◌, Err, IfOk, IfErr};
 ghost use Rattle.svc_program.specs.Faults.{IsEarly, IsReportFault};
@@ -23,12 +23,13 @@ use std::io::Write;
 use std::sync::Wait;
 use std::thread::Threads;
 
-/// Does what is asked for. It answers the exit status: 0 where the run came to the program's exit, a trace was sound,
-/// or help or the version was asked for, and 2 at any other ending.
+/// Does what is asked for. It returns the exit status: 0 if the run came to the program's exit, a
+/// trace was sound, an image was assembled or listed, or help or the version was asked for, and 2
+/// at any other ending.
 ///
-/// Errors: the first fault, looked for in this order: a file that would be written over one that is read, the image, the
-/// script or trace, the opening of the machine, the run, the output. Before a fault that isn't one of a text nothing was
-/// printed.
+/// Errors: the first fault, looked for in this order: a file that would be written over one that is read, the image,
+/// the script or trace, the opening of the machine, the run, the output. Before a fault that isn't one of a text
+/// nothing is printed.
 pub fn perform<R: Threads + Wait + Sync, F: Files, O: Write>(
     rt: &R,
     alloc: Global,
@@ -41,7 +42,7 @@ pub fn perform<R: Threads + Wait + Sync, F: Files, O: Write>(
     ensures order { IfErr result (λ fault. IsEarly fault ⊎ HasImage request.entry (F.held files.old)) }
     ensures kept { KeepsFiles request.entry (F.held files.old) (F.held files.new) }
 
-    // Nothing is read or written where that would lose a file.
+    // Nothing is read or written if that would lose a file.
     ensures apart { IsOverItself request.entry → (result ≡ Err Fault.File) × (F.held files.new ≡ F.held files.old) × (out.new ≡ out.old) }
 {
     if request.is_over_itself() || request.is_over_one_file(files) {
@@ -50,7 +51,7 @@ pub fn perform<R: Threads + Wait + Sync, F: Files, O: Write>(
     dispatch(rt, alloc, request, files, out)
 }
 
-// Does what is asked for, by a function a subcommand.
+// Does what is asked for, with one function per subcommand.
 fn dispatch<R: Threads + Wait + Sync, F: Files, O: Write>(
     rt: &R,
     alloc: Global,

@@ -13,9 +13,9 @@ use svc_history::{Entry, check_trace};
 use svc_history_laws::history_leads_on;
 use svc_image::Image;
 
-/// Replays the entries, and draws so many of them, from one on.
+/// Replays the entries, and draws at most the given number of them, from the given one on.
 ///
-/// Errors: the trace's first fault; [`Fault::File`] where it has no such entry to begin with; want of memory.
+/// Errors: the trace's first fault; [`Fault::File`] if it ends before that entry; lack of memory.
 pub fn draw_trace(
     alloc: Global,
     image: &Image,

@@ -1,4 +1,4 @@
-//! Why the program gives up, and the words by which it tells so.
+//! Why the program gives up, and the words in which it says so.
 
 ghost use Rattle.std.specs.Prelude.{◌≡◌};
 ghost use Rattle.svc_program.specs.declared.faults.Fault.TheVariants.{File, Image, Open, Report, Run, Trace};
@@ -19,13 +19,13 @@ use thiserror::Error;
 /// Why the program gives up.
 #[derive(Debug, Drop, Error)]
 pub enum Fault {
-    /// The command line isn't read; the text of its parser says why.
+    /// The command line isn't understood; the text of its parser says why.
     #[error("{0}")]
     CommandLine(String),
     /// A number of the configuration is out of its range.
     #[error("config fault {}", .0.number())]
     Config(#[from] ConfigError),
-    /// The bytes of the image's file are no image.
+    /// The bytes of the image's file are not an image.
     #[error("image fault {}", .0.number())]
     Image(ImageError),
     /// A script has a bad record: the first one, counted from 1, and its first bad column.
@@ -49,15 +49,15 @@ pub enum Fault {
     /// A trace isn't a history of the machine: its first faulty entry, counted from 0.
     #[error("trace fault {} at entry {}", number_of(.0.kind), .0.index)]
     Trace(TraceFault),
-    /// A text wasn't read or written.
+    /// A text couldn't be read or written.
     #[error("report fault {}", .0.number())]
     Report(ReportError),
-    /// A file failed, or memory ran out where no other fault says so.
+    /// A file failed, or memory ran out and no other fault says so.
     #[error("file fault")]
     File,
 }
 
-// The number by which the program tells of a faulty entry.
+// The number by which the program reports a faulty entry.
 fn number_of(kind: TraceFaultKind) -> u8
     ensures { result ≡ trace_fault_number kind }
 {
@@ -119,7 +119,7 @@ impl From<ReportError> for Fault {
     }
 }
 
-// Only the output is written by itself.
+// Only the output is written directly.
 impl From<io::Error> for Fault {
     ghost from_gives = { λ _ fault. fault ≡ Report Write };
 
@@ -147,8 +147,8 @@ impl<T: Drop> From<AllocFailed<T>> for Fault {
 /// The exit status of a fault.
 pub const FAULT_STATUS: u8 = 1;
 
-/// Tells of a fault in one line, or in the text that the parser of command lines gives. It answers the
-/// exit status. Where `err` fails, nobody is left to be told.
+/// Reports a fault in one line, or in the text that the parser of command lines gives. It returns
+/// the exit status. If writing to `err` fails, that is ignored: there is nowhere else to report it.
 pub fn tell<E: io::Write>(fault: &Fault, err: &mut E) -> u8
     ensures { result ≡ 1 }
 {

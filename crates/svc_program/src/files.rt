@@ -8,7 +8,7 @@ use std::io::Read;
 #[derive(Clone, Copy, Debug, PartialEq, Eq)]
 pub struct FileFault;
 
-/// Files by their names: a disk, or what stands for one in a test.
+/// Files by their names: a disk, or a substitute for one in a test.
 pub trait Files {
     // The bytes of the file of a name, where they are known.
     ghost held: { Self → List ℕ → Option (List ℕ) } = { λ _ _. None };
@@ -21,7 +21,7 @@ pub trait Files {
         ensures bytes { IfOk result (λ reader. IfSome (held self.old name.now) (λ known. Self.Reader.remaining reader ≡ Some known)) }
         ensures kept { held self.new ≡ held self.old };
 
-    /// Makes these bytes the whole of a file, which is made where there is none.
+    /// Makes these bytes the whole content of a file, which is created if there is none.
     fn save(&mut self, name: &str, bytes: &[u8]) -> Result<(), FileFault>
         ensures saved { OnOk result (IfSome (held self.new name.now) (λ known. known ≡ bytes.now)) };
 

@@ -1,4 +1,4 @@
-//! The front of a file that may have no end.
+//! The beginning of a file that may have no end.
 
 ghost use Rattle.std.specs.Prelude.{◌≡◌, ◌≤◌, IfOk, IfErr, IfSome, length};
 ghost use Rattle.svc_program.specs.Faults.{IsEarly};
@@ -7,7 +7,8 @@ use crate::faults::Fault;
 use std::alloc::Global;
 use std::io::Read;
 
-/// What a reader gives, up to a byte more than the most that is wanted. No more bytes than that are the whole.
+/// What a reader gives, up to one byte more than `most`. If there are at most `most` bytes, they
+/// are the whole file.
 pub fn front_of<R: Read + Drop>(alloc: Global, reader: R, most: u32) -> Result<Vec<u8>, Fault>
     ensures whole { IfOk result (λ bytes. length bytes.items ≤ most → IfSome (R.remaining reader) (λ known. bytes.items ≡ known)) }
     ensures early { IfErr result IsEarly }

@@ -15,8 +15,8 @@ use svc_history::Entry;
 use svc_image::{Image, ImageError, samples};
 use svc_report::{ReportError, Step, read_script, read_trace, write_trace};
 
-// The bytes of the greatest image, which is one of version 2: the header with the registers, entries, as many limits, text
-// and data.
+// The size in bytes of the largest image, which is one of version 2: the header with the registers,
+// entries, as many limits, text and data.
 const GREATEST_IMAGE: u32 = 148 + 4 * (1_024 + 1_024 + 65_536 + 65_536);
 
 /// The image of a source.
@@ -36,8 +36,9 @@ pub fn load_image<F: Files>(
     Ok(image)
 }
 
-// The image that a reader gives, of which no more is read than the greatest image has and a byte. The first fault of these
-// bytes is that of the whole, since each check but the last looks at a place within an image.
+// The image that a reader gives, of which no more is read than the largest image has, and one byte.
+// The first fault of these bytes is that of the whole, since each check but the last looks at a
+// place within an image.
 fn read_image<R: Read + Drop>(alloc: Global, reader: R) -> Result<Image, Fault>
     ensures image { IfOk result (λ img. IfSome (R.remaining reader) (λ bytes. file_of img ≡ bytes)) }
     ensures early { IfErr result IsEarly }
@@ -73,7 +74,7 @@ pub fn load_trace<F: Files>(alloc: Global, name: &str, files: &mut F) -> Result<
     Ok(entries)
 }
 
-/// Makes the text of these entries the whole of the named file, where one is named.
+/// Makes the text of these entries the whole content of the named file, if one is named.
 pub fn save_trace<F: Files>(
     alloc: Global,
     entries: &[Entry],

@@ -19,7 +19,7 @@ use svc_report::ReportError;
 use svc_view::{write_profile, write_tasks, write_units};
 use svc_words::write_words;
 
-/// Replays the entries, and prints what their speculation cost. It answers the exit status.
+/// Replays the entries, and prints what their speculation cost. It returns the exit status.
 pub fn profile<O: Write>(
     alloc: Global,
     image: &Image,

@@ -15,7 +15,7 @@ use svc_image::Image;
 use svc_schedule::{Oldest, Random, Rotate, Youngest, run_schedule};
 use svc_threads::{Gate, Phase, run_units};
 
-/// A gate that no unit's thread waits at.
+/// A gate at which no unit's thread waits.
 struct OpenGate;
 
 impl Gate for OpenGate {
@@ -24,8 +24,9 @@ impl Gate for OpenGate {
     }
 }
 
-/// Runs the image on all units of the configuration, by the schedule, or else each in a thread of its own, until the run
-/// has stopped, its events are spent, or its turns are: those of the threads, or the steps of the schedule.
+/// Runs the image on all units of the configuration, by the schedule if there is one, otherwise
+/// each in a thread of its own, until the run has stopped or has used up its events or its turns:
+/// those of the threads, or the steps of the schedule.
 pub fn run_image<R: Threads + Wait + Sync>(
     rt: &R,
     alloc: Global,

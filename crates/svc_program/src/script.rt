@@ -20,23 +20,24 @@ use svc_history::{Entry, Event, Recorder};
 use svc_image::Image;
 use svc_report::{Step, StepKind, write_entry};
 
-/// What a step of a script is answered.
+/// The outcome of a step of a script.
 #[derive(Clone, Copy, Debug, PartialEq, Eq)]
 pub enum Answer {
     /// Its event was accepted.
     Accepted(Entry),
     /// Its event was refused, and changed nothing.
     Refused(Refusal),
-    /// A burst of so many local turns is kept, and asks or doesn't.
+    /// A burst is kept: its number of local turns, and whether it asks.
     Taken { local: u32, ask: bool },
-    /// There was no task to take on, or no burst to give.
+    /// There was no task to run on, or no burst to submit.
     Nothing,
 }
 
 /// The bursts that are kept, by unit.
 type Kept = Vec<Option<Burst>>;
 
-/// Does the steps of a script, and prints a line for each, and then the summary. It answers the exit status.
+/// Does the steps of a script, and prints a line for each, and then the summary. It returns the
+/// exit status.
 pub fn script<O: Write>(
     alloc: Global,
     image: Image,
@@ -132,7 +133,7 @@ fn tried(recorder: &mut Recorder, event: Event<'_>) -> Answer
     }
 }
 
-// The burst that takes the unit's task on by at most so many turns.
+// The burst that runs the unit's task on by at most this many turns.
 fn burst(recorder: &Recorder, unit: UnitId, turns: u32) -> Result<Burst, Refusal>
     ensures { HasBurst recorder.now unit turns (lease_of recorder.now.machine unit.0) result }
 {
@@ -144,7 +145,7 @@ fn burst(recorder: &Recorder, unit: UnitId, turns: u32) -> Result<Burst, Refusal
     }
 }
 
-// Takes the unit's task on, and submits that burst.
+// Runs the unit's task on, and submits that burst.
 fn submitted(recorder: &mut Recorder, unit: UnitId, turns: u32) -> Answer
     ensures submits { Submits (lease_of recorder.old.machine unit.0) turns unit recorder.old result recorder.new }
     ensures image { recorder.new.machine.image ≡ recorder.old.machine.image }
@@ -156,7 +157,7 @@ fn submitted(recorder: &mut Recorder, unit: UnitId, turns: u32) -> Answer
     }
 }
 
-// Takes the unit's task on, and keeps that burst.
+// Runs the unit's task on, and keeps that burst.
 fn taken(recorder: &Recorder, kept: &mut Kept, unit: UnitId, turns: u32) -> Answer
     ensures { Takes (lease_of recorder.now.machine unit.0) turns unit recorder.now kept.old.items result kept.new.items }
 {
@@ -172,7 +173,7 @@ fn taken(recorder: &Recorder, kept: &mut Kept, unit: UnitId, turns: u32) -> Answ
     Answer::Taken { local, ask }
 }
 
-// Submits the burst that is kept for the unit, which is kept no more.
+// Submits the burst that is kept for the unit, which is then no longer kept.
 fn given(recorder: &mut Recorder, kept: &mut Kept, unit: UnitId) -> Answer
     ensures gives { Gives (kept_for kept.old.items unit) recorder.old result recorder.new }
     ensures kept { kept.new.items ≡ slice_set kept.old.items unit.0 None }

@@ -12,7 +12,8 @@ use std::io::Write;
 use svc_image::Image;
 use svc_plain::run_tasks;
 
-/// Runs this many tasks at most on one flat memory, and prints the summary. It answers the exit status.
+/// Runs at most this many tasks on one flat memory, and prints the summary. It returns the exit
+/// status.
 pub fn sequential<O: Write>(
     alloc: Global,
     image: &Image,

@@ -1,4 +1,4 @@
-//! `show`: the machine where a trace leads.
+//! `show`: the machine to which a trace leads.
 
 ghost use Rattle.std.specs.Prelude.{◌≡◌, ◌⊎◌, ◌≤◌, ◌<◌, IfOk, IfErr, IfSome, length, take};
 ghost use Rattle.svc_history.specs.Recorded.{IsLegal};
@@ -15,7 +15,8 @@ use svc_history::{Entry, Recorder, check_trace};
 use svc_image::Image;
 use svc_show::write_show;
 
-/// Replays the entries, and prints the machine after the first so many of them, or after all. It answers the exit status.
+/// Replays the entries, and prints the machine after the first `at` of them, or after all. It
+/// returns the exit status.
 pub fn show<O: Write>(
     alloc: Global,
     image: &Image,
@@ -36,8 +37,8 @@ pub fn show<O: Write>(
     Ok(0)
 }
 
-// The machine after the first so many of the entries, or after all. The whole trace is checked first, and one machine at a
-// time takes its memory.
+// The machine after the first `at` entries, or after all. The whole trace is checked first, and
+// only one machine at a time is in memory.
 fn machine_at(
     alloc: Global,
     image: &Image,
@@ -83,7 +84,7 @@ fn check_whole(alloc: Global, image: &Image, config: Config, entries: &[Entry]) 
     Ok(())
 }
 
-// The machine after the first so many of the entries, which are sound.
+// The machine after the first `at` entries, which are sound.
 fn front(
     alloc: Global,
     image: &Image,
@@ -103,7 +104,7 @@ fn front(
     whole(alloc, image, config, shown)
 }
 
-// The first so many of the entries.
+// The first `at` entries.
 fn first_of(entries: &[Entry], at: u64) -> Result<&[Entry], Fault>
     ensures first { IfOk result (λ es. es.now ≡ take at entries.now) }
     ensures within { IfOk result (λ es. at ≤ length entries.now) }

@@ -13,8 +13,8 @@ use svc_core::Ending;
 use svc_history::Recorder;
 use svc_report::{Counts, write_summary};
 
-/// Prints the summary of a run: the words put out, how many tasks were run or committed, the ending, and the counts where
-/// they are given. It answers the exit status.
+/// Prints the summary of a run: the output words, how many tasks were run or committed, the ending,
+/// and the counts if they are given. It returns the exit status.
 pub fn print<O: Write>(
     alloc: Global,
     output: &[u32],
@@ -32,7 +32,7 @@ pub fn print<O: Write>(
     Ok(exit_status(ending))
 }
 
-/// Prints the summary of what was recorded, with its counts. It answers the exit status.
+/// Prints the summary of what was recorded, with its counts. It returns the exit status.
 pub fn print_recorded<O: Write>(
     alloc: Global,
     recorder: &Recorder,
@@ -53,7 +53,7 @@ pub fn print_recorded<O: Write>(
     )
 }
 
-// The exit status of a run with this ending: 0 where the program came to its exit, else 2.
+// The exit status of a run with this ending: 0 if the program exited, otherwise 2.
 fn exit_status(ending: Ending) -> u8
     ensures { result ≡ status_of ending }
 {
