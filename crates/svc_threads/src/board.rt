@@ -88,7 +88,7 @@ impl Split<View> for ForReader {
     ghost right = { reader };
 }
 
-/// A board. It is written and read in one step each, and its numbers never fall.
+/// A board. A write and a read are one step each, and its numbers never fall.
 #[derive(Drop)]
 pub struct Board {
     cell: RuledSeqCell<BoardRow, View, Rises, 4>,
@@ -104,7 +104,8 @@ impl Model for Board {
     ghost view = { λ b. b.cell.table.shared.table_id };
 }
 
-/// Leave to read one board, and of one pass a board to publish on it. It knows the last row that it published or read.
+/// Permission to read one board; one pass per board may also publish on it. It knows the last row
+/// that it published or read.
 #[derive(Drop)]
 pub struct BoardPass {
     pass: Pass<BoardRow, View>,
@@ -148,8 +149,8 @@ impl Board {
         self.cell.swap_as::<Publishes, R>(rt, &mut pass.pass, row);
     }
 
-    /// The row that stands there, whole, read in one step by a pass of this board. No number of it is below those that
-    /// the pass knew.
+    /// The row on the board, whole, read in one step by a pass of this board. No number of it is
+    /// below those that the pass knew.
     pub fn read<R: Wait>(&self, rt: &R, pass: &mut BoardPass) -> BoardRow
         requires board { pass.old.board ≡ self.now }
         ensures order { InOrder result }

@@ -92,7 +92,7 @@ impl SharedBus {
         self.lock.lock(rt).apply(rt, event)
     }
 
-    /// The recorder, when no thread shares it any more.
+    /// The recorder, once no thread shares it any more.
     pub fn into_recorder(self) -> Recorder {
         let SharedBus { lock, .. } = self;
         lock.into_inner().into_recorder()

@@ -25,7 +25,7 @@ pub enum RunError {
 }
 
 impl RunError {
-    /// The number by which the program tells of this error.
+    /// The number by which the program reports this error.
     pub fn number(self) -> u8
         ensures { result ≡ error_number self }
     {

@@ -1,4 +1,4 @@
-// What lies under the bus lock.
+// What is under the bus lock.
 
 ghost use Rattle.std.specs.Prelude.{◌≡◌, true, IfOk};
 ghost use Rattle.std.specs.Arc.{arc_value};
@@ -16,8 +16,9 @@ use std::sync::{Arc, Wait};
 use svc_base::{Refusal, UnitId};
 use svc_history::{Entry, Event, Glance, Kind, Recorder, Slip};
 
-/// A recorder with the numbers of its history, and a board that shows them. By the type they are those numbers, and the
-/// pass is the one of that board that publishes and knows them.
+/// A recorder with the numbers of its history, and a board that shows them. The type guarantees
+/// that they are those numbers, and that the pass is the one of that board that publishes and knows
+/// them.
 #[derive(Drop)]
 pub(crate) struct Locked {
     recorder: Recorder,
@@ -43,7 +44,7 @@ impl Model for Locked {
 }
 
 impl Locked {
-    // Puts a recorder beside a board that shows its numbers already.
+    // Puts a recorder beside a board that already shows its numbers.
     pub(crate) fn new(
         recorder: Recorder,
         board: Arc<Board>,
@@ -62,7 +63,7 @@ impl Locked {
         }
     }
 
-    // One event, as the recorder takes it. Where it is accepted the board shows the new numbers.
+    // One event, as the recorder takes it. If it is accepted the board shows the new numbers.
     pub(crate) fn apply<R: Wait>(&mut self, rt: &R, event: Event<'_>) -> Result<Slip, Refusal>
         ensures { IsApplied self.old self.new (event_of event.entry) result }
     {
@@ -117,7 +118,7 @@ fn commits(kind: Kind) -> u64
     }
 }
 
-// The numbers with one entry more.
+// The numbers with one more entry.
 fn with_entry(counts: BoardRow, entry: &Entry) -> BoardRow
     requires { IsSmall (with_entry counts entry.now) }
     ensures { result ≡ with_entry counts entry.now }

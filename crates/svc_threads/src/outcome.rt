@@ -11,7 +11,7 @@ use svc_history::same::is_same;
 use svc_history::{Entry, Recorder, Slip};
 use svc_image::Image;
 
-/// A recorder, and the slips that each unit's thread brought back, the unit 0 first.
+/// A recorder, and the slips that each unit's thread brought back, unit 0 first.
 #[derive(Drop)]
 pub struct Outcome {
     /// The machine with its history.
@@ -22,9 +22,9 @@ pub struct Outcome {
 
 /// An outcome of exactly these slips. It takes no memory.
 ///
-/// Errors: [`RunError::ForeignImage`] exactly where the recorder's image or configuration is not the given one; else
-/// [`RunError::Torn`] exactly where there is not one list a unit, or a unit's list is not that unit's entries with
-/// their indexes, in order.
+/// Errors: [`RunError::ForeignImage`] exactly if the recorder's image or configuration is not the
+/// given one; otherwise [`RunError::Torn`] exactly if there is not one list per unit, or a unit's
+/// list is not that unit's entries with their indexes, in order.
 pub fn reconcile(
     image: &Image,
     config: Config,
@@ -98,15 +98,15 @@ fn all_agree(units: u32, entries: &[Entry], lists: &[Vec<Slip>]) -> bool
     true
 }
 
-// The slip is this entry's, at this index.
+// The slip is that of this entry, at this index.
 fn is_slip(slip: &Slip, index: usize, entry: &Entry) -> bool
     ensures { Decides result (slip.now ≡ slip_at index entry.now) }
 {
     slip.index == index && is_same(&slip.entry, entry)
 }
 
-// How many slips of each list are its unit's entries with their indexes, in order; nothing where a list has too few, or
-// another one.
+// How many slips of each list are its unit's entries with their indexes, in order; nothing if a
+// list has too few, or a different one.
 fn agreeing(entries: &[Entry], lists: &[Vec<Slip>]) -> Option<[usize; 256]>
     ensures some { IfSome result (λ ends.
         AllAgreeTo (length entries.now) entries.now ends (map (λ v. v.items) lists.now)) }

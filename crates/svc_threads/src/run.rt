@@ -1,4 +1,4 @@
-// One thread a unit.
+// One thread per unit.
 
 ghost use Rattle.std.specs.Prelude.{◌≡◌, ◌<◌, ◌^◌, map, IfOk};
 ghost use Rattle.svc_threads.specs.Outcomes.{IsOutcome};
@@ -17,7 +17,7 @@ use svc_base::{Config, UnitId};
 use svc_history::{Recorder, Slip};
 use svc_image::Image;
 
-/// A port whose recorder can be had when no thread shares it any more.
+/// A port whose recorder can be had once no thread shares it any more.
 pub trait Shared: Port + Sync + Drop {
     /// The recorder, with the history that the port leaves.
     fn into_recorder(self) -> Recorder;
@@ -52,7 +52,7 @@ pub fn run_units<G: Gate + Sync, R: Threads + Wait + Sync>(
 
 /// Runs all units over a port, each in a thread of its own, and compares what the threads bring back with the history
 /// that the port leaves, as [`run_units`] does over a bus. The reader is a pass of the port's board. A port may tell
-/// its threads another thing than it records, and give back any recorder.
+/// its threads something other than what it records, and give back any recorder.
 ///
 /// Errors: [`RunError::Memory`] and [`RunError::NotStarted`], after which the threads that were started have ended; and
 /// those of [`reconcile`].
