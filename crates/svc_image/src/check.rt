@@ -9,7 +9,7 @@ use crate::error::ImageError;
 use crate::header::{Header, check_header, count, whole_word, word};
 use crate::layout::{ENTRIES_PLACE, MOST_WORDS};
 
-/// The header of a file without fault, and else the first fault.
+/// The header of a file without fault, otherwise the first fault.
 pub fn check(bytes: &[u8]) -> Result<Header, ImageError>
     ensures value { result ≡ checked (fault bytes.now) (header_in bytes.now) }
     ensures counts { IfOk result InLimits }

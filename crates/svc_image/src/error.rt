@@ -1,4 +1,4 @@
-// Why bytes are no image.
+// Why bytes are not an image.
 
 ghost use Rattle.std.specs.Prelude.{◌≡◌};
 ghost use Rattle.svc_image.specs.Faults.{fault_number};
@@ -7,7 +7,7 @@ ghost use Rattle.svc_image.specs.declared.error.ImageError.TheVariants.{Memory};
 use std::alloc::AllocError;
 use thiserror::Error;
 
-/// Why bytes are no image, or no image could be made. The first eight are faults of the bytes, in the
+/// Why bytes are not an image, or no image could be made. The first eight are faults of the bytes, in the
 /// order in which a file is checked; the last says that memory ran out.
 #[derive(Clone, Copy, Debug, PartialEq, Eq, Error)]
 pub enum ImageError {

@@ -111,7 +111,7 @@ pub fn count(value: u32, most: u32) -> Result<u32, ImageError>
     Ok(value)
 }
 
-// The version's own number, where it is sound.
+// The version's own number, if it is in its range.
 #[tactic(auto, unfolding(crate::specs::Format::is_outside))]
 fn own(version: Version, words: u32, value: u32) -> Result<u32, ImageError>
     ensures value { result ≡ (if is_own_outside version words value then Err ImageError.Count else Ok value) }
@@ -124,7 +124,7 @@ fn own(version: Version, words: u32, value: u32) -> Result<u32, ImageError>
     }
 }
 
-/// The header, where it and the registers after it have no fault.
+/// The header, if it and the registers after it have no fault.
 #[tactic(auto, unfolding(crate::specs::Format::header_checks))]
 pub fn check_header(bytes: &[u8]) -> Result<Header, ImageError>
     ensures value { result ≡ checked (first_of (header_checks bytes.now)) (header_in bytes.now) }

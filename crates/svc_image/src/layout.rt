@@ -1,11 +1,11 @@
-// Where the fields of an image file stand, and their limits.
+// Where the fields of an image file are, and their limits.
 
-/// The bytes with which every image begins.
+/// The bytes with which every image file begins.
 pub const MAGIC: [u8; 4] = *b"SVCI";
 
 /// The most entries of an image.
 pub const MOST_ENTRIES: u32 = 1024;
-/// The most text words, the most data words, and the greatest limit of turns.
+/// The most text words, the most data words, and the largest limit of turns.
 pub const MOST_WORDS: u32 = 65_536;
 
 pub const VERSION_PLACE: usize = 4;

@@ -10,7 +10,7 @@ use crate::layout::MAGIC;
 use byteorder::{ByteOrder, LittleEndian, WriteBytesExt};
 use std::alloc::{AllocError, Global};
 
-/// The words that stand in some bytes.
+/// The words in some bytes.
 pub fn read_words(alloc: Global, bytes: &[u8], count: usize) -> Result<Vec<u32>, AllocError>
     requires { length bytes.now ≡ 4 * count }
     ensures { IfOk result (λ words. words.items ≡ words_in count bytes.now) }
@@ -20,7 +20,7 @@ pub fn read_words(alloc: Global, bytes: &[u8], count: usize) -> Result<Vec<u32>,
     Ok(words)
 }
 
-/// Puts words behind the bytes.
+/// Appends words to the bytes.
 pub fn put_words(bytes: &mut Vec<u8>, words: &[u32]) -> Result<(), ImageError>
     ensures ok { OnOk result (bytes.new.items ≡ bytes.old.items ++ bytes_of_words words.now) }
     ensures err { IfErr result (λ e. e ≡ ImageError.Memory) }
@@ -31,7 +31,7 @@ pub fn put_words(bytes: &mut Vec<u8>, words: &[u32]) -> Result<(), ImageError>
     Ok(())
 }
 
-/// Puts a header behind the bytes.
+/// Appends a header to the bytes.
 pub fn put_header(bytes: &mut Vec<u8>, header: Header) -> Result<(), ImageError>
     requires { InLimits header }
     ensures ok { OnOk result (bytes.new.items ≡ bytes.old.items ++ header_bytes header) }
@@ -46,7 +46,7 @@ pub fn put_header(bytes: &mut Vec<u8>, header: Header) -> Result<(), ImageError>
     put_word(bytes, header.start)
 }
 
-// Puts a number of 16 bits behind the bytes.
+// Appends a number of 16 bits to the bytes.
 #[tactic(auto, unfolding(crate::specs::Format::bytes_of_half))]
 fn put_half(bytes: &mut Vec<u8>, number: u16) -> Result<(), ImageError>
     ensures ok { OnOk result (bytes.new.items ≡ bytes.old.items ++ bytes_of_half number) }
@@ -58,7 +58,7 @@ fn put_half(bytes: &mut Vec<u8>, number: u16) -> Result<(), ImageError>
     }
 }
 
-// Puts a number of 32 bits behind the bytes.
+// Appends a number of 32 bits to the bytes.
 #[tactic(auto, unfolding(crate::specs::Format::bytes_of_word))]
 fn put_word(bytes: &mut Vec<u8>, number: u32) -> Result<(), ImageError>
     ensures ok { OnOk result (bytes.new.items ≡ bytes.old.items ++ bytes_of_word number) }
