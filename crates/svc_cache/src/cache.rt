@@ -49,6 +49,8 @@ impl Cache {
     ghost use Rattle.svc_cache.specs.Sound.{IsSound};
 
     /// A cache without lines. It allocates all its memory here.
+    ///
+    /// Errors: [`OpenError::Memory`].
     pub fn open(alloc: Global, sets: u32, ways: u32) -> Result<Cache, OpenError>
         requires power { IsTrue (is_power_of_two sets) }
         requires few_sets { sets ≤ MAX_SETS }
@@ -114,6 +116,8 @@ impl Cache {
 
     /// Puts the line of the word in its place, over the line that the word had, if any. If the set
     /// is full, nothing changes.
+    ///
+    /// Errors: [`SetFull`], with the word whose line is to leave first.
     pub fn fill(&mut self, word: WordAddr, line: Line, probes: &mut Probes) -> Result<(), SetFull>
         requires valid { (bits_of line.bits).valid ≡ true }
         requires room { HasRoom probes.old self.old.ways }

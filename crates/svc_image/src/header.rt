@@ -16,12 +16,17 @@ use byteorder::{ByteOrder, LittleEndian};
 /// The numbers of an image file's header.
 #[derive(Clone, Copy, Debug, PartialEq, Eq)]
 pub struct Header {
+    /// The version of the format.
     pub version: Version,
+    /// How many entries there are.
     pub entries: usize,
+    /// How many text words there are.
     pub text: usize,
+    /// How many data words there are.
     pub words: usize,
     /// In version 1 the limit of every task, in version 2 how many data words are read-only.
     pub own: u32,
+    /// The byte address of the first task's entry.
     pub start: u32,
 }
 

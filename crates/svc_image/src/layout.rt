@@ -8,20 +8,27 @@ pub const MOST_ENTRIES: u32 = 1024;
 /// The most text words, the most data words, and the largest limit of turns.
 pub const MOST_WORDS: u32 = 65_536;
 
+/// The offset of the version, in bytes, as are the offsets below.
 pub const VERSION_PLACE: usize = 4;
 
+/// The offset of the number of entries.
 pub const ENTRY_COUNT_PLACE: usize = 6;
 
+/// The offset of the number of text words.
 pub const TEXT_COUNT_PLACE: usize = 8;
 
+/// The offset of the number of data words.
 pub const DATA_COUNT_PLACE: usize = 12;
 
-/// The number that only its version has: in version 1 the limit of every task, in version 2 how many words
+/// The offset of the number that only its version has: in version 1 the limit of every task, in version 2 how many words
 /// are read-only.
 pub const OWN_PLACE: usize = 16;
 
+/// The offset of the first task's entry.
 pub const START_PLACE: usize = 20;
 
+/// The offset of the values of x1 to x31.
 pub const REGISTERS_PLACE: usize = 24;
 
+/// The offset of the entries.
 pub const ENTRIES_PLACE: usize = 148;

@@ -128,6 +128,8 @@ fn write_counts<W: Write>(
 
 /// Writes the summary of a run: the output words, how many tasks were run or committed, the ending,
 /// and the counts if they are given.
+///
+/// Errors: [`ReportError::Memory`], [`ReportError::Write`].
 pub fn write_summary<W: Write>(
     alloc: Global,
     output: &[u32],

@@ -79,6 +79,8 @@ fn write_row<W: Write>(pending: &mut Pending, entry: &Entry, w: &mut W) -> Resul
 }
 
 /// Writes the row of an entry.
+///
+/// Errors: [`ReportError::Memory`], [`ReportError::Write`].
 pub fn write_entry<W: Write>(alloc: Global, entry: &Entry, w: &mut W) -> Result<(), ReportError>
     ensures ok { OnOk result (Appends (W.contents w.old) (W.contents w.new) (row_of entry.now)) }
     ensures err { IfErr result IsWriteFault }
@@ -89,6 +91,8 @@ pub fn write_entry<W: Write>(alloc: Global, entry: &Entry, w: &mut W) -> Result<
 }
 
 /// Writes the text of a history: the names of the columns, and a row for each entry.
+///
+/// Errors: [`ReportError::Memory`], [`ReportError::Write`].
 pub fn write_trace<W: Write>(alloc: Global, entries: &[Entry], w: &mut W) -> Result<(), ReportError>
     ensures ok { OnOk result (Appends (W.contents w.old) (W.contents w.new) (text_of entries.now)) }
     ensures err { IfErr result IsWriteFault }
@@ -138,6 +142,9 @@ impl Row for Entry {
 }
 
 /// Reads the text of a history.
+///
+/// Errors: [`ReportError::Memory`], [`ReportError::Read`], or [`ReportError::Row`] with the first bad record and its first
+/// bad column.
 pub fn read_trace<R: Read + Drop>(alloc: Global, reader: R) -> Result<Vec<Entry>, ReportError>
     // The text is the names of the columns and the rows of these entries, and no other record.
     ensures ok { IfOk result (λ v. AllByRecursion HasRow v.items × IfSome (R.remaining reader) (λ text. IsText text (trace_records v.items))) }

@@ -95,6 +95,8 @@ fn empty_words(alloc: Global, words: usize) -> Result<Vec<u32>, AllocError>
 
 impl Spill {
     /// A table without versions, for a memory of that many words. It allocates all its memory here.
+    ///
+    /// Errors: [`OpenError::Memory`].
     pub fn open(alloc: Global, words: usize) -> Result<Spill, OpenError>
         ensures { IfOk result (λ table. table ≡ replicate words None) }
     {

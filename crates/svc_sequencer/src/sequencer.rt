@@ -116,6 +116,8 @@ fn handed_on(ended: Option<End>) -> Option<u32>
 
 impl Sequencer {
     /// The sequencer of an image before any event. It allocates all that it will ever need.
+    ///
+    /// Errors: [`OpenError::Memory`].
     pub fn open(alloc: Global, image: &Image) -> Result<Sequencer, OpenError>
         ensures ok { IfOk result (λ s. s ≡ guide_opened image.now.entries image.now.start) }
         ensures err { IfErr result (λ e. e ≡ OpenError.Memory) }

@@ -44,9 +44,11 @@ impl Words<4> for BoardRow {
     }
 }
 
-// What a pass knows. No value of it is made.
+/// What a pass knows. No value of it is made.
 pub struct View {
+    /// Whether the pass publishes.
     pub publishes: bool,
+    /// The last row that it published or read.
     pub row: BoardRow,
 }
 
