@@ -100,7 +100,7 @@ impl Cache {
     }
 
     /// The word whose line has to be replaced before a line of `word` can be filled: there is one
-    /// exactly if `word` has no line and its set is full.
+    /// exactly when `word` has no line and its set is full.
     pub fn full(&self, word: WordAddr, probes: &mut Probes) -> Option<WordAddr>
         requires room { HasRoom probes.old self.now.ways }
         ensures address { (bound : ℕ) → EndsBelow (line_of self.now) bound

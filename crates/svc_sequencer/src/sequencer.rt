@@ -172,7 +172,7 @@ impl Sequencer {
     }
 
     /// Whether the end of the task at a position, counted from the oldest, cuts the ones after it:
-    /// always at an exit or trap, and otherwise exactly if the next task began at an entry other
+    /// always at an exit or trap, and otherwise exactly when the next task began at an entry other
     /// than the one to which it handed on. Without a next task there is nothing to cut.
     pub fn settle(&self, position: usize, end: End) -> bool
         ensures { result ≡ cuts_next end (drop (suc position) self.now.active) }

@@ -22,8 +22,8 @@ pub struct Outcome {
 
 /// An outcome of exactly these slips. It takes no memory.
 ///
-/// Errors: [`RunError::ForeignImage`] exactly if the recorder's image or configuration is not the
-/// given one; otherwise [`RunError::Torn`] exactly if there is not one list per unit, or a unit's
+/// Errors: [`RunError::ForeignImage`] exactly when the recorder's image or configuration is not the
+/// given one; otherwise [`RunError::Torn`] exactly when there is not one list per unit, or a unit's
 /// list is not that unit's entries with their indexes, in order.
 pub fn reconcile(
     image: &Image,

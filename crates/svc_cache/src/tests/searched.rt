@@ -148,7 +148,7 @@ impl SearchedLines {
     }
 
     /// The word whose line has to be replaced before a line of `word` can be filled: there is one
-    /// exactly if `word` has no line and its set is full.
+    /// exactly when `word` has no line and its set is full.
     pub(crate) fn full(&self, word: WordAddr, probes: &mut Probes) -> Option<WordAddr>
         requires room { HasRoom probes.old (length self.now.places) }
         ensures address { (bound : ℕ) → EndsBelow (line_in self.now) bound
