@@ -4,9 +4,9 @@
 //! p1.svci, r.svci and p2.svci under images/ hold the same bytes: they were made from this table, and have to be made
 //! again if it changes.
 
-/// Two tasks, which begin at 0 and at 12. The first stores 5 into data word 0 (`lui x5, 0x100`, `addi x1, x0, 5`, `sw
-/// x1, 0(x5)`); the second loads that word (`lui x5, 0x100`, `lw x10, 0(x5)`), outputs it (`addi x17, x0, 1`, `ecall`)
-/// and exits with it (`addi x17, x0, 0`, `ecall`).
+/// Two tasks, which begin at 0 and at 12. The first stores 5 into data word 0 (`lui x5, 0x100`,
+/// `addi x1, x0, 5`, `sw x1, 0(x5)`); the second loads that word (`lui x5, 0x100`, `lw x10, 0(x5)`),
+/// outputs it (`addi x17, x0, 1`, `ecall`) and exits with it (`addi x17, x0, 0`, `ecall`).
 pub const P: [u8; 200] = *b"SVCI\
     \x01\x00\x02\x00\
     \x09\x00\x00\x00\x02\x00\x00\x00\

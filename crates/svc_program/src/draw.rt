@@ -15,7 +15,7 @@ use svc_image::Image;
 
 /// Replays the entries, and draws at most the given number of them, from the given one on.
 ///
-/// Errors: the trace's first fault; [`Fault::File`] if it ends before that entry; lack of memory.
+/// Errors: the trace's first fault; [`Fault::File`] if it has fewer entries than are before that one; lack of memory.
 pub fn draw_trace(
     alloc: Global,
     image: &Image,
