@@ -9,3 +9,4 @@ pub mod Summary
 pub mod Trace
 pub mod Limit
 pub mod Places
+pub mod Table

@@ -71,23 +71,57 @@ number_row name number = line (name ∷ decimal number ∷ [])
 abbrev pub output_rows : List ℕ → List ℕ
 output_rows output = flat_map (λ word. number_row (codes "out") word) output
 
--- the row that says how a run ended
+-- the word and the number that say how a run ended
+abbrev pub ending_word : Ending → List ℕ
+ending_word (ending.Exit code) = codes "exit"
+ending_word (ending.Trap number) = codes "trap"
+ending_word (ending.Full entry) = codes "full"
+ending_word (ending.Open entry) = codes "open"
+
+abbrev pub ending_number : Ending → ℕ
+ending_number (ending.Exit code) = code
+ending_number (ending.Trap number) = number
+ending_number (ending.Full entry) = entry
+ending_number (ending.Open entry) = entry
+
+-- the row of both
 abbrev pub ending_row : Ending → List ℕ
-ending_row (ending.Exit code) = number_row (codes "exit") code
-ending_row (ending.Trap number) = number_row (codes "trap") number
-ending_row (ending.Full entry) = number_row (codes "full") entry
-ending_row (ending.Open entry) = number_row (codes "open") entry
+ending_row e = number_row (ending_word e) (ending_number e)
+
+-- the counts in their order, and their names
+abbrev pub kind_names : List (List ℕ)
+kind_names = codes "kind-assign" ∷ codes "kind-submit" ∷ codes "kind-replace" ∷ codes "kind-cancel" ∷ codes "kind-commit" ∷ []
+
+abbrev pub kind_numbers : Counts → List ℕ
+kind_numbers c = c.assign ∷ c.submit ∷ c.replace ∷ c.cancel ∷ c.commit ∷ []
+
+abbrev pub supplier_names : List (List ℕ)
+supplier_names = codes "served-hit" ∷ codes "served-reuse" ∷ codes "served-version" ∷ codes "served-spill" ∷ codes "served-committed" ∷ codes "served-memory" ∷ []
+
+abbrev pub supplier_numbers : Counts → List ℕ
+supplier_numbers c = c.hit ∷ c.reuse ∷ c.version ∷ c.spill ∷ c.committed ∷ c.memory ∷ []
+
+abbrev pub cause_names : List (List ℕ)
+cause_names = codes "cut-violation" ∷ codes "cut-guess" ∷ codes "cut-cancel" ∷ []
+
+abbrev pub cause_numbers : Counts → List ℕ
+cause_numbers c = c.violation ∷ c.guess ∷ c.cancelled ∷ []
+
+-- a row for each name and its number
+abbrev pub number_rows : List (List ℕ) → List ℕ → List ℕ
+number_rows [] numbers = []
+number_rows (name ∷ names) [] = []
+number_rows (name ∷ []) (number ∷ numbers) = number_row name number
+number_rows (name ∷ next ∷ names) (number ∷ numbers) = number_row name number ++ number_rows (next ∷ names) numbers
 
 abbrev pub kind_rows : Counts → List ℕ
-kind_rows c = number_row (codes "kind-assign") c.assign ++ (number_row (codes "kind-submit") c.submit ++ (number_row (codes "kind-replace") c.replace
-    ++ (number_row (codes "kind-cancel") c.cancel ++ number_row (codes "kind-commit") c.commit)))
+kind_rows c = number_rows kind_names (kind_numbers c)
 
 abbrev pub supplier_rows : Counts → List ℕ
-supplier_rows c = number_row (codes "served-hit") c.hit ++ (number_row (codes "served-reuse") c.reuse ++ (number_row (codes "served-version") c.version
-    ++ (number_row (codes "served-spill") c.spill ++ (number_row (codes "served-committed") c.committed ++ number_row (codes "served-memory") c.memory))))
+supplier_rows c = number_rows supplier_names (supplier_numbers c)
 
 abbrev pub cause_rows : Counts → List ℕ
-cause_rows c = number_row (codes "cut-violation") c.violation ++ (number_row (codes "cut-guess") c.guess ++ number_row (codes "cut-cancel") c.cancelled)
+cause_rows c = number_rows cause_names (cause_numbers c)
 
 -- a row for each count, where they are given
 abbrev pub counts_rows : Option Counts → List ℕ

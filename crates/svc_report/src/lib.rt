@@ -11,6 +11,8 @@ mod reading;
 mod records;
 mod script;
 mod summary;
+mod summary_row;
+mod table;
 mod trace;
 mod words;
 
@@ -19,4 +21,6 @@ pub use error::ReportError;
 pub use laws::legal_history_has_rows;
 pub use script::{Step, StepKind, read_script};
 pub use summary::write_summary;
+pub use summary_row::write_summary_row;
+pub use table::{Fields, TableRow, write_row};
 pub use trace::{read_trace, write_entry, write_trace};

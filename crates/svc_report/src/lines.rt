@@ -2,11 +2,12 @@
 
 ghost use Rattle.std.specs.Prelude.{◌≡◌, ◌++◌, [], false, OnOk, IfErr, map};
 ghost use Rattle.std.specs.Io.KnownBytes.{Appends, Keeps, append_known};
+ghost use Rattle.csv.specs.Records.{fields_of};
 ghost use Rattle.csv.specs.Writing.{default_writer, fields_written, has_written, row_text, writer_setup};
 ghost use Rattle.svc_report.specs.Faults.{IsWriteFault};
 
 use crate::error::ReportError;
-use csv::{Writer, WriterBuilder};
+use csv::{ByteRecord, Writer, WriterBuilder};
 use std::alloc::{AllocError, Global};
 use std::io::Write;
 use std::marker::Model;
@@ -56,12 +57,25 @@ impl Pending {
         }
     }
 
-    // Adds a line of these fields, as `csv` writes them. A writer over memory fails only for lack
-    // of memory.
-    fn push(&mut self, fields: &[&[u8]]) -> Result<(), AllocError>
+    /// Adds a line of these fields, as `csv` writes them. A writer over memory fails only for lack
+    /// of memory.
+    pub(crate) fn push(&mut self, fields: &[&[u8]]) -> Result<(), AllocError>
         ensures { OnOk result (self.new ≡ self.old ++ row_text default_writer (map (λ f. f.now) fields.now)) }
     {
         match self.lines.write_fields(fields) {
+            Ok(()) => Ok(()),
+            Err(_) => {
+                renew(&mut self.lines, self.alloc);
+                Err(AllocError)
+            }
+        }
+    }
+
+    /// Adds a line of a record's fields.
+    pub(crate) fn push_record(&mut self, row: &ByteRecord) -> Result<(), AllocError>
+        ensures { OnOk result (self.new ≡ self.old ++ row_text default_writer (fields_of row.now)) }
+    {
+        match self.lines.write_byte_record(row) {
             Ok(()) => Ok(()),
             Err(_) => {
                 renew(&mut self.lines, self.alloc);

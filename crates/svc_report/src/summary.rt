@@ -1,10 +1,10 @@
 // Summaries of runs.
 
-ghost use Rattle.std.specs.Prelude.{OnOk, IfErr};
+ghost use Rattle.std.specs.Prelude.{◌≡◌, OnOk, IfErr};
 ghost use Rattle.std.specs.Io.KnownBytes.{Appends, append_known};
 ghost use Rattle.svc_report.specs.Faults.{IsWriteFault};
 ghost use Rattle.svc_report.specs.Lines.{IsPlain};
-ghost use Rattle.svc_report.specs.Summary.{number_row, output_rows, ending_row, kind_rows, supplier_rows, cause_rows, counts_rows, summary_of};
+ghost use Rattle.svc_report.specs.Summary.{number_row, output_rows, ending_number, ending_row, ending_word, kind_rows, supplier_rows, cause_rows, counts_rows, summary_of};
 
 use crate::counts::Counts;
 use crate::error::ReportError;
@@ -45,6 +45,30 @@ fn write_output<W: Write>(
     Ok(())
 }
 
+/// The word that says how a run ended.
+pub(crate) fn ending_word(ending: Ending) -> &'static str
+    ensures word { result.now ≡ ending_word ending }
+    ensures plain { IsPlain result.now }
+{
+    match ending {
+        Ending::Exit(_) => "exit",
+        Ending::Trap(_) => "trap",
+        Ending::Full(_) => "full",
+        Ending::Open(_) => "open",
+    }
+}
+
+/// The number that stands beside it.
+pub(crate) fn ending_number(ending: Ending) -> u64
+    ensures { result ≡ ending_number ending }
+{
+    match ending {
+        Ending::Exit(code) => u64::from(code),
+        Ending::Trap(number) => u64::from(number),
+        Ending::Full(entry) | Ending::Open(entry) => u64::from(entry),
+    }
+}
+
 // Writes the row of an ending.
 fn write_ending<W: Write>(
     pending: &mut Pending,
@@ -54,12 +78,7 @@ fn write_ending<W: Write>(
     ensures ok { OnOk result (Appends (append_known (W.contents w.old) pending.old) (append_known (W.contents w.new) pending.new) (ending_row ending)) }
     ensures err { IfErr result IsWriteFault }
 {
-    match ending {
-        Ending::Exit(code) => write_number(pending, "exit", u64::from(code), w),
-        Ending::Trap(number) => write_number(pending, "trap", u64::from(number), w),
-        Ending::Full(entry) => write_number(pending, "full", u64::from(entry), w),
-        Ending::Open(entry) => write_number(pending, "open", u64::from(entry), w),
-    }
+    write_number(pending, ending_word(ending), ending_number(ending), w)
 }
 
 // Writes the counts of kinds.

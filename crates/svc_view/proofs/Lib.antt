@@ -7,4 +7,5 @@ pub mod Begun
 pub mod Ordering
 pub mod Placed
 pub mod UnitRows
+pub mod FieldRows
 pub mod Adding

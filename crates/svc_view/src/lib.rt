@@ -4,6 +4,7 @@
 
 mod laws;
 pub mod profile;
+pub mod profile_row;
 pub mod runs;
 pub mod task_run;
 pub mod tasks;
@@ -13,6 +14,7 @@ pub mod units;
 
 pub use laws::{task_rows_add_up, unit_rows_add_up};
 pub use profile::write_profile;
+pub use profile_row::write_profile_row;
 pub use runs::tasks_of;
 pub use task_run::{Fate, TaskRun};
 pub use tasks::write_tasks;

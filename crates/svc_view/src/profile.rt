@@ -58,8 +58,8 @@ fn write_totals<W: Write>(totals: &[Total], runs: &[TaskRun], w: &mut W) -> Resu
     Ok(())
 }
 
-// The totals that are reported.
-fn totals_told() -> [Total; 15]
+/// The totals that are reported.
+pub(crate) fn totals_told() -> [Total; 15]
     ensures { result ≡ totals_told }
 {
     let total = |measure, group| Total { measure, group };
@@ -82,8 +82,8 @@ fn totals_told() -> [Total; 15]
     ]
 }
 
-// How many reads this supplier served.
-fn served_count(counts: &Counts, served: ServedKind) -> u64
+/// How many reads this supplier served.
+pub(crate) fn served_count(counts: &Counts, served: ServedKind) -> u64
     ensures { result ≡ served_count counts.now served }
 {
     match served {
@@ -141,8 +141,8 @@ fn write_served<W: Write>(
     Ok(())
 }
 
-// The suppliers that are reported.
-const SUPPLIERS: [ServedKind; 6] = [
+/// The suppliers that are reported.
+pub(crate) const SUPPLIERS: [ServedKind; 6] = [
     ServedKind::Hit,
     ServedKind::Reuse,
     ServedKind::Version,

@@ -1,0 +1,93 @@
+// The summary of a run as a row of a table.
+
+ghost use Rattle.std.specs.Prelude.{◌≡◌, ◌++◌, OnOk, IfErr, decimal, map};
+ghost use Rattle.std.specs.Io.KnownBytes.{Appends};
+ghost use Rattle.svc_report.specs.Faults.{IsWriteFault};
+ghost use Rattle.svc_report.specs.Summary.{cause_numbers, kind_numbers, supplier_numbers};
+ghost use Rattle.svc_report.specs.Table.{summary_row};
+
+use crate::counts::Counts;
+use crate::error::ReportError;
+use crate::summary::{ending_number, ending_word};
+use crate::table::{Fields, TableRow, write_row};
+use std::alloc::{AllocError, Global};
+use std::io::Write;
+use svc_core_laws::Ending;
+
+// The names of the columns.
+const COLUMNS: [&[u8]; 18] = [
+    b"label",
+    b"tasks",
+    b"ending",
+    b"number",
+    b"kind-assign",
+    b"kind-submit",
+    b"kind-replace",
+    b"kind-cancel",
+    b"kind-commit",
+    b"served-hit",
+    b"served-reuse",
+    b"served-version",
+    b"served-spill",
+    b"served-committed",
+    b"served-memory",
+    b"cut-violation",
+    b"cut-guess",
+    b"cut-cancel",
+];
+
+// The counts in the order of the columns.
+fn numbers_of(counts: &Counts) -> [u64; 14]
+    ensures { result ≡ kind_numbers counts.now ++ (supplier_numbers counts.now ++ cause_numbers counts.now) }
+{
+    [
+        counts.assign,
+        counts.submit,
+        counts.replace,
+        counts.cancel,
+        counts.commit,
+        counts.hit,
+        counts.reuse,
+        counts.version,
+        counts.spill,
+        counts.committed,
+        counts.memory,
+        counts.violation,
+        counts.guess,
+        counts.cancelled,
+    ]
+}
+
+// Adds a field for each number.
+fn push_numbers(fields: &mut Fields, numbers: &[u64]) -> Result<(), AllocError>
+    ensures { OnOk result (fields.new ≡ fields.old ++ map decimal numbers.now) }
+{
+    for number in numbers {
+        fields.push_number(*number)?;
+    }
+    Ok(())
+}
+
+/// Writes the summary of a run as a row of a table: its label, how many tasks were committed, the word and the number of
+/// the ending, and the counts. The words put out aren't told.
+///
+/// Errors: [`ReportError::Memory`], [`ReportError::Write`].
+pub fn write_summary_row<W: Write>(
+    alloc: Global,
+    row: TableRow<'_>,
+    tasks: u64,
+    ending: Ending,
+    counts: &Counts,
+    w: &mut W,
+) -> Result<(), ReportError>
+    ensures ok { OnOk result (Appends (W.contents w.old) (W.contents w.new) (summary_row row.entry tasks ending counts.now)) }
+    ensures err { IfErr result IsWriteFault }
+{
+    let mut fields = Fields::new(alloc);
+    fields.push(row.label)?;
+    fields.push_number(tasks)?;
+    fields.push(ending_word(ending))?;
+    fields.push_number(ending_number(ending))?;
+    push_numbers(&mut fields, &numbers_of(counts))?;
+    write_row(alloc, row.header, &COLUMNS, &fields, w)
+}
