@@ -1,22 +1,95 @@
 -- The active tasks after an entry: which of them go on, and which are settled.
-use Rattle.std.proofs.Common.{◌≡◌, ◌∙◌, ◌+◌, ◌<◌, ◌≤◌, ◌++◌, ◌∷◌, [], ℕ, suc, List, Bool, cond, map, take, drop, length, get_or, ap, sym, append_assoc, drop-cons, arith}
-use Rattle.std.specs.List.{filter}
-use Rattle.std.proofs.lemmas.List.{drop_all, map_more}
+use Rattle.std.proofs.Common.{◌≡◌, ◌∙◌, ◌+◌, ◌<◌, ◌≤◌, ◌++◌, ◌∷◌, [], ◌||◌, ℕ, suc, List, Bool, true, false, not, cond, refl, map, take, drop, length, get_or, ap, sym, append_assoc, drop-cons, arith}
+use Rattle.std.specs.List.{filter, list_any}
+use Rattle.std.proofs.Math.ListN.{set}
+use Rattle.std.proofs.Math.Seq.{get_or-append_seam, set-append_seam}
+use Rattle.std.proofs.lemmas.Bool.{true≢false}
+use Rattle.std.proofs.lemmas.List.{drop_all, drop_more, length-map, length-take-le, map_more, take_more}
 use Rattle.std.proofs.lemmas.List.Elements.{filter-append}
+use Rattle.std.proofs.lemmas.List.Folds.{list_any-append}
+use Rattle.std.proofs.Math.Bool.{or-false}
 use Rattle.svc_history_laws.specs.declared.entry.Entry.{Entry}
+use Rattle.svc_history_laws.specs.Board.{commits}
 use Rattle.svc_view.specs.declared.task_run.TaskRun.{TaskRun}
-use Rattle.svc_view.specs.Runs.{Runs, runs_from, step}
+use Rattle.svc_view.specs.Runs.{Runs, after, begun, goes_on, is_settled, runs_from, step}
 
--- one task more is looked at
-pub one_more : (p : TaskRun → Bool) (f : TaskRun → TaskRun) (old part new xs : List TaskRun) (i : ℕ) (d : TaskRun) → i < length xs
-    → part ≡ old ++ filter p (map f (take i xs))
-    → new ≡ part ++ cond (p (f (get_or xs i d))) (f (get_or xs i d) ∷ []) []
-    → new ≡ old ++ filter p (map f (take (i + 1) xs))
-one_more p f old part new xs i d inside is grown =
-    let before = map f (take i xs) in
-    let one = f (get_or xs i d) ∷ [] in
+-- one task more is sorted
+pub one_more : (p : TaskRun → Bool) (old part new xs : List TaskRun) (i : ℕ) (d : TaskRun) → i < length xs
+    → part ≡ old ++ filter p (take i xs)
+    → new ≡ part ++ cond (p (get_or xs i d)) (get_or xs i d ∷ []) []
+    → new ≡ old ++ filter p (take (i + 1) xs)
+one_more p old part new xs i d inside is grown =
+    let before = take i xs in
+    let one = get_or xs i d ∷ [] in
     grown ∙ ap (λ (l : List TaskRun). l ++ filter p one) is ∙ append_assoc old (filter p before) (filter p one)
-    ∙ ap (λ (l : List TaskRun). old ++ l) (sym (filter-append p before one) ∙ ap (filter p) (sym (map_more f xs i d inside)))
+    ∙ ap (λ (l : List TaskRun). old ++ l) (sym (filter-append p before one) ∙ ap (filter p) (sym (take_more xs i d inside)))
+
+-- the tasks from an index on are as they were
+whole : (f : TaskRun → TaskRun) (old now : List TaskRun) (i : ℕ) (d : TaskRun) → i < length old
+    → now ≡ map f (take i old) ++ drop i old → now ≡ map f (take i old) ++ (get_or old i d ∷ drop (i + 1) old)
+whole f old now i d inside is = is ∙ ap (λ (l : List TaskRun). map f (take i old) ++ l) (drop_more old i d inside)
+
+count : (f : TaskRun → TaskRun) (old : List TaskRun) (i : ℕ) → i < length old → length (map f (take i old)) ≡ i
+count f old i inside = length-map (take i old) f ∙ length-take-le i old (omega (arith, inside))
+
+still_there : (f : TaskRun → TaskRun) (old now : List TaskRun) (i : ℕ) (d : TaskRun) → i < length old
+    → now ≡ map f (take i old) ++ drop i old → get_or now i d ≡ get_or old i d
+still_there f old now i d inside is =
+    let xs = map f (take i old) in
+    let ys = get_or old i d ∷ drop (i + 1) old in
+    ap (λ (l : List TaskRun). get_or l i d) (whole f old now i d inside is)
+    ∙ ap (λ (n : ℕ). get_or (xs ++ ys) n d) (sym (count f old i inside)) ∙ get_or-append_seam xs (get_or old i d) (drop (i + 1) old) d
+
+-- one task more goes on, in its place
+pub in_place : (f : TaskRun → TaskRun) (old now : List TaskRun) (i : ℕ) (d y : TaskRun) → i < length old
+    → now ≡ map f (take i old) ++ drop i old → y ≡ f (get_or now i d) → set now i y ≡ map f (take (i + 1) old) ++ drop (i + 1) old
+in_place f old now i d y inside is gone =
+    let xs = map f (take i old) in
+    let o = get_or old i d in
+    let rest = drop (i + 1) old in
+    ap (λ (l : List TaskRun). set l i y) (whole f old now i d inside is)
+    ∙ ap (λ (n : ℕ). set (xs ++ (o ∷ rest)) n y) (sym (count f old i inside)) ∙ set-append_seam xs o rest y
+    ∙ ap (λ (r : TaskRun). xs ++ (r ∷ rest)) (gone ∙ ap f (still_there f old now i d inside is)) ∙ sym (append_assoc xs (f o ∷ []) rest)
+    ∙ ap (λ (l : List TaskRun). l ++ rest) (sym (map_more f old i d inside))
+
+-- and is seen to be settled or not
+pub one_settled : (f : TaskRun → TaskRun) (old now : List TaskRun) (i : ℕ) (d y : TaskRun) (so_far goes : Bool) → i < length old
+    → now ≡ map f (take i old) ++ drop i old → y ≡ f (get_or now i d) → goes ≡ goes_on y → so_far ≡ list_any is_settled (map f (take i old))
+    → (so_far || not goes) ≡ list_any is_settled (map f (take (i + 1) old))
+one_settled f old now i d y so_far goes inside is gone goes_is some =
+    let xs = map f (take i old) in
+    let o = get_or old i d in
+    ap (λ (b : Bool). so_far || not b) (goes_is ∙ ap goes_on (gone ∙ ap f (still_there f old now i d inside is)))
+    ∙ ap (λ (b : Bool). b || is_settled (f o)) some
+    ∙ ap (λ (b : Bool). list_any is_settled xs || b) (sym (or-false (is_settled (f o))))
+    ∙ sym (list_any-append is_settled xs (f o ∷ []))
+    ∙ ap (list_any is_settled) (sym (map_more f old i d inside))
+
+-- where the fate of none is decided, all go on
+pub all_go_on : (rs : List TaskRun) → list_any is_settled rs ≡ false → filter goes_on rs ≡ rs
+all_go_on [] none = refl
+all_go_on (r ∷ rs) none = by (goes_on r) (all_go_on rs) none
+  where
+    by : (b : Bool) → (list_any is_settled rs ≡ false → filter goes_on rs ≡ rs) → (not b || list_any is_settled rs) ≡ false
+        → cond b (r ∷ filter goes_on rs) (filter goes_on rs) ≡ r ∷ rs
+    by true rest none = ap (λ (l : List TaskRun). r ∷ l) (rest none)
+    by false rest none = absurd (true≢false none)
+
+pub none_settled : (rs : List TaskRun) → list_any is_settled rs ≡ false → filter is_settled rs ≡ []
+none_settled [] none = refl
+none_settled (r ∷ rs) none = by (is_settled r) (none_settled rs) none
+  where
+    by : (b : Bool) → (list_any is_settled rs ≡ false → filter is_settled rs ≡ []) → (b || list_any is_settled rs) ≡ false
+        → cond b (r ∷ filter is_settled rs) (filter is_settled rs) ≡ []
+    by true rest none = absurd (true≢false none)
+    by false rest none = rest none
+
+-- so the active tasks and the settled ones are those of the step, whether any was settled or not
+pub stepped : (at : ℕ) (e : Entry) (s next : Runs) → next.commits ≡ s.commits + commits e.kind
+    → next.settled ≡ s.settled ++ filter is_settled (map (after at e) s.active)
+    → next.active ≡ filter goes_on (map (after at e) s.active) ++ begun e.kind at e s → next ≡ step at e s
+unfolding step
+stepped at e s next count settled active = rw (count, settled, active) refl
 
 -- one entry more
 pub next_entry : (es : List Entry) (i : ℕ) (d : Entry) (s next whole : Runs) → i < length es → next ≡ step i (get_or es i d) s

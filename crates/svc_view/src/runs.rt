@@ -1,7 +1,7 @@
 // The tasks of a history.
 
 ghost use Rattle.std.specs.Prelude.{◌≡◌, ◌+◌, ◌<◌, ◌≤◌, ◌++◌, ◌∷◌, [], OnOk, IfOk, IfErr, cond, map, length};
-ghost use Rattle.std.specs.List.{AllByRecursion, filter};
+ghost use Rattle.std.specs.List.{AllByRecursion, filter, list_any};
 ghost use Rattle.std.specs.Option.{option_to_list};
 ghost use Rattle.svc_base.specs.declared.config.TheConstants.{MAX_EVENTS};
 ghost use Rattle.svc_history_laws.specs.Board.{commits};
@@ -64,25 +64,35 @@ fn commits_in(kind: Kind) -> u64
     }
 }
 
-// Sorts the active tasks after an entry into those that go on and those whose fate it decided.
+// The entry at this index, for each of the active tasks. It says whether the fate of any of them is decided now.
+fn go_on(active: &mut [TaskRun], at: u64, entry: &Entry) -> bool
+    requires few { at < MAX_EVENTS }
+    requires light { AllByRecursion (IsLight at) active.old }
+    ensures tasks { active.new ≡ map (after at entry.now) active.old }
+    ensures settled { result ≡ list_any is_settled active.new }
+{
+    let mut settled = false;
+    for run in active.iter_mut() {
+        run.go_on(at, entry);
+        settled |= !run.fate.is_active();
+    }
+    settled
+}
+
+// Sorts tasks into those that go on and those whose fate is decided.
 fn sort_out(
     active: &[TaskRun],
-    at: u64,
-    entry: &Entry,
     going: &mut Vec<TaskRun>,
     settled: &mut Vec<TaskRun>,
 ) -> Result<(), ReportError>
-    requires few { at < MAX_EVENTS }
-    requires light { AllByRecursion (IsLight at) active.now }
     requires empty { going.old.items ≡ [] }
-    ensures going { OnOk result (going.new.items ≡ filter goes_on (map (after at entry.now) active.now)) }
-    ensures settled { OnOk result (settled.new.items ≡ settled.old.items ++ filter is_settled (map (after at entry.now) active.now)) }
+    ensures going { OnOk result (going.new.items ≡ filter goes_on active.now) }
+    ensures settled { OnOk result (settled.new.items ≡ settled.old.items ++ filter is_settled active.now) }
     ensures err { IfErr result (λ e. e ≡ Memory) }
 {
     for run in active {
-        let next = run.after(at, entry);
-        push_where(next.fate.is_active(), next, going)?;
-        push_where(!next.fate.is_active(), next, settled)?;
+        push_where(run.fate.is_active(), *run, going)?;
+        push_where(!run.fate.is_active(), *run, settled)?;
     }
     Ok(())
 }
@@ -135,9 +145,11 @@ impl TaskRuns {
         ensures err { IfErr result (λ e. e ≡ Memory) }
     {
         let begun = self.begun(at, entry);
-        sort_out(&self.active, at, entry, &mut self.spare, &mut self.settled)?;
-        mem::swap(&mut self.active, &mut self.spare);
-        self.spare.clear();
+        if go_on(&mut self.active, at, entry) {
+            sort_out(&self.active, &mut self.spare, &mut self.settled)?;
+            mem::swap(&mut self.active, &mut self.spare);
+            self.spare.clear();
+        }
         push_some(begun, &mut self.active)?;
         self.commits += commits_in(entry.kind);
         Ok(())

@@ -149,32 +149,25 @@ impl TaskRun {
     }
 
     // The active task with what this entry adds.
-    fn run_on(&self, entry: &Entry) -> TaskRun
-        requires { work self.now + 514 < 2 ^ 64 }
-        ensures { result ≡ ran entry.now self.now }
+    fn run_on(&mut self, entry: &Entry)
+        requires { work self.old + 514 < 2 ^ 64 }
+        ensures { self.new ≡ ran entry.now self.old }
     {
-        if !self.is_of(entry) {
-            return *self;
-        }
-        TaskRun {
-            turns: self.turns + turns_in(entry),
-            loads: self.loads + u64::from(loads_in(entry)),
-            stores: self.stores + u64::from(stores_in(entry)),
-            ..*self
+        if self.is_of(entry) {
+            self.turns += turns_in(entry);
+            self.loads += u64::from(loads_in(entry));
+            self.stores += u64::from(stores_in(entry));
         }
     }
 
-    /// The active task after the entry at this index.
-    pub(crate) fn after(&self, at: u64, entry: &Entry) -> TaskRun
-        requires { work self.now + 514 < 2 ^ 64 }
-        ensures { result ≡ after at entry.now self.now }
+    /// The entry at this index: what the active task does by it, and what becomes of the task.
+    pub(crate) fn go_on(&mut self, at: u64, entry: &Entry)
+        requires { work self.old + 514 < 2 ^ 64 }
+        ensures { self.new ≡ after at entry.now self.old }
     {
         let fate = self.fate_after(entry);
-        let last = last_by(fate, at);
-        TaskRun {
-            last,
-            fate,
-            ..self.run_on(entry)
-        }
+        self.run_on(entry);
+        self.last = last_by(fate, at);
+        self.fate = fate;
     }
 }

@@ -1,9 +1,9 @@
-use Rattle.std.proofs.Common.{◌≡◌, ◌++◌, map, take}
+use Rattle.std.proofs.Common.{◌≡◌, ◌++◌, take}
 use Rattle.std.specs.List.{filter}
-use Rattle.svc_view.specs.Runs.{after, goes_on, is_settled}
+use Rattle.svc_view.specs.Runs.{goes_on, is_settled}
 use Rattle.svc_view.proofs.runs.sort_out.Given as goal
 
 abbrev pub invariant-loop-run : goal.invariant-loop-run
 invariant-loop-run l =
-    (l.going.items ≡ filter goes_on (map (after l.at l.entry) (take l.run-index l.active)))
-    × (l.settled.items ≡ l.fn.settled.items ++ filter is_settled (map (after l.at l.entry) (take l.run-index l.active)))
+    (l.going.items ≡ filter goes_on (take l.run-index l.active))
+    × (l.settled.items ≡ l.fn.settled.items ++ filter is_settled (take l.run-index l.active))
