@@ -27,15 +27,15 @@ IsNamed name words = slice_get words 1 ≡ Some name
 
 -- to run the built-in image
 abbrev pub IsBuiltInRun : Request → Type 0
-IsBuiltInRun (request.Run source.BuiltIn config schedule trace) = ⊤
+IsBuiltInRun (request.Run source.BuiltIn config schedule trace row) = ⊤
 IsBuiltInRun _ = ⊥
 
 -- the words name what is asked for: help or the version by a word of its own, and else the subcommand
 abbrev pub Names : List (List ℕ) → Request → Type 0
 Names words (request.Help text) = Has IsHelpWord words
 Names words request.Version = Has IsVersionWord words
-Names words (request.Run source.BuiltIn config schedule trace) = length words ≤ 1
-Names words (request.Run (source.File name) config schedule trace) = IsNamed (codes "run") words
+Names words (request.Run source.BuiltIn config schedule trace row) = length words ≤ 1
+Names words (request.Run (source.File name) config schedule trace row) = IsNamed (codes "run") words
 Names words (request.Sequential from tasks) = IsNamed (codes "seq") words
 Names words (request.Script from config events) = IsNamed (codes "script") words
 Names words (request.Check from config trace) = IsNamed (codes "check") words

@@ -84,13 +84,20 @@ is committed when it is the oldest and has ended. Each of these is one event. Th
 committed tasks. After it stand counts of the events: of each kind, of each supplier of a word that was
 read, and of each cause for which tasks were squashed.
 
+With --row all this is one row of a table, without the words put out: the label, the tasks, the word and
+the number of the ending, and the counts. So the rows of many runs join, of which one has --header.
+
 Each unit runs in a thread of its own, so runs differ. By a schedule all units run in one thread, a step
 after another, and the same options give the same run. A step makes one event: the units are asked in
-order, and the first that can do what is next for it does. Then the turns that are spent are steps.";
+order, and the first that can do what is next for it does. Then the turns that are spent are steps.
+
+Example: svcsim run sum.svci --units 8 --schedule oldest --row 8,oldest";
 
 const SEQ: &str = "Runs an image's tasks one after another on plain memory, and prints the summary.
 
-There are no units, caches or events. This is what any run of the same image has to agree with.";
+There are no units, caches or events. This is what any run of the same image has to agree with.
+
+Example: svcsim seq sum.svci --tasks 1000000";
 
 const SCRIPT: &str =
     "Applies the events of a script to a machine in their order, and prints a line for each, and then the
@@ -108,13 +115,17 @@ A script is a CSV text with the header kind,unit,arg. Its rows are:
 
 An accepted event prints its row of a trace, a refused one refused,N with the number of the refusal. A
 burst that is kept prints taken,L,A: its local turns, and 1 where it asks for the bus, else 0. Where there
-is nothing to keep or to give, none is printed.";
+is nothing to keep or to give, none is printed.
+
+Example: svcsim script sum.svci sum.events.csv --units 2";
 
 const CHECK: &str = "Replays a trace from a machine before any event, and compares each of its rows.
 
 It prints sound,N for the N rows of a sound trace. Else it names the first faulty row, counted from 0, as
 trace fault K at entry I. K is 1 where memory ran out, 2 where the row's event is refused there, and 3
-where the event is answered otherwise. Give the options that the trace was made with.";
+where the event is answered otherwise. Give the options that the trace was made with.
+
+Example: svcsim check sum.svci sum.csv --units 8";
 
 const PROFILE: &str =
     "Replays a trace as check does, and prints what its speculation cost: rows of a name and a count.
@@ -125,7 +136,8 @@ reads each supplier served; and how many lines were replaced. Of a faulty trace 
 as check does, and no count. Give the options that the trace was made with.
 
 With --by it prints a table instead, with a row for each task that was begun, squashed ones too, for
-each unit, or for each word of data that was touched.
+each unit, or for each word of data that was touched. With --row it prints the counts as one row of a table,
+after a label, so that the rows of many traces join.
 
 Example: svcsim profile sum.svci sum.csv --by task";
 
@@ -219,7 +231,9 @@ fn run<'a>(alloc: Global) -> Result<Command<'a>, AllocError> {
         .long_about(RUN)
         .after_help(STATUSES)
         .arg(image(alloc))?
-        .arg(trace)?;
+        .arg(trace)?
+        .arg(row(alloc))?
+        .arg(header(alloc)?)?;
     with_configuration(alloc, with_schedule(alloc, command)?)
 }
 
@@ -261,7 +275,9 @@ fn profile<'a>(alloc: Global) -> Result<Command<'a>, AllocError> {
         .after_help(STATUSES)
         .arg(image(alloc))?
         .arg(file(alloc, "TRACE").help("The trace's file"))?
-        .arg(by)?;
+        .arg(by)?
+        .arg(row(alloc).conflicts_with("by")?)?
+        .arg(header(alloc)?)?;
     with_configuration(alloc, command)
 }
 
@@ -351,6 +367,25 @@ fn image<'a>(alloc: Global) -> Arg<'a> {
 // A file that has to be named.
 fn file<'a>(alloc: Global, name: &'a str) -> Arg<'a> {
     Arg::new(alloc, name).required(true).action(ArgAction::Set)
+}
+
+// The label of a row in place of the rows.
+fn row<'a>(alloc: Global) -> Arg<'a> {
+    Arg::new(alloc, "row")
+        .long("row")
+        .value_name("LABEL")
+        .action(ArgAction::Set)
+        .help("Prints one row of a table instead, which begins with this label")
+}
+
+// The names of that row's columns.
+fn header<'a>(alloc: Global) -> Result<Arg<'a>, AllocError> {
+    let header = Arg::new(alloc, "header")
+        .long("header")
+        .action(ArgAction::SetTrue)
+        .requires_arg("row")?
+        .help("Prints the names of the columns before the row");
+    Ok(header)
 }
 
 // A command with the options of a schedule.

@@ -9,7 +9,7 @@ use clap::{ArgMatches, Error};
 use std::alloc::Global;
 use svc_base::Config;
 use svc_core::MAX_BURST_TURNS;
-use svc_program::{Fault, Order, Request, Schedule, Source, Table};
+use svc_program::{Fault, Order, Request, Schedule, Source, Table, TableRow};
 
 const SEED_ALONE: &str = "error: the argument '--seed <N>' is of '--schedule random' alone
 
@@ -40,6 +40,7 @@ fn built_in<'a>() -> Result<Request<'a>, Fault>
         config: Config::new(1, 16, 2, 100_000, 1_000_000)?,
         schedule: None,
         trace: None,
+        row: None,
     })
 }
 
@@ -105,6 +106,7 @@ fn asked<'a>(
             config: configuration(given)?,
             schedule: schedule(alloc, given)?,
             trace: given.get_str("trace"),
+            row: row(given),
         }),
         Some(("seq", given)) if is_named(words, "seq") => Ok(Request::Sequential {
             image: image(given)?,
@@ -160,10 +162,19 @@ fn image<'a>(given: &ArgMatches<'a>) -> Result<Source<'a>, Fault>
     Ok(Source::File(name))
 }
 
+// The row of a table that the options ask for, if any.
+fn row<'a>(given: &ArgMatches<'a>) -> Option<TableRow<'a>> {
+    let label = given.get_str("row")?;
+    Some(TableRow {
+        label,
+        header: given.get_flag("header"),
+    })
+}
+
 // The table of a profile that the options name, if any.
-fn table(given: &ArgMatches<'_>) -> Result<Option<Table>, Fault> {
+fn table<'a>(given: &ArgMatches<'a>) -> Result<Option<Table<'a>>, Fault> {
     match given.get_str("by") {
-        None => Ok(None),
+        None => Ok(row(given).map(Table::Row)),
         Some("task") => Ok(Some(Table::Tasks)),
         Some("unit") => Ok(Some(Table::Units)),
         Some("word") => Ok(Some(Table::Words)),

@@ -6,8 +6,8 @@ ghost use Rattle.std.specs.List.{starts_with};
 use crate::attempt::{Attempt, Refused, ready};
 use crate::texts::{EVENTS, TRACE};
 use crate::wanted::{
-    CHECK, LIST, PROFILE, PROFILE_BY_TASK, PROFILE_BY_UNIT, PROFILE_BY_WORD, RUN, SCHEDULE, SCRIPT,
-    SEQ, SHOW, SHOW_AT,
+    CHECK, LIST, PROFILE, PROFILE_BY_TASK, PROFILE_BY_UNIT, PROFILE_BY_WORD, PROFILE_ROW, RUN,
+    RUN_ROW, SCHEDULE, SCRIPT, SEQ, SHOW, SHOW_AT,
 };
 use std::alloc::{AllocError, Global};
 use std::sync::Wait;
@@ -15,7 +15,9 @@ use std::thread::Threads;
 use svc_base::Config;
 use svc_command::execute;
 use svc_image::samples::P;
-use svc_program::{FileFault, Files, Order, Request, Schedule, Source, Table, perform, tell};
+use svc_program::{
+    FileFault, Files, Order, Request, Schedule, Source, Table, TableRow, perform, tell,
+};
 
 // The files that the words name. What is saved is as if it had gone to a disk.
 #[derive(Drop)]
@@ -122,6 +124,7 @@ pub fn run<R: Threads + Wait + Sync + AllocGlobal>(rt: &R) -> Attempt {
         config: ready(Config::new(1, 16, 2, 100, 1000))?,
         schedule: None,
         trace: Some("saved"),
+        row: None,
     };
     asked(rt, request, RUN)
 }
@@ -133,14 +136,33 @@ pub fn schedule<R: Threads + Wait + Sync + AllocGlobal>(rt: &R) -> Attempt {
         config: ready(Config::new(4, 16, 2, 100, 1000))?,
         schedule: Schedule::new(Order::Youngest, 63),
         trace: Some("saved"),
+        row: None,
     };
     asked(rt, request, SCHEDULE)
 }
 
+/// The same run is printed as a row of a table, after the names of the columns, and no trace is saved.
+pub fn run_row<R: Threads + Wait + Sync + AllocGlobal>(rt: &R) -> Attempt {
+    let request = Request::Run {
+        image: Source::File("p"),
+        config: ready(Config::new(4, 16, 2, 100, 1000))?,
+        schedule: Schedule::new(Order::Youngest, 63),
+        trace: None,
+        row: Some(HEADED),
+    };
+    asked(rt, request, RUN_ROW)
+}
+
+// A row of a table after the names of the columns.
+const HEADED: TableRow<'static> = TableRow {
+    label: "a",
+    header: true,
+};
+
 // What the trace of ten events cost is told, by this table or in all.
 fn cost<R: Threads + Wait + Sync + AllocGlobal>(
     rt: &R,
-    by: Option<Table>,
+    by: Option<Table<'_>>,
     wanted: &str,
 ) -> Attempt {
     let request = Request::Profile {
@@ -170,6 +192,11 @@ pub fn profile_by_unit<R: Threads + Wait + Sync + AllocGlobal>(rt: &R) -> Attemp
 /// The same by word.
 pub fn profile_by_word<R: Threads + Wait + Sync + AllocGlobal>(rt: &R) -> Attempt {
     cost(rt, Some(Table::Words), PROFILE_BY_WORD)
+}
+
+/// The same as a row of a table.
+pub fn profile_row<R: Threads + Wait + Sync + AllocGlobal>(rt: &R) -> Attempt {
+    cost(rt, Some(Table::Row(HEADED)), PROFILE_ROW)
 }
 
 // The machine to which the trace of ten events leads is shown, after so many of them or after all.

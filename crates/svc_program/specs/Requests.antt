@@ -20,7 +20,7 @@ use Rattle.svc_program.specs.declared.request.TheConstants.{VERSION}
 use Rattle.svc_program.specs.Assembly.{Assembles, Lists}
 use Rattle.svc_program.specs.Costs.{TellsCost}
 use Rattle.svc_program.specs.Drawings.{IsDrawn}
-use Rattle.svc_program.specs.Runs.{FindsSound, GoesBy, IsRunOf, Reports, ReportsOn}
+use Rattle.svc_program.specs.Runs.{FindsSound, GoesBy, IsRunOf, Reports, ReportsRun}
 use Rattle.svc_program.specs.Scripts.{PlaysScript}
 use Rattle.svc_program.specs.Shown.{TellsMachine}
 
@@ -56,8 +56,8 @@ version_row = codes "svcsim " ++ (VERSION.now ++ codes "\n")
 abbrev pub Does : Request → (held saved : List ℕ → Option (List ℕ)) → (old new : Option (List ℕ)) → ℕ → Type 0
 Does (request.Help text) held saved old new exit = Shows (string_bytes text) old new exit
 Does request.Version held saved old new exit = Shows version_row old new exit
-Does (request.Run from config schedule trace) held saved old new exit =
-    (img : Image) × IsOfSource held from img × (r : Recorded) × IsRunOf img config r × GoesBy schedule img config r × IfSome trace (λ name. SavesTrace saved name.now r.entries) × ReportsOn r old new exit
+Does (request.Run from config schedule trace row) held saved old new exit =
+    (img : Image) × IsOfSource held from img × (r : Recorded) × IsRunOf img config r × GoesBy schedule img config r × IfSome trace (λ name. SavesTrace saved name.now r.entries) × ReportsRun row r old new exit
 Does (request.Sequential from k) held saved old new exit = (img : Image) × IsOfSource held from img × Reports img k (tasks_run img k) false None old new exit
 Does (request.Script from config events) held saved old new exit =
     (img : Image) × IsOfSource held from img × (steps : List Step) × IsScriptIn held events.now steps × PlaysScript img config steps old new exit
@@ -79,7 +79,7 @@ Does (request.List from) held saved old new exit = (img : Image) × IsOfSource h
 abbrev pub HasImage : Request → (held : List ℕ → Option (List ℕ)) → Type 0
 HasImage (request.Help text) held = ⊤
 HasImage request.Version held = ⊤
-HasImage (request.Run from config schedule trace) held = (img : Image) × IsOfSource held from img
+HasImage (request.Run from config schedule trace row) held = (img : Image) × IsOfSource held from img
 HasImage (request.Sequential from k) held = (img : Image) × IsOfSource held from img
 HasImage (request.Script from config events) held = (img : Image) × IsOfSource held from img
 HasImage (request.Check from config trace) held = (img : Image) × IsOfSource held from img
@@ -91,7 +91,7 @@ HasImage (request.List from) held = (img : Image) × IsOfSource held from img
 
 -- no file is changed but by a run whose trace is to be saved, by drawing a trace, and by assembling one
 abbrev pub KeepsFiles : Request → (held saved : List ℕ → Option (List ℕ)) → Type 0
-KeepsFiles (request.Run from config schedule (Some name)) held saved = ⊤
+KeepsFiles (request.Run from config schedule (Some name) row) held saved = ⊤
 KeepsFiles (request.Draw from config trace picture first count) held saved = ⊤
 KeepsFiles (request.Assemble text image) held saved = ⊤
 KeepsFiles _ held saved = saved ≡ held

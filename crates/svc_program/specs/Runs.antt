@@ -19,7 +19,9 @@ use Rattle.svc_schedule.specs.declared.policies.Youngest.{Youngest}
 use Rattle.svc_schedule.specs.Orders.{Draws, GoesByAge, Rotates, generator_of}
 use Rattle.svc_schedule.specs.Steps.{IsScheduled}
 use Rattle.svc_report.specs.declared.counts.Counts.{Counts}
+use Rattle.svc_report.specs.declared.table.TableRow.{TableRow}
 use Rattle.svc_report.specs.Summary.{counts_of, summary_of}
+use Rattle.svc_report.specs.Table.{summary_row}
 use Rattle.svc_program.specs.declared.request.Order.{Order}
 use Rattle.svc_program.specs.declared.request.Order.TheVariants as order
 use Rattle.svc_program.specs.declared.request.Schedule.{Schedule}
@@ -65,6 +67,16 @@ tasks_of r = (board r.entries).committed
 -- the report of a run is that of the tasks which its history has committed, with the history's counts
 abbrev pub ReportsOn : Recorded → Option (List ℕ) → Option (List ℕ) → ℕ → Type 0
 ReportsOn r old new exit = Reports r.machine.image (tasks_of r) (tasks_of r) (is_full r.machine) (Some (counts_of r.entries)) old new exit
+
+-- what a writer holds has grown by the same as a row of a table, without the words put out
+pub record ReportsRow (row : TableRow) (r : Recorded) (old new : Option (List ℕ)) (exit : ℕ) : Type 0 where
+  pub text : Appends old new (summary_row row (tasks_of r) (ending_after r.machine.image (tasks_of r) (is_full r.machine)) (counts_of r.entries))
+  pub status : exit ≡ status_of (ending_after r.machine.image (tasks_of r) (is_full r.machine))
+
+-- the report of a run, as a row of a table where one is asked for
+abbrev pub ReportsRun : Option TableRow → Recorded → Option (List ℕ) → Option (List ℕ) → ℕ → Type 0
+ReportsRun None r old new exit = ReportsOn r old new exit
+ReportsRun (Some row) r old new exit = ReportsRow row r old new exit
 
 -- the row that says how many entries were found sound
 abbrev pub sound_row : ℕ → List ℕ

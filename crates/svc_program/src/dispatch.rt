@@ -17,7 +17,7 @@ use crate::run::run_image;
 use crate::script::script;
 use crate::sequential::sequential;
 use crate::show::show;
-use crate::summary::print_recorded;
+use crate::summary::print_run;
 use std::alloc::Global;
 use std::io::Write;
 use std::sync::Wait;
@@ -72,11 +72,12 @@ fn dispatch<R: Threads + Wait + Sync, F: Files, O: Write>(
             config,
             schedule,
             trace,
+            row,
         } => {
             let image = load_image(alloc, image, files)?;
             let recorder = run_image(rt, alloc, &image, config, schedule)?;
             save_trace(alloc, recorder.entries(), trace, files)?;
-            print_recorded(alloc, &recorder, out)
+            print_run(alloc, &recorder, row, out)
         }
         Request::Sequential { image, tasks } => {
             let image = load_image(alloc, image, files)?;

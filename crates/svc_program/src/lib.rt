@@ -22,3 +22,4 @@ pub use dispatch::perform;
 pub use faults::{Fault, tell};
 pub use files::{FileFault, Files};
 pub use request::{Order, Request, Schedule, Source, Table, VERSION};
+pub use svc_report::TableRow;

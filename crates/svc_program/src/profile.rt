@@ -16,7 +16,7 @@ use svc_history::{Entry, check_trace};
 use svc_history_laws::history_leads_on;
 use svc_image::Image;
 use svc_report::ReportError;
-use svc_view::{write_profile, write_tasks, write_units};
+use svc_view::{write_profile, write_profile_row, write_tasks, write_units};
 use svc_words::write_words;
 
 /// Replays the entries, and prints what their speculation cost. It returns the exit status.
@@ -25,10 +25,10 @@ pub fn profile<O: Write>(
     image: &Image,
     config: Config,
     entries: &[Entry],
-    by: Option<Table>,
+    by: Option<Table<'_>>,
     out: &mut O,
 ) -> Result<u8, Fault>
-    ensures profile { IfOk result (TellsCost by image.now config entries.now (O.contents out.old) (O.contents out.new)) }
+    ensures profile { IfOk result (TellsCost by.entry image.now config entries.now (O.contents out.old) (O.contents out.new)) }
     ensures fault { IfErr result (λ fault.
         IsReportFault fault ⊎ (TellsOfTrace image.now config entries.now fault × (out.new ≡ out.old))) }
 {
@@ -46,11 +46,11 @@ fn write_cost<O: Write>(
     alloc: Global,
     config: Config,
     entries: &[Entry],
-    by: Option<Table>,
+    by: Option<Table<'_>>,
     out: &mut O,
 ) -> Result<(), ReportError>
     requires few { length entries.now ≤ MAX_EVENTS }
-    ensures ok { OnOk result (Appends (O.contents out.old) (O.contents out.new) (cost_text by config entries.now)) }
+    ensures ok { OnOk result (Appends (O.contents out.old) (O.contents out.new) (cost_text by.entry config entries.now)) }
     ensures err { IfErr result IsWriteFault }
 {
     match by {
@@ -58,5 +58,6 @@ fn write_cost<O: Write>(
         Some(Table::Tasks) => write_tasks(alloc, entries, out),
         Some(Table::Units) => write_units(alloc, config.units, entries, out),
         Some(Table::Words) => write_words(alloc, entries, out),
+        Some(Table::Row(row)) => write_profile_row(alloc, row, entries, out),
     }
 }

@@ -4,6 +4,7 @@ ghost use Rattle.std.specs.Prelude.{◌≡◌, ◌<◌, ◌≤◌, ◌↔◌, If
 
 use svc_base::Config;
 use svc_core::MAX_BURST_TURNS;
+use svc_report::TableRow;
 
 /// The program's version.
 pub const VERSION: &str = "0.1.0";
@@ -57,13 +58,15 @@ impl Schedule {
 
 /// A table of what speculation cost.
 #[derive(Clone, Copy, Debug, PartialEq, Eq)]
-pub enum Table {
+pub enum Table<'a> {
     /// A row for each task that was begun.
     Tasks,
     /// A row for each unit of the configuration.
     Units,
     /// A row for each word that was touched.
     Words,
+    /// The counts in all, as one row of a table of many traces.
+    Row(TableRow<'a>),
 }
 
 /// What is asked of the program. Files are known by their names.
@@ -73,13 +76,14 @@ pub enum Request<'a> {
     Help(String),
     /// To print the program's name and version.
     Version,
-    /// To run an image on a machine of this configuration, by a schedule or else with a thread for each unit, and to save
-    /// its trace where a file is named for it.
+    /// To run an image on a machine of this configuration, by a schedule or else with a thread for each unit, to save
+    /// its trace where a file is named for it, and to print the summary, as a row of a table where one is asked for.
     Run {
         image: Source<'a>,
         config: Config,
         schedule: Option<Schedule>,
         trace: Option<&'a str>,
+        row: Option<TableRow<'a>>,
     },
     /// To run this many tasks of an image in order, on one flat memory.
     Sequential {
@@ -103,7 +107,7 @@ pub enum Request<'a> {
         image: Source<'a>,
         config: Config,
         trace: &'a str,
-        by: Option<Table>,
+        by: Option<Table<'a>>,
     },
     /// To replay a trace so, and to show the machine after the first so many of its entries, or after all.
     Show {

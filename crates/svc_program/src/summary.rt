@@ -4,14 +4,14 @@ ghost use Rattle.std.specs.Prelude.{◌≡◌, ◌⊎◌, OnOk, IfOk, IfErr, Som
 ghost use Rattle.std.specs.Io.KnownBytes.{Appends};
 ghost use Rattle.svc_report.specs.Summary.{summary_of};
 ghost use Rattle.svc_program.specs.Faults.{IsReportFault};
-ghost use Rattle.svc_program.specs.Runs.{ReportsOn, status_of};
+ghost use Rattle.svc_program.specs.Runs.{ReportsOn, ReportsRow, ReportsRun, status_of};
 
 use crate::faults::Fault;
 use std::alloc::Global;
 use std::io::Write;
 use svc_core::Ending;
 use svc_history::Recorder;
-use svc_report::{Counts, write_summary};
+use svc_report::{Counts, TableRow, write_summary, write_summary_row};
 
 /// Prints the summary of a run: the output words, how many tasks were run or committed, the ending,
 /// and the counts if they are given. It returns the exit status.
@@ -51,6 +51,40 @@ pub fn print_recorded<O: Write>(
         Some(counts),
         out,
     )
+}
+
+// Prints the summary of what was recorded as a row of a table. It returns the exit status.
+fn print_row<O: Write>(
+    alloc: Global,
+    recorder: &Recorder,
+    row: TableRow<'_>,
+    out: &mut O,
+) -> Result<u8, Fault>
+    ensures report { IfOk result (ReportsRow row.entry recorder.now (O.contents out.old) (O.contents out.new)) }
+    ensures fault { IfErr result IsReportFault }
+{
+    let machine = recorder.machine();
+    let counts = Counts::of(recorder.entries());
+    let ending = machine.ending();
+    write_summary_row(alloc, row, machine.committed_tasks(), ending, &counts, out)?;
+    out.flush()?;
+    Ok(exit_status(ending))
+}
+
+/// Prints the summary of what was recorded, as a row of a table if one is asked for. It returns the exit status.
+pub fn print_run<O: Write>(
+    alloc: Global,
+    recorder: &Recorder,
+    row: Option<TableRow<'_>>,
+    out: &mut O,
+) -> Result<u8, Fault>
+    ensures report { IfOk result (ReportsRun row.entry recorder.now (O.contents out.old) (O.contents out.new)) }
+    ensures fault { IfErr result IsReportFault }
+{
+    match row {
+        None => print_recorded(alloc, recorder, out),
+        Some(row) => print_row(alloc, recorder, row, out),
+    }
 }
 
 // The exit status of a run with this ending: 0 if the program exited, otherwise 2.

@@ -99,6 +99,26 @@ fn help_explains_each_option(rt: HostRuntime) {
     }
 }
 
+const EXAMPLES: [(&str, &str); 9] = [
+    ("run", "Example: svcsim run "),
+    ("seq", "Example: svcsim seq "),
+    ("script", "Example: svcsim script "),
+    ("check", "Example: svcsim check "),
+    ("profile", "Example: svcsim profile "),
+    ("show", "Example: svcsim show "),
+    ("draw", "Example: svcsim draw "),
+    ("assemble", "Example: svcsim assemble "),
+    ("list", "Example: svcsim list "),
+];
+
+#[test]
+fn each_help_has_an_example(rt: HostRuntime) {
+    for (subcommand, example) in EXAMPLES {
+        let missing = missing_in_help(&rt, &["svcsim", subcommand], &[example], "");
+        assert_eq!(rt; missing, None, "{subcommand}");
+    }
+}
+
 const FAULTS: [&str; 8] = [
     "image fault 9 ",
     "config fault 5 ",

@@ -44,6 +44,7 @@ fn built_in<'a>() -> Option<Request<'a>> {
         config,
         schedule: None,
         trace: None,
+        row: None,
     })
 }
 

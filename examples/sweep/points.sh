@@ -1,0 +1,14 @@
+#!/bin/sh
+# The points of a design space, one a line: units, sets, ways, order, and the seed of a random order.
+for units in 1 2 4 8 16; do
+    for sets in 1 4 16; do
+        for ways in 1 2; do
+            for order in rotate oldest youngest; do
+                echo "$units $sets $ways $order"
+            done
+            for seed in 1 2 3; do
+                echo "$units $sets $ways random $seed"
+            done
+        done
+    done
+done
