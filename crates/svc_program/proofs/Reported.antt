@@ -1,7 +1,7 @@
 -- What was printed of a run is its report.
 use Rattle.std.specs.Prelude.{IfOk, OnOk}
-use Rattle.std.specs.Io.KnownBytes.{Appends}
-use Rattle.std.proofs.Common.{◌≡◌, ℕ, Bool, List, Option, Result, Ok, Err}
+use Rattle.std.specs.Io.KnownBytes.{Appends, Keeps}
+use Rattle.std.proofs.Common.{◌≡◌, ◌∙◌, ℕ, Bool, List, Option, Some, None, Result, Ok, Err}
 use Rattle.svc_core_laws.specs.Sequence.{plain_seq}
 use Rattle.svc_image.specs.Image.{Image}
 use Rattle.svc_report.specs.declared.counts.Counts.{Counts}
@@ -14,3 +14,10 @@ pub reported : {E : Type 0} (r : Result ℕ E) (img : Image) (k tasks : ℕ) (fu
     → IfOk r (Reports img k tasks full counts old new)
 reported (Ok exit) img k tasks full counts old new status text = record { text = text; status = status }
 reported (Err e) img k tasks full counts old new status text = tt
+
+-- what was written stays after a flush
+pub appended_and_kept : (old written new : Option (List ℕ)) (text : List ℕ) → Appends old written text → Keeps written new → Appends old new text
+appended_and_kept None written new text grown kept = tt
+appended_and_kept (Some bytes) None new text grown kept = absurd grown
+appended_and_kept (Some bytes) (Some all) None text grown kept = absurd kept
+appended_and_kept (Some bytes) (Some all) (Some left) text grown kept = kept ∙ grown

@@ -29,6 +29,10 @@ abbrev pub IsOfSource : (List ℕ → Option (List ℕ)) → Source → Image �
 IsOfSource held source.BuiltIn img = file_of img ≡ P1
 IsOfSource held (source.File name) img = IfSome (held name.now) (λ bytes. file_of img ≡ bytes)
 
+-- there is such an image
+abbrev pub IsThere : (List ℕ → Option (List ℕ)) → Source → Type 0
+IsThere held from = (img : Image) × IsOfSource held from img
+
 -- the steps are those of the named script, where it is known what that holds
 pub record IsScriptIn (held : List ℕ → Option (List ℕ)) (name : List ℕ) (steps : List Step) : Type 0 where
   pub rows : AllByRecursion HasStepRow steps
@@ -79,15 +83,15 @@ Does (request.List from) held saved old new exit = (img : Image) × IsOfSource h
 abbrev pub HasImage : Request → (held : List ℕ → Option (List ℕ)) → Type 0
 HasImage (request.Help text) held = ⊤
 HasImage request.Version held = ⊤
-HasImage (request.Run from config schedule trace row) held = (img : Image) × IsOfSource held from img
-HasImage (request.Sequential from k) held = (img : Image) × IsOfSource held from img
-HasImage (request.Script from config events) held = (img : Image) × IsOfSource held from img
-HasImage (request.Check from config trace) held = (img : Image) × IsOfSource held from img
-HasImage (request.Profile from config trace by) held = (img : Image) × IsOfSource held from img
-HasImage (request.Show from config trace at) held = (img : Image) × IsOfSource held from img
-HasImage (request.Draw from config trace picture first count) held = (img : Image) × IsOfSource held from img
+HasImage (request.Run from config schedule trace row) held = IsThere held from
+HasImage (request.Sequential from k) held = IsThere held from
+HasImage (request.Script from config events) held = IsThere held from
+HasImage (request.Check from config trace) held = IsThere held from
+HasImage (request.Profile from config trace by) held = IsThere held from
+HasImage (request.Show from config trace at) held = IsThere held from
+HasImage (request.Draw from config trace picture first count) held = IsThere held from
 HasImage (request.Assemble text image) held = ⊤
-HasImage (request.List from) held = (img : Image) × IsOfSource held from img
+HasImage (request.List from) held = IsThere held from
 
 -- no file is changed but by a run whose trace is to be saved, by drawing a trace, and by assembling one
 abbrev pub KeepsFiles : Request → (held saved : List ℕ → Option (List ℕ)) → Type 0

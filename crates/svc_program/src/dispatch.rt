@@ -5,19 +5,13 @@ ghost use Rattle.svc_program.specs.Faults.{IsEarly, IsReportFault};
 ghost use Rattle.svc_program.specs.Names.{IsOverItself};
 ghost use Rattle.svc_program.specs.Requests.{Does, HasImage, KeepsFiles, Shows, version_row};
 
-use crate::assembly::{assemble_file, list_image};
-use crate::check::check;
-use crate::draw::draw_trace;
+use crate::assembly::assemble_file;
 use crate::faults::Fault;
 use crate::files::Files;
-use crate::load::{load_image, load_script, load_trace, save_trace};
-use crate::profile::profile;
 use crate::request::{Request, VERSION};
-use crate::run::run_image;
-use crate::script::script;
-use crate::sequential::sequential;
-use crate::show::show;
-use crate::summary::print_run;
+use crate::subcommands::{
+    do_check, do_draw, do_list, do_profile, do_run, do_script, do_sequential, do_show,
+};
 use std::alloc::Global;
 use std::io::Write;
 use std::sync::Wait;
@@ -73,54 +67,30 @@ fn dispatch<R: Threads + Wait + Sync, F: Files, O: Write>(
             schedule,
             trace,
             row,
-        } => {
-            let image = load_image(alloc, image, files)?;
-            let recorder = run_image(rt, alloc, &image, config, schedule)?;
-            save_trace(alloc, recorder.entries(), trace, files)?;
-            print_run(alloc, &recorder, row, out)
-        }
-        Request::Sequential { image, tasks } => {
-            let image = load_image(alloc, image, files)?;
-            sequential(alloc, &image, tasks, out)
-        }
+        } => do_run(rt, alloc, image, config, schedule, trace, row, files, out),
+        Request::Sequential { image, tasks } => do_sequential(alloc, image, tasks, files, out),
         Request::Script {
             image,
             config,
             events,
-        } => {
-            let image = load_image(alloc, image, files)?;
-            let steps = load_script(alloc, events, files)?;
-            script(alloc, image, config, &steps, out)
-        }
+        } => do_script(alloc, image, config, events, files, out),
         Request::Check {
             image,
             config,
             trace,
-        } => {
-            let image = load_image(alloc, image, files)?;
-            let entries = load_trace(alloc, trace, files)?;
-            check(alloc, &image, config, &entries, out)
-        }
+        } => do_check(alloc, image, config, trace, files, out),
         Request::Profile {
             image,
             config,
             trace,
             by,
-        } => {
-            let image = load_image(alloc, image, files)?;
-            let entries = load_trace(alloc, trace, files)?;
-            profile(alloc, &image, config, &entries, by, out)
-        }
+        } => do_profile(alloc, image, config, trace, by, files, out),
         Request::Show {
             image,
             config,
             trace,
             at,
-        } => {
-            let image = load_image(alloc, image, files)?;
-            let entries = load_trace(alloc, trace, files)?;
-            show(alloc, &image, config, &entries, at, out)
-        }
+        } => do_show(alloc, image, config, trace, at, files, out),
         Request::Draw {
             image,
             config,
@@ -128,18 +98,9 @@ fn dispatch<R: Threads + Wait + Sync, F: Files, O: Write>(
             picture,
             from,
             count,
-        } => {
-            let image = load_image(alloc, image, files)?;
-            let entries = load_trace(alloc, trace, files)?;
-            let text = draw_trace(alloc, &image, config, &entries, from, count)?;
-            files.save(picture, &text)?;
-            Ok(0)
-        }
+        } => do_draw(alloc, image, config, trace, picture, from, count, files),
         Request::Assemble { text, image } => assemble_file(alloc, text, image, files),
-        Request::List { image } => {
-            let image = load_image(alloc, image, files)?;
-            list_image(alloc, &image, out)
-        }
+        Request::List { image } => do_list(alloc, image, files, out),
     }
 }
 

@@ -16,6 +16,7 @@ mod run;
 mod script;
 mod sequential;
 mod show;
+mod subcommands;
 mod summary;
 
 pub use dispatch::perform;
