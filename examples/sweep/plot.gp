@@ -1,9 +1,13 @@
-# Violations and squashed turns against units, of a table of the points:  gnuplot -c plot.gp TABLE PICTURE
+# Violations and squashed turns against units, both axes logarithmic (so zeros are not drawn), of a table of the points:
+#    gnuplot -c plot.gp TABLE PICTURE
 set terminal svg size 720,640 font "sans-serif,13" background "white"
 set output ARG2
 set datafile separator ","
 set datafile columnheaders
+set datafile missing NaN
 set logscale x 2
+set logscale y
+set yrange [1:*]
 set xtics (1, 2, 4, 8, 16)
 set xlabel "units"
 set grid
