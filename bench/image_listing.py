@@ -39,30 +39,43 @@ def disassembled(text):
     return [(name, operands[0].split(",") if operands else []) for _, _, name, *operands in found]
 
 
-def shown(address, word, name, operands):
-    """A word as a listing shows it: the disassembler gives the address to which a branch goes, a listing the distance."""
+def label(address):
+    return f"at_{address:08x}"
+
+
+def target(name, operands):
+    """The address to which a branch or a jump leads, from the last operand that the disassembler gives it."""
+    return int(operands[-1], 16) if name in BRANCHES or name == "jal" else None
+
+
+def shown(address, word, name, operands, labels):
+    """A word as a listing shows it: a branch by the label of its target, or the distance to a target that has none."""
     if name not in NAMES or not is_whole(word):
         return f".word {word}"
-    if name in BRANCHES or name == "jal":
-        far = (int(operands[-1], 16) - address + 2**31) % 2**32 - 2**31
-        operands = [*operands[:-1], f". {'-' if far < 0 else '+'} {abs(far)}"]
+    to = target(name, operands)
+    if to is not None:
+        far = (to - address + 2**31) % 2**32 - 2**31
+        operands = [*operands[:-1], label(to) if to in labels else f". {'-' if far < 0 else '+'} {abs(far)}"]
     elif name in ("lui", "auipc", "slli", "srli", "srai"):
         operands = [*operands[:-1], str(int(operands[-1], 0))]
     return f"{name} {', '.join(operands)}".rstrip()
 
 
 def head_of(version, own, start, registers):
-    lines = [f".svc_version {version}"] + [f".svc_limit {own}"] * (version == 1) + [f".svc_start {start}"]
+    lines = [f".svc_version {version}"] + [f".svc_limit {own}"] * (version == 1) + [f".svc_start {label(start)}"]
     return lines + [f".svc_register x{n + 1}, {value}" for n, value in enumerate(registers) if value]
 
 
 def text_of(text, entries):
     """The lines of the text; `entries` has what follows the mark of each entry."""
+    code = list(zip(text, disassembled(text)))
+    targets = {target(*said) for word, said in code if is_whole(word)}
+    labels = {at for at in range(0, 4 * len(text), 4) if at in entries or at in targets}
     lines = []
-    for n, (word, (name, operands)) in enumerate(zip(text, disassembled(text))):
-        if 4 * n in entries:
-            lines.append(f".svc_entry{entries[4 * n]}")
-        lines.append(f"{shown(4 * n, word, name, operands)}\t# 0x{4 * n:08x} {word:08x}")
+    for at, (word, said) in zip(range(0, 4 * len(text), 4), code):
+        lines += [f"{label(at)}:"] * (at in labels)
+        lines += [f".svc_entry{entries[at]}"] if at in entries else []
+        lines.append(f"{shown(at, word, *said, labels)}\t# 0x{at:08x} {word:08x}")
     return lines
 
 

@@ -14,7 +14,7 @@ use Rattle.svc_draft.specs.declared.statement.Statement.TheVariants as say
 use Rattle.svc_draft.specs.Options.{◌>>=◌}
 use Rattle.svc_draft.specs.Layouts.{Layout, spot_here}
 use Rattle.svc_operands.specs.declared.operands.Signed.{Signed}
-use Rattle.svc_operands.specs.Characters.{is_from_to, is_space, past, found, name_at, past_name, mark_at, number_of}
+use Rattle.svc_operands.specs.Characters.{is_from_to, past_spaces, found, name_at, past_name, mark_at, escaped}
 use Rattle.svc_operands.specs.Operands.{Read, number_at, behind_sign}
 use Rattle.svc_operands.specs.Values.{value_at}
 use Rattle.svc_asm.specs.Statements.{end_at, is_label, line_at}
@@ -75,7 +75,7 @@ datum_from d [] = None
 datum_from d (c ∷ rest) = if c == 45 then behind_sign true rest else positive_at d (c ∷ rest)
 
 unfoldable pub datum_at : Layout → List ℕ → Read Signed
-datum_at d text = datum_from d (past is_space text)
+datum_at d text = datum_from d (past_spaces text)
 
 -- how far below 0, and how great, a number of so many bytes may be
 abbrev pub least : Width → ℕ
@@ -140,18 +140,6 @@ put_at e c text = do
   rest ← some_left text
   Some (say.Value wide.Byte c (go.Character e), rest)
 
--- what a letter behind a backslash stands for
-unfoldable pub escaped : ℕ → Option ℕ
-escaped c =
-    if c == 110 then Some 10 else
-    if c == 116 then Some 9 else
-    if c == 34 then Some 34 else
-    if c == 92 then Some 92 else
-    if c == 98 then Some 8 else
-    if c == 102 then Some 12 else
-    if c == 114 then Some 13 else
-    None
-
 abbrev pub octal_digit : List ℕ → Read ℕ
 octal_digit [] = None
 octal_digit (c ∷ rest) = if is_from_to 48 55 c then Some (c - 48, rest) else None
@@ -193,16 +181,23 @@ abbrev pub moved_from : Spot → List ℕ → List ℕ → Read Spot
 moved_from s rest [] = Some (s, rest)
 moved_from s rest (c ∷ more) = if c == 43 then moved_by false s more else if c == 45 then moved_by true s more else Some (s, rest)
 
--- what a number, a dot or a name before stands for
+-- what a dot or a name before stands for
 unfoldable pub spot_named : Layout → List ℕ → Option Spot
-spot_named d name =
-    found (number_of name) (λ n. Some (record { section = section.Text; offset = n }))
-    (if bytes_eq name (codes ".") then Some (spot_here d) else d.names name)
+spot_named d name = if bytes_eq name (codes ".") then Some (spot_here d) else d.names name
+
+unfoldable pub named_spot_at : Layout → List ℕ → Read Spot
+named_spot_at d text = do
+  s ← spot_named d (name_at text)
+  Some (s, past_name text)
+
+-- what a number, a dot or a name before stands for
+unfoldable pub first_spot_at : Layout → List ℕ → Read Spot
+first_spot_at d text = found (number_at text) (λ n. Some (record { section = section.Text; offset = n.0 }, n.1)) (named_spot_at d text)
 
 unfoldable pub spot_at : Layout → List ℕ → Read Spot
 spot_at d text = do
-  s ← spot_named d (name_at text)
-  moved_from s (past_name text) (past is_space (past_name text))
+  s ← first_spot_at d text
+  moved_from s.0 s.1 (past_spaces s.1)
 
 -- a name and the comma behind it
 unfoldable pub named_at : List ℕ → Option (List ℕ)

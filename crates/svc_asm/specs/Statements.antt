@@ -6,13 +6,15 @@ use Rattle.svc_image.specs.declared.version.Version.TheVariants as version
 use Rattle.svc_draft.specs.declared.statement.Statement.{Statement}
 use Rattle.svc_draft.specs.declared.statement.Statement.TheVariants as say
 use Rattle.svc_draft.specs.Options.{◌>>=◌}
-use Rattle.svc_operands.specs.Characters.{is_from_to, is_space, past, found, name_at, past_name, behind}
+use Rattle.svc_operands.specs.Characters.{is_from_to, opens, past_spaces, past, found, name_at, past_name, behind, value_of}
 use Rattle.svc_instructions.specs.Instructions.{instruction_at}
 use Rattle.svc_draft.specs.Layouts.{Layout}
+use Rattle.svc_asm.specs.declared.passed.Passed.{Passed}
+use Rattle.svc_asm.specs.declared.passed.Passed.TheVariants as passed
 use Rattle.svc_asm.specs.Sections.{begins_data, section_named, is_passed}
 use Rattle.svc_instructions.specs.Couples.{couple_named, couple_at}
 use Rattle.svc_asm.specs.Blanks.{blank_named, blank_at}
-use Rattle.svc_operands.specs.Operands.{Read, register_at, first_register_at, number_at, branch_at, jump_at, amount_at}
+use Rattle.svc_operands.specs.Operands.{Read, register_at, first_register_at, number_at}
 use Rattle.svc_operands.specs.Values.{value_at, short_at, upper_at, address_at}
 
 -- the directives that have a number, or a label's address
@@ -65,17 +67,36 @@ setting_at d text = do
 abbrev pub is_inside : ℕ → Bool
 is_inside c = not (c == 10)
 
+-- what the rest of a line that is passed over has stood before the next character: a line feed ends it, but not in a comment between a slash and a star and a star and a slash
+abbrev pub rest_behind : Passed → ℕ → List ℕ → Option Passed
+rest_behind passed.Plain c rest =
+    if c == 10 then None else
+    if c == 34 then Some passed.Quoted else
+    if c == 35 then Some passed.Remark else
+    if opens c rest then Some passed.Opening else
+    Some passed.Plain
+rest_behind passed.Quoted c rest = if c == 10 then None else if c == 34 then Some passed.Plain else if c == 92 then Some passed.Escaped else Some passed.Quoted
+rest_behind passed.Escaped c rest = if c == 10 then None else Some passed.Quoted
+rest_behind passed.Remark c rest = if c == 10 then None else Some passed.Remark
+rest_behind passed.Opening c rest = Some passed.Inside
+rest_behind passed.Inside c rest = if c == 42 then Some passed.Star else Some passed.Inside
+rest_behind passed.Star c rest = if c == 47 then Some passed.Plain else if c == 42 then Some passed.Star else Some passed.Inside
+
+unfoldable pub past_rest : Passed → List ℕ → List ℕ
+past_rest p [] = []
+past_rest p (c ∷ rest) = found (rest_behind p c rest) (λ next. past_rest next rest) (c ∷ rest)
+
 -- a section, whose name says whether it is text; flags and the like follow the name
 unfoldable pub section_at : List ℕ → Read Statement
 section_at text = do
   s ← section_named (name_at text)
-  Some (s, past is_inside (past_name text))
+  Some (s, past_rest passed.Plain (past_name text))
 
 -- the directives that other assemblers have
 unfoldable pub other_at : List ℕ → List ℕ → Read Statement
 other_at name text =
     if bytes_eq name (codes ".section") then section_at text else
-    if is_passed name then Some (say.Nothing, past is_inside text) else
+    if is_passed name then Some (say.Nothing, past_rest passed.Plain text) else
     found (begins_data name) (λ s. Some (s, text)) (
     found (blank_named name) (λ b. blank_at b text)
     None)
@@ -119,7 +140,7 @@ behind_end (c ∷ rest) =
     None
 
 unfoldable pub end_at : List ℕ → Option (List ℕ)
-end_at text = behind_end (past is_space text)
+end_at text = behind_end (past_spaces text)
 
 -- a statement and the end of its line
 unfoldable pub ended_at : Layout → List ℕ → Read Statement
@@ -133,6 +154,15 @@ abbrev pub is_label : List ℕ → Bool
 is_label [] = false
 is_label (c ∷ name) = not (is_from_to 48 57 c)
 
+-- what a name, or a local label's number, and a colon say
+unfoldable pub local_with : List ℕ → List ℕ → Read Statement
+local_with name rest = do
+  n ← value_of 10 name
+  Some (say.Local n, rest)
+
+abbrev pub label_with : List ℕ → List ℕ → Read Statement
+label_with name rest = if is_label name then Some (say.Label, rest) else local_with name rest
+
 -- a line, up to the colon where it begins with a label: what it says, and the text behind it
 unfoldable pub line_at : Layout → List ℕ → Read Statement
-line_at d text = found (behind 58 (past_name text)) (λ rest. if is_label (name_at text) then Some (say.Label, rest) else None) (ended_at d text)
+line_at d text = found (behind 58 (past_name text)) (λ rest. label_with (name_at text) rest) (ended_at d text)

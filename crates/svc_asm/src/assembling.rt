@@ -10,6 +10,7 @@ ghost use Rattle.svc_image.specs.declared.error.ImageError.TheVariants as fault;
 ghost use Rattle.svc_draft.specs.Layouts.{Layout, layout_of};
 ghost use Rattle.svc_asm.specs.Programs.{Takes, Makes, IsLaid, IsProgramOf};
 
+use crate::found::{Found, found_in};
 use crate::parts::read_next;
 use std::alloc::Global;
 use svc_draft::{Draft, Refusal};
@@ -20,11 +21,12 @@ use thiserror::Error;
 /// Why a text makes no image.
 #[derive(Clone, Copy, Debug, Error)]
 pub enum AssembleError {
-    /// The text can't be read further: at this line and column, counted from 1, something else may stand.
-    #[error("{line}:{column}: {wanted} may stand here")]
+    /// The text can't be read further: this stands at this line and column, counted from 1, where something else may stand.
+    #[error("{line}:{column}: found {found}, expected {wanted}")]
     Unread {
         line: usize,
         column: usize,
+        found: Found,
         wanted: Wanted,
     },
     /// What begins at this line and column may not stand there.
@@ -113,6 +115,12 @@ fn place(text: &[u8], left: usize) -> (usize, usize) {
     (line, column)
 }
 
+// What stands where so many bytes of the text are left.
+fn found_at(text: &[u8], left: usize) -> Found {
+    let (_, rest) = text.split_at(text.len().saturating_sub(left));
+    found_in(rest)
+}
+
 // How a stop is told.
 fn told(text: &[u8], stop: Stop) -> AssembleError
     ensures { (stop ≡ halt.Memory) → result ≡ error.Memory }
@@ -123,6 +131,7 @@ fn told(text: &[u8], stop: Stop) -> AssembleError
             AssembleError::Unread {
                 line,
                 column,
+                found: found_at(text, left),
                 wanted,
             }
         }

@@ -1,19 +1,20 @@
 // Lines: what they say, and where they end.
 
-ghost use Rattle.std.specs.Prelude.{◌≡◌};
+ghost use Rattle.std.specs.Prelude.{◌≡◌, option_map};
 ghost use Rattle.svc_operands.specs.Characters.{past};
 ghost use Rattle.svc_draft.specs.Layouts.{layout_of};
 ghost use Rattle.svc_operands.specs.Reading.{Gives};
-ghost use Rattle.svc_asm.specs.Statements.{word_at, start_at, limit_at, known_version, version_at, limited_entry_at, entry_at, setting_at, section_at, other_at, directive_at, alone_at, as_statement, statement_at, is_inside, end_at, ended_at, is_label, line_at};
+ghost use Rattle.svc_asm.specs.Statements.{word_at, start_at, limit_at, known_version, version_at, limited_entry_at, entry_at, setting_at, section_at, other_at, directive_at, alone_at, as_statement, statement_at, is_inside, end_at, ended_at, is_label, local_with, label_with, line_at};
 
 use crate::blanks::{blank_named, read_blank};
+use crate::passed::skip_rest;
 use crate::sections::{begins_data, is_passed, section_named};
 use svc_draft::{Draft, Statement};
 use svc_image::Version;
 use svc_instructions::{couple_named, read_couple, read_instruction};
 use svc_operands::{
-    Unread, Wanted, is_word, read_first_register, read_number, read_value, skip_spaces, split_name,
-    stopped_at, stopped_at_name,
+    Unread, Wanted, decimal_of, is_word, read_first_register, read_number, read_value, skip_spaces,
+    split_name, stopped_at, stopped_at_name,
 };
 
 #[tactic(auto, unfolding(crate::specs::Statements::word_at))]
@@ -110,7 +111,7 @@ fn read_section(text: &[u8]) -> Result<(Statement, &[u8]), Unread>
 {
     let (name, rest) = split_name(text);
     match section_named(name) {
-        Some(statement) => Ok((statement, skip_inside(rest))),
+        Some(statement) => Ok((statement, skip_rest(rest))),
         None => Err(stopped_at(text, Wanted::Section)),
     }
 }
@@ -124,7 +125,7 @@ fn read_other<'a>(name: &[u8], text: &'a [u8]) -> Result<(Statement, &'a [u8]), 
         return read_section(text);
     }
     if is_passed(name) {
-        return Ok((Statement::Nothing, skip_inside(text)));
+        return Ok((Statement::Nothing, skip_rest(text)));
     }
     if let Some(section) = begins_data(name) {
         return Ok((section, text));
@@ -247,6 +248,24 @@ pub fn is_label(name: &[u8]) -> bool
     }
 }
 
+// What a local label's number and a colon say.
+#[tactic(auto, unfolding(crate::specs::Statements::local_with))]
+fn local_with<'a>(name: &[u8], rest: &'a [u8]) -> Option<(Statement, &'a [u8])>
+    ensures { option_map (λ x. (x.0, x.1.now)) result ≡ local_with name.now rest.now }
+{
+    Some((Statement::Local(decimal_of(name)?), rest))
+}
+
+// What a label and a colon say.
+fn label_with<'a>(name: &[u8], rest: &'a [u8]) -> Option<(Statement, &'a [u8])>
+    ensures { option_map (λ x. (x.0, x.1.now)) result ≡ label_with name.now rest.now }
+{
+    if is_label(name) {
+        return Some((Statement::Label, rest));
+    }
+    local_with(name, rest)
+}
+
 /// What a line says, up to the colon where it begins with a label, and the text behind it.
 #[tactic(auto, unfolding(crate::specs::Statements::line_at))]
 pub fn read_line<'a>(draft: &Draft, text: &'a [u8]) -> Result<(Statement, &'a [u8]), Unread>
@@ -254,13 +273,10 @@ pub fn read_line<'a>(draft: &Draft, text: &'a [u8]) -> Result<(Statement, &'a [u
 {
     let (name, rest) = split_name(text);
     match rest {
-        [b':', rest @ ..] => {
-            if is_label(name) {
-                Ok((Statement::Label, rest))
-            } else {
-                Err(stopped_at(text, Wanted::Label))
-            }
-        }
+        [b':', rest @ ..] => match label_with(name, rest) {
+            Some(read) => Ok(read),
+            None => Err(stopped_at(text, Wanted::Label)),
+        },
         _ => read_ended(draft, text),
     }
 }

@@ -2,11 +2,11 @@
 
 ghost use Rattle.std.specs.Prelude.{◌≡◌, ◌+◌, ◌*◌, ◌<◌, IfSome, option_map};
 ghost use Rattle.svc_operands.specs.Reading.{Gives};
-ghost use Rattle.svc_asm.specs.DataLines.{next_quote_at, next_string_at, closed, close_at, put_at, escaped, octal_digit, octal_on, octal_at, escape_at, character_at};
+ghost use Rattle.svc_asm.specs.DataLines.{next_quote_at, next_string_at, closed, close_at, put_at, octal_digit, octal_on, octal_at, escape_at, character_at};
 
 use crate::parts::{read_left, read_more, read_over};
 use svc_draft::{Ending, Next, Statement, Width};
-use svc_operands::{Unread, Wanted, read_mark, skip_mark, stopped_at};
+use svc_operands::{Unread, Wanted, escaped, read_mark, skip_mark, stopped_at};
 
 #[tactic(auto, unfolding(crate::specs::DataLines::next_quote_at))]
 fn read_next_quote(ending: Ending, text: &[u8]) -> Result<(Next, &[u8]), Unread>
@@ -54,23 +54,6 @@ fn read_on(ending: Ending, character: u8, text: &[u8]) -> Result<(Statement, &[u
         Statement::Value(Width::Byte, character as u32, Next::Character(ending)),
         rest,
     ))
-}
-
-// What a letter behind a backslash stands for.
-#[tactic(auto, unfolding(crate::specs::DataLines::escaped))]
-fn escaped(letter: u8) -> Option<u8>
-    ensures { result ≡ escaped letter }
-{
-    match letter {
-        b'n' => Some(10),
-        b't' => Some(9),
-        b'"' => Some(34),
-        b'\\' => Some(92),
-        b'b' => Some(8),
-        b'f' => Some(12),
-        b'r' => Some(13),
-        _ => None,
-    }
 }
 
 fn split_octal(text: &[u8]) -> Option<(u32, &[u8])>

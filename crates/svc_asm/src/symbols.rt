@@ -1,16 +1,15 @@
 // Names and what they stand for: `.set NAME, VALUE` and `.comm NAME, SIZE, ALIGNMENT`, behind the directive's own name.
 
 ghost use Rattle.std.specs.Prelude.{◌≡◌};
-ghost use Rattle.svc_operands.specs.Characters.{is_space, past};
+ghost use Rattle.svc_operands.specs.Characters.{past_spaces};
 ghost use Rattle.svc_draft.specs.Layouts.{layout_of};
 ghost use Rattle.svc_operands.specs.Reading.{Gives};
-ghost use Rattle.svc_asm.specs.DataLines.{moved_on, moved_by, moved_from, spot_named, spot_at, named_at, symbol_at, step_at, common_at};
+ghost use Rattle.svc_asm.specs.DataLines.{moved_on, moved_by, moved_from, spot_named, named_spot_at, first_spot_at, spot_at, named_at, symbol_at, step_at, common_at};
 
 use crate::line::{is_label, read_end};
 use svc_draft::{Draft, Section, Spot, Statement};
 use svc_operands::{
-    Unread, Wanted, number_of, read_mark, read_number, skip_mark, skip_spaces, split_name,
-    stopped_at,
+    Unread, Wanted, read_mark, read_number, skip_mark, skip_spaces, split_name, stopped_at,
 };
 
 // A place so many bytes on.
@@ -38,7 +37,7 @@ fn read_moved_by(back: bool, spot: Spot, text: &[u8]) -> Result<(Spot, &[u8]), U
 
 // A place, and what is added to it or taken away.
 fn read_moved(spot: Spot, text: &[u8]) -> Result<(Spot, &[u8]), Unread>
-    ensures { Gives (λ x. (x.0, x.1.now)) result (moved_from spot text.now (past is_space text.now)) }
+    ensures { Gives (λ x. (x.0, x.1.now)) result (moved_from spot text.now (past_spaces text.now)) }
 {
     match skip_spaces(text) {
         [b'+', rest @ ..] => read_moved_by(false, spot, rest),
@@ -47,18 +46,39 @@ fn read_moved(spot: Spot, text: &[u8]) -> Result<(Spot, &[u8]), Unread>
     }
 }
 
-// What a number, a dot or a name that was read before stands for.
+// What a dot or a name that was read before stands for.
 #[tactic(auto, unfolding(crate::specs::DataLines::spot_named))]
 fn spot_named(draft: &Draft, name: &[u8]) -> Option<Spot>
     ensures { result ≡ spot_named (layout_of draft.now) name.now }
 {
-    if let Some(offset) = number_of(name) {
-        let section = Section::Text;
-        return Some(Spot { section, offset });
-    }
     match name {
         b"." => Some(draft.spot_here()),
         _ => draft.spot_of(name),
+    }
+}
+
+#[tactic(auto, unfolding(crate::specs::DataLines::named_spot_at))]
+fn read_named_spot<'a>(draft: &Draft, text: &'a [u8]) -> Result<(Spot, &'a [u8]), Unread>
+    ensures { Gives (λ x. (x.0, x.1.now)) result (named_spot_at (layout_of draft.now) text.now) }
+{
+    let (name, rest) = split_name(text);
+    match spot_named(draft, name) {
+        Some(spot) => Ok((spot, rest)),
+        None => Err(stopped_at(text, Wanted::Symbol)),
+    }
+}
+
+// What a number, a dot or a name that was read before stands for.
+#[tactic(auto, unfolding(crate::specs::DataLines::first_spot_at))]
+fn read_first_spot<'a>(draft: &Draft, text: &'a [u8]) -> Result<(Spot, &'a [u8]), Unread>
+    ensures { Gives (λ x. (x.0, x.1.now)) result (first_spot_at (layout_of draft.now) text.now) }
+{
+    match read_number(text) {
+        Ok((offset, rest)) => {
+            let section = Section::Text;
+            Ok((Spot { section, offset }, rest))
+        }
+        Err(_) => read_named_spot(draft, text),
     }
 }
 
@@ -66,11 +86,8 @@ fn spot_named(draft: &Draft, name: &[u8]) -> Option<Spot>
 fn read_spot<'a>(draft: &Draft, text: &'a [u8]) -> Result<(Spot, &'a [u8]), Unread>
     ensures { Gives (λ x. (x.0, x.1.now)) result (spot_at (layout_of draft.now) text.now) }
 {
-    let (name, rest) = split_name(text);
-    match spot_named(draft, name) {
-        Some(spot) => read_moved(spot, rest),
-        None => Err(stopped_at(text, Wanted::Symbol)),
-    }
+    let (spot, rest) = read_first_spot(draft, text)?;
+    read_moved(spot, rest)
 }
 
 // A name and the comma behind it.

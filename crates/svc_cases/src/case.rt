@@ -22,21 +22,21 @@ pub struct Case<'a> {
 }
 
 impl<'a> Case<'a> {
-    /// The case of a line, which has six fields.
+    /// The case of a line, which has six fields. Only the wanted standard error may have commas of its own.
     pub fn of(line: &'a str) -> Option<Case<'a>> {
-        let mut fields = line.split(',');
-        let case = Case {
-            name: fields.next()?,
-            status: fields.next()?,
-            out: fields.next()?,
-            err: fields.next()?,
-            saved: fields.next()?,
-            words: fields.next()?,
-        };
-        match fields.next() {
-            None => Some(case),
-            Some(_) => None,
-        }
+        let (name, rest) = line.split_once(',')?;
+        let (status, rest) = rest.split_once(',')?;
+        let (out, rest) = rest.split_once(',')?;
+        let (rest, words) = rest.rsplit_once(',')?;
+        let (err, saved) = rest.rsplit_once(',')?;
+        Some(Case {
+            name,
+            status,
+            out,
+            err,
+            saved,
+            words,
+        })
     }
 
     /// The words of the command line, the program's name first.

@@ -1,5 +1,5 @@
 -- Where the lines of a program put what they say, and the image that this makes.
-use Rattle.std.specs.Prelude.{◌≡◌, ℕ, ◌+◌, ◌*◌, ◌-◌, ◌/◌, ◌%◌, ◌^◌, ◌≤◌, Bool, true, false, nat_le, nat_lt, is_some, ◌==◌, List, [], ◌∷◌, ◌++◌, length, map, Option, Some, None, unwrap_or, if◌then◌else◌, slice_set, option_map}
+use Rattle.std.specs.Prelude.{◌≡◌, ℕ, ◌+◌, ◌*◌, ◌-◌, ◌/◌, ◌%◌, ◌^◌, ◌≤◌, Bool, true, false, nat_le, nat_lt, is_some, ◌==◌, List, [], ◌∷◌, ◌++◌, length, map, Option, Some, None, unwrap_or, if◌then◌else◌, slice_set, slice_get, option_map, take, drop, ◌&&◌}
 use Rattle.std.specs.Str.{bytes_eq}
 use Rattle.std.specs.Map.{update}
 use Rattle.std.specs.HashMap.{get_by}
@@ -13,6 +13,7 @@ use Rattle.svc_image.specs.Format.{magic, bytes_of_half, bytes_of_word, bytes_of
 use Rattle.svc_draft.specs.declared.section.Section.{Section}
 use Rattle.svc_draft.specs.declared.section.Section.TheVariants as section
 use Rattle.svc_draft.specs.declared.section.Spot.{Spot}
+use Rattle.svc_draft.specs.declared.section.Local.{Local}
 use Rattle.svc_draft.specs.declared.statement.Width.{Width}
 use Rattle.svc_draft.specs.declared.statement.Width.TheVariants as wide
 use Rattle.svc_draft.specs.declared.statement.Next.{Next}
@@ -22,6 +23,7 @@ use Rattle.svc_draft.specs.declared.statement.Statement.TheVariants as say
 use Rattle.svc_draft.specs.declared.draft.Draft.{Draft}
 use Rattle.svc_draft.specs.Options.{◌>>=◌}
 use Rattle.svc_draft.specs.Areas.{padding, with_more, with_zeros, bytes_in, data_of}
+use Rattle.svc_draft.specs.Locals.{last_local, first_local}
 use Rattle.svc_draft.specs.Versions.{has_other, version_in}
 
 -- what names stand for: places in sections
@@ -31,7 +33,7 @@ Names = List ℕ → Option Spot
 abbrev pub no_names : Names
 no_names name = None
 
--- what an image is made of so far: the version where it is said; the limit of the entries that have none of their own; how many of the first data words are read-only; the start where it is said; the registers; the entries, and the limit that each has of its own; the words of the text, the bytes of each section of data, the section of what follows, and what is read next; the names, whether these are all the names of the program, as they are in the second pass, and how far behind the data's beginning .data and .bss begin then
+-- what an image is made of so far: the version where it is said; the limit of the entries that have none of their own; how many of the first data words are read-only; the start where it is said; the registers; the entries, and the limit that each has of its own; the words of the text, the bytes of each section of data, the section of what follows, and what is read next; the names, whether these are all the names of the program, as they are in the second pass, and how far behind the data's beginning .data and .bss begin then; the local labels, which the second pass has from the first one, and how many of them it has passed
 pub record Layout : Type 0 where
   pub version : Option Version
   pub limit : ℕ
@@ -50,6 +52,8 @@ pub record Layout : Type 0 where
   pub known : Bool
   pub data_from : ℕ
   pub bss_from : ℕ
+  pub locals : List Local
+  pub passed : ℕ
 
 abbrev pub layout_of : Draft → Layout
 layout_of d = record {
@@ -70,6 +74,8 @@ layout_of d = record {
   known = d.known;
   data_from = d.data_from;
   bss_from = d.bss_from;
+  locals = d.locals.items;
+  passed = d.passed;
 }
 
 abbrev pub zeros : List ℕ
@@ -95,6 +101,8 @@ empty names known data_from bss_from = record {
   known = known;
   data_from = data_from;
   bss_from = bss_from;
+  locals = [];
+  passed = 0;
 }
 
 -- a section in whole words
@@ -106,7 +114,7 @@ abbrev pub first_pass : Layout
 first_pass = empty no_names false 0 0
 
 abbrev pub second_pass : Layout → Layout
-second_pass d = empty d.names true (whole_size d.rodata_bytes) (whole_size d.rodata_bytes + whole_size d.data_bytes)
+second_pass d = record (empty d.names true (whole_size d.rodata_bytes) (whole_size d.rodata_bytes + whole_size d.data_bytes)) { locals = d.locals }
 
 -- how many bytes of the section of what follows there are so far
 abbrev pub size_in : Section → Layout → ℕ
@@ -138,6 +146,13 @@ here d = place d (spot_here d)
 -- the address that a name stands for; in the first pass any name may yet come to stand for one
 abbrev pub address_of : Layout → List ℕ → Option ℕ
 address_of d name = if d.known then option_map (place d) (d.names name) else Some (here d)
+
+-- the address of the last local label of a number before here, and of the next one behind here; in the first pass any may yet come
+abbrev pub address_back : Layout → ℕ → Option ℕ
+address_back d n = if d.known then option_map (place d) (last_local n None (take d.passed d.locals)) else Some (here d)
+
+abbrev pub address_ahead : Layout → ℕ → Option ℕ
+address_ahead d n = if d.known then option_map (place d) (first_local n (drop d.passed d.locals)) else Some (here d)
 
 -- a word more of the text, of which an image has at most 65,536
 unfoldable pub with_word : ℕ → Layout → Option Layout
@@ -232,6 +247,20 @@ with_symbol name s d =
     if d.known then if is_place (place d s) (option_map (place d) (d.names name)) then Some d else None
     else if is_some (d.names name) then None else Some (record d { names = update bytes_eq d.names name (Some s) })
 
+-- whether a local label that the first pass found has this number and stands here
+abbrev pub is_local : Layout → ℕ → Option Local → Bool
+is_local d n None = false
+is_local d n (Some l) = l.number == n && place d l.spot == here d
+
+unfoldable pub with_passed : ℕ → Layout → Option Layout
+with_passed n d = if is_local d n (slice_get d.locals d.passed) then Some (record d { passed = d.passed + 1 }) else None
+
+-- a local label: in the first pass one more, of which a text has at most 4,096, and in the second it stands where the first found it
+unfoldable pub with_local : ℕ → Layout → Option Layout
+with_local n d =
+    if d.known then with_passed n d
+    else if nat_lt (length d.locals) 4096 then Some (record d { locals = d.locals ++ (record { number = n; spot = spot_here d } ∷ []) }) else None
+
 -- so many zeros in .bss, behind zeros up to a multiple of a step, which a name stands for; what follows stands where it stood before
 unfoldable pub with_common : List ℕ → ℕ → ℕ → Layout → Option Layout
 with_common name count step d = do
@@ -262,6 +291,7 @@ after name (say.Value width n next) d = with_value width n d >>= going_on next
 after name (say.Symbol s) d = with_symbol name s d >>= going_on go.Line
 after name (say.Common count step) d = with_common name count step d
 after name (say.Pair i j) d = with_pair (word_of i) (word_of j) d
+after name (say.Local n) d = with_local n d
 
 -- where the first task begins: where it is said, and else at the first entry
 abbrev pub first_entry : List ℕ → ℕ

@@ -8,8 +8,9 @@ ghost use Rattle.svc_draft.specs.Versions.{has_other};
 
 use crate::area::{join, padding, put_more, put_zeros, whole_size};
 use crate::bytes::{half_bytes, put_half, put_limits, put_word, put_words, word_bytes};
+use crate::locals::{first_local, last_local};
 use crate::refusal::Refusal;
-use crate::section::{Section, Spot};
+use crate::section::{Local, Section, Spot};
 use crate::statement::{Next, Statement, Width};
 use std::alloc::Global;
 use std::collections::HashMap;
@@ -22,6 +23,8 @@ const MOST_WORDS: usize = 65_536;
 const DATA_PLACE: u32 = 0x0010_0000;
 /// The most entries.
 const MOST_ENTRIES: usize = 1024;
+/// The most local labels. Each is looked at for every name of one, so that few bound the time.
+const MOST_LOCALS: usize = 4096;
 
 /// What the lines read so far make.
 #[derive(Drop)]
@@ -51,12 +54,17 @@ pub struct Draft<'a> {
     // How far behind the data's beginning these sections begin, which the second pass knows.
     data_from: u32,
     bss_from: u32,
+    // The local labels in the order of their lines, which the second pass has from the first one.
+    locals: Vec<Local>,
+    // How many of them the second pass has passed.
+    passed: usize,
     ghost text_few: { length text.items ≤ 65536 },
     ghost rodata_few: { length rodata_bytes.items ≤ 262144 },
     ghost data_few: { length data_bytes.items ≤ 262144 },
     ghost bss_few: { length bss_bytes.items ≤ 262144 },
     ghost data_near: { data_from ≤ 262144 },
     ghost bss_near: { bss_from ≤ 524288 },
+    ghost passed_few: { passed ≤ length locals.items },
 }
 
 impl<'a> Draft<'a> {
@@ -69,13 +77,13 @@ impl<'a> Draft<'a> {
     ghost use Rattle.svc_draft.specs.Versions.{version_in};
     ghost use Rattle.svc_draft.specs.Areas.{bytes_in};
     ghost use Rattle.svc_draft.specs.Refusals.{Refuses};
-    ghost use Rattle.svc_draft.specs.Layouts.{layout_of, empty, no_names, first_pass, second_pass, size, base, place, spot_here, here, address_of, with_word, with_bytes, with_blank, with_align, with_value, with_symbol, with_common, with_instruction, with_pair, with_version, data_up_to, with_read_only, with_own, with_place, with_entry, with_register, after, start_in, limits_in, file_in, data_in, HasFewParts, IsMadeOf};
+    ghost use Rattle.svc_draft.specs.Layouts.{layout_of, empty, no_names, first_pass, second_pass, size, base, place, spot_here, here, address_of, address_back, address_ahead, with_word, with_bytes, with_blank, with_align, with_value, with_symbol, with_passed, with_local, with_common, with_instruction, with_pair, with_version, data_up_to, with_read_only, with_own, with_place, with_entry, with_register, after, start_in, limits_in, file_in, data_in, HasFewParts, IsMadeOf};
 
     /// No lines yet, in the first pass.
     pub fn new(alloc: Global) -> Draft<'a>
         ensures { layout_of result ≡ first_pass }
     {
-        Draft::with_names(HashMap::new(alloc), false, 0, 0, alloc)
+        Draft::with_names(HashMap::new(alloc), Vec::new(alloc), false, 0, 0, alloc)
     }
 
     /// No lines yet, in the second pass, behind a first one that ended so.
@@ -84,11 +92,12 @@ impl<'a> Draft<'a> {
     {
         let data_from = whole_size(&self.rodata_bytes);
         let bss_from = data_from + whole_size(&self.data_bytes);
-        Draft::with_names(self.names, true, data_from, bss_from, alloc)
+        Draft::with_names(self.names, self.locals, true, data_from, bss_from, alloc)
     }
 
     fn with_names(
         names: HashMap<&'a [u8], Spot>,
+        locals: Vec<Local>,
         known: bool,
         data_from: u32,
         bss_from: u32,
@@ -97,7 +106,7 @@ impl<'a> Draft<'a> {
         requires data_near { data_from ≤ 262144 }
         requires bss_near { bss_from ≤ 524288 }
         ensures { layout_of result
-            ≡ empty (λ name. get_by (λ key. bytes_eq name key.now) names.entry) known data_from bss_from }
+            ≡ record (empty (λ name. get_by (λ key. bytes_eq name key.now) names.entry) known data_from bss_from) { locals = locals.items } }
     {
         Draft {
             version: None,
@@ -117,6 +126,8 @@ impl<'a> Draft<'a> {
             known,
             data_from,
             bss_from,
+            locals,
+            passed: 0,
         }
     }
 
@@ -195,6 +206,39 @@ impl<'a> Draft<'a> {
         }
     }
 
+    /// Whether all names of the program are known, as they are in the second pass.
+    pub fn is_known(&self) -> bool
+        ensures { result ≡ (layout_of self.now).known }
+    {
+        self.known
+    }
+
+    /// The address of the last local label of this number before here. In the first pass any may yet come to stand.
+    pub fn address_back(&self, number: u32) -> Option<u32>
+        ensures { result ≡ address_back (layout_of self.now) number }
+    {
+        if !self.known {
+            return Some(self.here());
+        }
+        match last_local(number, &self.locals[..self.passed]) {
+            Some(spot) => Some(self.place(spot)),
+            None => None,
+        }
+    }
+
+    /// The address of the next local label of this number behind here. In the first pass any may yet come to stand.
+    pub fn address_ahead(&self, number: u32) -> Option<u32>
+        ensures { result ≡ address_ahead (layout_of self.now) number }
+    {
+        if !self.known {
+            return Some(self.here());
+        }
+        match first_local(number, &self.locals[self.passed..]) {
+            Some(spot) => Some(self.place(spot)),
+            None => None,
+        }
+    }
+
     /// Adds what a line says, which is about this name if it is a label or sets a symbol.
     pub fn take(&mut self, name: &'a [u8], statement: Statement) -> Result<(), Refusal>
         ensures ok { OnOk result (after name.now statement (layout_of self.old) ≡ Some (layout_of self.new)) }
@@ -230,6 +274,7 @@ impl<'a> Draft<'a> {
                 encode(&first),
                 encode(&second),
             ),
+            Statement::Local(number) => return self.take_local(number),
         }
         Ok(())
     }
@@ -284,6 +329,38 @@ impl<'a> Draft<'a> {
             return Err(Refusal::LabelTwice);
         }
         self.names.insert(name, spot)?;
+        Ok(())
+    }
+
+    // A local label that the first pass found.
+    #[tactic(auto, unfolding(crate::specs::Layouts::with_passed))]
+    fn pass_local(&mut self, number: u32) -> Result<(), Refusal>
+        ensures ok { OnOk result (with_passed number (layout_of self.old) ≡ Some (layout_of self.new)) }
+        ensures err { IfErr result (λ e. Refuses e (with_passed number (layout_of self.old))) }
+    {
+        let here = self.here();
+        match self.locals.get(self.passed).copied() {
+            Some(local) if local.number == number && self.place(local.spot) == here => {
+                self.passed += 1;
+                Ok(())
+            }
+            _ => Err(Refusal::LabelTwice),
+        }
+    }
+
+    #[tactic(auto, unfolding(crate::specs::Layouts::with_local))]
+    fn take_local(&mut self, number: u32) -> Result<(), Refusal>
+        ensures ok { OnOk result (with_local number (layout_of self.old) ≡ Some (layout_of self.new)) }
+        ensures err { IfErr result (λ e. Refuses e (with_local number (layout_of self.old))) }
+    {
+        if self.known {
+            return self.pass_local(number);
+        }
+        if self.locals.len() >= MOST_LOCALS {
+            return Err(Refusal::FullLocals);
+        }
+        let spot = self.spot_here();
+        self.locals.push(Local { number, spot })?;
         Ok(())
     }
 

@@ -4,11 +4,12 @@
 mod area;
 mod bytes;
 mod draft;
+mod locals;
 mod refusal;
 mod section;
 mod statement;
 
 pub use draft::Draft;
 pub use refusal::Refusal;
-pub use section::{Section, Spot};
+pub use section::{Local, Section, Spot};
 pub use statement::{Ending, Next, Statement, Width};

@@ -24,6 +24,9 @@ pub enum Refusal {
     /// A label whose name another one has.
     #[error("a label has a name of its own")]
     LabelTwice,
+    /// The text has 4,096 local labels already.
+    #[error("a text has at most 4096 local labels")]
+    FullLocals,
     /// A directive of another version than the program has.
     #[error("the program has another version of the image format")]
     OtherVersion,

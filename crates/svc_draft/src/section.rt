@@ -13,6 +13,15 @@ pub enum Section {
     Bss,
 }
 
+/// A local label, which other ones may have the number of.
+#[derive(Clone, Copy)]
+pub struct Local {
+    /// Its number.
+    pub number: u32,
+    /// Where it stands.
+    pub spot: Spot,
+}
+
 /// What a name stands for: so many bytes behind the beginning of a section. A number stands so far behind the text's.
 #[derive(Clone, Copy)]
 pub struct Spot {

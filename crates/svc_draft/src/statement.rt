@@ -82,4 +82,6 @@ pub enum Statement {
     Common(u32, u32),
     /// Two instructions that one name stands for, as `call`.
     Pair(Instr, Instr),
+    /// A number and a colon: the next local label of this number.
+    Local(u32),
 }

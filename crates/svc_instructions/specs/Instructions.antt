@@ -13,12 +13,14 @@ use Rattle.svc_rv32i.specs.declared.instr.Instr.TheVariants as i
 use Rattle.svc_operands.specs.declared.names.Form.{Form}
 use Rattle.svc_operands.specs.declared.names.Form.TheVariants as form
 use Rattle.svc_draft.specs.Options.{◌>>=◌}
-use Rattle.svc_operands.specs.Characters.{is_from_to, is_space, past, found, name_at, past_name, behind}
+use Rattle.svc_operands.specs.Characters.{found}
+use Rattle.svc_instructions.specs.Fences.{fence_at, total_store_order}
 use Rattle.svc_instructions.specs.Pseudo.{pseudo_at}
 use Rattle.svc_rv32i.specs.Meaning.{register, short}
 use Rattle.svc_operands.specs.Names.{operation_named, immediate_named, shift_named, comparison_named, load_named, store_named, form_named}
 use Rattle.svc_draft.specs.Layouts.{Layout}
-use Rattle.svc_operands.specs.Operands.{Read, register_at, first_register_at, number_at, branch_at, jump_at, amount_at}
+use Rattle.svc_operands.specs.Operands.{Read, register_at, first_register_at, number_at, amount_at}
+use Rattle.svc_operands.specs.Targets.{branch_at, jump_at}
 use Rattle.svc_operands.specs.Values.{value_at, short_at, upper_at, address_at}
 
 unfoldable pub operation_at : Operation → List ℕ → Read Instr
@@ -104,6 +106,8 @@ form_at d form.Jal text = jal_at d text
 form_at d form.Jalr text = jalr_at d text
 form_at d form.Ecall text = Some (i.Ecall, text)
 form_at d form.Ebreak text = Some (i.Ebreak, text)
+form_at d form.Fence text = fence_at text
+form_at d form.FenceTso text = Some (total_store_order, text)
 
 -- the instruction of a name and its operands
 unfoldable pub instruction_at : Layout → List ℕ → List ℕ → Read Instr

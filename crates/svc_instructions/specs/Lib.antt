@@ -1,3 +1,4 @@
+pub mod Fences
 pub mod Pseudo
 pub mod Instructions
 pub mod Couples

@@ -19,7 +19,8 @@ use Rattle.svc_instructions.specs.declared.pseudo.Leap.TheVariants as leap
 use Rattle.svc_draft.specs.Options.{◌>>=◌}
 use Rattle.svc_operands.specs.Characters.{found}
 use Rattle.svc_draft.specs.Layouts.{Layout}
-use Rattle.svc_operands.specs.Operands.{Read, register_at, first_register_at, branch_at, jump_at}
+use Rattle.svc_operands.specs.Operands.{Read, register_at, first_register_at}
+use Rattle.svc_operands.specs.Targets.{branch_at, jump_at}
 
 -- what is made of one register and put into another
 unfoldable pub move_named : List ℕ → Option Move

@@ -5,6 +5,7 @@ ghost use Rattle.svc_draft.specs.Layouts.{layout_of};
 ghost use Rattle.svc_operands.specs.Reading.{Gives};
 ghost use Rattle.svc_instructions.specs.Instructions.{operation_at, immediate_at, shift_at, comparison_at, load_at, store_at, lui_at, auipc_at, jal_to, jal_at, jalr_to, jalr_by, jalr_at, form_at, instruction_at};
 
+use crate::fence::{read_fence, total_store_order};
 use crate::pseudo::read_pseudo;
 use svc_draft::Draft;
 use svc_operands::{
@@ -189,6 +190,8 @@ fn read_form<'a>(draft: &Draft, form: Form, text: &'a [u8]) -> Result<(Instr, &'
         Form::Jalr => read_jalr(draft, text),
         Form::Ecall => Ok((Instr::Ecall, text)),
         Form::Ebreak => Ok((Instr::Ebreak, text)),
+        Form::Fence => read_fence(text),
+        Form::FenceTso => Ok((total_store_order(), text)),
     }
 }
 

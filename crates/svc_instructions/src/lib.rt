@@ -2,6 +2,7 @@
 #![tactic(auto)]
 
 mod couple;
+mod fence;
 mod instruction;
 mod pseudo;
 

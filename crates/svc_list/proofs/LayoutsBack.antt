@@ -20,9 +20,9 @@ use Rattle.svc_draft.specs.declared.statement.Next.TheVariants as go
 use Rattle.svc_draft.specs.declared.statement.Statement.TheVariants as say
 use Rattle.svc_draft.specs.Options.{◌>>=◌}
 use Rattle.svc_draft.specs.Areas.{with_more}
-use Rattle.svc_draft.specs.Layouts.{Layout, Names, zeros, empty, with_word, with_bytes, with_value, with_version, with_read_only, with_own, with_place, with_entry, with_register, after, limits_in, file_in}
+use Rattle.svc_draft.specs.Layouts.{Layout, Names, with_word, with_bytes, with_value, with_version, with_read_only, with_own, with_place, with_entry, with_register, after, limits_in, file_in}
 use Rattle.svc_draft.proofs.Wordwise.{length-bytes_of_word, length-bytes_of_words}
-use Rattle.svc_list.specs.Listings.{Line, bare, shown, coded, setting, settings, own_limit, marks, code, data_lines, all_data, head_lines, lines_of}
+use Rattle.svc_list.specs.Listings.{Line, Says, Labels, Aims, Starts, bare, shown, setting, settings, own_limit, marks, data_lines, all_data}
 
 -- an instruction has the word that means it, which a law says
 abbrev pub MeansOne : Type 0
@@ -31,7 +31,10 @@ MeansOne = (word : ℕ) (instr : Instr) → word < 2 ^ 32 → (meaning word ≡ 
 -- the layout after all of these lines, of which none is a label
 abbrev pub after_all : List Line → Layout → Option Layout
 after_all [] d = Some d
-after_all (l ∷ ls) d = after [] l.says d >>= after_all ls
+after_all (Says s note ∷ ls) d = after [] s d >>= after_all ls
+after_all (Labels a ∷ ls) d = None
+after_all (Aims instr target note ∷ ls) d = None
+after_all (Starts a ∷ ls) d = None
 
 -- the limit that the lines of an image set for all its entries
 abbrev pub common_limit : Version → ℕ → ℕ
@@ -58,6 +61,8 @@ layout_for names known from img = record {
   known = known;
   data_from = 0;
   bss_from = from;
+  locals = [];
+  passed = 0;
 }
 
 -- lines after lines
@@ -67,10 +72,13 @@ after_step (Some d) f g e r same h = same d h
 
 after_both : (ss ts : List Line) (d e : Layout) → after_all ss d ≡ Some e → after_all (ss ++ ts) d ≡ after_all ts e
 after_both [] ts d e h = ap (λ o. o >>= after_all ts) h
-after_both (s ∷ ss) ts d e h = after_step (after [] s.says d) (after_all ss) (after_all (ss ++ ts)) e (after_all ts e) (λ x k. after_both ss ts x e k) h
+after_both (Says s note ∷ ss) ts d e h = after_step (after [] s d) (after_all ss) (after_all (ss ++ ts)) e (after_all ts e) (λ x k. after_both ss ts x e k) h
+after_both (Labels a ∷ ss) ts d e h = absurd (cc)
+after_both (Aims instr target note ∷ ss) ts d e h = absurd (cc)
+after_both (Starts a ∷ ss) ts d e h = absurd (cc)
 
 -- a layout with these registers
-abbrev registers_in : Layout → List ℕ → Layout
+abbrev pub registers_in : Layout → List ℕ → Layout
 registers_in d xs = record d { registers = xs }
 
 abbrev all_zero : List ℕ → Bool
@@ -93,11 +101,11 @@ setting_laid d done zs v n e h =
       | inr some ↦ let here : (v == 0) ≡ false = ne_eqb v 0 some in rw here (ap (λ o. o >>= after_all []) (one_setting d done zs 0 v n e h))
     ]
 
-are_zeros : (xs : List ℕ) → all_zero xs ≡ true → AllByRecursion (λ x. x ≡ 0) xs
+pub are_zeros : (xs : List ℕ) → all_zero xs ≡ true → AllByRecursion (λ x. x ≡ 0) xs
 are_zeros [] h = tt
 are_zeros (x ∷ xs) h = let parts = and_parts (x == 0) (all_zero xs) h in (eqb-true x 0 parts.0, are_zeros xs parts.1)
 
-settings_laid : (d : Layout) (done vs zs : List ℕ) (n : ℕ) → suc (length done) ≡ n → length zs ≡ length vs → AllByRecursion (λ x. x ≡ 0) zs → n + length vs ≤ 32 → after_all (settings n vs) (registers_in d (done ++ zs)) ≡ Some (registers_in d (done ++ vs))
+pub settings_laid : (d : Layout) (done vs zs : List ℕ) (n : ℕ) → suc (length done) ≡ n → length zs ≡ length vs → AllByRecursion (λ x. x ≡ 0) zs → n + length vs ≤ 32 → after_all (settings n vs) (registers_in d (done ++ zs)) ≡ Some (registers_in d (done ++ vs))
 settings_laid d done [] [] n e same none h = refl
 settings_laid d done [] (z ∷ zs) n e same none h = absurd (omega (arith, same))
 settings_laid d done (v ∷ vs) [] n e same none h = absurd (omega (arith, same))
@@ -116,7 +124,7 @@ unfolding with_value
 value_in_text d w text = rw text refl
 
 -- a word is laid as what it is shown as
-shown_laid : MeansOne → (w : ℕ) (meant : Option Instr) (d : Layout) → w < 2 ^ 32 → meaning w ≡ meant → d.section ≡ section.Text → after [] (shown w meant) d ≡ with_word w d
+pub shown_laid : MeansOne → (w : ℕ) (meant : Option Instr) (d : Layout) → w < 2 ^ 32 → meaning w ≡ meant → d.section ≡ section.Text → after [] (shown w meant) d ≡ with_word w d
 shown_laid law w None d h e text = value_in_text d w text
 shown_laid law w (Some (i.Fence rd rs1 imm)) d h e text = value_in_text d w text
 shown_laid law w (Some instr) d h e text = rw (text, (law w instr h).0 e) refl
@@ -141,18 +149,18 @@ abbrev pub AreMarks : Option Version → ℕ → ℕ → List (ℕ × Option ℕ
 AreMarks v low top [] = Unit {0}
 AreMarks v low top (m ∷ ms) = (low ≤ m.0) × (m.0 % 4 ≡ 0) × (m.0 < top) × Allows v m.1 × AreMarks v (m.0 + 1) top ms
 
-next_marks : (v : Option Version) (n e top : ℕ) (ms : List (ℕ × Option ℕ)) → e ≡ 4 * n → AreMarks v (e + 1) top ms → AreMarks v (4 * suc n) top ms
+pub next_marks : (v : Option Version) (n e top : ℕ) (ms : List (ℕ × Option ℕ)) → e ≡ 4 * n → AreMarks v (e + 1) top ms → AreMarks v (4 * suc n) top ms
 next_marks v n e top [] same h = tt
 next_marks v n e top (m ∷ ms) same h = (omega (arith, same, h.0, h.1), h.1, h.2, h.3, h.4)
 
-top_marks : (v : Option Version) (low n m : ℕ) (ms : List (ℕ × Option ℕ)) → AreMarks v low (4 * (n + suc m)) ms → AreMarks v low (4 * (suc n + m)) ms
+pub top_marks : (v : Option Version) (low n m : ℕ) (ms : List (ℕ × Option ℕ)) → AreMarks v low (4 * (n + suc m)) ms → AreMarks v low (4 * (suc n + m)) ms
 top_marks v low n m ms h = let top : 4 * (n + suc m) ≡ 4 * (suc n + m) = omega arith in subst (λ (t : ℕ). AreMarks v low t ms) top h
 
 -- a layout with a mark more, and one with a word more of the text
-abbrev marked : Layout → ℕ × Option ℕ → Layout
+abbrev pub marked : Layout → ℕ × Option ℕ → Layout
 marked d m = record d { entries = d.entries ++ (m.0 ∷ []); limits = d.limits ++ (m.1 ∷ []) }
 
-abbrev worded : Layout → ℕ → Layout
+abbrev pub worded : Layout → ℕ → Layout
 worded d w = record d { text = d.text ++ (w ∷ []) }
 
 one_place : (d : Layout) (m : ℕ × Option ℕ) → length d.text < 65536 → m.0 ≡ 4 * length d.text → with_place m.1 d ≡ Some (marked d m)
@@ -161,11 +169,11 @@ one_place d m h same =
     let fits : nat_lt (length d.text) 65536 ≡ true = le-leb (suc (length d.text)) 65536 h in
     rw fits (ap (λ (e : ℕ). Some (record d { entries = d.entries ++ (e ∷ []); limits = d.limits ++ (m.1 ∷ []) })) (sym same))
 
-one_entry : (d : Layout) (m : ℕ × Option ℕ) → length d.text < 65536 → m.0 ≡ 4 * length d.text → Allows d.version m.1 → with_entry m.1 d ≡ Some (marked d m)
+pub one_entry : (d : Layout) (m : ℕ × Option ℕ) → length d.text < 65536 → m.0 ≡ 4 * length d.text → Allows d.version m.1 → with_entry m.1 d ≡ Some (marked d m)
 unfolding with_entry
 one_entry d m h same allowed = ap (λ (o : Option Layout). o >>= with_place m.1) (own_allowed m.1 d allowed) ∙ one_place d m h same
 
-one_word : (d : Layout) (w : ℕ) → length d.text < 65536 → with_word w d ≡ Some (worded d w)
+pub one_word : (d : Layout) (w : ℕ) → length d.text < 65536 → with_word w d ≡ Some (worded d w)
 unfolding with_word
 one_word d w h =
     let fits : nat_lt (length d.text) 65536 ≡ true = le-leb (suc (length d.text)) 65536 h in
@@ -181,54 +189,8 @@ limits_of [] = []
 limits_of (m ∷ ms) = m.1 ∷ limits_of ms
 
 -- a layout with more marks and words
-abbrev grown : Layout → List ℕ → List (Option ℕ) → List ℕ → Layout
+abbrev pub grown : Layout → List ℕ → List (Option ℕ) → List ℕ → Layout
 grown d entries limits text = record d { entries = d.entries ++ entries; limits = d.limits ++ limits; text = d.text ++ text }
-
--- a word and what is laid behind it
-word_laid : MeansOne → (d : Layout) (rest : List Line) (address w : ℕ) (es : List ℕ) (ls : List (Option ℕ)) (ws : List ℕ) → d.section ≡ section.Text → length d.text < 65536 → w < 2 ^ 32
-    → after_all rest (worded d w) ≡ Some (grown (worded d w) es ls ws)
-    → after_all (coded address w ∷ rest) d ≡ Some (grown d es ls (w ∷ ws))
-word_laid law d rest address w es ls ws text room fit h =
-    ap (λ o. o >>= after_all rest) (shown_laid law w (meaning w) d fit refl text ∙ one_word d w room)
-    ∙ h ∙ ap (λ xs. Some (record d { entries = d.entries ++ es; limits = d.limits ++ ls; text = xs })) (append_assoc d.text (w ∷ []) ws)
-
--- a mark and what is laid behind it
-mark_laid : (d : Layout) (rest : List Line) (m : ℕ × Option ℕ) (es : List ℕ) (ls : List (Option ℕ)) (ws : List ℕ) → length d.text < 65536 → m.0 ≡ 4 * length d.text → Allows d.version m.1
-    → after_all rest (marked d m) ≡ Some (grown (marked d m) es ls ws)
-    → after_all (bare (say.Entry m.1) ∷ rest) d ≡ Some (grown d (m.0 ∷ es) (m.1 ∷ ls) ws)
-mark_laid d rest m es ls ws room same allowed h =
-    ap (λ o. o >>= after_all rest) (one_entry d m room same allowed)
-    ∙ h ∙ ap (λ xs. Some (record d { entries = xs; limits = (d.limits ++ (m.1 ∷ [])) ++ ls; text = d.text ++ ws })) (append_assoc d.entries (m.0 ∷ []) es)
-    ∙ ap (λ xs. Some (record d { entries = d.entries ++ (m.0 ∷ es); limits = xs; text = d.text ++ ws })) (append_assoc d.limits (m.1 ∷ []) ls)
-
-longer : (text : List ℕ) (w n : ℕ) → length text ≡ n → length (text ++ (w ∷ [])) ≡ suc n
-longer text w n len = omega (arith, len, length-append text (w ∷ []))
-
-code_laid : MeansOne → (ms : List (ℕ × Option ℕ)) (ws : List ℕ) (n : ℕ) (d : Layout) → d.section ≡ section.Text → length d.text ≡ n → n + length ws ≤ 65536 → AllByRecursion (λ w. w < 2 ^ 32) ws → AreMarks d.version (4 * n) (4 * (n + length ws)) ms
-    → after_all (code n ms ws) d ≡ Some (grown d (entries_of ms) (limits_of ms) ws)
-unfolding code
-code_laid law [] [] n d text len most fit placed =
-    rw (append-nil d.entries, append-nil d.limits, append-nil d.text) refl
-code_laid law (m ∷ ms) [] n d text len most fit placed =
-    absurd (omega (arith, placed.0, placed.2))
-code_laid law [] (w ∷ ws) n d text len most fit placed =
-    word_laid law d (code (suc n) [] ws) (4 * n) w [] [] ws text (omega (arith, len, most)) fit.0
-    (code_laid law [] ws (suc n) (worded d w) text (longer d.text w n len) (omega (arith, most)) fit.1 tt)
-code_laid law (m ∷ ms) (w ∷ ws) n d text len most fit placed =
-    elim (cases_eq m.0 (4 * n)) [
-      | inl same ↦
-          let here : (m.0 == 4 * n) ≡ true = eq-eqb m.0 (4 * n) same in
-          let more = top_marks d.version (4 * suc n) n (length ws) ms (next_marks d.version n m.0 (4 * (n + suc (length ws))) ms same placed.4) in
-          rw here (
-          mark_laid d (coded (4 * n) w ∷ code (suc n) ms ws) m (entries_of ms) (limits_of ms) (w ∷ ws) (omega (arith, len, most)) (omega (arith, same, len)) placed.3
-          (word_laid law (marked d m) (code (suc n) ms ws) (4 * n) w (entries_of ms) (limits_of ms) ws text (omega (arith, len, most)) fit.0
-          (code_laid law ms ws (suc n) (worded (marked d m) w) text (longer d.text w n len) (omega (arith, most)) fit.1 more)))
-      | inr other ↦
-          let here : (m.0 == 4 * n) ≡ false = ne_eqb m.0 (4 * n) other in
-          let next : 4 * suc n ≤ m.0 = omega (arith, placed.0, placed.1, other) in
-          rw here (word_laid law d (code (suc n) (m ∷ ms) ws) (4 * n) w (entries_of (m ∷ ms)) (limits_of (m ∷ ms)) ws text (omega (arith, len, most)) fit.0
-          (code_laid law (m ∷ ms) ws (suc n) (worded d w) text (longer d.text w n len) (omega (arith, most)) fit.1 (top_marks d.version (4 * suc n) n (length ws) (m ∷ ms) (next, placed.1, placed.2, placed.3, placed.4))))
-    ]
 
 -- entries from an address on, below the end of the text
 abbrev pub Above : ℕ → ℕ → List ℕ → Type 0
@@ -239,17 +201,17 @@ own_allows : (v : Version) (limit : ℕ) → Allows (Some v) (own_limit v limit)
 own_allows version.One limit = tt
 own_allows version.Two limit = refl
 
-marks_are : (v : Version) (low top : ℕ) (es ls : List ℕ) → Above low top es → AreMarks (Some v) low top (marks v es ls)
+pub marks_are : (v : Version) (low top : ℕ) (es ls : List ℕ) → Above low top es → AreMarks (Some v) low top (marks v es ls)
 marks_are v low top [] ls h = tt
 marks_are v low top (e ∷ es) [] h = tt
 marks_are v low top (e ∷ es) (l ∷ ls) h = (h.0, h.1, h.2, own_allows v l, marks_are v (e + 1) top es ls h.3)
 
-marks_entries : (v : Version) (es ls : List ℕ) → length ls ≡ length es → entries_of (marks v es ls) ≡ es
+pub marks_entries : (v : Version) (es ls : List ℕ) → length ls ≡ length es → entries_of (marks v es ls) ≡ es
 marks_entries v [] ls h = refl
 marks_entries v (e ∷ es) [] h = absurd (omega (arith, h))
 marks_entries v (e ∷ es) (l ∷ ls) h = ap (λ (xs : List ℕ). e ∷ xs) (marks_entries v es ls (omega (arith, h)))
 
-marks_limits : (v : Version) (es ls : List ℕ) → length ls ≡ length es → limits_of (marks v es ls) ≡ map (own_limit v) ls
+pub marks_limits : (v : Version) (es ls : List ℕ) → length ls ≡ length es → limits_of (marks v es ls) ≡ map (own_limit v) ls
 marks_limits v [] [] h = refl
 marks_limits v [] (l ∷ ls) h = absurd (omega (arith, h))
 marks_limits v (e ∷ es) [] h = absurd (omega (arith, h))
@@ -293,7 +255,7 @@ fixed_laid d words inside first two =
     let count : length (bytes_of_words words) / 4 ≡ length words = omega (arith, size) in
     rw (version_again version.Two (holding d (bytes_of_words words)) two, inside, up_to, by_words, count) refl
 
-all_data_laid : (v : Version) (n : ℕ) (words : List ℕ) (d : Layout) → d.version ≡ Some v → d.section ≡ section.Data → d.data_from ≡ 0 → d.data_bytes ≡ [] → d.read_only ≡ 0 → n ≤ length words → length words ≤ 65536
+pub all_data_laid : (v : Version) (n : ℕ) (words : List ℕ) (d : Layout) → d.version ≡ Some v → d.section ≡ section.Data → d.data_from ≡ 0 → d.data_bytes ≡ [] → d.read_only ≡ 0 → n ≤ length words → length words ≤ 65536
     → after_all (all_data v n words) d ≡ Some (record d { data_bytes = bytes_of_words words; read_only = read_only_by v n })
 all_data_laid version.One n words d said inside first none free few most =
     ap (λ (xs : List ℕ). after_all (data_lines 1048576 words) (holding d xs)) none
@@ -313,36 +275,6 @@ all_data_laid version.Two n words d said inside first none free few most =
     ∙ data_laid (record d { read_only = length front }) (1048576 + 4 * n) (bytes_of_words front) back inside room
     ∙ ap (λ (xs : List ℕ). Some (record d { data_bytes = xs; read_only = length front })) (sym (bytes_of_both front back) ∙ ap bytes_of_words split)
     ∙ ap (λ (q : ℕ). Some (record d { data_bytes = bytes_of_words words; read_only = q })) count
-
--- the layout after the lines before the registers
-abbrev headed : Names → Bool → ℕ → Image → Layout
-headed names known from img = record (empty names known 0 from) { version = Some img.version; limit = common_limit img.version (slice_index img.limits 0); start = Some img.start }
-
-head_laid : (v : Version) (limit start : ℕ) (names : Names) (known : Bool) (from : ℕ) → after_all (head_lines v limit start) (empty names known 0 from) ≡ Some (record (empty names known 0 from) { version = Some v; limit = common_limit v limit; start = Some start })
-unfolding with_version
-head_laid version.One limit start names known from = refl
-head_laid version.Two limit start names known from = refl
-
--- the lines of an image, from the first one on
-pub image_laid : MeansOne → (names : Names) (known : Bool) (from : ℕ) (img : Image) → length img.registers ≡ 31 → length img.limits ≡ length img.entries → img.read_only ≤ length img.words → length img.text ≤ 65536 → AllByRecursion (λ w. w < 2 ^ 32) img.text → length img.words ≤ 65536 → Above 0 (4 * length img.text) img.entries
-    → after_all (lines_of img) (empty names known 0 from) ≡ Some (layout_for names known from img)
-unfolding lines_of
-image_laid law names known from img thirty each fixed few fit words_few above =
-    let v = img.version in
-    let ms = marks v img.entries img.limits in
-    let body = bare say.Data ∷ all_data v img.read_only img.words in
-    let d₁ = headed names known from img in
-    let d₂ = registers_in d₁ img.registers in
-    let d₃ = grown d₂ (entries_of ms) (limits_of ms) img.text in
-    let d₄ = record d₃ { section = section.Data } in
-    let top : 4 * length img.text ≡ 4 * (0 + length img.text) = omega arith in
-    let placed = marks_are v 0 (4 * (0 + length img.text)) img.entries img.limits (subst (λ (t : ℕ). Above 0 t img.entries) top above) in
-    after_both (head_lines v (slice_index img.limits 0) img.start) (settings 1 img.registers ++ (code 0 ms img.text ++ body)) (empty names known 0 from) d₁ (head_laid v (slice_index img.limits 0) img.start names known from)
-    ∙ after_both (settings 1 img.registers) (code 0 ms img.text ++ body) d₁ d₂ (settings_laid d₁ [] img.registers zeros 1 refl (sym thirty) (are_zeros zeros refl) (omega (arith, thirty)))
-    ∙ after_both (code 0 ms img.text) body d₂ d₃ (code_laid law ms img.text 0 d₂ refl refl (omega (arith, few)) fit placed)
-    ∙ all_data_laid v img.read_only img.words d₄ refl refl refl refl refl fixed words_few
-    ∙ ap (λ (es : List ℕ). Some (record (layout_for names known from img) { entries = es; limits = limits_of ms })) (marks_entries v img.entries img.limits each)
-    ∙ ap (λ (ls : List (Option ℕ)). Some (record (layout_for names known from img) { limits = ls })) (marks_limits v img.entries img.limits each)
 
 -- limits of their own are the limits
 own_limits : (limit : ℕ) (ls : List ℕ) → limits_in limit (map (own_limit version.Two) ls) ≡ ls

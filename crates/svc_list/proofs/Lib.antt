@@ -3,7 +3,12 @@ pub mod OperandsBack
 pub mod LinesBack
 pub mod NotesBack
 pub mod LayoutsBack
+pub mod LabelsBack
+pub mod AimsBack
+pub mod Leading
+pub mod CodeBack
 pub mod Keeping
 pub mod Printing
+pub mod Tables
 pub mod Program
 pub mod Whole

@@ -36,7 +36,7 @@ use Rattle.svc_instructions.specs.Couples.{couple_named}
 use Rattle.svc_instructions.specs.Instructions.{operation_at, immediate_at, shift_at, comparison_at, load_at, store_at, lui_at, auipc_at, jal_to, jal_at, jalr_to, jalr_at, form_at, instruction_at}
 use Rattle.svc_asm.specs.Statements.{word_at, start_at, limit_at, version_at, limited_entry_at, entry_before, entry_at, setting_at, directive_at, alone_at, as_statement, statement_at, ended_at, line_at}
 use Rattle.svc_asm.specs.DataLines.{first_at, part_at, next_at}
-use Rattle.svc_list.specs.Listings.{first_text, last_text, short_text, offset_text, address_text, upper_text, instruction_text, statement_text, IsShown, HasText, Line, line_of}
+use Rattle.svc_list.specs.Listings.{first_text, last_text, short_text, offset_text, address_text, upper_text, instruction_text, statement_text, IsShown, HasText, Line, Says, Labels, Aims, Starts, line_of}
 use Rattle.svc_list.proofs.NamesBack.{all_dense, stops, Ends, at_name, at_rest, no_colon}
 use Rattle.svc_list.proofs.OperandsBack.{spaced_name, decimal_some, spaced_number_back, spaced_value_back, spaced_register_back, first_back, short_back, branch_back, jump_back, upper_back, amount_back, address_back}
 
@@ -143,7 +143,7 @@ store_found d store.Byte text = refl
 store_found d store.Half text = refl
 store_found d store.Word text = refl
 
-comparison_names : (test : Comparison) → names (comparison_name test) ≡ true
+pub comparison_names : (test : Comparison) → names (comparison_name test) ≡ true
 unfolding is_name couple_named
 comparison_names compare.Equal = refl
 comparison_names compare.NotEqual = refl
@@ -152,7 +152,7 @@ comparison_names compare.GreaterEqual = refl
 comparison_names compare.LessUnsigned = refl
 comparison_names compare.GreaterEqualUnsigned = refl
 
-comparison_found : (d : Layout) (test : Comparison) (text : List ℕ) → instruction_at d (comparison_name test) text ≡ comparison_at d test text
+pub comparison_found : (d : Layout) (test : Comparison) (text : List ℕ) → instruction_at d (comparison_name test) text ≡ comparison_at d test text
 unfolding instruction_at operation_named immediate_named load_named store_named comparison_named shift_named
 comparison_found d compare.Equal text = refl
 comparison_found d compare.NotEqual text = refl
@@ -174,7 +174,7 @@ shift_found d shift.Right text = refl
 shift_found d shift.RightArithmetic text = refl
 
 -- the parts of a text, one after another
-three : (a b c rest : List ℕ) → (a ++ (b ++ c)) ++ rest ≡ a ++ (b ++ (c ++ rest))
+pub three : (a b c rest : List ℕ) → (a ++ (b ++ c)) ++ rest ≡ a ++ (b ++ (c ++ rest))
 three a b c rest = append_assoc a (b ++ c) rest ∙ ap (λ x. a ++ x) (append_assoc b c rest)
 
 -- the operands of each form
@@ -239,7 +239,7 @@ jalr_back d rd rs1 imm rest =
     ∙ rw (first_back rd (address_text imm rs1 ++ rest), address_back d imm rs1 rest) refl
 
 -- an instruction whose name finds a reader that gives it
-whole : (d : Layout) (name operands rest : List ℕ) (instr : Instr) → names name ≡ true → stops (operands ++ rest) ≡ true → instruction_at d name (operands ++ rest) ≡ Some (instr, rest) → statement_at d ((name ++ operands) ++ rest) ≡ Some (say.Instruction instr, rest)
+pub whole : (d : Layout) (name operands rest : List ℕ) (instr : Instr) → names name ≡ true → stops (operands ++ rest) ≡ true → instruction_at d name (operands ++ rest) ≡ Some (instr, rest) → statement_at d ((name ++ operands) ++ rest) ≡ Some (say.Instruction instr, rest)
 unfolding alone_at
 whole d name operands rest instr h s e =
     ap (statement_at d) (append_assoc name operands rest) ∙ by_name d name (operands ++ rest) h s ∙ rw e refl
@@ -265,7 +265,7 @@ instruction_back d i.Ecall rest h s = by_name d (codes "ecall") rest refl s ∙ 
 instruction_back d i.Ebreak rest h s = by_name d (codes "ebreak") rest refl s ∙ as_is d (codes "ebreak") i.Ebreak rest refl
 
 -- a directive whose name is followed by this
-by_directive : (d : Layout) (w rest : List ℕ) → all_dense (46 ∷ w) ≡ true → stops rest ≡ true → statement_at d ((46 ∷ w) ++ rest) ≡ directive_at d (46 ∷ w) rest
+pub by_directive : (d : Layout) (w rest : List ℕ) → all_dense (46 ∷ w) ≡ true → stops rest ≡ true → statement_at d ((46 ∷ w) ++ rest) ≡ directive_at d (46 ∷ w) rest
 unfolding statement_at
 by_directive d w rest h s = rw (at_name 46 w rest h s, at_rest 46 w rest h s) refl
 
@@ -334,21 +334,22 @@ statement_back d (say.Open n) rest tail h e = absurd h
 statement_back d (say.Value w n next) rest tail h e = absurd h
 statement_back d (say.Symbol s) rest tail h e = absurd h
 statement_back d (say.Common n step) rest tail h e = absurd h
+statement_back d (say.Local n) rest tail h e = absurd h
 
 -- a line that begins with no label
-unlabelled : (d : Layout) (text : List ℕ) → behind 58 (past_name text) ≡ None → line_at d text ≡ ended_at d text
+pub unlabelled : (d : Layout) (text : List ℕ) → behind 58 (past_name text) ≡ None → line_at d text ≡ ended_at d text
 unfolding line_at
 unlabelled d text h = rw h refl
 
 -- the name of a line is followed by no colon
-names_stop : (name operands rest : List ℕ) → names name ≡ true → stops (operands ++ rest) ≡ true → behind 58 (past_name ((name ++ operands) ++ rest)) ≡ None
+pub names_stop : (name operands rest : List ℕ) → names name ≡ true → stops (operands ++ rest) ≡ true → behind 58 (past_name ((name ++ operands) ++ rest)) ≡ None
 names_stop [] operands rest h s = absurd (cc)
 names_stop (c ∷ w) operands rest h s =
     let dense = names_dense c w h in
     ap (λ x. behind 58 (past_name x)) (append_assoc (c ∷ w) operands rest)
     ∙ ap (behind 58) (at_rest c w (operands ++ rest) dense s) ∙ no_colon (operands ++ rest) s
 
-directive_stops : (w rest : List ℕ) → all_dense (46 ∷ w) ≡ true → stops rest ≡ true → behind 58 (past_name ((46 ∷ w) ++ rest)) ≡ None
+pub directive_stops : (w rest : List ℕ) → all_dense (46 ∷ w) ≡ true → stops rest ≡ true → behind 58 (past_name ((46 ∷ w) ++ rest)) ≡ None
 directive_stops w rest h s = ap (behind 58) (at_rest 46 w rest h s) ∙ no_colon rest s
 
 instruction_stops : (instr : Instr) (rest : List ℕ) → IsShown instr → stops rest ≡ true → behind 58 (past_name (instruction_text instr ++ rest)) ≡ None
@@ -390,29 +391,37 @@ statement_stops (say.Open n) rest h k = absurd h
 statement_stops (say.Value w n next) rest h k = absurd h
 statement_stops (say.Symbol s) rest h k = absurd h
 statement_stops (say.Common n step) rest h k = absurd h
+statement_stops (say.Local n) rest h k = absurd h
 
 -- a line whose comment ends it
 abbrev pub Trails : List ℕ → Type 0
 Trails note = (tail : List ℕ) → Ends (note ++ (10 ∷ tail)) tail
 
 abbrev pub IsRead : Line → Type 0
-IsRead l = HasText l.says × Trails l.note
+IsRead (Says s note) = HasText s × Trails note
+IsRead (Labels a) = ⊥
+IsRead (Aims instr target note) = ⊥
+IsRead (Starts a) = ⊥
 
 -- a line is read as what it says
-pub line_back : (d : Layout) (l : Line) (tail : List ℕ) → IsRead l → line_at d (line_of l ++ tail) ≡ Some (l.says, tail)
+pub line_back : (d : Layout) (s : Statement) (note tail : List ℕ) → HasText s → Trails note → line_at d (line_of (Says s note) ++ tail) ≡ Some (s, tail)
 unfolding ended_at
-line_back d l tail h =
-    let rest = l.note ++ (10 ∷ tail) in
-    let ends = h.1 tail in
-    ap (line_at d) (three (statement_text l.says) l.note (10 ∷ []) tail)
-    ∙ unlabelled d (statement_text l.says ++ rest) (statement_stops l.says rest h.0 ends.stop)
-    ∙ rw (statement_back d l.says rest tail h.0 ends, ends.over) refl
+line_back d s note tail h trails =
+    let rest = note ++ (10 ∷ tail) in
+    let ends = trails tail in
+    ap (line_at d) (three (statement_text s) note (10 ∷ []) tail)
+    ∙ unlabelled d (statement_text s ++ rest) (statement_stops s rest h ends.stop)
+    ∙ rw (statement_back d s rest tail h ends, ends.over) refl
 
 -- where a line is read next, the next part is that line
 first_found : (d : Layout) (text : List ℕ) (read : Statement × List ℕ) → line_at d text ≡ Some read → first_at d text ≡ Some read
 first_found d text read h = rw h refl
 
-pub part_back : (d : Layout) (l : Line) (tail : List ℕ) → d.next ≡ go.Line → IsRead l → next_at d (line_of l ++ tail) ≡ Some (l.says, tail)
+pub next_back : (d : Layout) (text : List ℕ) (read : Statement × List ℕ) → d.next ≡ go.Line → line_at d text ≡ Some read → next_at d text ≡ Some read
 unfolding next_at
-part_back d l tail line h =
-    ap (λ (n : Next). part_at n d (line_of l ++ tail)) line ∙ first_found d (line_of l ++ tail) (l.says, tail) (line_back d l tail h)
+next_back d text read line h = ap (λ (n : Next). part_at n d text) line ∙ first_found d text read h
+
+-- a statement is read with the end of its line
+pub ended_back : (d : Layout) (s : Statement) (text rest tail : List ℕ) → Ends rest tail → statement_at d text ≡ Some (s, rest) → ended_at d text ≡ Some (s, tail)
+unfolding ended_at
+ended_back d s text rest tail e h = rw (h, e.over) refl

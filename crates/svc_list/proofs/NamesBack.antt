@@ -1,17 +1,21 @@
 -- A name or a number is read back from its text.
-use Rattle.std.proofs.Common.{◌≡◌, ℕ, zero, suc, ◌+◌, ◌*◌, ◌/◌, ◌%◌, ◌^◌, ◌<◌, Bool, true, false, not, ◌&&◌, ◌==◌, nat_lt, List, [], ◌∷◌, ◌++◌, length, Some, None, refl, ap, ◌∙◌, arith, decimal, take_while, slice_index}
+use Rattle.std.proofs.Common.{◌≡◌, ℕ, zero, suc, ◌+◌, ◌*◌, ◌/◌, ◌%◌, ◌^◌, ◌<◌, Bool, true, false, not, ◌&&◌, ◌||◌, ◌==◌, nat_lt, List, [], ◌∷◌, ◌++◌, length, Some, None, refl, ap, ◌∙◌, arith, decimal, take_while, slice_index}
 use Rattle.std.proofs.lemmas.List.Sums.{take_while-cons}
 use Rattle.std.proofs.lemmas.Bool.{and_parts, and_from, not-true, le-leb, ne_eqb, agree_below_at}
 use Rattle.std.proofs.lemmas.Fmt.{decimal_by_steps}
 use Rattle.std.proofs.lemmas.List.{length-append}
 use Rattle.svc_draft.specs.Options.{◌>>=◌}
-use Rattle.svc_operands.specs.Characters.{is_space, is_name, past, name_at, past_name, behind, digit, push_digit, value_on, behind_zero, number_of}
+use Rattle.svc_operands.specs.Characters.{is_space, opens, is_name, past_blanks, past_spaces, past, name_at, past_name, behind, digit, push_digit, value_on, behind_zero, number_of}
 use Rattle.svc_operands.specs.Values.{sum_from}
 use Rattle.svc_asm.specs.Statements.{end_at}
 
--- a character of a name, which no space is
+-- a space, or the slash that opens a comment
+abbrev pub is_blank : ℕ → Bool
+is_blank c = is_space c || c == 47
+
+-- a character of a name, which is no space and opens no comment
 abbrev pub dense : ℕ → Bool
-dense c = is_name c && not (is_space c)
+dense c = is_name c && not (is_blank c)
 
 abbrev pub all_dense : List ℕ → Bool
 all_dense [] = true
@@ -22,13 +26,18 @@ abbrev pub stops : List ℕ → Bool
 stops [] = true
 stops (c ∷ cs) = not (is_name c) && not (c == 58)
 
+-- neither of two tests passes
+or_false : (a b : Bool) → (a || b) ≡ false → (a ≡ false) × (b ≡ false)
+or_false true b h = absurd (cc)
+or_false false b h = (refl, h)
+
 name_front : (w rest : List ℕ) → all_dense w ≡ true → stops rest ≡ true → take_while is_name (w ++ rest) ≡ w
 name_front [] [] h k = refl
 name_front [] (c ∷ rest) h k =
     let n : is_name c ≡ false = not-true (is_name c) (and_parts (not (is_name c)) (not (c == 58)) k).0 in
     rw (take_while-cons is_name c rest, n) refl
 name_front (c ∷ w) rest h k =
-    let n : is_name c ≡ true = (and_parts (is_name c) (not (is_space c)) (and_parts (dense c) (all_dense w) h).0).0 in
+    let n : is_name c ≡ true = (and_parts (is_name c) (not (is_blank c)) (and_parts (dense c) (all_dense w) h).0).0 in
     rw (take_while-cons is_name c (w ++ rest), n) (ap (λ xs. c ∷ xs) (name_front w rest (and_parts (dense c) (all_dense w) h).1 k))
 
 name_behind : (w rest : List ℕ) → all_dense w ≡ true → stops rest ≡ true → past is_name (w ++ rest) ≡ rest
@@ -36,14 +45,20 @@ unfolding past
 name_behind [] [] h k = refl
 name_behind [] (c ∷ rest) h k = let n : is_name c ≡ false = not-true (is_name c) (and_parts (not (is_name c)) (not (c == 58)) k).0 in rw n refl
 name_behind (c ∷ w) rest h k =
-    let n : is_name c ≡ true = (and_parts (is_name c) (not (is_space c)) (and_parts (dense c) (all_dense w) h).0).0 in
+    let n : is_name c ≡ true = (and_parts (is_name c) (not (is_blank c)) (and_parts (dense c) (all_dense w) h).0).0 in
     rw n (name_behind w rest (and_parts (dense c) (all_dense w) h).1 k)
 
-pub no_space : (c : ℕ) (w rest : List ℕ) → all_dense (c ∷ w) ≡ true → past is_space ((c ∷ w) ++ rest) ≡ (c ∷ w) ++ rest
-unfolding past
+-- where no slash stands, no comment opens
+pub no_slash : (c : ℕ) (rest : List ℕ) → (c == 47) ≡ false → opens c rest ≡ false
+no_slash c [] h = refl
+no_slash c (d ∷ rest) h = rw h refl
+
+pub no_space : (c : ℕ) (w rest : List ℕ) → all_dense (c ∷ w) ≡ true → past_spaces ((c ∷ w) ++ rest) ≡ (c ∷ w) ++ rest
+unfolding past_blanks
 no_space c w rest h =
-    let n : is_space c ≡ false = not-true (is_space c) (and_parts (is_name c) (not (is_space c)) (and_parts (dense c) (all_dense w) h).0).1 in
-    rw n refl
+    let blank : is_blank c ≡ false = not-true (is_blank c) (and_parts (is_name c) (not (is_blank c)) (and_parts (dense c) (all_dense w) h).0).1 in
+    let parts = or_false (is_space c) (c == 47) blank in
+    rw (parts.0, no_slash c (w ++ rest) parts.1) refl
 
 pub at_name : (c : ℕ) (w rest : List ℕ) → all_dense (c ∷ w) ≡ true → stops rest ≡ true → name_at ((c ∷ w) ++ rest) ≡ c ∷ w
 at_name c w rest h k = ap (take_while is_name) (no_space c w rest h) ∙ name_front (c ∷ w) rest h k
@@ -55,7 +70,7 @@ at_rest c w rest h k = ap (past is_name) (no_space c w rest h) ∙ name_behind (
 pub record Ends (rest tail : List ℕ) : Type 0 where
   pub stop : stops rest ≡ true
   pub no_name : name_at rest ≡ []
-  pub no_sign : (n : ℕ) → sum_from n rest (past is_space rest) ≡ Some (n, rest)
+  pub no_sign : (n : ℕ) → sum_from n rest (past_spaces rest) ≡ Some (n, rest)
   pub over : end_at rest ≡ Some tail
 
 pub no_colon : (rest : List ℕ) → stops rest ≡ true → behind 58 rest ≡ None
@@ -63,8 +78,8 @@ no_colon [] k = refl
 no_colon (c ∷ rest) k = let n : (c == 58) ≡ false = not-true (c == 58) (and_parts (not (is_name c)) (not (c == 58)) k).1 in rw n refl
 
 -- a space in front changes nothing
-pub spaced : (text : List ℕ) → past is_space (32 ∷ text) ≡ past is_space text
-unfolding past
+pub spaced : (text : List ℕ) → past_spaces (32 ∷ text) ≡ past_spaces text
+unfolding past_blanks
 spaced text = refl
 
 -- digits are dense characters, have their values, and are no marks

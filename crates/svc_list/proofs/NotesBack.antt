@@ -2,9 +2,10 @@
 use Rattle.std.proofs.Common.{◌≡◌, ℕ, suc, ◌+◌, ◌/◌, ◌%◌, ◌^◌, true, false, ◌==◌, nat_lt, List, [], ◌∷◌, ◌++◌, drop, Some, inl, inr, refl, ap, arith, codes}
 use Rattle.std.specs.List.{AllByRecursion}
 use Rattle.std.proofs.lemmas.Bool.{le-leb, lt-leb, cases_lt, ne_eqb}
-use Rattle.svc_operands.specs.Characters.{is_name, past}
+use Rattle.svc_operands.specs.Characters.{is_name, past_blanks, past}
 use Rattle.svc_asm.specs.Statements.{is_inside, end_at}
 use Rattle.svc_list.specs.Listings.{hex_digit, hex_text, address_note, word_note}
+use Rattle.svc_list.proofs.NamesBack.{no_slash}
 use Rattle.svc_list.proofs.LinesBack.{Trails}
 
 -- a character of a comment
@@ -56,17 +57,19 @@ inside_front (c ∷ cs) tail h = rw h.0 (inside_front cs tail h.1)
 
 -- without a comment
 pub bare_ends : Trails []
-unfolding past is_name end_at
-bare_ends tail = record { stop = refl; no_name = refl; no_sign = λ n. refl; over = refl }
+unfolding past_blanks is_name end_at
+bare_ends tail = let feed = no_slash 10 tail refl in record { stop = refl; no_name = rw feed refl; no_sign = λ n. rw feed refl; over = rw feed refl }
 
 note_ends : (cs : List ℕ) → AreInside cs → Trails (9 ∷ 35 ∷ cs)
-unfolding past is_name end_at
-note_ends cs h tail = record {
-  stop = refl;
-  no_name = refl;
-  no_sign = λ n. refl;
-  over = ap (λ (xs : List ℕ). Some (drop 1 xs)) (inside_front cs tail h);
-}
+unfolding past_blanks is_name end_at
+note_ends cs h tail =
+    let mark = no_slash 35 (cs ++ (10 ∷ tail)) refl in
+    record {
+      stop = refl;
+      no_name = rw mark refl;
+      no_sign = λ n. rw mark refl;
+      over = rw mark (ap (λ (xs : List ℕ). Some (drop 1 xs)) (inside_front cs tail h));
+    }
 
 pub address_ends : (address : ℕ) → Trails (address_note address)
 address_ends address = note_ends (codes " 0x" ++ hex_text address) (refl, (refl, (refl, hex_alone address)))

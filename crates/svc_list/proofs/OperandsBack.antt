@@ -8,14 +8,15 @@ use Rattle.svc_rv32i.specs.declared.instr.Long.{Long}
 use Rattle.svc_rv32i.specs.declared.instr.ShiftAmount.{ShiftAmount}
 use Rattle.svc_rv32i.specs.Meaning.{register, short, long}
 use Rattle.svc_operands.specs.declared.operands.Signed.{Signed}
-use Rattle.svc_operands.specs.Characters.{is_name, past, name_at, past_name, behind, mark_at, value_on, value_of, number_of}
+use Rattle.svc_operands.specs.Characters.{is_name, past_blanks, past, name_at, past_name, behind, mark_at, value_on, value_of, number_of}
 use Rattle.svc_draft.specs.Layouts.{Layout}
 use Rattle.svc_operands.specs.Names.{numbered, register_named}
-use Rattle.svc_operands.specs.Operands.{register_at, first_register_at, number_at, behind_sign, signed_from, signed_at, offset_at, wrapped, short_of, halved, branch_of, jump_of, upper_of, amount, amount_of, number_short_at, branch_at, jump_at, number_upper_at, amount_at}
+use Rattle.svc_operands.specs.Operands.{register_at, first_register_at, number_at, behind_sign, signed_from, signed_at, wrapped, short_of, halved, branch_of, jump_of, upper_of, amount, amount_of, number_short_at, number_upper_at, amount_at}
+use Rattle.svc_operands.specs.Targets.{offset_at, branch_at, jump_at}
 use Rattle.svc_operands.specs.Values.{plain_term_at, term_from, term_at, value_at, short_at, upper_at, address_at}
 use Rattle.svc_list.specs.Listings.{register_text, first_text, short_text, offset_text, address_text, upper_text}
 use Rattle.svc_operands.proofs.Same.{same_register, same_short, same_long, same_amount}
-use Rattle.svc_list.proofs.NamesBack.{all_dense, stops, Ends, at_name, at_rest, no_space, is_digit, digit_no_minus, all_digits, first_digit, digits_dense, numerals}
+use Rattle.svc_list.proofs.NamesBack.{all_dense, stops, Ends, at_name, at_rest, no_slash, no_space, is_digit, digit_no_minus, all_digits, first_digit, digits_dense, numerals}
 
 number_of_decimal : (n : ℕ) → n < 2 ^ 32 → number_of (decimal n) ≡ Some n
 number_of_decimal n h = (numerals n (omega arith) h).reads
@@ -30,7 +31,7 @@ digits_rest (c ∷ ds) rest h k s = at_rest c ds rest (digits_dense (c ∷ ds) h
 
 -- the name behind a space, which has some characters
 pub spaced_name : (n : ℕ) (rest : List ℕ) → n < 2 ^ 32 → stops rest ≡ true → name_at (32 ∷ (decimal n ++ rest)) ≡ decimal n
-unfolding past
+unfolding past past_blanks
 spaced_name n rest h s =
     let facts = numerals n (omega arith) h in
     digits_name (decimal n) rest facts.digits facts.some s
@@ -46,19 +47,19 @@ number_back n rest h s =
     rw (digits_name (decimal n) rest facts.digits facts.some s, digits_rest (decimal n) rest facts.digits facts.some s, number_of_decimal n h) refl
 
 pub spaced_number_back : (n : ℕ) (rest : List ℕ) → n < 2 ^ 32 → stops rest ≡ true → number_at (32 ∷ (decimal n ++ rest)) ≡ Some (n, rest)
-unfolding number_at past
-spaced_number_back n rest h s = number_back n rest h s
+unfolding number_at past past_blanks
+spaced_number_back n rest h s =
+    let facts = numerals n (omega arith) h in
+    rw (digits_name (decimal n) rest facts.digits facts.some s, digits_rest (decimal n) rest facts.digits facts.some s, number_of_decimal n h) refl
 
 -- a number where a value stands
 plain_back : (d : Layout) (n : ℕ) (rest : List ℕ) → n < 2 ^ 32 → stops rest ≡ true → plain_term_at d (decimal n ++ rest) ≡ Some (n, rest)
 unfolding plain_term_at
-plain_back d n rest h s =
-    let facts = numerals n (omega arith) h in
-    rw (digits_name (decimal n) rest facts.digits facts.some s, digits_rest (decimal n) rest facts.digits facts.some s, number_of_decimal n h) refl
+plain_back d n rest h s = rw (number_back n rest h s) refl
 
 -- digits have no sign
 term_digits : (d : Layout) (ds rest : List ℕ) → all_digits ds ≡ true → 0 < length ds → term_at d (32 ∷ (ds ++ rest)) ≡ plain_term_at d (ds ++ rest)
-unfolding term_at past
+unfolding term_at past past_blanks
 term_digits d [] rest h k = absurd (omega (arith, k))
 term_digits d (c ∷ ds) rest h k =
     let here = no_space c ds rest (digits_dense (c ∷ ds) h) in
@@ -97,13 +98,13 @@ register_back r rest s =
     rw (at_name 120 (decimal r.number) rest dense s, at_rest 120 (decimal r.number) rest dense s, named_back r) refl
 
 pub spaced_register_back : (r : Register) (rest : List ℕ) → stops rest ≡ true → register_at (32 ∷ (register_text r ++ rest)) ≡ Some (r, rest)
-unfolding register_at past
+unfolding register_at past past_blanks
 spaced_register_back r rest s = register_back r rest s
 
 pub first_back : (r : Register) (rest : List ℕ) → first_register_at (first_text r ++ rest) ≡ Some (r, rest)
-unfolding first_register_at past is_name
+unfolding first_register_at past past_blanks is_name
 first_back r rest =
-    rw (append_assoc (register_text r) (44 ∷ []) rest, spaced_register_back r (44 ∷ rest) refl) refl
+    rw (append_assoc (register_text r) (44 ∷ []) rest, spaced_register_back r (44 ∷ rest) refl, no_slash 44 rest refl) refl
 
 -- no digit is a percent sign
 no_percent : is_digit 37 ≡ true → ⊥
@@ -111,7 +112,7 @@ unfolding is_name
 no_percent h = absurd (cc)
 
 -- what a sign, and the number behind it, are read as
-abbrev sign : Bool → ℕ → Signed
+abbrev pub sign : Bool → ℕ → Signed
 sign negative n = record { negative = negative; magnitude = n }
 
 behind_sign_back : (negative : Bool) (n : ℕ) (rest : List ℕ) → n < 2 ^ 32 → stops rest ≡ true → behind_sign negative (decimal n ++ rest) ≡ Some (sign negative n, rest)
@@ -124,27 +125,27 @@ spaced_sign_back negative n rest h s = rw (spaced_number_back n rest h s) refl
 
 -- digits have no sign
 signed_digits : (ds rest : List ℕ) → all_digits ds ≡ true → 0 < length ds → signed_at (32 ∷ (ds ++ rest)) ≡ behind_sign false (ds ++ rest)
-unfolding signed_at past
+unfolding signed_at past past_blanks
 signed_digits [] rest h k = absurd (omega (arith, k))
 signed_digits (c ∷ ds) rest h k =
     let here = no_space c ds rest (digits_dense (c ∷ ds) h) in
     let minus : (c == 45) ≡ false = digit_no_minus c (first_digit c ds h) in
     ap signed_from here ∙ rw minus refl
 
-wrapped_low : (half n : ℕ) → n < half → wrapped half (sign false n) ≡ Some n
+pub wrapped_low : (half n : ℕ) → n < half → wrapped half (sign false n) ≡ Some n
 wrapped_low half n h = let low : nat_lt n half ≡ true = le-leb (suc n) half (omega (arith, h)) in rw low refl
 
-wrapped_high : (half n : ℕ) → half ≤ n → n < 2 * half → wrapped half (sign true (2 * half - n)) ≡ Some n
+pub wrapped_high : (half n : ℕ) → half ≤ n → n < 2 * half → wrapped half (sign true (2 * half - n)) ≡ Some n
 wrapped_high half n h k =
     let most : nat_le (2 * half - n) half ≡ true = le-leb (2 * half - n) half (omega (arith, h, k)) in
     let back : 2 * half - (2 * half - n) ≡ n = omega (arith, h, k) in
     rw (most, back) refl
 
-short_is : (imm : Short) → short imm.bits ≡ imm
+pub short_is : (imm : Short) → short imm.bits ≡ imm
 unfolding short
 short_is imm = same_short (short imm.bits) imm (omega (arith, imm.in_range))
 
-long_is : (imm : Long) → long imm.bits ≡ imm
+pub long_is : (imm : Long) → long imm.bits ≡ imm
 unfolding long
 long_is imm = same_long (long imm.bits) imm (omega (arith, imm.in_range))
 
@@ -158,7 +159,7 @@ unfolding is_name
 digit_no_percent c h = elim (cases_eq c 37) [ inl same ↦ absurd (no_percent (subst (λ (x : ℕ). is_digit x ≡ true) same h)) | inr other ↦ ne_eqb c 37 other ]
 
 no_mark : (ds rest : List ℕ) → all_digits ds ≡ true → 0 < length ds → mark_at 37 (32 ∷ (ds ++ rest)) ≡ None
-unfolding past
+unfolding past past_blanks
 no_mark [] rest h k = absurd (omega (arith, k))
 no_mark (c ∷ ds) rest h k =
     let here = no_space c ds rest (digits_dense (c ∷ ds) h) in
@@ -176,18 +177,18 @@ short_low imm rest s h =
     rw (low, read, wrapped_low 2048 imm.bits h) (ap (λ x. Some (x, rest)) (short_is imm))
 
 short_high : (imm : Short) (rest : List ℕ) → stops rest ≡ true → 2048 ≤ imm.bits → number_short_at (short_text imm ++ rest) ≡ Some (imm, rest)
-unfolding number_short_at short_of signed_at past
+unfolding number_short_at short_of signed_at past past_blanks
 short_high imm rest s h =
     let high : nat_lt imm.bits 2048 ≡ false = lt-leb (suc imm.bits) 2048 (omega (arith, h)) in
     let read : behind_sign true (decimal (2 * 2048 - imm.bits) ++ rest) ≡ Some (sign true (2 * 2048 - imm.bits), rest) =
     behind_sign_back true (2 * 2048 - imm.bits) rest (omega arith) s in
-    rw (high, read, wrapped_high 2048 imm.bits h (omega (arith, imm.in_range))) (ap (λ x. Some (x, rest)) (short_is imm))
+    rw (high, no_slash 45 (decimal (2 * 2048 - imm.bits) ++ rest) refl, read, wrapped_high 2048 imm.bits h (omega (arith, imm.in_range))) (ap (λ x. Some (x, rest)) (short_is imm))
 
 number_short_back : (imm : Short) (rest : List ℕ) → stops rest ≡ true → number_short_at (short_text imm ++ rest) ≡ Some (imm, rest)
 number_short_back imm rest s = elim (cases_lt imm.bits 2048) [ inl h ↦ short_low imm rest s h | inr h ↦ short_high imm rest s h ]
 
 short_no_mark : (imm : Short) (rest : List ℕ) → mark_at 37 (short_text imm ++ rest) ≡ None
-unfolding past
+unfolding past past_blanks
 short_no_mark imm rest =
     elim (cases_lt imm.bits 2048) [
       | inl h ↦
@@ -196,7 +197,7 @@ short_no_mark imm rest =
           rw low (no_mark (decimal imm.bits) rest facts.digits facts.some)
       | inr h ↦
           let high : nat_lt imm.bits 2048 ≡ false = lt-leb (suc imm.bits) 2048 (omega (arith, h)) in
-          rw high refl
+          rw (high, no_slash 45 (decimal (2 * 2048 - imm.bits) ++ rest) refl) refl
     ]
 
 pub short_back : (d : Layout) (imm : Short) (rest : List ℕ) → stops rest ≡ true → short_at d (short_text imm ++ rest) ≡ Some (imm, rest)
@@ -205,18 +206,18 @@ short_back d imm rest s = rw (short_no_mark imm rest) (number_short_back imm res
 
 -- an offset is read as its sign and twice its steps
 offset_low : (d : Layout) (half n : ℕ) (rest : List ℕ) → stops rest ≡ true → half ≤ 524288 → n < half → offset_at d (offset_text half n ++ rest) ≡ Some (sign false (2 * n), rest)
-unfolding offset_at past is_name
+unfolding offset_at past past_blanks is_name
 offset_low d half n rest s small h =
     let low : nat_lt n half ≡ true = le-leb (suc n) half (omega (arith, h)) in
     rw low (spaced_sign_back false (2 * n) rest (omega (arith, h, small)) s)
 
 offset_high : (d : Layout) (half n : ℕ) (rest : List ℕ) → stops rest ≡ true → half ≤ 524288 → half ≤ n → n < 2 * half → offset_at d (offset_text half n ++ rest) ≡ Some (sign true (2 * (2 * half - n)), rest)
-unfolding offset_at past is_name
+unfolding offset_at past past_blanks is_name
 offset_high d half n rest s small h k =
     let high : nat_lt n half ≡ false = lt-leb (suc n) half (omega (arith, h)) in
     rw high (spaced_sign_back true (2 * (2 * half - n)) rest (omega (arith, h, k, small)) s)
 
-halved_double : (negative : Bool) (n : ℕ) → halved (sign negative (2 * n)) ≡ Some (sign negative n)
+pub halved_double : (negative : Bool) (n : ℕ) → halved (sign negative (2 * n)) ≡ Some (sign negative n)
 halved_double negative n =
     let even : 2 * n % 2 ≡ 0 = omega arith in
     let half : 2 * n / 2 ≡ n = omega arith in
@@ -264,8 +265,8 @@ amount_back a rest s =
     rw (spaced_number_back a.bits rest (omega (arith, a.in_range)) s, fits) (ap (λ x. Some (x, rest)) (amount_is a))
 
 pub address_back : (d : Layout) (imm : Short) (base : Register) (rest : List ℕ) → address_at d (address_text imm base ++ rest) ≡ Some ((imm, base), rest)
-unfolding address_at past is_name
+unfolding address_at past past_blanks is_name
 address_back d imm base rest =
     let inside = register_text base ++ (41 ∷ []) in
     ap (address_at d) (append_assoc (short_text imm) (40 ∷ inside) rest ∙ ap (λ x. short_text imm ++ (40 ∷ x)) (append_assoc (register_text base) (41 ∷ []) rest))
-    ∙ rw (short_back d imm (40 ∷ (register_text base ++ (41 ∷ rest))) refl, register_back base (41 ∷ rest) refl) refl
+    ∙ rw (short_back d imm (40 ∷ (register_text base ++ (41 ∷ rest))) refl, register_back base (41 ∷ rest) refl, no_slash 41 rest refl) refl

@@ -1,5 +1,5 @@
 -- The parts of a listing, one after another.
-use Rattle.std.proofs.Common.{◌≡◌, ℕ, zero, suc, ◌+◌, ◌*◌, ◌<◌, ◌≤◌, true, false, ◌==◌, List, [], ◌∷◌, ◌++◌, length, take, drop, slice_index, Option, refl, ap, sym, ◌∙◌, arith, add-one, drop-cons, append_assoc}
+use Rattle.std.proofs.Common.{Bool, ◌≡◌, ℕ, zero, suc, ◌+◌, ◌*◌, ◌<◌, ◌≤◌, true, false, ◌==◌, List, [], ◌∷◌, ◌++◌, length, take, drop, slice_index, Option, refl, ap, sym, ◌∙◌, arith, add-one, drop-cons, append_assoc}
 use Rattle.std.proofs.lemmas.Bool.{eq-eqb, ne_eqb}
 use Rattle.std.proofs.lemmas.List.{append-nil}
 use Rattle.svc_rv32i.specs.Meaning.{register}
@@ -7,7 +7,7 @@ use Rattle.svc_image.specs.declared.version.Version.{Version}
 use Rattle.svc_image.specs.declared.version.Version.TheVariants as version
 use Rattle.svc_image.specs.Image.{Image}
 use Rattle.svc_draft.specs.declared.statement.Statement.TheVariants as say
-use Rattle.svc_list.specs.Listings.{Line, bare, line_of, text_of, coded, datum, setting, settings, own_limit, marks, code, data_lines, all_data, head_lines, lines_of, listing_of}
+use Rattle.svc_list.specs.Listings.{label_text, Labels, Line, bare, line_of, text_of, coded, Starts, labels, is_labelled, datum, setting, settings, own_limit, marks, code, data_lines, all_data, head_lines, lines_of, listing_of}
 
 -- what is put, and what is left to put, is the whole
 pub goes_on : (out new line part rest whole : List ℕ) → new ≡ out ++ line → part ≡ line ++ rest → out ++ part ≡ whole → new ++ rest ≡ whole
@@ -31,7 +31,7 @@ pub data_none : (words : List ℕ) (i n : ℕ) → length words ≤ i → text_o
 unfolding text_of
 data_none words i n h = rw (none_left words i h) refl
 
-text_both : (ss ts : List Line) → text_of (ss ++ ts) ≡ text_of ss ++ text_of ts
+pub text_both : (ss ts : List Line) → text_of (ss ++ ts) ≡ text_of ss ++ text_of ts
 unfolding text_of
 text_both [] ts = refl
 text_both (s ∷ ss) ts = ap (λ (xs : List ℕ). line_of s ++ xs) (text_both ss ts) ∙ sym (append_assoc (line_of s) (text_of ss) (text_of ts))
@@ -44,32 +44,39 @@ unfolding text_of
 settings_none values i n h = rw (none_left values i h) refl
 
 -- a word at which an entry stands, and one at which none stands
-pub entry_step : (n : ℕ) (m : ℕ × Option ℕ) (w : ℕ) (ms : List (ℕ × Option ℕ)) (ws : List ℕ) → m.0 ≡ 4 * n → text_of (code n (m ∷ ms) (w ∷ ws)) ≡ line_of (bare (say.Entry m.1)) ++ (line_of (coded (4 * n) w) ++ text_of (code (suc n) ms ws))
+pub entry_step : (count : ℕ) (is : ℕ → Bool) (n : ℕ) (m : ℕ × Option ℕ) (w : ℕ) (ms : List (ℕ × Option ℕ)) (ws : List ℕ) → m.0 ≡ 4 * n
+    → text_of (code count is n (m ∷ ms) (w ∷ ws)) ≡ text_of (labels is n) ++ (line_of (bare (say.Entry m.1)) ++ (line_of (coded count (4 * n) w) ++ text_of (code count is (suc n) ms ws)))
 unfolding text_of code
-entry_step n m w ms ws same = let here : (m.0 == 4 * n) ≡ true = eq-eqb m.0 (4 * n) same in rw here refl
+entry_step count is n m w ms ws same =
+    let here : (m.0 == 4 * n) ≡ true = eq-eqb m.0 (4 * n) same in
+    rw here (text_both (labels is n) (bare (say.Entry m.1) ∷ coded count (4 * n) w ∷ code count is (suc n) ms ws))
 
-other_step : (n : ℕ) (m : ℕ × Option ℕ) (w : ℕ) (ms : List (ℕ × Option ℕ)) (ws : List ℕ) → (m.0 ≡ 4 * n → ⊥) → text_of (code n (m ∷ ms) (w ∷ ws)) ≡ line_of (coded (4 * n) w) ++ text_of (code (suc n) (m ∷ ms) ws)
+other_step : (count : ℕ) (is : ℕ → Bool) (n : ℕ) (m : ℕ × Option ℕ) (w : ℕ) (ms : List (ℕ × Option ℕ)) (ws : List ℕ) → (m.0 ≡ 4 * n → ⊥)
+    → text_of (code count is n (m ∷ ms) (w ∷ ws)) ≡ text_of (labels is n) ++ (line_of (coded count (4 * n) w) ++ text_of (code count is (suc n) (m ∷ ms) ws))
 unfolding text_of code
-other_step n m w ms ws other = let here : (m.0 == 4 * n) ≡ false = ne_eqb m.0 (4 * n) other in rw here refl
+other_step count is n m w ms ws other =
+    let here : (m.0 == 4 * n) ≡ false = ne_eqb m.0 (4 * n) other in
+    rw here (text_both (labels is n) (coded count (4 * n) w ∷ code count is (suc n) (m ∷ ms) ws))
 
-last_step : (n w : ℕ) (ws : List ℕ) → text_of (code n [] (w ∷ ws)) ≡ line_of (coded (4 * n) w) ++ text_of (code (suc n) [] ws)
+last_step : (count : ℕ) (is : ℕ → Bool) (n w : ℕ) (ws : List ℕ) → text_of (code count is n [] (w ∷ ws)) ≡ text_of (labels is n) ++ (line_of (coded count (4 * n) w) ++ text_of (code count is (suc n) [] ws))
 unfolding text_of code
-last_step n w ws = refl
+last_step count is n w ws = text_both (labels is n) (coded count (4 * n) w ∷ code count is (suc n) [] ws)
 
 -- no entry stands at the word
-pub none_step : (v : Version) (es ls : List ℕ) (n w : ℕ) (ws : List ℕ) → ((e l : ℕ) (fs ks : List ℕ) → es ≡ e ∷ fs → ls ≡ l ∷ ks → e ≡ 4 * n → ⊥) → text_of (code n (marks v es ls) (w ∷ ws)) ≡ line_of (coded (4 * n) w) ++ text_of (code (suc n) (marks v es ls) ws)
-none_step v [] ls n w ws other = last_step n w ws
-none_step v (e ∷ es) [] n w ws other = last_step n w ws
-none_step v (e ∷ es) (l ∷ ls) n w ws other = other_step n (e, own_limit v l) w (marks v es ls) ws (λ same. other e l es ls refl refl same)
+pub none_step : (count : ℕ) (is : ℕ → Bool) (v : Version) (es ls : List ℕ) (n w : ℕ) (ws : List ℕ) → ((e l : ℕ) (fs ks : List ℕ) → es ≡ e ∷ fs → ls ≡ l ∷ ks → e ≡ 4 * n → ⊥)
+    → text_of (code count is n (marks v es ls) (w ∷ ws)) ≡ text_of (labels is n) ++ (line_of (coded count (4 * n) w) ++ text_of (code count is (suc n) (marks v es ls) ws))
+none_step count is v [] ls n w ws other = last_step count is n w ws
+none_step count is v (e ∷ es) [] n w ws other = last_step count is n w ws
+none_step count is v (e ∷ es) (l ∷ ls) n w ws other = other_step count is n (e, own_limit v l) w (marks v es ls) ws (λ same. other e l es ls refl refl same)
 
-code_over : (n : ℕ) (ms : List (ℕ × Option ℕ)) → code n ms [] ≡ []
+code_over : (count : ℕ) (is : ℕ → Bool) (n : ℕ) (ms : List (ℕ × Option ℕ)) → code count is n ms [] ≡ []
 unfolding code
-code_over n [] = refl
-code_over n (m ∷ ms) = refl
+code_over count is n [] = refl
+code_over count is n (m ∷ ms) = refl
 
-pub code_none : (ms : List (ℕ × Option ℕ)) (words : List ℕ) (i n : ℕ) → length words ≤ i → text_of (code n ms (drop i words)) ≡ []
+pub code_none : (count : ℕ) (is : ℕ → Bool) (ms : List (ℕ × Option ℕ)) (words : List ℕ) (i n : ℕ) → length words ≤ i → text_of (code count is n ms (drop i words)) ≡ []
 unfolding text_of
-code_none ms words i n h = rw (none_left words i h, code_over n ms) refl
+code_none count is ms words i n h = rw (none_left words i h, code_over count is n ms) refl
 
 -- the data's lines where the first ones are read-only
 pub fixed_data : (n : ℕ) (front back : List ℕ) → text_of (data_lines 1048576 front ++ (bare say.ReadOnly ∷ data_lines (1048576 + 4 * n) back)) ≡ text_of (data_lines 1048576 front) ++ (line_of (bare say.ReadOnly) ++ text_of (data_lines (1048576 + 4 * n) back))
@@ -77,11 +84,11 @@ unfolding text_of
 fixed_data n front back = text_both (data_lines 1048576 front) (bare say.ReadOnly ∷ data_lines (1048576 + 4 * n) back)
 
 -- the listing, part by part
-pub listing_parts : (img : Image) → listing_of img ≡ text_of (head_lines img.version (slice_index img.limits 0) img.start) ++ (text_of (settings 1 img.registers) ++ (text_of (code 0 (marks img.version img.entries img.limits) img.text) ++ (line_of (bare say.Data) ++ text_of (all_data img.version img.read_only img.words))))
+pub listing_parts : (img : Image) → listing_of img ≡ text_of (head_lines img.version (slice_index img.limits 0) img.start) ++ (text_of (settings 1 img.registers) ++ (text_of (code (length img.text) (is_labelled img.entries img.text) 0 (marks img.version img.entries img.limits) img.text) ++ (line_of (bare say.Data) ++ text_of (all_data img.version img.read_only img.words))))
 unfolding listing_of lines_of text_of
 listing_parts img =
     let head = head_lines img.version (slice_index img.limits 0) img.start in
-    let words = code 0 (marks img.version img.entries img.limits) img.text in
+    let words = code (length img.text) (is_labelled img.entries img.text) 0 (marks img.version img.entries img.limits) img.text in
     let body = bare say.Data ∷ all_data img.version img.read_only img.words in
     text_both head (settings 1 img.registers ++ (words ++ body))
     ∙ ap (λ (xs : List ℕ). text_of head ++ xs) (text_both (settings 1 img.registers) (words ++ body)
@@ -123,18 +130,18 @@ three_lines o o₁ o₂ o₃ a b c e₁ e₂ e₃ =
     two_lines o₁ o₂ o₃ b c e₂ e₃ ∙ ap (λ (xs : List ℕ). xs ++ (b ++ (c ++ []))) e₁ ∙ append_assoc o a (b ++ (c ++ []))
 
 -- the lines before the registers, in each version
-pub head_one : (v : Version) (limit start : ℕ) (o o₁ o₂ o₃ : List ℕ) → v ≡ version.One → o₁ ≡ o ++ line_of (bare (say.Version v)) → o₂ ≡ o₁ ++ line_of (bare (say.Limit limit)) → o₃ ≡ o₂ ++ line_of (bare (say.Start start)) → o₃ ≡ o ++ text_of (head_lines v limit start)
+pub head_one : (v : Version) (limit start : ℕ) (o o₁ o₂ o₃ : List ℕ) → v ≡ version.One → o₁ ≡ o ++ line_of (bare (say.Version v)) → o₂ ≡ o₁ ++ line_of (bare (say.Limit limit)) → o₃ ≡ o₂ ++ line_of (Starts start) → o₃ ≡ o ++ text_of (head_lines v limit start)
 unfolding text_of
 head_one v limit start o o₁ o₂ o₃ one e₁ e₂ e₃ =
     let first : o₁ ≡ o ++ line_of (bare (say.Version version.One)) = e₁ ∙ ap (λ (x : Version). o ++ line_of (bare (say.Version x))) one in
-    three_lines o o₁ o₂ o₃ (line_of (bare (say.Version version.One))) (line_of (bare (say.Limit limit))) (line_of (bare (say.Start start))) first e₂ e₃
+    three_lines o o₁ o₂ o₃ (line_of (bare (say.Version version.One))) (line_of (bare (say.Limit limit))) (line_of (Starts start)) first e₂ e₃
     ∙ ap (λ (x : Version). o ++ text_of (head_lines x limit start)) (sym one)
 
-pub head_two : (v : Version) (limit start : ℕ) (o o₁ o₂ : List ℕ) → v ≡ version.Two → o₁ ≡ o ++ line_of (bare (say.Version v)) → o₂ ≡ o₁ ++ line_of (bare (say.Start start)) → o₂ ≡ o ++ text_of (head_lines v limit start)
+pub head_two : (v : Version) (limit start : ℕ) (o o₁ o₂ : List ℕ) → v ≡ version.Two → o₁ ≡ o ++ line_of (bare (say.Version v)) → o₂ ≡ o₁ ++ line_of (Starts start) → o₂ ≡ o ++ text_of (head_lines v limit start)
 unfolding text_of
 head_two v limit start o o₁ o₂ two e₁ e₂ =
     let first : o₁ ≡ o ++ line_of (bare (say.Version version.Two)) = e₁ ∙ ap (λ (x : Version). o ++ line_of (bare (say.Version x))) two in
-    two_lines o o₁ o₂ (line_of (bare (say.Version version.Two))) (line_of (bare (say.Start start))) first e₂
+    two_lines o o₁ o₂ (line_of (bare (say.Version version.Two))) (line_of (Starts start)) first e₂
     ∙ ap (λ (x : Version). o ++ text_of (head_lines x limit start)) (sym two)
 
 -- data of which the first words are read-only
@@ -148,29 +155,51 @@ split_put n words front back o o₁ o₂ o₃ f b e₁ e₂ e₃ =
     ∙ ap (λ (xs : List ℕ). o ++ text_of (data_lines 1048576 (take n words) ++ (bare say.ReadOnly ∷ data_lines (1048576 + 4 * n) xs))) b
 
 -- a word, and the rest of the text
-pub code_step : (ms left : List (ℕ × Option ℕ)) (words out new whole : List ℕ) (i : ℕ) → i < length words
-    → ((rest : List ℕ) → new ++ text_of (code (suc i) left rest) ≡ out ++ text_of (code i ms (slice_index words i ∷ rest)))
-    → out ++ text_of (code i ms (drop i words)) ≡ whole → new ++ text_of (code (i + 1) left (drop (i + 1) words)) ≡ whole
-code_step ms left words out new whole i low step so_far =
+pub code_step : (count : ℕ) (is : ℕ → Bool) (ms left : List (ℕ × Option ℕ)) (words out new whole : List ℕ) (i : ℕ) → i < length words
+    → ((rest : List ℕ) → new ++ text_of (code count is (suc i) left rest) ≡ out ++ text_of (code count is i ms (slice_index words i ∷ rest)))
+    → out ++ text_of (code count is i ms (drop i words)) ≡ whole → new ++ text_of (code count is (i + 1) left (drop (i + 1) words)) ≡ whole
+code_step count is ms left words out new whole i low step so_far =
     let next : i + 1 ≡ suc i = omega arith in
     let at : drop i words ≡ slice_index words i ∷ drop (suc i) words = drop-cons words i 0 low in
-    rw next (step (drop (suc i) words) ∙ ap (λ (xs : List ℕ). out ++ text_of (code i ms xs)) (sym at) ∙ so_far)
+    rw next (step (drop (suc i) words) ∙ ap (λ (xs : List ℕ). out ++ text_of (code count is i ms xs)) (sym at) ∙ so_far)
+
+-- a label that was put, and what is put behind it
+behind_label : (before o l part rest : List ℕ) (p : List ℕ) → o ≡ before ++ l → p ++ rest ≡ o ++ part → p ++ rest ≡ before ++ (l ++ part)
+behind_label before o l part rest p e k = k ∙ ap (λ (xs : List ℕ). xs ++ part) e ∙ append_assoc before l part
 
 -- a word behind the mark of its entry, and one where no entry stands
-pub mark_put : (v : Version) (n pc word limit : ℕ) (entries limits es ls words o o₁ o₂ : List ℕ) → pc ≡ 4 * n → entries ≡ pc ∷ es → limits ≡ limit ∷ ls
-    → o₁ ≡ o ++ line_of (bare (say.Entry (own_limit v limit))) → o₂ ≡ o₁ ++ line_of (coded pc word)
-    → o₂ ++ text_of (code (suc n) (marks v es ls) words) ≡ o ++ text_of (code n (marks v entries limits) (word ∷ words))
-mark_put v n pc word limit entries limits es ls words o o₁ o₂ same f g e₁ e₂ =
-    let at : line_of (coded pc word) ≡ line_of (coded (4 * n) word) = ap (λ (address : ℕ). line_of (coded address word)) same in
-    let step = entry_step n (pc, own_limit v limit) word (marks v es ls) words same in
-    let whole : text_of (code n (marks v entries limits) (word ∷ words)) ≡ text_of (code n (marks v (pc ∷ es) (limit ∷ ls)) (word ∷ words)) =
-    ap (λ (xs : List ℕ). text_of (code n (marks v xs limits) (word ∷ words))) f ∙ ap (λ (xs : List ℕ). text_of (code n (marks v (pc ∷ es) xs) (word ∷ words))) g in
-    two_put o o₁ o₂ (line_of (bare (say.Entry (own_limit v limit)))) (line_of (coded (4 * n) word)) (text_of (code n (marks v entries limits) (word ∷ words))) (text_of (code (suc n) (marks v es ls) words)) e₁ (e₂ ∙ ap (λ (xs : List ℕ). o₁ ++ xs) at) (whole ∙ step)
+pub mark_put : (count : ℕ) (is : ℕ → Bool) (v : Version) (n pc word limit : ℕ) (entries limits es ls words before o o₁ o₂ : List ℕ) → pc ≡ 4 * n → entries ≡ pc ∷ es → limits ≡ limit ∷ ls → o ≡ before ++ text_of (labels is n)
+    → o₁ ≡ o ++ line_of (bare (say.Entry (own_limit v limit))) → o₂ ≡ o₁ ++ line_of (coded count pc word)
+    → o₂ ++ text_of (code count is (suc n) (marks v es ls) words) ≡ before ++ text_of (code count is n (marks v entries limits) (word ∷ words))
+mark_put count is v n pc word limit entries limits es ls words before o o₁ o₂ same f g put e₁ e₂ =
+    let at : line_of (coded count pc word) ≡ line_of (coded count (4 * n) word) = ap (λ (address : ℕ). line_of (coded count address word)) same in
+    let rest = text_of (code count is (suc n) (marks v es ls) words) in
+    let entry = line_of (bare (say.Entry (own_limit v limit))) in
+    let line = line_of (coded count (4 * n) word) in
+    let whole : text_of (code count is n (marks v entries limits) (word ∷ words)) ≡ text_of (labels is n) ++ (entry ++ (line ++ rest)) =
+    ap (λ (xs : List ℕ). text_of (code count is n (marks v xs limits) (word ∷ words))) f ∙ ap (λ (xs : List ℕ). text_of (code count is n (marks v (pc ∷ es) xs) (word ∷ words))) g
+    ∙ entry_step count is n (pc, own_limit v limit) word (marks v es ls) words same in
+    behind_label before o (text_of (labels is n)) (entry ++ (line ++ rest)) rest o₂ put (two_put o o₁ o₂ entry line (entry ++ (line ++ rest)) rest e₁ (e₂ ∙ ap (λ (xs : List ℕ). o₁ ++ xs) at) refl)
+    ∙ ap (λ (xs : List ℕ). before ++ xs) (sym whole)
 
-pub word_put : (v : Version) (n pc word : ℕ) (entries limits words o o₁ : List ℕ) → pc ≡ 4 * n → ((e l : ℕ) (es ls : List ℕ) → entries ≡ e ∷ es → limits ≡ l ∷ ls → e ≡ pc → ⊥)
-    → o₁ ≡ o ++ line_of (coded pc word)
-    → o₁ ++ text_of (code (suc n) (marks v entries limits) words) ≡ o ++ text_of (code n (marks v entries limits) (word ∷ words))
-word_put v n pc word entries limits words o o₁ same other e₁ =
-    let at : line_of (coded pc word) ≡ line_of (coded (4 * n) word) = ap (λ (address : ℕ). line_of (coded address word)) same in
-    one_put o o₁ (line_of (coded (4 * n) word)) (text_of (code n (marks v entries limits) (word ∷ words))) (text_of (code (suc n) (marks v entries limits) words)) (e₁ ∙ ap (λ (xs : List ℕ). o ++ xs) at)
-    (none_step v entries limits n word words (λ e l es ls f g here. other e l es ls f g (here ∙ sym same)))
+pub word_put : (count : ℕ) (is : ℕ → Bool) (v : Version) (n pc word : ℕ) (entries limits words before o o₁ : List ℕ) → pc ≡ 4 * n → ((e l : ℕ) (es ls : List ℕ) → entries ≡ e ∷ es → limits ≡ l ∷ ls → e ≡ pc → ⊥) → o ≡ before ++ text_of (labels is n)
+    → o₁ ≡ o ++ line_of (coded count pc word)
+    → o₁ ++ text_of (code count is (suc n) (marks v entries limits) words) ≡ before ++ text_of (code count is n (marks v entries limits) (word ∷ words))
+word_put count is v n pc word entries limits words before o o₁ same other put e₁ =
+    let at : line_of (coded count pc word) ≡ line_of (coded count (4 * n) word) = ap (λ (address : ℕ). line_of (coded count address word)) same in
+    let rest = text_of (code count is (suc n) (marks v entries limits) words) in
+    let line = line_of (coded count (4 * n) word) in
+    let whole = none_step count is v entries limits n word words (λ e l es ls f g here. other e l es ls f g (here ∙ sym same)) in
+    behind_label before o (text_of (labels is n)) (line ++ rest) rest o₁ put (one_put o o₁ line (line ++ rest) rest (e₁ ∙ ap (λ (xs : List ℕ). o ++ xs) at) refl)
+    ∙ ap (λ (xs : List ℕ). before ++ xs) (sym whole)
+
+-- the line of a label, and none
+pub label_put : (is : ℕ → Bool) (n address : ℕ) (o o₁ o₂ : List ℕ) → address ≡ 4 * n → is n ≡ true → o₁ ≡ o ++ label_text address → o₂ ≡ o₁ ++ (58 ∷ 10 ∷ []) → o₂ ≡ o ++ text_of (labels is n)
+unfolding text_of labels
+label_put is n address o o₁ o₂ at holds e₁ e₂ =
+    rw holds (e₂ ∙ ap (λ (xs : List ℕ). xs ++ (58 ∷ 10 ∷ [])) e₁ ∙ append_assoc o (label_text address) (58 ∷ 10 ∷ [])
+    ∙ ap (λ (a : ℕ). o ++ (label_text a ++ (58 ∷ 10 ∷ []))) at ∙ ap (λ (xs : List ℕ). o ++ xs) (sym (append-nil (line_of (Labels (4 * n))))))
+
+pub no_label_put : (is : ℕ → Bool) (n : ℕ) (o : List ℕ) → is n ≡ false → o ≡ o ++ text_of (labels is n)
+unfolding text_of labels
+no_label_put is n o fails = rw fails (sym (append-nil o))

@@ -1,77 +1,38 @@
 -- The listing of an image is a program of it.
-use Rattle.std.proofs.Common.{◌≡◌, ℕ, zero, suc, ◌+◌, ◌-◌, ◌*◌, ◌^◌, ◌%◌, ◌<◌, ◌≤◌, Bool, true, false, ◌==◌, List, [], ◌∷◌, ◌++◌, length, take, drop, slice_index, Option, Some, None, All, refl, ap, sym, ◌∙◌, subst, arith, inl, inr, if◌then◌else◌}
+use Rattle.std.proofs.Common.{◌≡◌, ℕ, zero, suc, ◌+◌, ◌-◌, ◌*◌, ◌/◌, ◌^◌, ◌%◌, ◌<◌, ◌≤◌, Bool, true, false, ◌==◌, List, [], ◌∷◌, ◌++◌, length, take, drop, slice_index, Option, Some, None, All, refl, ap, sym, ◌∙◌, subst, arith, inl, inr, if◌then◌else◌, codes}
 use Rattle.std.specs.Prelude.{replicate}
 use Rattle.std.specs.List.{AllByRecursion, list_any}
 use Rattle.std.specs.List.Sorted.{IsStrictlyIncreasing}
-use Rattle.std.proofs.lemmas.Bool.{eqb-true, or_cases}
-use Rattle.std.proofs.lemmas.List.{length-append, append-nil}
+use Rattle.std.proofs.lemmas.Bool.{eqb-true, or_cases, or_left, or_right, eq-eqb}
+use Rattle.std.proofs.lemmas.List.{append-nil, append_assoc}
 use Rattle.std.proofs.lemmas.List.Elements.{All-head, All-tail, recursion_from_All}
 use Rattle.svc_rv32i.specs.declared.instr.Instr.{Instr}
 use Rattle.svc_rv32i.specs.declared.instr.Instr.TheVariants as i
 use Rattle.svc_rv32i.specs.Meaning.{register, meaning}
 use Rattle.svc_image.specs.declared.version.Version.{Version}
 use Rattle.svc_image.specs.declared.version.Version.TheVariants as version
+use Rattle.svc_image.specs.Version.{read_only_by}
 use Rattle.svc_image.specs.Image.{Image, IsImage, IsLimit, AreWords, StartsWord, is_entry}
 use Rattle.svc_image.specs.Format.{bytes_of_words}
+use Rattle.svc_draft.specs.declared.section.Section.TheVariants as section
 use Rattle.svc_draft.specs.declared.statement.Next.TheVariants as go
-use Rattle.svc_draft.specs.declared.statement.Statement.{Statement}
 use Rattle.svc_draft.specs.declared.statement.Statement.TheVariants as say
-use Rattle.svc_draft.specs.Options.{◌>>=◌}
 use Rattle.svc_draft.specs.Areas.{filled, data_of, some_word}
-use Rattle.svc_draft.specs.Layouts.{Layout, Names, no_names, after, empty, whole_size, file_in, data_in, HasFewParts, IsMadeOf}
+use Rattle.svc_draft.specs.Layouts.{Layout, Names, no_names, zeros, address_of, empty, whole_size, with_version, file_in, data_in, HasFewParts, IsMadeOf}
 use Rattle.svc_draft.proofs.Wordwise.{length-bytes_of_words}
-use Rattle.svc_operands.specs.Characters.{name_at}
-use Rattle.svc_asm.specs.Programs.{Makes, IsProgramOf}
-use Rattle.svc_asm.proofs.Program.{same_laid}
-use Rattle.svc_list.specs.Listings.{HasText, statement_text, Line, bare, line_of, text_of, shown, coded, setting, settings, own_limit, marks, code, data_lines, all_data, head_lines, lines_of, listing_of}
-use Rattle.svc_list.proofs.LinesBack.{IsRead, part_back}
-use Rattle.svc_list.proofs.NotesBack.{bare_ends, address_ends, word_ends}
-use Rattle.svc_list.proofs.Keeping.{line_keeps, kept}
-use Rattle.svc_list.proofs.LayoutsBack.{MeansOne, after_all, Above, layout_for, image_laid, image_file}
-
-line_takes : (l : Line) (tail : List ℕ) → length tail < length (line_of l ++ tail)
-line_takes l tail = omega (arith, length-append (line_of l) tail, length-append (statement_text l.says) (l.note ++ (10 ∷ [])), length-append l.note (10 ∷ []))
-
-next_of : (ss : List Line) (d made : Layout) (o : Option Layout) → (o >>= after_all ss) ≡ Some made → (next : Layout) × (o ≡ Some next) × (after_all ss next ≡ Some made)
-next_of ss d made None h = absurd (cc)
-next_of ss d made (Some next) h = (next, refl, h)
-
--- no line with a text is a label
-no_label : (name : List ℕ) (s : Statement) (d : Layout) → HasText s → after name s d ≡ after [] s d
-no_label name say.Nothing d h = refl
-no_label name say.Label d h = absurd h
-no_label name (say.Instruction instr) d h = refl
-no_label name (say.Word n) d h = refl
-no_label name say.Text d h = refl
-no_label name say.Data d h = refl
-no_label name (say.Version v) d h = refl
-no_label name say.ReadOnly d h = refl
-no_label name (say.Entry limit) d h = refl
-no_label name (say.Start n) d h = refl
-no_label name (say.Limit n) d h = refl
-no_label name (say.Register r n) d h = refl
-no_label name (say.Pair i j) d h = absurd h
-no_label name (say.Section s) d h = absurd h
-no_label name (say.Zeros n) d h = absurd h
-no_label name (say.Align step) d h = absurd h
-no_label name (say.Open n) d h = absurd h
-no_label name (say.Value w n next) d h = absurd h
-no_label name (say.Symbol s) d h = absurd h
-no_label name (say.Common n step) d h = absurd h
-
--- what lines say
-abbrev pub said : List Line → List Statement
-said [] = []
-said (l ∷ ls) = l.says ∷ said ls
-
--- the text of lines that make a layout makes it
-pub lines_are_made : (ls : List Line) (d made : Layout) → d.next ≡ go.Line → AllByRecursion IsRead ls → after_all ls d ≡ Some made → Makes (said ls) (text_of ls) d made
-unfolding text_of
-lines_are_made [] d made line h k = (refl, same_laid d made k)
-lines_are_made (l ∷ ls) d made line h k =
-    let step = next_of ls d made (after [] l.says d) k in
-    let same = kept go.Line (after [] l.says d) step.0 (line_keeps go.Line l.says d h.0.0 line) step.1 in
-    (text_of ls, step.0, record { read = part_back d l (text_of ls) line h.0; shorter = line_takes l (text_of ls); laid = no_label (name_at (text_of (l ∷ ls))) l.says d h.0.0 ∙ step.1 }, lines_are_made ls step.0 made same h.1 step.2)
+use Rattle.svc_operands.specs.Characters.{is_name, past_name, behind}
+use Rattle.svc_operands.specs.Values.{value_at}
+use Rattle.svc_asm.specs.Statements.{start_at, directive_at, statement_at, line_at}
+use Rattle.svc_asm.specs.Programs.{IsProgramOf}
+use Rattle.svc_list.specs.Listings.{label_text, HasText, Line, Starts, bare, line_of, text_of, led, target_of, is_at, is_target, is_labelled, setting, settings, own_limit, marks, code, data_lines, all_data, head_lines, listing_of}
+use Rattle.svc_list.proofs.LinesBack.{IsRead, by_directive, directive_stops, unlabelled, next_back, ended_back}
+use Rattle.svc_list.proofs.NotesBack.{bare_ends, address_ends}
+use Rattle.svc_list.proofs.LabelsBack.{text_spot}
+use Rattle.svc_list.proofs.AimsBack.{label_value}
+use Rattle.svc_list.proofs.LayoutsBack.{MeansOne, Above, common_limit, layout_for, registers_in, settings_laid, are_zeros, marks_are, marks_entries, marks_limits, limits_of, all_data_laid, image_file}
+use Rattle.svc_list.proofs.Leading.{Leads, one_leads, leads_none, leads_both, leads_at, leads_whole, line_leads, lines_lead}
+use Rattle.svc_list.proofs.CodeBack.{Good, HaveLabels, with_code, words_in, names_in, known_address, unknown_address, here_is, placed_is, code_leads, words_known, names_known, names_found}
+use Rattle.svc_list.proofs.Printing.{listing_parts}
 
 -- the entries of an image stand one above another at words of the text
 next_above : (e : ℕ) (es : List ℕ) (f : ℕ) (fs : List ℕ) → es ≡ f ∷ fs → IsStrictlyIncreasing (e ∷ es) → e + 1 ≤ f
@@ -98,25 +59,6 @@ setting_text n v h = elim (v == 0) as (λ b. AllByRecursion IsRead (if b then []
 settings_text : (n : ℕ) (vs : List ℕ) → AllByRecursion (λ w. w < 2 ^ 32) vs → AllByRecursion IsRead (settings n vs)
 settings_text n [] h = tt
 settings_text n (v ∷ vs) h = both (setting n v) (settings (suc n) vs) (setting_text n v h.0) (settings_text (suc n) vs h.1)
-
-shown_text : (w : ℕ) (meant : Option Instr) → w < 2 ^ 32 → HasText (shown w meant)
-shown_text w None h = h
-shown_text w (Some (i.Fence rd rs1 imm)) h = h
-shown_text w (Some instr) h = tt
-
-coded_text : (address w : ℕ) → w < 2 ^ 32 → IsRead (coded address w)
-coded_text address w h = (shown_text w (meaning w) h, word_ends address w)
-
-code_text : (n : ℕ) (ms : List (ℕ × Option ℕ)) (ws : List ℕ) → AllByRecursion (λ (m : ℕ × Option ℕ). HasText (say.Entry m.1)) ms → AllByRecursion (λ w. w < 2 ^ 32) ws → AllByRecursion IsRead (code n ms ws)
-unfolding code
-code_text n [] [] g h = tt
-code_text n (m ∷ ms) [] g h = tt
-code_text n [] (w ∷ ws) g h = (coded_text (4 * n) w h.0, code_text (suc n) [] ws g h.1)
-code_text n (m ∷ ms) (w ∷ ws) g h =
-    elim (m.0 == 4 * n) as (λ b. AllByRecursion IsRead (if b then bare (say.Entry m.1) ∷ coded (4 * n) w ∷ code (suc n) ms ws else coded (4 * n) w ∷ code (suc n) (m ∷ ms) ws)) [
-      | true ↦ ((g.0, bare_ends), (coded_text (4 * n) w h.0, code_text (suc n) ms ws g.1 h.1))
-      | false ↦ (coded_text (4 * n) w h.0, code_text (suc n) (m ∷ ms) ws g h.1)
-    ]
 
 own_text_fits : (v : Version) (l : ℕ) → l < 2 ^ 32 → HasText (say.Entry (own_limit v l))
 own_text_fits version.One l h = tt
@@ -146,10 +88,6 @@ all_data_text version.One n ws h = data_text 1048576 ws h
 all_data_text version.Two n ws h =
     both (data_lines 1048576 (take n ws)) (bare say.ReadOnly ∷ data_lines (1048576 + 4 * n) (drop n ws)) (data_text 1048576 (take n ws) (take_fits n ws h)) ((tt, bare_ends), data_text (1048576 + 4 * n) (drop n ws) (drop_fits n ws h))
 
-head_text : (v : Version) (limit start : ℕ) → limit < 2 ^ 32 → start < 2 ^ 32 → AllByRecursion IsRead (head_lines v limit start)
-head_text version.One limit start h k = ((tt, bare_ends), ((h, bare_ends), ((k, bare_ends), tt)))
-head_text version.Two limit start h k = ((tt, bare_ends), ((k, bare_ends), tt))
-
 -- limits have 32 bits
 limits_small : (ls : List ℕ) → All IsLimit ls → AllByRecursion (λ l. l < 2 ^ 32) ls
 limits_small [] h = tt
@@ -159,34 +97,16 @@ first_small : (ls : List ℕ) → AllByRecursion (λ l. l < 2 ^ 32) ls → slice
 first_small [] h = omega arith
 first_small (l ∷ ls) h = h.0
 
-start_small : (n s : ℕ) (es : List ℕ) → n ≤ 65536 → All (StartsWord n) es → list_any (λ e. e == s) es ≡ true → s < 2 ^ 32
-start_small n s [] few placed any = absurd (cc)
-start_small n s (e ∷ es) few placed any =
+start_placed : (n s : ℕ) (es : List ℕ) → All (StartsWord n) es → list_any (λ e. e == s) es ≡ true → (s % 4 ≡ 0) × (s < 4 * n)
+start_placed n s [] placed any = absurd (cc)
+start_placed n s (e ∷ es) placed any =
     elim (or_cases (e == s) (list_any (λ e. e == s) es) any) [
-      | inl here ↦ omega (arith, few, (All-head (StartsWord n) e es placed).1, eqb-true e s here)
-      | inr there ↦ start_small n s es few (All-tail (StartsWord n) e es placed) there
+      | inl here ↦
+          let same : e ≡ s = eqb-true e s here in
+          let first = All-head (StartsWord n) e es placed in
+          (subst (λ (x : ℕ). x % 4 ≡ 0) same first.0, subst (λ (x : ℕ). x < 4 * n) same first.1)
+      | inr there ↦ start_placed n s es (All-tail (StartsWord n) e es placed) there
     ]
-
--- each line of an image has a text that is read back
-pub lines_text : (img : Image) → IsImage img → AllByRecursion IsRead (lines_of img)
-unfolding lines_of is_entry
-lines_text img sound =
-    let v = img.version in
-    let fits = λ (xs : List ℕ) (h : AreWords xs). recursion_from_All (λ w. w < 2 ^ 32) xs h in
-    let limits = limits_small img.limits sound.limits_fit in
-    let words = code 0 (marks v img.entries img.limits) img.text in
-    let body = bare say.Data ∷ all_data v img.read_only img.words in
-    let start = start_small (length img.text) img.start img.entries sound.text_few sound.entries_placed sound.start_entry in
-    both (head_lines v (slice_index img.limits 0) img.start) (settings 1 img.registers ++ (words ++ body)) (head_text v (slice_index img.limits 0) img.start (first_small img.limits limits) start)
-    (both (settings 1 img.registers) (words ++ body) (settings_text 1 img.registers (fits img.registers sound.registers_fit))
-    (both words body (code_text 0 (marks v img.entries img.limits) img.text (marks_text v img.entries img.limits limits) (fits img.text sound.text_fits))
-    ((tt, bare_ends), all_data_text v img.read_only img.words (fits img.words sound.words_fit))))
-
--- the lines of an image make its layout
-pub lines_make : MeansOne → (names : Names) (known : Bool) (from : ℕ) (img : Image) → IsImage img → after_all (lines_of img) (empty names known 0 from) ≡ Some (layout_for names known from img)
-lines_make law names known from img sound =
-    image_laid law names known from img sound.registers_all sound.limits_each sound.read_only_few sound.text_few (recursion_from_All (λ w. w < 2 ^ 32) img.text sound.text_fits) sound.words_few
-    (above_from (length img.text) 0 img.entries sound.entries_rise sound.entries_placed (λ e fs same. omega arith))
 
 few_parts : (names : Names) (known : Bool) (from : ℕ) (img : Image) → IsImage img → HasFewParts (layout_for names known from img) (bytes_of_words img.words)
 few_parts names known from img sound = record {
@@ -216,10 +136,6 @@ words_are_data words some =
     let bytes = bytes_of_words words in
     rw (none_filled, filled_words words, append-nil bytes) (some_is bytes (omega (arith, some, length-bytes_of_words words)))
 
-listed : MeansOne → (names : Names) (known : Bool) (from : ℕ) (img : Image) → IsImage img → Makes (said (lines_of img)) (listing_of img) (empty names known 0 from) (layout_for names known from img)
-unfolding listing_of
-listed law names known from img sound = lines_are_made (lines_of img) (empty names known 0 from) (layout_for names known from img) refl (lines_text img sound) (lines_make law names known from img sound)
-
 made_image : (names : Names) (known : Bool) (from : ℕ) (img : Image) → IsImage img → IsMadeOf (layout_for names known from img) img
 made_image names known from img sound =
     let d = layout_for names known from img in
@@ -233,16 +149,162 @@ made_image names known from img sound =
 abbrev bss_behind : Image → ℕ
 bss_behind img = whole_size [] + whole_size (bytes_of_words img.words)
 
+-- the start, by its label
+start_value : (d : Layout) (a x : ℕ) (tail : List ℕ) → address_of d (label_text a) ≡ Some x → value_at d (32 ∷ (label_text a ++ (10 ∷ tail))) ≡ Some (x, 10 ∷ tail)
+start_value d a x tail e = label_value d a x (10 ∷ tail) tail (bare_ends tail) e
+
+start_said : (d : Layout) (a x : ℕ) (tail : List ℕ) → address_of d (label_text a) ≡ Some x → statement_at d (codes ".svc_start " ++ (label_text a ++ (10 ∷ tail))) ≡ Some (say.Start x, 10 ∷ tail)
+unfolding is_name directive_at start_at
+start_said d a x tail e = by_directive d (codes "svc_start") (32 ∷ (label_text a ++ (10 ∷ tail))) refl refl ∙ rw (start_value d a x tail e) refl
+
+start_stops : (a : ℕ) (tail : List ℕ) → behind 58 (past_name (codes ".svc_start " ++ (label_text a ++ (10 ∷ tail)))) ≡ None
+unfolding is_name
+start_stops a tail = directive_stops (codes "svc_start") (32 ∷ (label_text a ++ (10 ∷ tail))) refl refl
+
+start_read : (d : Layout) (a x : ℕ) (tail : List ℕ) → address_of d (label_text a) ≡ Some x → line_at d (line_of (Starts a) ++ tail) ≡ Some (say.Start x, tail)
+start_read d a x tail e =
+    let text = codes ".svc_start " ++ (label_text a ++ (10 ∷ tail)) in
+    ap (λ (xs : List ℕ). line_at d (codes ".svc_start " ++ xs)) (append_assoc (label_text a) (10 ∷ []) tail)
+    ∙ unlabelled d text (start_stops a tail) ∙ ended_back d (say.Start x) text (10 ∷ tail) tail (bare_ends tail) (start_said d a x tail e)
+
+start_leads : (d : Layout) (a x : ℕ) → d.next ≡ go.Line → address_of d (label_text a) ≡ Some x → Leads (line_of (Starts a)) d (record d { start = Some x })
+start_leads d a x line e =
+    one_leads (line_of (Starts a)) (say.Start x) d (record d { start = Some x }) (omega arith) (λ tail. next_back d (line_of (Starts a) ++ tail) (say.Start x, tail) line (start_read d a x tail e)) (λ tail. refl)
+
+-- what a pass reads of the start
+abbrev begun : Bool → ℕ → ℕ
+begun known start = if known then start else 0
+
+abbrev Begins : Bool → Names → ℕ → Type 0
+Begins true names start = (start < 2 ^ 32) × (names (label_text start) ≡ Some (text_spot start))
+Begins false names start = Unit {0}
+
+start_at_label : (known : Bool) (d : Layout) (start : ℕ) → d.known ≡ known → d.section ≡ section.Text → d.text ≡ [] → Begins known d.names start → address_of d (label_text start) ≡ Some (begun known start)
+start_at_label true d start pass text none begins = known_address d start pass begins.0 begins.1
+start_at_label false d start pass text none begins =
+    let first : 4 * length d.text ≡ 0 = ap (λ (xs : List ℕ). 4 * length xs) none in
+    unknown_address d start pass ∙ ap Some (here_is d 0 text first (omega arith))
+
+-- the layout behind the lines before the registers
+abbrev headed : Names → Bool → ℕ → Version → (limit start : ℕ) → Layout
+headed names known from v limit start = record (empty names known 0 from) { version = Some v; limit = common_limit v limit; start = Some start }
+
+head_leads : (v : Version) (limit start : ℕ) (names : Names) (known : Bool) (from : ℕ) → limit < 2 ^ 32 → Begins known names start
+    → Leads (text_of (head_lines v limit start)) (empty names known 0 from) (headed names known from v limit (begun known start))
+unfolding text_of with_version
+head_leads version.One limit start names known from fit begins =
+    let d₀ = empty names known 0 from in
+    let d₁ = record d₀ { version = Some version.One } in
+    let d₂ = record d₁ { limit = limit } in
+    let d₃ = record d₂ { start = Some (begun known start) } in
+    let last = leads_both (line_of (Starts start)) [] d₂ d₃ d₃ (start_leads d₂ start (begun known start) refl (start_at_label known d₂ start refl refl refl begins)) (leads_none d₃) in
+    let limits = leads_both (line_of (bare (say.Limit limit))) (line_of (Starts start) ++ []) d₁ d₂ d₃ (line_leads (say.Limit limit) [] d₁ d₂ refl fit bare_ends refl) last in
+    leads_both (line_of (bare (say.Version version.One))) (line_of (bare (say.Limit limit)) ++ (line_of (Starts start) ++ [])) d₀ d₁ d₃ (line_leads (say.Version version.One) [] d₀ d₁ refl tt bare_ends refl) limits
+head_leads version.Two limit start names known from fit begins =
+    let d₀ = empty names known 0 from in
+    let d₁ = record d₀ { version = Some version.Two } in
+    let d₃ = record d₁ { start = Some (begun known start) } in
+    let last = leads_both (line_of (Starts start)) [] d₁ d₃ d₃ (start_leads d₁ start (begun known start) refl (start_at_label known d₁ start refl refl refl begins)) (leads_none d₃) in
+    leads_both (line_of (bare (say.Version version.Two))) (line_of (Starts start) ++ []) d₀ d₁ d₃ (line_leads (say.Version version.Two) [] d₀ d₁ refl tt bare_ends refl) last
+
+-- each target has a label
+target_whole : (count address : ℕ) (meant : Option Instr) (t : ℕ) → target_of count address meant ≡ Some t → t % 4 ≡ 0
+target_whole count address None t e = absurd (cc)
+target_whole count address (Some (i.Jal rd imm)) t e = (placed_is count (led 524288 address imm.bits) t e).1
+target_whole count address (Some (i.Branch test rs1 rs2 imm)) t e = (placed_is count (led 2048 address imm.bits) t e).1
+target_whole count address (Some instr) t e = absurd (cc)
+
+have_labels : (count : ℕ) (labelled : ℕ → Bool) (n : ℕ) (ws : List ℕ) → ((k : ℕ) → is_target count (4 * k) n ws ≡ true → labelled k ≡ true) → HaveLabels count labelled n ws
+have_labels count labelled n [] h = tt
+have_labels count labelled n (w ∷ ws) h = (
+  λ t e. h (t / 4) (or_left (is_at (4 * (t / 4)) (target_of count (4 * n) (meaning w))) (is_target count (4 * (t / 4)) (suc n) ws)
+      (ap (is_at (4 * (t / 4))) e ∙ eq-eqb t (4 * (t / 4)) (omega (arith, target_whole count (4 * n) (meaning w) t e)))),
+  have_labels count labelled (suc n) ws (λ k g. h k (or_right (is_at (4 * k) (target_of count (4 * n) (meaning w))) (is_target count (4 * k) (suc n) ws) g)),
+)
+
+image_labels : (img : Image) → HaveLabels (length img.text) (is_labelled img.entries img.text) 0 img.text
+unfolding is_labelled
+image_labels img =
+    have_labels (length img.text) (is_labelled img.entries img.text) 0 img.text (λ k g. or_right (list_any (λ e. e == 4 * k) img.entries) (is_target (length img.text) (4 * k) 0 img.text) g)
+
+start_labelled : (img : Image) (k : ℕ) → 4 * k ≡ img.start → list_any (λ e. e == img.start) img.entries ≡ true → is_labelled img.entries img.text k ≡ true
+unfolding is_labelled
+start_labelled img k same any =
+    or_left (list_any (λ e. e == 4 * k) img.entries) (is_target (length img.text) (4 * k) 0 img.text) (subst (λ (s : ℕ). list_any (λ e. e == s) img.entries ≡ true) (sym same) any)
+
+-- the layout that a pass makes of an image
+abbrev passed : Names → Bool → ℕ → Image → Layout
+passed names known from img =
+    record (layout_for (names_in known (is_labelled img.entries img.text) 0 img.text names) known from img) { start = Some (begun known img.start); text = words_in known (length img.text) 0 img.text }
+
+pass_leads : MeansOne → (names : Names) (known : Bool) (from : ℕ) (img : Image) → IsImage img → Begins known names img.start → Good known (length img.text) (is_labelled img.entries img.text) 0 names
+    → Leads (listing_of img) (empty names known 0 from) (passed names known from img)
+pass_leads law names known from img sound begins good =
+    let v = img.version in
+    let limit = slice_index img.limits 0 in
+    let count = length img.text in
+    let labelled = is_labelled img.entries img.text in
+    let ms = marks v img.entries img.limits in
+    let fits = λ (xs : List ℕ) (h : AreWords xs). recursion_from_All (λ w. w < 2 ^ 32) xs h in
+    let limits = limits_small img.limits sound.limits_fit in
+    let d₀ = empty names known 0 from in
+    let d₁ = headed names known from v limit (begun known img.start) in
+    let d₂ = registers_in d₁ img.registers in
+    let d₃ = with_code known count labelled 0 ms img.text d₂ in
+    let d₄ = record d₃ { section = section.Data } in
+    let d₅ = record d₄ { data_bytes = bytes_of_words img.words; read_only = read_only_by v img.read_only } in
+    let top : 4 * count ≡ 4 * (0 + count) = omega arith in
+    let above = above_from count 0 img.entries sound.entries_rise sound.entries_placed (λ e fs same. omega arith) in
+    let placed = marks_are v 0 (4 * (0 + count)) img.entries img.limits (subst (λ (t : ℕ). Above 0 t img.entries) top above) in
+    let first = head_leads v limit img.start names known from (first_small img.limits limits) begins in
+    let second = lines_lead (settings 1 img.registers) d₁ d₂ refl (settings_text 1 img.registers (fits img.registers sound.registers_fit)) (settings_laid d₁ [] img.registers zeros 1 refl (sym sound.registers_all) (are_zeros zeros refl) (omega (arith, sound.registers_all))) in
+    let third = code_leads law known count labelled sound.text_few ms img.text 0 d₂ (omega arith) (fits img.text sound.text_fits) (marks_text v img.entries img.limits limits) placed (record { text = refl; words = refl; pass = refl; line = refl }) good (image_labels img) in
+    let fourth = line_leads say.Data [] d₃ d₄ refl tt bare_ends refl in
+    let fifth = lines_lead (all_data v img.read_only img.words) d₄ d₅ refl (all_data_text v img.read_only img.words (fits img.words sound.words_fit)) (all_data_laid v img.read_only img.words d₄ refl refl refl refl refl sound.read_only_few sound.words_few) in
+    let body = text_of (all_data v img.read_only img.words) in
+    let words = text_of (code count labelled 0 ms img.text) in
+    let sets = text_of (settings 1 img.registers) in
+    let mark = line_of (bare say.Data) in
+    let whole = leads_both (text_of (head_lines v limit img.start)) (sets ++ (words ++ (mark ++ body))) d₀ d₁ d₅ first
+    (leads_both sets (words ++ (mark ++ body)) d₁ d₂ d₅ second (leads_both words (mark ++ body) d₂ d₃ d₅ third (leads_both mark body d₃ d₄ d₅ fourth fifth))) in
+    leads_at (listing_of img) d₀ d₅ (passed names known from img)
+    (ap (λ (es : List ℕ). record (passed names known from img) { entries = es; limits = limits_of ms }) (marks_entries v img.entries img.limits sound.limits_each)
+    ∙ ap (λ (ls : List (Option ℕ)). record (passed names known from img) { limits = ls }) (marks_limits v img.entries img.limits sound.limits_each))
+    (subst (λ (text : List ℕ). Leads text d₀ d₅) (sym (listing_parts img)) whole)
+
+-- the names that the first pass finds
+abbrev found_names : Image → Names
+found_names img = names_in false (is_labelled img.entries img.text) 0 img.text no_names
+
+found_all : (img : Image) → IsImage img → (k : ℕ) → k < length img.text → is_labelled img.entries img.text k ≡ true → found_names img (label_text (4 * k)) ≡ Some (text_spot (4 * k))
+found_all img sound k low holds = names_found (is_labelled img.entries img.text) 0 img.text no_names k (omega arith) (omega (arith, low)) (omega (arith, sound.text_few)) holds
+
+start_found : (img : Image) → IsImage img → Begins true (found_names img) img.start
+unfolding is_entry
+start_found img sound =
+    let place = start_placed (length img.text) img.start img.entries sound.entries_placed sound.start_entry in
+    let four : 4 * (img.start / 4) ≡ img.start = omega (arith, place.0) in (
+      omega (arith, place.1, sound.text_few),
+      subst (λ (s : ℕ). found_names img (label_text s) ≡ Some (text_spot s)) four (found_all img sound (img.start / 4) (omega (arith, place.1)) (start_labelled img (img.start / 4) four sound.start_entry)),
+    )
+
+-- the second pass lays the image itself
+second_laid : (names : Names) (from : ℕ) (img : Image) → passed names true from img ≡ layout_for names true from img
+second_laid names from img =
+    ap (λ (ws : List ℕ). record (passed names true from img) { text = ws }) (words_known (length img.text) 0 img.text)
+    ∙ ap (λ (found : Names). layout_for found true from img) (names_known (is_labelled img.entries img.text) 0 img.text names)
+
 -- the listing of an image is a program of it
 pub listing_is_program : MeansOne → (img : Image) → IsImage img → IsProgramOf (listing_of img) img
-listing_is_program law img sound = record {
-  layout = layout_for no_names true (bss_behind img) img;
-  laid = record {
-    first_lines = said (lines_of img);
-    first = layout_for no_names false 0 img;
-    finds = listed law no_names false 0 img sound;
-    lines = said (lines_of img);
-    makes = listed law no_names true (bss_behind img) img sound;
-  };
-  image = made_image no_names true (bss_behind img) img sound;
-}
+listing_is_program law img sound =
+    let names = found_names img in
+    let from = bss_behind img in
+    let first = leads_whole (listing_of img) (empty no_names false 0 0) (passed no_names false 0 img) (pass_leads law no_names false 0 img sound tt (λ k above low. refl)) in
+    let second = leads_whole (listing_of img) (empty names true 0 from) (layout_for names true from img)
+    (leads_at (listing_of img) (empty names true 0 from) (passed names true from img) (layout_for names true from img) (second_laid names from img)
+    (pass_leads law names true from img sound (start_found img sound) (found_all img sound))) in
+    record {
+      layout = layout_for names true from img;
+      laid = record { first_lines = first.0; first = passed no_names false 0 img; finds = first.1; lines = second.0; makes = second.1 };
+      image = made_image names true from img sound;
+    }

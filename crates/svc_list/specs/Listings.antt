@@ -1,5 +1,6 @@
 -- The text of an image: its lines, and how each is written.
-use Rattle.std.specs.Prelude.{ℕ, suc, ◌+◌, ◌*◌, ◌-◌, ◌/◌, ◌%◌, ◌^◌, ◌<◌, nat_lt, ◌==◌, List, [], ◌∷◌, ◌++◌, take, drop, slice_index, flat_map, Option, Some, None, if◌then◌else◌, codes, decimal}
+use Rattle.std.specs.Prelude.{Bool, false, ◌&&◌, ◌||◌, nat_le, length, ℕ, suc, ◌+◌, ◌*◌, ◌-◌, ◌/◌, ◌%◌, ◌^◌, ◌<◌, nat_lt, ◌==◌, List, [], ◌∷◌, ◌++◌, take, drop, length, slice_index, flat_map, Option, Some, None, if◌then◌else◌, codes, decimal}
+use Rattle.std.specs.List.{list_any}
 use Rattle.svc_rv32i.specs.declared.instr.Register.{Register}
 use Rattle.svc_rv32i.specs.declared.instr.Short.{Short}
 use Rattle.svc_rv32i.specs.declared.instr.Long.{Long}
@@ -90,6 +91,7 @@ statement_text (say.Open n) = []
 statement_text (say.Value w n next) = []
 statement_text (say.Symbol s) = []
 statement_text (say.Common n step) = []
+statement_text (say.Local n) = []
 
 -- what has a text that is read back
 abbrev pub HasText : Statement → Type 0
@@ -109,6 +111,7 @@ HasText (say.Open n) = ⊥
 HasText (say.Value w n next) = ⊥
 HasText (say.Symbol s) = ⊥
 HasText (say.Common n step) = ⊥
+HasText (say.Local n) = ⊥
 HasText _ = Unit {0}
 
 -- a word in eight hexadecimal digits
@@ -120,6 +123,16 @@ hex_text n =
     hex_digit (n / 2 ^ 28 % 16) ∷ hex_digit (n / 2 ^ 24 % 16) ∷ hex_digit (n / 2 ^ 20 % 16) ∷ hex_digit (n / 2 ^ 16 % 16)
     ∷ hex_digit (n / 2 ^ 12 % 16) ∷ hex_digit (n / 2 ^ 8 % 16) ∷ hex_digit (n / 2 ^ 4 % 16) ∷ hex_digit (n % 16) ∷ []
 
+-- the label of a place in the text, by its address
+abbrev pub label_text : ℕ → List ℕ
+label_text address = codes "at_" ++ hex_text address
+
+-- a branch or a jump, by the label of its target
+abbrev pub aimed_text : Instr → ℕ → List ℕ
+aimed_text (i.Jal rd imm) target = codes "jal" ++ (first_text rd ++ (32 ∷ label_text target))
+aimed_text (i.Branch test rs1 rs2 imm) target = comparison_name test ++ (first_text rs1 ++ (first_text rs2 ++ (32 ∷ label_text target)))
+aimed_text _ target = []
+
 -- the comments behind a word of the text, by its address and its bits, and behind a word of the data, by its address
 abbrev pub address_note : ℕ → List ℕ
 address_note address = 9 ∷ (codes "# 0x" ++ hex_text address)
@@ -127,19 +140,54 @@ address_note address = 9 ∷ (codes "# 0x" ++ hex_text address)
 abbrev pub word_note : (address word : ℕ) → List ℕ
 word_note address word = address_note address ++ (32 ∷ hex_text word)
 
--- a line: what it says, and the comment behind it, if any
-pub record Line : Type 0 where
-  pub says : Statement
-  pub note : List ℕ
+-- a line: a statement and the comment behind it, if any; a label; a branch or a jump by its target's label, and the comment behind it; or the start, by its label
+pub data Line : Type 0 where
+  Says : Statement → List ℕ → Line
+  Labels : ℕ → Line
+  Aims : Instr → ℕ → List ℕ → Line
+  Starts : ℕ → Line
 
 abbrev pub bare : Statement → Line
-bare s = record { says = s; note = [] }
+bare s = Says s []
 
 abbrev pub line_of : Line → List ℕ
-line_of l = statement_text l.says ++ (l.note ++ (10 ∷ []))
+line_of (Says s note) = statement_text s ++ (note ++ (10 ∷ []))
+line_of (Labels address) = label_text address ++ (58 ∷ 10 ∷ [])
+line_of (Aims instr target note) = aimed_text instr target ++ (note ++ (10 ∷ []))
+line_of (Starts address) = codes ".svc_start " ++ (label_text address ++ (10 ∷ []))
 
 unfoldable pub text_of : List Line → List ℕ
 text_of ls = flat_map line_of ls
+
+-- the address that so many steps of two bytes lead to, of which `half` of the numbers are forward: none below 0
+abbrev pub led : (half address steps : ℕ) → Option ℕ
+led half address steps =
+    if nat_lt steps half then Some (address + 2 * steps) else
+    if nat_le (2 * (2 * half - steps)) address then Some (address - 2 * (2 * half - steps)) else None
+
+-- an address at which a word of the text begins, which has so many
+abbrev pub placed : ℕ → Option ℕ → Option ℕ
+placed count None = None
+placed count (Some address) = if address % 4 == 0 && nat_lt address (4 * count) then Some address else None
+
+-- where in the text the branch or the jump at an address leads
+abbrev pub target_of : (count address : ℕ) → Option Instr → Option ℕ
+target_of count address (Some (i.Jal rd imm)) = placed count (led 524288 address imm.bits)
+target_of count address (Some (i.Branch test rs1 rs2 imm)) = placed count (led 2048 address imm.bits)
+target_of count address _ = None
+
+abbrev pub is_at : ℕ → Option ℕ → Bool
+is_at address None = false
+is_at address (Some target) = target == address
+
+-- whether one of these words, of which the first is the n-th, leads to an address
+abbrev pub is_target : (count address n : ℕ) → List ℕ → Bool
+is_target count address n [] = false
+is_target count address n (w ∷ ws) = is_at address (target_of count (4 * n) (meaning w)) || is_target count address (suc n) ws
+
+-- the n-th word of a text has a label where it is an entry or a target
+unfoldable pub is_labelled : (entries text : List ℕ) → ℕ → Bool
+is_labelled entries text n = list_any (λ e. e == 4 * n) entries || is_target (length text) (4 * n) 0 text
 
 -- a word of the text is shown as its instruction; a fence, which may have fields that no text names, and a word without meaning are shown as words
 abbrev pub shown : ℕ → Option Instr → Statement
@@ -165,18 +213,29 @@ marks v (e ∷ es) (l ∷ ls) = (e, own_limit v l) ∷ marks v es ls
 marks v [] ls = []
 marks v (e ∷ es) [] = []
 
--- the line of a word of the text, and that of a word of the data, at this address
-abbrev pub coded : (address word : ℕ) → Line
-coded address word = record { says = shown word (meaning word); note = word_note address word }
+-- the line of a word of a text of so many words, and that of a word of the data, at this address
+abbrev pub coded_as : (address word : ℕ) → Option Instr → Option ℕ → Line
+coded_as address word (Some instr) (Some target) = Aims instr target (word_note address word)
+coded_as address word None (Some target) = Says (say.Word word) (word_note address word)
+coded_as address word meant None = Says (shown word meant) (word_note address word)
+
+abbrev pub coded : (count address word : ℕ) → Line
+coded count address word = coded_as address word (meaning word) (target_of count address (meaning word))
 
 abbrev pub datum : (address word : ℕ) → Line
-datum address word = record { says = say.Word word; note = address_note address }
+datum address word = Says (say.Word word) (address_note address)
 
--- the lines of text words, of which the first is the n-th, and of the entries among them
-unfoldable pub code : ℕ → List (ℕ × Option ℕ) → List ℕ → List Line
-code n ms [] = []
-code n [] (w ∷ ws) = coded (4 * n) w ∷ code (suc n) [] ws
-code n (m ∷ ms) (w ∷ ws) = if m.0 == 4 * n then bare (say.Entry m.1) ∷ coded (4 * n) w ∷ code (suc n) ms ws else coded (4 * n) w ∷ code (suc n) (m ∷ ms) ws
+-- the label of the n-th word, if it has one
+unfoldable pub labels : (ℕ → Bool) → ℕ → List Line
+labels labelled n = if labelled n then Labels (4 * n) ∷ [] else []
+
+-- the lines of text words, of which the first is the n-th, of the entries among them, and of their labels
+unfoldable pub code : ℕ → (ℕ → Bool) → ℕ → List (ℕ × Option ℕ) → List ℕ → List Line
+code count labelled n ms [] = []
+code count labelled n [] (w ∷ ws) = labels labelled n ++ (coded count (4 * n) w ∷ code count labelled (suc n) [] ws)
+code count labelled n (m ∷ ms) (w ∷ ws) =
+    labels labelled n
+    ++ (if m.0 == 4 * n then bare (say.Entry m.1) ∷ coded count (4 * n) w ∷ code count labelled (suc n) ms ws else coded count (4 * n) w ∷ code count labelled (suc n) (m ∷ ms) ws)
 
 -- the lines of data words from an address on; the data begins at 0x00100000
 abbrev pub data_lines : ℕ → List ℕ → List Line
@@ -190,14 +249,14 @@ all_data version.Two n words = data_lines 1048576 (take n words) ++ (bare say.Re
 
 -- the lines before the registers: in version 1 the limit of all tasks is one of them
 abbrev pub head_lines : Version → (limit start : ℕ) → List Line
-head_lines version.One limit start = bare (say.Version version.One) ∷ bare (say.Limit limit) ∷ bare (say.Start start) ∷ []
-head_lines version.Two limit start = bare (say.Version version.Two) ∷ bare (say.Start start) ∷ []
+head_lines version.One limit start = bare (say.Version version.One) ∷ bare (say.Limit limit) ∷ Starts start ∷ []
+head_lines version.Two limit start = bare (say.Version version.Two) ∷ Starts start ∷ []
 
 -- the lines of an image
 unfoldable pub lines_of : Image → List Line
 lines_of img =
     head_lines img.version (slice_index img.limits 0) img.start ++ (settings 1 img.registers
-    ++ (code 0 (marks img.version img.entries img.limits) img.text ++ (bare say.Data ∷ all_data img.version img.read_only img.words)))
+    ++ (code (length img.text) (is_labelled img.entries img.text) 0 (marks img.version img.entries img.limits) img.text ++ (bare say.Data ∷ all_data img.version img.read_only img.words)))
 
 -- the listing of an image
 unfoldable pub listing_of : Image → List ℕ

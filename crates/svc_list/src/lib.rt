@@ -2,6 +2,7 @@
 #![tactic(auto)]
 
 mod instruction_names;
+mod labels;
 mod listing;
 
 pub use listing::list;

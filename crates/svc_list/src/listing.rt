@@ -1,13 +1,14 @@
 // The text of an image.
 
-ghost use Rattle.std.specs.Prelude.{◌≡◌, ℕ, suc, ◌++◌, ◌∷◌, List, codes, ◌<◌, ◌≤◌, ◌*◌, ◌^◌, length, slice_index, decimal, IfOk, IfSome, IfNone, OnOk};
+ghost use Rattle.std.specs.Prelude.{Bool, false, slice_index_or, [], ◌≡◌, ℕ, suc, ◌++◌, ◌∷◌, List, codes, ◌<◌, ◌≤◌, ◌*◌, ◌^◌, length, slice_index, decimal, IfOk, IfSome, IfNone, OnOk};
 ghost use Rattle.svc_rv32i.specs.Meaning.{meaning};
 ghost use Rattle.svc_asm.specs.Programs.{IsProgramOf};
-ghost use Rattle.svc_list.specs.Listings.{register_text, first_text, last_text, short_text, offset_text, address_text, upper_text, instruction_text, own_text, statement_text, hex_digit, hex_text, address_note, word_note, bare, line_of, text_of, shown, coded, datum, setting, settings, own_limit, marks, code, data_lines, all_data, head_lines, listing_of};
+ghost use Rattle.svc_list.specs.Listings.{register_text, first_text, last_text, short_text, offset_text, address_text, upper_text, instruction_text, own_text, statement_text, hex_digit, hex_text, label_text, aimed_text, address_note, word_note, Starts, bare, line_of, text_of, shown, coded, datum, labels, setting, settings, own_limit, marks, code, data_lines, all_data, head_lines, listing_of};
 
 use crate::instruction_names::{
     comparison_name, immediate_name, load_name, operation_name, shift_name, store_name,
 };
+use crate::labels::{labels_of, target_of};
 use itoa::Buffer;
 use std::alloc::{AllocError, Global};
 use svc_draft::Statement;
@@ -218,7 +219,7 @@ fn put_statement(out: &mut Vec<u8>, statement: Statement) -> Result<(), AllocErr
         Statement::Nothing | Statement::Label | Statement::Pair(..) => Ok(()),
         Statement::Section(_) | Statement::Zeros(_) | Statement::Align(_) => Ok(()),
         Statement::Open(_) | Statement::Value(..) => Ok(()),
-        Statement::Symbol(_) | Statement::Common(..) => Ok(()),
+        Statement::Symbol(_) | Statement::Common(..) | Statement::Local(_) => Ok(()),
         Statement::Instruction(instr) => put_instruction(out, instr),
         Statement::Word(word) => put_numbered(out, ".word ", word),
         Statement::Text => put_text(out, ".text"),
@@ -280,14 +281,70 @@ fn put_address_note(out: &mut Vec<u8>, address: u32) -> Result<(), AllocError>
     put_hex(out, address)
 }
 
-// A word of the text, with its address and its bits behind it.
-fn put_coded(out: &mut Vec<u8>, address: u32, word: u32) -> Result<(), AllocError>
-    ensures { OnOk result (out.new.items ≡ out.old.items ++ line_of (coded address word)) }
+// A comment that tells an address and the bits of its word, and the end of the line.
+fn end_coded(out: &mut Vec<u8>, address: u32, word: u32) -> Result<(), AllocError>
+    ensures { OnOk result (out.new.items ≡ out.old.items ++ (word_note address word ++ (10 ∷ []))) }
 {
-    put_statement(out, shown(word))?;
     put_address_note(out, address)?;
     put_text(out, " ")?;
     put_hex(out, word)?;
+    put_text(out, "\n")
+}
+
+fn put_label(out: &mut Vec<u8>, address: u32) -> Result<(), AllocError>
+    ensures { OnOk result (out.new.items ≡ out.old.items ++ label_text address) }
+{
+    put_text(out, "at_")?;
+    put_hex(out, address)
+}
+
+// A branch or a jump, by its target's label.
+fn put_aimed(out: &mut Vec<u8>, instr: Instr, target: u32) -> Result<(), AllocError>
+    ensures { OnOk result (out.new.items ≡ out.old.items ++ aimed_text instr target) }
+{
+    match instr {
+        Instr::Jal { rd, .. } => {
+            put_text(out, "jal")?;
+            put_first(out, rd)?;
+        }
+        Instr::Branch { test, rs1, rs2, .. } => put_two(out, comparison_name(test), rs1, rs2)?,
+        _ => return Ok(()),
+    }
+    put_text(out, " ")?;
+    put_label(out, target)
+}
+
+// A word of a text of so many words, with its address and its bits behind it.
+fn put_coded(out: &mut Vec<u8>, count: u32, address: u32, word: u32) -> Result<(), AllocError>
+    requires count { count ≤ 65536 }
+    requires address { address < 262144 }
+    ensures { OnOk result (out.new.items ≡ out.old.items ++ line_of (coded count address word)) }
+{
+    let meant = decode(word);
+    match (meant, target_of(count, address, meant)) {
+        (Some(instr), Some(target)) => put_aimed(out, instr, target)?,
+        _ => put_statement(out, shown(word))?,
+    }
+    end_coded(out, address, word)
+}
+
+// The line of a word's label, if it has one.
+fn put_labels(out: &mut Vec<u8>, address: u32, labelled: bool) -> Result<(), AllocError>
+    ensures { OnOk result ((n : ℕ) (is : ℕ → Bool) → address ≡ 4 * n → is n ≡ labelled
+        → out.new.items ≡ out.old.items ++ text_of (labels is n)) }
+{
+    if labelled {
+        put_label(out, address)?;
+        put_text(out, ":\n")?;
+    }
+    Ok(())
+}
+
+fn put_start(out: &mut Vec<u8>, start: u32) -> Result<(), AllocError>
+    ensures { OnOk result (out.new.items ≡ out.old.items ++ line_of (Starts start)) }
+{
+    put_text(out, ".svc_start ")?;
+    put_label(out, start)?;
     put_text(out, "\n")
 }
 
@@ -358,28 +415,32 @@ fn own_limit(version: Version, limit: u32) -> Option<u32>
     }
 }
 
-// A word of the text, behind the mark of an entry where the next one stands at it. It answers the entries that are
-// left, and their limits.
+// A word of the text of so many words, behind the mark of an entry where the next one stands at it. It answers the
+// entries that are left, and their limits.
 fn put_code_word<'a>(
     out: &mut Vec<u8>,
     version: Version,
     entries: &'a [u32],
     limits: &'a [u32],
+    count: u32,
     pc: u32,
     word: u32,
 ) -> Result<(&'a [u32], &'a [u32]), AllocError>
-    ensures { IfOk result (λ left. (n : ℕ) (words : List ℕ) → pc ≡ 4 * n
-        → out.new.items ++ text_of (code (suc n) (marks version left.0.now left.1.now) words)
-        ≡ out.old.items ++ text_of (code n (marks version entries.now limits.now) (word ∷ words))) }
+    requires count { count ≤ 65536 }
+    requires pc { pc < 262144 }
+    ensures { IfOk result (λ left. (n : ℕ) (is : ℕ → Bool) (words before : List ℕ) → pc ≡ 4 * n
+        → out.old.items ≡ before ++ text_of (labels is n)
+        → out.new.items ++ text_of (code count is (suc n) (marks version left.0.now left.1.now) words)
+        ≡ before ++ text_of (code count is n (marks version entries.now limits.now) (word ∷ words))) }
 {
     match behind(entries, limits, pc) {
         Some(next) => {
             put_line(out, Statement::Entry(own_limit(version, next.0)))?;
-            put_coded(out, pc, word)?;
+            put_coded(out, count, pc, word)?;
             Ok((next.1, next.2))
         }
         None => {
-            put_coded(out, pc, word)?;
+            put_coded(out, count, pc, word)?;
             Ok((entries, limits))
         }
     }
@@ -390,17 +451,25 @@ fn put_code(
     version: Version,
     entries: &[u32],
     limits: &[u32],
+    labelled: &[bool],
     text: &[u32],
 ) -> Result<(), AllocError>
-    requires { length text.now ≤ 65536 }
-    ensures { OnOk result (out.new.items
-        ≡ out.old.items ++ text_of (code 0 (marks version entries.now limits.now) text.now)) }
+    requires few { length text.now ≤ 65536 }
+    requires each { length labelled.now ≡ length text.now }
+    ensures { OnOk result ((is : ℕ → Bool)
+        → ((n : ℕ) → n < length text.now → slice_index_or labelled.now n false ≡ is n)
+        → out.new.items ≡ out.old.items
+        ++ text_of (code (length text.now) is 0 (marks version entries.now limits.now) text.now)) }
 {
+    let count = text.len() as u32;
     let mut entries = entries;
     let mut limits = limits;
     let mut pc = 0;
     for &word in text {
-        let (entries_left, limits_left) = put_code_word(out, version, entries, limits, pc, word)?;
+        put_labels(out, pc, labelled[(pc / 4) as usize])?;
+        let (entries_left, limits_left) = put_code_word(
+            out, version, entries, limits, count, pc, word,
+        )?;
         entries = entries_left;
         limits = limits_left;
         pc += 4;
@@ -468,11 +537,11 @@ fn put_head(out: &mut Vec<u8>, version: Version, limit: u32, start: u32) -> Resu
     match version {
         Version::One => {
             put_line(out, Statement::Limit(limit))?;
-            put_line(out, Statement::Start(start))?;
+            put_start(out, start)?;
             Ok(())
         }
         Version::Two => {
-            put_line(out, Statement::Start(start))?;
+            put_start(out, start)?;
             Ok(())
         }
     }
@@ -486,6 +555,9 @@ pub fn list(alloc: Global, image: &Image) -> Result<Vec<u8>, AllocError>
     ensures program { IfOk result (λ text. IsProgramOf text.items image.now) }
 {
     one_meaning();
+    let entries = image.entries();
+    let text = image.text_words();
+    let labelled = labels_of(alloc, entries, text)?;
     let mut out = Vec::new(alloc);
     put_head(
         &mut out,
@@ -497,9 +569,10 @@ pub fn list(alloc: Global, image: &Image) -> Result<Vec<u8>, AllocError>
     put_code(
         &mut out,
         image.version(),
-        image.entries(),
+        entries,
         image.limits(),
-        image.text_words(),
+        &labelled,
+        text,
     )?;
     put_line(&mut out, Statement::Data)?;
     put_all_data(

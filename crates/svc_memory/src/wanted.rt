@@ -159,11 +159,13 @@ memory,0,0,0
 /// By the listing of the sample of two tasks.
 pub const LIST: &str = ".svc_version 1
 .svc_limit 100
-.svc_start 0
+.svc_start at_00000000
+at_00000000:
 .svc_entry
 lui x5, 256\t# 0x00000000 001002b7
 addi x1, x0, 5\t# 0x00000004 00500093
 sw x1, 0(x5)\t# 0x00000008 0012a023
+at_0000000c:
 .svc_entry
 lui x5, 256\t# 0x0000000c 001002b7
 lw x10, 0(x5)\t# 0x00000010 0002a503

@@ -1,7 +1,9 @@
 -- The characters of a program's text: spaces, names, marks and numbers.
-use Rattle.std.specs.Prelude.{ℕ, ◌+◌, ◌*◌, ◌-◌, ◌^◌, Bool, true, false, ◌&&◌, ◌||◌, ◌==◌, nat_le, nat_lt, List, [], ◌∷◌, Option, Some, None, if◌then◌else◌}
+use Rattle.std.specs.Prelude.{ℕ, ◌+◌, ◌*◌, ◌-◌, ◌^◌, Bool, true, false, ◌&&◌, ◌||◌, ◌==◌, nat_le, nat_lt, List, [], ◌∷◌, Option, Some, None, if◌then◌else◌, option_map}
 use Rattle.std.specs.List.{take_while}
 use Rattle.svc_draft.specs.Options.{◌>>=◌}
+use Rattle.svc_operands.specs.declared.characters.Blank.{Blank}
+use Rattle.svc_operands.specs.declared.characters.Blank.TheVariants as blank
 
 -- what is read by what is found, or else
 abbrev pub found : {A B : Type 0} → Option A → (A → B) → B → B
@@ -15,6 +17,26 @@ is_from_to low high c = nat_le low c && nat_le c high
 abbrev pub is_space : ℕ → Bool
 is_space c = c == 32 || c == 9 || c == 13
 
+-- a slash and a star open a comment
+abbrev pub opens : ℕ → List ℕ → Bool
+opens c [] = false
+opens c (next ∷ rest) = c == 47 && next == 42
+
+-- what stands before the next character, where a space or a comment does
+abbrev pub blank_behind : Blank → ℕ → List ℕ → Option Blank
+blank_behind blank.Outside c rest = if is_space c then Some blank.Outside else if opens c rest then Some blank.Opening else None
+blank_behind blank.Opening c rest = Some blank.Inside
+blank_behind blank.Inside c rest = if c == 42 then Some blank.Star else Some blank.Inside
+blank_behind blank.Star c rest = if c == 47 then Some blank.Outside else if c == 42 then Some blank.Star else Some blank.Inside
+
+-- what is left behind spaces and comments; a comment that no star and slash end goes up to the end of the text
+unfoldable pub past_blanks : Blank → List ℕ → List ℕ
+past_blanks b [] = []
+past_blanks b (c ∷ rest) = found (blank_behind b c rest) (λ next. past_blanks next rest) (c ∷ rest)
+
+abbrev pub past_spaces : List ℕ → List ℕ
+past_spaces text = past_blanks blank.Outside text
+
 -- a letter, a digit, a dot, an underscore or a dollar sign: what names and numbers are made of
 unfoldable pub is_name : ℕ → Bool
 is_name c = is_from_to 97 122 c || is_from_to 65 90 c || is_from_to 48 57 c || c == 46 || c == 95 || c == 36
@@ -26,10 +48,10 @@ past p (c ∷ rest) = if p c then past p rest else c ∷ rest
 
 -- the next name and what follows it
 abbrev pub name_at : List ℕ → List ℕ
-name_at text = take_while is_name (past is_space text)
+name_at text = take_while is_name (past_spaces text)
 
 abbrev pub past_name : List ℕ → List ℕ
-past_name text = past is_name (past is_space text)
+past_name text = past is_name (past_spaces text)
 
 -- what follows a mark, where it stands next
 abbrev pub behind : ℕ → List ℕ → Option (List ℕ)
@@ -37,7 +59,7 @@ behind mark [] = None
 behind mark (c ∷ rest) = if c == mark then Some rest else None
 
 abbrev pub mark_at : ℕ → List ℕ → Option (List ℕ)
-mark_at mark text = behind mark (past is_space text)
+mark_at mark text = behind mark (past_spaces text)
 
 -- the value of a digit of any radix up to 16
 unfoldable pub digit : ℕ → Option ℕ
@@ -79,3 +101,40 @@ behind_zero (c ∷ digits) =
 unfoldable pub number_of : List ℕ → Option ℕ
 number_of [] = None
 number_of (c ∷ digits) = if c == 48 then behind_zero digits else value_of 10 (c ∷ digits)
+
+-- what a letter behind a backslash stands for
+unfoldable pub escaped : ℕ → Option ℕ
+escaped c =
+    if c == 110 then Some 10 else
+    if c == 116 then Some 9 else
+    if c == 34 then Some 34 else
+    if c == 92 then Some 92 else
+    if c == 98 then Some 8 else
+    if c == 102 then Some 12 else
+    if c == 114 then Some 13 else
+    None
+
+-- a character and its closing quote
+unfoldable pub closed_at : ℕ → List ℕ → Option (ℕ × List ℕ)
+closed_at c text = option_map (λ (rest : List ℕ). (c, rest)) (behind 39 text)
+
+-- what follows a backslash between quotes
+abbrev pub quoted_escape : ℕ → Option ℕ
+quoted_escape c = if c == 39 then Some 39 else escaped c
+
+unfoldable pub escape_in_quotes : List ℕ → Option (ℕ × List ℕ)
+escape_in_quotes [] = None
+escape_in_quotes (c ∷ rest) = do
+  n ← quoted_escape c
+  closed_at n rest
+
+-- what follows an opening quote
+unfoldable pub in_quotes : List ℕ → Option (ℕ × List ℕ)
+in_quotes [] = None
+in_quotes (c ∷ rest) = if c == 92 then escape_in_quotes rest else if c == 10 then None else closed_at c rest
+
+-- a character between single quotes, as the number that it is
+unfoldable pub character_at : List ℕ → Option (ℕ × List ℕ)
+character_at text = do
+  inside ← mark_at 39 text
+  in_quotes inside

@@ -91,6 +91,8 @@ form_named name =
     if bytes_eq name (codes "jalr") then Some form.Jalr else
     if bytes_eq name (codes "ecall") then Some form.Ecall else
     if bytes_eq name (codes "ebreak") then Some form.Ebreak else
+    if bytes_eq name (codes "fence") then Some form.Fence else
+    if bytes_eq name (codes "fence.tso") then Some form.FenceTso else
     None
 
 -- a register's number, by the names of the calling convention

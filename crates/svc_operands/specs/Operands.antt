@@ -8,9 +8,8 @@ use Rattle.svc_rv32i.specs.declared.instr.ShiftAmount.{ShiftAmount}
 use Rattle.svc_rv32i.specs.Meaning.{register, short, long, mod5}
 use Rattle.svc_operands.specs.declared.operands.Signed.{Signed}
 use Rattle.svc_draft.specs.Options.{◌>>=◌}
-use Rattle.svc_operands.specs.Characters.{is_space, past, name_at, past_name, behind, mark_at, number_of}
+use Rattle.svc_operands.specs.Characters.{found, past_spaces, name_at, past_name, mark_at, number_of, character_at}
 use Rattle.svc_operands.specs.Names.{register_named}
-use Rattle.svc_draft.specs.Layouts.{Layout, here, address_of}
 
 -- what is read first, and what is left behind it
 abbrev pub Read : Type 0 → Type 0
@@ -28,10 +27,9 @@ first_register_at text = do
   rest ← mark_at 44 r.1
   Some (r.0, rest)
 
+-- a number, or a character as one
 unfoldable pub number_at : List ℕ → Read ℕ
-number_at text = do
-  n ← number_of (name_at text)
-  Some (n, past_name text)
+number_at text = found (number_of (name_at text)) (λ n. Some (n, past_name text)) (character_at text)
 
 -- the number behind a sign
 unfoldable pub behind_sign : Bool → List ℕ → Read Signed
@@ -45,24 +43,11 @@ signed_from (c ∷ rest) = if c == 45 then behind_sign true rest else behind_sig
 
 -- a number that may have a minus sign
 unfoldable pub signed_at : List ℕ → Read Signed
-signed_at text = signed_from (past is_space text)
-
-abbrev pub offset_from : List ℕ → Read Signed
-offset_from [] = None
-offset_from (c ∷ rest) = if c == 43 then behind_sign false rest else if c == 45 then behind_sign true rest else None
+signed_at text = signed_from (past_spaces text)
 
 -- how far it is from one address to another
 abbrev pub distance : ℕ → ℕ → Signed
 distance from to = if nat_le from to then record { negative = false; magnitude = to - from } else record { negative = true; magnitude = from - to }
-
-unfoldable pub label_at : Layout → List ℕ → Read Signed
-label_at d text = do
-  address ← address_of d (name_at text)
-  Some (distance (here d) address, past_name text)
-
--- how far it is from the instruction's own address: . + N or . - N, or a label
-unfoldable pub offset_at : Layout → List ℕ → Read Signed
-offset_at d text = if bytes_eq (name_at text) (codes ".") then offset_from (past is_space (past_name text)) else label_at d text
 
 -- a number of so many bits with its sign, half of whose range is below 0
 abbrev pub wrapped : ℕ → Signed → Option ℕ
@@ -102,18 +87,6 @@ unfoldable pub number_short_at : List ℕ → Read Short
 number_short_at text = do
   s ← signed_at text
   n ← short_of s.0
-  Some (n, s.1)
-
-unfoldable pub branch_at : Layout → List ℕ → Read Short
-branch_at d text = do
-  s ← offset_at d text
-  n ← branch_of s.0
-  Some (n, s.1)
-
-unfoldable pub jump_at : Layout → List ℕ → Read Long
-jump_at d text = do
-  s ← offset_at d text
-  n ← jump_of s.0
   Some (n, s.1)
 
 unfoldable pub number_upper_at : List ℕ → Read Long

@@ -7,19 +7,22 @@ use Rattle.svc_rv32i.specs.declared.instr.Long.{Long}
 use Rattle.svc_rv32i.specs.Meaning.{short, long}
 use Rattle.svc_operands.specs.declared.operands.Signed.{Signed}
 use Rattle.svc_draft.specs.Options.{◌>>=◌}
-use Rattle.svc_operands.specs.Characters.{is_space, past, found, name_at, past_name, mark_at, number_of}
-use Rattle.svc_operands.specs.Names.{or_else}
+use Rattle.svc_operands.specs.Characters.{past_spaces, found, name_at, past_name, mark_at}
+use Rattle.svc_operands.specs.References.{reference_named, referred}
 use Rattle.svc_draft.specs.Layouts.{Layout, here, address_of}
 use Rattle.svc_operands.specs.Operands.{Read, register_at, number_at, behind_sign, distance, number_short_at, number_upper_at}
 
 -- what a name stands for: a dot for the address of what comes next, and a label for its own
-abbrev pub place_of : Layout → List ℕ → Option ℕ
-place_of d name = if bytes_eq name (codes ".") then Some (here d) else address_of d name
+unfoldable pub place_of : Layout → List ℕ → Option ℕ
+place_of d name = if bytes_eq name (codes ".") then Some (here d) else found (reference_named name) (λ r. referred d r) (address_of d name)
+
+unfoldable pub place_at : Layout → List ℕ → Read ℕ
+place_at d text = do
+  n ← place_of d (name_at text)
+  Some (n, past_name text)
 
 unfoldable pub plain_term_at : Layout → List ℕ → Read ℕ
-plain_term_at d text = do
-  n ← or_else (number_of (name_at text)) (place_of d (name_at text))
-  Some (n, past_name text)
+plain_term_at d text = found (number_at text) (λ n. Some n) (place_at d text)
 
 -- a number with its sign, as 32 bits
 abbrev pub bits_of : Signed → ℕ
@@ -36,7 +39,7 @@ term_from d (c ∷ rest) = if c == 45 then opposite_at rest else plain_term_at d
 
 -- what a sum begins with: a number, which may have a minus sign, a dot or a label
 unfoldable pub term_at : Layout → List ℕ → Read ℕ
-term_at d text = term_from d (past is_space text)
+term_at d text = term_from d (past_spaces text)
 
 -- a sum of 32 bits, which wraps
 abbrev pub sum : ℕ → ℕ → ℕ
@@ -56,7 +59,7 @@ sum_from n rest (c ∷ more) = if c == 43 then sum_with n false more else if c =
 unfoldable pub value_at : Layout → List ℕ → Read ℕ
 value_at d text = do
   n ← term_at d text
-  sum_from n.0 n.1 (past is_space n.1)
+  sum_from n.0 n.1 (past_spaces n.1)
 
 -- a value of 32 bits in two parts, for two instructions: its low part counts with a sign, so the high part is one more where that is below 0
 abbrev pub high_part : ℕ → Long

@@ -1,7 +1,7 @@
 // The characters of a program's text: spaces, names, marks and numbers.
 
 ghost use Rattle.std.specs.Prelude.{◌≡◌, ◌<◌, ◌≤◌, ◌^◌, length, Some, IfSome, option_map};
-ghost use Rattle.svc_operands.specs.Characters.{is_space, is_name, past, name_at, past_name, mark_at, digit, push_digit, value_of, behind_zero, number_of};
+ghost use Rattle.svc_operands.specs.Characters.{is_space, opens, blank_behind, past_spaces, is_name, past, name_at, past_name, mark_at, digit, push_digit, value_of, behind_zero, number_of};
 
 fn is_space(c: u8) -> bool
     ensures { result ≡ is_space c }
@@ -16,15 +16,63 @@ fn is_name(c: u8) -> bool
     matches!(c, b'a'..=b'z' | b'A'..=b'Z' | b'0'..=b'9' | b'.' | b'_' | b'$')
 }
 
-/// What is left behind spaces.
-#[tactic(auto, unfolding(crate::specs::Characters::past))]
-pub fn skip_spaces(text: &[u8]) -> &[u8]
-    ensures { result.now ≡ past is_space text.now }
+// What stands before a character: no comment, its slash, something of it, or a star that may end it.
+#[derive(Clone, Copy)]
+enum Blank {
+    Outside,
+    Opening,
+    Inside,
+    Star,
+}
+
+/// Whether a character and what follows it open a comment.
+pub fn opens(c: u8, rest: &[u8]) -> bool
+    ensures { result ≡ opens c rest.now }
 {
+    match rest {
+        [next, ..] => c == b'/' && *next == b'*',
+        [] => false,
+    }
+}
+
+// What stands before the next character, where this one is a space or a part of a comment.
+fn blank_behind(blank: Blank, c: u8, rest: &[u8]) -> Option<Blank>
+    ensures { result ≡ blank_behind blank c rest.now }
+{
+    match blank {
+        Blank::Outside => {
+            if is_space(c) {
+                return Some(Blank::Outside);
+            }
+            if opens(c, rest) {
+                return Some(Blank::Opening);
+            }
+            None
+        }
+        Blank::Opening => Some(Blank::Inside),
+        Blank::Inside => match c {
+            b'*' => Some(Blank::Star),
+            _ => Some(Blank::Inside),
+        },
+        Blank::Star => match c {
+            b'/' => Some(Blank::Outside),
+            b'*' => Some(Blank::Star),
+            _ => Some(Blank::Inside),
+        },
+    }
+}
+
+/// What is left behind spaces and comments.
+#[tactic(auto, unfolding(crate::specs::Characters::past_blanks))]
+pub fn skip_spaces(text: &[u8]) -> &[u8]
+    ensures { result.now ≡ past_spaces text.now }
+{
+    let mut blank = Blank::Outside;
     let mut rest = text;
     while let [first, after @ ..] = rest {
-        if !is_space(*first) {
-            return rest;
+        match blank_behind(blank, *first, after) {
+            Some(next) => blank = next,
+            None => return rest,
         }
         rest = after;
     }
@@ -105,6 +153,13 @@ pub fn value_of(radix: u32, digits: &[u8]) -> Option<u32>
         value = push_digit(radix, value, c)?;
     }
     Some(value)
+}
+
+/// The number of these decimal digits.
+pub fn decimal_of(digits: &[u8]) -> Option<u32>
+    ensures { result ≡ value_of 10 digits.now }
+{
+    value_of(10, digits)
 }
 
 // The number that 0 and these digits are.

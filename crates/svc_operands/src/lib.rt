@@ -4,18 +4,23 @@
 mod characters;
 mod names;
 mod operands;
+mod quotes;
+mod references;
+mod targets;
 mod unread;
 mod values;
 
-pub use characters::{number_of, skip_mark, skip_spaces, split_name};
+pub use characters::{decimal_of, opens, skip_mark, skip_spaces, split_name};
 pub use names::{
     Form, comparison_named, form_named, immediate_named, is_word, load_named, operation_named,
     register, shift_named, store_named,
 };
 pub use operands::{
-    Signed, distance, long, read_amount, read_behind_sign, read_branch, read_first_register,
-    read_jump, read_mark, read_number, read_register, read_signed, short,
+    Signed, distance, long, read_amount, read_behind_sign, read_first_register, read_mark,
+    read_number, read_register, read_signed, short,
 };
+pub use quotes::escaped;
+pub use targets::{read_branch, read_jump};
 pub use unread::{Unread, Wanted, stopped_at, stopped_at_name};
 pub use values::{
     bits_of, from_here, high_part, low_part, read_address, read_short, read_upper, read_value,

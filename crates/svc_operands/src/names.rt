@@ -112,6 +112,8 @@ pub enum Form {
     Jalr,
     Ecall,
     Ebreak,
+    Fence,
+    FenceTso,
 }
 
 /// Whether a name is this word.
@@ -143,6 +145,12 @@ pub fn form_named(name: &[u8]) -> Option<Form>
     }
     if is_word(name, "ebreak") {
         return Some(Form::Ebreak);
+    }
+    if is_word(name, "fence") {
+        return Some(Form::Fence);
+    }
+    if is_word(name, "fence.tso") {
+        return Some(Form::FenceTso);
     }
     None
 }

@@ -3,14 +3,13 @@
 ghost use Rattle.std.specs.Prelude.{◌≡◌, ◌<◌, ◌≤◌, ◌*◌, ◌-◌, ◌/◌};
 ghost use Rattle.svc_rv32i.specs.Meaning.{short, long};
 ghost use Rattle.svc_operands.specs.Characters.{mark_at};
-ghost use Rattle.svc_draft.specs.Layouts.{layout_of};
 ghost use Rattle.svc_operands.specs.Reading.{Gives};
-ghost use Rattle.svc_operands.specs.Operands.{register_at, first_register_at, number_at, behind_sign, signed_at, distance, label_at, offset_at, wrapped, short_of, halved, branch_of, jump_of, upper_of, amount, amount_of, number_short_at, branch_at, jump_at, number_upper_at, amount_at};
+ghost use Rattle.svc_operands.specs.Operands.{register_at, first_register_at, number_at, behind_sign, signed_at, distance, wrapped, short_of, halved, branch_of, jump_of, upper_of, amount, amount_of, number_short_at, number_upper_at, amount_at};
 
 use crate::characters::{number_of, skip_mark, skip_spaces, split_name};
 use crate::names::register_named;
+use crate::quotes::split_character;
 use crate::unread::{Unread, Wanted, stopped_at};
-use svc_draft::Draft;
 use svc_rv32i::{Long, Register, ShiftAmount, Short};
 
 /// A number with its sign.
@@ -51,13 +50,17 @@ pub fn read_first_register(text: &[u8]) -> Result<(Register, &[u8]), Unread>
     Ok((register, rest))
 }
 
+/// A number, or a character as one.
 #[tactic(auto, unfolding(crate::specs::Operands::number_at))]
 pub fn read_number(text: &[u8]) -> Result<(u32, &[u8]), Unread>
     ensures { Gives (λ x. (x.0, x.1.now)) result (number_at text.now) }
 {
     let (name, rest) = split_name(text);
-    match number_of(name) {
-        Some(number) => Ok((number, rest)),
+    if let Some(number) = number_of(name) {
+        return Ok((number, rest));
+    }
+    match split_character(text) {
+        Some((character, rest)) => Ok((character as u32, rest)),
         None => Err(stopped_at(text, Wanted::Number)),
     }
 }
@@ -104,34 +107,6 @@ pub fn distance(from: u32, to: u32) -> Signed
             negative: true,
             magnitude: from - to,
         }
-    }
-}
-
-// How far it is to a label.
-#[tactic(auto, unfolding(crate::specs::Operands::label_at))]
-fn read_label<'a>(draft: &Draft, text: &'a [u8]) -> Result<(Signed, &'a [u8]), Unread>
-    ensures { Gives (λ x. (x.0, x.1.now)) result (label_at (layout_of draft.now) text.now) }
-{
-    let (name, rest) = split_name(text);
-    match draft.address_of(name) {
-        Some(address) => Ok((distance(draft.here(), address), rest)),
-        None => Err(stopped_at(text, Wanted::Target)),
-    }
-}
-
-/// How far it is from the instruction's own address: `. + N` or `. - N`, or a label.
-#[tactic(auto, unfolding(crate::specs::Operands::offset_at))]
-pub fn read_offset<'a>(draft: &Draft, text: &'a [u8]) -> Result<(Signed, &'a [u8]), Unread>
-    ensures { Gives (λ x. (x.0, x.1.now)) result (offset_at (layout_of draft.now) text.now) }
-{
-    let (name, rest) = split_name(text);
-    match name {
-        b"." => match skip_spaces(rest) {
-            [b'+', magnitude @ ..] => read_behind_sign(false, magnitude),
-            [b'-', magnitude @ ..] => read_behind_sign(true, magnitude),
-            _ => Err(stopped_at(rest, Wanted::Target)),
-        },
-        _ => read_label(draft, text),
     }
 }
 
@@ -255,28 +230,6 @@ pub fn read_number_short(text: &[u8]) -> Result<(Short, &[u8]), Unread>
     match short_of(number) {
         Some(short) => Ok((short, rest)),
         None => Err(stopped_at(text, Wanted::Immediate)),
-    }
-}
-
-#[tactic(auto, unfolding(crate::specs::Operands::branch_at))]
-pub fn read_branch<'a>(draft: &Draft, text: &'a [u8]) -> Result<(Short, &'a [u8]), Unread>
-    ensures { Gives (λ x. (x.0, x.1.now)) result (branch_at (layout_of draft.now) text.now) }
-{
-    let (offset, rest) = read_offset(draft, text)?;
-    match branch_of(offset) {
-        Some(short) => Ok((short, rest)),
-        None => Err(stopped_at(text, Wanted::BranchOffset)),
-    }
-}
-
-#[tactic(auto, unfolding(crate::specs::Operands::jump_at))]
-pub fn read_jump<'a>(draft: &Draft, text: &'a [u8]) -> Result<(Long, &'a [u8]), Unread>
-    ensures { Gives (λ x. (x.0, x.1.now)) result (jump_at (layout_of draft.now) text.now) }
-{
-    let (offset, rest) = read_offset(draft, text)?;
-    match jump_of(offset) {
-        Some(long) => Ok((long, rest)),
-        None => Err(stopped_at(text, Wanted::JumpOffset)),
     }
 }
 

@@ -1,7 +1,7 @@
 // Where a text could not be read further, and what may stand there.
 
 ghost use Rattle.std.specs.Prelude.{◌≡◌, length};
-ghost use Rattle.svc_operands.specs.Characters.{is_space, past};
+ghost use Rattle.svc_operands.specs.Characters.{past_spaces};
 
 use crate::characters::skip_spaces;
 use thiserror::Error;
@@ -63,6 +63,9 @@ pub enum Wanted {
     /// Behind a percent sign: `lo`, and a value in parentheses.
     #[error("lo(VALUE)")]
     Low,
+    /// What a FENCE orders: `iorw`, or some of these letters in this order.
+    #[error("iorw or some of these letters in this order")]
+    Order,
     /// The end of the line.
     #[error("the end of the line")]
     LineEnd,
@@ -91,7 +94,7 @@ pub struct Unread {
 
 /// The fault of a text that goes on otherwise than wanted.
 pub fn stopped_at(text: &[u8], wanted: Wanted) -> Unread
-    ensures left { result.left ≡ length (past is_space text.now) }
+    ensures left { result.left ≡ length (past_spaces text.now) }
     ensures wanted { result.wanted ≡ wanted }
 {
     Unread {

@@ -3,33 +3,52 @@
 ghost use Rattle.std.specs.Prelude.{◌≡◌};
 ghost use Rattle.svc_draft.specs.Layouts.{layout_of};
 ghost use Rattle.svc_operands.specs.Reading.{Gives};
-ghost use Rattle.svc_operands.specs.Values.{plain_term_at, bits_of, opposite_at, term_at, sum, sum_with, value_at, high_part, low_part, from_here, enclosed_at, high_at, low_at, short_at, upper_at, address_at};
+ghost use Rattle.svc_operands.specs.Values.{place_of, place_at, plain_term_at, bits_of, opposite_at, term_at, sum, sum_with, value_at, high_part, low_part, from_here, enclosed_at, high_at, low_at, short_at, upper_at, address_at};
 
-use crate::characters::{number_of, skip_mark, skip_spaces, split_name};
+use crate::characters::{skip_mark, skip_spaces, split_name};
 use crate::names::is_word;
 use crate::operands::{
     Signed, distance, long, read_behind_sign, read_mark, read_number, read_number_short,
     read_number_upper, read_register, short,
 };
+use crate::references::{reference_named, referred};
 use crate::unread::{Unread, Wanted, stopped_at};
 use svc_draft::Draft;
 use svc_rv32i::{Long, Register, Short};
 
-// A number, `.` for the address of what comes next, or a label.
+// What a name stands for: `.` for the address of what comes next, and a label for its own.
+#[tactic(auto, unfolding(crate::specs::Values::place_of))]
+fn place_of(draft: &Draft, name: &[u8]) -> Option<u32>
+    ensures { result ≡ place_of (layout_of draft.now) name.now }
+{
+    if is_word(name, ".") {
+        return Some(draft.here());
+    }
+    if let Some(reference) = reference_named(name) {
+        return referred(draft, reference);
+    }
+    draft.address_of(name)
+}
+
+#[tactic(auto, unfolding(crate::specs::Values::place_at))]
+fn read_place<'a>(draft: &Draft, text: &'a [u8]) -> Result<(u32, &'a [u8]), Unread>
+    ensures { Gives (λ x. (x.0, x.1.now)) result (place_at (layout_of draft.now) text.now) }
+{
+    let (name, rest) = split_name(text);
+    match place_of(draft, name) {
+        Some(address) => Ok((address, rest)),
+        None => Err(stopped_at(text, Wanted::Value)),
+    }
+}
+
+// A number, `.`, or a label.
 #[tactic(auto, unfolding(crate::specs::Values::plain_term_at))]
 fn read_plain_term<'a>(draft: &Draft, text: &'a [u8]) -> Result<(u32, &'a [u8]), Unread>
     ensures { Gives (λ x. (x.0, x.1.now)) result (plain_term_at (layout_of draft.now) text.now) }
 {
-    let (name, rest) = split_name(text);
-    if let Some(number) = number_of(name) {
-        return Ok((number, rest));
-    }
-    if is_word(name, ".") {
-        return Ok((draft.here(), rest));
-    }
-    match draft.address_of(name) {
-        Some(address) => Ok((address, rest)),
-        None => Err(stopped_at(text, Wanted::Value)),
+    match read_number(text) {
+        Ok(read) => Ok(read),
+        Err(_) => read_place(draft, text),
     }
 }
 

@@ -129,19 +129,35 @@ fn is_told(alloc: Global, text: &str, wanted: &str) -> bool {
 }
 
 // Texts that make no image, each with what is told of it.
-const FAULTS: [(&str, &str); 7] = [
+const FAULTS: [(&str, &str); 11] = [
     (
         "nop\n  frob x1\n",
-        "2:3: an instruction or a directive may stand here",
+        "2:3: found `frob`, expected an instruction or a directive",
     ),
-    ("add x1, x2 x3\n", "1:12: a comma may stand here"),
+    ("add x1, x2 x3\n", "1:12: found `x3`, expected a comma"),
     (
         "addi x1, x2,  2048\n",
-        "1:15: a number from -2048 to 2047 may stand here",
+        "1:15: found `2048`, expected a number from -2048 to 2047",
     ),
     (
         "j nowhere\n",
-        "1:3: a label of this text or an offset as . + 8 may stand here",
+        "1:3: found `nowhere`, expected a label of this text or an offset as . + 8",
+    ),
+    (
+        "1:\nj 2b\n",
+        "2:3: found `2b`, expected a label of this text or an offset as . + 8",
+    ),
+    (
+        "/* a comment\nof two lines */ nop\n\tfrob\n",
+        "3:2: found `frob`, expected an instruction or a directive",
+    ),
+    (
+        "nop \x01\n",
+        "1:5: found `\\x01`, expected the end of the line",
+    ),
+    (
+        "abcdefghijklmnopqrstuvwxyz x1\n",
+        "1:1: found `abcdefghijklmnopqrstuvwx...`, expected an instruction or a directive",
     ),
     ("a: nop\na: nop\n", "2:1: a label has a name of its own"),
     (

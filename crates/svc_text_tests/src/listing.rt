@@ -31,11 +31,13 @@ fn a_listing_is_assembled_to_its_image(rt: HostRuntime) {
 // The listing of the sample of version 2, of which no register is set.
 const TEXT: &str = "\
 .svc_version 2
-.svc_start 0
+.svc_start at_00000000
+at_00000000:
 .svc_entry 3
 lui x5, 256\t# 0x00000000 001002b7
 addi x1, x0, 5\t# 0x00000004 00500093
 sw x1, 0(x5)\t# 0x00000008 0012a023
+at_0000000c:
 .svc_entry 6
 lui x5, 256\t# 0x0000000c 001002b7
 lw x10, 0(x5)\t# 0x00000010 0002a503

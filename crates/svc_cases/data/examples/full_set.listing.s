@@ -1,12 +1,14 @@
 .svc_version 1
 .svc_limit 100
-.svc_start 0
+.svc_start at_00000000
 .svc_register x8, 1048576
+at_00000000:
 .svc_entry
 addi x5, x0, 3	# 0x00000000 00300293
 sw x5, 0(x8)	# 0x00000004 00542023
 addi x5, x0, 4	# 0x00000008 00400293
 sw x5, 4(x8)	# 0x0000000c 00542223
+at_00000010:
 .svc_entry
 lw x5, 0(x8)	# 0x00000010 00042283
 lw x6, 4(x8)	# 0x00000014 00442303

@@ -1,14 +1,17 @@
 .svc_version 1
 .svc_limit 100
-.svc_start 0
+.svc_start at_00000000
 .svc_register x8, 1048576
+at_00000000:
 .svc_entry
 addi x5, x0, 6	# 0x00000000 00600293
 sw x5, 0(x8)	# 0x00000004 00542023
+at_00000008:
 .svc_entry
 lw x5, 0(x8)	# 0x00000008 00042283
 add x5, x5, x5	# 0x0000000c 005282b3
 sw x5, 4(x8)	# 0x00000010 00542223
+at_00000014:
 .svc_entry
 lw x10, 4(x8)	# 0x00000014 00442503
 addi x17, x0, 1	# 0x00000018 00100893

@@ -1,10 +1,12 @@
 .svc_version 1
 .svc_limit 100
-.svc_start 0
+.svc_start at_00000000
 .svc_register x8, 1048576
+at_00000000:
 .svc_entry
 addi x5, x0, 7	# 0x00000000 00700293
 sw x5, 0(x8)	# 0x00000004 00542023
+at_00000008:
 .svc_entry
 lw x10, 0(x8)	# 0x00000008 00042503
 addi x17, x0, 1	# 0x0000000c 00100893

@@ -1,13 +1,15 @@
 .svc_version 1
 .svc_limit 100
-.svc_start 0
+.svc_start at_00000000
 .svc_register x8, 1048576
+at_00000000:
 .svc_entry
 lw x5, 0(x8)	# 0x00000000 00042283
 addi x5, x5, 1	# 0x00000004 00128293
 sw x5, 0(x8)	# 0x00000008 00542023
 addi x6, x0, 3	# 0x0000000c 00300313
-blt x5, x6, . - 16	# 0x00000010 fe62c8e3
+blt x5, x6, at_00000000	# 0x00000010 fe62c8e3
+at_00000014:
 .svc_entry
 lw x10, 0(x8)	# 0x00000014 00042503
 addi x17, x0, 1	# 0x00000018 00100893

@@ -1,0 +1,3 @@
+.svc_entry
+    nop [0m
+    ecall

@@ -1,0 +1,4 @@
+.svc_entry /* a comment
+of
+  three lines */
+    frob

@@ -1,0 +1,5 @@
+.svc_entry
+1:  nop
+    j 1b
+    j 1f
+    ecall

@@ -1,0 +1,117 @@
+// The labels of a text: at its entries, and at the targets of its branches and jumps.
+
+ghost use Rattle.std.specs.Prelude.{◌≡◌, ℕ, ◌+◌, ◌*◌, ◌-◌, ◌<◌, ◌≤◌, ◌%◌, ◌||◌, ◌==◌, false, length, slice_index_or, All, IfOk, IfSome};
+ghost use Rattle.std.specs.List.{list_any};
+ghost use Rattle.svc_rv32i.specs.Meaning.{meaning};
+ghost use Rattle.svc_image.specs.Image.{StartsWord};
+ghost use Rattle.svc_list.specs.Listings.{led, placed, target_of, is_at, is_target, is_labelled};
+
+use std::alloc::{AllocError, Global};
+use svc_rv32i::{Instr, decode};
+
+// The address that so many steps of two bytes lead to: `half` of the numbers of their bits are forward.
+fn led(half: u32, address: u32, steps: u32) -> Option<u32>
+    requires half { half ≤ 524288 }
+    requires address { address < 262144 }
+    requires steps { steps < 2 * half }
+    ensures { result ≡ led half address steps }
+{
+    if steps < half {
+        return Some(address + 2 * steps);
+    }
+    let back = 2 * (2 * half - steps);
+    if back <= address {
+        return Some(address - back);
+    }
+    None
+}
+
+// An address at which a word of the text begins, which has so many.
+fn placed(count: u32, target: Option<u32>) -> Option<u32>
+    requires { count ≤ 65536 }
+    ensures value { result ≡ placed count target }
+    ensures place { IfSome result (λ t. (t % 4 ≡ 0) × (t < 4 * count)) }
+{
+    match target {
+        Some(address) if address % 4 == 0 && address < 4 * count => Some(address),
+        _ => None,
+    }
+}
+
+/// Where in the text, which has so many words, the branch or the jump at an address leads.
+pub fn target_of(count: u32, address: u32, instr: Option<Instr>) -> Option<u32>
+    requires count { count ≤ 65536 }
+    requires address { address < 262144 }
+    ensures value { result ≡ target_of count address instr }
+    ensures place { IfSome result (λ t. (t % 4 ≡ 0) × (t < 4 * count)) }
+{
+    match instr {
+        Some(Instr::Jal { imm, .. }) => placed(count, led(524288, address, imm.bits)),
+        Some(Instr::Branch { imm, .. }) => placed(count, led(2048, address, imm.bits as u32)),
+        _ => None,
+    }
+}
+
+// Marks the word at which a target stands.
+fn mark(table: &mut [bool], target: Option<u32>)
+    requires { IfSome target (λ t. (t % 4 ≡ 0) × (t < 4 * length table.now)) }
+    ensures size { length table.new ≡ length table.old }
+    ensures marks { (n : ℕ) → n < length table.old
+        → slice_index_or table.new n false ≡ (slice_index_or table.old n false || is_at (4 * n) target) }
+{
+    if let Some(address) = target {
+        table[(address / 4) as usize] = true;
+    }
+}
+
+fn mark_entries(table: &mut [bool], entries: &[u32])
+    requires { All (StartsWord (length table.now)) entries.now }
+    ensures size { length table.new ≡ length table.old }
+    ensures marks { (n : ℕ) → n < length table.old
+        → slice_index_or table.new n false ≡ (slice_index_or table.old n false || list_any (λ e. e == 4 * n) entries.now) }
+{
+    for &entry in entries {
+        mark(table, Some(entry));
+    }
+}
+
+fn mark_targets(table: &mut [bool], text: &[u32])
+    requires few { length text.now ≤ 65536 }
+    requires each { length table.now ≡ length text.now }
+    ensures size { length table.new ≡ length table.old }
+    ensures marks { (n : ℕ) → n < length table.old
+        → slice_index_or table.new n false ≡ (slice_index_or table.old n false || is_target (length text.now) (4 * n) 0 text.now) }
+{
+    let count = text.len() as u32;
+    let mut address = 0;
+    for &word in text {
+        mark(table, target_of(count, address, decode(word)));
+        address += 4;
+    }
+}
+
+fn mark_all(table: &mut [bool], entries: &[u32], text: &[u32])
+    requires few { length text.now ≤ 65536 }
+    requires each { length table.now ≡ length text.now }
+    requires placed { All (StartsWord (length text.now)) entries.now }
+    ensures size { length table.new ≡ length table.old }
+    ensures marks { (n : ℕ) → n < length table.old
+        → slice_index_or table.new n false
+        ≡ ((slice_index_or table.old n false || list_any (λ e. e == 4 * n) entries.now) || is_target (length text.now) (4 * n) 0 text.now) }
+{
+    mark_entries(table, entries);
+    mark_targets(table, text);
+}
+
+/// For each word of a text, whether it has a label.
+pub fn labels_of(alloc: Global, entries: &[u32], text: &[u32]) -> Result<Vec<bool>, AllocError>
+    requires few { length text.now ≤ 65536 }
+    requires placed { All (StartsWord (length text.now)) entries.now }
+    ensures size { IfOk result (λ table. length table.items ≡ length text.now) }
+    ensures labels { IfOk result (λ table. (n : ℕ) → n < length text.now
+        → slice_index_or table.items n false ≡ is_labelled entries.now text.now n) }
+{
+    let mut table = vec![in alloc; false; text.len()]?;
+    mark_all(&mut table, entries, text);
+    Ok(table)
+}
