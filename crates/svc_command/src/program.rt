@@ -24,7 +24,8 @@ pub fn execute<R: Threads + Wait + Sync, F: Files, O: Write, E: Write>(
     out: &mut O,
     err: &mut E,
 ) -> u8
-    ensures done { result ≢ 1 → (request : Request) × MayAsk (texts words.now) request × Does request (F.held files.old) (F.held files.new) (O.contents out.old) (O.contents out.new) result }
+    ensures done { result ≢ 1 → (request : Request) × MayAsk (texts words.now) request
+        × Does request (F.held files.old) (F.held files.new) (O.contents out.old) (O.contents out.new) result }
     ensures status { result ≤ 2 }
 {
     match answer(rt, alloc, words, files, out) {
@@ -41,7 +42,8 @@ fn answer<R: Threads + Wait + Sync, F: Files, O: Write>(
     files: &mut F,
     out: &mut O,
 ) -> Result<u8, Fault>
-    ensures done { IfOk result (λ status. (request : Request) × MayAsk (texts words.now) request × Does request (F.held files.old) (F.held files.new) (O.contents out.old) (O.contents out.new) status) }
+    ensures done { IfOk result (λ status. (request : Request) × MayAsk (texts words.now) request
+        × Does request (F.held files.old) (F.held files.new) (O.contents out.old) (O.contents out.new) status) }
     ensures silent { IfErr result (λ fault. IsReportFault fault ⊎ (out.new ≡ out.old)) }
 {
     let request = request_of(alloc, words)?;

@@ -267,7 +267,8 @@ fn push_shape(
     entry: &Entry,
     marks: &mut Vec<Mark>,
 ) -> Result<(), ReportError>
-    ensures list { OnOk result (marks.new.items ≡ marks.old.items ++ shape bars.now at entry.now (kind_of entry.now.reply)) }
+    ensures list { OnOk result (marks.new.items ≡ marks.old.items
+        ++ shape bars.now at entry.now (kind_of entry.now.reply)) }
     ensures err { IfErr result (λ e. e ≡ Memory) }
 {
     if let Some(kind) = kind_of(entry.reply) {
@@ -318,7 +319,8 @@ fn push_marks(
     requires few { length entries.now ≤ MAX_EVENTS }
     requires after { window.now.from ≤ at }
     requires inside { at ≤ length entries.now }
-    ensures list { OnOk result (marks.new.items ≡ marks.old.items ++ marks_at entries.now window.now bars.now at entry.now) }
+    ensures list { OnOk result (marks.new.items ≡ marks.old.items
+        ++ marks_at entries.now window.now bars.now at entry.now) }
     ensures err { IfErr result (λ e. e ≡ Memory) }
 {
     push_shape(bars, at, entry, marks)?;

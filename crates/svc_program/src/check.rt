@@ -21,7 +21,8 @@ pub fn check<O: Write>(
     out: &mut O,
 ) -> Result<u8, Fault>
     ensures sound { IfOk result (FindsSound image.now config entries.now (O.contents out.old) (O.contents out.new)) }
-    ensures fault { IfErr result (λ fault. IsReportFault fault ⊎ (TellsOfTrace image.now config entries.now fault × (out.new ≡ out.old))) }
+    ensures fault { IfErr result (λ fault. IsReportFault fault
+        ⊎ (TellsOfTrace image.now config entries.now fault × (out.new ≡ out.old))) }
 {
     let _recorder = check_trace(alloc, image, config, entries)?;
     writeln!(out, "sound,{}", entries.len())?;

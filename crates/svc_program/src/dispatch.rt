@@ -31,13 +31,15 @@ pub fn perform<R: Threads + Wait + Sync, F: Files, O: Write>(
     files: &mut F,
     out: &mut O,
 ) -> Result<u8, Fault>
-    ensures done { IfOk result (Does request.entry (F.held files.old) (F.held files.new) (O.contents out.old) (O.contents out.new)) }
+    ensures done { IfOk result (Does request.entry (F.held files.old) (F.held files.new) (O.contents out.old)
+        (O.contents out.new)) }
     ensures silent { IfErr result (λ fault. IsReportFault fault ⊎ (out.new ≡ out.old)) }
     ensures order { IfErr result (λ fault. IsEarly fault ⊎ HasImage request.entry (F.held files.old)) }
     ensures kept { KeepsFiles request.entry (F.held files.old) (F.held files.new) }
 
     // Nothing is read or written if that would lose a file.
-    ensures apart { IsOverItself request.entry → (result ≡ Err Fault.File) × (F.held files.new ≡ F.held files.old) × (out.new ≡ out.old) }
+    ensures apart { IsOverItself request.entry → (result ≡ Err Fault.File) × (F.held files.new ≡ F.held files.old)
+        × (out.new ≡ out.old) }
 {
     if request.is_over_itself() || request.is_over_one_file(files) {
         return Err(Fault::File);
@@ -53,7 +55,8 @@ fn dispatch<R: Threads + Wait + Sync, F: Files, O: Write>(
     files: &mut F,
     out: &mut O,
 ) -> Result<u8, Fault>
-    ensures done { IfOk result (Does request.entry (F.held files.old) (F.held files.new) (O.contents out.old) (O.contents out.new)) }
+    ensures done { IfOk result (Does request.entry (F.held files.old) (F.held files.new) (O.contents out.old)
+        (O.contents out.new)) }
     ensures silent { IfErr result (λ fault. IsReportFault fault ⊎ (out.new ≡ out.old)) }
     ensures order { IfErr result (λ fault. IsEarly fault ⊎ HasImage request.entry (F.held files.old)) }
     ensures kept { KeepsFiles request.entry (F.held files.old) (F.held files.new) }

@@ -25,7 +25,8 @@ pub fn draw_trace(
     count: u32,
 ) -> Result<Vec<u8>, Fault>
     ensures drawn { IfOk result (λ _. IsDrawn image.now config entries.now from) }
-    ensures fault { IfErr result (λ fault. (fault ≡ File) ⊎ IsReportFault fault ⊎ TellsOfTrace image.now config entries.now fault) }
+    ensures fault { IfErr result (λ fault. (fault ≡ File) ⊎ IsReportFault fault
+        ⊎ TellsOfTrace image.now config entries.now fault) }
 {
     let _recorder = check_trace(alloc, image, config, entries)?;
     if from as usize > entries.len() {

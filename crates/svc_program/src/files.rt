@@ -18,7 +18,8 @@ pub trait Files {
 
     /// A reader of a file, which may have more bytes than there is memory for, or no end.
     fn open(&mut self, name: &str) -> Result<Self::Reader, FileFault>
-        ensures bytes { IfOk result (λ reader. IfSome (held self.old name.now) (λ known. Self.Reader.remaining reader ≡ Some known)) }
+        ensures bytes { IfOk result (λ reader. IfSome (held self.old name.now)
+            (λ known. Self.Reader.remaining reader ≡ Some known)) }
         ensures kept { held self.new ≡ held self.old };
 
     /// Makes these bytes the whole content of a file, which is created if there is none.

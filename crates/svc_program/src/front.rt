@@ -10,7 +10,8 @@ use std::io::Read;
 /// What a reader gives, up to one byte more than `most`. If there are at most `most` bytes, they
 /// are the whole file.
 pub fn front_of<R: Read + Drop>(alloc: Global, reader: R, most: u32) -> Result<Vec<u8>, Fault>
-    ensures whole { IfOk result (λ bytes. length bytes.items ≤ most → IfSome (R.remaining reader) (λ known. bytes.items ≡ known)) }
+    ensures whole { IfOk result (λ bytes. length bytes.items ≤ most
+        → IfSome (R.remaining reader) (λ known. bytes.items ≡ known)) }
     ensures early { IfErr result IsEarly }
 {
     let mut bytes = Vec::new(alloc);

@@ -28,7 +28,8 @@ pub fn profile<O: Write>(
     by: Option<Table<'_>>,
     out: &mut O,
 ) -> Result<u8, Fault>
-    ensures profile { IfOk result (TellsCost by.entry image.now config entries.now (O.contents out.old) (O.contents out.new)) }
+    ensures profile { IfOk result (TellsCost by.entry image.now config entries.now (O.contents out.old)
+        (O.contents out.new)) }
     ensures fault { IfErr result (λ fault.
         IsReportFault fault ⊎ (TellsOfTrace image.now config entries.now fault × (out.new ≡ out.old))) }
 {
@@ -50,7 +51,8 @@ fn write_cost<O: Write>(
     out: &mut O,
 ) -> Result<(), ReportError>
     requires few { length entries.now ≤ MAX_EVENTS }
-    ensures ok { OnOk result (Appends (O.contents out.old) (O.contents out.new) (cost_text by.entry config entries.now)) }
+    ensures ok { OnOk result (Appends (O.contents out.old) (O.contents out.new)
+        (cost_text by.entry config entries.now)) }
     ensures err { IfErr result IsWriteFault }
 {
     match by {

@@ -63,7 +63,9 @@ fn play_all<O: Write>(
 ) -> Result<u8, Fault>
     ensures start { IsLegal recorder.old }
     ensures last { OnOk result (IsLegal recorder.new) }
-    ensures played { IfOk result (λ exit. (between : Option (List ℕ)) × HasPlayed steps.now (length steps.now) recorder.old kept.old.items recorder.new kept.new.items (O.contents out.old) between × ReportsOn recorder.new between (O.contents out.new) exit) }
+    ensures played { IfOk result (λ exit. (between : Option (List ℕ))
+        × HasPlayed steps.now (length steps.now) recorder.old kept.old.items recorder.new kept.new.items
+        (O.contents out.old) between × ReportsOn recorder.new between (O.contents out.new) exit) }
     ensures fault { IfErr result IsReportFault }
 {
     let _start = recorder.entries();
@@ -93,7 +95,9 @@ fn play<O: Write>(
     steps: &[Step],
     out: &mut O,
 ) -> Result<(), Fault>
-    ensures played { OnOk result (HasPlayed steps.now (length steps.now) recorder.old kept.old.items recorder.new kept.new.items (O.contents out.old) (O.contents out.new)) }
+    ensures played { OnOk result (HasPlayed steps.now
+        (length steps.now) recorder.old kept.old.items recorder.new kept.new.items (O.contents out.old)
+        (O.contents out.new)) }
     ensures fault { IfErr result IsReportFault }
 {
     for step in steps {
@@ -159,7 +163,8 @@ fn submitted(recorder: &mut Recorder, unit: UnitId, turns: u32) -> Answer
 
 // Runs the unit's task on, and keeps that burst.
 fn taken(recorder: &Recorder, kept: &mut Kept, unit: UnitId, turns: u32) -> Answer
-    ensures { Takes (lease_of recorder.now.machine unit.0) turns unit recorder.now kept.old.items result kept.new.items }
+    ensures { Takes (lease_of recorder.now.machine unit.0) turns unit recorder.now kept.old.items result
+        kept.new.items }
 {
     let Ok(burst) = burst(recorder, unit, turns) else {
         return Answer::Nothing;

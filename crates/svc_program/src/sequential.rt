@@ -20,7 +20,8 @@ pub fn sequential<O: Write>(
     tasks: u32,
     out: &mut O,
 ) -> Result<u8, Fault>
-    ensures report { IfOk result (Reports image.now tasks (tasks_run image.now tasks) false None (O.contents out.old) (O.contents out.new)) }
+    ensures report { IfOk result (Reports image.now tasks (tasks_run image.now tasks) false None (O.contents out.old)
+        (O.contents out.new)) }
     ensures silent { IfErr result (λ fault. IsReportFault fault ⊎ (out.new ≡ out.old)) }
 {
     let outcome = run_tasks(alloc, image, u64::from(tasks))?;

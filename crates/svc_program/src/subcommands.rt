@@ -39,10 +39,12 @@ pub(crate) fn do_run<R: Threads + Wait + Sync, F: Files, O: Write>(
     files: &mut F,
     out: &mut O,
 ) -> Result<u8, Fault>
-    ensures done { IfOk result (Does (request.Run image.entry config schedule trace.entry row.entry) (F.held files.old) (F.held files.new) (O.contents out.old) (O.contents out.new)) }
+    ensures done { IfOk result (Does (request.Run image.entry config schedule trace.entry row.entry) (F.held files.old)
+        (F.held files.new) (O.contents out.old) (O.contents out.new)) }
     ensures silent { IfErr result (λ fault. IsReportFault fault ⊎ (out.new ≡ out.old)) }
     ensures order { IfErr result (λ fault. IsEarly fault ⊎ IsThere (F.held files.old) image.entry) }
-    ensures kept { KeepsFiles (request.Run image.entry config schedule trace.entry row.entry) (F.held files.old) (F.held files.new) }
+    ensures kept { KeepsFiles (request.Run image.entry config schedule trace.entry row.entry) (F.held files.old)
+        (F.held files.new) }
 {
     let image = load_image(alloc, image, files)?;
     let recorder = run_image(rt, alloc, &image, config, schedule)?;
@@ -58,7 +60,8 @@ pub(crate) fn do_sequential<F: Files, O: Write>(
     files: &mut F,
     out: &mut O,
 ) -> Result<u8, Fault>
-    ensures done { IfOk result (Does (request.Sequential image.entry tasks) (F.held files.old) (F.held files.new) (O.contents out.old) (O.contents out.new)) }
+    ensures done { IfOk result (Does (request.Sequential image.entry tasks) (F.held files.old) (F.held files.new)
+        (O.contents out.old) (O.contents out.new)) }
     ensures silent { IfErr result (λ fault. IsReportFault fault ⊎ (out.new ≡ out.old)) }
     ensures order { IfErr result (λ fault. IsEarly fault ⊎ IsThere (F.held files.old) image.entry) }
     ensures kept { F.held files.new ≡ F.held files.old }
@@ -76,7 +79,8 @@ pub(crate) fn do_script<F: Files, O: Write>(
     files: &mut F,
     out: &mut O,
 ) -> Result<u8, Fault>
-    ensures done { IfOk result (Does (request.Script image.entry config events.entry) (F.held files.old) (F.held files.new) (O.contents out.old) (O.contents out.new)) }
+    ensures done { IfOk result (Does (request.Script image.entry config events.entry) (F.held files.old)
+        (F.held files.new) (O.contents out.old) (O.contents out.new)) }
     ensures silent { IfErr result (λ fault. IsReportFault fault ⊎ (out.new ≡ out.old)) }
     ensures order { IfErr result (λ fault. IsEarly fault ⊎ IsThere (F.held files.old) image.entry) }
     ensures kept { F.held files.new ≡ F.held files.old }
@@ -112,7 +116,8 @@ pub(crate) fn do_check<F: Files, O: Write>(
     files: &mut F,
     out: &mut O,
 ) -> Result<u8, Fault>
-    ensures done { IfOk result (Does (request.Check image.entry config trace.entry) (F.held files.old) (F.held files.new) (O.contents out.old) (O.contents out.new)) }
+    ensures done { IfOk result (Does (request.Check image.entry config trace.entry) (F.held files.old)
+        (F.held files.new) (O.contents out.old) (O.contents out.new)) }
     ensures silent { IfErr result (λ fault. IsReportFault fault ⊎ (out.new ≡ out.old)) }
     ensures order { IfErr result (λ fault. IsEarly fault ⊎ IsThere (F.held files.old) image.entry) }
     ensures kept { F.held files.new ≡ F.held files.old }
@@ -131,7 +136,8 @@ pub(crate) fn do_profile<F: Files, O: Write>(
     files: &mut F,
     out: &mut O,
 ) -> Result<u8, Fault>
-    ensures done { IfOk result (Does (request.Profile image.entry config trace.entry by.entry) (F.held files.old) (F.held files.new) (O.contents out.old) (O.contents out.new)) }
+    ensures done { IfOk result (Does (request.Profile image.entry config trace.entry by.entry) (F.held files.old)
+        (F.held files.new) (O.contents out.old) (O.contents out.new)) }
     ensures silent { IfErr result (λ fault. IsReportFault fault ⊎ (out.new ≡ out.old)) }
     ensures order { IfErr result (λ fault. IsEarly fault ⊎ IsThere (F.held files.old) image.entry) }
     ensures kept { F.held files.new ≡ F.held files.old }
@@ -150,7 +156,8 @@ pub(crate) fn do_show<F: Files, O: Write>(
     files: &mut F,
     out: &mut O,
 ) -> Result<u8, Fault>
-    ensures done { IfOk result (Does (request.Show image.entry config trace.entry at) (F.held files.old) (F.held files.new) (O.contents out.old) (O.contents out.new)) }
+    ensures done { IfOk result (Does (request.Show image.entry config trace.entry at) (F.held files.old)
+        (F.held files.new) (O.contents out.old) (O.contents out.new)) }
     ensures silent { IfErr result (λ fault. IsReportFault fault ⊎ (out.new ≡ out.old)) }
     ensures order { IfErr result (λ fault. IsEarly fault ⊎ IsThere (F.held files.old) image.entry) }
     ensures kept { F.held files.new ≡ F.held files.old }
@@ -170,7 +177,9 @@ pub(crate) fn do_draw<F: Files>(
     count: u32,
     files: &mut F,
 ) -> Result<u8, Fault>
-    ensures done { IfOk result (λ exit. (out : Option (List ℕ)) → Does (request.Draw image.entry config trace.entry picture.entry from count) (F.held files.old) (F.held files.new) out out exit) }
+    ensures done { IfOk result (λ exit. (out : Option (List ℕ))
+        → Does (request.Draw image.entry config trace.entry picture.entry from count) (F.held files.old)
+        (F.held files.new) out out exit) }
     ensures order { IfErr result (λ fault. IsEarly fault ⊎ IsThere (F.held files.old) image.entry) }
 {
     let (image, entries) = load_traced(alloc, image, trace, files)?;
@@ -186,7 +195,8 @@ pub(crate) fn do_list<F: Files, O: Write>(
     files: &mut F,
     out: &mut O,
 ) -> Result<u8, Fault>
-    ensures done { IfOk result (Does (request.List image.entry) (F.held files.old) (F.held files.new) (O.contents out.old) (O.contents out.new)) }
+    ensures done { IfOk result (Does (request.List image.entry) (F.held files.old) (F.held files.new)
+        (O.contents out.old) (O.contents out.new)) }
     ensures silent { IfErr result (λ fault. IsReportFault fault ⊎ (out.new ≡ out.old)) }
     ensures order { IfErr result (λ fault. IsEarly fault ⊎ IsThere (F.held files.old) image.entry) }
     ensures kept { F.held files.new ≡ F.held files.old }

@@ -25,7 +25,8 @@ pub fn print<O: Write>(
 ) -> Result<u8, Fault>
     ensures status { IfOk result (λ status. status ≡ status_of ending) }
     ensures fault { IfErr result IsReportFault }
-    ensures text { OnOk result (Appends (O.contents out.old) (O.contents out.new) (summary_of output.now tasks ending counts)) }
+    ensures text { OnOk result (Appends (O.contents out.old) (O.contents out.new)
+        (summary_of output.now tasks ending counts)) }
 {
     write_summary(alloc, output, tasks, ending, counts, out)?;
     out.flush()?;

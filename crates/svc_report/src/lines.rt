@@ -90,7 +90,8 @@ impl Pending {
         fields: &[&[u8]],
         w: &mut W,
     ) -> Result<(), ReportError>
-        ensures ok { OnOk result (Appends (append_known (W.contents w.old) self.old) (append_known (W.contents w.new) self.new) (row_text default_writer (map (λ f. f.now) fields.now))) }
+        ensures ok { OnOk result (Appends (append_known (W.contents w.old) self.old)
+            (append_known (W.contents w.new) self.new) (row_text default_writer (map (λ f. f.now) fields.now))) }
         ensures err { IfErr result IsWriteFault }
     {
         self.push(fields)?;

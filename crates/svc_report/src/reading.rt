@@ -25,7 +25,8 @@ pub(crate) trait Row: Drop {
 
     /// The item of a record, or the first bad column.
     fn of(row: &ByteRecord) -> Result<Self, u8>
-        ensures { MatchResult result (λ item. has_row item × (fields_of row.now ≡ columns item)) (λ c. first_bad (fields_of row.now) c) };
+        ensures { MatchResult result (λ item. has_row item × (fields_of row.now ≡ columns item))
+            (λ c. first_bad (fields_of row.now) c) };
 }
 
 /// Reads a text with these names of columns.
@@ -39,7 +40,8 @@ pub(crate) fn read_rows<T: Row, R: Read + Drop>(
     ensures ok { IfOk result (λ v. AllByRecursion T.has_row v.items × IfSome (R.remaining reader)
         (λ text. IsRead text (records_of (map (λ n. n.now) names.now) T.columns v.items))) }
     // The first bad record and its first bad column.
-    ensures err { IfErr result (λ e. IsRowsFault (map (λ n. n.now) names.now) T.columns T.has_row T.first_bad (R.remaining reader) e) }
+    ensures err { IfErr result (λ e. IsRowsFault (map (λ n. n.now) names.now) T.columns T.has_row T.first_bad
+        (R.remaining reader) e) }
 {
     let mut reader = open(alloc, reader);
     let mut row = ByteRecord::new(alloc);

@@ -35,7 +35,8 @@ pub(crate) fn next_row<R: Read>(
     row: &mut ByteRecord,
 ) -> Result<bool, ReportError>
     requires { IsOpen reader.old }
-    ensures reads { IfOk result (λ found. IsOpen reader.new × ReadRecord R.remaining reader.old reader.new found (fields_of row.new)) }
+    ensures reads { IfOk result (λ found. IsOpen reader.new
+        × ReadRecord R.remaining reader.old reader.new found (fields_of row.new)) }
     ensures err { IfErr result IsStreamFault }
 {
     match reader.read_byte_record(row) {
@@ -60,7 +61,8 @@ pub(crate) fn field(row: &ByteRecord, place: usize) -> &[u8]
 /// Compares a record with names, and returns the first column that has a different one.
 pub(crate) fn check_names(row: &ByteRecord, names: &[&[u8]]) -> Result<(), u8>
     requires { length names.now ≤ 100 }
-    ensures { MatchResult result (λ _. fields_of row.now ≡ map (λ n. n.now) names.now) (λ c. FirstOther (fields_of row.now) (map (λ n. n.now) names.now) c) }
+    ensures { MatchResult result (λ _. fields_of row.now ≡ map (λ n. n.now) names.now)
+        (λ c. FirstOther (fields_of row.now) (map (λ n. n.now) names.now) c) }
 {
     if row.len() != names.len() {
         return Err(0);

@@ -95,7 +95,8 @@ const HEADER: [&[u8]; 3] = [b"kind", b"unit", b"arg"];
 
 // The step of a record, or the first bad column.
 fn step_of(row: &ByteRecord) -> Result<Step, u8>
-    ensures { MatchResult result (λ s. HasStepRow s × (fields_of row.now ≡ step_columns s)) (λ c. FirstBadStep (fields_of row.now) c) }
+    ensures { MatchResult result (λ s. HasStepRow s × (fields_of row.now ≡ step_columns s))
+        (λ c. FirstBadStep (fields_of row.now) c) }
 {
     if row.len() != HEADER.len() {
         return Err(0);
@@ -125,7 +126,8 @@ impl Row for Step {
 /// bad column.
 pub fn read_script<R: Read + Drop>(alloc: Global, reader: R) -> Result<Vec<Step>, ReportError>
     // The text is the names of the columns and the rows of these steps, and no other record.
-    ensures ok { IfOk result (λ v. AllByRecursion HasStepRow v.items × IfSome (R.remaining reader) (λ text. IsText text (script_records v.items))) }
+    ensures ok { IfOk result (λ v. AllByRecursion HasStepRow v.items
+        × IfSome (R.remaining reader) (λ text. IsText text (script_records v.items))) }
     // The first bad record and its first bad column.
     ensures err { IfErr result (λ e. IsScriptFault (R.remaining reader) e) }
 {

@@ -22,7 +22,8 @@ fn write_number<W: Write>(
     w: &mut W,
 ) -> Result<(), ReportError>
     requires { IsPlain name.now }
-    ensures ok { OnOk result (Appends (append_known (W.contents w.old) pending.old) (append_known (W.contents w.new) pending.new) (number_row name.now number)) }
+    ensures ok { OnOk result (Appends (append_known (W.contents w.old) pending.old)
+        (append_known (W.contents w.new) pending.new) (number_row name.now number)) }
     ensures err { IfErr result IsWriteFault }
 {
     let mut text = Buffer::new();
@@ -36,7 +37,8 @@ fn write_output<W: Write>(
     output: &[u32],
     w: &mut W,
 ) -> Result<(), ReportError>
-    ensures ok { OnOk result (Appends (append_known (W.contents w.old) pending.old) (append_known (W.contents w.new) pending.new) (output_rows output.now)) }
+    ensures ok { OnOk result (Appends (append_known (W.contents w.old) pending.old)
+        (append_known (W.contents w.new) pending.new) (output_rows output.now)) }
     ensures err { IfErr result IsWriteFault }
 {
     for word in output {
@@ -75,7 +77,8 @@ fn write_ending<W: Write>(
     ending: Ending,
     w: &mut W,
 ) -> Result<(), ReportError>
-    ensures ok { OnOk result (Appends (append_known (W.contents w.old) pending.old) (append_known (W.contents w.new) pending.new) (ending_row ending)) }
+    ensures ok { OnOk result (Appends (append_known (W.contents w.old) pending.old)
+        (append_known (W.contents w.new) pending.new) (ending_row ending)) }
     ensures err { IfErr result IsWriteFault }
 {
     write_number(pending, ending_word(ending), ending_number(ending), w)
@@ -87,7 +90,8 @@ fn write_kinds<W: Write>(
     counts: &Counts,
     w: &mut W,
 ) -> Result<(), ReportError>
-    ensures ok { OnOk result (Appends (append_known (W.contents w.old) pending.old) (append_known (W.contents w.new) pending.new) (kind_rows counts.now)) }
+    ensures ok { OnOk result (Appends (append_known (W.contents w.old) pending.old)
+        (append_known (W.contents w.new) pending.new) (kind_rows counts.now)) }
     ensures err { IfErr result IsWriteFault }
 {
     write_number(pending, "kind-assign", counts.assign, w)?;
@@ -103,7 +107,8 @@ fn write_suppliers<W: Write>(
     counts: &Counts,
     w: &mut W,
 ) -> Result<(), ReportError>
-    ensures ok { OnOk result (Appends (append_known (W.contents w.old) pending.old) (append_known (W.contents w.new) pending.new) (supplier_rows counts.now)) }
+    ensures ok { OnOk result (Appends (append_known (W.contents w.old) pending.old)
+        (append_known (W.contents w.new) pending.new) (supplier_rows counts.now)) }
     ensures err { IfErr result IsWriteFault }
 {
     write_number(pending, "served-hit", counts.hit, w)?;
@@ -120,7 +125,8 @@ fn write_causes<W: Write>(
     counts: &Counts,
     w: &mut W,
 ) -> Result<(), ReportError>
-    ensures ok { OnOk result (Appends (append_known (W.contents w.old) pending.old) (append_known (W.contents w.new) pending.new) (cause_rows counts.now)) }
+    ensures ok { OnOk result (Appends (append_known (W.contents w.old) pending.old)
+        (append_known (W.contents w.new) pending.new) (cause_rows counts.now)) }
     ensures err { IfErr result IsWriteFault }
 {
     write_number(pending, "cut-violation", counts.violation, w)?;
@@ -134,7 +140,8 @@ fn write_counts<W: Write>(
     counts: Option<Counts>,
     w: &mut W,
 ) -> Result<(), ReportError>
-    ensures ok { OnOk result (Appends (append_known (W.contents w.old) pending.old) (append_known (W.contents w.new) pending.new) (counts_rows counts)) }
+    ensures ok { OnOk result (Appends (append_known (W.contents w.old) pending.old)
+        (append_known (W.contents w.new) pending.new) (counts_rows counts)) }
     ensures err { IfErr result IsWriteFault }
 {
     let Some(counts) = counts else {
@@ -157,7 +164,8 @@ pub fn write_summary<W: Write>(
     counts: Option<Counts>,
     w: &mut W,
 ) -> Result<(), ReportError>
-    ensures ok { OnOk result (Appends (W.contents w.old) (W.contents w.new) (summary_of output.now tasks ending counts)) }
+    ensures ok { OnOk result (Appends (W.contents w.old) (W.contents w.new)
+        (summary_of output.now tasks ending counts)) }
     ensures err { IfErr result IsWriteFault }
 {
     let mut pending = Pending::new(alloc);

@@ -80,7 +80,8 @@ pub fn write_summary_row<W: Write>(
     counts: &Counts,
     w: &mut W,
 ) -> Result<(), ReportError>
-    ensures ok { OnOk result (Appends (W.contents w.old) (W.contents w.new) (summary_row row.entry tasks ending counts.now)) }
+    ensures ok { OnOk result (Appends (W.contents w.old) (W.contents w.new)
+        (summary_row row.entry tasks ending counts.now)) }
     ensures err { IfErr result IsWriteFault }
 {
     let mut fields = Fields::new(alloc);

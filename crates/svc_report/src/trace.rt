@@ -49,7 +49,8 @@ const MOST_LOCAL: u8 = 63;
 
 // Writes the row of an entry, by way of what is pending.
 fn write_row<W: Write>(pending: &mut Pending, entry: &Entry, w: &mut W) -> Result<(), ReportError>
-    ensures ok { OnOk result (Appends (append_known (W.contents w.old) pending.old) (append_known (W.contents w.new) pending.new) (row_of entry.now)) }
+    ensures ok { OnOk result (Appends (append_known (W.contents w.old) pending.old)
+        (append_known (W.contents w.new) pending.new) (row_of entry.now)) }
     ensures err { IfErr result IsWriteFault }
 {
     let mut unit = Buffer::new();
@@ -107,7 +108,8 @@ pub fn write_trace<W: Write>(alloc: Global, entries: &[Entry], w: &mut W) -> Res
 
 // The entry of a record, or the first bad column.
 fn entry_of(row: &ByteRecord) -> Result<Entry, u8>
-    ensures { MatchResult result (λ e. HasRow e × (fields_of row.now ≡ columns e)) (λ c. FirstBad (fields_of row.now) c) }
+    ensures { MatchResult result (λ e. HasRow e × (fields_of row.now ≡ columns e))
+        (λ c. FirstBad (fields_of row.now) c) }
 {
     if row.len() != HEADER.len() {
         return Err(0);
@@ -147,11 +149,13 @@ impl Row for Entry {
 /// bad column.
 pub fn read_trace<R: Read + Drop>(alloc: Global, reader: R) -> Result<Vec<Entry>, ReportError>
     // The text is the names of the columns and the rows of these entries, and no other record.
-    ensures ok { IfOk result (λ v. AllByRecursion HasRow v.items × IfSome (R.remaining reader) (λ text. IsText text (trace_records v.items))) }
+    ensures ok { IfOk result (λ v. AllByRecursion HasRow v.items
+        × IfSome (R.remaining reader) (λ text. IsText text (trace_records v.items))) }
     // The first bad record and its first bad column.
     ensures err { IfErr result (λ e. IsReadFault (R.remaining reader) e) }
     // The text of a history is read back, unless memory or the reader fails.
-    ensures back { (h : List Entry) → AllByRecursion HasRow h → R.remaining reader ≡ Some (text_of h) → MatchResult result (λ v. v.items ≡ h) IsStreamFault }
+    ensures back { (h : List Entry) → AllByRecursion HasRow h → R.remaining reader ≡ Some (text_of h)
+        → MatchResult result (λ v. v.items ≡ h) IsStreamFault }
 {
     read_rows(alloc, reader, &HEADER)
 }

@@ -49,7 +49,8 @@ fn write_total<W: Write>(total: Total, runs: &[TaskRun], w: &mut W) -> Result<()
 fn write_totals<W: Write>(totals: &[Total], runs: &[TaskRun], w: &mut W) -> Result<(), ReportError>
     requires few { length runs.now ≤ MAX_EVENTS }
     requires light { AllByRecursion (IsLight MAX_EVENTS) runs.now }
-    ensures ok { OnOk result (Appends (W.contents w.old) (W.contents w.new) (flat_map (total_row runs.now) totals.now)) }
+    ensures ok { OnOk result (Appends (W.contents w.old) (W.contents w.new)
+        (flat_map (total_row runs.now) totals.now)) }
     ensures err { IfErr result IsWriteFault }
 {
     for total in totals {
@@ -132,7 +133,8 @@ fn write_served<W: Write>(
     counts: &Counts,
     w: &mut W,
 ) -> Result<(), ReportError>
-    ensures ok { OnOk result (Appends (W.contents w.old) (W.contents w.new) (flat_map (served_row counts.now) suppliers.now)) }
+    ensures ok { OnOk result (Appends (W.contents w.old) (W.contents w.new)
+        (flat_map (served_row counts.now) suppliers.now)) }
     ensures err { IfErr result IsWriteFault }
 {
     for served in suppliers {
