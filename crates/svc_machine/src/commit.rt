@@ -34,8 +34,9 @@ impl Machine {
         );
         self.bus.commit_head();
         self.sequencer.commit(end);
-        let head = self.seats.remove(0);
+        let head = &self.seats[0];
         let _room = self.output.extend_from_slice(head.waiting.as_slice());
+        let _head = self.seats.remove(0);
         self.stopped = end.stop();
         self.commits += 1;
         self.accepted += 1;

@@ -50,6 +50,17 @@ commit-requires c =
     let h : HasHead items c.args.end = head_of items c.args.end (ended_at _ c.self.invariant items refl _ c.self.view_is c.args.end c.requires.found) in
     subst (λ (g : Guide). 0 < length g.active) (sym c.settle-cut.ensures.guide) (active_some (parts_of c.self.inside) c.self.invariant c.args.by.0 ok items refl c.args.end h)
 
+pub index-head-requires : goal.index-head-requires
+index-head-requires c =
+    let x : Event = Commit c.args.by.0 in
+    let ok : IsAccepted (parts_of c.self.inside) x = subst (λ (v : MachineValue). Accepts v x) (sym c.self.view_is) c.requires.accepted in
+    let items = c.self.inside.seats.items in
+    let h : HasHead items c.args.end = head_of items c.args.end (ended_at _ c.self.invariant items refl _ c.self.view_is c.args.end c.requires.found) in
+    let some = settled_some (cuts_next c.args.end (drop 1 c.self.inside.sequencer.active)) items h.head h.others h.are in
+    let n = c.settle-cut.new.seats.ok.0 in
+    let same = ap (λ (l : List Seat). length l) c.settle-cut.ensures.seats in
+    omega (arith, some, n, same)
+
 pub remove-head-requires : goal.remove-head-requires
 remove-head-requires c =
     let x : Event = Commit c.args.by.0 in
@@ -102,14 +113,14 @@ module _ (c : goal.After-self-3-1) where
   head : HasHead c.self.inside.seats.items c.args.end
   head = head_of c.self.inside.seats.items c.args.end (ended_at (parts_of c.self.inside) c.self.invariant c.self.inside.seats.items refl _ c.self.view_is c.args.end c.requires.found)
 
-  removed : c.remove-head.result ≡ head.head
-  removed =
-      let r = c.remove-head.result in
+  first : c.index-head.result.now ≡ head.head
+  first =
+      let r = c.index-head.result.now in
       settled_first (cuts_next c.args.end (drop 1 c.self.inside.sequencer.active)) c.self.inside.seats.items head.head head.others head.are r
-      (c.remove-head.ensures.value ∙ ap (λ (l : List Seat). get_or l 0 r) c.settle-cut.ensures.seats)
+      (c.index-head.ensures ∙ ap (λ (l : List Seat). get_or l 0 r) c.settle-cut.ensures.seats)
 
   words : c.as_slice.result.now ≡ head.head.waiting.items
-  words = c.as_slice.ensures.value ∙ ap (λ (s : Seat). s.waiting.items) removed
+  words = c.as_slice.ensures.value ∙ ap (λ (s : Seat). s.waiting.items) first
 
   fits : is_ok c.extend_from_slice-room.result ≡ true
   fits =
