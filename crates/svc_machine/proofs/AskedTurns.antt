@@ -1,7 +1,9 @@
 -- An asked turn on the bus, step by step.
-use Rattle.std.proofs.Common.{ℕ, ◌≡◌, ◌^◌, ◌%◌, ◌+◌, Bool, true, false, cond, Option, Some, None, length, refl, sym, ap, ap₂, ◌∙◌, subst, is_none, arith}
+use Rattle.std.proofs.Common.{ℕ, ◌≡◌, ◌^◌, ◌%◌, ◌+◌, Bool, true, false, cond, Option, Some, None, length, option_map, refl, sym, ap, ap₂, ◌∙◌, subst, is_none, arith}
 use Rattle.std.proofs.lemmas.Bool.{eq-eqb}
+use Rattle.svc_base.specs.declared.refusal.Refusal.TheVariants as refusal
 use Rattle.svc_base.specs.declared.served.Served.{Served}
+use Rattle.svc_base.specs.declared.served.Served.TheVariants as served
 use Rattle.svc_rv32i.specs.declared.instr.StoreKind.{StoreKind}
 use Rattle.svc_rv32i.specs.declared.instr.StoreKind.TheVariants as store
 use Rattle.svc_image.specs.Image.{Image}
@@ -12,6 +14,8 @@ use Rattle.svc_core_laws.specs.Turns.{arrives, word_address, lane_of}
 use Rattle.svc_core_laws.specs.Words.{stored, wants_store, wants_write}
 use Rattle.svc_bus_laws.specs.Versioned.{view}
 use Rattle.svc_bus_laws.specs.LineTable.{Line, LineTable, is_active, is_reusable, line_at, unit_at, versioned}
+use Rattle.svc_bus_laws.specs.Supplier.{Supplier}
+use Rattle.svc_bus_laws.specs.Supplier as supply
 use Rattle.svc_bus_laws.specs.Steps.{read, write, reuse, fill, with_line, reused, filled_line, purged}
 use Rattle.svc_bus_laws.specs.BusState.{BusState, Agrees, unnumbered}
 use Rattle.svc_bus_laws.specs.Refusals.{bus_cache, set_full}
@@ -21,7 +25,8 @@ use Rattle.svc_machine_laws.specs.declared.reply.Reply.{Reply}
 use Rattle.svc_machine_laws.specs.declared.reply.What.TheVariants as what
 use Rattle.svc_machine_laws.specs.WholeMachine.{Seat, at_core}
 use Rattle.svc_machine_laws.proofs.Lines.{read_keeps}
-use Rattle.svc_bus.specs.Calls.{RunsAt}
+use Rattle.svc_machine_laws.specs.Replies.{served_by}
+use Rattle.svc_bus.specs.Calls.{RunsAt, full_refusal}
 use Rattle.svc_machine.specs.Asked.{IsDone, IsPrepared, IsRead, read_first, stored_cut, word_written}
 
 -- the line that a step puts there
@@ -50,6 +55,30 @@ free_after b unit t p a agrees at =
     let some : is_none (b.lines unit a) ≡ false = ap is_none (agrees.lines unit a) ∙ ap (λ u. is_none (unnumbered ((read t p a).lines u a))) (sym at) ∙ own_line t p a in
     simp some
 
+pub room_after : (b : BusState) (unit : ℕ) (t : LineTable) (p a : ℕ) → Agrees b (read t p a) → unit_at t p ≡ unit → full_refusal b unit a ≡ None
+room_after b unit t p a agrees at = ap (option_map (λ named. refusal.SetFull (record { 0 = named }))) (free_after b unit t p a agrees at)
+
+-- the supplier that the bus tells
+abbrev supplier_of : Served → Supplier
+supplier_of served.Hit = supply.Hit
+supplier_of served.Reuse = supply.Reuse
+supplier_of (served.Version unit) = supply.Version unit.0
+supplier_of served.Spill = supply.Spill
+supplier_of (served.Committed unit) = supply.Committed unit.0
+supplier_of served.Memory = supply.Memory
+
+-- who served a read, as a reply tells it
+pub served_by_one : (s : Served) (x : Supplier) → supplier_of s ≡ x → s ≡ served_by x
+served_by_one s x h = tells s ∙ ap served_by h
+  where
+    tells : (s : Served) → s ≡ served_by (supplier_of s)
+    tells served.Hit = refl
+    tells served.Reuse = refl
+    tells (served.Version unit) = refl
+    tells served.Spill = refl
+    tells (served.Committed unit) = refl
+    tells served.Memory = refl
+
 -- a store of less than a word, once it has read its word
 module _ (b : BusState) (unit : ℕ) (t : LineTable) (p a lane value : ℕ) (bus : BusState) (word old : ℕ) (served : Served) where
   runs_after : RunsAt b unit t p → IsRead t p a bus old served → RunsAt bus unit (read t p a) p
@@ -66,14 +95,12 @@ module _ (b : BusState) (unit : ℕ) (t : LineTable) (p a lane value : ℕ) (bus
     runs = runs_after runs done;
     word_is = is ∙ ap (stored store.Byte lane value) done.value_is;
     served_is = ap Some done.served_is;
-    free = free_after bus unit t p a done.table runs.unit_is;
     words = done.table.words ∙ read_keeps (λ u. u.words) t p a refl refl;
   }
   prepared store.Half less runs done is = record {
     runs = runs_after runs done;
     word_is = is ∙ ap (stored store.Half lane value) done.value_is;
     served_is = ap Some done.served_is;
-    free = free_after bus unit t p a done.table runs.unit_is;
     words = done.table.words ∙ read_keeps (λ u. u.words) t p a refl refl;
   }
   prepared store.Word less runs done is = absurd (less refl)

@@ -1,9 +1,11 @@
 -- A burst that is taken over.
-use Rattle.std.proofs.Common.{ℕ, suc, ◌≡◌, ◌==◌, ◌+◌, ◌-◌, ◌^◌, ◌<◌, ◌≤◌, Bool, false, cond, List, map, take, length, Option, Some, None, true, refl, sym, ap, ap₂, ◌∙◌, subst, option_map, slice_get, slice_set, get_or, is_some, add-one, arith}
-use Rattle.std.proofs.lemmas.List.{length-take-le, length-set, map-set}
+use Rattle.std.proofs.Common.{ℕ, suc, ◌≡◌, ◌==◌, ◌+◌, ◌-◌, ◌^◌, ◌<◌, ◌≤◌, Bool, false, cond, List, [], ◌∷◌, map, take, length, Option, Some, None, true, refl, sym, ap, ap₂, ◌∙◌, subst, option_map, slice_get, slice_set, get_or, is_some, add-one, arith}
+use Rattle.std.proofs.lemmas.List.{length-take-le, length-set, map-set, set-get_or}
 use Rattle.std.proofs.lemmas.Option.{same_Some, slice_get-map, get_or_from_slice_get}
 use Rattle.std.specs.Option.{option_or}
 use Rattle.std.specs.List.{position}
+use Rattle.svc_base.specs.declared.refusal.Refusal.{Refusal}
+use Rattle.svc_base.specs.declared.refusal.Refusal.TheVariants as refusal
 use Rattle.svc_image.specs.Image.{Image}
 use Rattle.svc_core_laws.specs.declared.ask.Ask.{Ask}
 use Rattle.svc_core_laws.specs.State.{State}
@@ -21,7 +23,7 @@ use Rattle.svc_machine_laws.specs.PlainMachine as plain
 use Rattle.svc_machine_laws.specs.PlainMachine.{Plain, Task, Running, running, run_of, memory_at, entry_of, unit_of}
 use Rattle.svc_machine_laws.specs.WholeMachine as whole
 use Rattle.svc_machine_laws.specs.WholeMachine.{Machine, machine_of, seat_entry, seat_of, seat_unit, at_core}
-use Rattle.svc_machine_laws.specs.Events.{Event, Submit, want_of, asked_want, place_in, seat_place, plain_submit, plain_event, whole_submit, whole_event}
+use Rattle.svc_machine_laws.specs.Events.{Submit, want_of, asked_want, place_in, seat_place, plain_submit, plain_event, whole_submit, whole_event}
 use Rattle.svc_machine_laws.specs.LineEvents.{line_ask, line_check, line_submit, line_event}
 use Rattle.svc_machine_laws.specs.Blame.{tasks_cut}
 use Rattle.svc_machine_laws.specs.Guide.{Guide, guide_of, guide_cut}
@@ -51,10 +53,11 @@ use Rattle.svc_machine_laws.proofs.Followed.{map_count, submit_guide}
 use Rattle.svc_machine_laws.proofs.Lines.{rows_units}
 use Rattle.svc_machine_laws.proofs.Wants.{asked_within}
 use Rattle.svc_bus.specs.Calls.{RunsAt}
-use Rattle.svc_machine.specs.Asked.{IsDone, full_for}
+use Rattle.svc_machine.specs.Admitted.{IsAdmitted}
+use Rattle.svc_machine.specs.Asked.{IsDone, refused_for}
 use Rattle.svc_machine.specs.declared.seat.Seat as declared
 use Rattle.svc_machine.specs.Value.{MachineValue, StandsAt}
-use Rattle.svc_machine.specs.Kept.{Parts, Kept, whole_seat}
+use Rattle.svc_machine.specs.Kept.{Parts, Kept, shown, whole_seat}
 use Rattle.svc_machine.specs.Seats.{is_misled}
 use Rattle.svc_machine.proofs.Keeping.{IsAccepted, Moved, own_standing, stands, reached_with, seat_task}
 use Rattle.svc_machine.proofs.EditedSeats.{IsTurn, few_cut, seats_done, reply_done, commits_done, accepted_done, others_done}
@@ -74,9 +77,10 @@ waiting_counted img t m local last x is own end =
     ∙ ap (λ (y : Run State). (locals (program img) local y.core).emitted) same
     ∙ ap (λ (c : State). c.emitted) end
 
-same_room : (b : BusState) (t : LineTable) (unit : ℕ) (o : Option ℕ) → Agrees b t → full_set t unit o ≡ None → full_for b unit o ≡ None
-same_room b t unit None agrees h = refl
-same_room b t unit (Some a) agrees h = same_full b t unit a agrees ∙ h
+-- why the bus refuses it, by any line table
+same_room : (b : BusState) (t : LineTable) (unit : ℕ) (o : Option ℕ) → Agrees b t → refused_for b unit o ≡ option_map (λ named. refusal.SetFull (record { 0 = named })) (full_set t unit o)
+same_room b t unit None agrees = refl
+same_room b t unit (Some a) agrees = ap (option_map (λ named. refusal.SetFull (record { 0 = named }))) (same_full b t unit a agrees)
 
 -- ---- a check, by whether it cuts
 
@@ -99,6 +103,18 @@ guide_checked p entries false n s = refl
 reply_checked : (c : Bool) (k n place : ℕ) (r : Reply) → let o : Reply = record { what = r.what; cut = option_or (cond c (Some (cut_from cause.WrongGuess k n (suc place))) None) r.cut } in o ≡ checked c k n place r
 reply_checked true k n place r = refl
 reply_checked false k n place r = refl
+
+-- a unit's task runs where its seat is
+module _ (m : Parts) (kept : Kept m) (unit place : ℕ) (at : seat_place (machine_of (program m.image) m.plain) unit ≡ Some place) where
+  task_at : slice_get (map unit_of m.plain.tasks) place ≡ Some unit
+  task_at = found (map unit_of m.plain.tasks) unit place (sym (seat_places m.image m.config (own_standing m kept) unit) ∙ at)
+
+  -- in every line table that the bus agrees with
+  runs_there : (t : LineTable) → Agrees (observed m.bus) t → RunsAt (observed m.bus) unit t place
+  runs_there t agrees =
+      let units = (reached_with m kept t agrees).lines.units in
+      let at_unit : slice_get t.units place ≡ Some unit = ap (λ us. slice_get us place) units ∙ task_at in
+      record { agrees = agrees; within = within t.units place unit at_unit; unit_is = get_or_from_slice_get t.units place unit 0 at_unit }
 
 module _ (m : Parts) (kept : Kept m) (b : Advance) (ok : IsAccepted m (Submit b)) where
   abbrev p : Program State
@@ -128,25 +144,6 @@ module _ (m : Parts) (kept : Kept m) (b : Advance) (ok : IsAccepted m (Submit b)
     pub here : slice_get before.seats place ≡ Some (seat_of can.run)
     here = ap (slice_get before.seats) (sym same_place) ∙ seat_here m.image m.config own can.place ∙ ap (option_map seat_of) can.here
 
-    pub unit_is : can.run.task.unit ≡ b.unit.0
-    unit_is =
-        same_Some can.run.task.unit b.unit.0
-        (sym (ap (option_map (λ (z : whole.Seat State). z.unit)) here) ∙ sym (slice_get-map seat_unit before.seats place) ∙ found (map seat_unit before.seats) b.unit.0 place at)
-
-    task_at : slice_get (map unit_of m.plain.tasks) place ≡ Some b.unit.0
-    task_at = found (map unit_of m.plain.tasks) b.unit.0 place (sym (seat_places m.image m.config own b.unit.0) ∙ at)
-
-    -- the task runs there in every line table that the bus agrees with
-    pub runs_there : (t : LineTable) → Agrees (observed m.bus) t → RunsAt (observed m.bus) b.unit.0 t place
-    runs_there t agrees =
-        let units = (reached_with m kept t agrees).lines.units in
-        let at_unit : slice_get t.units place ≡ Some b.unit.0 = ap (λ us. slice_get us place) units ∙ task_at in
-        record { agrees = agrees; within = within t.units place b.unit.0 at_unit; unit_is = get_or_from_slice_get t.units place b.unit.0 0 at_unit }
-
-    -- there is room for what it asks
-    pub has_room : full_for (observed m.bus) b.unit.0 (asked_word m.image b.ask) ≡ None
-    has_room = same_room (observed m.bus) kept.lines b.unit.0 (asked_word m.image b.ask) kept.agrees can.free
-
     -- the words that wait in its seat are counted
     pub waiting : Follows b → length (seat_of can.run).waiting ≡ b.end.emitted
     waiting follows =
@@ -168,7 +165,7 @@ module _ (m : Parts) (kept : Kept m) (b : Advance) (ok : IsAccepted m (Submit b)
         record {
           sound = agrees.sound;
           same_map = r.lines.same_map;
-          within = (runs_there t agrees).within;
+          within = (runs_there m kept b.unit.0 place at t agrees).within;
           as_many = count p (seq p m.plain.commits).memory m.plain.tasks
               ∙ sym (map_count unit_of m.plain.tasks)
               ∙ sym (ap length r.lines.units)
@@ -210,7 +207,7 @@ module _ (m : Parts) (kept : Kept m) (b : Advance) (ok : IsAccepted m (Submit b)
     pub small_numbers : m.config.units ≤ 16 → m.config.events ≤ 1000000 → (m.plain.commits + place + 1 < 2 ^ 64) × (length m.seats < 2 ^ 32)
     small_numbers units events =
         let few = tasks_few m.image m.config own kept.reached in
-        let inside = within (map unit_of m.plain.tasks) place b.unit.0 task_at in
+        let inside = within (map unit_of m.plain.tasks) place b.unit.0 (task_at m kept b.unit.0 place at) in
         let tasks = map_count unit_of m.plain.tasks in
         let a = kept.reached.accepted_few in
         let k = kept.reached.commits_few in
@@ -343,8 +340,8 @@ module _ (m : Parts) (kept : Kept m) (b : Advance) (ok : IsAccepted m (Submit b)
 
 -- ---- from the machine's own seats
 
-pub accepted_as : (x : Event) (v w : MachineValue) → v ≡ w → ((s : Standing) → StandsAt w s → refused w.image w.config s x ≡ None) → (s : Standing) → StandsAt v s → refused v.image v.config s x ≡ None
-accepted_as x v w same h = subst (λ (u : MachineValue). (s : Standing) → StandsAt u s → refused u.image u.config s x ≡ None) (sym same) h
+pub admitted_as : (b : Advance) (v w : MachineValue) → v ≡ w → IsAdmitted w b → IsAdmitted v b
+admitted_as b v w same h = subst (λ (u : MachineValue). IsAdmitted u b) (sym same) h
 
 -- as many seats are left of those with the new one in its place
 pub seats_left : (items new : List declared.Seat) (place left n : ℕ) (seat : declared.Seat) → new ≡ take left (slice_set items place seat) → left ≡ n
@@ -353,43 +350,64 @@ seats_left items new place left n seat new_is left_is =
     ap (map whole_seat) new_is ∙ map_take whole_seat left (slice_set items place seat) ∙ ap₂ take left_is (map-set whole_seat items place seat)
 
 -- the seat that is borrowed there
-seat_there : (items : List declared.Seat) (place : ℕ) (y : declared.Seat) (x : whole.Seat State) → y ≡ get_or items place y → slice_get (map whole_seat items) place ≡ Some x → whole_seat y ≡ x
-seat_there items place y x is at = of (slice_get items place) refl (sym (slice_get-map whole_seat items place) ∙ at)
+seat_there : {X : Type 0} (f : declared.Seat → X) (items : List declared.Seat) (place : ℕ) (y : declared.Seat) (x : X) → y ≡ get_or items place y → slice_get (map f items) place ≡ Some x → f y ≡ x
+seat_there f items place y x is at = of (slice_get items place) refl (sym (slice_get-map f items place) ∙ at)
   where
-    of : (o : Option declared.Seat) → slice_get items place ≡ o → option_map whole_seat o ≡ Some x → whole_seat y ≡ x
+    of : (o : Option declared.Seat) → slice_get items place ≡ o → option_map f o ≡ Some x → f y ≡ x
     of None e h = cc
-    of (Some z) e h = ap whole_seat (is ∙ get_or_from_slice_get items place z y e) ∙ same_Some (whole_seat z) x h
+    of (Some z) e h = ap f (is ∙ get_or_from_slice_get items place z y e) ∙ same_Some (f z) x h
 
-module _ (m : Parts) (kept : Kept m) (b : Advance) (ok : IsAccepted m (Submit b)) (items : List declared.Seat) (same : map whole_seat items ≡ m.seats) where
+-- which is put back as it was
+pub seats_back : (items : List declared.Seat) (place : ℕ) (y z : declared.Seat) → z ≡ y → y ≡ get_or items place y → slice_set items place z ≡ items
+seats_back items place y z back is = ap (slice_set items place) (back ∙ is) ∙ set-get_or items place y
+
+units_seen : (items : List declared.Seat) → map seat_unit (map whole_seat items) ≡ map (λ (s : declared.Seat). s.unit.0) items
+units_seen [] = refl
+units_seen (x ∷ items) = ap {B = List ℕ} (λ us. x.unit.0 ∷ us) (units_seen items)
+
+module _ (m : Parts) (kept : Kept m) (b : Advance) (items : List declared.Seat) (same : map whole_seat items ≡ m.seats) where
   -- the place of the unit's task is found
   pub place_found : position (λ (s : declared.Seat). s.unit.0 == b.unit.0) items ≡ seat_place (machine_of (program m.image) m.plain) b.unit.0
   place_found = place_is items b.unit.0 ∙ ap (λ (l : List (whole.Seat State)). place_in (map seat_unit l) b.unit.0) (same ∙ kept.seats)
 
-  module _ (place : ℕ) (found : position (λ (s : declared.Seat). s.unit.0 == b.unit.0) items ≡ Some place) where
+  module _ (place : ℕ) (at_items : position (λ (s : declared.Seat). s.unit.0 == b.unit.0) items ≡ Some place) where
     pub at_place : seat_place (machine_of (program m.image) m.plain) b.unit.0 ≡ Some place
-    at_place = sym place_found ∙ found
+    at_place = sym place_found ∙ at_items
 
     module _ (y : declared.Seat) (is : y ≡ get_or items place y) where
-      seat_is : whole_seat y ≡ seat_of (can m kept b ok).run
-      seat_is = seat_there items place y (seat_of (can m kept b ok).run) is (ap (λ (l : List (whole.Seat State)). slice_get l place) (same ∙ kept.seats) ∙ here m kept b ok place at_place)
-
       its_unit : y.unit.0 ≡ b.unit.0
-      its_unit = ap seat_unit seat_is ∙ unit_is m kept b ok place at_place
+      its_unit =
+          seat_there (λ (s : declared.Seat). s.unit.0) items place y b.unit.0 is
+          (ap (λ us. slice_get us place) (sym (units_seen items)) ∙ found (map seat_unit (map whole_seat items)) b.unit.0 place (sym (place_is items b.unit.0) ∙ at_items))
 
       pub its_task_runs : (t : LineTable) → Agrees (observed m.bus) t → RunsAt (observed m.bus) y.unit.0 t place
-      its_task_runs t agrees = subst (λ u. RunsAt (observed m.bus) u t place) (sym its_unit) (runs_there m kept b ok place at_place t agrees)
+      its_task_runs t agrees = subst (λ u. RunsAt (observed m.bus) u t place) (sym its_unit) (runs_there m kept b.unit.0 place at_place t agrees)
 
-      pub its_room : (a : Ask) → a ≡ b.ask → full_for (observed m.bus) y.unit.0 (asked_word m.image a) ≡ None
-      its_room a asks = ap₂ (λ u k. full_for (observed m.bus) u (asked_word m.image k)) its_unit asks ∙ has_room m kept b ok place at_place
+      -- why the bus refuses what it asks is why the burst is refused
+      module _ (admitted : IsAdmitted (shown m) b) (a : Ask) (asks : a ≡ b.ask) where
+        pub refused_as : (o : Option Refusal) → o ≡ refused_for (observed m.bus) y.unit.0 (asked_word m.image a)
+            → (s : Standing) → StandsAt (shown m) s → refused m.image m.config s (Submit b) ≡ o
+        refused_as o is_o s at =
+            admitted s at
+            ∙ sym (same_room (observed m.bus) s.lines b.unit.0 (asked_word m.image b.ask) at.lines)
+            ∙ sym (is_o ∙ ap₂ (λ u k. refused_for (observed m.bus) u (asked_word m.image k)) its_unit asks)
 
-      pub its_words : Follows b → (core : State) → core ≡ b.end → length y.waiting.items ≡ core.emitted
-      its_words follows core end = ap (λ (s : whole.Seat State). length s.waiting) seat_is ∙ waiting m kept b ok place at_place follows ∙ ap (λ (s : State). s.emitted) (sym end)
+        -- one that asks for no word isn't refused
+        pub wordless : asked_word m.image a ≡ None → IsAccepted m (Submit b)
+        wordless none = refused_as None (sym (ap (refused_for (observed m.bus) y.unit.0) none))
 
-      pub its_turn : (core : State) (a : Ask) → core ≡ b.end → a ≡ b.ask → (seat : whole.Seat State) (bus : BusState) (reply : Reply)
-          → ((t : LineTable) (q : ℕ) → RunsAt (observed m.bus) y.unit.0 t q → IsDone m.image (want_of m.image core a) t q (at_core core (whole_seat y)) seat bus reply)
-          → (t : LineTable) → Agrees (observed m.bus) t → IsDone m.image (asked_want m.image b) t place (at_core b.end (seat_of (can m kept b ok).run)) seat bus reply
-      its_turn core a end asks seat bus reply done t agrees =
-          let P : State → Ask → whole.Seat State → Type 0 = λ c k s. IsDone m.image (want_of m.image c k) t place (at_core c s) seat bus reply in
-          subst (λ c. P c b.ask (seat_of (can m kept b ok).run)) end
-          (subst (λ k. P core k (seat_of (can m kept b ok).run)) asks
-          (subst (λ s. P core a s) seat_is (done t place (its_task_runs t agrees))))
+      module _ (ok : IsAccepted m (Submit b)) where
+        seat_is : whole_seat y ≡ seat_of (can m kept b ok).run
+        seat_is = seat_there whole_seat items place y (seat_of (can m kept b ok).run) is (ap (λ (l : List (whole.Seat State)). slice_get l place) (same ∙ kept.seats) ∙ here m kept b ok place at_place)
+
+        pub its_words : Follows b → (core : State) → core ≡ b.end → length y.waiting.items ≡ core.emitted
+        its_words follows core end = ap (λ (s : whole.Seat State). length s.waiting) seat_is ∙ waiting m kept b ok place at_place follows ∙ ap (λ (s : State). s.emitted) (sym end)
+
+        pub its_turn : (core : State) (a : Ask) → core ≡ b.end → a ≡ b.ask → (seat : whole.Seat State) (bus : BusState) (reply : Reply)
+            → ((t : LineTable) (q : ℕ) → RunsAt (observed m.bus) y.unit.0 t q → IsDone m.image (want_of m.image core a) t q (at_core core (whole_seat y)) seat bus reply)
+            → (t : LineTable) → Agrees (observed m.bus) t → IsDone m.image (asked_want m.image b) t place (at_core b.end (seat_of (can m kept b ok).run)) seat bus reply
+        its_turn core a end asks seat bus reply done t agrees =
+            let P : State → Ask → whole.Seat State → Type 0 = λ c k s. IsDone m.image (want_of m.image c k) t place (at_core c s) seat bus reply in
+            subst (λ c. P c b.ask (seat_of (can m kept b ok).run)) end
+            (subst (λ k. P core k (seat_of (can m kept b ok).run)) asks
+            (subst (λ s. P core a s) seat_is (done t place (its_task_runs t agrees))))

@@ -62,7 +62,7 @@ borrowed None = refl
 borrowed (Some r) = refl
 
 -- said for the plain machine's own seats, said for every standing
-pub refusal_is : (v : MachineValue) (r : Option Refusal) (x : Event) → ((t : LineTable) → Agrees (observed v.bus) t → r ≡ refuse v.image v.config (machine_at v) t x)
-    → (s : Standing) → StandsAt v s → r ≡ refused v.image v.config s x
+pub refusal_is : (v : MachineValue) (r : LineTable → Option Refusal) (x : Event) → ((t : LineTable) → Agrees (observed v.bus) t → r t ≡ refuse v.image v.config (machine_at v) t x)
+    → (s : Standing) → StandsAt v s → r s.lines ≡ refused v.image v.config s x
 unfolding machine_at refused
-refusal_is v r x h s at = subst (λ (q : Plain). r ≡ refuse v.image v.config (machine_of (program v.image) q) s.lines x) at.plain (h s.lines at.lines)
+refusal_is v r x h s at = subst (λ (q : Plain). r s.lines ≡ refuse v.image v.config (machine_of (program v.image) q) s.lines x) at.plain (h s.lines at.lines)

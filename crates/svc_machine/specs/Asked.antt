@@ -1,6 +1,7 @@
 -- What an asked turn does to its task's seat and to the lines, and what it is answered, over each line table that the
 -- bus agrees with.
-use Rattle.std.specs.Prelude.{◌≡◌, ◌^◌, ◌%◌, ℕ, Option, Some, None, option_map}
+use Rattle.std.specs.Prelude.{◌≡◌, ◌⊎◌, ◌^◌, ◌%◌, ℕ, Option, Some, None, option_map}
+use Rattle.svc_base.specs.declared.refusal.Refusal.{Refusal}
 use Rattle.svc_base.specs.declared.served.Served.{Served}
 use Rattle.svc_rv32i.specs.declared.instr.StoreKind.{StoreKind}
 use Rattle.svc_rv32i.specs.declared.instr.StoreKind.TheVariants as store
@@ -12,8 +13,9 @@ use Rattle.svc_bus_laws.specs.Versioned.{Victim, view, victim_answer}
 use Rattle.svc_bus_laws.specs.LineTable.{LineTable, versioned}
 use Rattle.svc_bus_laws.specs.Steps.{read}
 use Rattle.svc_bus_laws.specs.BusState.{BusState, Agrees}
-use Rattle.svc_bus_laws.specs.Refusals.{bus_cache, set_full}
-use Rattle.svc_bus.specs.Calls.{RunsAt}
+use Rattle.svc_bus.specs.Calls.{RunsAt, full_refusal}
+use Rattle.svc_bus.specs.Observed.{observed}
+use Rattle.svc_bus.specs.Value.{BusValue}
 use Rattle.svc_machine_laws.specs.declared.reply.Cause.TheVariants as cause
 use Rattle.svc_machine_laws.specs.declared.reply.Cut.{Cut}
 use Rattle.svc_machine_laws.specs.declared.reply.Reply.{Reply}
@@ -25,10 +27,10 @@ use Rattle.svc_machine_laws.specs.Replies.{ran, serves_at, turn_done}
 abbrev pub IsRunning : BusState → (unit : ℕ) → Type 0
 IsRunning b unit = (t : LineTable) × (place : ℕ) × RunsAt b unit t place
 
--- the word to be replaced before the unit has room for this word, where there is one, and it has none
-abbrev pub full_for : BusState → (unit : ℕ) → Option ℕ → Option ℕ
-full_for b unit None = None
-full_for b unit (Some a) = set_full (bus_cache b unit) a
+-- why the bus refuses a turn that asks for this word, if it does
+abbrev pub refused_for : BusState → (unit : ℕ) → Option ℕ → Option Refusal
+refused_for b unit None = None
+refused_for b unit (Some a) = full_refusal b unit a
 
 -- what a read of the word leaves and gives
 pub record IsRead (t : LineTable) (place a : ℕ) (bus : BusState) (value : ℕ) (served : Served) : Type 0 where
@@ -60,8 +62,12 @@ pub record IsPrepared (t : LineTable) (unit place a : ℕ) (kind : StoreKind) (l
   pub runs : RunsAt bus unit (read_first kind t place a) place
   pub word_is : word ≡ word_written kind lane value (view (versioned t) place a)
   pub served_is : served ≡ served_first kind t place a
-  pub free : set_full (bus_cache bus unit) a ≡ None
   pub words : bus.words ≡ t.words
+
+-- the bus wasn't called, or its call found room for the word, and there is room for it afterwards
+abbrev pub HasRoomYet : (old new : BusValue) → (unit a : ℕ) → Type 0
+HasRoomYet old new unit a =
+    (new ≡ old) ⊎ ((full_refusal (observed old) unit a ≡ None) × (full_refusal (observed new) unit a ≡ None))
 
 -- the tasks that a store of this word squashes, as a reply has them
 abbrev pub violated : (a : ℕ) → Victim → Cut

@@ -1,9 +1,8 @@
 //! Admission: for each kind of event its refusals, in the order of their numbers, and what is found
 //! if none applies.
 
-ghost use Rattle.std.specs.Prelude.{◌≡◌, ◌<◌, ◌-◌, ◌^◌, ◌==◌, false, not, Some, IfOk};
+ghost use Rattle.std.specs.Prelude.{◌≡◌, ◌<◌, ◌-◌, ◌^◌, ◌==◌, [], ◌∷◌, false, not, Some, IfOk};
 ghost use Rattle.std.specs.Prelude.{is_some, option_map, slice_get, unwrap_or};
-ghost use Rattle.std.specs.Result.{result_err};
 ghost use Rattle.svc_image.specs.Image.{is_entry};
 ghost use Rattle.svc_core_laws.specs.declared.ask.Ask.{Ask};
 ghost use Rattle.svc_bus_laws.specs.BusState.{Agrees};
@@ -12,9 +11,9 @@ ghost use Rattle.svc_bus_laws.specs.Refusals.{is_not_resident, is_pinned, table_
 ghost use Rattle.svc_bus.specs.Observed.{observed};
 ghost use Rattle.svc_machine_laws.specs.Events.{Assign, Cancel, Commit, Replace, Submit, seat_place};
 ghost use Rattle.svc_machine_laws.specs.Refusals.{history_full, is_current, no_unit, refuse, seat_at};
-ghost use Rattle.svc_machine_laws.specs.Refusals.{asked_word, full_set};
+ghost use Rattle.svc_machine_laws.specs.Refusals.{asked_word, first_case, full_set};
 ghost use Rattle.svc_machine_laws.specs.Standing.{Standing, refused};
-ghost use Rattle.svc_machine.specs.Admitted.{IsFound, event_in};
+ghost use Rattle.svc_machine.specs.Admitted.{IsFound, event_in, refusal_by};
 ghost use Rattle.svc_machine.specs.Events.{event_of};
 ghost use Rattle.svc_machine.specs.Kept.{whole_seat};
 ghost use Rattle.svc_machine.specs.Refusing.{is_empty, machine_at};
@@ -29,13 +28,14 @@ use svc_core::{Burst, load_place, store_place};
 use svc_core_laws::{Ask, End};
 use svc_image::Image;
 
-/// An event that isn't refused, with what the tests for refusals have found, so that nothing is
-/// searched for again.
+/// An event that the machine doesn't refuse, with what the tests for refusals have found, so that
+/// nothing is searched for again. Only the bus may still refuse it, if the unit's cache has no room
+/// for the word that a burst asks for.
 #[derive(Clone, Copy)]
 pub(crate) enum Admitted<'a> {
     /// The unit is idle.
     Assign { unit: UnitId, guess: u32 },
-    /// The unit's seat has this place, and its cache has room for what the burst asks.
+    /// The unit's seat has this place.
     Submit { place: usize, burst: &'a Burst },
     /// The unit has a line of the word, which may leave its cache.
     Replace { unit: UnitId, addr: WordAddr },
@@ -48,10 +48,11 @@ pub(crate) enum Admitted<'a> {
 impl Machine {
     /// The event with what was found about it.
     ///
-    /// Errors: exactly the refusal that the table of refusals has for it.
+    /// Errors: the refusal that the table of refusals has for it. A full set is one of them only if a later case of the
+    /// table holds too: otherwise the bus tests for it.
     pub(crate) fn admit<'a>(&self, event: Event<'a>) -> Result<Admitted<'a>, Refusal>
-        ensures refused { (s : Standing) → StandsAt self.now s
-            → result_err result ≡ refused self.now.image self.now.config s (event_of event.entry) }
+        ensures refused { (s : Standing) → StandsAt self.now s → refusal_by self.now.image s.lines result
+            ≡ refused self.now.image self.now.config s (event_of event.entry) }
         ensures event { IfOk result (λ admitted. event_in admitted ≡ event_of event.entry) }
         ensures found { IfOk result (λ admitted. IsFound self.now admitted) }
     {
@@ -66,7 +67,8 @@ impl Machine {
 
     #[tactic(auto, unfolding(svc_machine_laws::specs::Refusals::refuse))]
     fn admit_assign(&self, unit: UnitId, guess: u32) -> Result<Admitted<'static>, Refusal>
-        ensures refused { (t : LineTable) → Agrees (observed self.now.bus) t → result_err result
+        ensures refused { (t : LineTable) → Agrees (observed self.now.bus) t
+            → refusal_by self.now.image t result
             ≡ refuse self.now.image self.now.config (machine_at self.now) t (Assign unit.0 guess) }
         ensures event { IfOk result (λ admitted. event_in admitted ≡ Assign unit.0 guess) }
         ensures found { IfOk result (λ admitted. IsFound self.now admitted) }
@@ -94,7 +96,8 @@ impl Machine {
 
     #[tactic(auto, unfolding(svc_machine_laws::specs::Refusals::refuse))]
     fn admit_submit<'a>(&self, burst: &'a Burst) -> Result<Admitted<'a>, Refusal>
-        ensures refused { (t : LineTable) → Agrees (observed self.now.bus) t → result_err result
+        ensures refused { (t : LineTable) → Agrees (observed self.now.bus) t
+            → refusal_by self.now.image t result
             ≡ refuse self.now.image self.now.config (machine_at self.now) t (Submit burst.now) }
         ensures event { IfOk result (λ admitted. event_in admitted ≡ Submit burst.now) }
         ensures found { IfOk result (λ admitted. IsFound self.now admitted) }
@@ -115,21 +118,30 @@ impl Machine {
         if seat.core.done().is_some() {
             return Err(Refusal::Done);
         }
-        if let Some(addr) = self.full_set(unit, burst.ask()) {
-            return Err(Refusal::SetFull(addr));
-        }
+        let Some(refusal) = self.refused_late(burst) else {
+            return Ok(Admitted::Submit { place, burst });
+        };
+        Err(match self.full_set(unit, burst.ask()) {
+            Some(addr) => Refusal::SetFull(addr),
+            None => refusal,
+        })
+    }
+
+    // Why the burst is refused by the cases that come after that of a full set, if it is.
+    fn refused_late(&self, burst: &Burst) -> Option<Refusal>
+        ensures { result ≡ first_case ((history_full self.now.config (machine_at self.now), Refusal.HistoryFull)
+            ∷ (is_empty burst.now, Refusal.EmptyBurst) ∷ []) }
+    {
         if self.is_full() {
-            return Err(Refusal::HistoryFull);
+            return Some(Refusal::HistoryFull);
         }
-        if is_empty(burst) {
-            return Err(Refusal::EmptyBurst);
-        }
-        Ok(Admitted::Submit { place, burst })
+        is_empty(burst).then_some(Refusal::EmptyBurst)
     }
 
     #[tactic(auto, unfolding(svc_machine_laws::specs::Refusals::refuse))]
     fn admit_replace(&self, unit: UnitId, addr: WordAddr) -> Result<Admitted<'static>, Refusal>
-        ensures refused { (t : LineTable) → Agrees (observed self.now.bus) t → result_err result
+        ensures refused { (t : LineTable) → Agrees (observed self.now.bus) t
+            → refusal_by self.now.image t result
             ≡ refuse self.now.image self.now.config (machine_at self.now) t (Replace unit.0 addr.0) }
         ensures event { IfOk result (λ admitted. event_in admitted ≡ Replace unit.0 addr.0) }
         ensures found { IfOk result (λ admitted. IsFound self.now admitted) }
@@ -153,7 +165,8 @@ impl Machine {
 
     #[tactic(auto, unfolding(svc_machine_laws::specs::Refusals::refuse))]
     fn admit_cancel(&self, unit: UnitId) -> Result<Admitted<'static>, Refusal>
-        ensures refused { (t : LineTable) → Agrees (observed self.now.bus) t → result_err result
+        ensures refused { (t : LineTable) → Agrees (observed self.now.bus) t
+            → refusal_by self.now.image t result
             ≡ refuse self.now.image self.now.config (machine_at self.now) t (Cancel unit.0) }
         ensures event { IfOk result (λ admitted. event_in admitted ≡ Cancel unit.0) }
         ensures found { IfOk result (λ admitted. IsFound self.now admitted) }
@@ -175,7 +188,8 @@ impl Machine {
 
     #[tactic(auto, unfolding(svc_machine_laws::specs::Refusals::refuse))]
     fn admit_commit(&self, by: UnitId) -> Result<Admitted<'static>, Refusal>
-        ensures refused { (t : LineTable) → Agrees (observed self.now.bus) t → result_err result
+        ensures refused { (t : LineTable) → Agrees (observed self.now.bus) t
+            → refusal_by self.now.image t result
             ≡ refuse self.now.image self.now.config (machine_at self.now) t (Commit by.0) }
         ensures event { IfOk result (λ admitted. event_in admitted ≡ Commit by.0) }
         ensures found { IfOk result (λ admitted. IsFound self.now admitted) }

@@ -1,6 +1,8 @@
 //! The asked turn of a unit's task, on the bus.
 
 ghost use Rattle.std.specs.Prelude.{◌≡◌, ◌<◌, ◌≤◌, ◌+◌, ◌%◌, ◌^◌, ℕ, Some, None, length, option_map};
+ghost use Rattle.std.specs.Prelude.{IfErr, IfOk, OnErr, OnOk};
+ghost use Rattle.std.specs.Result.{result_err};
 ghost use Rattle.svc_core_laws.specs.declared.end.End.TheVariants as end;
 ghost use Rattle.svc_core_laws.specs.Bursts.{IsReady};
 ghost use Rattle.svc_core_laws.specs.Local.{ends};
@@ -11,18 +13,17 @@ ghost use Rattle.svc_core_laws.specs.Words.{wants_load, wants_store};
 ghost use Rattle.svc_bus_laws.specs.LineTable.{LineTable};
 ghost use Rattle.svc_bus_laws.specs.Steps.{write};
 ghost use Rattle.svc_bus_laws.specs.BusState.{Agrees};
-ghost use Rattle.svc_bus_laws.specs.Refusals.{bus_cache, set_full};
-ghost use Rattle.svc_bus.specs.Calls.{RunsAt, victim_shown};
+ghost use Rattle.svc_bus.specs.Calls.{RunsAt, full_refusal, victim_shown};
 ghost use Rattle.svc_bus.specs.Observed.{observed};
-ghost use Rattle.svc_machine_laws.specs.WholeMachine.{seat_turn};
+ghost use Rattle.svc_machine_laws.specs.WholeMachine.{at_core, seat_turn};
 ghost use Rattle.svc_machine_laws.specs.Events.{want_of};
 ghost use Rattle.svc_machine_laws.specs.Refusals.{asked_word};
-ghost use Rattle.svc_machine.specs.Asked.{IsDone, IsPrepared, IsRead, IsRunning};
-ghost use Rattle.svc_machine.specs.Asked.{full_for, stored_cut, violated};
+ghost use Rattle.svc_machine.specs.Asked.{HasRoomYet, IsDone, IsPrepared, IsRunning};
+ghost use Rattle.svc_machine.specs.Asked.{refused_for, stored_cut, violated};
 ghost use Rattle.svc_machine.specs.Kept.{whole_seat};
 
 use crate::seat::Seat;
-use svc_base::{Served, UnitId, WordAddr};
+use svc_base::{Refusal, Served, UnitId, WordAddr};
 use svc_bus::{Bus, Victim};
 use svc_core::{Core, Place, load_place, loaded, store_place, stored};
 use svc_core_laws::Ask;
@@ -30,24 +31,40 @@ use svc_image::Image;
 use svc_machine_laws::{Cause, Cut, Reply, What};
 use svc_rv32i::{LoadKind, Register, StoreKind};
 
-/// Does the asked turn, if there is one: a load or store that is misaligned or outside the data traps, and so does a
-/// store into a read-only word; a store of less than a word reads its word and writes it; an output word waits in the
-/// seat. The tasks that a store squashes stay in their seats: the answer says which they are.
-pub(crate) fn do_asked(image: &Image, bus: &mut Bus, seat: &mut Seat, ask: Ask) -> Reply
-    requires ready { IsReady seat.old.core ask }
+/// The task in the seat moves to this core, and does the asked turn, if there is one: a load or store that is misaligned
+/// or outside the data traps, and so does a store into a read-only word; a store of less than a word reads its word and
+/// writes it; an output word waits in the seat. The tasks that a store squashes stay in their seats: the answer says
+/// which they are.
+///
+/// Errors: the bus's [`Refusal::SetFull`], if the unit's cache has no room for the asked word. Then nothing changes.
+pub(crate) fn do_asked(
+    image: &Image,
+    bus: &mut Bus,
+    seat: &mut Seat,
+    core: &Core,
+    ask: Ask,
+) -> Result<Reply, Refusal>
+    requires ready { IsReady core.now ask }
     requires running { IsRunning (observed bus.old) seat.old.unit.0 }
     requires size { (observed bus.old).words ≡ data_words image.now }
-    requires free { full_for (observed bus.old) seat.old.unit.0 (asked_word image.now ask) ≡ None }
-    requires waiting { length seat.old.waiting.items ≡ seat.old.core.emitted }
-    ensures { (t : LineTable) → (place : ℕ) → RunsAt (observed bus.old) seat.old.unit.0 t place
-        → IsDone image.now (want_of image.now seat.old.core ask) t place
-        (whole_seat seat.old) (whole_seat seat.new) (observed bus.new) result }
+    requires waiting { asked_word image.now ask ≡ None → length seat.old.waiting.items ≡ core.now.emitted }
+    ensures refused { result_err result ≡ refused_for (observed bus.old) seat.old.unit.0 (asked_word image.now ask) }
+    ensures unchanged { OnErr result ((seat.new ≡ seat.old) × (bus.new ≡ bus.old)) }
+    ensures done { (t : LineTable) → (place : ℕ) → RunsAt (observed bus.old) seat.old.unit.0 t place
+        → IfOk result (IsDone image.now (want_of image.now core.now ask) t place
+        (at_core core.now (whole_seat seat.old)) (whole_seat seat.new) (observed bus.new)) }
 {
     match ask {
-        Ask::Nothing => without_cut(What::Ran),
-        Ask::Load { kind, rd, addr } => do_load(image, bus, seat, kind, rd, addr),
-        Ask::Store { kind, addr, value } => do_store(image, bus, seat, kind, addr, value),
-        Ask::Emit(word) => do_emit(image, seat, word),
+        Ask::Nothing => {
+            seat.core = *core;
+            Ok(without_cut(What::Ran))
+        }
+        Ask::Load { kind, rd, addr } => do_load(image, bus, seat, core, kind, rd, addr),
+        Ask::Store { kind, addr, value } => do_store(image, bus, seat, core, kind, addr, value),
+        Ask::Emit(word) => {
+            seat.core = *core;
+            Ok(do_emit(image, seat, word))
+        }
     }
 }
 
@@ -55,32 +72,36 @@ fn do_load(
     image: &Image,
     bus: &mut Bus,
     seat: &mut Seat,
+    core: &Core,
     kind: LoadKind,
     rd: Register,
     addr: u32,
-) -> Reply
-    requires going { seat.old.core.done ≡ None }
-    requires in_time { seat.old.core.count < seat.old.core.limit }
+) -> Result<Reply, Refusal>
+    requires going { core.now.done ≡ None }
+    requires in_time { core.now.count < core.now.limit }
     requires running { IsRunning (observed bus.old) seat.old.unit.0 }
     requires size { (observed bus.old).words ≡ data_words image.now }
-    requires free { full_for (observed bus.old) seat.old.unit.0 (asked_word image.now (Ask.Load kind rd addr)) ≡ None }
-    ensures { let trap = access_trap (data_words image.now) (load_bytes kind) addr in
+    ensures refused { result_err result
+        ≡ refused_for (observed bus.old) seat.old.unit.0 (asked_word image.now (Ask.Load kind rd addr)) }
+    ensures unchanged { OnErr result ((seat.new ≡ seat.old) × (bus.new ≡ bus.old)) }
+    ensures done { let trap = access_trap (data_words image.now) (load_bytes kind) addr in
         (t : LineTable) → (place : ℕ) → RunsAt (observed bus.old) seat.old.unit.0 t place
-        → IsDone image.now (Some (wants_load image.now seat.old.core kind rd addr trap)) t place
-        (whole_seat seat.old) (whole_seat seat.new) (observed bus.new) result }
+        → IfOk result (IsDone image.now (Some (wants_load image.now core.now kind rd addr trap)) t place
+        (at_core core.now (whole_seat seat.old)) (whole_seat seat.new) (observed bus.new)) }
 {
     match load_place(kind, addr, image.data_words().len() as u32) {
-        Err(trap) => trapped(&mut seat.core, trap),
+        Err(trap) => Ok(trapped(seat, core, trap)),
         Ok(access) => {
             let addr = WordAddr(access.word);
-            let (word, served) = read(bus, seat.unit, addr);
+            let (word, served) = bus.read(seat.unit, addr)?;
             let value = loaded(kind, access.lane, word);
+            seat.core = *core;
             seat.core.finish_load(image, rd, value);
-            without_cut(What::Loaded {
+            Ok(without_cut(What::Loaded {
                 addr,
                 value,
                 served,
-            })
+            }))
         }
     }
 }
@@ -89,20 +110,22 @@ fn do_store(
     image: &Image,
     bus: &mut Bus,
     seat: &mut Seat,
+    core: &Core,
     kind: StoreKind,
     addr: u32,
     value: u32,
-) -> Reply
-    requires going { seat.old.core.done ≡ None }
-    requires in_time { seat.old.core.count < seat.old.core.limit }
+) -> Result<Reply, Refusal>
+    requires going { core.now.done ≡ None }
+    requires in_time { core.now.count < core.now.limit }
     requires running { IsRunning (observed bus.old) seat.old.unit.0 }
     requires size { (observed bus.old).words ≡ data_words image.now }
-    requires free { full_for (observed bus.old) seat.old.unit.0 (asked_word image.now (Ask.Store kind addr value))
-        ≡ None }
-    ensures { let trap = store_trap (data_words image.now) image.now.read_only (store_bytes kind) addr in
+    ensures refused { result_err result
+        ≡ refused_for (observed bus.old) seat.old.unit.0 (asked_word image.now (Ask.Store kind addr value)) }
+    ensures unchanged { OnErr result ((seat.new ≡ seat.old) × (bus.new ≡ bus.old)) }
+    ensures done { let trap = store_trap (data_words image.now) image.now.read_only (store_bytes kind) addr in
         (t : LineTable) → (place : ℕ) → RunsAt (observed bus.old) seat.old.unit.0 t place
-        → IsDone image.now (Some (wants_store image.now seat.old.core kind addr value trap)) t place
-        (whole_seat seat.old) (whole_seat seat.new) (observed bus.new) result }
+        → IfOk result (IsDone image.now (Some (wants_store image.now core.now kind addr value trap)) t place
+        (at_core core.now (whole_seat seat.old)) (whole_seat seat.new) (observed bus.new)) }
 {
     match store_place(
         kind,
@@ -110,16 +133,17 @@ fn do_store(
         image.data_words().len() as u32,
         image.read_only(),
     ) {
-        Err(trap) => trapped(&mut seat.core, trap),
+        Err(trap) => Ok(trapped(seat, core, trap)),
         Ok(access) => {
             let addr = WordAddr(access.word);
-            let (word, served) = word_to_store(bus, seat.unit, kind, access, value);
-            let cut = write(bus, seat.unit, addr, word);
+            let (word, served) = word_to_store(bus, seat.unit, kind, access, value)?;
+            let cut = write(bus, seat.unit, addr, word)?;
+            seat.core = *core;
             seat.core.finish_store(image);
-            Reply {
+            Ok(Reply {
                 what: What::Stored { addr, word, served },
                 cut,
-            }
+            })
         }
     }
 }
@@ -139,13 +163,14 @@ fn do_emit(image: &Image, seat: &mut Seat, word: u32) -> Reply
     without_cut(What::Emitted(word))
 }
 
-// The task traps.
-fn trapped(core: &mut Core, trap: u8) -> Reply
-    requires { core.old.done ≡ None }
-    ensures core { core.new ≡ ends (end.Trap trap) core.old }
+// The task comes to this core, and traps.
+fn trapped(seat: &mut Seat, core: &Core, trap: u8) -> Reply
+    requires { core.now.done ≡ None }
+    ensures seat { whole_seat seat.new ≡ at_core (ends (end.Trap trap) core.now) (whole_seat seat.old) }
     ensures reply { result ≡ record { what = What.Trapped trap; cut = None } }
 {
-    core.trap(trap);
+    seat.core = *core;
+    seat.core.trap(trap);
     without_cut(What::Trapped(trap))
 }
 
@@ -157,58 +182,49 @@ fn without_cut(what: What) -> Reply
 
 // The whole word that a store leaves, and who served the read that it takes: a store of less than a
 // word reads the whole word, and replaces these bytes of it.
+//
+// Errors: the bus's, if there is no room for the word that is read. Then nothing changes.
 fn word_to_store(
     bus: &mut Bus,
     unit: UnitId,
     kind: StoreKind,
     access: Place,
     value: u32,
-) -> (u32, Option<Served>)
+) -> Result<(u32, Option<Served>), Refusal>
     requires running { IsRunning (observed bus.old) unit.0 }
     requires in_memory { access.word < (observed bus.old).words }
-    requires free { set_full (bus_cache (observed bus.old) unit.0) access.word ≡ None }
     requires fits { access.lane + store_bytes kind ≤ 4 }
     requires aligned { access.lane % store_bytes kind ≡ 0 }
-    ensures { (t : LineTable) → (place : ℕ) → RunsAt (observed bus.old) unit.0 t place
-        → IsPrepared t unit.0 place access.word kind access.lane value (observed bus.new) result.0 result.1 }
+    ensures refused { IfErr result (λ e. full_refusal (observed bus.old) unit.0 access.word ≡ Some e) }
+    ensures unchanged { OnErr result (bus.new ≡ bus.old) }
+    ensures room { OnOk result (HasRoomYet bus.old bus.new unit.0 access.word) }
+    ensures prepared { (t : LineTable) → (place : ℕ) → RunsAt (observed bus.old) unit.0 t place
+        → IfOk result (λ r. IsPrepared t unit.0 place access.word kind access.lane value (observed bus.new) r.0 r.1) }
 {
     match kind {
-        StoreKind::Word => (value, None),
+        StoreKind::Word => Ok((value, None)),
         _ => {
-            let (old, served) = read(bus, unit, WordAddr(access.word));
-            (stored(kind, access.lane, value, old), Some(served))
+            let (old, served) = bus.read(unit, WordAddr(access.word))?;
+            Ok((stored(kind, access.lane, value, old), Some(served)))
         }
     }
 }
 
-// The unit's task reads the word, for which its cache has room.
-fn read(bus: &mut Bus, unit: UnitId, addr: WordAddr) -> (u32, Served)
+// The unit's task stores the word. The answer is what that squashed.
+//
+// Errors: the bus's, where the unit has no room for the word. Then nothing changes.
+fn write(bus: &mut Bus, unit: UnitId, addr: WordAddr, word: u32) -> Result<Option<Cut>, Refusal>
     requires running { IsRunning (observed bus.old) unit.0 }
     requires in_memory { addr.0 < (observed bus.old).words }
-    requires free { set_full (bus_cache (observed bus.old) unit.0) addr.0 ≡ None }
-    ensures { (t : LineTable) → (place : ℕ) → RunsAt (observed bus.old) unit.0 t place
-        → IsRead t place addr.0 (observed bus.new) result.0 result.1 }
-{
-    match bus.read(unit, addr) {
-        Ok(answer) => answer,
-        Err(_) => unreachable!(),
-    }
-}
-
-// The unit's task stores the word, for which its cache has room.
-fn write(bus: &mut Bus, unit: UnitId, addr: WordAddr, word: u32) -> Option<Cut>
-    requires running { IsRunning (observed bus.old) unit.0 }
-    requires in_memory { addr.0 < (observed bus.old).words }
-    requires free { set_full (bus_cache (observed bus.old) unit.0) addr.0 ≡ None }
+    ensures refused { result_err result ≡ full_refusal (observed bus.old) unit.0 addr.0 }
+    ensures unchanged { OnErr result (bus.new ≡ bus.old) }
     ensures cut { (t : LineTable) → (place : ℕ) → RunsAt (observed bus.old) unit.0 t place
-        → result ≡ stored_cut t place addr.0 }
+        → IfOk result (λ cut. cut ≡ stored_cut t place addr.0) }
     ensures table { (t : LineTable) → (place : ℕ) → RunsAt (observed bus.old) unit.0 t place
-        → Agrees (observed bus.new) (write t place addr.0 word) }
+        → OnOk result (Agrees (observed bus.new) (write t place addr.0 word)) }
 {
-    match bus.write(unit, addr, word) {
-        Ok(victim) => violated(addr, victim),
-        Err(_) => unreachable!(),
-    }
+    let victim = bus.write(unit, addr, word)?;
+    Ok(violated(addr, victim))
 }
 
 // The tasks that a store of the word squashed, as a reply has them.

@@ -120,13 +120,13 @@ impl Machine {
         ensures { IsStep self.old self.new (event_of event.entry) result }
     {
         let admitted = self.admit(event)?;
-        Ok(match admitted {
-            Admitted::Assign { unit, guess } => self.assign(unit, guess),
+        match admitted {
+            Admitted::Assign { unit, guess } => Ok(self.assign(unit, guess)),
             Admitted::Submit { place, burst } => self.submit(place, burst),
-            Admitted::Replace { unit, addr } => self.replace(unit, addr),
-            Admitted::Cancel { unit, place } => self.cancel(unit, place),
-            Admitted::Commit { by, end } => self.commit(by, end),
-        })
+            Admitted::Replace { unit, addr } => Ok(self.replace(unit, addr)),
+            Admitted::Cancel { unit, place } => Ok(self.cancel(unit, place)),
+            Admitted::Commit { by, end } => Ok(self.commit(by, end)),
+        }
     }
 }
 
