@@ -1,3 +1,5 @@
+//! The marks that a store leaves on other lines of its word: T, and the link of the version before.
+
 ghost use Rattle.std.specs.Prelude.{◌≡◌, ◌<◌, ℕ, ◌==◌, true, ◌&&◌, cond, Some, is_some, length, option_map};
 ghost use Rattle.svc_base.specs.declared.ids.UnitId.{UnitId};
 ghost use Rattle.svc_line.specs.Bits.{bits_of};

@@ -1,3 +1,5 @@
+//! What a bus shows without changing: memory, spilled words, lines and full sets.
+
 ghost use Rattle.std.specs.Prelude.{◌≡◌, ◌<◌, true, Option, option_map, IfSome};
 ghost use Rattle.svc_line.specs.Bits.{bits_of};
 ghost use Rattle.svc_bus_laws.specs.LineTable.{LineTable, committed_value};

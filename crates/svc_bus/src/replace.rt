@@ -1,3 +1,5 @@
+//! A replacement: a line leaves its cache.
+
 ghost use Rattle.std.specs.Prelude.{◌≡◌, ℕ, ◌<◌, true, not, ◌&&◌, Some, None, OnOk, OnErr, MatchResult, length, get_or};
 ghost use Rattle.std.specs.Option.{option_or};
 ghost use Rattle.svc_line.specs.Bits.{bits_of};

@@ -1,3 +1,5 @@
+//! A bus request: a line of the word is put into the asking unit's cache, and the word is purged.
+
 ghost use Rattle.std.specs.Prelude.{◌≡◌, ◌≢◌, ℕ, ◌+◌, ◌*◌, ◌<◌, ◌≤◌, ◌==◌, Bool, true, false, Option, Some, None, length, get_or, OnOk, OnErr, MatchResult};
 ghost use Rattle.svc_line.specs.Bits.{bits_of, is_committed};
 ghost use Rattle.svc_line.specs.Line.{seen};

@@ -1,3 +1,5 @@
+//! The lines of a word after a store.
+
 ghost use Rattle.std.specs.Prelude.{◌≡◌, ℕ, ◌+◌, ◌<◌, ◌≤◌, ◌==◌, true, false, cond, Option, Some, None, length, get_or, option_map, IfOk, OnOk, OnErr, MatchResult};
 ghost use Rattle.svc_base.specs.declared.ids.UnitId.{UnitId};
 ghost use Rattle.svc_base.specs.declared.refusal.Refusal.TheVariants as refusal;

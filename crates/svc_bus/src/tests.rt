@@ -1,3 +1,5 @@
+//! Tests of a bus: rows of calls with their answers, and random walks.
+
 ghost use Rattle.std.specs.Prelude.{◌≡◌, ◌<◌, ◌≤◌, true, false, length, IfOk, IsTrue};
 ghost use Rattle.std.specs.Int.{is_power_of_two};
 ghost use Rattle.svc_base.specs.declared.config.TheConstants.{MAX_SETS, MAX_WAYS};

@@ -1,3 +1,5 @@
+//! The tasks that a write squashes.
+
 use svc_base::TaskNo;
 
 /// The tasks that a write squashed because the first of them had read the word too early.

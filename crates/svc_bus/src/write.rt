@@ -1,3 +1,5 @@
+//! A write of a word by a task.
+
 ghost use Rattle.std.specs.Prelude.{◌≡◌, ℕ, ◌+◌, ◌-◌, ◌^◌, ◌<◌, ◌≤◌, Option, Some, None, length, option_map, IfOk, IfSome, OnOk, OnErr, MatchResult};
 ghost use Rattle.svc_vol.specs.declared.list.TheConstants.{CAPACITY};
 ghost use Rattle.svc_bus_laws.specs.Versioned.{victim_answer};

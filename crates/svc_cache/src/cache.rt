@@ -1,3 +1,5 @@
+//! A cache: sets of places for lines.
+
 ghost use Rattle.std.specs.Prelude.{◌≡◌, ◌<◌, ◌≤◌, ◌+◌, ◌*◌, ◌^◌, ◌%◌, ℕ, true, false, Some, None, Option, length, option_map, IsTrue, IfOk, IfSome, OnOk, OnErr, MatchResult, All};
 ghost use Rattle.std.specs.Int.{is_power_of_two};
 ghost use Rattle.svc_base.specs.declared.config.TheConstants.{MAX_SETS, MAX_WAYS};

@@ -1,3 +1,5 @@
+//! A place of a cache.
+
 ghost use Rattle.std.specs.Prelude.{◌≡◌, false};
 ghost use Rattle.svc_line.specs.Bits.{bits_of};
 ghost use Rattle.svc_cache.specs.Places.{has_committed, holds, is_held, precedes};

@@ -1,3 +1,5 @@
+//! The count of look-ups.
+
 ghost use Rattle.std.specs.Prelude.{◌≡◌};
 
 /// The work that look-ups have done, counted for the caller that passes it in.

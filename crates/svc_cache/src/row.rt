@@ -1,3 +1,5 @@
+//! The places of one set.
+
 ghost use Rattle.std.specs.Prelude.{◌≡◌, ◌<◌, ◌+◌, length, MatchResult};
 ghost use Rattle.svc_cache.specs.Probes.{CountsOneSearch, HasRoom};
 ghost use Rattle.svc_cache.specs.Rows.{IsFoundAt, IsFullRow, IsSeat, IsSurvey};

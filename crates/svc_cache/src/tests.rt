@@ -1,3 +1,5 @@
+//! Tests of a cache: which lines it holds, which one leaves, and how many places a step searches.
+
 ghost use Rattle.std.specs.Prelude.{◌≡◌, ◌≤◌, true};
 ghost use Rattle.svc_base.specs.declared.config.TheConstants.{MAX_SETS, MAX_WAYS};
 ghost use Rattle.svc_line.specs.Bits.{bits_of};

@@ -1,3 +1,5 @@
+//! An entry of a history: an event and its answer, column by column.
+
 use svc_base::{UnitId, WordAddr};
 
 /// What an event asked for.

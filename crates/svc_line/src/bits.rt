@@ -1,3 +1,5 @@
+//! The bits of a line.
+
 ghost use Rattle.std.specs.Prelude.{⊤, ◌≡◌, Bool, if◌then◌else◌, [], ◌∷◌, codes};
 ghost use Rattle.svc_line.specs.Bits.{bits_of, loaded, stored, committed, squashed, reused, overtaken_now, is_active, is_committed, is_dirty, is_exposed, is_reusable};
 

@@ -1,3 +1,5 @@
+//! A line of a cache.
+
 use crate::LineBits;
 use svc_base::UnitId;
 

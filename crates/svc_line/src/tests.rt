@@ -1,3 +1,5 @@
+//! Tests of a line's bits.
+
 use crate::LineBits;
 use bitflags::Flags;
 

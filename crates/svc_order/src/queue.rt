@@ -1,3 +1,5 @@
+//! The queue of active tasks.
+
 ghost use Rattle.std.specs.Prelude.{◌≡◌, ◌<◌, ◌≤◌, ◌==◌, ◌↔◌, ℕ, Option, Some, [], ◌∷◌, ◌++◌, length, get_or, take, option_map, slice_get, Contains};
 
 use arrayvec::ArrayVec;

@@ -1,3 +1,5 @@
+//! Tests of the queue of active tasks.
+
 use crate::TaskQueue;
 use svc_base::UnitId;
 

@@ -1,3 +1,5 @@
+//! A commit and a squash, in the lines of caches.
+
 ghost use Rattle.std.specs.Prelude.{◌≡◌, ◌<◌, ℕ, cond, length, get_or};
 ghost use Rattle.svc_cache.specs.Lines.{commit_line, squash_line};
 ghost use Rattle.svc_cache.specs.Places.{line_of};

@@ -1,3 +1,5 @@
+//! A version goes to memory.
+
 ghost use Rattle.std.specs.Prelude.{◌≡◌, ◌<◌, length};
 ghost use Rattle.svc_retire.specs.Memory.{with_version};
 

@@ -1,3 +1,5 @@
+//! A purge: a word's newest committed version goes to memory, and its committed versions leave the caches.
+
 ghost use Rattle.std.specs.Prelude.{◌≡◌, ◌+◌, ◌<◌, ◌==◌, ◌&&◌, ℕ, None, cond, length, get_or};
 ghost use Rattle.svc_vol.specs.Lines.{lines_in, IsRanked};
 ghost use Rattle.svc_vol.specs.Versions.{AreCommitted};

@@ -1,3 +1,5 @@
+//! The spill table: the head's versions whose lines were replaced.
+
 ghost use Rattle.std.specs.Prelude.{◌≡◌, ◌<◌, ℕ, Option, Some, None, All, IfOk, length, get_or, set, replicate, unwrap_or};
 ghost use Rattle.svc_retire.specs.Spills.{is_listed, spilled};
 ghost use Rattle.svc_retire.specs.declared.spill.Place.TheVariants.{Unlisted};

@@ -1,3 +1,5 @@
+//! Tests of commits, squashes, purges and the spill table.
+
 ghost use Rattle.std.specs.Prelude.{◌≡◌, ◌≤◌, ℕ, IfOk};
 ghost use Rattle.svc_retire.specs.Caches.{cache_at};
 

@@ -1,3 +1,5 @@
+//! Searches in a version list: the nearest version, the victim, and what a store overtakes.
+
 ghost use Rattle.std.specs.Prelude.{◌≡◌, ◌<◌, ◌≤◌, length};
 ghost use Rattle.svc_vcl.specs.Listed.{entry_at, is_exposure, is_overtaken_in, is_version, nearest_version_in, next_version_in, newest_version_in, reusable_version_in, victim_in};
 

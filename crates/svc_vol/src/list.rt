@@ -1,3 +1,5 @@
+//! The version list of a word.
+
 ghost use Rattle.std.specs.Prelude.{◌≡◌, ◌<◌, ◌≤◌, ◌+◌, ℕ, [], true, IsTrue, IsFalse, length, map, get_or, option_map};
 ghost use Rattle.svc_line.specs.Line.{seen};
 ghost use Rattle.svc_cache.specs.Places.{CacheValue, line_of};

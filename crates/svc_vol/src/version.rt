@@ -1,3 +1,5 @@
+//! A line of a word with the unit that has it.
+
 ghost use Rattle.std.specs.Prelude.{◌≡◌, option_map};
 ghost use Rattle.svc_line.specs.Line.{seen};
 ghost use Rattle.svc_vol.specs.Versions.{active_version, seen_version};

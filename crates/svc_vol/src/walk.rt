@@ -1,3 +1,5 @@
+//! The walk along the links of committed versions, from the oldest to the newest.
+
 ghost use Rattle.std.specs.Prelude.{◌≡◌, ◌≤◌, ◌<◌, ℕ, [], true, false, Some, None, length, map, option_map, MatchOption, IsTrue, IsFalse};
 ghost use Rattle.svc_line.specs.Line.{seen};
 ghost use Rattle.svc_links_laws.specs.LinkOrder.{IsFirst};

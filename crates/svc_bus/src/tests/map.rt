@@ -1,3 +1,5 @@
+//! A versioned map: what each task has written and read, without caches.
+
 ghost use Rattle.std.specs.Prelude.{◌<◌};
 ghost use Rattle.svc_bus.specs.declared.tests.plain.TheConstants.{WORDS};
 

@@ -1,3 +1,5 @@
+//! A bus by its rules alone, with task numbers in place of links and places.
+
 ghost use Rattle.std.specs.Prelude.{◌<◌};
 ghost use Rattle.svc_bus.specs.declared.tests.plain.TheConstants.{UNITS, WORDS};
 

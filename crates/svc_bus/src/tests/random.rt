@@ -1,3 +1,5 @@
+//! Random walks of a bus beside the bus by its rules and the versioned map.
+
 ghost use Rattle.std.specs.Prelude.{◌<◌, ◌≤◌};
 ghost use Rattle.svc_base.specs.declared.config.TheConstants.{MAX_WAYS};
 ghost use Rattle.svc_bus.specs.declared.tests.plain.TheConstants.{UNITS, WORDS};

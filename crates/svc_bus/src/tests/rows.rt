@@ -1,3 +1,5 @@
+//! Calls of a bus with the answers and look-ups expected of them.
+
 use super::Answer::{Done, Line as Shown, Named, Replaced, WasRead, Word, Written};
 use super::Step::{Backing, Begin, Commit, Full, Line, Memory, Read, Replace, Squash, Write};
 use super::*;
