@@ -39,11 +39,23 @@ impl Model for Bus {
 
     ghost Value = { BusValue };
 
-    ghost view = { λ bus. record { caches = bus.caches.items; spill = bus.spill; backing = bus.backing.items;
-        units = bus.queue; commits = bus.commits; probes = bus.probes } };
+    ghost view = { λ bus. record {
+      caches = bus.caches.items;
+      spill = bus.spill;
+      backing = bus.backing.items;
+      units = bus.queue;
+      commits = bus.commits;
+      probes = bus.probes;
+    } };
 
-    ghost invariant = { λ bus. IsSoundBus (record { caches = bus.caches.items; spill = bus.spill;
-        backing = bus.backing.items; units = bus.queue; commits = bus.commits; probes = bus.probes }) };
+    ghost invariant = { λ bus. IsSoundBus (record {
+      caches = bus.caches.items;
+      spill = bus.spill;
+      backing = bus.backing.items;
+      units = bus.queue;
+      commits = bus.commits;
+      probes = bus.probes;
+    }) };
 }
 
 // A cache without lines for each unit.

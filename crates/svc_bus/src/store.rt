@@ -69,7 +69,7 @@ pub(crate) fn store_line(
     requires room { HasRoomFor probes.old caches.old (1 + (length caches.old + length caches.old)) }
     ensures refused { let full = full_in caches.old store.now.unit.0 (length backing.old) store.now.word.0 in
         MatchResult result (λ _. full ≡ None)
-            (λ e. option_map (λ named. refusal.SetFull (record { 0 = named })) full ≡ Some e) }
+        (λ e. option_map (λ named. refusal.SetFull (record { 0 = named })) full ≡ Some e) }
     ensures same_caches { OnErr result (caches.new ≡ caches.old) }
     ensures same_memory { OnErr result (backing.new ≡ backing.old) }
     ensures lines { OnOk result ((u a : ℕ) → held_line caches.new u a

@@ -46,7 +46,7 @@ fn drop_version(
     requires room { HasRoomFor probes.old caches.old 1 }
     ensures lines { (u a : ℕ) → held_line caches.new u a
         ≡ cond ((a == word.0) && (drops keep version.now && (version.now.unit.0 == u))) None
-            (held_line caches.old u a) }
+        (held_line caches.old u a) }
     ensures sizes { SameSizes caches.old caches.new }
     ensures counted { CountsSearches probes.old probes.new (cond (drops keep version.now) 1 0) }
 {

@@ -38,11 +38,19 @@ impl Model for Sequencer {
 
     ghost Value = { Guide };
 
-    ghost view = { λ s. record { entries = s.entries.items; due = s.due; successors = s.successors.items;
-        active = s.active.items } };
+    ghost view = { λ s. record {
+      entries = s.entries.items;
+      due = s.due;
+      successors = s.successors.items;
+      active = s.active.items;
+    } };
 
-    ghost invariant = { λ s. AreTables (record { entries = s.entries.items; due = s.due;
-        successors = s.successors.items; active = s.active.items }) s.places.items };
+    ghost invariant = { λ s. AreTables (record {
+      entries = s.entries.items;
+      due = s.due;
+      successors = s.successors.items;
+      active = s.active.items;
+    }) s.places.items };
 }
 
 // The entry at a place; the first follows the last.

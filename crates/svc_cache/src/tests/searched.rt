@@ -34,7 +34,11 @@ impl Model for SearchedLines {
 
     ghost view = { λ list. record { sets = list.sets; ways = list.ways; places = list.places.items } };
 
-    ghost invariant = { λ list. IsSoundList (record { sets = list.sets; ways = list.ways; places = list.places.items }) };
+    ghost invariant = { λ list. IsSoundList (record {
+      sets = list.sets;
+      ways = list.ways;
+      places = list.places.items;
+    }) };
 }
 
 // A search of all the places is counted.
