@@ -13,6 +13,7 @@ use Rattle.svc_asm.specs.declared.passed.Passed.{Passed}
 use Rattle.svc_asm.specs.declared.passed.Passed.TheVariants as passed
 use Rattle.svc_asm.specs.Sections.{begins_data, section_named, is_passed}
 use Rattle.svc_instructions.specs.Couples.{couple_named, couple_at}
+use Rattle.svc_instructions.specs.Relative.{relative_named}
 use Rattle.svc_asm.specs.Blanks.{blank_named, blank_at}
 use Rattle.svc_operands.specs.Operands.{Read, register_at, first_register_at, number_at}
 use Rattle.svc_operands.specs.Values.{value_at, short_at, upper_at, address_at}
@@ -119,9 +120,13 @@ alone_at d name text = do
   instr ← instruction_at d name text
   Some (say.Instruction instr.0, instr.1)
 
+-- an auipc with %pcrel_hi, or another instruction
+unfoldable pub single_at : Layout → List ℕ → List ℕ → Read Statement
+single_at d name text = found (relative_named d name text) (λ s. Some s) (alone_at d name text)
+
 -- a name that stands for two instructions, or one instruction
 unfoldable pub as_statement : Layout → List ℕ → List ℕ → Read Statement
-as_statement d name text = found (couple_named name) (λ c. couple_at d c text) (alone_at d name text)
+as_statement d name text = found (couple_named name) (λ c. couple_at d c text) (single_at d name text)
 
 -- what a name and what follows it say: a directive's name begins with a dot
 abbrev pub named : Layout → List ℕ → List ℕ → Read Statement

@@ -21,7 +21,8 @@ use thiserror::Error;
 /// Why a text makes no image.
 #[derive(Clone, Copy, Debug, Error)]
 pub enum AssembleError {
-    /// The text can't be read further: this stands at this line and column, counted from 1, where something else may stand.
+    /// The text can't be read further: this stands at this line and column, counted from 1, where something else may
+    /// stand.
     #[error("{line}:{column}: found {found}, expected {wanted}")]
     Unread {
         line: usize,
@@ -54,8 +55,10 @@ enum Stop {
 
 // Adds what the first line says, and answers what follows it.
 fn take_line<'a>(text: &'a [u8], draft: &mut Draft<'a>) -> Result<&'a [u8], Stop>
-    ensures ok { IfOk result (λ rest. (s : Statement) × Takes text.now (layout_of draft.old) s rest.now (layout_of draft.new)) }
-    ensures err { IfErr result (λ e. (e ≡ halt.Memory) ⊎ ((s : Statement) (rest : List ℕ) (next : Layout) → Takes text.now (layout_of draft.old) s rest next → ⊥)) }
+    ensures ok { IfOk result (λ rest.
+        (s : Statement) × Takes text.now (layout_of draft.old) s rest.now (layout_of draft.new)) }
+    ensures err { IfErr result (λ e. (e ≡ halt.Memory)
+        ⊎ ((s : Statement) (rest : List ℕ) (next : Layout) → Takes text.now (layout_of draft.old) s rest next → ⊥)) }
 {
     let (statement, rest) = match read_next(draft, text) {
         Ok(read) => read,
@@ -79,7 +82,8 @@ fn take_line<'a>(text: &'a [u8], draft: &mut Draft<'a>) -> Result<&'a [u8], Stop
 // Adds what every line says.
 fn take_lines<'a>(text: &'a [u8], draft: &mut Draft<'a>) -> Result<(), Stop>
     ensures ok { OnOk result ((ss : List Statement) × Makes ss text.now (layout_of draft.old) (layout_of draft.new)) }
-    ensures err { IfErr result (λ e. (e ≡ halt.Memory) ⊎ ((ss : List Statement) (made : Layout) → Makes ss text.now (layout_of draft.old) made → ⊥)) }
+    ensures err { IfErr result (λ e. (e ≡ halt.Memory)
+        ⊎ ((ss : List Statement) (made : Layout) → Makes ss text.now (layout_of draft.old) made → ⊥)) }
 {
     let mut rest = text;
     while !rest.is_empty() {
@@ -162,7 +166,8 @@ pub fn assemble(alloc: Global, text: &[u8]) -> Result<Image, AssembleError>
     ensures program { IfOk result (IsProgramOf text.now) }
 
     // A program of an image is assembled to that image.
-    ensures whole { (img : value.Image) → IsImage img → IsProgramOf text.now img → MatchResult result (λ i. i ≡ img) (λ e. e ≡ error.Memory) }
+    ensures whole { (img : value.Image) → IsImage img → IsProgramOf text.now img
+        → MatchResult result (λ i. i ≡ img) (λ e. e ≡ error.Memory) }
 {
     let draft = match lay(alloc, text) {
         Ok(draft) => draft,

@@ -1,8 +1,8 @@
 -- Where the lines of a program put what they say, and the image that this makes.
-use Rattle.std.specs.Prelude.{◌≡◌, ℕ, ◌+◌, ◌*◌, ◌-◌, ◌/◌, ◌%◌, ◌^◌, ◌≤◌, Bool, true, false, nat_le, nat_lt, is_some, ◌==◌, List, [], ◌∷◌, ◌++◌, length, map, Option, Some, None, unwrap_or, if◌then◌else◌, slice_set, slice_get, option_map, take, drop, ◌&&◌}
+use Rattle.std.specs.Prelude.{◌≡◌, ℕ, ◌+◌, ◌*◌, ◌-◌, ◌/◌, ◌%◌, ◌^◌, ◌≤◌, Bool, true, false, nat_eq, nat_le, nat_lt, is_some, ◌==◌, List, [], ◌∷◌, ◌++◌, length, map, Option, Some, None, unwrap_or, if◌then◌else◌, slice_set, slice_get, option_map, take, drop, ◌&&◌}
 use Rattle.std.specs.Str.{bytes_eq}
 use Rattle.std.specs.Map.{update}
-use Rattle.std.specs.HashMap.{get_by}
+use Rattle.std.specs.HashMap.{get, get_by}
 use Rattle.svc_rv32i.specs.declared.instr.Register.{Register}
 use Rattle.svc_rv32i.specs.Words.{word_of}
 use Rattle.svc_image.specs.declared.version.Version.{Version}
@@ -33,7 +33,14 @@ Names = List ℕ → Option Spot
 abbrev pub no_names : Names
 no_names name = None
 
--- what an image is made of so far: the version where it is said; the limit of the entries that have none of their own; how many of the first data words are read-only; the start where it is said; the registers; the entries, and the limit that each has of its own; the words of the text, the bytes of each section of data, the section of what follows, and what is read next; the names, whether these are all the names of the program, as they are in the second pass, and how far behind the data's beginning .data and .bss begin then; the local labels, which the second pass has from the first one, and how many of them it has passed
+-- how far it is from an instruction at a place to the value whose high part it has
+abbrev pub Distances : Type 0
+Distances = ℕ → Option ℕ
+
+abbrev pub no_distances : Distances
+no_distances place = None
+
+-- what an image is made of so far: the version where it is said; the limit of the entries that have none of their own; how many of the first data words are read-only; the start where it is said; the registers; the entries, and the limit that each has of its own; the words of the text, the bytes of each section of data, the section of what follows, and what is read next; the names, whether these are all the names of the program, as they are in the second pass, and how far behind the data's beginning .data and .bss begin then; the local labels, which the second pass has from the first one, and how many of them it has passed; the distances of the instructions with %pcrel_hi so far
 pub record Layout : Type 0 where
   pub version : Option Version
   pub limit : ℕ
@@ -54,6 +61,7 @@ pub record Layout : Type 0 where
   pub bss_from : ℕ
   pub locals : List Local
   pub passed : ℕ
+  pub distances : Distances
 
 abbrev pub layout_of : Draft → Layout
 layout_of d = record {
@@ -76,6 +84,7 @@ layout_of d = record {
   bss_from = d.bss_from;
   locals = d.locals.items;
   passed = d.passed;
+  distances = get nat_eq d.distances;
 }
 
 abbrev pub zeros : List ℕ
@@ -103,6 +112,7 @@ empty names known data_from bss_from = record {
   bss_from = bss_from;
   locals = [];
   passed = 0;
+  distances = no_distances;
 }
 
 -- a section in whole words
@@ -154,6 +164,10 @@ address_back d n = if d.known then option_map (place d) (last_local n None (take
 abbrev pub address_ahead : Layout → ℕ → Option ℕ
 address_ahead d n = if d.known then option_map (place d) (first_local n (drop d.passed d.locals)) else Some (here d)
 
+-- how far it is to the value whose high part the instruction at a place has; in the first pass any may yet come to stand there
+abbrev pub distance_from : Layout → ℕ → Option ℕ
+distance_from d place = if d.known then d.distances place else Some 0
+
 -- a word more of the text, of which an image has at most 65,536
 unfoldable pub with_word : ℕ → Layout → Option Layout
 with_word w d = if nat_lt (length d.text) 65536 then Some (record d { text = d.text ++ (w ∷ []) }) else None
@@ -204,6 +218,10 @@ with_instruction w d = word_in d.section w d
 -- two instructions
 unfoldable pub with_pair : ℕ → ℕ → Layout → Option Layout
 with_pair first second d = with_instruction first d >>= with_instruction second
+
+-- an instruction with the high part of how far it is to a value
+unfoldable pub with_relative : ℕ → ℕ → Layout → Option Layout
+with_relative w n d = with_instruction w (record d { distances = update nat_eq d.distances (here d) (Some n) })
 
 -- the version, of which a program has one
 unfoldable pub with_version : Version → Layout → Option Layout
@@ -292,6 +310,7 @@ after name (say.Symbol s) d = with_symbol name s d >>= going_on go.Line
 after name (say.Common count step) d = with_common name count step d
 after name (say.Pair i j) d = with_pair (word_of i) (word_of j) d
 after name (say.Local n) d = with_local n d
+after name (say.Relative i n) d = with_relative (word_of i) n d
 
 -- where the first task begins: where it is said, and else at the first entry
 abbrev pub first_entry : List ℕ → ℕ

@@ -67,7 +67,8 @@ pub fn put_words(bytes: &mut Vec<u8>, words: &[u32]) -> Result<(), ImageError>
 
 /// Puts the limit of each entry behind the bytes: its own, or else this one.
 pub fn put_limits(bytes: &mut Vec<u8>, limit: u32, own: &[Option<u32>]) -> Result<(), ImageError>
-    ensures ok { OnOk result (bytes.new.items ≡ bytes.old.items ++ bytes_of_words (map (λ o. unwrap_or o limit) own.now)) }
+    ensures ok { OnOk result (bytes.new.items
+        ≡ bytes.old.items ++ bytes_of_words (map (λ o. unwrap_or o limit) own.now)) }
     ensures err { IfErr result (λ e. e ≡ Memory) }
 {
     for &own_limit in own {

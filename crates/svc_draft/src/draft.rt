@@ -58,6 +58,8 @@ pub struct Draft<'a> {
     locals: Vec<Local>,
     // How many of them the second pass has passed.
     passed: usize,
+    // How far it is from each instruction with `%pcrel_hi` so far, by its address, to the value.
+    distances: HashMap<u32, u32>,
     ghost text_few: { length text.items ≤ 65536 },
     ghost rodata_few: { length rodata_bytes.items ≤ 262144 },
     ghost data_few: { length data_bytes.items ≤ 262144 },
@@ -77,7 +79,7 @@ impl<'a> Draft<'a> {
     ghost use Rattle.svc_draft.specs.Versions.{version_in};
     ghost use Rattle.svc_draft.specs.Areas.{bytes_in};
     ghost use Rattle.svc_draft.specs.Refusals.{Refuses};
-    ghost use Rattle.svc_draft.specs.Layouts.{layout_of, empty, no_names, first_pass, second_pass, size, base, place, spot_here, here, address_of, address_back, address_ahead, with_word, with_bytes, with_blank, with_align, with_value, with_symbol, with_passed, with_local, with_common, with_instruction, with_pair, with_version, data_up_to, with_read_only, with_own, with_place, with_entry, with_register, after, start_in, limits_in, file_in, data_in, HasFewParts, IsMadeOf};
+    ghost use Rattle.svc_draft.specs.Layouts.{layout_of, empty, no_names, first_pass, second_pass, size, base, place, spot_here, here, address_of, address_back, address_ahead, distance_from, with_word, with_bytes, with_blank, with_align, with_value, with_symbol, with_passed, with_local, with_common, with_instruction, with_pair, with_relative, with_version, data_up_to, with_read_only, with_own, with_place, with_entry, with_register, after, start_in, limits_in, file_in, data_in, HasFewParts, IsMadeOf};
 
     /// No lines yet, in the first pass.
     pub fn new(alloc: Global) -> Draft<'a>
@@ -106,7 +108,8 @@ impl<'a> Draft<'a> {
         requires data_near { data_from ≤ 262144 }
         requires bss_near { bss_from ≤ 524288 }
         ensures { layout_of result
-            ≡ record (empty (λ name. get_by (λ key. bytes_eq name key.now) names.entry) known data_from bss_from) { locals = locals.items } }
+            ≡ record (empty (λ name. get_by (λ key. bytes_eq name key.now) names.entry) known data_from bss_from)
+            { locals = locals.items } }
     {
         Draft {
             version: None,
@@ -128,6 +131,7 @@ impl<'a> Draft<'a> {
             bss_from,
             locals,
             passed: 0,
+            distances: HashMap::new(alloc),
         }
     }
 
@@ -239,6 +243,17 @@ impl<'a> Draft<'a> {
         }
     }
 
+    /// How far it is from the instruction with `%pcrel_hi` at this address to its value. In the first pass any may yet
+    /// come to stand there.
+    pub fn distance_from(&self, place: u32) -> Option<u32>
+        ensures { result ≡ distance_from (layout_of self.now) place }
+    {
+        if !self.known {
+            return Some(0);
+        }
+        self.distances.get(&place).copied()
+    }
+
     /// Adds what a line says, which is about this name if it is a label or sets a symbol.
     pub fn take(&mut self, name: &'a [u8], statement: Statement) -> Result<(), Refusal>
         ensures ok { OnOk result (after name.now statement (layout_of self.old) ≡ Some (layout_of self.new)) }
@@ -275,6 +290,10 @@ impl<'a> Draft<'a> {
                 encode(&second),
             ),
             Statement::Local(number) => return self.take_local(number),
+            Statement::Relative(instr, distance) => return self.push_relative(
+                encode(&instr),
+                distance,
+            ),
         }
         Ok(())
     }
@@ -310,6 +329,17 @@ impl<'a> Draft<'a> {
             Ok(()) => self.push_instruction(second),
             Err(refusal) => Err(refusal),
         }
+    }
+
+    // An instruction with the high part of how far it is to a value.
+    #[tactic(auto, unfolding(crate::specs::Layouts::with_relative))]
+    fn push_relative(&mut self, word: u32, distance: u32) -> Result<(), Refusal>
+        ensures ok { OnOk result (with_relative word distance (layout_of self.old) ≡ Some (layout_of self.new)) }
+        ensures err { IfErr result (λ e. Refuses e (with_relative word distance (layout_of self.old))) }
+    {
+        let place = self.here();
+        self.distances.insert(place, distance)?;
+        self.push_instruction(word)
     }
 
     #[tactic(auto, unfolding(crate::specs::Layouts::with_symbol))]
@@ -535,7 +565,8 @@ impl<'a> Draft<'a> {
     pub fn finish(self, alloc: Global) -> Result<Image, ImageError>
         ensures ok { IfOk result (IsMadeOf (layout_of self.entry)) }
         // What the lines make is made, unless memory runs out.
-        ensures whole { (img : value.Image) → IsImage img → IsMadeOf (layout_of self.entry) img → MatchResult result (λ i. i ≡ img) (λ e. e ≡ image_error.Memory) }
+        ensures whole { (img : value.Image) → IsImage img → IsMadeOf (layout_of self.entry) img
+            → MatchResult result (λ i. i ≡ img) (λ e. e ≡ image_error.Memory) }
     {
         let joined = join(alloc, &self.rodata_bytes, &self.data_bytes, &self.bss_bytes)?;
         let bytes = self.file(alloc, &joined)?;
@@ -595,7 +626,8 @@ impl<'a> Draft<'a> {
 
     // Puts the limits that the file lists behind the bytes.
     fn put_listed(&self, bytes: &mut Vec<u8>) -> Result<(), ImageError>
-        ensures ok { OnOk result (bytes.new.items ≡ bytes.old.items ++ bytes_of_words (listed (version_in self.now.version) (limits_in self.now.limit self.now.limits.items))) }
+        ensures ok { OnOk result (bytes.new.items ≡ bytes.old.items
+            ++ bytes_of_words (listed (version_in self.now.version) (limits_in self.now.limit self.now.limits.items))) }
         ensures err { IfErr result (λ e. e ≡ image_error.Memory) }
     {
         match self.version() {

@@ -24,7 +24,8 @@ pub enum Ending {
     Zero,
 }
 
-/// What is read next. A list, a string or a name with its value is read part by part, as a label is read up to its colon.
+/// What is read next. A list, a string or a name with its value is read part by part, as a label is read up to its
+/// colon.
 #[derive(Clone, Copy)]
 pub enum Next {
     /// A line.
@@ -78,10 +79,13 @@ pub enum Statement {
     Value(Width, u32, Next),
     /// A name and what it stands for: the end of `.set NAME, VALUE`.
     Symbol(Spot),
-    /// A name, and the size and the alignment of the zeros in `.bss` that it names: the end of `.comm NAME, SIZE, ALIGNMENT`.
+    /// A name, and the size and the alignment of the zeros in `.bss` that it names: the end of
+    /// `.comm NAME, SIZE, ALIGNMENT`.
     Common(u32, u32),
     /// Two instructions that one name stands for, as `call`.
     Pair(Instr, Instr),
     /// A number and a colon: the next local label of this number.
     Local(u32),
+    /// `auipc` with `%pcrel_hi(VALUE)`, and how far it is to the value, whose low part `%pcrel_lo` names by its label.
+    Relative(Instr, u32),
 }

@@ -5,6 +5,8 @@ mod couple;
 mod fence;
 mod instruction;
 mod pseudo;
+mod relative;
 
 pub use couple::{Couple, couple_named, read_couple};
 pub use instruction::read_instruction;
+pub use relative::split_relative;

@@ -117,6 +117,7 @@ line_keeps n (say.Symbol s) d h k = absurd h
 line_keeps n (say.Common m step) d h k = absurd h
 line_keeps n (say.Pair i j) d h k = absurd h
 line_keeps n (say.Local m) d h k = absurd h
+line_keeps n (say.Relative i m) d h k = absurd h
 
 -- so it does where the layout behind it is known
 pub kept : (n : Next) (o : Option Layout) (e : Layout) → Keeps n o → o ≡ Some e → e.next ≡ n

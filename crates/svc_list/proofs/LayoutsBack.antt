@@ -20,7 +20,7 @@ use Rattle.svc_draft.specs.declared.statement.Next.TheVariants as go
 use Rattle.svc_draft.specs.declared.statement.Statement.TheVariants as say
 use Rattle.svc_draft.specs.Options.{◌>>=◌}
 use Rattle.svc_draft.specs.Areas.{with_more}
-use Rattle.svc_draft.specs.Layouts.{Layout, Names, with_word, with_bytes, with_value, with_version, with_read_only, with_own, with_place, with_entry, with_register, after, limits_in, file_in}
+use Rattle.svc_draft.specs.Layouts.{Layout, Names, no_distances, with_word, with_bytes, with_value, with_version, with_read_only, with_own, with_place, with_entry, with_register, after, limits_in, file_in}
 use Rattle.svc_draft.proofs.Wordwise.{length-bytes_of_word, length-bytes_of_words}
 use Rattle.svc_list.specs.Listings.{Line, Says, Labels, Aims, Starts, bare, shown, setting, settings, own_limit, marks, data_lines, all_data}
 
@@ -63,6 +63,7 @@ layout_for names known from img = record {
   bss_from = from;
   locals = [];
   passed = 0;
+  distances = no_distances;
 }
 
 -- lines after lines

@@ -72,6 +72,7 @@ no_label name (say.Value w n next) d h = absurd h
 no_label name (say.Symbol s) d h = absurd h
 no_label name (say.Common n step) d h = absurd h
 no_label name (say.Local n) d h = absurd h
+no_label name (say.Relative i n) d h = absurd h
 
 pub line_leads : (s : Statement) (note : List ℕ) (d e : Layout) → d.next ≡ go.Line → HasText s → Trails note → after [] s d ≡ Some e → Leads (line_of (Says s note)) d e
 line_leads s note d e line h trails laid =

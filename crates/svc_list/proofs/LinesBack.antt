@@ -1,6 +1,7 @@
 -- A line is read back from its text.
 use Rattle.std.proofs.Common.{◌≡◌, ℕ, ◌^◌, ◌<◌, Bool, true, false, not, ◌&&◌, ◌==◌, List, [], ◌∷◌, ◌++◌, length, Option, Some, None, is_some, refl, ap, ◌∙◌, arith, decimal, codes}
 use Rattle.std.proofs.lemmas.Bool.{and_parts, not-true}
+use Rattle.std.specs.Str.{bytes_eq}
 use Rattle.std.proofs.lemmas.List.{append_assoc}
 use Rattle.svc_rv32i.specs.declared.instr.Register.{Register}
 use Rattle.svc_rv32i.specs.declared.instr.Short.{Short}
@@ -33,42 +34,52 @@ use Rattle.svc_operands.specs.Names.{operation_named, immediate_named, load_name
 use Rattle.svc_list.specs.InstructionNames.{operation_name, immediate_name, load_name, store_name, comparison_name, shift_name}
 use Rattle.svc_instructions.specs.declared.couple.Couple.{Couple}
 use Rattle.svc_instructions.specs.Couples.{couple_named}
+use Rattle.svc_instructions.specs.Relative.{relative_upper_at, relative_named}
 use Rattle.svc_instructions.specs.Instructions.{operation_at, immediate_at, shift_at, comparison_at, load_at, store_at, lui_at, auipc_at, jal_to, jal_at, jalr_to, jalr_at, form_at, instruction_at}
-use Rattle.svc_asm.specs.Statements.{word_at, start_at, limit_at, version_at, limited_entry_at, entry_before, entry_at, setting_at, directive_at, alone_at, as_statement, statement_at, ended_at, line_at}
+use Rattle.svc_asm.specs.Statements.{word_at, start_at, limit_at, version_at, limited_entry_at, entry_before, entry_at, setting_at, directive_at, alone_at, single_at, as_statement, statement_at, ended_at, line_at}
 use Rattle.svc_asm.specs.DataLines.{first_at, part_at, next_at}
 use Rattle.svc_list.specs.Listings.{first_text, last_text, short_text, offset_text, address_text, upper_text, instruction_text, statement_text, IsShown, HasText, Line, Says, Labels, Aims, Starts, line_of}
 use Rattle.svc_list.proofs.NamesBack.{all_dense, stops, Ends, at_name, at_rest, no_colon}
-use Rattle.svc_list.proofs.OperandsBack.{spaced_name, decimal_some, spaced_number_back, spaced_value_back, spaced_register_back, first_back, short_back, branch_back, jump_back, upper_back, amount_back, address_back}
+use Rattle.svc_list.proofs.OperandsBack.{spaced_name, decimal_some, spaced_number_back, spaced_value_back, spaced_register_back, first_back, short_back, branch_back, jump_back, upper_no_mark, upper_back, amount_back, address_back}
 
--- the name of an instruction: no dot begins it
+-- the name of an instruction that stands for no other: no dot begins it, and it isn't auipc, whose operands may have to be remembered
+abbrev is_plain : List ℕ → Bool
+is_plain name = not (is_some (couple_named name)) && not (bytes_eq name (codes "auipc"))
+
 abbrev names : List ℕ → Bool
 names [] = false
-names (c ∷ w) = all_dense (c ∷ w) && (not (c == 46) && not (is_some (couple_named (c ∷ w))))
+names (c ∷ w) = all_dense (c ∷ w) && (not (c == 46) && is_plain (c ∷ w))
 
 -- the parts of this
 names_dense : (c : ℕ) (w : List ℕ) → names (c ∷ w) ≡ true → all_dense (c ∷ w) ≡ true
-names_dense c w h = (and_parts (all_dense (c ∷ w)) (not (c == 46) && not (is_some (couple_named (c ∷ w)))) h).0
+names_dense c w h = (and_parts (all_dense (c ∷ w)) (not (c == 46) && is_plain (c ∷ w)) h).0
 
 names_no_dot : (c : ℕ) (w : List ℕ) → names (c ∷ w) ≡ true → (c == 46) ≡ false
 names_no_dot c w h =
-    let both = (and_parts (all_dense (c ∷ w)) (not (c == 46) && not (is_some (couple_named (c ∷ w)))) h).1 in
-    not-true (c == 46) (and_parts (not (c == 46)) (not (is_some (couple_named (c ∷ w)))) both).0
+    let both = (and_parts (all_dense (c ∷ w)) (not (c == 46) && is_plain (c ∷ w)) h).1 in
+    not-true (c == 46) (and_parts (not (c == 46)) (is_plain (c ∷ w)) both).0
+
+names_plain : (c : ℕ) (w : List ℕ) → names (c ∷ w) ≡ true → is_plain (c ∷ w) ≡ true
+names_plain c w h =
+    let both = (and_parts (all_dense (c ∷ w)) (not (c == 46) && is_plain (c ∷ w)) h).1 in
+    (and_parts (not (c == 46)) (is_plain (c ∷ w)) both).1
 
 no_couple : (o : Option Couple) → not (is_some o) ≡ true → o ≡ None
 no_couple None h = refl
 no_couple (Some x) h = absurd (cc)
 
 names_alone : (c : ℕ) (w : List ℕ) → names (c ∷ w) ≡ true → couple_named (c ∷ w) ≡ None
-names_alone c w h =
-    let both = (and_parts (all_dense (c ∷ w)) (not (c == 46) && not (is_some (couple_named (c ∷ w)))) h).1 in
-    no_couple (couple_named (c ∷ w)) (and_parts (not (c == 46)) (not (is_some (couple_named (c ∷ w)))) both).1
+names_alone c w h = no_couple (couple_named (c ∷ w)) (and_parts (not (is_some (couple_named (c ∷ w)))) (not (bytes_eq (c ∷ w) (codes "auipc"))) (names_plain c w h)).0
+
+names_other : (c : ℕ) (w : List ℕ) → names (c ∷ w) ≡ true → bytes_eq (c ∷ w) (codes "auipc") ≡ false
+names_other c w h = not-true (bytes_eq (c ∷ w) (codes "auipc")) (and_parts (not (is_some (couple_named (c ∷ w)))) (not (bytes_eq (c ∷ w) (codes "auipc"))) (names_plain c w h)).1
 
 by_name : (d : Layout) (name rest : List ℕ) → names name ≡ true → stops rest ≡ true → statement_at d (name ++ rest) ≡ alone_at d name rest
-unfolding statement_at as_statement
+unfolding statement_at as_statement single_at relative_named
 by_name d [] rest h s = absurd (cc)
 by_name d (c ∷ w) rest h s =
     let dense = names_dense c w h in
-    rw (at_name c w rest dense s, at_rest c w rest dense s, names_no_dot c w h, names_alone c w h) refl
+    rw (at_name c w rest dense s, at_rest c w rest dense s, names_no_dot c w h, names_alone c w h, names_other c w h) refl
 
 -- a name finds its own instruction
 operation_names : (op : Operation) → names (operation_name op) ≡ true
@@ -226,6 +237,13 @@ auipc_back d rd imm rest s =
     ap (auipc_at d) (append_assoc (first_text rd) (upper_text imm) rest)
     ∙ rw (first_back rd (upper_text imm ++ rest), upper_back d imm rest s) refl
 
+-- its second operand is no part of a value
+auipc_plain : (d : Layout) (rd : Register) (imm : Long) (rest : List ℕ) → relative_upper_at d ((first_text rd ++ upper_text imm) ++ rest) ≡ None
+unfolding relative_upper_at
+auipc_plain d rd imm rest =
+    ap (relative_upper_at d) (append_assoc (first_text rd) (upper_text imm) rest)
+    ∙ rw (first_back rd (upper_text imm ++ rest), upper_no_mark imm rest) refl
+
 jal_back : (d : Layout) (rd : Register) (imm : Long) (rest : List ℕ) → stops rest ≡ true → jal_at d ((first_text rd ++ offset_text 524288 imm.bits) ++ rest) ≡ Some (i.Jal rd imm, rest)
 unfolding jal_at jal_to
 jal_back d rd imm rest s =
@@ -244,14 +262,26 @@ unfolding alone_at
 whole d name operands rest instr h s e =
     ap (statement_at d) (append_assoc name operands rest) ∙ by_name d name (operands ++ rest) h s ∙ rw e refl
 
-as_is : (d : Layout) (name : List ℕ) (instr : Instr) (rest : List ℕ) → instruction_at d name rest ≡ Some (instr, rest) → alone_at d name rest ≡ Some (say.Instruction instr, rest)
+as_is : (d : Layout) (name : List ℕ) (instr : Instr) (rest text : List ℕ) → instruction_at d name text ≡ Some (instr, rest) → alone_at d name text ≡ Some (say.Instruction instr, rest)
 unfolding alone_at
-as_is d name instr rest e = rw e refl
+as_is d name instr rest text e = rw e refl
+
+by_auipc : (d : Layout) (rest : List ℕ) → stops rest ≡ true → relative_upper_at d rest ≡ None → statement_at d (codes "auipc" ++ rest) ≡ alone_at d (codes "auipc") rest
+unfolding statement_at as_statement single_at relative_named is_name couple_named
+by_auipc d rest s plain = rw (at_name 97 (codes "uipc") rest refl s, at_rest 97 (codes "uipc") rest refl s, plain) refl
+
+auipc_whole : (d : Layout) (rd : Register) (imm : Long) (rest : List ℕ) → stops rest ≡ true → statement_at d ((codes "auipc" ++ (first_text rd ++ upper_text imm)) ++ rest) ≡ Some (say.Instruction (i.Auipc rd imm), rest)
+unfolding instruction_at form_at form_named operation_named immediate_named load_named store_named comparison_named shift_named is_name
+auipc_whole d rd imm rest s =
+    let operands = first_text rd ++ upper_text imm in
+    ap (statement_at d) (append_assoc (codes "auipc") operands rest)
+    ∙ by_auipc d (operands ++ rest) refl (auipc_plain d rd imm rest)
+    ∙ as_is d (codes "auipc") (i.Auipc rd imm) rest (operands ++ rest) (auipc_back d rd imm rest s)
 
 pub instruction_back : (d : Layout) (instr : Instr) (rest : List ℕ) → IsShown instr → stops rest ≡ true → statement_at d (instruction_text instr ++ rest) ≡ Some (say.Instruction instr, rest)
 unfolding instruction_text is_name couple_named instruction_at form_at form_named operation_named immediate_named load_named store_named comparison_named shift_named
 instruction_back d (i.Lui rd imm) rest h s = whole d (codes "lui") (first_text rd ++ upper_text imm) rest (i.Lui rd imm) refl refl (lui_back d rd imm rest s)
-instruction_back d (i.Auipc rd imm) rest h s = whole d (codes "auipc") (first_text rd ++ upper_text imm) rest (i.Auipc rd imm) refl refl (auipc_back d rd imm rest s)
+instruction_back d (i.Auipc rd imm) rest h s = auipc_whole d rd imm rest s
 instruction_back d (i.Jal rd imm) rest h s = whole d (codes "jal") (first_text rd ++ offset_text 524288 imm.bits) rest (i.Jal rd imm) refl refl (jal_back d rd imm rest s)
 instruction_back d (i.Jalr rd rs1 imm) rest h s = whole d (codes "jalr") (first_text rd ++ address_text imm rs1) rest (i.Jalr rd rs1 imm) refl refl (jalr_back d rd rs1 imm rest)
 instruction_back d (i.Branch test rs1 rs2 imm) rest h s = let text = first_text rs1 ++ (first_text rs2 ++ offset_text 2048 imm.bits) in whole d (comparison_name test) text rest (i.Branch test rs1 rs2 imm) (comparison_names test) refl (comparison_found d test (text ++ rest) ∙ comparison_back d test rs1 rs2 imm rest s)
@@ -261,8 +291,8 @@ instruction_back d (i.OpImm op rd rs1 imm) rest h s = let text = first_text rd +
 instruction_back d (i.ShiftImm op rd rs1 a) rest h s = let text = first_text rd ++ (first_text rs1 ++ (32 ∷ decimal a.bits)) in whole d (shift_name op) text rest (i.ShiftImm op rd rs1 a) (shift_names op) refl (shift_found d op (text ++ rest) ∙ shift_back op rd rs1 a rest s)
 instruction_back d (i.Op op rd rs1 rs2) rest h s = let text = first_text rd ++ (first_text rs1 ++ last_text rs2) in whole d (operation_name op) text rest (i.Op op rd rs1 rs2) (operation_names op) refl (operation_found d op (text ++ rest) ∙ operation_back op rd rs1 rs2 rest s)
 instruction_back d (i.Fence rd rs1 imm) rest h s = absurd h
-instruction_back d i.Ecall rest h s = by_name d (codes "ecall") rest refl s ∙ as_is d (codes "ecall") i.Ecall rest refl
-instruction_back d i.Ebreak rest h s = by_name d (codes "ebreak") rest refl s ∙ as_is d (codes "ebreak") i.Ebreak rest refl
+instruction_back d i.Ecall rest h s = by_name d (codes "ecall") rest refl s ∙ as_is d (codes "ecall") i.Ecall rest rest refl
+instruction_back d i.Ebreak rest h s = by_name d (codes "ebreak") rest refl s ∙ as_is d (codes "ebreak") i.Ebreak rest rest refl
 
 -- a directive whose name is followed by this
 pub by_directive : (d : Layout) (w rest : List ℕ) → all_dense (46 ∷ w) ≡ true → stops rest ≡ true → statement_at d ((46 ∷ w) ++ rest) ≡ directive_at d (46 ∷ w) rest
@@ -335,6 +365,7 @@ statement_back d (say.Value w n next) rest tail h e = absurd h
 statement_back d (say.Symbol s) rest tail h e = absurd h
 statement_back d (say.Common n step) rest tail h e = absurd h
 statement_back d (say.Local n) rest tail h e = absurd h
+statement_back d (say.Relative i n) rest tail h e = absurd h
 
 -- a line that begins with no label
 pub unlabelled : (d : Layout) (text : List ℕ) → behind 58 (past_name text) ≡ None → line_at d text ≡ ended_at d text
@@ -342,12 +373,14 @@ unfolding line_at
 unlabelled d text h = rw h refl
 
 -- the name of a line is followed by no colon
-pub names_stop : (name operands rest : List ℕ) → names name ≡ true → stops (operands ++ rest) ≡ true → behind 58 (past_name ((name ++ operands) ++ rest)) ≡ None
-names_stop [] operands rest h s = absurd (cc)
-names_stop (c ∷ w) operands rest h s =
-    let dense = names_dense c w h in
+dense_stops : (c : ℕ) (w operands rest : List ℕ) → all_dense (c ∷ w) ≡ true → stops (operands ++ rest) ≡ true → behind 58 (past_name (((c ∷ w) ++ operands) ++ rest)) ≡ None
+dense_stops c w operands rest dense s =
     ap (λ x. behind 58 (past_name x)) (append_assoc (c ∷ w) operands rest)
     ∙ ap (behind 58) (at_rest c w (operands ++ rest) dense s) ∙ no_colon (operands ++ rest) s
+
+pub names_stop : (name operands rest : List ℕ) → names name ≡ true → stops (operands ++ rest) ≡ true → behind 58 (past_name ((name ++ operands) ++ rest)) ≡ None
+names_stop [] operands rest h s = absurd (cc)
+names_stop (c ∷ w) operands rest h s = dense_stops c w operands rest (names_dense c w h) s
 
 pub directive_stops : (w rest : List ℕ) → all_dense (46 ∷ w) ≡ true → stops rest ≡ true → behind 58 (past_name ((46 ∷ w) ++ rest)) ≡ None
 directive_stops w rest h s = ap (behind 58) (at_rest 46 w rest h s) ∙ no_colon rest s
@@ -355,7 +388,7 @@ directive_stops w rest h s = ap (behind 58) (at_rest 46 w rest h s) ∙ no_colon
 instruction_stops : (instr : Instr) (rest : List ℕ) → IsShown instr → stops rest ≡ true → behind 58 (past_name (instruction_text instr ++ rest)) ≡ None
 unfolding instruction_text is_name couple_named
 instruction_stops (i.Lui rd imm) rest h s = names_stop (codes "lui") (first_text rd ++ upper_text imm) rest refl refl
-instruction_stops (i.Auipc rd imm) rest h s = names_stop (codes "auipc") (first_text rd ++ upper_text imm) rest refl refl
+instruction_stops (i.Auipc rd imm) rest h s = dense_stops 97 (codes "uipc") (first_text rd ++ upper_text imm) rest refl refl
 instruction_stops (i.Jal rd imm) rest h s = names_stop (codes "jal") (first_text rd ++ offset_text 524288 imm.bits) rest refl refl
 instruction_stops (i.Jalr rd rs1 imm) rest h s = names_stop (codes "jalr") (first_text rd ++ address_text imm rs1) rest refl refl
 instruction_stops (i.Branch test rs1 rs2 imm) rest h s = names_stop (comparison_name test) (first_text rs1 ++ (first_text rs2 ++ offset_text 2048 imm.bits)) rest (comparison_names test) refl
@@ -392,6 +425,7 @@ statement_stops (say.Value w n next) rest h k = absurd h
 statement_stops (say.Symbol s) rest h k = absurd h
 statement_stops (say.Common n step) rest h k = absurd h
 statement_stops (say.Local n) rest h k = absurd h
+statement_stops (say.Relative i n) rest h k = absurd h
 
 -- a line whose comment ends it
 abbrev pub Trails : List ℕ → Type 0

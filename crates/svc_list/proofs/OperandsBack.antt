@@ -251,12 +251,16 @@ jump_high d imm rest s h =
 pub jump_back : (d : Layout) (imm : Long) (rest : List ℕ) → stops rest ≡ true → jump_at d (offset_text 524288 imm.bits ++ rest) ≡ Some (imm, rest)
 jump_back d imm rest s = elim (cases_lt imm.bits 524288) [ inl h ↦ jump_low d imm rest s h | inr h ↦ jump_high d imm rest s h ]
 
+pub upper_no_mark : (imm : Long) (rest : List ℕ) → mark_at 37 (upper_text imm ++ rest) ≡ None
+upper_no_mark imm rest =
+    let facts = numerals imm.bits (omega (arith, imm.in_range)) (omega (arith, imm.in_range)) in
+    no_mark (decimal imm.bits) rest facts.digits facts.some
+
 pub upper_back : (d : Layout) (imm : Long) (rest : List ℕ) → stops rest ≡ true → upper_at d (upper_text imm ++ rest) ≡ Some (imm, rest)
 unfolding upper_at number_upper_at upper_of
 upper_back d imm rest s =
-    let facts = numerals imm.bits (omega (arith, imm.in_range)) (omega (arith, imm.in_range)) in
     let fits : nat_lt imm.bits (2 ^ 20) ≡ true = le-leb (suc imm.bits) (2 ^ 20) (omega (arith, imm.in_range)) in
-    rw (no_mark (decimal imm.bits) rest facts.digits facts.some, spaced_number_back imm.bits rest (omega (arith, imm.in_range)) s, fits) (ap (λ x. Some (x, rest)) (long_is imm))
+    rw (upper_no_mark imm rest, spaced_number_back imm.bits rest (omega (arith, imm.in_range)) s, fits) (ap (λ x. Some (x, rest)) (long_is imm))
 
 pub amount_back : (a : ShiftAmount) (rest : List ℕ) → stops rest ≡ true → amount_at (32 ∷ (decimal a.bits ++ rest)) ≡ Some (a, rest)
 unfolding amount_at amount_of

@@ -92,6 +92,7 @@ statement_text (say.Value w n next) = []
 statement_text (say.Symbol s) = []
 statement_text (say.Common n step) = []
 statement_text (say.Local n) = []
+statement_text (say.Relative i n) = []
 
 -- what has a text that is read back
 abbrev pub HasText : Statement → Type 0
@@ -112,6 +113,7 @@ HasText (say.Value w n next) = ⊥
 HasText (say.Symbol s) = ⊥
 HasText (say.Common n step) = ⊥
 HasText (say.Local n) = ⊥
+HasText (say.Relative i n) = ⊥
 HasText _ = Unit {0}
 
 -- a word in eight hexadecimal digits

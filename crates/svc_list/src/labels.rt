@@ -68,7 +68,8 @@ fn mark_entries(table: &mut [bool], entries: &[u32])
     requires { All (StartsWord (length table.now)) entries.now }
     ensures size { length table.new ≡ length table.old }
     ensures marks { (n : ℕ) → n < length table.old
-        → slice_index_or table.new n false ≡ (slice_index_or table.old n false || list_any (λ e. e == 4 * n) entries.now) }
+        → slice_index_or table.new n false
+        ≡ (slice_index_or table.old n false || list_any (λ e. e == 4 * n) entries.now) }
 {
     for &entry in entries {
         mark(table, Some(entry));
@@ -80,7 +81,8 @@ fn mark_targets(table: &mut [bool], text: &[u32])
     requires each { length table.now ≡ length text.now }
     ensures size { length table.new ≡ length table.old }
     ensures marks { (n : ℕ) → n < length table.old
-        → slice_index_or table.new n false ≡ (slice_index_or table.old n false || is_target (length text.now) (4 * n) 0 text.now) }
+        → slice_index_or table.new n false
+        ≡ (slice_index_or table.old n false || is_target (length text.now) (4 * n) 0 text.now) }
 {
     let count = text.len() as u32;
     let mut address = 0;
@@ -97,7 +99,8 @@ fn mark_all(table: &mut [bool], entries: &[u32], text: &[u32])
     ensures size { length table.new ≡ length table.old }
     ensures marks { (n : ℕ) → n < length table.old
         → slice_index_or table.new n false
-        ≡ ((slice_index_or table.old n false || list_any (λ e. e == 4 * n) entries.now) || is_target (length text.now) (4 * n) 0 text.now) }
+        ≡ ((slice_index_or table.old n false || list_any (λ e. e == 4 * n) entries.now)
+        || is_target (length text.now) (4 * n) 0 text.now) }
 {
     mark_entries(table, entries);
     mark_targets(table, text);

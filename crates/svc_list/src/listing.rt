@@ -220,6 +220,7 @@ fn put_statement(out: &mut Vec<u8>, statement: Statement) -> Result<(), AllocErr
         Statement::Section(_) | Statement::Zeros(_) | Statement::Align(_) => Ok(()),
         Statement::Open(_) | Statement::Value(..) => Ok(()),
         Statement::Symbol(_) | Statement::Common(..) | Statement::Local(_) => Ok(()),
+        Statement::Relative(..) => Ok(()),
         Statement::Instruction(instr) => put_instruction(out, instr),
         Statement::Word(word) => put_numbered(out, ".word ", word),
         Statement::Text => put_text(out, ".text"),

@@ -9,7 +9,7 @@ use Rattle.svc_operands.specs.declared.operands.Signed.{Signed}
 use Rattle.svc_draft.specs.Options.{◌>>=◌}
 use Rattle.svc_operands.specs.Characters.{past_spaces, found, name_at, past_name, mark_at}
 use Rattle.svc_operands.specs.References.{reference_named, referred}
-use Rattle.svc_draft.specs.Layouts.{Layout, here, address_of}
+use Rattle.svc_draft.specs.Layouts.{Layout, here, address_of, distance_from}
 use Rattle.svc_operands.specs.Operands.{Read, register_at, number_at, behind_sign, distance, number_short_at, number_upper_at}
 
 -- what a name stands for: a dot for the address of what comes next, and a label for its own
@@ -80,16 +80,41 @@ enclosed_at d text = do
   rest ← mark_at 41 n.1
   Some (n.0, rest)
 
--- behind a percent sign: hi(VALUE), or pcrel_hi(VALUE) of how far it is from here
+-- behind a percent sign: pcrel_hi(VALUE), and how far it is from here to the value
+unfoldable pub relative_at : Layout → List ℕ → Read ℕ
+relative_at d text = if bytes_eq (name_at text) (codes "pcrel_hi") then option_map (λ n. (from_here d n.0, n.1)) (enclosed_at d (past_name text)) else None
+
+-- behind a percent sign: hi(VALUE), or pcrel_hi(VALUE)
 unfoldable pub high_at : Layout → List ℕ → Read Long
 high_at d text =
     if bytes_eq (name_at text) (codes "hi") then option_map (λ n. (high_part n.0, n.1)) (enclosed_at d (past_name text)) else
-    if bytes_eq (name_at text) (codes "pcrel_hi") then option_map (λ n. (high_part (from_here d n.0), n.1)) (enclosed_at d (past_name text)) else
-    None
+    option_map (λ n. (high_part n.0, n.1)) (relative_at d text)
 
--- behind a percent sign: lo(VALUE)
+-- how far it is from the instruction with %pcrel_hi that a name is the label of to that one's value
+unfoldable pub distance_named : Layout → List ℕ → Option ℕ
+distance_named d name = do
+  place ← place_of d name
+  distance_from d place
+
+unfoldable pub distance_at : Layout → List ℕ → Read ℕ
+distance_at d text = do
+  n ← distance_named d (name_at text)
+  Some (n, past_name text)
+
+-- such a label in parentheses
+unfoldable pub completed_at : Layout → List ℕ → Read ℕ
+completed_at d text = do
+  inside ← mark_at 40 text
+  n ← distance_at d inside
+  rest ← mark_at 41 n.1
+  Some (n.0, rest)
+
+-- behind a percent sign: lo(VALUE), or pcrel_lo(LABEL)
 unfoldable pub low_at : Layout → List ℕ → Read Short
-low_at d text = if bytes_eq (name_at text) (codes "lo") then option_map (λ n. (low_part n.0, n.1)) (enclosed_at d (past_name text)) else None
+low_at d text =
+    if bytes_eq (name_at text) (codes "lo") then option_map (λ n. (low_part n.0, n.1)) (enclosed_at d (past_name text)) else
+    if bytes_eq (name_at text) (codes "pcrel_lo") then option_map (λ n. (low_part n.0, n.1)) (completed_at d (past_name text)) else
+    None
 
 -- an immediate: a number that fits, or the part of a value
 unfoldable pub short_at : Layout → List ℕ → Read Short

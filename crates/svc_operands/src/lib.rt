@@ -1,4 +1,5 @@
-//! What stands in a line of assembly: characters, names, registers and numbers, each read from the text that begins with it.
+//! What stands in a line of assembly: characters, names, registers and numbers, each read from the text that begins
+//! with it.
 #![tactic(auto)]
 
 mod characters;
@@ -23,5 +24,6 @@ pub use quotes::escaped;
 pub use targets::{read_branch, read_jump};
 pub use unread::{Unread, Wanted, stopped_at, stopped_at_name};
 pub use values::{
-    bits_of, from_here, high_part, low_part, read_address, read_short, read_upper, read_value,
+    bits_of, from_here, high_part, low_part, read_address, read_relative, read_short, read_upper,
+    read_value,
 };

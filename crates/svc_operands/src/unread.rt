@@ -60,9 +60,12 @@ pub enum Wanted {
     /// Behind a percent sign: `hi` or `pcrel_hi`, and a value in parentheses.
     #[error("hi(VALUE) or pcrel_hi(VALUE)")]
     High,
-    /// Behind a percent sign: `lo`, and a value in parentheses.
-    #[error("lo(VALUE)")]
+    /// Behind a percent sign: `lo`, and a value in parentheses, or `pcrel_lo`, and a label.
+    #[error("lo(VALUE) or pcrel_lo(LABEL)")]
     Low,
+    /// A label above at which an `auipc` with `%pcrel_hi` stands.
+    #[error("the label of an auipc with %pcrel_hi above")]
+    Relative,
     /// What a FENCE orders: `iorw`, or some of these letters in this order.
     #[error("iorw or some of these letters in this order")]
     Order,

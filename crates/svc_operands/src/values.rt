@@ -3,7 +3,7 @@
 ghost use Rattle.std.specs.Prelude.{◌≡◌};
 ghost use Rattle.svc_draft.specs.Layouts.{layout_of};
 ghost use Rattle.svc_operands.specs.Reading.{Gives};
-ghost use Rattle.svc_operands.specs.Values.{place_of, place_at, plain_term_at, bits_of, opposite_at, term_at, sum, sum_with, value_at, high_part, low_part, from_here, enclosed_at, high_at, low_at, short_at, upper_at, address_at};
+ghost use Rattle.svc_operands.specs.Values.{place_of, place_at, plain_term_at, bits_of, opposite_at, term_at, sum, sum_with, value_at, high_part, low_part, from_here, enclosed_at, relative_at, high_at, distance_named, distance_at, completed_at, low_at, short_at, upper_at, address_at};
 
 use crate::characters::{skip_mark, skip_spaces, split_name};
 use crate::names::is_word;
@@ -141,6 +141,19 @@ fn read_enclosed<'a>(draft: &Draft, text: &'a [u8]) -> Result<(u32, &'a [u8]), U
     Ok((value, rest))
 }
 
+/// What follows a percent sign, `pcrel_hi(VALUE)`, as how far it is from here to the value.
+#[tactic(auto, unfolding(crate::specs::Values::relative_at))]
+pub fn read_relative<'a>(draft: &Draft, text: &'a [u8]) -> Result<(u32, &'a [u8]), Unread>
+    ensures { Gives (λ x. (x.0, x.1.now)) result (relative_at (layout_of draft.now) text.now) }
+{
+    let (name, rest) = split_name(text);
+    if is_word(name, "pcrel_hi") {
+        let (value, rest) = read_enclosed(draft, rest)?;
+        return Ok((from_here(draft, value), rest));
+    }
+    Err(stopped_at(text, Wanted::High))
+}
+
 // What follows a percent sign where a high part is wanted: `hi(VALUE)` or `pcrel_hi(VALUE)`.
 #[tactic(auto, unfolding(crate::specs::Values::high_at))]
 fn read_high<'a>(draft: &Draft, text: &'a [u8]) -> Result<(Long, &'a [u8]), Unread>
@@ -151,14 +164,41 @@ fn read_high<'a>(draft: &Draft, text: &'a [u8]) -> Result<(Long, &'a [u8]), Unre
         let (value, rest) = read_enclosed(draft, rest)?;
         return Ok((high_part(value), rest));
     }
-    if is_word(name, "pcrel_hi") {
-        let (value, rest) = read_enclosed(draft, rest)?;
-        return Ok((high_part(from_here(draft, value)), rest));
-    }
-    Err(stopped_at(text, Wanted::High))
+    let (distance, rest) = read_relative(draft, text)?;
+    Ok((high_part(distance), rest))
 }
 
-// What follows a percent sign where a low part is wanted: `lo(VALUE)`.
+// How far it is to the value of the instruction with `%pcrel_hi` that a name is the label of.
+#[tactic(auto, unfolding(crate::specs::Values::distance_named))]
+fn distance_named(draft: &Draft, name: &[u8]) -> Option<u32>
+    ensures { result ≡ distance_named (layout_of draft.now) name.now }
+{
+    draft.distance_from(place_of(draft, name)?)
+}
+
+#[tactic(auto, unfolding(crate::specs::Values::distance_at))]
+fn read_distance<'a>(draft: &Draft, text: &'a [u8]) -> Result<(u32, &'a [u8]), Unread>
+    ensures { Gives (λ x. (x.0, x.1.now)) result (distance_at (layout_of draft.now) text.now) }
+{
+    let (name, rest) = split_name(text);
+    match distance_named(draft, name) {
+        Some(distance) => Ok((distance, rest)),
+        None => Err(stopped_at(text, Wanted::Relative)),
+    }
+}
+
+// Such a label in parentheses.
+#[tactic(auto, unfolding(crate::specs::Values::completed_at))]
+fn read_completed<'a>(draft: &Draft, text: &'a [u8]) -> Result<(u32, &'a [u8]), Unread>
+    ensures { Gives (λ x. (x.0, x.1.now)) result (completed_at (layout_of draft.now) text.now) }
+{
+    let inside = read_mark(b'(', Wanted::Open, text)?;
+    let (distance, rest) = read_distance(draft, inside)?;
+    let rest = read_mark(b')', Wanted::Close, rest)?;
+    Ok((distance, rest))
+}
+
+// What follows a percent sign where a low part is wanted: `lo(VALUE)` or `pcrel_lo(LABEL)`.
 #[tactic(auto, unfolding(crate::specs::Values::low_at))]
 fn read_low<'a>(draft: &Draft, text: &'a [u8]) -> Result<(Short, &'a [u8]), Unread>
     ensures { Gives (λ x. (x.0, x.1.now)) result (low_at (layout_of draft.now) text.now) }
@@ -168,10 +208,14 @@ fn read_low<'a>(draft: &Draft, text: &'a [u8]) -> Result<(Short, &'a [u8]), Unre
         let (value, rest) = read_enclosed(draft, rest)?;
         return Ok((low_part(value), rest));
     }
+    if is_word(name, "pcrel_lo") {
+        let (distance, rest) = read_completed(draft, rest)?;
+        return Ok((low_part(distance), rest));
+    }
     Err(stopped_at(text, Wanted::Low))
 }
 
-/// An immediate of 12 bits: a number that fits, or `%lo(VALUE)`.
+/// An immediate of 12 bits: a number that fits, `%lo(VALUE)` or `%pcrel_lo(LABEL)`.
 #[tactic(auto, unfolding(crate::specs::Values::short_at))]
 pub fn read_short<'a>(draft: &Draft, text: &'a [u8]) -> Result<(Short, &'a [u8]), Unread>
     ensures { Gives (λ x. (x.0, x.1.now)) result (short_at (layout_of draft.now) text.now) }
