@@ -179,8 +179,8 @@ Example: svcsim draw sum.svci sum.csv sum.svg --from 100 --count 200";
 
 const ASSEMBLE: &str = "Assembles a text of RV32I instructions, and saves the image.
 
-The text is written as for GNU's assembler: labels, instructions and their pseudo-instructions, data in
-words. Directives say what an image has besides:
+The text is written as for GNU's assembler: labels, instructions and their pseudo-instructions, and data in
+sections, as numbers, strings and zeros. Directives say what an image has besides:
 
   .svc_entry          the next instruction begins a task (.svc_entry N: of at most N turns)
   .svc_start LABEL    the first task; without it, the first entry
@@ -189,12 +189,16 @@ words. Directives say what an image has besides:
   .svc_readonly       the data so far is read-only
   .svc_version N      the version of the image's format: 1, or 2 where a directive needs it
 
-The first fault is told as FILE:LINE:COLUMN with what may stand there, and no file is written.
+The first fault is told as FILE:LINE:COLUMN with what was found there and what is expected, and no file is
+written.
 
 Example: svcsim assemble sum.s sum.svci";
 
 const LIST: &str =
     "Prints an image as assembly, from which assemble makes the same image, byte for byte.
+
+Each entry, and each word to which a branch or a jump leads, has a label with its address. Behind each word
+a comment tells its address, and behind one of the program its bits too.
 
 Example: svcsim list sum.svci";
 
