@@ -12,4 +12,4 @@ pub use glance::{Glance, Move};
 pub use recorder::Recorder;
 pub use svc_history_laws::{CutKind, Entry, Kind, ReplyKind, ServedKind, Slip};
 pub use svc_machine::{Event, Machine};
-pub use trace::{TraceFault, TraceFaultKind, check_trace};
+pub use trace::{TraceFault, TraceFaultKind, check_on, check_trace, open_trace};

@@ -1,6 +1,6 @@
 // A trace, replayed and checked.
 
-ghost use Rattle.std.specs.Prelude.{◌≡◌, ◌++◌, ◌∷◌, [], None, IfOk, IfErr, IfSome, OnOk};
+ghost use Rattle.std.specs.Prelude.{◌≡◌, ◌++◌, ◌∷◌, [], ◌≤◌, None, IfOk, IfErr, IfSome, OnOk, length, take};
 ghost use Rattle.svc_machine.specs.Events.{event_of};
 ghost use Rattle.svc_machine_laws.specs.Events.{Submit};
 ghost use Rattle.svc_history_laws.specs.Replay.{IsReplay, Lacks, ReplaysAs};
@@ -102,8 +102,10 @@ fn compared(recorder: &mut Recorder, entry: &Entry, event: Event<'_>) -> Result<
     }
 }
 
-// A recorder before any event.
-fn opened(alloc: Global, image: &Image, config: Config) -> Result<Recorder, TraceFault>
+/// A recorder before any event, of an image that is copied.
+///
+/// Errors: [`TraceFaultKind::Memory`], at the index 0.
+pub fn open_trace(alloc: Global, image: &Image, config: Config) -> Result<Recorder, TraceFault>
     ensures image { IfOk result (λ r. r.machine.image ≡ image.now) }
     ensures config { IfOk result (λ r. r.machine.config ≡ config) }
     ensures entries { IfOk result (λ r. r.entries ≡ []) }
@@ -122,6 +124,27 @@ fn opened(alloc: Global, image: &Image, config: Config) -> Result<Recorder, Trac
     }
 }
 
+/// Goes on with the replay of these entries, of which the recorder has the first ones, up to so many of them.
+///
+/// Errors: the first faulty entry, with what is wrong with it. The recorder then has the entries before it.
+pub fn check_on(recorder: &mut Recorder, entries: &[Entry], count: usize) -> Result<(), TraceFault>
+    requires begun { recorder.old.entries ≡ take (length recorder.old.entries) entries.now }
+    requires further { length recorder.old.entries ≤ count }
+    requires inside { count ≤ length entries.now }
+    ensures image { recorder.new.machine.image ≡ recorder.old.machine.image }
+    ensures config { recorder.new.machine.config ≡ recorder.old.machine.config }
+    ensures entries { OnOk result (recorder.new.entries ≡ take count entries.now) }
+    ensures fault { IfErr result
+        (IsFault recorder.old.machine.image recorder.old.machine.config entries.now) }
+{
+    for index in recorder.entries().len()..count {
+        if let Err(kind) = replay(recorder, &entries[index]) {
+            return Err(TraceFault { index, kind });
+        }
+    }
+    Ok(())
+}
+
 /// A recorder with exactly these entries, replayed from before any event: it is answered exactly where they are legal,
 /// memory aside.
 ///
@@ -138,12 +161,8 @@ pub fn check_trace(
     ensures legal { IfOk result IsLegal }
     ensures fault { IfErr result (IsFault image.now config entries.now) }
 {
-    let mut recorder = opened(alloc, image, config)?;
-    for index in 0..entries.len() {
-        if let Err(kind) = replay(&mut recorder, &entries[index]) {
-            return Err(TraceFault { index, kind });
-        }
-    }
+    let mut recorder = open_trace(alloc, image, config)?;
+    check_on(&mut recorder, entries, entries.len())?;
     // what the type keeps: its history is legal
     let _legal = recorder.entries();
     Ok(recorder)

@@ -1,9 +1,9 @@
-use Rattle.std.proofs.Common.{subst}
+use Rattle.std.proofs.Common.{subst, arith}
 use Rattle.svc_base.specs.declared.config.Config.{Config}
 use Rattle.svc_image.specs.Image.{Image}
 use Rattle.svc_history.specs.Faults.{IsFaultAt}
 use Rattle.svc_history.proofs.Tracing.{fault_at, get_there}
-use Rattle.svc_history.proofs.trace.check_trace.Goals as goal
+use Rattle.svc_history.proofs.trace.check_on.Goals as goal
 
 pub returns-in-Err-clause-fault : goal.returns-in-Err-clause-fault
 returns-in-Err-clause-fault c =
@@ -11,6 +11,8 @@ returns-in-Err-clause-fault c =
     let said = c.in-Err.ensures {u = tt} in
     let es = c.args.entries.now in
     let at = c.loop-index.index in
-    subst (λ (g : Config). IsFaultAt c.args.image.now g es at c.in-Err.kind) i.config
+    let below = c.loop-index-test.true in
+    let within = c.requires.inside in
+    subst (λ (g : Config). IsFaultAt c.args.recorder.now.machine.image g es at c.in-Err.kind) i.config
     (subst (λ (img : Image). IsFaultAt img c.loop-index.recorder.machine.config es at c.in-Err.kind) i.image
-    (fault_at c.loop-index.recorder es at _ c.in-Err.kind said.legal i.before (get_there es at _ c.loop-index-test.true) said.fault))
+    (fault_at c.loop-index.recorder es at _ c.in-Err.kind said.legal i.before (get_there es at _ (omega (arith, below, within))) said.fault))

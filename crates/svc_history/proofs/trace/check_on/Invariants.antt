@@ -1,9 +1,9 @@
 use Rattle.std.proofs.Common.{◌≡◌, take}
-use Rattle.svc_history.proofs.trace.check_trace.Given as goal
+use Rattle.svc_history.proofs.trace.check_on.Given as goal
 
 abbrev pub invariant-loop-index : goal.invariant-loop-index
 invariant-loop-index l = record {
-  image : l.recorder.machine.image ≡ l.image;
-  config : l.recorder.machine.config ≡ l.fn.config;
+  image : l.recorder.machine.image ≡ l.fn.recorder.machine.image;
+  config : l.recorder.machine.config ≡ l.fn.recorder.machine.config;
   before : l.recorder.entries ≡ take l.index l.entries;
 }
