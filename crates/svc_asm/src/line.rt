@@ -186,7 +186,6 @@ fn read_alone<'a>(
     Ok((Statement::Instruction(instr), rest))
 }
 
-// A name that stands for two instructions, or one instruction.
 // `auipc` with `%pcrel_hi`, or another instruction.
 #[tactic(auto, unfolding(crate::specs::Statements::single_at))]
 fn read_single<'a>(
@@ -202,6 +201,7 @@ fn read_single<'a>(
     }
 }
 
+// A name that stands for two instructions, or one instruction.
 #[tactic(auto, unfolding(crate::specs::Statements::as_statement))]
 fn read_as_statement<'a>(
     draft: &Draft,

@@ -15,7 +15,7 @@ use Rattle.svc_operands.specs.Operands.{register_at, first_register_at, number_a
 use Rattle.svc_operands.specs.Targets.{offset_at, branch_at, jump_at}
 use Rattle.svc_operands.specs.Values.{plain_term_at, term_from, term_at, value_at, short_at, upper_at, address_at}
 use Rattle.svc_list.specs.Listings.{register_text, first_text, short_text, offset_text, address_text, upper_text}
-use Rattle.svc_operands.proofs.Same.{same_register, same_short, same_long, same_amount}
+use Rattle.svc_rv32i.proofs.Same.{same_register, same_short, same_long, same_amount}
 use Rattle.svc_list.proofs.NamesBack.{all_dense, stops, Ends, at_name, at_rest, no_slash, no_space, is_digit, digit_no_minus, all_digits, first_digit, digits_dense, numerals}
 
 number_of_decimal : (n : ℕ) → n < 2 ^ 32 → number_of (decimal n) ≡ Some n

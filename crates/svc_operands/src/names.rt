@@ -214,7 +214,7 @@ fn numbered(name: &[u8]) -> Option<u32>
     }
 }
 
-#[tactic(auto, unfolding(svc_rv32i::specs::Meaning::register), using(crate::proofs::Same::same_register))]
+#[tactic(auto, unfolding(svc_rv32i::specs::Meaning::register), using(svc_rv32i::proofs::Same::same_register))]
 pub fn register(number: u32) -> Register
     requires { number < 32 }
     ensures { result ≡ register number }

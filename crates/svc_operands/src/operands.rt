@@ -145,7 +145,7 @@ fn halved(number: Signed) -> Option<Signed>
 }
 
 /// The immediate whose bits are these lowest 12.
-#[tactic(auto, unfolding(svc_rv32i::specs::Meaning::short), using(crate::proofs::Same::same_short))]
+#[tactic(auto, unfolding(svc_rv32i::specs::Meaning::short), using(svc_rv32i::proofs::Same::same_short))]
 pub fn short(number: u32) -> Short
     ensures { result ≡ short number }
 {
@@ -155,7 +155,7 @@ pub fn short(number: u32) -> Short
 }
 
 /// The immediate whose bits are these lowest 20.
-#[tactic(auto, unfolding(svc_rv32i::specs::Meaning::long), using(crate::proofs::Same::same_long))]
+#[tactic(auto, unfolding(svc_rv32i::specs::Meaning::long), using(svc_rv32i::proofs::Same::same_long))]
 pub fn long(number: u32) -> Long
     ensures { result ≡ long number }
 {
@@ -202,7 +202,7 @@ pub fn upper_of(number: u32) -> Option<Long>
     }
 }
 
-#[tactic(auto, unfolding(crate::specs::Operands::amount), using(crate::proofs::Same::same_amount))]
+#[tactic(auto, unfolding(crate::specs::Operands::amount), using(svc_rv32i::proofs::Same::same_amount))]
 fn amount(number: u32) -> ShiftAmount
     requires { number < 32 }
     ensures { result ≡ amount number }
