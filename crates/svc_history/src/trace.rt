@@ -126,7 +126,8 @@ pub fn open_trace(alloc: Global, image: &Image, config: Config) -> Result<Record
 
 /// Goes on with the replay of these entries, of which the recorder has the first ones, up to so many of them.
 ///
-/// Errors: the first faulty entry, with what is wrong with it. The recorder then has the entries before it.
+/// Errors: the first faulty entry, with what is wrong with it. The recorder's history may then end with another entry
+/// than the trace's.
 pub fn check_on(recorder: &mut Recorder, entries: &[Entry], count: usize) -> Result<(), TraceFault>
     requires begun { recorder.old.entries ≡ take (length recorder.old.entries) entries.now }
     requires further { length recorder.old.entries ≤ count }
