@@ -97,11 +97,8 @@ impl Core {
     pub fn value(&self, r: Register) -> u32
         ensures { result ≡ value_of self.now r.number }
     {
-        if r.number == 0 {
-            0
-        } else {
-            self.regs[r.number as usize]
-        }
+        // x0 is kept at 0, so it needs no test.
+        self.regs[r.number as usize]
     }
 
     /// Whether the task has not ended.
