@@ -3,3 +3,4 @@ pub mod Playing
 pub mod Reading
 pub mod Reported
 pub mod Scripted
+pub mod Showing

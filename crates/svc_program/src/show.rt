@@ -1,8 +1,8 @@
 //! `show`: the machine to which a trace leads.
 
-ghost use Rattle.std.specs.Prelude.{◌≡◌, ◌⊎◌, ◌≤◌, ◌<◌, IfOk, IfErr, IfSome, length, take};
-ghost use Rattle.svc_history.specs.Recorded.{IsLegal};
+ghost use Rattle.std.specs.Prelude.{◌≡◌, ◌⊎◌, ◌≤◌, ◌<◌, IfOk, IfErr, IfSome, length, min, nat_lt, unwrap_or};
 ghost use Rattle.svc_history_laws.specs.Legal.{LegalHistory};
+ghost use Rattle.svc_show.specs.Show.{show_of};
 ghost use Rattle.svc_program.specs.declared.faults.Fault.TheVariants.{File};
 ghost use Rattle.svc_program.specs.Faults.{IsReportFault, TellsOfTrace};
 ghost use Rattle.svc_program.specs.Shown.{IsPastTheEnd, TellsMachine, shown_entries};
@@ -11,9 +11,10 @@ use crate::faults::Fault;
 use std::alloc::Global;
 use std::io::Write;
 use svc_base::Config;
-use svc_history::{Entry, Recorder, check_trace};
+use svc_history::{Entry, Recorder, check_on, open_trace};
 use svc_image::Image;
-use svc_show::write_show;
+use svc_show::show_text;
+use svc_view::text::write_text;
 
 /// Replays the entries, and prints the machine after the first `at` of them, or after all. It
 /// returns the exit status.
@@ -31,87 +32,51 @@ pub fn show<O: Write>(
         ⊎ ((TellsOfTrace image.now config entries.now fault ⊎ IsPastTheEnd at image.now config entries.now fault)
         × (out.new ≡ out.old))) }
 {
-    let recorder = machine_at(alloc, image, config, entries, at)?;
-    write_show(alloc, &recorder, out)?;
+    let text = text_at(alloc, image, config, entries, at)?;
+    write_text(&text, out)?;
     out.flush()?;
     Ok(0)
 }
 
-// The machine after the first `at` entries, or after all. The whole trace is checked first, and
-// only one machine at a time is in memory.
-fn machine_at(
+// The text of the machine after the first so many of the entries, or after all. One replay does: the text is gathered on the
+// way, and the entries past it are checked before a word of it is printed.
+fn text_at(
     alloc: Global,
     image: &Image,
     config: Config,
     entries: &[Entry],
     at: Option<u64>,
-) -> Result<Recorder, Fault>
-    ensures image { IfOk result (λ r. r.machine.image ≡ image.now) }
-    ensures config { IfOk result (λ r. r.machine.config ≡ config) }
-    ensures entries { IfOk result (λ r. r.entries ≡ shown_entries at entries.now) }
-    ensures legal { IfOk result (λ r. LegalHistory image.now config entries.now) }
-    ensures within { IfOk result (λ r. IfSome at (λ n. n ≤ length entries.now)) }
-    ensures fault { IfErr result (λ fault.
-        TellsOfTrace image.now config entries.now fault ⊎ IsPastTheEnd at image.now config entries.now fault) }
+) -> Result<Vec<u8>, Fault>
+    ensures text { IfOk result (λ text. text.items ≡ show_of image.now config (shown_entries at entries.now)) }
+    ensures legal { IfOk result (λ text. LegalHistory image.now config entries.now) }
+    ensures within { IfOk result (λ text. IfSome at (λ n. n ≤ length entries.now)) }
+    ensures fault { IfErr result (λ fault. IsReportFault fault
+        ⊎ TellsOfTrace image.now config entries.now fault ⊎ IsPastTheEnd at image.now config entries.now fault) }
 {
-    match at {
-        None => whole(alloc, image, config, entries),
-        Some(at) => {
-            check_whole(alloc, image, config, entries)?;
-            front(alloc, image, config, entries, at)
-        }
-    }
-}
-
-// The machine after all entries.
-fn whole(alloc: Global, image: &Image, config: Config, entries: &[Entry]) -> Result<Recorder, Fault>
-    ensures image { IfOk result (λ r. r.machine.image ≡ image.now) }
-    ensures config { IfOk result (λ r. r.machine.config ≡ config) }
-    ensures entries { IfOk result (λ r. r.entries ≡ entries.now) }
-    ensures legal { IfOk result (λ r. LegalHistory image.now config entries.now) }
-    ensures fault { IfErr result (TellsOfTrace image.now config entries.now) }
-{
-    let recorder = check_trace(alloc, image, config, entries)?;
-    Ok(recorder)
-}
-
-// All entries are sound.
-fn check_whole(alloc: Global, image: &Image, config: Config, entries: &[Entry]) -> Result<(), Fault>
-    ensures legal { IfOk result (λ r. LegalHistory image.now config entries.now) }
-    ensures fault { IfErr result (TellsOfTrace image.now config entries.now) }
-{
-    let _recorder = whole(alloc, image, config, entries)?;
-    Ok(())
-}
-
-// The machine after the first `at` entries, which are sound.
-fn front(
-    alloc: Global,
-    image: &Image,
-    config: Config,
-    entries: &[Entry],
-    at: u64,
-) -> Result<Recorder, Fault>
-    requires legal { LegalHistory image.now config entries.now }
-    ensures image { IfOk result (λ r. r.machine.image ≡ image.now) }
-    ensures config { IfOk result (λ r. r.machine.config ≡ config) }
-    ensures entries { IfOk result (λ r. r.entries ≡ take at entries.now) }
-    ensures within { IfOk result (λ r. at ≤ length entries.now) }
-    ensures fault { IfErr result (λ fault.
-        TellsOfTrace image.now config entries.now fault ⊎ ((fault ≡ File) × (length entries.now < at))) }
-{
-    let shown = first_of(entries, at)?;
-    whole(alloc, image, config, shown)
-}
-
-// The first `at` entries.
-fn first_of(entries: &[Entry], at: u64) -> Result<&[Entry], Fault>
-    ensures first { IfOk result (λ es. es.now ≡ take at entries.now) }
-    ensures within { IfOk result (λ es. at ≤ length entries.now) }
-    ensures fault { IfErr result (λ fault. (fault ≡ File) × (length entries.now < at)) }
-{
-    if at > entries.len() as u64 {
+    let mut recorder = open_trace(alloc, image, config)?;
+    check_on(&mut recorder, entries, shown_count(entries, at))?;
+    let text = show_text(alloc, &recorder)?;
+    check_on(&mut recorder, entries, entries.len())?;
+    // what the type keeps: its history is legal
+    let _legal = recorder.entries();
+    if is_past_the_end(entries, at) {
         return Err(Fault::File);
     }
-    Ok(&entries[..at as usize])
+    Ok(text)
+}
+
+// How many of the entries lead to the machine that is shown: so many, as far as there are any.
+fn shown_count(entries: &[Entry], at: Option<u64>) -> usize
+    ensures { result ≡ min (unwrap_or at (length entries.now)) (length entries.now) }
+{
+    let total = entries.len() as u64;
+    at.unwrap_or(total).min(total) as usize
+}
+
+// There are fewer entries than are asked for.
+fn is_past_the_end(entries: &[Entry], at: Option<u64>) -> bool
+    ensures { result ≡ nat_lt (length entries.now) (unwrap_or at (length entries.now)) }
+{
+    let total = entries.len() as u64;
+    total < at.unwrap_or(total)
 }

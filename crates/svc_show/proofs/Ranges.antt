@@ -23,14 +23,17 @@ from_zero n =
     let last : 0 + n ≡ n = omega arith in
     ap (range_with_len 0) e ∙ range_more 0 n ∙ ap (λ (m : ℕ). range_with_len 0 n ++ m ∷ []) last
 
+-- lists over a range, one number more
+pub lists_more : {A : Type 0} (f : ℕ → List A) (n : ℕ) → flat_map f (range_with_len 0 (n + 1)) ≡ flat_map f (range_with_len 0 n) ++ f n
+lists_more {A} f n =
+    ap (flat_map f) (from_zero n) ∙ flat_map-append f (range_with_len 0 n) (n ∷ [])
+    ∙ ap (λ (l : List A). flat_map f (range_with_len 0 n) ++ l) (append-nil (f n))
+
 -- a writer's text, one row more
 pub row_more : (f : ℕ → List ℕ) (n : ℕ) (a b c : Option (List ℕ)) → Appends a b (flat_map f (range_with_len 0 n)) → Appends b c (f n)
     → Appends a c (flat_map f (range_with_len 0 (n + 1)))
 row_more f n a b c so_far one =
-    let whole : flat_map f (range_with_len 0 (n + 1)) ≡ flat_map f (range_with_len 0 n) ++ f n =
-    ap (flat_map f) (from_zero n) ∙ flat_map-append f (range_with_len 0 n) (n ∷ [])
-    ∙ ap (λ (l : List ℕ). flat_map f (range_with_len 0 n) ++ l) (append-nil (f n)) in
-    subst (Appends a c) (sym whole) (then_appends a b c (flat_map f (range_with_len 0 n)) (f n) so_far one)
+    subst (Appends a c) (sym (lists_more f n)) (then_appends a b c (flat_map f (range_with_len 0 n)) (f n) so_far one)
 
 -- whether one of the numbers passes, one number more
 pub any_more : (p : ℕ → Bool) (n : ℕ) → list_any p (range_with_len 0 (n + 1)) ≡ (list_any p (range_with_len 0 n) || p n)

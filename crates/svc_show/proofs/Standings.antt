@@ -1,22 +1,20 @@
 -- A machine is shown by the rows of each standing that it is at.
-use Rattle.std.proofs.Common.{◌≡◌, ◌∙◌, ◌++◌, [], ℕ, List, Option, Bool, refl, ap, sym, subst}
-use Rattle.std.specs.Prelude.{◌||◌, cond, flat_map, is_some}
-use Rattle.std.specs.List.{list_any, range_with_len}
+use Rattle.std.proofs.Common.{◌≡◌, ◌∙◌, [], ℕ, Option, Bool, refl, ap}
+use Rattle.std.specs.Prelude.{◌||◌, cond, is_some}
+use Rattle.std.specs.List.{range_with_len}
 use Rattle.svc_base.specs.declared.config.Config.{Config}
 use Rattle.svc_image.specs.Image.{Image}
 use Rattle.svc_core_laws.specs.Bytes.{word_at}
 use Rattle.svc_core_laws.specs.Sequence.{plain_seq}
 use Rattle.svc_core_laws.specs.Turns.{data_words}
-use Rattle.svc_core_laws.specs.Words.{program}
-use Rattle.svc_bus_laws.specs.BusLine.{BusLine}
-use Rattle.svc_bus_laws.specs.BusState.{BusState, Agrees, state_of}
+use Rattle.svc_bus_laws.specs.BusState.{BusState, state_of}
 use Rattle.svc_bus.specs.Observed.{observed}
-use Rattle.svc_machine_laws.specs.PlainMachine.{Plain, running}
+use Rattle.svc_machine_laws.specs.PlainMachine.{Plain}
 use Rattle.svc_machine_laws.specs.Standing.{Standing}
 use Rattle.svc_machine.specs.Value.{MachineValue, StandsAt}
 use Rattle.svc_report.specs.Fields.{optional}
 use Rattle.svc_show.specs.Rows.{line_row, memory_row, spill_row}
-use Rattle.svc_show.specs.Show.{is_cached, line_rows, machine_rows, memory_rows, progress_rows, spill_rows, standing_rows, task_rows, unit_rows, word_row}
+use Rattle.svc_show.specs.Show.{is_cached, line_rows, machine_rows, memory_rows, spill_rows, standing_rows, unit_rows, word_row}
 use Rattle.svc_show.proofs.Ranges.{same_any, same_rows}
 
 -- two buses that hold the same

@@ -1,5 +1,5 @@
 -- A row of a name and a text is a line of two fields.
-use Rattle.std.proofs.Common.{◌≡◌, ◌++◌, ◌∷◌, [], ℕ, List, sym, append_assoc}
+use Rattle.std.proofs.Common.{◌≡◌, ◌∷◌, [], ℕ, List, sym, append_assoc}
 use Rattle.svc_report.specs.Lines.{joined, line}
 use Rattle.svc_show.specs.Rows.{told_row}
 

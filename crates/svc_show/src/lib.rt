@@ -6,9 +6,10 @@ mod bits;
 mod holds;
 mod lines;
 mod memory;
+mod named;
 mod progress;
 mod show;
 mod tasks;
 mod text;
 
-pub use show::write_show;
+pub use show::show_text;

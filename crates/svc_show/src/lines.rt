@@ -1,16 +1,17 @@
 // The valid lines of the caches.
 
-ghost use Rattle.std.specs.Prelude.{◌≡◌, ◌≤◌, OnOk, IfErr};
+ghost use Rattle.std.specs.Prelude.{◌≡◌, ◌≤◌, OnOk, IfErr, flat_map};
 ghost use Rattle.std.specs.Io.KnownBytes.{Appends};
 ghost use Rattle.svc_bus.specs.Calls.{line_shown};
 ghost use Rattle.svc_bus.specs.Observed.{observed};
 ghost use Rattle.svc_report.specs.Faults.{IsWriteFault};
 ghost use Rattle.svc_report.specs.Fields.{optional};
 ghost use Rattle.svc_show.specs.Rows.{line_front, line_row};
-ghost use Rattle.svc_show.specs.Show.{line_rows, unit_rows};
+ghost use Rattle.svc_show.specs.Named.{named_line, named_lines};
 
 use crate::bits::write_bits;
 use crate::holds::line_of;
+use crate::named::Named;
 use crate::text::write_text;
 use std::io::Write;
 use svc_base::{UnitId, WordAddr};
@@ -68,37 +69,55 @@ fn write_line_at<W: Write>(
     }
 }
 
-// Writes a row for each valid line of a unit among so many words.
-fn write_unit<W: Write>(
+// Writes the row of the unit's line of a named word. Only where the unit may have named the word is its cache searched.
+fn write_named<W: Write>(
     machine: &Machine,
     unit: UnitId,
-    words: u32,
+    named: Named,
     w: &mut W,
 ) -> Result<(), ReportError>
     ensures ok { OnOk result (Appends (W.contents w.old) (W.contents w.new)
-        (unit_rows words (observed machine.now.bus) unit.0)) }
+        (named_line (observed machine.now.bus) unit.0 named)) }
     ensures err { IfErr result IsWriteFault }
 {
-    for word in 0..words {
-        write_line_at(machine, unit, WordAddr(word), w)?;
+    if named.by.may_have(unit) {
+        write_line_at(machine, unit, named.word, w)
+    } else {
+        write_text(b"", w)
+    }
+}
+
+// Writes a row for each valid line of a unit among the named words.
+fn write_unit<W: Write>(
+    machine: &Machine,
+    unit: UnitId,
+    named: &[Named],
+    w: &mut W,
+) -> Result<(), ReportError>
+    ensures ok { OnOk result (Appends (W.contents w.old) (W.contents w.new)
+        (flat_map (named_line (observed machine.now.bus) unit.0) named.now)) }
+    ensures err { IfErr result IsWriteFault }
+{
+    for one in named {
+        write_named(machine, unit, *one, w)?;
     }
     Ok(())
 }
 
-/// Writes a row for each valid line of so many units and words, by unit and then word.
+/// Writes a row for each valid line of so many units among the named words, by unit and then word.
 pub(crate) fn write_lines<W: Write>(
     machine: &Machine,
     units: u32,
-    words: u32,
+    named: &[Named],
     w: &mut W,
 ) -> Result<(), ReportError>
     requires few { units ≤ 16 }
     ensures ok { OnOk result (Appends (W.contents w.old) (W.contents w.new)
-        (line_rows units words (observed machine.now.bus))) }
+        (named_lines units (observed machine.now.bus) named.now)) }
     ensures err { IfErr result IsWriteFault }
 {
     for unit in 0..units {
-        write_unit(machine, UnitId(unit as u8), words, w)?;
+        write_unit(machine, UnitId(unit as u8), named, w)?;
     }
     Ok(())
 }

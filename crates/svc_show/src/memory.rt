@@ -1,15 +1,17 @@
 // The spilled words, and the memory of the words that are held.
 
-ghost use Rattle.std.specs.Prelude.{◌≡◌, ◌<◌, ◌≤◌, ◌||◌, OnOk, IfErr, is_some};
+ghost use Rattle.std.specs.Prelude.{◌≡◌, ◌<◌, ◌≤◌, ◌||◌, OnOk, IfErr, flat_map};
+ghost use Rattle.std.specs.List.{AllByRecursion, list_any, range_with_len};
 ghost use Rattle.std.specs.Io.KnownBytes.{Appends};
 ghost use Rattle.svc_core_laws.specs.Turns.{data_words};
 ghost use Rattle.svc_bus.specs.Observed.{observed};
 ghost use Rattle.svc_report.specs.Faults.{IsWriteFault};
 ghost use Rattle.svc_report.specs.Fields.{optional};
+ghost use Rattle.svc_show.specs.Named.{is_held, is_named_line, named_memory, named_spill};
 ghost use Rattle.svc_show.specs.Rows.{memory_row, spill_row};
-ghost use Rattle.svc_show.specs.Show.{is_cached, memory_rows, spill_rows, word_row};
 
 use crate::holds::{backing_of, has_line, has_spill, spill_of};
+use crate::named::Named;
 use crate::text::write_text;
 use std::io::Write;
 use svc_base::{UnitId, WordAddr};
@@ -41,49 +43,48 @@ fn write_spill_of<W: Write>(machine: &Machine, word: WordAddr, w: &mut W) -> Res
     }
 }
 
-/// Writes a row for each spilled one of so many words.
+/// Writes a row for each spilled one of the named words.
 pub(crate) fn write_spills<W: Write>(
     machine: &Machine,
-    words: u32,
+    named: &[Named],
     w: &mut W,
 ) -> Result<(), ReportError>
-    requires in_data { words ≤ data_words machine.now.image }
+    requires in_data { AllByRecursion (λ n. n.word.0 < data_words machine.now.image) named.now }
     ensures ok { OnOk result (Appends (W.contents w.old) (W.contents w.new)
-        (spill_rows words (observed machine.now.bus))) }
+        (flat_map (named_spill (observed machine.now.bus)) named.now)) }
     ensures err { IfErr result IsWriteFault }
 {
-    for word in 0..words {
-        write_spill_of(machine, WordAddr(word), w)?;
+    for one in named {
+        write_spill_of(machine, one.word, w)?;
     }
     Ok(())
 }
 
-// It is held already, or the unit has a valid line of the word.
-fn or_has_line(held: bool, machine: &Machine, unit: UnitId, word: WordAddr) -> bool
-    ensures { result ≡ (held || is_some ((observed machine.now.bus).lines unit.0 word.0)) }
+// It is held already, or the unit has a valid line of the named word.
+fn or_has_line(held: bool, machine: &Machine, unit: UnitId, named: Named) -> bool
+    ensures { result ≡ (held || is_named_line (observed machine.now.bus) named unit.0) }
 {
-    held || has_line(machine, unit, word)
+    held || (named.by.may_have(unit) && has_line(machine, unit, named.word))
 }
 
-// Some unit, of so many, has a valid line of the word.
-fn is_cached(machine: &Machine, units: u32, word: WordAddr) -> bool
+// Some unit, of so many, has a valid line of the named word.
+fn is_cached(machine: &Machine, units: u32, named: Named) -> bool
     requires few { units ≤ 16 }
-    ensures { result ≡ is_cached (observed machine.now.bus) units word.0 }
+    ensures { result ≡ list_any (is_named_line (observed machine.now.bus) named) (range_with_len 0 units) }
 {
     let mut held = false;
     for unit in 0..units {
-        held = or_has_line(held, machine, UnitId(unit as u8), word);
+        held = or_has_line(held, machine, UnitId(unit as u8), named);
     }
     held
 }
 
-// The word has a valid line or is spilled.
-fn is_held(machine: &Machine, word: WordAddr) -> bool
-    requires in_data { word.0 < data_words machine.now.image }
-    ensures { let m = machine.now in
-        result ≡ (is_some ((observed m.bus).spill word.0) || is_cached (observed m.bus) m.config.units word.0) }
+// The named word has a valid line or is spilled.
+fn is_held(machine: &Machine, named: Named) -> bool
+    requires in_data { named.word.0 < data_words machine.now.image }
+    ensures { let m = machine.now in result ≡ is_held (observed m.bus) m.config.units named }
 {
-    has_spill(machine, word) || is_cached(machine, machine.config().units, word)
+    has_spill(machine, named.word) || is_cached(machine, machine.config().units, named)
 }
 
 // Writes the row of a word's committed and backing values.
@@ -104,15 +105,16 @@ fn write_memory<W: Write>(
     }
 }
 
-// Writes the row of the word, where it has a valid line or is spilled.
-fn write_word<W: Write>(machine: &Machine, word: WordAddr, w: &mut W) -> Result<(), ReportError>
-    requires in_data { word.0 < data_words machine.now.image }
+// Writes the row of the named word, where it has a valid line or is spilled.
+fn write_word<W: Write>(machine: &Machine, named: Named, w: &mut W) -> Result<(), ReportError>
+    requires in_data { named.word.0 < data_words machine.now.image }
     ensures ok { let m = machine.now in
         OnOk result (Appends (W.contents w.old) (W.contents w.new)
-        (word_row m.image m.config m.plain (observed m.bus) word.0)) }
+        (named_memory m.image m.config m.plain (observed m.bus) named)) }
     ensures err { IfErr result IsWriteFault }
 {
-    if is_held(machine, word) {
+    if is_held(machine, named) {
+        let word = named.word;
         let committed = machine.committed_memory(word);
         let backing = backing_of(machine, word);
         write_memory(word, committed, backing, w)
@@ -121,20 +123,20 @@ fn write_word<W: Write>(machine: &Machine, word: WordAddr, w: &mut W) -> Result<
     }
 }
 
-/// Writes a row for each of so many words that has a valid line or is spilled.
+/// Writes a row for each of the named words that has a valid line or is spilled.
 pub(crate) fn write_words<W: Write>(
     machine: &Machine,
-    words: u32,
+    named: &[Named],
     w: &mut W,
 ) -> Result<(), ReportError>
-    requires in_data { words ≤ data_words machine.now.image }
+    requires in_data { AllByRecursion (λ n. n.word.0 < data_words machine.now.image) named.now }
     ensures ok { let m = machine.now in
         OnOk result (Appends (W.contents w.old) (W.contents w.new)
-        (memory_rows m.image m.config m.plain (observed m.bus) words)) }
+        (flat_map (named_memory m.image m.config m.plain (observed m.bus)) named.now)) }
     ensures err { IfErr result IsWriteFault }
 {
-    for word in 0..words {
-        write_word(machine, WordAddr(word), w)?;
+    for one in named {
+        write_word(machine, *one, w)?;
     }
     Ok(())
 }

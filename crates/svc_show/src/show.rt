@@ -6,14 +6,16 @@ ghost use Rattle.svc_core_laws.specs.Turns.{data_words};
 ghost use Rattle.svc_bus.specs.Observed.{observed};
 ghost use Rattle.svc_report.specs.Faults.{IsWriteFault};
 ghost use Rattle.svc_report.specs.declared.error.ReportError.TheVariants.{Memory};
+ghost use Rattle.svc_show.specs.Named.{AreNamed, IsHeldBy};
 ghost use Rattle.svc_show.specs.Show.{line_rows, machine_rows, memory_rows, show_of, spill_rows};
 
 use crate::holds::words_of;
 use crate::lines::write_lines;
 use crate::memory::{write_spills, write_words};
+use crate::named::{Named, named_words};
 use crate::progress::write_progress;
 use crate::tasks::write_tasks;
-use crate::text::{write_number, write_text};
+use crate::text::write_number;
 use std::alloc::Global;
 use std::io::Write;
 use svc_history::Recorder;
@@ -21,40 +23,53 @@ use svc_machine::Machine;
 use svc_report::ReportError;
 
 // Writes a row for each valid line.
-fn write_all_lines<W: Write>(machine: &Machine, w: &mut W) -> Result<(), ReportError>
+fn write_all_lines<W: Write>(
+    machine: &Machine,
+    named: &[Named],
+    w: &mut W,
+) -> Result<(), ReportError>
+    requires held { IsHeldBy (observed machine.now.bus) (data_words machine.now.image) named.now }
     ensures ok { let m = machine.now in
         OnOk result (Appends (W.contents w.old) (W.contents w.new)
         (line_rows m.config.units (data_words m.image) (observed m.bus))) }
     ensures err { IfErr result IsWriteFault }
 {
     let units = machine.config().units;
-    let words = words_of(machine);
-    write_lines(machine, units, words, w)
+    write_lines(machine, units, named, w)
 }
 
 // Writes a row for each spilled word.
-fn write_all_spills<W: Write>(machine: &Machine, w: &mut W) -> Result<(), ReportError>
+fn write_all_spills<W: Write>(
+    machine: &Machine,
+    named: &[Named],
+    w: &mut W,
+) -> Result<(), ReportError>
+    requires held { IsHeldBy (observed machine.now.bus) (data_words machine.now.image) named.now }
     ensures ok { let m = machine.now in
         OnOk result (Appends (W.contents w.old) (W.contents w.new) (spill_rows (data_words m.image) (observed m.bus))) }
     ensures err { IfErr result IsWriteFault }
 {
-    let words = words_of(machine);
-    write_spills(machine, words, w)
+    write_spills(machine, named, w)
 }
 
 // Writes a row for each word that has a valid line or is spilled.
-fn write_all_words<W: Write>(machine: &Machine, w: &mut W) -> Result<(), ReportError>
+fn write_all_words<W: Write>(
+    machine: &Machine,
+    named: &[Named],
+    w: &mut W,
+) -> Result<(), ReportError>
+    requires held { IsHeldBy (observed machine.now.bus) (data_words machine.now.image) named.now }
     ensures ok { let m = machine.now in
         OnOk result (Appends (W.contents w.old) (W.contents w.new)
         (memory_rows m.image m.config m.plain (observed m.bus) (data_words m.image))) }
     ensures err { IfErr result IsWriteFault }
 {
-    let words = words_of(machine);
-    write_words(machine, words, w)
+    write_words(machine, named, w)
 }
 
 // Writes the rows of a machine.
-fn write_machine<W: Write>(machine: &Machine, w: &mut W) -> Result<(), ReportError>
+fn write_machine<W: Write>(machine: &Machine, named: &[Named], w: &mut W) -> Result<(), ReportError>
+    requires held { IsHeldBy (observed machine.now.bus) (data_words machine.now.image) named.now }
     ensures ok { let m = machine.now in
         OnOk result (Appends (W.contents w.old) (W.contents w.new)
         (machine_rows m.image m.config m.plain (observed m.bus))) }
@@ -62,13 +77,14 @@ fn write_machine<W: Write>(machine: &Machine, w: &mut W) -> Result<(), ReportErr
 {
     write_progress(machine, w)?;
     write_tasks(machine, w)?;
-    write_all_lines(machine, w)?;
-    write_all_spills(machine, w)?;
-    write_all_words(machine, w)
+    write_all_lines(machine, named, w)?;
+    write_all_spills(machine, named, w)?;
+    write_all_words(machine, named, w)
 }
 
 // Writes how many entries a history has, and the rows of the machine where it leads.
-fn write_rows<W: Write>(recorder: &Recorder, w: &mut W) -> Result<(), ReportError>
+fn write_rows<W: Write>(recorder: &Recorder, named: &[Named], w: &mut W) -> Result<(), ReportError>
+    requires named { let r = recorder.now in AreNamed r.entries (data_words r.machine.image) named.now }
     ensures ok { let r = recorder.now in
         OnOk result (Appends (W.contents w.old) (W.contents w.new)
         (show_of r.machine.image r.machine.config r.entries)) }
@@ -77,39 +93,28 @@ fn write_rows<W: Write>(recorder: &Recorder, w: &mut W) -> Result<(), ReportErro
     let count = recorder.entries().len();
     write_number("at", count as u64, w)?;
     let machine = recorder.machine();
-    write_machine(machine, w)
+    // its image is sound, so its history names each word that is held
+    let _start = machine.image().start();
+    write_machine(machine, named, w)
 }
 
-// The text of these rows. A writer over memory fails only for want of memory.
-fn text_of(alloc: Global, recorder: &Recorder) -> Result<Vec<u8>, ReportError>
+/// The text of the machine where a history leads: how many entries it has, the tasks committed, the entries that are due and
+/// to be guessed, the ending, and a row for each active task, oldest first, for each valid line, by unit and then word, for
+/// each spilled word, and for each word that has a valid line or is spilled.
+///
+/// Only words that an entry names can be in a line or spilled, so no other word is looked up.
+///
+/// Errors: [`ReportError::Memory`]. A writer over memory fails only for want of memory.
+pub fn show_text(alloc: Global, recorder: &Recorder) -> Result<Vec<u8>, ReportError>
     ensures text { let r = recorder.now in
         IfOk result (λ text. text.items ≡ show_of r.machine.image r.machine.config r.entries) }
     ensures err { IfErr result (λ e. e ≡ Memory) }
 {
+    let words = words_of(recorder.machine());
+    let named = named_words(alloc, recorder.entries(), words)?;
     let mut text = Vec::new(alloc);
-    match write_rows(recorder, &mut text) {
+    match write_rows(recorder, &named, &mut text) {
         Ok(()) => Ok(text),
         Err(_) => Err(ReportError::Memory),
     }
-}
-
-/// Writes the machine where a history leads: how many entries it has, the tasks committed, the entries that are due and to
-/// be guessed, the ending, and a row for each active task, oldest first, for each valid line, by unit and then word, for
-/// each spilled word, and for each word that has a valid line or is spilled.
-///
-/// The text is gathered before it is written, since a call of a writer may cost more than a row.
-///
-/// Errors: [`ReportError::Memory`], [`ReportError::Write`].
-pub fn write_show<W: Write>(
-    alloc: Global,
-    recorder: &Recorder,
-    w: &mut W,
-) -> Result<(), ReportError>
-    ensures ok { let r = recorder.now in
-        OnOk result (Appends (W.contents w.old) (W.contents w.new)
-        (show_of r.machine.image r.machine.config r.entries)) }
-    ensures err { IfErr result IsWriteFault }
-{
-    let text = text_of(alloc, recorder)?;
-    write_text(&text, w)
 }

@@ -1,7 +1,10 @@
+use Rattle.std.proofs.Common.{take}
+use Rattle.std.specs.Prelude.{flat_map}
 use Rattle.std.specs.Io.KnownBytes.{Appends}
 use Rattle.svc_bus.specs.Observed.{observed}
-use Rattle.svc_show.specs.Show.{unit_rows}
+use Rattle.svc_show.specs.Named.{named_line}
 use Rattle.svc_show.proofs.lines.write_unit.Given as goal
 
-abbrev pub invariant-loop-word : goal.invariant-loop-word
-invariant-loop-word g l = Appends (g.W.Write.contents l.fn.w) (g.W.Write.contents l.w) (unit_rows l.word (observed l.machine.bus) l.unit.0)
+abbrev pub invariant-loop-one : goal.invariant-loop-one
+invariant-loop-one g l =
+    Appends (g.W.Write.contents l.fn.w) (g.W.Write.contents l.w) (flat_map (named_line (observed l.machine.bus) l.unit.0) (take l.one-index l.named))

@@ -1,5 +1,5 @@
 -- There are few tasks, since each has a unit of its own, and few were committed, since each commit is an event.
-use Rattle.std.proofs.Common.{◌+◌, ◌<◌, ◌≤◌, length, ap, arith}
+use Rattle.std.proofs.Common.{length, ap, arith}
 use Rattle.svc_machine_laws.specs.PlainMachine.{Plain}
 use Rattle.svc_machine_laws.proofs.Room.{tasks_few}
 use Rattle.svc_show.proofs.tasks.number_at.Goals as goal

@@ -1,0 +1,142 @@
+// The words that a history's entries name: no other word has a line or is spilled.
+
+ghost use Rattle.std.specs.Prelude.{◌≡◌, ◌<◌, ◌^◌, ◌++◌, OnOk, IfOk, IfErr, All, flat_map, length, replicate};
+ghost use Rattle.std.specs.List.{range_with_len};
+ghost use Rattle.svc_report.specs.declared.error.ReportError.TheVariants.{Memory};
+ghost use Rattle.svc_show.specs.declared.named.Namers.TheVariants.{Nobody};
+ghost use Rattle.svc_show.specs.Named.{AreNamed, IsMarked, and_unit, are_some, marked, marked_at, may_have, named_at, named_by};
+
+use std::alloc::Global;
+use svc_base::{UnitId, WordAddr};
+use svc_history::Entry;
+use svc_report::ReportError;
+
+/// The units whose entries name a word.
+#[derive(Clone, Copy, Debug, PartialEq, Eq)]
+pub(crate) enum Namers {
+    /// None does.
+    Nobody,
+    /// One alone.
+    One(UnitId),
+    /// More than one.
+    Several,
+}
+
+/// A word that entries name.
+#[derive(Clone, Copy, Debug, PartialEq, Eq)]
+pub(crate) struct Named {
+    /// The word.
+    pub(crate) word: WordAddr,
+    /// Whose entries they are.
+    pub(crate) by: Namers,
+}
+
+impl Namers {
+    // These, and this unit.
+    fn and(self, unit: UnitId) -> Namers
+        ensures { result ≡ and_unit self unit }
+    {
+        match self {
+            Namers::Nobody => Namers::One(unit),
+            Namers::One(one) => {
+                if one.0 == unit.0 {
+                    Namers::One(one)
+                } else {
+                    Namers::Several
+                }
+            }
+            Namers::Several => Namers::Several,
+        }
+    }
+
+    /// The unit may be one of them.
+    pub(crate) fn may_have(self, unit: UnitId) -> bool
+        ensures { result ≡ may_have unit.0 self }
+    {
+        match self {
+            Namers::Nobody => false,
+            Namers::One(one) => unit.0 == one.0,
+            Namers::Several => true,
+        }
+    }
+
+    // There is one.
+    fn are_some(self) -> bool
+        ensures { result ≡ are_some self }
+    {
+        match self {
+            Namers::Nobody => false,
+            Namers::One(_) | Namers::Several => true,
+        }
+    }
+}
+
+// Marks a word as named by the unit, if there is such a word.
+fn mark_word(word: WordAddr, unit: UnitId, marks: &mut [Namers])
+    ensures { marks.new ≡ marked_at word.0 unit marks.old }
+{
+    let at = word.0 as usize;
+    if let Some(mark) = marks.get(at) {
+        let more = mark.and(unit);
+        marks[at] = more;
+    }
+}
+
+// Marks the word that the entry names, if it names one.
+fn mark_entry(entry: &Entry, marks: &mut [Namers])
+    ensures { marks.new ≡ marked entry.now marks.old }
+{
+    if let Some(word) = entry.addr {
+        mark_word(word, entry.unit, marks);
+    }
+}
+
+// Marks the words that the entries name.
+fn mark_entries(entries: &[Entry], marks: &mut [Namers])
+    requires none { marks.old ≡ replicate (length marks.old) Nobody }
+    ensures { IsMarked entries.now (length marks.old) marks.new }
+{
+    for entry in entries {
+        mark_entry(entry, marks);
+    }
+}
+
+// Adds a word to a list, if it is named.
+fn push_named(word: WordAddr, by: Namers, named: &mut Vec<Named>) -> Result<(), ReportError>
+    ensures list { OnOk result (named.new.items ≡ named.old.items ++ named_by word.0 by) }
+    ensures err { IfErr result (λ e. e ≡ Memory) }
+{
+    if by.are_some() {
+        named.push(Named { word, by })?;
+    }
+    Ok(())
+}
+
+// The words that are marked, in their order.
+fn list_marked(alloc: Global, marks: &[Namers]) -> Result<Vec<Named>, ReportError>
+    requires few { length marks.now < 2 ^ 32 }
+    ensures named { IfOk result (λ named. named.items ≡ flat_map (named_at marks.now) (range_with_len 0 (length marks.now))) }
+    ensures err { IfErr result (λ e. e ≡ Memory) }
+{
+    let mut named = Vec::new(alloc);
+    for word in 0..marks.len() {
+        push_named(WordAddr(word as u32), marks[word], &mut named)?;
+    }
+    Ok(named)
+}
+
+/// The words below this one that the entries name, in their order.
+///
+/// Errors: [`ReportError::Memory`].
+pub(crate) fn named_words(
+    alloc: Global,
+    entries: &[Entry],
+    words: u32,
+) -> Result<Vec<Named>, ReportError>
+    ensures named { IfOk result (λ named. AreNamed entries.now words named.items) }
+    ensures err { IfErr result (λ e. e ≡ Memory) }
+{
+    let mut marks = vec![in alloc; Namers::Nobody; words as usize]?;
+    mark_entries(entries, &mut marks);
+    list_marked(alloc, &marks)
+}
