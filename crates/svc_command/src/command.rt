@@ -1,446 +1,164 @@
-//! The command line, as `clap` reads it: its subcommands, arguments and options, and their help.
+//! The command line, as `clap` reads it: its subcommands and their arguments.
 
+use crate::arguments::{
+    AT, Argument, BURST, BY, COUNT, EVENTS, EVENTS_FILE, FROM, HEADER, IMAGE, MADE_IMAGE, PICTURE, ROW,
+    ROW_OF_PROFILE, SCHEDULE, SEED, SETS, TASKS, TEXT, TRACE, TRACE_FILE, TURNS, Takes, UNITS, WAYS,
+};
+use crate::helps::{
+    ABOUT, ASSEMBLE, CHECK, DRAW, FAULTS, LIST, PROFILE, RUN, SCRIPT, SEQ, SHOW, STATUSES,
+};
 use clap::{Arg, ArgAction, Command};
 use std::alloc::{AllocError, Global};
-use svc_base::limits::MAX_BURST_TURNS;
 use svc_program::VERSION;
 
-/// The greatest number of tasks that may be asked of the plain runner.
-const MAX_TASKS: i64 = 1_000_000;
+// A subcommand.
+#[derive(Clone, Copy)]
+struct Subcommand {
+    name: &'static str,
+    // What it does, in a line.
+    about: &'static str,
+    // Its help.
+    help: &'static str,
+    arguments: &'static [Argument],
+}
 
-/// The orders of a schedule, by their names.
-const ORDERS: [&str; 4] = ["rotate", "oldest", "youngest", "random"];
-
-/// The tables of a profile, by their names.
-const TABLES: [&str; 3] = ["task", "unit", "word"];
-
-const ABOUT: &str =
-    "Simulates processing units that run the tasks of one sequential program at once, over caches that
-keep speculative versions of its data.
-
-The program is an image: its instructions (RV32I), its data, and the entries at which its run is cut
-into tasks. A run prints a summary, one row of two fields a line:
-
-  out,W      a word that the program put out, in order
-  tasks,K    how many tasks were done, from the first on
-  exit,C     the program exited with this code; or
-  trap,T     its last task trapped with this number; or
-  full,E     no more events were allowed, and the task at this address was next; or
-  open,E     the run could go on: the tasks or turns that were asked for are spent, and the task at
-             this address is next
-
-Without any words, svcsim runs an image of one task that it brings along.";
-
-const STATUSES: &str =
-    "Exit status: 0 where the image's program came to its exit, or a trace is sound; 2 at any other ending;
-and 1 at a fault, which standard error names.";
-
-// What stands at the end of the whole program's help: the statuses and each fault.
-const FAULTS: &str =
-    "Exit status: 0 where the image's program came to its exit, or a trace is sound; 2 at any other ending;
-and 1 at a fault, which standard error names in one line:
-
-  image fault 1   the image's file ends before its last field does
-  image fault 2   it doesn't begin with the letters SVCI, so it is no image
-  image fault 3   it is of another version than 1 and 2
-  image fault 4   a count is out of range: 1 to 1024 entries; 1 to 65536 text words, data words and turns;
-                  at most as many read-only words as data words
-  image fault 5   an entry is not above the one before it
-  image fault 6   an entry is not a multiple of 4 within the text
-  image fault 7   the start is none of the entries
-  image fault 8   bytes follow the last data word
-  image fault 9   memory was refused for an image that has no other fault
-  config fault 1  --units is out of range
-  config fault 2  --sets is out of range, or no power of two
-  config fault 3  --ways is out of range
-  config fault 4  --events is out of range
-  config fault 5  --turns is out of range
-  plain fault 1   memory was refused for the plain runner
-  open fault 1    memory was refused for the machine of a script
-  run fault 1     memory was refused for a run
-  run fault 2     a thread could not be started
-  run fault 3, 4  a mistake of svcsim itself: please tell us
-  report fault 1  memory was refused for a text or its entries
-  report fault 2  standard output could not be written
-  report fault 3  a script or trace could not be read to its end
-  report fault 4 row R column C
-                  a trace's first bad row and its first bad column, counted from 1 with the header;
-                  column 0 where the number of fields is wrong
-  script fault row R column C
-                  a script's, likewise
-  trace fault 1 at entry 0
-                  memory was refused for the replay of a trace
-  trace fault 2 at entry I
-                  the event of this entry, counted from 0, is refused there, or the entry lacks a number
-  trace fault 3 at entry I
-                  the event of this entry is answered otherwise there
-  file fault      a file could not be read or written, a trace has fewer entries than --at or --from says, or
-                  memory was refused elsewhere";
-
-const RUN: &str = "Runs an image on the simulated machine, and prints the summary.
-
-The machine has units with private caches. A task is assigned to a unit, takes its turns in bursts, and
-is committed when it is the oldest and has ended. Each of these is one event. The summary is that of the
-committed tasks. After it stand counts of the events: of each kind, of each supplier of a word that was
-read, and of each cause for which tasks were squashed.
-
-With --row all this is one row of a table, without the words put out: the label, the tasks, the word and
-the number of the ending, and the counts. So the rows of many runs join, of which one has --header.
-
-Each unit runs in a thread of its own, so runs differ. By a schedule all units run in one thread, a step
-after another, and the same options give the same run. A step makes one event: the units are asked in
-order, and the first that can do what is next for it does. Then the turns that are spent are steps.
-
-Example: svcsim run sum.svci --units 8 --schedule oldest --row 8,oldest";
-
-const SEQ: &str = "Runs an image's tasks one after another on plain memory, and prints the summary.
-
-There are no units, caches or events. This is what any run of the same image has to agree with.
-
-Example: svcsim seq sum.svci --tasks 1000000";
-
-const SCRIPT: &str =
-    "Applies the events of a script to a machine in their order, and prints a line for each, and then the
-summary.
-
-A script is a CSV text with the header kind,unit,arg. Its rows are:
-
-  assign,U,E    begins a task on unit U at the entry E
-  submit,U,T    takes U's task on by at most T turns (and 63), and submits that burst
-  replace,U,A   takes the line of data word A out of U's cache
-  cancel,U,     squashes U's task and all after it
-  commit,U,     commits the oldest task; U asks for it
-  take,U,T      takes U's task on, and keeps that burst, so that it can be submitted late
-  give,U,       submits the burst that is kept for U
-
-An accepted event prints its row of a trace, a refused one refused,N with the number of the refusal. A
-burst that is kept prints taken,L,A: its local turns, and 1 where it asks for the bus, else 0. Where there
-is nothing to keep or to give, none is printed.
-
-Example: svcsim script sum.svci sum.events.csv --units 2";
-
-const CHECK: &str = "Replays a trace from a machine before any event, and compares each of its rows.
-
-It prints sound,N for the N rows of a sound trace. Else it names the first faulty row, counted from 0, as
-trace fault K at entry I. K is 1 where memory ran out, 2 where the row's event is refused there, and 3
-where the event is answered otherwise. Give the options that the trace was made with.
-
-Example: svcsim check sum.svci sum.csv --units 8";
-
-const PROFILE: &str =
-    "Replays a trace as check does, and prints what its speculation cost: rows of a name and a count.
-
-It prints how many events and tasks there were, and how many tasks were committed, squashed for each cause,
-and are active still; the turns, loads and stores of committed, of squashed and of active tasks; how many
-reads each supplier served; and how many lines were replaced. Of a faulty trace it tells the first fault,
-as check does, and no count. Give the options that the trace was made with.
-
-With --by it prints a table instead, with a row for each task that was begun, squashed ones too, for
-each unit, or for each word of data that was touched. With --row it prints the counts as one row of a table,
-after a label, so that the rows of many traces join.
-
-Example: svcsim profile sum.svci sum.csv --by task";
-
-const SHOW: &str =
-    "Replays a trace as check does, and prints the machine after its last entry, or with --at N after its
-first N entries. Its rows, in this order:
-
-  at,N                   how many entries lead to it
-  tasks,K                how many tasks were committed
-  due,E                  the entry of the next task to commit; empty once the run has stopped
-  guess,E                the entry at which the next assignment should begin; empty once it has stopped
-  exit,C or another      how the run stands, as in a summary
-  task,J,U,E,T,STATE     an active task, oldest first: its number, its unit, the entry at which it began, and
-                         its turns so far. It is running, or has ended: next, exit or trap
-  line,U,A,V,BITS        a valid line of unit U, by unit and then word: data word A, its value, and the bits
-                         that are set of VSLCT: valid, stored, loaded, committed, stale
-  spill,A,V              the oldest task's version of a word whose line was replaced
-  memory,A,C,B           a word that is in a line or spilled: what the committed tasks left in it, and what
-                         memory itself holds
-
-Of a faulty trace it tells the first fault, as check does, and no row. N past the last entry is a file
-fault. Give the options that the trace was made with.
-
-Example: svcsim show sum.svci sum.csv --at 4";
-
-const DRAW: &str =
-    "Replays a trace as check does, and saves a picture of it: one SVG file, which any browser shows.
-
-A lane is a unit, and time goes to the right, an entry of the trace after another. A bar is a task, from its
-assignment to its commit or squash, and its filling tells which. Marks are loads, stores and words put out;
-a thin arrow goes from the store of a version to a read that was given it, and a bold one from a store to
-the read that it found too early, for which a task was squashed. Held over a mark, the pointer shows its
-row of the trace. Of a faulty trace it tells the first fault, as check does, and saves nothing. Give the
-options that the trace was made with.
-
-Nothing is printed. The time that a picture takes grows as the square of the entries that it shows.
-
-Example: svcsim draw sum.svci sum.csv sum.svg --from 100 --count 200";
-
-const ASSEMBLE: &str = "Assembles a text of RV32I instructions, and saves the image.
-
-The text is written as for GNU's assembler: labels, instructions and their pseudo-instructions, and data in
-sections, as numbers, strings and zeros. Directives say what an image has besides:
-
-  .svc_entry          the next instruction begins a task (.svc_entry N: of at most N turns)
-  .svc_start LABEL    the first task; without it, the first entry
-  .svc_limit N        the most turns of a task; without it, 65536
-  .svc_register xN,V  the value that a register has at the start of each task; without it, 0
-  .svc_readonly       the data so far is read-only
-  .svc_version N      the version of the image's format: 1, or 2 where a directive needs it
-
-The first fault is told as FILE:LINE:COLUMN with what was found there and what is expected, and no file is
-written.
-
-Example: svcsim assemble sum.s sum.svci";
-
-const LIST: &str =
-    "Prints an image as assembly, from which assemble makes the same image, byte for byte.
-
-Each entry, and each word to which a branch or a jump leads, has a label with its address. Behind each word
-a comment tells its address, and behind one of the program its bits too.
-
-Example: svcsim list sum.svci";
+const SUBCOMMANDS: [Subcommand; 9] = [
+    Subcommand {
+        name: "run",
+        about: "Runs an image on the simulated machine, and prints the summary",
+        help: RUN,
+        arguments: &[
+            IMAGE, TRACE, ROW, HEADER, SCHEDULE, SEED, BURST, UNITS, SETS, WAYS, EVENTS, TURNS,
+        ],
+    },
+    Subcommand {
+        name: "seq",
+        about: "Runs an image's tasks one after another on plain memory, and prints the summary",
+        help: SEQ,
+        arguments: &[IMAGE, TASKS],
+    },
+    Subcommand {
+        name: "script",
+        about: "Applies the events of a script, and prints a line for each, and the summary",
+        help: SCRIPT,
+        arguments: &[IMAGE, EVENTS_FILE, UNITS, SETS, WAYS, EVENTS, TURNS],
+    },
+    Subcommand {
+        name: "check",
+        about: "Replays a trace, and says whether it is sound",
+        help: CHECK,
+        arguments: &[IMAGE, TRACE_FILE, UNITS, SETS, WAYS, EVENTS, TURNS],
+    },
+    Subcommand {
+        name: "profile",
+        about: "Replays a trace, and counts what its speculation cost",
+        help: PROFILE,
+        arguments: &[
+            IMAGE,
+            TRACE_FILE,
+            BY,
+            ROW_OF_PROFILE,
+            HEADER,
+            UNITS,
+            SETS,
+            WAYS,
+            EVENTS,
+            TURNS,
+        ],
+    },
+    Subcommand {
+        name: "show",
+        about: "Replays a trace, and shows the machine to which it leads",
+        help: SHOW,
+        arguments: &[IMAGE, TRACE_FILE, AT, UNITS, SETS, WAYS, EVENTS, TURNS],
+    },
+    Subcommand {
+        name: "draw",
+        about: "Replays a trace, and saves a picture of it",
+        help: DRAW,
+        arguments: &[
+            IMAGE, TRACE_FILE, PICTURE, FROM, COUNT, UNITS, SETS, WAYS, EVENTS, TURNS,
+        ],
+    },
+    Subcommand {
+        name: "assemble",
+        about: "Assembles a text, and saves the image",
+        help: ASSEMBLE,
+        arguments: &[TEXT, MADE_IMAGE],
+    },
+    Subcommand {
+        name: "list",
+        about: "Prints an image as assembly",
+        help: LIST,
+        arguments: &[IMAGE],
+    },
+];
 
 /// The whole command line.
 pub fn command<'a>(alloc: Global) -> Result<Command<'a>, AllocError> {
-    Command::new(alloc, "svcsim")
+    let mut command = Command::new(alloc, "svcsim")
         .bin_name("svcsim")?
         .version(VERSION)
         .about("Simulates a multiprocessor with speculative versioning caches")
         .long_about(ABOUT)
         .after_help(STATUSES)
         .after_long_help(FAULTS)
-        .subcommand_required(true)
-        .subcommand(run(alloc)?)?
-        .subcommand(sequential(alloc)?)?
-        .subcommand(script(alloc)?)?
-        .subcommand(check(alloc)?)?
-        .subcommand(profile(alloc)?)?
-        .subcommand(show(alloc)?)?
-        .subcommand(draw(alloc)?)?
-        .subcommand(assemble(alloc)?)?
-        .subcommand(list(alloc)?)
+        .subcommand_required(true);
+    for subcommand in &SUBCOMMANDS {
+        command = command.subcommand(described(alloc, subcommand)?)?;
+    }
+    Ok(command)
 }
 
-// `run`: the simulator.
-fn run<'a>(alloc: Global) -> Result<Command<'a>, AllocError> {
-    let trace = Arg::new(alloc, "trace")
-        .long("trace")
-        .value_name("FILE")
+// The subcommand, as the parser has it.
+fn described<'a>(alloc: Global, subcommand: &Subcommand) -> Result<Command<'a>, AllocError> {
+    let mut command = Command::new(alloc, subcommand.name)
+        .about(subcommand.about)
+        .long_about(subcommand.help)
+        .after_help(STATUSES);
+    for argument in subcommand.arguments {
+        command = command.arg(given(alloc, argument)?)?;
+    }
+    Ok(command)
+}
+
+// The argument, as the parser has it.
+fn given<'a>(alloc: Global, argument: &Argument) -> Result<Arg<'a>, AllocError> {
+    let mut arg = taking(alloc, argument).help(argument.help);
+    if let Some(value) = argument.default {
+        arg = arg.default_value(value);
+    }
+    if let Some(name) = argument.needs {
+        arg = arg.requires_arg(name)?;
+    }
+    if let Some(name) = argument.excludes {
+        arg = arg.conflicts_with(name)?;
+    }
+    Ok(arg)
+}
+
+// An argument that takes what this one takes.
+fn taking<'a>(alloc: Global, argument: &Argument) -> Arg<'a> {
+    match argument.takes {
+        Takes::File => Arg::new(alloc, argument.name)
+            .required(true)
+            .action(ArgAction::Set),
+        Takes::Nothing => Arg::new(alloc, argument.name)
+            .long(argument.name)
+            .action(ArgAction::SetTrue),
+        Takes::Word => option(alloc, argument),
+        Takes::Name(names) => option(alloc, argument).value_parser(names),
+        Takes::Number(least, most) => option(alloc, argument)
+            .value_parser(clap::value_parser!(u32).range(i64::from(least)..=i64::from(most))),
+        Takes::Index => option(alloc, argument).value_parser(clap::value_parser!(u64)),
+    }
+}
+
+// An option that takes a value.
+fn option<'a>(alloc: Global, argument: &Argument) -> Arg<'a> {
+    Arg::new(alloc, argument.name)
+        .long(argument.name)
+        .value_name(argument.value)
+        .required(argument.is_required)
         .action(ArgAction::Set)
-        .help("Saves the trace in this file: a CSV text with a row for each event");
-    let command = Command::new(alloc, "run")
-        .about("Runs an image on the simulated machine, and prints the summary")
-        .long_about(RUN)
-        .after_help(STATUSES)
-        .arg(image(alloc))?
-        .arg(trace)?
-        .arg(row(alloc))?
-        .arg(header(alloc)?)?;
-    with_configuration(alloc, with_schedule(alloc, command)?)
-}
-
-// `script`: the simulator, one given event after another.
-fn script<'a>(alloc: Global) -> Result<Command<'a>, AllocError> {
-    let command = Command::new(alloc, "script")
-        .about("Applies the events of a script, and prints a line for each, and the summary")
-        .long_about(SCRIPT)
-        .after_help(STATUSES)
-        .arg(image(alloc))?
-        .arg(file(alloc, "EVENTS").help("The script's file"))?;
-    with_configuration(alloc, command)
-}
-
-// `check`: a trace, replayed.
-fn check<'a>(alloc: Global) -> Result<Command<'a>, AllocError> {
-    let command = Command::new(alloc, "check")
-        .about("Replays a trace, and says whether it is sound")
-        .long_about(CHECK)
-        .after_help(STATUSES)
-        .arg(image(alloc))?
-        .arg(file(alloc, "TRACE").help("The trace's file"))?;
-    with_configuration(alloc, command)
-}
-
-// `profile`: what the speculation of a trace cost.
-fn profile<'a>(alloc: Global) -> Result<Command<'a>, AllocError> {
-    let by = Arg::new(alloc, "by")
-        .long("by")
-        .value_name("TABLE")
-        .action(ArgAction::Set)
-        .value_parser(TABLES.as_slice())
-        .help(
-            "Prints a table instead, with a row for each task that was begun, for each unit, or for each word that was touched",
-        );
-    let command = Command::new(alloc, "profile")
-        .about("Replays a trace, and counts what its speculation cost")
-        .long_about(PROFILE)
-        .after_help(STATUSES)
-        .arg(image(alloc))?
-        .arg(file(alloc, "TRACE").help("The trace's file"))?
-        .arg(by)?
-        .arg(row(alloc).conflicts_with("by")?)?
-        .arg(header(alloc)?)?;
-    with_configuration(alloc, command)
-}
-
-// `show`: the machine where a trace leads.
-fn show<'a>(alloc: Global) -> Result<Command<'a>, AllocError> {
-    let at = Arg::new(alloc, "at")
-        .long("at")
-        .value_name("N")
-        .action(ArgAction::Set)
-        .value_parser(clap::value_parser!(u64))
-        .help(
-            "Shows the machine after so many of the trace's entries, and after all where none is given",
-        );
-    let command = Command::new(alloc, "show")
-        .about("Replays a trace, and shows the machine to which it leads")
-        .long_about(SHOW)
-        .after_help(STATUSES)
-        .arg(image(alloc))?
-        .arg(file(alloc, "TRACE").help("The trace's file"))?
-        .arg(at)?;
-    with_configuration(alloc, command)
-}
-
-// `draw`: a picture of a trace.
-fn draw<'a>(alloc: Global) -> Result<Command<'a>, AllocError> {
-    let from = number(alloc, "from", "0").help("The first entry that is shown, counted from 0");
-    let count = Arg::new(alloc, "count")
-        .long("count")
-        .value_name("N")
-        .action(ArgAction::Set)
-        .value_parser(clap::value_parser!(u32).range(1..))
-        .default_value("400")
-        .help("How many entries are shown, as far as there are any: 1 to 4294967295");
-    let command = Command::new(alloc, "draw")
-        .about("Replays a trace, and saves a picture of it")
-        .long_about(DRAW)
-        .after_help(STATUSES)
-        .arg(image(alloc))?
-        .arg(file(alloc, "TRACE").help("The trace's file"))?
-        .arg(file(alloc, "FILE.svg").help("The file that the picture is saved in"))?
-        .arg(from)?
-        .arg(count)?;
-    with_configuration(alloc, command)
-}
-
-// `assemble`: a text to an image.
-fn assemble<'a>(alloc: Global) -> Result<Command<'a>, AllocError> {
-    Command::new(alloc, "assemble")
-        .about("Assembles a text, and saves the image")
-        .long_about(ASSEMBLE)
-        .after_help(STATUSES)
-        .arg(file(alloc, "FILE").help("The text's file"))?
-        .arg(file(alloc, "IMAGE").help("The file that the image is saved in"))
-}
-
-// `list`: an image as a text.
-fn list<'a>(alloc: Global) -> Result<Command<'a>, AllocError> {
-    Command::new(alloc, "list")
-        .about("Prints an image as assembly")
-        .long_about(LIST)
-        .after_help(STATUSES)
-        .arg(image(alloc))
-}
-
-// `seq`: the plain runner.
-fn sequential<'a>(alloc: Global) -> Result<Command<'a>, AllocError> {
-    let tasks = Arg::new(alloc, "tasks")
-        .long("tasks")
-        .value_name("K")
-        .required(true)
-        .action(ArgAction::Set)
-        .value_parser(clap::value_parser!(u32).range(..=MAX_TASKS))
-        .help("How many tasks are run at most, from the first on: 0 to 1000000");
-    Command::new(alloc, "seq")
-        .about("Runs an image's tasks one after another on plain memory, and prints the summary")
-        .long_about(SEQ)
-        .after_help(STATUSES)
-        .arg(image(alloc))?
-        .arg(tasks)
-}
-
-// The image's file.
-fn image<'a>(alloc: Global) -> Arg<'a> {
-    file(alloc, "IMAGE").help("The image's file")
-}
-
-// A file that has to be named.
-fn file<'a>(alloc: Global, name: &'a str) -> Arg<'a> {
-    Arg::new(alloc, name).required(true).action(ArgAction::Set)
-}
-
-// The label of a row in place of the rows.
-fn row<'a>(alloc: Global) -> Arg<'a> {
-    Arg::new(alloc, "row")
-        .long("row")
-        .value_name("LABEL")
-        .action(ArgAction::Set)
-        .help("Prints one row of a table instead, which begins with this label")
-}
-
-// The names of that row's columns.
-fn header<'a>(alloc: Global) -> Result<Arg<'a>, AllocError> {
-    let header = Arg::new(alloc, "header")
-        .long("header")
-        .action(ArgAction::SetTrue)
-        .requires_arg("row")?
-        .help("Prints the names of the columns before the row");
-    Ok(header)
-}
-
-// A command with the options of a schedule.
-fn with_schedule<'a>(alloc: Global, command: Command<'a>) -> Result<Command<'a>, AllocError> {
-    let schedule = Arg::new(alloc, "schedule")
-        .long("schedule")
-        .value_name("ORDER")
-        .action(ArgAction::Set)
-        .value_parser(ORDERS.as_slice())
-        .help("Runs all units in one thread, in this order, so that the run can be repeated");
-    let seed = Arg::new(alloc, "seed")
-        .long("seed")
-        .value_name("N")
-        .action(ArgAction::Set)
-        .value_parser(clap::value_parser!(u32))
-        .requires_arg("schedule")?
-        .help("The seed of a random order: 0 to 4294967295, and 0 where none is given");
-    let burst = Arg::new(alloc, "burst")
-        .long("burst")
-        .value_name("N")
-        .action(ArgAction::Set)
-        .value_parser(clap::value_parser!(u32).range(1..=MAX_BURST_TURNS as i64))
-        .requires_arg("schedule")?
-        .help(
-            "The most turns of a unit in a step of a schedule: 1 to 63, and 63 where none is given",
-        );
-    command.arg(schedule)?.arg(seed)?.arg(burst)
-}
-
-// A command with an option for each number of a configuration.
-fn with_configuration<'a>(alloc: Global, command: Command<'a>) -> Result<Command<'a>, AllocError> {
-    let units = "How many processing units there are: 1 to 16";
-    let sets = "How many sets each unit's cache has: a power of two, 1 to 256";
-    let ways = "How many lines a set holds: 1 to 4";
-    let events = "How many events are accepted at most: 1 to 1000000";
-    let turns =
-        "How many turns each unit takes at most, with an event or two in each: 1 to 10000000";
-    command
-        .arg(number(alloc, "units", "4").help(units))?
-        .arg(number(alloc, "sets", "16").help(sets))?
-        .arg(number(alloc, "ways", "2").help(ways))?
-        .arg(number(alloc, "events", "100000").help(events))?
-        .arg(number(alloc, "turns", "1000000").help(turns))
-}
-
-// An option that takes a number.
-fn number<'a>(alloc: Global, name: &'a str, default: &'a str) -> Arg<'a> {
-    Arg::new(alloc, name)
-        .long(name)
-        .value_name("N")
-        .action(ArgAction::Set)
-        .value_parser(clap::value_parser!(u32))
-        .default_value(default)
 }

@@ -1,0 +1,225 @@
+//! The arguments of the subcommands.
+
+use svc_base::limits::MAX_BURST_TURNS;
+
+/// The greatest number of tasks that may be asked of the plain runner.
+const MAX_TASKS: u32 = 1_000_000;
+
+/// What an argument takes.
+#[derive(Clone, Copy)]
+pub(crate) enum Takes {
+    /// A file, by its place among the words. It has to be named.
+    File,
+    /// Any word.
+    Word,
+    /// One of these names.
+    Name(&'static [&'static str]),
+    /// A number from the first of these to the second.
+    Number(u32, u32),
+    /// A number of 64 bits.
+    Index,
+    /// Nothing: it is given or not.
+    Nothing,
+}
+
+/// An argument of a subcommand.
+#[derive(Clone, Copy)]
+pub(crate) struct Argument {
+    /// Its name: of an option the word after `--`, of a file what help calls it.
+    pub(crate) name: &'static str,
+    /// What it takes.
+    pub(crate) takes: Takes,
+    /// What help calls its value.
+    pub(crate) value: &'static str,
+    /// Its value where none is given.
+    pub(crate) default: Option<&'static str>,
+    /// Whether it has to be given.
+    pub(crate) is_required: bool,
+    /// The option without which it is a mistake.
+    pub(crate) needs: Option<&'static str>,
+    /// The option beside which it is a mistake.
+    pub(crate) excludes: Option<&'static str>,
+    /// Its line of help.
+    pub(crate) help: &'static str,
+}
+
+// An option that takes a number, and may be left out.
+const OPTION: Argument = Argument {
+    name: "",
+    takes: Takes::Number(0, u32::MAX),
+    value: "N",
+    default: None,
+    is_required: false,
+    needs: None,
+    excludes: None,
+    help: "",
+};
+
+// A file.
+const FILE: Argument = Argument {
+    takes: Takes::File,
+    ..OPTION
+};
+
+pub(crate) const IMAGE: Argument = Argument {
+    name: "IMAGE",
+    help: "The image's file",
+    ..FILE
+};
+
+pub(crate) const EVENTS_FILE: Argument = Argument {
+    name: "EVENTS",
+    help: "The script's file",
+    ..FILE
+};
+
+pub(crate) const TRACE_FILE: Argument = Argument {
+    name: "TRACE",
+    help: "The trace's file",
+    ..FILE
+};
+
+pub(crate) const PICTURE: Argument = Argument {
+    name: "FILE.svg",
+    help: "The file that the picture is saved in",
+    ..FILE
+};
+
+pub(crate) const TEXT: Argument = Argument {
+    name: "FILE",
+    help: "The text's file",
+    ..FILE
+};
+
+pub(crate) const MADE_IMAGE: Argument = Argument {
+    name: "IMAGE",
+    help: "The file that the image is saved in",
+    ..FILE
+};
+
+pub(crate) const TRACE: Argument = Argument {
+    name: "trace",
+    takes: Takes::Word,
+    value: "FILE",
+    help: "Saves the trace in this file: a CSV text with a row for each event",
+    ..OPTION
+};
+
+pub(crate) const ROW: Argument = Argument {
+    name: "row",
+    takes: Takes::Word,
+    value: "LABEL",
+    help: "Prints one row of a table instead, which begins with this label",
+    ..OPTION
+};
+
+// That row beside the tables of a profile.
+pub(crate) const ROW_OF_PROFILE: Argument = Argument {
+    excludes: Some("by"),
+    ..ROW
+};
+
+pub(crate) const HEADER: Argument = Argument {
+    name: "header",
+    takes: Takes::Nothing,
+    needs: Some("row"),
+    help: "Prints the names of the columns before the row",
+    ..OPTION
+};
+
+pub(crate) const BY: Argument = Argument {
+    name: "by",
+    takes: Takes::Name(&["task", "unit", "word"]),
+    value: "TABLE",
+    help: "Prints a table instead, with a row for each task that was begun, for each unit, or for each word that was touched",
+    ..OPTION
+};
+
+pub(crate) const AT: Argument = Argument {
+    name: "at",
+    takes: Takes::Index,
+    help: "Shows the machine after so many of the trace's entries, and after all where none is given",
+    ..OPTION
+};
+
+pub(crate) const FROM: Argument = Argument {
+    name: "from",
+    default: Some("0"),
+    help: "The first entry that is shown, counted from 0",
+    ..OPTION
+};
+
+pub(crate) const COUNT: Argument = Argument {
+    name: "count",
+    takes: Takes::Number(1, u32::MAX),
+    default: Some("400"),
+    help: "How many entries are shown, as far as there are any: 1 to 4294967295",
+    ..OPTION
+};
+
+pub(crate) const TASKS: Argument = Argument {
+    name: "tasks",
+    takes: Takes::Number(0, MAX_TASKS),
+    value: "K",
+    is_required: true,
+    help: "How many tasks are run at most, from the first on: 0 to 1000000",
+    ..OPTION
+};
+
+pub(crate) const SCHEDULE: Argument = Argument {
+    name: "schedule",
+    takes: Takes::Name(&["rotate", "oldest", "youngest", "random"]),
+    value: "ORDER",
+    help: "Runs all units in one thread, in this order, so that the run can be repeated",
+    ..OPTION
+};
+
+pub(crate) const SEED: Argument = Argument {
+    name: "seed",
+    needs: Some("schedule"),
+    help: "The seed of a random order: 0 to 4294967295, and 0 where none is given",
+    ..OPTION
+};
+
+pub(crate) const BURST: Argument = Argument {
+    name: "burst",
+    takes: Takes::Number(1, MAX_BURST_TURNS),
+    needs: Some("schedule"),
+    help: "The most turns of a unit in a step of a schedule: 1 to 63, and 63 where none is given",
+    ..OPTION
+};
+
+pub(crate) const UNITS: Argument = Argument {
+    name: "units",
+    default: Some("4"),
+    help: "How many processing units there are: 1 to 16",
+    ..OPTION
+};
+
+pub(crate) const SETS: Argument = Argument {
+    name: "sets",
+    default: Some("16"),
+    help: "How many sets each unit's cache has: a power of two, 1 to 256",
+    ..OPTION
+};
+
+pub(crate) const WAYS: Argument = Argument {
+    name: "ways",
+    default: Some("2"),
+    help: "How many lines a set holds: 1 to 4",
+    ..OPTION
+};
+
+pub(crate) const EVENTS: Argument = Argument {
+    name: "events",
+    default: Some("100000"),
+    help: "How many events are accepted at most: 1 to 1000000",
+    ..OPTION
+};
+
+pub(crate) const TURNS: Argument = Argument {
+    name: "turns",
+    default: Some("1000000"),
+    help: "How many turns each unit takes at most, with an event or two in each: 1 to 10000000",
+    ..OPTION
+};
