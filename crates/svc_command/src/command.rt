@@ -1,8 +1,9 @@
 //! The command line, as `clap` reads it: its subcommands and their arguments.
 
 use crate::arguments::{
-    AT, Argument, BURST, BY, COUNT, EVENTS, EVENTS_FILE, FROM, HEADER, IMAGE, MADE_IMAGE, PICTURE, ROW,
-    ROW_OF_PROFILE, SCHEDULE, SEED, SETS, TASKS, TEXT, TRACE, TRACE_FILE, TURNS, Takes, UNITS, WAYS,
+    AT, Argument, BURST, BY, COUNT, EVENTS, EVENTS_FILE, FROM, HEADER, IMAGE, MADE_IMAGE, PICTURE,
+    ROW, ROW_OF_PROFILE, SCHEDULE, SEED, SETS, TASKS, TEXT, TRACE, TRACE_FILE, TURNS, Takes, UNITS,
+    WAYS,
 };
 use crate::helps::{
     ABOUT, ASSEMBLE, CHECK, DRAW, FAULTS, LIST, PROFILE, RUN, SCRIPT, SEQ, SHOW, STATUSES,
@@ -148,8 +149,9 @@ fn taking<'a>(alloc: Global, argument: &Argument) -> Arg<'a> {
             .action(ArgAction::SetTrue),
         Takes::Word => option(alloc, argument),
         Takes::Name(names) => option(alloc, argument).value_parser(names),
-        Takes::Number(least, most) => option(alloc, argument)
-            .value_parser(clap::value_parser!(u32).range(i64::from(least)..=i64::from(most))),
+        Takes::Number(least, most) => option(alloc, argument).value_parser(clap::value_parser!(
+            u32
+        ).range(i64::from(least)..=i64::from(most))),
         Takes::Index => option(alloc, argument).value_parser(clap::value_parser!(u64)),
     }
 }

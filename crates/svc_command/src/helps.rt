@@ -83,7 +83,8 @@ order, and the first that can do what is next for it does. Then the turns that a
 Example: svcsim run sum.svci --units 8 --schedule oldest --row 8,oldest";
 
 /// The help of `seq`.
-pub(crate) const SEQ: &str = "Runs an image's tasks one after another on plain memory, and prints the summary.
+pub(crate) const SEQ: &str =
+    "Runs an image's tasks one after another on plain memory, and prints the summary.
 
 There are no units, caches or events. This is what any run of the same image has to agree with.
 
@@ -111,7 +112,8 @@ is nothing to keep or to give, none is printed.
 Example: svcsim script sum.svci sum.events.csv --units 2";
 
 /// The help of `check`.
-pub(crate) const CHECK: &str = "Replays a trace from a machine before any event, and compares each of its rows.
+pub(crate) const CHECK: &str =
+    "Replays a trace from a machine before any event, and compares each of its rows.
 
 It prints sound,N for the N rows of a sound trace. Else it names the first faulty row, counted from 0, as
 trace fault K at entry I. K is 1 where memory ran out, 2 where the row's event is refused there, and 3
