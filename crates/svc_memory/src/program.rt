@@ -4,7 +4,7 @@ ghost use Rattle.std.specs.Prelude.{◌≡◌, nat_eq, true, Ok, IfErr};
 ghost use Rattle.std.specs.List.{starts_with};
 
 use crate::attempt::{Attempt, Refused, ready};
-use crate::texts::{EVENTS, TRACE};
+use crate::texts::{EVENTS, TEXT, TRACE};
 use crate::wanted::{
     CHECK, LIST, PROFILE, PROFILE_BY_TASK, PROFILE_BY_UNIT, PROFILE_BY_WORD, PROFILE_ROW, RUN,
     RUN_ROW, SCHEDULE, SCRIPT, SEQ, SHOW, SHOW_AT,
@@ -34,7 +34,7 @@ impl Files for Samples {
             "p" => Ok(IMAGE.as_slice()),
             "events" => Ok(EVENTS.as_bytes()),
             "trace" => Ok(TRACE.as_bytes()),
-            "listing" => Ok(LIST.as_bytes()),
+            "text" => Ok(TEXT.as_bytes()),
             _ => Err(FileFault),
         }
     }
@@ -233,10 +233,10 @@ pub fn draw<R: Threads + Wait + Sync + AllocGlobal>(rt: &R) -> Attempt {
     asked(rt, request, "")
 }
 
-/// A listing is assembled, and its image is saved.
+/// A text is assembled, and its image is saved.
 pub fn assemble<R: Threads + Wait + Sync + AllocGlobal>(rt: &R) -> Attempt {
     let request = Request::Assemble {
-        text: "listing",
+        text: "text",
         image: "saved",
     };
     asked(rt, request, "")

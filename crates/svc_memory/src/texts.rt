@@ -56,6 +56,24 @@ cut-guess,0
 cut-cancel,0
 ";
 
+/// A program with each section, and with names and local labels of its own.
+pub const TEXT: &str = ".svc_register x2, 256
+.svc_entry
+1:
+auipc x5, %pcrel_hi(words)
+lw x10, %pcrel_lo(1b)(x5)
+.svc_entry 100
+addi x17, x0, 0
+ecall
+.rodata
+.byte 1
+.data
+words:
+.word 5, 6
+.bss
+.zero 8
+";
+
 // Room for any of these texts.
 const ROOM: usize = 1024;
 
