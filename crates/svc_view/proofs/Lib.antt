@@ -6,7 +6,6 @@ pub mod Buckets
 pub mod Begun
 pub mod Ordering
 pub mod Placed
-pub mod Undecided
 pub mod UnitRows
 pub mod FieldRows
 pub mod Adding

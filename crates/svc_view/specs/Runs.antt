@@ -1,5 +1,5 @@
 -- The tasks that a history begins: what each did, and what became of it.
-use Rattle.std.specs.Prelude.{ℕ, suc, ◌+◌, ◌==◌, nat_le, Bool, true, false, cond, not, ◌&&◌, ◌||◌, List, [], ◌∷◌, ◌++◌, map, length, Option, Some, None, unwrap_or, is_some}
+use Rattle.std.specs.Prelude.{ℕ, suc, ◌+◌, ◌==◌, nat_le, Bool, true, false, cond, not, ◌&&◌, List, [], ◌∷◌, ◌++◌, map, length, Option, Some, None, unwrap_or}
 use Rattle.std.specs.List.{filter}
 use Rattle.svc_history_laws.specs.declared.entry.Kind.{Kind}
 use Rattle.svc_history_laws.specs.declared.entry.Kind.TheVariants.{Assign, Submit, Replace, Cancel, Commit}
@@ -55,10 +55,6 @@ fate_after e r =
     cond (is_not_above e.first r.number) (fate_of e.cause)
     (cond (is_kind Commit e.kind && is_number e.word r.number) fate.Committed fate.Active)
 
--- the entry decides a fate only where it squashes tasks or commits one
-abbrev pub decides : Entry → Bool
-decides e = is_some e.first || is_kind Commit e.kind
-
 abbrev pub is_active : Fate → Bool
 is_active fate.Active = true
 is_active _ = false
@@ -79,10 +75,6 @@ ran e r =
       stores = r.stores + one_where (is_store e.reply);
     })
     r
-
--- an active task after an entry that decides no fate
-abbrev pub worked : Entry → TaskRun → TaskRun
-worked e r = record (ran e r) { last = None; fate = fate.Active }
 
 -- an active task after the entry at this index
 unfoldable pub after : (at : ℕ) → Entry → TaskRun → TaskRun

@@ -7,10 +7,10 @@ ghost use Rattle.svc_base.specs.declared.config.TheConstants.{MAX_EVENTS};
 ghost use Rattle.svc_history_laws.specs.Board.{commits};
 ghost use Rattle.svc_report.specs.declared.error.ReportError.TheVariants.{Memory};
 ghost use Rattle.svc_view.specs.Bounds.{AreFew, IsLight};
-ghost use Rattle.svc_view.specs.Runs.{after, begun, goes_on, is_settled, no_runs, runs_of, step, tasks_of, worked};
+ghost use Rattle.svc_view.specs.Runs.{after, begun, goes_on, is_settled, no_runs, runs_of, step, tasks_of};
 ghost use Rattle.svc_view.specs.Seen.{seen};
 
-use crate::task_run::{Fate, TaskRun, decides, turns_in};
+use crate::task_run::{Fate, TaskRun, turns_in};
 use std::alloc::Global;
 use std::mem;
 use svc_history_laws::{Entry, Kind};
@@ -64,34 +64,8 @@ fn commits_in(kind: Kind) -> u64
     }
 }
 
-// An entry that decides no fate, for each of the active tasks.
-fn work_on(active: &mut [TaskRun], entry: &Entry)
-    requires { AllByRecursion (IsLight MAX_EVENTS) active.old }
-    ensures { active.new ≡ map (worked entry.now) active.old }
-{
-    for run in active.iter_mut() {
-        run.work_on(entry);
-    }
-}
-
-// The entry at this index, for each of the active tasks. It says whether the fate of any of them is decided now. Few entries
-// decide any, and the others are taken on with less work.
+// The entry at this index, for each of the active tasks. It says whether the fate of any of them is decided now.
 fn go_on(active: &mut [TaskRun], at: u64, entry: &Entry) -> bool
-    requires few { at < MAX_EVENTS }
-    requires light { AllByRecursion (IsLight at) active.old }
-    ensures tasks { active.new ≡ map (after at entry.now) active.old }
-    ensures settled { result ≡ list_any is_settled active.new }
-{
-    if decides(entry) {
-        decide(active, at, entry)
-    } else {
-        work_on(active, entry);
-        false
-    }
-}
-
-// The same of any entry.
-fn decide(active: &mut [TaskRun], at: u64, entry: &Entry) -> bool
     requires few { at < MAX_EVENTS }
     requires light { AllByRecursion (IsLight at) active.old }
     ensures tasks { active.new ≡ map (after at entry.now) active.old }

@@ -1,10 +1,8 @@
 // A task that a history begins.
 
 ghost use Rattle.std.specs.Prelude.{◌≡◌, ◌+◌, ◌<◌, ◌^◌, None, Some, cond};
-ghost use Rattle.svc_history_laws.specs.declared.entry.Kind.TheVariants.{Commit};
-ghost use Rattle.svc_report.specs.Summary.{is_kind};
 ghost use Rattle.svc_view.specs.Bounds.{work};
-ghost use Rattle.svc_view.specs.Runs.{after, decides, ran, fate_after, fate_of, goes_on, is_active, is_load, is_not_above, is_number, is_store, is_submit_of, turns_in, worked};
+ghost use Rattle.svc_view.specs.Runs.{after, ran, fate_after, fate_of, goes_on, is_active, is_load, is_not_above, is_number, is_store, is_submit_of, turns_in};
 
 use svc_base::UnitId;
 use svc_history_laws::{CutKind, Entry, Kind, ReplyKind};
@@ -119,22 +117,6 @@ fn is_not_above(told: Option<u32>, number: u64) -> bool
     }
 }
 
-/// Whether the entry squashes tasks or commits one. No other entry decides a fate.
-pub(crate) fn decides(entry: &Entry) -> bool
-    ensures { result ≡ decides entry.now }
-{
-    entry.first.is_some() || is_commit(entry.kind)
-}
-
-fn is_commit(kind: Kind) -> bool
-    ensures { result ≡ is_kind Commit kind }
-{
-    match kind {
-        Kind::Commit => true,
-        Kind::Assign | Kind::Submit | Kind::Replace | Kind::Cancel => false,
-    }
-}
-
 // The entry that decided a fate, if it is decided.
 fn last_by(fate: Fate, at: u64) -> Option<u64>
     ensures { result ≡ cond (is_active fate) None (Some at) }
@@ -176,16 +158,6 @@ impl TaskRun {
             self.loads += u64::from(loads_in(entry));
             self.stores += u64::from(stores_in(entry));
         }
-    }
-
-    /// An entry that decides no fate: what the active task does by it.
-    pub(crate) fn work_on(&mut self, entry: &Entry)
-        requires { work self.old + 514 < 2 ^ 64 }
-        ensures { self.new ≡ worked entry.now self.old }
-    {
-        self.run_on(entry);
-        self.last = None;
-        self.fate = Fate::Active;
     }
 
     /// The entry at this index: what the active task does by it, and what becomes of the task.

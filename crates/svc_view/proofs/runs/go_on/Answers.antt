@@ -1,12 +1,14 @@
-use Rattle.std.proofs.Common.{◌∙◌, ap, sym}
-use Rattle.std.specs.List.{list_any}
-use Rattle.svc_view.specs.Runs.{is_settled}
-use Rattle.svc_view.proofs.Undecided.{all_worked, none_decided}
+use Rattle.svc_view.specs.Runs.{after}
+use Rattle.svc_view.proofs.Sorting.{in_place, one_settled}
 use Rattle.svc_view.proofs.runs.go_on.Goals as goal
 
-pub returns-else-decides-clause-tasks : goal.returns-else-decides-clause-tasks
-returns-else-decides-clause-tasks c =
-    c.work_on.ensures ∙ all_worked c.args.at c.args.entry.now (sym c.decides.ensures ∙ c.if-decides.false) c.args.active.now
-
-pub returns-else-decides-clause-settled : goal.returns-else-decides-clause-settled
-returns-else-decides-clause-settled c = sym (ap (list_any is_settled) c.work_on.ensures ∙ none_decided c.args.entry.now c.args.active.now)
+pub loop-run-preserved : goal.loop-run-preserved
+loop-run-preserved c =
+    let f = after c.args.at c.args.entry.now in
+    let old = c.args.active.now in
+    let now = c.loop-run.active in
+    let i = c.loop-run.run-index in (
+      in_place f old now i _ c.go_on.new.self c.loop-run-test.true c.loop-run.invariant.0 c.go_on.ensures,
+      one_settled f old now i _ c.go_on.new.self c.loop-run.settled _ c.loop-run-test.true c.loop-run.invariant.0 c.go_on.ensures c.is_active.ensures
+          c.loop-run.invariant.1,
+    )

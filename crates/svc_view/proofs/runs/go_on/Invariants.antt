@@ -1,7 +1,7 @@
 use Rattle.std.proofs.Common.{◌≡◌, ◌++◌, drop, map, take}
 use Rattle.std.specs.List.{list_any}
 use Rattle.svc_view.specs.Runs.{after, is_settled}
-use Rattle.svc_view.proofs.runs.decide.Given as goal
+use Rattle.svc_view.proofs.runs.go_on.Given as goal
 
 abbrev pub invariant-loop-run : goal.invariant-loop-run
 invariant-loop-run l =
