@@ -24,10 +24,14 @@ is_full_ending (ending.Open due) = false
 abbrev pub has_ended : MachineValue → Bool
 has_ended m = is_some (plain_seq m.image m.plain.commits).stopped || is_full m
 
--- a glance is refused exactly where there is no such unit
-abbrev pub IsUnitKnown : Config → UnitId → Result Glance Refusal → Type 0
+-- a glance or a move is refused exactly where there is no such unit
+abbrev pub IsUnitKnown : {A : Type 0} → Config → UnitId → Result A Refusal → Type 0
 IsUnitKnown config unit answer =
     MatchResult answer (λ _. unit.0 < config.units) (λ why. (why ≡ refusal.NoSuchUnit) × (config.units ≤ unit.0))
+
+-- what a unit sees of a machine
+abbrev pub seen : MachineValue → (unit : ℕ) → Glance
+seen m unit = record { ended = has_ended m; lease = lease_of m unit; is_head = runs_head m unit; guess = guess (program m.image) m.image.entries m.plain }
 
 -- the glance shows the machine as it stands
 pub record IsGlance (m : MachineValue) (unit : ℕ) (g : Glance) : Type 0 where

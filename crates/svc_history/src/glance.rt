@@ -1,6 +1,6 @@
 // What a unit sees of a recorder, and what it does next.
 
-ghost use Rattle.std.specs.Prelude.{◌≡◌};
+ghost use Rattle.std.specs.Prelude.{◌≡◌, option_map};
 ghost use Rattle.svc_history.specs.Moves.{next_move, told};
 
 use svc_core::Lease;
@@ -39,17 +39,30 @@ impl Glance {
     pub fn next_move(&self) -> Move<'_>
         ensures { told result ≡ next_move self.now }
     {
-        if self.ended {
-            return Move::Ended;
-        }
-        match &self.lease {
-            None => match self.guess {
-                Some(guess) => Move::Begin { guess },
-                None => Move::Wait,
-            },
-            Some(lease) if lease.core.is_running() => Move::RunOn(lease),
-            Some(_) if self.is_head => Move::Commit,
-            Some(_) => Move::Wait,
-        }
+        move_by(self.ended, self.lease.as_ref(), self.is_head, self.guess)
+    }
+}
+
+// What a unit does next, by each thing that it sees: the fields of a glance, with the lease lent.
+pub(crate) fn move_by(
+    ended: bool,
+    lease: Option<&Lease>,
+    is_head: bool,
+    guess: Option<u32>,
+) -> Move<'_>
+    ensures { let lease = option_map (λ lent. lent.now) lease in
+        told result ≡ next_move (record { ended = ended; lease = lease; is_head = is_head; guess = guess }) }
+{
+    if ended {
+        return Move::Ended;
+    }
+    match lease {
+        None => match guess {
+            Some(guess) => Move::Begin { guess },
+            None => Move::Wait,
+        },
+        Some(lease) if lease.core.is_running() => Move::RunOn(lease),
+        Some(_) if is_head => Move::Commit,
+        Some(_) => Move::Wait,
     }
 }

@@ -7,8 +7,9 @@ ghost use Rattle.svc_history_laws.specs.Board.{board};
 ghost use Rattle.svc_history.specs.Recorded.{IsCounted, IsLegal};
 ghost use Rattle.svc_history.specs.Applying.{IsApplied};
 ghost use Rattle.svc_history.specs.Glances.{IsGlance, IsUnitKnown, has_ended, is_full_ending};
+ghost use Rattle.svc_history.specs.Moves.{move_of, told};
 
-use crate::glance::Glance;
+use crate::glance::{Glance, Move, move_by};
 use crate::writing::{named, telling};
 use std::alloc::Global;
 use std::marker::Model;
@@ -130,9 +131,31 @@ impl Recorder {
         }
         Ok(Glance {
             ended: self.has_ended(),
-            lease: machine.lease(unit),
+            lease: machine.lease(unit).copied(),
             is_head: machine.is_head(unit),
             guess: machine.guess(),
         })
+    }
+
+    /// What the unit does next, by what [`Recorder::glance`] shows it. The lease is lent, so that nothing is copied.
+    ///
+    /// Errors: [`Refusal::NoSuchUnit`].
+    pub fn next_move(&self, unit: UnitId) -> Result<Move<'_>, Refusal>
+        ensures refused { IsUnitKnown self.now.machine.config unit result }
+        ensures moves { IfOk result (λ next. told next ≡ move_of self.now.machine unit.0) }
+        ensures legal { IsLegal self.now }
+    {
+        let _entries = &self.entries;
+        let machine = &self.machine;
+        let config = machine.config();
+        if u32::from(unit.0) >= config.units {
+            return Err(Refusal::NoSuchUnit);
+        }
+        Ok(move_by(
+            self.has_ended(),
+            machine.lease(unit),
+            machine.is_head(unit),
+            machine.guess(),
+        ))
     }
 }

@@ -10,7 +10,7 @@ ghost use Rattle.svc_history.specs.Faults.{IsFault, IsWrongThere};
 use crate::recorder::Recorder;
 use crate::same::is_same;
 use std::alloc::Global;
-use svc_base::{Config, WordAddr};
+use svc_base::{Config, UnitId, WordAddr};
 use svc_core::Burst;
 use svc_history_laws::{Entry, Kind};
 use svc_image::Image;
@@ -41,19 +41,25 @@ pub struct TraceFault {
     pub kind: TraceFaultKind,
 }
 
-// The burst that an entry of a submission names, where its machine stands; none where the entry lacks what that needs.
-fn replayed_burst(machine: &Machine, entry: &Entry) -> Option<Burst>
-    ensures replay { IfSome result (λ b.
-        ReplaysAs Kind.Submit machine.now.image machine.now.plain entry.now (Submit b)) }
+// Makes the burst that an entry of a submission names, where its machine stands, in the place of another one. None where
+// the entry lacks what that needs.
+fn make_burst(burst: &mut Burst, machine: &Machine, entry: &Entry) -> Option<()>
+    ensures replay { IfSome result (λ _.
+        ReplaysAs Kind.Submit machine.now.image machine.now.plain entry.now (Submit burst.new)) }
     ensures lacks { result ≡ None → Lacks Kind.Submit machine.now.image machine.now.plain entry.now }
 {
     let lease = machine.lease(entry.unit)?;
     let turns = u32::from(entry.local?) + u32::from(entry.ask?);
-    Some(lease.advance(machine.image(), turns))
+    burst.refill(lease, machine.image(), turns);
+    Some(())
 }
 
-// Replays the event that the entry names.
-fn replay(recorder: &mut Recorder, entry: &Entry) -> Result<(), TraceFaultKind>
+// Replays the event that the entry names. A submission's burst is made in the place of another one.
+fn replay(
+    recorder: &mut Recorder,
+    burst: &mut Burst,
+    entry: &Entry,
+) -> Result<(), TraceFaultKind>
     ensures entries { OnOk result (recorder.new.entries ≡ recorder.old.entries ++ entry.now ∷ []) }
     ensures image { recorder.new.machine.image ≡ recorder.old.machine.image }
     ensures config { recorder.new.machine.config ≡ recorder.old.machine.config }
@@ -70,10 +76,10 @@ fn replay(recorder: &mut Recorder, entry: &Entry) -> Result<(), TraceFaultKind>
             compared(recorder, entry, Event::Assign { unit, guess })
         }
         Kind::Submit => {
-            let Some(burst) = replayed_burst(machine, entry) else {
+            let Some(()) = make_burst(burst, machine, entry) else {
                 return Err(TraceFaultKind::Refused);
             };
-            compared(recorder, entry, Event::Submit { burst: &burst })
+            compared(recorder, entry, Event::Submit { burst })
         }
         Kind::Replace => {
             let Some(word) = entry.arg else {
@@ -138,8 +144,9 @@ pub fn check_on(recorder: &mut Recorder, entries: &[Entry], count: usize) -> Res
     ensures fault { IfErr result
         (IsFault recorder.old.machine.image recorder.old.machine.config entries.now) }
 {
+    let mut burst = Burst::empty(UnitId(0));
     for index in recorder.entries().len()..count {
-        if let Err(kind) = replay(recorder, &entries[index]) {
+        if let Err(kind) = replay(recorder, &mut burst, &entries[index]) {
             return Err(TraceFault { index, kind });
         }
     }

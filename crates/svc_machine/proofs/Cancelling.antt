@@ -52,13 +52,13 @@ later_not_head (x ∷ units) unit place at later = split (x == unit) at
 
 module _ (m : Parts) (kept : Kept m) (seats : List Seat) (same : map whole_seat seats ≡ m.seats) (unit : ℕ) where
   -- the place that is found is that of the unit's seat and task
-  pub seat_placed : position (λ (s : Seat). s.unit.0 == unit) seats ≡ seat_place (machine_of (program m.image) m.plain) unit
+  pub seat_placed : position (λ (s : Seat). s.lease.unit.0 == unit) seats ≡ seat_place (machine_of (program m.image) m.plain) unit
   seat_placed = place_is seats unit ∙ ap (λ (l : List (whole.Seat State)). place_in (map seat_unit l) unit) (same ∙ kept.seats)
 
-  pub task_placed : position (λ (s : Seat). s.unit.0 == unit) seats ≡ task_place m.plain unit
+  pub task_placed : position (λ (s : Seat). s.lease.unit.0 == unit) seats ≡ task_place m.plain unit
   task_placed = seat_placed ∙ seat_places m.image m.config (own_standing m kept) unit
 
-  module _ (place : ℕ) (at : position (λ (s : Seat). s.unit.0 == unit) seats ≡ Some place) where
+  module _ (place : ℕ) (at : position (λ (s : Seat). s.lease.unit.0 == unit) seats ≡ Some place) where
     pub task_here : slice_get (map unit_of m.plain.tasks) place ≡ Some unit
     task_here = found (map unit_of m.plain.tasks) unit place (sym task_placed ∙ at)
 

@@ -46,7 +46,7 @@ pub record HasHead (seats : List Seat) (end : End) : Type 0 where
   pub head : Seat
   pub others : List Seat
   pub are : seats ≡ head ∷ others
-  pub ended : head.core.done ≡ Some end
+  pub ended : head.lease.core.done ≡ Some end
 
 pub head_of : (seats : List Seat) (end : End) → head_end (map whole_seat seats) ≡ Some end → HasHead seats end
 head_of [] end h = absurd (none-some end h)
@@ -155,7 +155,7 @@ module _ (m : Parts) (kept : Kept m) (by : ℕ) (ok : IsAccepted m (Commit by)) 
         let t = kept.lines in
         let a = agrees t kept.agrees in
         subst (λ (us : List ℕ). 0 < length us) (sym (a.units ∙ split (cuts_next end (drop 1 m.guide.active))))
-        (settled_some (cuts_next end (drop 1 m.guide.active)) t.units h.head.unit.0 (units_in h.others) (units_of t kept.agrees ∙ ap units_in h.are))
+        (settled_some (cuts_next end (drop 1 m.guide.active)) t.units h.head.lease.unit.0 (units_in h.others) (units_of t kept.agrees ∙ ap units_in h.are))
       where
         split : (x : Bool) → (cond x (squash kept.lines 1) kept.lines).units ≡ cond x (take 1 kept.lines.units) kept.lines.units
         split true = refl

@@ -41,7 +41,7 @@ module _ (m : Parts) (kept : Kept m) where
   pub due_read : m.guide.due ≡ (plain_seq m.image m.plain.commits).due
   due_read = ap (λ (g : Guide). g.due) kept.guide ∙ same.due
 
-  pub guess_read : (seats : List Seat) → map whole_seat seats ≡ m.seats → (ended : Option End) → ended ≡ last_end (λ (s : Seat). s.core.done) seats
+  pub guess_read : (seats : List Seat) → map whole_seat seats ≡ m.seats → (ended : Option End) → ended ≡ last_end (λ (s : Seat). s.lease.core.done) seats
       → guess_of ended m.guide ≡ guess (program m.image) m.image.entries m.plain
   guess_read seats same ended is =
       let p : Program State = program m.image in
@@ -68,7 +68,7 @@ seat_there seats unit place e = ap (λ o. unwrap_or (option_map (slice_get seats
 
 -- the unit's seat is the one at the place that is found
 pub seat_read : (m : Parts) → Kept m → (seats : List Seat) → map whole_seat seats ≡ m.seats → (unit place : ℕ)
-    → position (λ (s : Seat). s.unit.0 == unit) seats ≡ Some place
+    → position (λ (s : Seat). s.lease.unit.0 == unit) seats ≡ Some place
     → seat_at (machine_of (program m.image) m.plain) unit ≡ option_map whole_seat (slice_get seats place)
 seat_read m kept seats same unit place at =
     let placed : place_in (map seat_unit (map whole_seat seats)) unit ≡ Some place = sym (place_is seats unit) ∙ at in
@@ -77,7 +77,7 @@ seat_read m kept seats same unit place at =
     (seat_there (map whole_seat seats) unit place placed ∙ slice_get-map whole_seat seats place)
 
 pub no_seat_read : (m : Parts) → Kept m → (seats : List Seat) → map whole_seat seats ≡ m.seats → (unit : ℕ)
-    → position (λ (s : Seat). s.unit.0 == unit) seats ≡ None
+    → position (λ (s : Seat). s.lease.unit.0 == unit) seats ≡ None
     → seat_at (machine_of (program m.image) m.plain) unit ≡ None
 no_seat_read m kept seats same unit at =
     let placed : place_in (map seat_unit (map whole_seat seats)) unit ≡ None = sym (place_is seats unit) ∙ at in
@@ -86,7 +86,7 @@ no_seat_read m kept seats same unit at =
     (ap (λ o. unwrap_or (option_map (slice_get (map whole_seat seats)) o) None) placed)
 
 pub lease_read : (m : Parts) → Kept m → (seats : List Seat) → map whole_seat seats ≡ m.seats → (unit place : ℕ)
-    → position (λ (s : Seat). s.unit.0 == unit) seats ≡ Some place → (seat : Seat) → slice_get seats place ≡ Some seat
-    → lease_of (shown m) unit ≡ Some (record { unit = seat.unit; epoch = seat.epoch; core = seat.core })
+    → position (λ (s : Seat). s.lease.unit.0 == unit) seats ≡ Some place → (seat : Seat) → slice_get seats place ≡ Some seat
+    → lease_of (shown m) unit ≡ Some seat.lease
 lease_read m kept seats same unit place at seat here =
     ap (option_map lease_from) (seat_read m kept seats same unit place at ∙ ap (option_map whole_seat) here)

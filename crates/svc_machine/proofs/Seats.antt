@@ -29,19 +29,19 @@ shifted n m = split (nat_lt n m) refl
     split false h = ap (λ b. cond b (Some (1 + n)) None) (le-ltb (1 + n) (suc m) (let k = ltb-false n m h in omega (arith, k)))
 
 -- the first seat of the unit is at its task's place
-pub place_is : (seats : List Seat) (unit : ℕ) → position (λ (s : Seat). s.unit.0 == unit) seats ≡ place_in (map seat_unit (map whole_seat seats)) unit
+pub place_is : (seats : List Seat) (unit : ℕ) → position (λ (s : Seat). s.lease.unit.0 == unit) seats ≡ place_in (map seat_unit (map whole_seat seats)) unit
 place_is [] unit = refl
-place_is (x ∷ seats) unit = split (place_is seats unit) (x.unit.0 == unit)
+place_is (x ∷ seats) unit = split (place_is seats unit) (x.lease.unit.0 == unit)
   where
     found : (b : Bool) → Option ℕ
     found b =
-        let n = cond (not b) (1 + position_or_len (λ (s : Seat). s.unit.0 == unit) seats) 0 in
+        let n = cond (not b) (1 + position_or_len (λ (s : Seat). s.lease.unit.0 == unit) seats) 0 in
         cond (nat_lt n (suc (length seats))) (Some n) None
 
-    split : position (λ (s : Seat). s.unit.0 == unit) seats ≡ place_in (map seat_unit (map whole_seat seats)) unit → (b : Bool)
+    split : position (λ (s : Seat). s.lease.unit.0 == unit) seats ≡ place_in (map seat_unit (map whole_seat seats)) unit → (b : Bool)
         → found b ≡ cond b (Some 0) (option_map suc (place_in (map seat_unit (map whole_seat seats)) unit))
     split rest true = first 0 (length seats)
-    split rest false = shifted (position_or_len (λ (s : Seat). s.unit.0 == unit) seats) (length seats) ∙ ap (option_map suc) rest
+    split rest false = shifted (position_or_len (λ (s : Seat). s.lease.unit.0 == unit) seats) (length seats) ∙ ap (option_map suc) rest
 
 -- ---- the tasks of the seats
 
@@ -50,7 +50,7 @@ count f [] = refl
 count f (x ∷ xs) = ap suc (count f xs)
 
 -- a place that is found is one of the seats'
-pub place_below : (seats : List Seat) (unit place n : ℕ) → n ≡ length seats → position (λ (s : Seat). s.unit.0 == unit) seats ≡ Some place → place < n
+pub place_below : (seats : List Seat) (unit place n : ℕ) → n ≡ length seats → position (λ (s : Seat). s.lease.unit.0 == unit) seats ≡ Some place → place < n
 place_below seats unit place n many at =
     let inside : place < length (map seat_unit (map whole_seat seats)) = within (map seat_unit (map whole_seat seats)) place unit (found (map seat_unit (map whole_seat seats)) unit place (sym (place_is seats unit) ∙ at)) in
     let one = count seat_unit (map whole_seat seats) in
@@ -58,7 +58,7 @@ place_below seats unit place n many at =
     omega (arith, inside, one, two, many)
 
 -- and its seat
-pub seat_found : (seats : List Seat) (unit place n : ℕ) (seat : Seat) → n ≡ length seats → position (λ (s : Seat). s.unit.0 == unit) seats ≡ Some place
+pub seat_found : (seats : List Seat) (unit place n : ℕ) (seat : Seat) → n ≡ length seats → position (λ (s : Seat). s.lease.unit.0 == unit) seats ≡ Some place
     → seat ≡ slice_index_or seats place seat → slice_get seats place ≡ Some seat
 seat_found seats unit place n seat many at is = slice_get_read seats n place seat many (place_below seats unit place n many at) is
 
@@ -70,7 +70,7 @@ last_got done (x ∷ []) = refl
 last_got done (x ∷ y ∷ xs) = last_got done (y ∷ xs) ∙ (let e : suc (length (y ∷ xs) - 1) ≡ length (x ∷ y ∷ xs) - 1 = omega arith in ap (λ n. option_and_then done (slice_get (x ∷ y ∷ xs) n)) e)
 
 -- of the seats, and of the runs that they are of
-pub last_seat : (seats : List Seat) → last_end (λ (s : Seat). s.core.done) seats ≡ last_end seat_end (map whole_seat seats)
+pub last_seat : (seats : List Seat) → last_end (λ (s : Seat). s.lease.core.done) seats ≡ last_end seat_end (map whole_seat seats)
 last_seat [] = refl
 last_seat (x ∷ []) = refl
 last_seat (x ∷ y ∷ seats) = last_seat (y ∷ seats)

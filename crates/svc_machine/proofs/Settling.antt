@@ -47,14 +47,14 @@ next_here seats place end h =
     let c = count whole_seat seats in
     omega (arith, a, b, c)
 
-next_unit : (seats : List Seat) (at : ℕ) (next : Seat) → at < length seats → next ≡ get_or seats at next → get_or (units_in seats) at 0 ≡ next.unit.0
+next_unit : (seats : List Seat) (at : ℕ) (next : Seat) → at < length seats → next ≡ get_or seats at next → get_or (units_in seats) at 0 ≡ next.lease.unit.0
 next_unit [] at next h is = absurd (omega (arith, h))
-next_unit (x ∷ seats) zero next h is = ap (λ (s : Seat). s.unit.0) (sym is)
+next_unit (x ∷ seats) zero next h is = ap (λ (s : Seat). s.lease.unit.0) (sym is)
 next_unit (x ∷ seats) (suc at) next h is = next_unit seats at next (omega (arith, h)) is
 
 -- its unit runs it, and not the head
 module _ (b : BusState) (t : LineTable) (agrees : Agrees b t) (seats : List Seat) (units : t.units ≡ units_in seats) (place : ℕ) (next : Seat) (inside : suc place < length seats) (is : next ≡ get_or seats (suc place) next) where
-  pub next_place : (s : LineTable) → Agrees b s → (suc place < length s.units) × (unit_at s (suc place) ≡ next.unit.0)
+  pub next_place : (s : LineTable) → Agrees b s → (suc place < length s.units) × (unit_at s (suc place) ≡ next.lease.unit.0)
   next_place s other =
       let same : s.units ≡ units_in seats = sym other.units ∙ agrees.units ∙ units in
       let many : length (units_in seats) ≡ length seats = count seat_unit (map whole_seat seats) ∙ count whole_seat seats in (
@@ -62,7 +62,7 @@ module _ (b : BusState) (t : LineTable) (agrees : Agrees b t) (seats : List Seat
         ap (λ (us : List ℕ). get_or us (suc place) 0) same ∙ next_unit seats (suc place) next inside is,
       )
 
-  pub next_works : IsAtWork b next.unit.0
+  pub next_works : IsAtWork b next.lease.unit.0
   next_works =
       let here = next_place t agrees in (
         suc place,
@@ -72,13 +72,13 @@ module _ (b : BusState) (t : LineTable) (agrees : Agrees b t) (seats : List Seat
         },
       )
 
-  pub next_later : is_head b.units next.unit.0 ≡ false
+  pub next_later : is_head b.units next.lease.unit.0 ≡ false
   next_later =
       let here = next_place t agrees in
       let within = here.0 in
-      let apart : (unit_at t 0 == next.unit.0) ≡ false =
-      ne_eqb (unit_at t 0) next.unit.0 (λ same. let one = agrees.sound.distinct_units 0 (suc place) (omega (arith, within)) within (same ∙ sym here.1) in absurd (omega (arith, one))) in
-      ap (λ (us : List ℕ). is_head us next.unit.0) agrees.units
+      let apart : (unit_at t 0 == next.lease.unit.0) ≡ false =
+      ne_eqb (unit_at t 0) next.lease.unit.0 (λ same. let one = agrees.sound.distinct_units 0 (suc place) (omega (arith, within)) within (same ∙ sym here.1) in absurd (omega (arith, one))) in
+      ap (λ (us : List ℕ). is_head us next.lease.unit.0) agrees.units
       ∙ ap (λ x. ltb 0 (length t.units) && x) apart ∙ and_off (ltb 0 (length t.units))
 
 -- ---- whether a task that has ended misleads
@@ -90,7 +90,7 @@ misled_by done entry (x ∷ xs) (suc place) = misled_by done entry xs place
 
 -- how the task at a place has ended, where there is one and it has
 abbrev pub ended_at : List Seat → (place : ℕ) → Option End
-ended_at seats place = option_and_then (λ (s : Seat). s.core.done) (slice_get seats place)
+ended_at seats place = option_and_then (λ (s : Seat). s.lease.core.done) (slice_get seats place)
 
 seat_got : (seats : List Seat) (place : ℕ) → option_and_then seat_end (slice_get (map whole_seat seats) place) ≡ ended_at seats place
 seat_got [] place = refl

@@ -361,31 +361,31 @@ seat_there f items place y x is at = of (slice_get items place) refl (sym (slice
 pub seats_back : (items : List declared.Seat) (place : ℕ) (y z : declared.Seat) → z ≡ y → y ≡ get_or items place y → slice_set items place z ≡ items
 seats_back items place y z back is = ap (slice_set items place) (back ∙ is) ∙ set-get_or items place y
 
-units_seen : (items : List declared.Seat) → map seat_unit (map whole_seat items) ≡ map (λ (s : declared.Seat). s.unit.0) items
+units_seen : (items : List declared.Seat) → map seat_unit (map whole_seat items) ≡ map (λ (s : declared.Seat). s.lease.unit.0) items
 units_seen [] = refl
-units_seen (x ∷ items) = ap {B = List ℕ} (λ us. x.unit.0 ∷ us) (units_seen items)
+units_seen (x ∷ items) = ap {B = List ℕ} (λ us. x.lease.unit.0 ∷ us) (units_seen items)
 
 module _ (m : Parts) (kept : Kept m) (b : Advance) (items : List declared.Seat) (same : map whole_seat items ≡ m.seats) where
   -- the place of the unit's task is found
-  pub place_found : position (λ (s : declared.Seat). s.unit.0 == b.unit.0) items ≡ seat_place (machine_of (program m.image) m.plain) b.unit.0
+  pub place_found : position (λ (s : declared.Seat). s.lease.unit.0 == b.unit.0) items ≡ seat_place (machine_of (program m.image) m.plain) b.unit.0
   place_found = place_is items b.unit.0 ∙ ap (λ (l : List (whole.Seat State)). place_in (map seat_unit l) b.unit.0) (same ∙ kept.seats)
 
-  module _ (place : ℕ) (at_items : position (λ (s : declared.Seat). s.unit.0 == b.unit.0) items ≡ Some place) where
+  module _ (place : ℕ) (at_items : position (λ (s : declared.Seat). s.lease.unit.0 == b.unit.0) items ≡ Some place) where
     pub at_place : seat_place (machine_of (program m.image) m.plain) b.unit.0 ≡ Some place
     at_place = sym place_found ∙ at_items
 
     module _ (y : declared.Seat) (is : y ≡ get_or items place y) where
-      its_unit : y.unit.0 ≡ b.unit.0
+      its_unit : y.lease.unit.0 ≡ b.unit.0
       its_unit =
-          seat_there (λ (s : declared.Seat). s.unit.0) items place y b.unit.0 is
+          seat_there (λ (s : declared.Seat). s.lease.unit.0) items place y b.unit.0 is
           (ap (λ us. slice_get us place) (sym (units_seen items)) ∙ found (map seat_unit (map whole_seat items)) b.unit.0 place (sym (place_is items b.unit.0) ∙ at_items))
 
-      pub its_task_runs : (t : LineTable) → Agrees (observed m.bus) t → RunsAt (observed m.bus) y.unit.0 t place
+      pub its_task_runs : (t : LineTable) → Agrees (observed m.bus) t → RunsAt (observed m.bus) y.lease.unit.0 t place
       its_task_runs t agrees = subst (λ u. RunsAt (observed m.bus) u t place) (sym its_unit) (runs_there m kept b.unit.0 place at_place t agrees)
 
       -- why the bus refuses what it asks is why the burst is refused
       module _ (admitted : IsAdmitted (shown m) b) (a : Ask) (asks : a ≡ b.ask) where
-        pub refused_as : (o : Option Refusal) → o ≡ refused_for (observed m.bus) y.unit.0 (asked_word m.image a)
+        pub refused_as : (o : Option Refusal) → o ≡ refused_for (observed m.bus) y.lease.unit.0 (asked_word m.image a)
             → (s : Standing) → StandsAt (shown m) s → refused m.image m.config s (Submit b) ≡ o
         refused_as o is_o s at =
             admitted s at
@@ -394,7 +394,7 @@ module _ (m : Parts) (kept : Kept m) (b : Advance) (items : List declared.Seat) 
 
         -- one that asks for no word isn't refused
         pub wordless : asked_word m.image a ≡ None → IsAccepted m (Submit b)
-        wordless none = refused_as None (sym (ap (refused_for (observed m.bus) y.unit.0) none))
+        wordless none = refused_as None (sym (ap (refused_for (observed m.bus) y.lease.unit.0) none))
 
       module _ (ok : IsAccepted m (Submit b)) where
         seat_is : whole_seat y ≡ seat_of (can m kept b ok).run
@@ -404,7 +404,7 @@ module _ (m : Parts) (kept : Kept m) (b : Advance) (items : List declared.Seat) 
         its_words follows core end = ap (λ (s : whole.Seat State). length s.waiting) seat_is ∙ waiting m kept b ok place at_place follows ∙ ap (λ (s : State). s.emitted) (sym end)
 
         pub its_turn : (core : State) (a : Ask) → core ≡ b.end → a ≡ b.ask → (seat : whole.Seat State) (bus : BusState) (reply : Reply)
-            → ((t : LineTable) (q : ℕ) → RunsAt (observed m.bus) y.unit.0 t q → IsDone m.image (want_of m.image core a) t q (at_core core (whole_seat y)) seat bus reply)
+            → ((t : LineTable) (q : ℕ) → RunsAt (observed m.bus) y.lease.unit.0 t q → IsDone m.image (want_of m.image core a) t q (at_core core (whole_seat y)) seat bus reply)
             → (t : LineTable) → Agrees (observed m.bus) t → IsDone m.image (asked_want m.image b) t place (at_core b.end (seat_of (can m kept b ok).run)) seat bus reply
         its_turn core a end asks seat bus reply done t agrees =
             let P : State → Ask → whole.Seat State → Type 0 = λ c k s. IsDone m.image (want_of m.image c k) t place (at_core c s) seat bus reply in

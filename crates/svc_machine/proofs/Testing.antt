@@ -33,24 +33,24 @@ module _ (m : Parts) (kept : Kept m) where
   seats_seen = kept.seats
 
   module _ (seats : List Seat) (same : map whole_seat seats ≡ m.seats) where
-    pub place_seen : (unit : ℕ) → position (λ (s : Seat). s.unit.0 == unit) seats ≡ seat_place (machine_at (shown m)) unit
+    pub place_seen : (unit : ℕ) → position (λ (s : Seat). s.lease.unit.0 == unit) seats ≡ seat_place (machine_at (shown m)) unit
     place_seen unit = place_is seats unit ∙ ap (λ (l : List (whole.Seat State)). place_in (map seat_unit l) unit) (same ∙ seats_seen)
 
     pub seat_seen : (place : ℕ) → option_map whole_seat (slice_get seats place) ≡ slice_get (machine_at (shown m)).seats place
     seat_seen place = sym (slice_get-map whole_seat seats place) ∙ ap (λ (l : List (whole.Seat State)). slice_get l place) (same ∙ seats_seen)
 
     -- the seat at the unit's place is the unit's
-    pub own_seat : (unit place : ℕ) → position (λ (s : Seat). s.unit.0 == unit) seats ≡ Some place → (seat : Seat) → slice_get seats place ≡ Some seat
+    pub own_seat : (unit place : ℕ) → position (λ (s : Seat). s.lease.unit.0 == unit) seats ≡ Some place → (seat : Seat) → slice_get seats place ≡ Some seat
         → Some (whole_seat seat) ≡ seat_at (machine_at (shown m)) unit
     own_seat unit place at seat here =
         sym (ap (λ q. unwrap_or (option_map (slice_get (machine_at (shown m)).seats) q) None) (sym (place_seen unit) ∙ at) ∙ sym (seat_seen place) ∙ ap (option_map whole_seat) here)
 
-    pub no_seat : (unit : ℕ) → position (λ (s : Seat). s.unit.0 == unit) seats ≡ None → None ≡ seat_at (machine_at (shown m)) unit
+    pub no_seat : (unit : ℕ) → position (λ (s : Seat). s.lease.unit.0 == unit) seats ≡ None → None ≡ seat_at (machine_at (shown m)) unit
     no_seat unit at = sym (ap (λ q. unwrap_or (option_map (slice_get (machine_at (shown m)).seats) q) None) (sym (place_seen unit) ∙ at))
 
     -- what an admitted event has found, of the seats
     module _ (v : MachineValue) (is : shown m ≡ v) where
-      pub placed_at : (unit place : ℕ) → seat_place (machine_at v) unit ≡ Some place → position (λ (s : Seat). s.unit.0 == unit) seats ≡ Some place
+      pub placed_at : (unit place : ℕ) → seat_place (machine_at v) unit ≡ Some place → position (λ (s : Seat). s.lease.unit.0 == unit) seats ≡ Some place
       placed_at unit place at = place_seen unit ∙ subst (λ (u : MachineValue). seat_place (machine_at u) unit ≡ Some place) (sym is) at
 
       pub ended_at : (end : End) → head_end (machine_at v).seats ≡ Some end → head_end (map whole_seat seats) ≡ Some end

@@ -39,10 +39,10 @@ shown m = record { image = m.image; config = m.config; plain = m.plain; bus = m.
 -- a seat as the whole machine has it
 abbrev pub whole_seat : Seat → whole.Seat State
 whole_seat seat = record {
-  unit = seat.unit.0;
-  epoch = seat.epoch;
+  unit = seat.lease.unit.0;
+  epoch = seat.lease.epoch;
   entry = seat.entry;
-  core = seat.core;
+  core = seat.lease.core;
   waiting = seat.waiting.items;
 }
 

@@ -115,7 +115,7 @@ impl Machine {
         if !burst.is_of(&self.image) {
             return Err(Refusal::ForeignText);
         }
-        if seat.core.done().is_some() {
+        if seat.lease.core.done().is_some() {
             return Err(Refusal::Done);
         }
         let Some(refusal) = self.refused_late(burst) else {
@@ -203,7 +203,7 @@ impl Machine {
         let Some(head) = self.head() else {
             return Err(Refusal::NoTask);
         };
-        let Some(end) = head.core.done() else {
+        let Some(end) = head.lease.core.done() else {
             return Err(Refusal::HeadNotDone);
         };
         if self.is_full() {
@@ -296,7 +296,7 @@ fn is_entry(image: &Image, entry: u32) -> bool
 fn is_current(burst: &Burst, seat: &Seat) -> bool
     ensures { result ≡ is_current burst.now (Some (whole_seat seat.now)) }
 {
-    burst.epoch() == seat.epoch && burst.start().is_same(&seat.core)
+    burst.epoch() == seat.lease.epoch && burst.start().is_same(&seat.lease.core)
 }
 
 // The burst asks for nothing, and ends where it starts: it has no turn.

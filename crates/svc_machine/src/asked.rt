@@ -45,24 +45,24 @@ pub(crate) fn do_asked(
     ask: Ask,
 ) -> Result<Reply, Refusal>
     requires ready { IsReady core.now ask }
-    requires running { IsRunning (observed bus.old) seat.old.unit.0 }
+    requires running { IsRunning (observed bus.old) seat.old.lease.unit.0 }
     requires size { (observed bus.old).words ≡ data_words image.now }
     requires waiting { asked_word image.now ask ≡ None → length seat.old.waiting.items ≡ core.now.emitted }
-    ensures refused { result_err result ≡ refused_for (observed bus.old) seat.old.unit.0 (asked_word image.now ask) }
+    ensures refused { result_err result ≡ refused_for (observed bus.old) seat.old.lease.unit.0 (asked_word image.now ask) }
     ensures unchanged { OnErr result ((seat.new ≡ seat.old) × (bus.new ≡ bus.old)) }
-    ensures done { (t : LineTable) → (place : ℕ) → RunsAt (observed bus.old) seat.old.unit.0 t place
+    ensures done { (t : LineTable) → (place : ℕ) → RunsAt (observed bus.old) seat.old.lease.unit.0 t place
         → IfOk result (IsDone image.now (want_of image.now core.now ask) t place
         (at_core core.now (whole_seat seat.old)) (whole_seat seat.new) (observed bus.new)) }
 {
     match ask {
         Ask::Nothing => {
-            seat.core = *core;
+            seat.lease.core = *core;
             Ok(without_cut(What::Ran))
         }
         Ask::Load { kind, rd, addr } => do_load(image, bus, seat, core, kind, rd, addr),
         Ask::Store { kind, addr, value } => do_store(image, bus, seat, core, kind, addr, value),
         Ask::Emit(word) => {
-            seat.core = *core;
+            seat.lease.core = *core;
             Ok(do_emit(image, seat, word))
         }
     }
@@ -79,13 +79,13 @@ fn do_load(
 ) -> Result<Reply, Refusal>
     requires going { core.now.done ≡ None }
     requires in_time { core.now.count < core.now.limit }
-    requires running { IsRunning (observed bus.old) seat.old.unit.0 }
+    requires running { IsRunning (observed bus.old) seat.old.lease.unit.0 }
     requires size { (observed bus.old).words ≡ data_words image.now }
     ensures refused { result_err result
-        ≡ refused_for (observed bus.old) seat.old.unit.0 (asked_word image.now (Ask.Load kind rd addr)) }
+        ≡ refused_for (observed bus.old) seat.old.lease.unit.0 (asked_word image.now (Ask.Load kind rd addr)) }
     ensures unchanged { OnErr result ((seat.new ≡ seat.old) × (bus.new ≡ bus.old)) }
     ensures done { let trap = access_trap (data_words image.now) (load_bytes kind) addr in
-        (t : LineTable) → (place : ℕ) → RunsAt (observed bus.old) seat.old.unit.0 t place
+        (t : LineTable) → (place : ℕ) → RunsAt (observed bus.old) seat.old.lease.unit.0 t place
         → IfOk result (IsDone image.now (Some (wants_load image.now core.now kind rd addr trap)) t place
         (at_core core.now (whole_seat seat.old)) (whole_seat seat.new) (observed bus.new)) }
 {
@@ -93,10 +93,10 @@ fn do_load(
         Err(trap) => Ok(trapped(seat, core, trap)),
         Ok(access) => {
             let addr = WordAddr(access.word);
-            let (word, served) = bus.read(seat.unit, addr)?;
+            let (word, served) = bus.read(seat.lease.unit, addr)?;
             let value = loaded(kind, access.lane, word);
-            seat.core = *core;
-            seat.core.finish_load(image, rd, value);
+            seat.lease.core = *core;
+            seat.lease.core.finish_load(image, rd, value);
             Ok(without_cut(What::Loaded {
                 addr,
                 value,
@@ -117,13 +117,13 @@ fn do_store(
 ) -> Result<Reply, Refusal>
     requires going { core.now.done ≡ None }
     requires in_time { core.now.count < core.now.limit }
-    requires running { IsRunning (observed bus.old) seat.old.unit.0 }
+    requires running { IsRunning (observed bus.old) seat.old.lease.unit.0 }
     requires size { (observed bus.old).words ≡ data_words image.now }
     ensures refused { result_err result
-        ≡ refused_for (observed bus.old) seat.old.unit.0 (asked_word image.now (Ask.Store kind addr value)) }
+        ≡ refused_for (observed bus.old) seat.old.lease.unit.0 (asked_word image.now (Ask.Store kind addr value)) }
     ensures unchanged { OnErr result ((seat.new ≡ seat.old) × (bus.new ≡ bus.old)) }
     ensures done { let trap = store_trap (data_words image.now) image.now.read_only (store_bytes kind) addr in
-        (t : LineTable) → (place : ℕ) → RunsAt (observed bus.old) seat.old.unit.0 t place
+        (t : LineTable) → (place : ℕ) → RunsAt (observed bus.old) seat.old.lease.unit.0 t place
         → IfOk result (IsDone image.now (Some (wants_store image.now core.now kind addr value trap)) t place
         (at_core core.now (whole_seat seat.old)) (whole_seat seat.new) (observed bus.new)) }
 {
@@ -136,10 +136,10 @@ fn do_store(
         Err(trap) => Ok(trapped(seat, core, trap)),
         Ok(access) => {
             let addr = WordAddr(access.word);
-            let (word, served) = word_to_store(bus, seat.unit, kind, access, value)?;
-            let cut = write(bus, seat.unit, addr, word)?;
-            seat.core = *core;
-            seat.core.finish_store(image);
+            let (word, served) = word_to_store(bus, seat.lease.unit, kind, access, value)?;
+            let cut = write(bus, seat.lease.unit, addr, word)?;
+            seat.lease.core = *core;
+            seat.lease.core.finish_store(image);
             Ok(Reply {
                 what: What::Stored { addr, word, served },
                 cut,
@@ -150,16 +150,16 @@ fn do_store(
 
 // A word is output. It waits for the task's commit.
 fn do_emit(image: &Image, seat: &mut Seat, word: u32) -> Reply
-    requires going { seat.old.core.done ≡ None }
-    requires in_time { seat.old.core.count < seat.old.core.limit }
-    requires few { seat.old.core.emitted < 64 }
-    requires waiting { length seat.old.waiting.items ≡ seat.old.core.emitted }
+    requires going { seat.old.lease.core.done ≡ None }
+    requires in_time { seat.old.lease.core.count < seat.old.lease.core.limit }
+    requires few { seat.old.lease.core.emitted < 64 }
+    requires waiting { length seat.old.waiting.items ≡ seat.old.lease.core.emitted }
     ensures seat { whole_seat seat.new
-        ≡ seat_turn (Emit word (arrives image.now (puts_out seat.old.core))) (λ a. 0) (whole_seat seat.old) }
+        ≡ seat_turn (Emit word (arrives image.now (puts_out seat.old.lease.core))) (λ a. 0) (whole_seat seat.old) }
     ensures reply { result ≡ record { what = What.Emitted word; cut = None } }
 {
     seat.waiting.push(word);
-    seat.core.finish_emit(image);
+    seat.lease.core.finish_emit(image);
     without_cut(What::Emitted(word))
 }
 
@@ -169,8 +169,8 @@ fn trapped(seat: &mut Seat, core: &Core, trap: u8) -> Reply
     ensures seat { whole_seat seat.new ≡ at_core (ends (end.Trap trap) core.now) (whole_seat seat.old) }
     ensures reply { result ≡ record { what = What.Trapped trap; cut = None } }
 {
-    seat.core = *core;
-    seat.core.trap(trap);
+    seat.lease.core = *core;
+    seat.lease.core.trap(trap);
     without_cut(What::Trapped(trap))
 }
 

@@ -7,7 +7,7 @@ use crate::machine::Machine;
 use crate::seat::Seat;
 use arrayvec::ArrayVec;
 use svc_base::{TaskNo, UnitId};
-use svc_core::Core;
+use svc_core::{Core, Lease};
 use svc_machine_laws::{Reply, What};
 
 impl Machine {
@@ -22,10 +22,8 @@ impl Machine {
         let entry = self.sequencer.assign(guess);
         self.bus.begin(unit);
         let _room = self.seats.push(Seat {
-            unit,
-            epoch,
+            lease: Lease::new(unit, epoch, Core::start(&self.image, entry)),
             entry,
-            core: Core::start(&self.image, entry),
             waiting: ArrayVec::new(),
         });
         self.epoch += 1;

@@ -84,7 +84,7 @@ pub(crate) fn settle(
     }
     let next = place + 1;
     let cut = cut_from(Cause::WrongGuess, commits, count, next);
-    let unit = seats[next].unit;
+    let unit = seats[next].lease.unit;
     bus.squash_from(unit);
     sequencer.cut_from(next);
     seats.truncate(next);

@@ -45,7 +45,7 @@ impl Machine {
         ensures { result ≡ runs_head self.now unit.0 }
     {
         match self.seats.first() {
-            Some(seat) => seat.unit.0 == unit.0,
+            Some(seat) => seat.lease.unit.0 == unit.0,
             None => false,
         }
     }
@@ -53,11 +53,11 @@ impl Machine {
     /// From what the unit may run its task on, without the machine; none if the unit has no task.
     /// Its core is that of the task's part, run again on what the tasks before it leave.
     #[tactic(auto, unfolding(crate::specs::Refusing::machine_at))]
-    pub fn lease(&self, unit: UnitId) -> Option<Lease>
-        ensures { result ≡ lease_of self.now unit.0 }
+    pub fn lease(&self, unit: UnitId) -> Option<&Lease>
+        ensures { option_map (λ lease. lease.now) result ≡ lease_of self.now unit.0 }
     {
         match self.seat_of(unit) {
-            Some((_, seat)) => Some(Lease::new(seat.unit, seat.epoch, seat.core)),
+            Some((_, seat)) => Some(&seat.lease),
             None => None,
         }
     }

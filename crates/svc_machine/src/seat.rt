@@ -7,47 +7,44 @@ ghost use Rattle.svc_machine_laws.specs.Guess.{last_end};
 use arrayvec::ArrayVec;
 use svc_base::UnitId;
 use svc_base::limits::MAX_TASK_OUTPUT;
-use svc_core::Core;
+use svc_core::Lease;
 use svc_core_laws::End;
 
 /// The seat of an active task.
 #[derive(Drop)]
 pub(crate) struct Seat {
-    /// The unit that runs it.
-    pub(crate) unit: UnitId,
-    /// The epoch of its assignment: no other assignment has the same.
-    pub(crate) epoch: u64,
+    /// From what its unit runs it on: that unit, the epoch of its assignment, which no other assignment has, and its
+    /// current core.
+    pub(crate) lease: Lease,
     /// The entry at which it began.
     pub(crate) entry: u32,
     /// The words that it has output, which wait for its commit.
     pub(crate) waiting: ArrayVec<u32, MAX_TASK_OUTPUT>,
-    /// Its current core.
-    pub(crate) core: Core,
 }
 
 /// The place of the unit's task, counted from the oldest.
 pub(crate) fn place_of(seats: &[Seat], unit: UnitId) -> Option<usize>
-    ensures { result ≡ position (λ seat. seat.unit.0 == unit.0) seats.now }
+    ensures { result ≡ position (λ seat. seat.lease.unit.0 == unit.0) seats.now }
 {
-    seats.iter().position(|seat| seat.unit.0 == unit.0)
+    seats.iter().position(|seat| seat.lease.unit.0 == unit.0)
 }
 
 /// How the task at a place has ended, if there is one and it has.
 pub(crate) fn end_at(seats: &[Seat], place: usize) -> Option<End>
-    ensures { result ≡ option_and_then (λ seat. seat.core.done) (slice_get seats.now place) }
+    ensures { result ≡ option_and_then (λ seat. seat.lease.core.done) (slice_get seats.now place) }
 {
     match seats.get(place) {
-        Some(seat) => seat.core.done(),
+        Some(seat) => seat.lease.core.done(),
         None => None,
     }
 }
 
 /// How the youngest task has ended, if there is one and it has.
 pub(crate) fn last_end(seats: &[Seat]) -> Option<End>
-    ensures { result ≡ last_end (λ seat. seat.core.done) seats.now }
+    ensures { result ≡ last_end (λ seat. seat.lease.core.done) seats.now }
 {
     match seats.last() {
-        Some(seat) => seat.core.done(),
+        Some(seat) => seat.lease.core.done(),
         None => None,
     }
 }

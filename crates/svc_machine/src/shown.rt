@@ -37,10 +37,10 @@ impl Machine {
     {
         let seat = self.seats.get(place)?;
         Some(ActiveTask {
-            unit: seat.unit,
+            unit: seat.lease.unit,
             entry: seat.entry,
-            turns: seat.core.count(),
-            done: seat.core.done(),
+            turns: seat.lease.core.count(),
+            done: seat.lease.core.done(),
         })
     }
 

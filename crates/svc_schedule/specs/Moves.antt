@@ -7,27 +7,13 @@ use Rattle.svc_base.specs.declared.refusal.Refusal.{Refusal}
 use Rattle.svc_base.specs.declared.refusal.Refusal.TheVariants.{SetFull}
 use Rattle.svc_image.specs.Image.{Image}
 use Rattle.svc_core_laws.specs.Bursts.{Advance, IsAdvance}
-use Rattle.svc_core_laws.specs.Words.{program}
 use Rattle.svc_core.specs.declared.burst.Lease.{Lease}
 use Rattle.svc_machine_laws.specs.Events.{Event, Assign, Submit, Replace, Commit}
-use Rattle.svc_machine_laws.specs.Guess.{guess}
 use Rattle.svc_machine_laws.specs.Standing.{Standing, refused, reply_to}
-use Rattle.svc_machine.specs.Value.{MachineValue}
-use Rattle.svc_machine.specs.Reads.{lease_of, runs_head}
 use Rattle.svc_history_laws.specs.Entries.{entry_of}
-use Rattle.svc_history.specs.declared.glance.Glance.{Glance}
-use Rattle.svc_history.specs.Glances.{has_ended}
-use Rattle.svc_history.specs.Moves.{NextMove, next_move}
+use Rattle.svc_history.specs.Moves.{NextMove, move_of}
 use Rattle.svc_history.specs.Moves as move
 use Rattle.svc_history.specs.Recorded.{Recorded, standing_of}
-
--- what a unit sees of a machine
-abbrev pub seen : MachineValue → (unit : ℕ) → Glance
-seen m unit = record { ended = has_ended m; lease = lease_of m unit; is_head = runs_head m unit; guess = guess (program m.image) m.image.entries m.plain }
-
--- what it does next, by that
-abbrev pub move_of : MachineValue → (unit : ℕ) → NextMove
-move_of m unit = next_move (seen m unit)
 
 -- the burst is what advancing the lease by at most so many turns makes
 pub record IsBurstOf (img : Image) (most : ℕ) (lease : Lease) (b : Advance) : Type 0 where
@@ -35,6 +21,10 @@ pub record IsBurstOf (img : Image) (most : ℕ) (lease : Lease) (b : Advance) : 
   pub epoch : b.epoch ≡ lease.epoch
   pub start : b.start ≡ lease.core
   pub advance : IsAdvance img most b
+
+-- the unit's move is to run its task on, and the burst does that
+abbrev pub RunsOnBy : (most : ℕ) → Recorded → UnitId → Advance → Type 0
+RunsOnBy most r unit b = (lease : Lease) × (move_of r.machine unit.0 ≡ move.RunOn lease) × IsBurstOf r.machine.image most lease b
 
 -- a unit with a running task asks to submit its burst; and where that is refused as its cache has no room for the asked
 -- word, to replace the line that is named

@@ -1,6 +1,6 @@
 //! The policies that the program offers.
 
-ghost use Rattle.std.specs.Prelude.{◌≡◌, ◌<◌, ◌≤◌, ◌+◌, ◌%◌};
+ghost use Rattle.std.specs.Prelude.{◌≡◌, ◌<◌, ◌≤◌, ◌+◌, ◌%◌, option_map};
 ghost use Rattle.svc_base.specs.declared.config.TheConstants.{MAX_UNITS};
 ghost use Rattle.svc_schedule.specs.Orders.{around, by_age, generator_of, moved_last, next_after, place_among, rank_of};
 
@@ -154,8 +154,8 @@ fn by_age(recorder: &Recorder, first: First) -> Order
 }
 
 // The rank of a unit's task: that of lower rank is asked first.
-fn rank_of(first: First, lease: Option<Lease>) -> u64
-    ensures { result ≡ rank_of first lease }
+fn rank_of(first: First, lease: Option<&Lease>) -> u64
+    ensures { result ≡ rank_of first (option_map (λ lent. lent.now) lease) }
 {
     match (first, lease) {
         (First::Older, Some(lease)) => lease.epoch,

@@ -1,19 +1,17 @@
 //! One step of a run: the first unit whose move isn't refused makes it.
 
-ghost use Rattle.std.specs.Prelude.{◌≡◌, ◌<◌, false, IsTrue, IsFalse, All};
-ghost use Rattle.svc_core_laws.specs.Bursts.{IsAdvance};
+ghost use Rattle.std.specs.Prelude.{◌≡◌, ◌<◌, ℕ, false, IsTrue, IsFalse, All};
 ghost use Rattle.svc_history.specs.Glances.{has_ended};
-ghost use Rattle.svc_history.specs.Moves.{RunOn};
 ghost use Rattle.svc_history.specs.Recorded.{IsLegal};
 ghost use Rattle.svc_schedule.specs.Bursts.{AreReady};
-ghost use Rattle.svc_schedule.specs.Moves.{IsMade, IsPassed, move_of};
+ghost use Rattle.svc_schedule.specs.Moves.{IsMade, IsPassed, RunsOnBy};
 ghost use Rattle.svc_schedule.specs.Steps.{FirstMoves, asked};
 ghost use Rattle.svc_image.specs.Image.{IsImage};
 
 use crate::bursts::make_burst;
 use svc_base::config::MAX_UNITS;
 use svc_base::{Refusal, UnitId};
-use svc_core::{Burst, Lease};
+use svc_core::Burst;
 use svc_history::{Event, Move, Recorder};
 
 /// Each unit that a machine may have, by number.
@@ -83,36 +81,29 @@ fn make_move(recorder: &mut Recorder, bursts: &mut [Burst], unit: UnitId, most: 
     ensures passed { IsFalse result → (recorder.new ≡ recorder.old) × IsPassed most recorder.old unit }
     ensures ready { AreReady recorder.old.machine.image most bursts.new }
 {
-    let Ok(glance) = recorder.glance(unit) else {
+    let Ok(next) = recorder.next_move(unit) else {
         return false;
     };
-    match glance.next_move() {
+    match next {
         Move::Ended | Move::Wait => false,
         Move::Begin { guess } => recorder.apply(Event::Assign { unit, guess }).is_ok(),
         Move::Commit => recorder.apply(Event::Commit { by: unit }).is_ok(),
         Move::RunOn(lease) => {
-            let place = usize::from(unit.0);
-            run_on(recorder, &mut bursts[place], unit, lease, most)
+            let burst = &mut bursts[usize::from(unit.0)];
+            make_burst(burst, lease, recorder.machine().image(), most);
+            run_on(recorder, burst, unit)
         }
     }
 }
 
-// The unit runs its task on by a burst, or replaces a line in place of that where its cache has no room.
-fn run_on(
-    recorder: &mut Recorder,
-    burst: &mut Burst,
-    unit: UnitId,
-    lease: &Lease,
-    most: u32,
-) -> bool
+// The unit runs its task on by its burst, or replaces a line in place of that where its cache has no room.
+fn run_on(recorder: &mut Recorder, burst: &Burst, unit: UnitId) -> bool
     requires known { unit.0 < recorder.old.machine.config.units }
-    requires runs { move_of recorder.old.machine unit.0 ≡ RunOn lease.now }
-    requires ready { IsAdvance recorder.old.machine.image most burst.old }
-    ensures made { IsTrue result → IsMade most recorder.old recorder.new unit }
-    ensures passed { IsFalse result → (recorder.new ≡ recorder.old) × IsPassed most recorder.old unit }
-    ensures ready { IsAdvance recorder.old.machine.image most burst.new }
+    ensures made { IsTrue result → (most : ℕ) → RunsOnBy most recorder.old unit burst.now
+        → IsMade most recorder.old recorder.new unit }
+    ensures passed { IsFalse result → (most : ℕ) → RunsOnBy most recorder.old unit burst.now
+        → (recorder.new ≡ recorder.old) × IsPassed most recorder.old unit }
 {
-    make_burst(burst, lease, recorder.machine().image(), most);
     let Err(refusal) = recorder.apply(Event::Submit { burst }) else {
         return true;
     };

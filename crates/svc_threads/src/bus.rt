@@ -79,7 +79,7 @@ impl SharedBus {
         ensures own { IfOk result (LeasesTo unit) }
         ensures refused { IfErr result (λ e. e ≡ refusal.NoSuchUnit) }
     {
-        self.lock.lock(rt).glance(unit)
+        self.lock.lock(rt).recorder().glance(unit)
     }
 
     /// One event, as the recorder takes it, under the lock. The board shows the new numbers after an accepted event,

@@ -1,20 +1,18 @@
 // What is under the bus lock.
 
-ghost use Rattle.std.specs.Prelude.{◌≡◌, true, IfOk};
+ghost use Rattle.std.specs.Prelude.{◌≡◌, true};
 ghost use Rattle.std.specs.Arc.{arc_value};
 ghost use Rattle.svc_machine.specs.Events.{event_of};
 ghost use Rattle.svc_history_laws.specs.Board.{assigns, board, commits};
 ghost use Rattle.svc_history.specs.Applying.{IsApplied};
-ghost use Rattle.svc_history.specs.Glances.{IsGlance, IsUnitKnown};
-ghost use Rattle.svc_history.specs.Recorded.{IsLegal};
 ghost use Rattle.svc_threads.specs.Boards.{knower, InOrder};
 ghost use Rattle.svc_threads.specs.Counts.{row_of_entries, with_entry, IsSmall};
 
 use crate::board::{Board, BoardPass, BoardRow};
 use std::marker::Model;
 use std::sync::{Arc, Wait};
-use svc_base::{Refusal, UnitId};
-use svc_history::{Entry, Event, Glance, Kind, Recorder, Slip};
+use svc_base::Refusal;
+use svc_history::{Entry, Event, Kind, Recorder, Slip};
 
 /// A recorder with the numbers of its history, and a board that shows them. The type guarantees
 /// that they are those numbers, and that the pass is the one of that board that publishes and knows
@@ -75,13 +73,11 @@ impl Locked {
         Ok(slip)
     }
 
-    // What the recorder shows a unit's thread.
-    pub(crate) fn glance(&self, unit: UnitId) -> Result<Glance, Refusal>
-        ensures refused { IsUnitKnown self.now.machine.config unit result }
-        ensures glance { IfOk result (IsGlance self.now.machine unit.0) }
-        ensures legal { IsLegal self.now }
+    // The recorder, lent.
+    pub(crate) fn recorder(&self) -> &Recorder
+        ensures { result.now ≡ self.now }
     {
-        self.recorder.glance(unit)
+        &self.recorder
     }
 
     // The recorder.

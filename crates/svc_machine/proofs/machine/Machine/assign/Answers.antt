@@ -54,7 +54,7 @@ module _ (c : goal.After-self-2-1) where
   ok = let x : Event = Assign c.args.unit.0 c.args.guess in subst (λ (v : MachineValue). Accepts v x) (sym c.self.view_is) c.requires
 
   abbrev seat : Seat
-  seat = record { unit = c.args.unit; epoch = c.self.inside.epoch; entry = c.assign-entry.result; waiting = c.new.result; core = c.start.result }
+  seat = record { lease = c.new-lease.result; entry = c.assign-entry.result; waiting = c.new.result }
 
   abbrev after : Parts
   after = parts_of (record c.self.inside { bus = c.begin.new.self; sequencer = c.assign-entry.new.self; seats = c.push-room.new.self; accepted = c.self.inside.accepted + 1; epoch = c.self.inside.epoch + 1 })

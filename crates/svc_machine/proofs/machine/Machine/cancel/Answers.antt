@@ -51,7 +51,7 @@ module _ (c : goal.After-self-1) where
   abbrev after : Parts
   after = parts_of (record c.self.inside { bus = c.squash_from.new.self; sequencer = c.cut_from.new.self; seats = c.truncate.new.self; accepted = c.self.inside.accepted + 1 })
 
-  found : position (λ (s : Seat). s.unit.0 == c.args.unit.0) c.self.inside.seats.items ≡ Some c.args.place
+  found : position (λ (s : Seat). s.lease.unit.0 == c.args.unit.0) c.self.inside.seats.items ≡ Some c.args.place
   found = placed_at (parts_of c.self.inside) c.self.invariant c.self.inside.seats.items refl _ c.self.view_is c.args.unit.0 c.args.place c.requires.found
 
   moved : Moved m after x

@@ -7,4 +7,4 @@ use Rattle.svc_machine.proofs.machine.Machine.guess.Goals as goal
 pub returns : goal.returns
 returns c =
     rw (← c.self.view_is)
-    (c.predict.ensures ∙ guess_read _ c.self.invariant c.self.inside.seats.items refl c.last_end.result (c.last_end.ensures ∙ ap (last_end (λ (s : Seat). s.core.done)) c.deref.ensures.value))
+    (c.predict.ensures ∙ guess_read _ c.self.invariant c.self.inside.seats.items refl c.last_end.result (c.last_end.ensures ∙ ap (last_end (λ (s : Seat). s.lease.core.done)) c.deref.ensures.value))

@@ -109,7 +109,7 @@ module _ (c : goal.After-or) where
   abbrev items : List Seat
   items = c.self.inside.seats.items
 
-  found : position (λ (s : Seat). s.unit.0 == b.unit.0) items ≡ Some c.args.place
+  found : position (λ (s : Seat). s.lease.unit.0 == b.unit.0) items ≡ Some c.args.place
   found = placed_at m c.self.invariant items refl _ c.self.view_is b.unit.0 c.args.place c.requires.found
 
   -- the bus has not refused it
