@@ -50,7 +50,7 @@ pub(crate) fn move_by(
     is_head: bool,
     guess: Option<u32>,
 ) -> Move<'_>
-    ensures { let lease = option_map (λ lent. lent.now) lease in
+    ensures { let lease = option_map (λ lent. lent.now) lease.entry in
         told result ≡ next_move (record { ended = ended; lease = lease; is_head = is_head; guess = guess }) }
 {
     if ended {

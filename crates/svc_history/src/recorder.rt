@@ -124,11 +124,7 @@ impl Recorder {
         ensures legal { IsLegal self.now }
     {
         let _entries = &self.entries;
-        let machine = &self.machine;
-        let config = machine.config();
-        if u32::from(unit.0) >= config.units {
-            return Err(Refusal::NoSuchUnit);
-        }
+        let machine = self.machine_with(unit)?;
         Ok(Glance {
             ended: self.has_ended(),
             lease: machine.lease(unit).copied(),
@@ -146,16 +142,26 @@ impl Recorder {
         ensures legal { IsLegal self.now }
     {
         let _entries = &self.entries;
-        let machine = &self.machine;
-        let config = machine.config();
-        if u32::from(unit.0) >= config.units {
-            return Err(Refusal::NoSuchUnit);
-        }
+        let machine = self.machine_with(unit)?;
         Ok(move_by(
             self.has_ended(),
             machine.lease(unit),
             machine.is_head(unit),
             machine.guess(),
         ))
+    }
+
+    // The machine, where it has this unit.
+    //
+    // Errors: [`Refusal::NoSuchUnit`].
+    fn machine_with(&self, unit: UnitId) -> Result<&Machine, Refusal>
+        ensures refused { IsUnitKnown self.now.machine.config unit result }
+        ensures machine { IfOk result (λ machine. machine.now ≡ self.now.machine) }
+    {
+        let config = self.machine.config();
+        if u32::from(unit.0) >= config.units {
+            return Err(Refusal::NoSuchUnit);
+        }
+        Ok(&self.machine)
     }
 }

@@ -155,7 +155,7 @@ fn by_age(recorder: &Recorder, first: First) -> Order
 
 // The rank of a unit's task: that of lower rank is asked first.
 fn rank_of(first: First, lease: Option<&Lease>) -> u64
-    ensures { result ≡ rank_of first (option_map (λ lent. lent.now) lease) }
+    ensures { result ≡ rank_of first (option_map (λ lent. lent.now) lease.entry) }
 {
     match (first, lease) {
         (First::Older, Some(lease)) => lease.epoch,

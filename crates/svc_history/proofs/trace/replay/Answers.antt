@@ -13,12 +13,12 @@ returns-in_default-clause-fault c =
     wrong_lacks r e c.machine-machine.ensures.legal
     (subst (λ (k : Kind). Lacks k r.machine.image r.machine.plain e) (sym c.in-Assign.is) c.in_default.is)
 
-pub returns-in_default-replayed_burst-clause-fault : goal.returns-in_default-replayed_burst-clause-fault
-returns-in_default-replayed_burst-clause-fault c =
+pub returns-in_default-make_burst-clause-fault : goal.returns-in_default-make_burst-clause-fault
+returns-in_default-make_burst-clause-fault c =
     let e = c.args.entry.now in
     let r = c.args.recorder.now in
     let lacks : Lacks Submit r.machine.image r.machine.plain e =
-    subst (λ (m : MachineValue). Lacks Submit m.image m.plain e) c.machine-machine.ensures.machine ((c.in_default-replayed_burst.ensures {u = tt}).lacks refl) in
+    subst (λ (m : MachineValue). Lacks Submit m.image m.plain e) c.machine-machine.ensures.machine ((c.in_default-make_burst.ensures {u = tt}).lacks refl) in
     wrong_lacks r e c.machine-machine.ensures.legal (subst (λ (k : Kind). Lacks k r.machine.image r.machine.plain e) (sym c.in-Submit.is) lacks)
 
 pub returns-in_default-arg-clause-fault : goal.returns-in_default-arg-clause-fault

@@ -1,5 +1,6 @@
 use Rattle.std.proofs.Common.{◌≡◌, ◌≢◌, ◌+◌, ◌-◌, ◌^◌, ℕ, None, ◌∷◌, ◌++◌, [], List, true, ◌∙◌, ap, ap₂, sym, subst, refl, arith}
 use Rattle.std.specs.Prelude.{is_ok, if◌then◌else◌, vec_capacity}
+use Rattle.svc_core.specs.declared.burst.Lease.{Lease}
 use Rattle.svc_core_laws.specs.State.{State}
 use Rattle.svc_machine_laws.specs.declared.reply.Reply.{Reply}
 use Rattle.svc_machine_laws.specs.declared.reply.What.TheVariants as what
@@ -54,7 +55,7 @@ module _ (c : goal.After-self-2-1) where
   ok = let x : Event = Assign c.args.unit.0 c.args.guess in subst (λ (v : MachineValue). Accepts v x) (sym c.self.view_is) c.requires
 
   abbrev seat : Seat
-  seat = record { lease = c.new-lease.result; entry = c.assign-entry.result; waiting = c.new.result }
+  seat = record { lease = c.new.result; entry = c.assign-entry.result; waiting = c.new-2.result }
 
   abbrev after : Parts
   after = parts_of (record c.self.inside { bus = c.begin.new.self; sequencer = c.assign-entry.new.self; seats = c.push-room.new.self; accepted = c.self.inside.accepted + 1; epoch = c.self.inside.epoch + 1 })
@@ -74,7 +75,8 @@ module _ (c : goal.After-self-2-1) where
   moved =
       let e = c.assign-entry.result in
       assigned (parts_of c.self.inside) c.self.invariant c.args.unit.0 c.args.guess ok c.self.inside.seats.items refl seat e c.assign-entry.ensures.entry
-      (ap₂ {C = whole.Seat State} (λ (core : State) (w : List ℕ). record { unit = c.args.unit.0; epoch = c.self.inside.epoch; entry = e; core = core; waiting = w }) c.start.ensures c.new.ensures)
+      (ap₂ {C = whole.Seat State} (λ (l : Lease) (w : List ℕ). record { unit = l.unit.0; epoch = l.epoch; entry = e; core = l.core; waiting = w }) c.new.ensures c.new-2.ensures
+      ∙ ap {B = whole.Seat State} (λ (core : State). record { unit = c.args.unit.0; epoch = c.self.inside.epoch; entry = e; core = core; waiting = [] }) c.start.ensures)
       c.push-room.new.self.items pushed
       c.assign-entry.new.self c.assign-entry.ensures.state
       c.begin.new.self c.begin.ensures.table
