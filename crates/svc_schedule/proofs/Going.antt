@@ -28,10 +28,10 @@ use Rattle.svc_machine.specs.Reads.{lease_of, lease_from, runs_head, is_full}
 use Rattle.svc_history_laws.specs.Histories.{LeadsOn}
 use Rattle.svc_history_laws.proofs.Histories.{leads_on}
 use Rattle.svc_history.specs.Glances.{has_ended}
-use Rattle.svc_history.specs.Moves.{NextMove, in_run, without_task}
+use Rattle.svc_history.specs.Moves.{NextMove, in_run, move_of, without_task}
 use Rattle.svc_history.specs.Moves as move
 use Rattle.svc_history.specs.Recorded.{Recorded, IsLegal, standing_of}
-use Rattle.svc_schedule.specs.Moves.{Asks, IsBurstOf, IsPassed, move_of}
+use Rattle.svc_schedule.specs.Moves.{Asks, IsBurstOf, IsPassed}
 use Rattle.svc_schedule.proofs.Accepting.{IsGoing, IsOwnBurst, is_at, assign_passes, commit_passes, replace_passes, submit_passes}
 use Rattle.svc_schedule.proofs.Epochs.{epochs_few}
 

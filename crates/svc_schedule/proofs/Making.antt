@@ -19,22 +19,11 @@ use Rattle.svc_machine.specs.Value.{MachineValue}
 use Rattle.svc_history_laws.specs.declared.entry.Entry.{Entry}
 use Rattle.svc_history_laws.specs.declared.entry.Slip.{Slip}
 use Rattle.svc_history.specs.Applying.{IsApplied, refused_at}
-use Rattle.svc_history.specs.declared.glance.Glance.{Glance}
-use Rattle.svc_history.specs.Glances.{IsGlance, has_ended}
-use Rattle.svc_history.specs.Moves.{NextMove, in_run, next_move}
+use Rattle.svc_history.specs.Moves.{NextMove, move_of}
 use Rattle.svc_history.specs.Moves as move
 use Rattle.svc_history.specs.Recorded.{Recorded, standing_of}
-use Rattle.svc_machine.specs.Reads.{lease_of, runs_head}
 use Rattle.svc_schedule.specs.Bursts.{AreReady}
-use Rattle.svc_schedule.specs.Moves.{Asks, IsBurstOf, IsMade, IsPassed, Records, move_of}
-
--- a glance shows the unit's move
-pub move_is : (m : MachineValue) (unit : ℕ) (g : Glance) → IsGlance m unit g → next_move g ≡ move_of m unit
-move_is m unit g is =
-    ap (λ e. if e then move.Ended else in_run g.lease g.is_head g.guess) is.ended
-    ∙ (ap (λ l. if has_ended m then move.Ended else in_run l g.is_head g.guess) is.lease
-    ∙ (ap (λ h. if has_ended m then move.Ended else in_run (lease_of m unit) h g.guess) is.head
-    ∙ ap (λ o. if has_ended m then move.Ended else in_run (lease_of m unit) (runs_head m unit) o) is.guess_is))
+use Rattle.svc_schedule.specs.Moves.{Asks, IsBurstOf, IsMade, IsPassed, Records}
 
 one : (P : Advance → Type 0) (b : Advance) → P b → All P (b ∷ [])
 one P b holds zero d below = holds
