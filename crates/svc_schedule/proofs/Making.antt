@@ -1,6 +1,6 @@
 -- What came of asking for a move.
 use Rattle.std.proofs.Common.{ℕ, zero, suc, ◌≡◌, ◌<◌, ◌∙◌, List, [], ◌∷◌, ◌++◌, length, take, drop, set, arith, Bool, true, false, Option, Some, Result, Ok, Err, refl, sym, ap, subst, inl, inr, is_some, is_ok}
-use Rattle.std.specs.Prelude.{if◌then◌else◌, All}
+use Rattle.std.specs.Prelude.{All}
 use Rattle.std.proofs.lemmas.List.{length-set}
 use Rattle.std.proofs.lemmas.List.Elements.{All-append, All-set}
 use Rattle.std.proofs.Math.Seq.{take-append_seam}
@@ -15,7 +15,6 @@ use Rattle.svc_core_laws.specs.Bursts.{Advance, IsAdvance}
 use Rattle.svc_core.specs.declared.burst.Lease.{Lease}
 use Rattle.svc_machine_laws.specs.Events.{Event, Submit, Replace}
 use Rattle.svc_machine_laws.specs.Standing.{refused}
-use Rattle.svc_machine.specs.Value.{MachineValue}
 use Rattle.svc_history_laws.specs.declared.entry.Entry.{Entry}
 use Rattle.svc_history_laws.specs.declared.entry.Slip.{Slip}
 use Rattle.svc_history.specs.Applying.{IsApplied, refused_at}

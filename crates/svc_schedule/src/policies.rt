@@ -157,10 +157,11 @@ fn by_age(recorder: &Recorder, first: First) -> Order
 fn rank_of(first: First, lease: Option<&Lease>) -> u64
     ensures { result ≡ rank_of first (option_map (λ lent. lent.now) lease.entry) }
 {
-    match (first, lease) {
-        (First::Older, Some(lease)) => lease.epoch,
+    let epoch = lease.map(|lease| lease.epoch);
+    match (first, epoch) {
+        (First::Older, Some(epoch)) => epoch,
         (First::Older, None) => u64::MAX,
-        (First::Younger, Some(lease)) => u64::MAX - lease.epoch,
+        (First::Younger, Some(epoch)) => u64::MAX - epoch,
         (First::Younger, None) => 0,
     }
 }

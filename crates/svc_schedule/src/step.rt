@@ -98,7 +98,7 @@ fn make_move(recorder: &mut Recorder, bursts: &mut [Burst], unit: UnitId, most: 
 
 // The unit runs its task on by its burst, or replaces a line in place of that where its cache has no room.
 fn run_on(recorder: &mut Recorder, burst: &Burst, unit: UnitId) -> bool
-    requires known { unit.0 < recorder.old.machine.config.units }
+    requires { unit.0 < recorder.old.machine.config.units }
     ensures made { IsTrue result → (most : ℕ) → RunsOnBy most recorder.old unit burst.now
         → IsMade most recorder.old recorder.new unit }
     ensures passed { IsFalse result → (most : ℕ) → RunsOnBy most recorder.old unit burst.now
