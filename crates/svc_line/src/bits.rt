@@ -120,7 +120,7 @@ impl LineBits {
     pub fn on_commit(self) -> LineBits
         ensures { bits_of result ≡ committed (bits_of self) }
     {
-        if self.is_active() {
+        if self.is_valid() {
             self.union(LineBits::COMMIT)
         } else {
             self
