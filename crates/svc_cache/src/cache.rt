@@ -158,9 +158,8 @@ impl Cache {
         ensures sets { self.new.sets ≡ self.old.sets }
         ensures ways { self.new.ways ≡ self.old.ways }
     {
-        for place in 0..self.places.len() {
-            let bits = self.places[place].line.bits;
-            self.places[place].line.bits = bits.on_commit();
+        for place in self.places.iter_mut() {
+            place.line.bits = place.line.bits.on_commit();
         }
     }
 
@@ -170,9 +169,8 @@ impl Cache {
         ensures sets { self.new.sets ≡ self.old.sets }
         ensures ways { self.new.ways ≡ self.old.ways }
     {
-        for place in 0..self.places.len() {
-            let bits = self.places[place].line.bits;
-            self.places[place].line.bits = bits.on_squash();
+        for place in self.places.iter_mut() {
+            place.line.bits = place.line.bits.on_squash();
         }
     }
 }

@@ -1,19 +1,37 @@
-use Rattle.std.proofs.Common.{◌∙◌, ap, arith}
-use Rattle.svc_cache.specs.Places.{CacheValue, line_of}
-use Rattle.svc_cache.specs.Sound.{value_of}
-use Rattle.svc_cache.proofs.Caches.{committed_places}
+use Rattle.std.proofs.Common.{◌≡◌, ◌≤◌, ◌∙◌, List, length, ap, arith, refl, subst, sym}
+use Rattle.std.proofs.lemmas.List.{with_items_is}
+use Rattle.svc_line.specs.Bits.{committed}
+use Rattle.svc_cache.specs.declared.place.Place.{Place}
+use Rattle.svc_cache.specs.Changes.{IsChangedBelow}
 use Rattle.svc_cache.specs.Lines.{LineMap, commit_line}
+use Rattle.svc_cache.specs.Places.{CacheValue, line_of}
+use Rattle.svc_cache.specs.Sound.{value_of, IsSound}
+use Rattle.svc_cache.proofs.Caches.{committed_places}
 use Rattle.svc_cache.proofs.cache.Cache.for_commit.Goals as goal
 
+module _ (c : goal.After-self-1) where
+  abbrev items : List Place
+  items = c.loop-place.place-items
+
+  abbrev after : CacheValue
+  after = record (value_of c.self.inside) { places = items }
+
+  changed : IsChangedBelow committed c.loop-place.place-index c.self.inside.places.items items
+  changed = subst (λ (l : List Place). IsChangedBelow committed c.loop-place.place-index l items) c.deref_mut-place-items.ensures.value c.loop-place.invariant
+
+  every : length c.self.inside.places.items ≤ c.loop-place.place-index
+  every = omega (arith, c.loop-place-test.false, ap length c.deref_mut-place-items.ensures.value)
+
+  done : IsSound after × (line_of after ≡ (λ word. commit_line (line_of (value_of c.self.inside) word)))
+  done = committed_places (value_of c.self.inside) after c.loop-place.place-index c.self.invariant refl refl every changed
+
+  same : length items ≡ c.self.inside.places.len
+  same = changed.size ∙ sym c.self.inside.places.ok.0
+
 pub invariant_of-self : goal.invariant_of-self
-invariant_of-self c =
-    let before = c.self.inside in
-    let after = c.loop-place.self-inside in
-    (committed_places (value_of before) (value_of after) c.loop-place.place c.self.invariant c.loop-place.invariant.sets c.loop-place.invariant.ways (omega arith) c.loop-place.invariant.changed).0
+invariant_of-self c = rw (with_items_is c.self.inside.places (items c) (same c)) (done c).0
 
 pub returns-clause-lines : goal.returns-clause-lines
 returns-clause-lines c =
-    let before = c.self.inside in
-    let after = c.loop-place.self-inside in
-    (committed_places (value_of before) (value_of after) c.loop-place.place c.self.invariant c.loop-place.invariant.sets c.loop-place.invariant.ways (omega arith) c.loop-place.invariant.changed).1
-    ∙ ap {B = LineMap} (λ (cache : CacheValue) word. commit_line (line_of cache word)) c.self.view_is
+    rw (with_items_is c.self.inside.places (items c) (same c)) ((done c).1
+    ∙ ap {B = LineMap} (λ (cache : CacheValue) word. commit_line (line_of cache word)) c.self.view_is)
