@@ -55,11 +55,7 @@ fn make_burst(burst: &mut Burst, machine: &Machine, entry: &Entry) -> Option<()>
 }
 
 // Replays the event that the entry names. A submission's burst is made in the place of another one.
-fn replay(
-    recorder: &mut Recorder,
-    burst: &mut Burst,
-    entry: &Entry,
-) -> Result<(), TraceFaultKind>
+fn replay(recorder: &mut Recorder, burst: &mut Burst, entry: &Entry) -> Result<(), TraceFaultKind>
     ensures entries { OnOk result (recorder.new.entries ≡ recorder.old.entries ++ entry.now ∷ []) }
     ensures image { recorder.new.machine.image ≡ recorder.old.machine.image }
     ensures config { recorder.new.machine.config ≡ recorder.old.machine.config }

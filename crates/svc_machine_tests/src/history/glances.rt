@@ -17,14 +17,18 @@ enum Step {
     Ended,
 }
 
-fn next_step(glance: Glance) -> Step {
-    match glance.next_move() {
+fn step_of(next: Move<'_>) -> Step {
+    match next {
         Move::Begin { guess } => Step::Begin(guess),
         Move::RunOn(lease) => Step::RunOn(lease.core.pc()),
         Move::Commit => Step::Commit,
         Move::Wait => Step::Wait,
         Move::Ended => Step::Ended,
     }
+}
+
+fn next_step(glance: Glance) -> Step {
+    step_of(glance.next_move())
 }
 
 fn place_of(glance: Glance) -> Option<u32> {
@@ -45,6 +49,13 @@ fn seen(alloc: Global, glance: Glance) -> Result<String, AllocError> {
 
 fn moved(alloc: Global, glance: Glance) -> Result<String, AllocError> {
     let step = next_step(glance);
+    format!(in alloc; "{step:?}")
+}
+
+// The same, as the recorder tells it after so many of the ten events.
+fn told(rt: &impl Abort, alloc: Global, count: usize, unit: u8) -> Result<String, AllocError> {
+    let recorder = after(rt, alloc, 1_000, count);
+    let step = step_of(recorder.next_move(UnitId(unit)).expect(rt, "a move"));
     format!(in alloc; "{step:?}")
 }
 
@@ -108,6 +119,7 @@ fn a_unit_moves_by_what_it_sees(rt: HostRuntime) {
     for (count, unit, wanted) in &MOVES {
         let glance = glance(&rt, rt.alloc(), 1_000, *count, *unit);
         agrees(&rt, moved(rt.alloc(), glance), wanted);
+        agrees(&rt, told(&rt, rt.alloc(), *count, *unit), wanted);
     }
 }
 
