@@ -146,7 +146,8 @@ impl Bus {
         ensures probes { IfOk result (λ r. LookUps r.1 (observed self.new).probes (observed self.old).caches) }
     {
         let place = place_of(&self.queue, unit);
-        let list = VersionList::beside(&self.caches, &self.queue, word, unit, line, &mut probes);
+        let mut list = VersionList::new();
+        list.fill_beside(&self.caches, &self.queue, word, unit, line, &mut probes);
         let backing = self.backing[word.0 as usize];
         let plan = plan_read(&list, unit, place, self.spill.get(word), backing);
         let outcome = Outcome {

@@ -67,7 +67,8 @@ impl Bus {
         if is_pinned(&self.queue, unit, &line) {
             return Err(Refusal::Pinned);
         }
-        let list = VersionList::of(&self.caches, &self.queue, word, &mut probes);
+        let mut list = VersionList::new();
+        list.fill(&self.caches, &self.queue, word, &mut probes);
         take_line(
             &mut self.caches,
             &mut self.backing,

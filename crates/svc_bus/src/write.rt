@@ -64,7 +64,8 @@ impl Bus {
     {
         let place = place_of(&self.queue, unit);
         let mut probes = Probes::new();
-        let list = VersionList::of(&self.caches, &self.queue, word, &mut probes);
+        let mut list = VersionList::new();
+        list.fill(&self.caches, &self.queue, word, &mut probes);
         let plan = plan_write(&list, unit, place);
         let tasks = self.queue.len();
         let left = plan.victim.unwrap_or(tasks);

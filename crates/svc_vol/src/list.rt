@@ -183,6 +183,18 @@ fn list_active(
 }
 
 impl VersionList {
+    /// A list without lines.
+    #[inline(always)]
+    pub fn new() -> VersionList
+        ensures committed { result.committed ≡ [] }
+        ensures active { result.active ≡ [] }
+    {
+        VersionList {
+            committed: ArrayVec::new(),
+            active: ArrayVec::new(),
+        }
+    }
+
     /// The valid lines of the word. Each cache is searched once.
     pub fn of(
         caches: &[Cache],
@@ -199,54 +211,69 @@ impl VersionList {
             ≡ active_versions (lines_in caches.now word.0) queue.now }
         ensures counted { CountsOneOfEach probes.old probes.new caches.now }
     {
+        let mut list = VersionList::new();
+        list.fill(caches, queue, word, probes);
+        list
+    }
+
+    /// The valid lines of the word come into a list without lines. Each cache is searched once.
+    pub fn fill(&mut self, caches: &[Cache], queue: &TaskQueue, word: WordAddr, probes: &mut Probes)
+        requires empty { (self.old.committed ≡ []) × (self.old.active ≡ []) }
+        requires few { length caches.now ≤ CAPACITY }
+        requires known { (place : ℕ) → place < length queue.now → get_or queue.now place 0 < length caches.now }
+        requires ranked { IsRanked (length caches.now) (lines_in caches.now word.0) }
+        requires room { HasRoomForEach probes.old caches.now }
+        ensures committed { AreCommitted (lines_in caches.now word.0) (length caches.now) self.new.committed }
+        ensures active { map (option_map seen_version) self.new.active
+            ≡ active_versions (lines_in caches.now word.0) queue.now }
+        ensures counted { CountsOneOfEach probes.old probes.new caches.now }
+    {
         let mut found = ArrayVec::new();
         find(&mut found, caches, word, probes);
-        VersionList::of_found(&found, queue)
+        self.list_found(&found, queue);
     }
 
     /// The same, if the unit's line is known already. Each other cache is searched once.
-    pub fn beside(
+    pub fn fill_beside(
+        &mut self,
         caches: &[Cache],
         queue: &TaskQueue,
         word: WordAddr,
         unit: UnitId,
         line: Option<Line>,
         probes: &mut Probes,
-    ) -> VersionList
+    )
+        requires empty { (self.old.committed ≡ []) × (self.old.active ≡ []) }
         requires few { length caches.now ≤ CAPACITY }
         requires known { (place : ℕ) → place < length queue.now → get_or queue.now place 0 < length caches.now }
         requires cached { unit.0 < length caches.now }
         requires line { lines_in caches.now word.0 unit.0 ≡ option_map seen line }
         requires ranked { IsRanked (length caches.now) (lines_in caches.now word.0) }
         requires room { HasRoomForEach probes.old caches.now }
-        ensures committed { AreCommitted (lines_in caches.now word.0) (length caches.now) result.committed }
-        ensures active { map (option_map seen_version) result.active
+        ensures committed { AreCommitted (lines_in caches.now word.0) (length caches.now) self.new.committed }
+        ensures active { map (option_map seen_version) self.new.active
             ≡ active_versions (lines_in caches.now word.0) queue.now }
         ensures counted { CountsEachOther probes.old probes.new caches.now }
     {
         let mut found = ArrayVec::new();
         find_others(&mut found, caches, word, unit, line, probes);
-        VersionList::of_found(&found, queue)
+        self.list_found(&found, queue);
     }
 
     // The valid lines among those that were found, in order.
-    fn of_found(found: &[Option<Line>], queue: &TaskQueue) -> VersionList
+    fn list_found(&mut self, found: &[Option<Line>], queue: &TaskQueue)
+        requires empty { (self.old.committed ≡ []) × (self.old.active ≡ []) }
         requires few { length found.now ≤ CAPACITY }
         requires known { (place : ℕ) → place < length queue.now → get_or queue.now place 0 < length found.now }
         requires valid { AreValid (lines_at (map (option_map seen) found.now)) }
         requires ranked { IsRanked (length found.now) (lines_at (map (option_map seen) found.now)) }
         ensures committed { AreCommitted (lines_at (map (option_map seen) found.now))
-            (length found.now) result.committed }
-        ensures active { map (option_map seen_version) result.active
+            (length found.now) self.new.committed }
+        ensures active { map (option_map seen_version) self.new.active
             ≡ active_versions (lines_at (map (option_map seen) found.now)) queue.now }
     {
-        let mut list = VersionList {
-            committed: ArrayVec::new(),
-            active: ArrayVec::new(),
-        };
-        list_committed(&mut list.committed, found);
-        list_active(&mut list.active, found, queue);
-        list
+        list_committed(&mut self.committed, found);
+        list_active(&mut self.active, found, queue);
     }
 
     /// The committed lines. Of those that were stored to, the oldest is the first.

@@ -24,16 +24,16 @@ use Rattle.svc_bus.proofs.Counting.{look_ups}
 use Rattle.svc_bus.proofs.Hitting.{never_hit}
 use Rattle.svc_bus.proofs.bus.Bus.read_beside.Goals as goal
 
-pub beside-list-requires-clause-room : goal.beside-list-requires-clause-room
-beside-list-requires-clause-room c =
+pub fill_beside-requires-clause-room : goal.fill_beside-requires-clause-room
+fill_beside-requires-clause-room c =
     let inside = c.self.inside in
     let old : BusValue = record { caches = inside.caches.items; spill = inside.spill; backing = inside.backing.items; units = inside.queue; commits = inside.commits; probes = inside.probes } in
     let one : IsOne c.args.probes = c.requires.one in
     let few : AreFew c.args.probes = record { searches = omega (arith, one.searches); places = one.places } in
     subst (HasRoomForEach c.args.probes) (sym c.deref.ensures.value) (room_to_list old c.self.invariant c.args.probes few)
 
-pub beside-list-requires-clause-ranked : goal.beside-list-requires-clause-ranked
-beside-list-requires-clause-ranked c = ranked_in _ c.self.invariant c.deref.result.now c.deref.ensures.value c.args.word.0
+pub fill_beside-requires-clause-ranked : goal.fill_beside-requires-clause-ranked
+fill_beside-requires-clause-ranked c = ranked_in _ c.self.invariant c.deref.result.now c.deref.ensures.value c.args.word.0
 
 pub carry_out-requires-clause-ranked : goal.carry_out-requires-clause-ranked
 carry_out-requires-clause-ranked c = ranked_in _ c.self.invariant c.deref_mut.result.now c.deref_mut.ensures.value c.args.word.0
@@ -50,11 +50,11 @@ carry_out-requires-clause-ends c =
 abbrev old : goal.After-probes-2-1 → BusValue
 old c = let inside = c.self.inside in record { caches = inside.caches.items; spill = inside.spill; backing = inside.backing.items; units = inside.queue; commits = inside.commits; probes = inside.probes }
 
-looked : (c : goal.After-probes-2-1) → c.args.word.0 < length (old c).backing → IsLookedUp (old c) c.beside-list.result c.place_of-place.result c.args.word.0 c.args.unit.0 c.index-backing.result.now c.get.result
+looked : (c : goal.After-probes-2-1) → c.args.word.0 < length (old c).backing → IsLookedUp (old c) c.fill_beside.new.self c.place_of-place.result c.args.word.0 c.args.unit.0 c.index-backing.result.now c.get.result
 unfolding observed
 looked c known = record {
   in_memory = known;
-  described = listed_describes (old c) c.self.invariant c.deref.result.now c.deref.ensures.value c.args.word.0 c.beside-list.result c.beside-list.ensures.committed c.beside-list.ensures.active;
+  described = listed_describes (old c) c.self.invariant c.deref.result.now c.deref.ensures.value c.args.word.0 c.fill_beside.new.self c.fill_beside.ensures.committed c.fill_beside.ensures.active;
   within = c.place_of-place.ensures.within;
   at_work = c.place_of-place.ensures.at_work;
   spill_is = c.get.ensures;
@@ -64,7 +64,7 @@ looked c known = record {
 looked_plan : (c : goal.After-probes-2-1) → c.args.word.0 < length (old c).backing → IsPlanned (old c) c.place_of-place.result c.args.word.0 c.plan_read-plan.result.served c.plan_read-plan.result.value (bits_of c.plan_read-plan.result.bits)
 unfolding observed
 looked_plan c known =
-    planned_read (old c) c.beside-list.result c.place_of-place.result c.args.word.0 c.args.unit.0 c.index-backing.result.now c.get.result c.plan_read-plan.result.served c.plan_read-plan.result.value (bits_of c.plan_read-plan.result.bits)
+    planned_read (old c) c.fill_beside.new.self c.place_of-place.result c.args.word.0 c.args.unit.0 c.index-backing.result.now c.get.result c.plan_read-plan.result.served c.plan_read-plan.result.value (bits_of c.plan_read-plan.result.bits)
     c.self.invariant (looked c known) c.plan_read-plan.ensures.served c.plan_read-plan.ensures.line c.plan_read-plan.ensures.valid
 
 pub carry_out-requires-clause-valid : goal.carry_out-requires-clause-valid
@@ -72,7 +72,7 @@ unfolding observed
 carry_out-requires-clause-valid c =
     let known : c.args.word.0 < length (old c).backing = rw (← c.self.view_is) at c.requires.in_memory in
     c.plan_read-plan.ensures.valid (observed (old c)) c.self.invariant.linked.table c.args.word.0
-    (own_asked (old c) c.beside-list.result c.place_of-place.result c.args.word.0 c.args.unit.0 c.index-backing.result.now c.get.result c.self.invariant (looked c known))
+    (own_asked (old c) c.fill_beside.new.self c.place_of-place.result c.args.word.0 c.args.unit.0 c.index-backing.result.now c.get.result c.self.invariant (looked c known))
 
 pub carry_out-requires-clause-active : goal.carry_out-requires-clause-active
 unfolding observed
@@ -83,12 +83,12 @@ carry_out-requires-clause-active c =
 pub carry_out-requires-clause-room : goal.carry_out-requires-clause-room
 carry_out-requires-clause-room c =
     let one : IsOne c.args.probes = c.requires.one in
-    let each : CountsEachOther c.args.probes c.beside-list.new.probes (old c).caches = subst (CountsEachOther c.args.probes c.beside-list.new.probes) c.deref.ensures.value c.beside-list.ensures.counted in
+    let each : CountsEachOther c.args.probes c.fill_beside.new.probes (old c).caches = subst (CountsEachOther c.args.probes c.fill_beside.new.probes) c.deref.ensures.value c.fill_beside.ensures.counted in
     -- the look into the unit's own cache and those beside it are one look into each
     let first : Probes = record { searches = 0; places = c.args.probes.places } in
     let few : AreFew first = record { searches = omega arith; places = one.places } in
-    let counted : CountsOneOfEach first c.beside-list.new.probes (old c).caches = record { searches = omega (arith, each.searches, one.searches); places = each.places } in
-    subst (λ (xs : List CacheValue). HasRoomFor c.beside-list.new.probes xs (1 + length xs)) (sym c.deref_mut.ensures.value) (room_to_change (old c) c.self.invariant first c.beside-list.new.probes few counted)
+    let counted : CountsOneOfEach first c.fill_beside.new.probes (old c).caches = record { searches = omega (arith, each.searches, one.searches); places = each.places } in
+    subst (λ (xs : List CacheValue). HasRoomFor c.fill_beside.new.probes xs (1 + length xs)) (sym c.deref_mut.ensures.value) (room_to_change (old c) c.self.invariant first c.fill_beside.new.probes few counted)
 
 pub returns-in-Err-clause-refused : goal.returns-in-Err-clause-refused
 unfolding observed
@@ -108,11 +108,11 @@ before c = let inside = c.self.inside in record { caches = inside.caches.items; 
 abbrev after : goal.After-self-3-1 → ℕ → BusValue
 after c told = record (before c) { caches = c.carry_out.new.caches; backing = c.carry_out.new.backing; probes = told }
 
-seen : (c : goal.After-self-3-1) → c.args.word.0 < length (before c).backing → IsLookedUp (before c) c.beside-list.result c.place_of-place.result c.args.word.0 c.args.unit.0 c.index-backing.result.now c.get.result
+seen : (c : goal.After-self-3-1) → c.args.word.0 < length (before c).backing → IsLookedUp (before c) c.fill_beside.new.self c.place_of-place.result c.args.word.0 c.args.unit.0 c.index-backing.result.now c.get.result
 unfolding observed
 seen c known = record {
   in_memory = known;
-  described = listed_describes (before c) c.self.invariant c.deref.result.now c.deref.ensures.value c.args.word.0 c.beside-list.result c.beside-list.ensures.committed c.beside-list.ensures.active;
+  described = listed_describes (before c) c.self.invariant c.deref.result.now c.deref.ensures.value c.args.word.0 c.fill_beside.new.self c.fill_beside.ensures.committed c.fill_beside.ensures.active;
   within = c.place_of-place.ensures.within;
   at_work = c.place_of-place.ensures.at_work;
   spill_is = c.get.ensures;
@@ -122,7 +122,7 @@ seen c known = record {
 seen_plan : (c : goal.After-self-3-1) → c.args.word.0 < length (before c).backing → IsPlanned (before c) c.place_of-place.result c.args.word.0 c.plan_read-plan.result.served c.plan_read-plan.result.value (bits_of c.plan_read-plan.result.bits)
 unfolding observed
 seen_plan c known =
-    planned_read (before c) c.beside-list.result c.place_of-place.result c.args.word.0 c.args.unit.0 c.index-backing.result.now c.get.result c.plan_read-plan.result.served c.plan_read-plan.result.value (bits_of c.plan_read-plan.result.bits)
+    planned_read (before c) c.fill_beside.new.self c.place_of-place.result c.args.word.0 c.args.unit.0 c.index-backing.result.now c.get.result c.plan_read-plan.result.served c.plan_read-plan.result.value (bits_of c.plan_read-plan.result.bits)
     c.self.invariant (seen c known) c.plan_read-plan.ensures.served c.plan_read-plan.ensures.line c.plan_read-plan.ensures.valid
 
 sizes_are : (c : goal.After-self-3-1) (told : ℕ) → KeepsSizes (before c) (after c told)
@@ -175,7 +175,7 @@ returns-clause-value c =
     let known : c.args.word.0 < length (before c).backing = rw (← c.self.view_is) at c.requires.in_memory in
     rw (← c.self.view_is) (λ t place runs.
     value_seen (before c) c.self.invariant t runs.agrees c.place_of-place.result place c.args.word.0 c.place_of-place.ensures.within runs.within (runs.unit_is ∙ sym c.place_of-place.ensures.at_work) c.plan_read-plan.result.value
-    (c.plan_read-plan.ensures.value (observed (before c)) t c.args.word.0 (asked (before c) t c.beside-list.result c.place_of-place.result c.args.word.0 c.args.unit.0 c.index-backing.result.now c.get.result runs.agrees (seen c known))))
+    (c.plan_read-plan.ensures.value (observed (before c)) t c.args.word.0 (asked (before c) t c.fill_beside.new.self c.place_of-place.result c.args.word.0 c.args.unit.0 c.index-backing.result.now c.get.result runs.agrees (seen c known))))
 
 pub returns-clause-served : goal.returns-clause-served
 unfolding observed
@@ -183,7 +183,7 @@ returns-clause-served c =
     let known : c.args.word.0 < length (before c).backing = rw (← c.self.view_is) at c.requires.in_memory in
     rw (← c.self.view_is) (λ t place runs.
     served_seen (before c) c.self.invariant t runs.agrees c.place_of-place.result place c.args.word.0 c.place_of-place.ensures.within runs.within (runs.unit_is ∙ sym c.place_of-place.ensures.at_work) c.plan_read-plan.result.served
-    (c.plan_read-plan.ensures.served (observed (before c)) t c.args.word.0 (asked (before c) t c.beside-list.result c.place_of-place.result c.args.word.0 c.args.unit.0 c.index-backing.result.now c.get.result runs.agrees (seen c known))))
+    (c.plan_read-plan.ensures.served (observed (before c)) t c.args.word.0 (asked (before c) t c.fill_beside.new.self c.place_of-place.result c.args.word.0 c.args.unit.0 c.index-backing.result.now c.get.result runs.agrees (seen c known))))
 
 pub returns-clause-table : goal.returns-clause-table
 unfolding observed
@@ -201,8 +201,8 @@ unfolding observed
 returns-clause-probes c =
     let known : c.args.word.0 < length (before c).backing = rw (← c.self.view_is) at c.requires.in_memory in
     let one : IsOne c.args.probes = c.requires.one in
-    let each : CountsEachOther c.args.probes c.beside-list.new.probes (before c).caches = subst (CountsEachOther c.args.probes c.beside-list.new.probes) c.deref.ensures.value c.beside-list.ensures.counted in
-    let changed : CountsUpTo c.beside-list.new.probes c.carry_out.new.probes (length (before c).caches) = subst (λ (xs : List CacheValue). CountsUpTo c.beside-list.new.probes c.carry_out.new.probes (length xs)) c.deref_mut.ensures.value c.in_default.ensures.searches in
+    let each : CountsEachOther c.args.probes c.fill_beside.new.probes (before c).caches = subst (CountsEachOther c.args.probes c.fill_beside.new.probes) c.deref.ensures.value c.fill_beside.ensures.counted in
+    let changed : CountsUpTo c.fill_beside.new.probes c.carry_out.new.probes (length (before c).caches) = subst (λ (xs : List CacheValue). CountsUpTo c.fill_beside.new.probes c.carry_out.new.probes (length xs)) c.deref_mut.ensures.value c.in_default.ensures.searches in
     let found : lines_in (before c).caches c.args.word.0 (get_or (before c).units c.place_of-place.result 0) ≡ option_map seen_of c.args.line = rw (← c.self.view_is, ← c.place_of-place.ensures.at_work) at c.requires.line in
     let miss = never_hit (before c) c.self.invariant c.place_of-place.result c.args.word.0 c.plan_read-plan.result.served c.plan_read-plan.result.value (bits_of c.plan_read-plan.result.bits) (seen_plan c known) c.args.line found c.requires.idle in
-    rw (← c.self.view_is) (look_ups c.plan_read-plan.result.served (length (before c).caches) c.beside-list.new.probes c.carry_out.new.probes miss c.self.invariant.some_caches (omega (arith, each.searches, one.searches)) changed)
+    rw (← c.self.view_is) (look_ups c.plan_read-plan.result.served (length (before c).caches) c.fill_beside.new.probes c.carry_out.new.probes miss c.self.invariant.some_caches (omega (arith, each.searches, one.searches)) changed)

@@ -16,9 +16,9 @@ use Rattle.svc_bus.proofs.Knowing.{in_memory}
 use Rattle.svc_bus.proofs.Replacing.{IsReplaced, replaced_bus, replaced_agreed}
 use Rattle.svc_bus.proofs.bus.Bus.replace.Goals as goal
 
-pub of-list-requires-clause-room : goal.of-list-requires-clause-room
+pub fill-requires-clause-room : goal.fill-requires-clause-room
 unfolding observed
-of-list-requires-clause-room c =
+fill-requires-clause-room c =
     let inside = c.self.inside in
     let old : BusValue = record { caches = inside.caches.items; spill = inside.spill; backing = inside.backing.items; units = inside.queue; commits = inside.commits; probes = inside.probes } in
     let known : c.args.unit.0 < length old.caches = rw (← c.self.view_is) at c.requires.known in
@@ -26,8 +26,8 @@ of-list-requires-clause-room c =
     let few : AreFew c.lookup.new.probes = one_look old c.self.invariant c.args.unit.0 c.index.result.now c.new-probes.result c.lookup.new.probes known was c.new-probes.ensures.searches c.new-probes.ensures.places c.lookup.ensures.counted in
     subst (HasRoomForEach c.lookup.new.probes) (sym c.deref.ensures.value) (room_to_list old c.self.invariant c.lookup.new.probes few)
 
-pub of-list-requires-clause-ranked : goal.of-list-requires-clause-ranked
-of-list-requires-clause-ranked c = ranked_in _ c.self.invariant c.deref.result.now c.deref.ensures.value c.args.word.0
+pub fill-requires-clause-ranked : goal.fill-requires-clause-ranked
+fill-requires-clause-ranked c = ranked_in _ c.self.invariant c.deref.result.now c.deref.ensures.value c.args.word.0
 
 pub take_line-requires-clause-ranked : goal.take_line-requires-clause-ranked
 take_line-requires-clause-ranked c = ranked_in _ c.self.invariant c.deref_mut.result.now c.deref_mut.ensures.value c.args.word.0
@@ -50,8 +50,8 @@ take_line-requires-clause-room c =
     let known : c.args.unit.0 < length old.caches = rw (← c.self.view_is) at c.requires.known in
     let was : cache_at old.caches c.args.unit.0 ≡ c.index.result.now = read_item old.caches c.args.unit.0 c.index.result.now no_cache c.index.ensures known in
     let few : AreFew c.lookup.new.probes = one_look old c.self.invariant c.args.unit.0 c.index.result.now c.new-probes.result c.lookup.new.probes known was c.new-probes.ensures.searches c.new-probes.ensures.places c.lookup.ensures.counted in
-    let counted : CountsOneOfEach c.lookup.new.probes c.of-list.new.probes old.caches = subst (CountsOneOfEach c.lookup.new.probes c.of-list.new.probes) c.deref.ensures.value c.of-list.ensures.counted in
-    subst (λ (xs : List CacheValue). HasRoomFor c.of-list.new.probes xs (1 + length xs)) (sym c.deref_mut.ensures.value) (room_to_change old c.self.invariant c.lookup.new.probes c.of-list.new.probes few counted)
+    let counted : CountsOneOfEach c.lookup.new.probes c.fill.new.probes old.caches = subst (CountsOneOfEach c.lookup.new.probes c.fill.new.probes) c.deref.ensures.value c.fill.ensures.counted in
+    subst (λ (xs : List CacheValue). HasRoomFor c.fill.new.probes xs (1 + length xs)) (sym c.deref_mut.ensures.value) (room_to_change old c.self.invariant c.lookup.new.probes c.fill.new.probes few counted)
 
 pub spill_version-requires-clause-known : goal.spill_version-requires-clause-known
 unfolding observed

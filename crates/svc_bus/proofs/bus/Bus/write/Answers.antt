@@ -24,11 +24,11 @@ use Rattle.svc_bus.proofs.Planning.{HasList, listed, room_to_store, refusal_is, 
 use Rattle.svc_bus.proofs.Writing.{IsPlanned, IsWritten, written_bus, written_agreed}
 use Rattle.svc_bus.proofs.bus.Bus.write.Goals as goal
 
-pub of-list-requires-clause-room : goal.of-list-requires-clause-room
-of-list-requires-clause-room c = room_for_each _ c.self.invariant c.new-probes.result c.deref.result.now c.new-probes.ensures.searches c.new-probes.ensures.places c.deref.ensures.value
+pub fill-requires-clause-room : goal.fill-requires-clause-room
+fill-requires-clause-room c = room_for_each _ c.self.invariant c.new-probes.result c.deref.result.now c.new-probes.ensures.searches c.new-probes.ensures.places c.deref.ensures.value
 
-pub of-list-requires-clause-ranked : goal.of-list-requires-clause-ranked
-of-list-requires-clause-ranked c = ranked_in _ c.self.invariant c.deref.result.now c.deref.ensures.value c.args.word.0
+pub fill-requires-clause-ranked : goal.fill-requires-clause-ranked
+fill-requires-clause-ranked c = ranked_in _ c.self.invariant c.deref.result.now c.deref.ensures.value c.args.word.0
 
 pub store_line-requires-clause-ranked : goal.store_line-requires-clause-ranked
 store_line-requires-clause-ranked c = ranked_in _ c.self.invariant c.deref_mut.result.now c.deref_mut.ensures.value c.args.word.0
@@ -41,25 +41,25 @@ store_line-requires-clause-units c = rw c.deref_mut.ensures.value (units_known _
 
 pub store_line-requires-clause-held : goal.store_line-requires-clause-held
 store_line-requires-clause-held c =
-    let list = listed _ c.self.invariant c.args.word.0 c.of-list.result c.deref.result.now c.deref.ensures.value c.of-list.ensures.committed c.of-list.ensures.active in
-    rw c.deref-2.ensures.0 (held_lines _ c.self.invariant c.args.unit.0 c.place_of-place.result c.args.word.0 c.place_of-place.ensures.within c.place_of-place.ensures.at_work c.of-list.result list c.plan_write-plan.result.changed.items c.plan_write-plan.ensures.listed c.deref_mut.result.now c.deref_mut.ensures.value)
+    let list = listed _ c.self.invariant c.args.word.0 c.fill.new.self c.deref.result.now c.deref.ensures.value c.fill.ensures.committed c.fill.ensures.active in
+    rw c.deref-2.ensures.0 (held_lines _ c.self.invariant c.args.unit.0 c.place_of-place.result c.args.word.0 c.place_of-place.ensures.within c.place_of-place.ensures.at_work c.fill.new.self list c.plan_write-plan.result.changed.items c.plan_write-plan.ensures.listed c.deref_mut.result.now c.deref_mut.ensures.value)
 
 pub store_line-requires-clause-once : goal.store_line-requires-clause-once
 store_line-requires-clause-once c =
-    let list = listed _ c.self.invariant c.args.word.0 c.of-list.result c.deref.result.now c.deref.ensures.value c.of-list.ensures.committed c.of-list.ensures.active in
-    rw c.deref-2.ensures.0 (once_each _ c.self.invariant c.args.unit.0 c.place_of-place.result c.args.word.0 c.place_of-place.ensures.within c.place_of-place.ensures.at_work c.of-list.result list c.plan_write-plan.result.changed.items c.plan_write-plan.ensures.listed c.deref_mut.result.now c.deref_mut.ensures.value)
+    let list = listed _ c.self.invariant c.args.word.0 c.fill.new.self c.deref.result.now c.deref.ensures.value c.fill.ensures.committed c.fill.ensures.active in
+    rw c.deref-2.ensures.0 (once_each _ c.self.invariant c.args.unit.0 c.place_of-place.result c.args.word.0 c.place_of-place.ensures.within c.place_of-place.ensures.at_work c.fill.new.self list c.plan_write-plan.result.changed.items c.plan_write-plan.ensures.listed c.deref_mut.result.now c.deref_mut.ensures.value)
 
 pub store_line-requires-clause-active : goal.store_line-requires-clause-active
 unfolding observed
 store_line-requires-clause-active c =
-    let list = listed _ c.self.invariant c.args.word.0 c.of-list.result c.deref.result.now c.deref.ensures.value c.of-list.ensures.committed c.of-list.ensures.active in
+    let list = listed _ c.self.invariant c.args.word.0 c.fill.new.self c.deref.result.now c.deref.ensures.value c.fill.ensures.committed c.fill.ensures.active in
     let known : c.args.word.0 < length c.self.inside.backing.items = rw (← c.self.view_is) at c.requires.in_memory in
-    line_active _ c.self.invariant c.args.unit.0 c.place_of-place.result c.args.word.0 c.place_of-place.ensures.within c.place_of-place.ensures.at_work c.of-list.result list c.plan_write-plan.result.changed.items c.plan_write-plan.ensures.listed c.args.value c.unwrap_or-left.result (bits_of c.plan_write-plan.result.bits) (option_map (λ (u : UnitId). u.0) c.plan_write-plan.result.next) (option_map (λ (u : UnitId). u.0) c.plan_write-plan.result.previous)
-    (left_is _ c.self.invariant c.args.unit.0 c.place_of-place.result c.args.word.0 c.place_of-place.ensures.within c.place_of-place.ensures.at_work c.of-list.result list c.plan_write-plan.result.victim c.len-tasks.result c.len-tasks.ensures.count c.plan_write-plan.ensures.victim c.unwrap_or-left.result c.unwrap_or-left.ensures)
+    line_active _ c.self.invariant c.args.unit.0 c.place_of-place.result c.args.word.0 c.place_of-place.ensures.within c.place_of-place.ensures.at_work c.fill.new.self list c.plan_write-plan.result.changed.items c.plan_write-plan.ensures.listed c.args.value c.unwrap_or-left.result (bits_of c.plan_write-plan.result.bits) (option_map (λ (u : UnitId). u.0) c.plan_write-plan.result.next) (option_map (λ (u : UnitId). u.0) c.plan_write-plan.result.previous)
+    (left_is _ c.self.invariant c.args.unit.0 c.place_of-place.result c.args.word.0 c.place_of-place.ensures.within c.place_of-place.ensures.at_work c.fill.new.self list c.plan_write-plan.result.victim c.len-tasks.result c.len-tasks.ensures.count c.plan_write-plan.ensures.victim c.unwrap_or-left.result c.unwrap_or-left.ensures)
     c.plan_write-plan.ensures.valid c.plan_write-plan.ensures.line c.plan_write-plan.ensures.others c.plan_write-plan.ensures.next c.plan_write-plan.ensures.previous c.plan_write-plan.ensures.linked known
 
 pub store_line-requires-clause-room : goal.store_line-requires-clause-room
-store_line-requires-clause-room c = room_to_store _ c.self.invariant c.deref_mut.result.now c.deref_mut.ensures.value c.new-probes.result c.of-list.new.probes c.new-probes.ensures.searches c.new-probes.ensures.places (subst (CountsOneOfEach c.new-probes.result c.of-list.new.probes) c.deref.ensures.value c.of-list.ensures.counted)
+store_line-requires-clause-room c = room_to_store _ c.self.invariant c.deref_mut.result.now c.deref_mut.ensures.value c.new-probes.result c.fill.new.probes c.new-probes.ensures.searches c.new-probes.ensures.places (subst (CountsOneOfEach c.new-probes.result c.fill.new.probes) c.deref.ensures.value c.fill.ensures.counted)
 
 pub returns-in_err-store_line-clause-refused : goal.returns-in_err-store_line-clause-refused
 unfolding observed
@@ -71,8 +71,8 @@ returns-in_err-store_line-clause-refused c =
 
 pub victim_of-requires-clause-within : goal.victim_of-requires-clause-within
 victim_of-requires-clause-within c =
-    let list = listed _ c.self.invariant c.args.word.0 c.of-list.result c.deref.result.now c.deref.ensures.value c.of-list.ensures.committed c.of-list.ensures.active in
-    chosen_within _ c.self.invariant c.args.unit.0 c.place_of-place.result c.args.word.0 c.place_of-place.ensures.within c.place_of-place.ensures.at_work c.of-list.result list c.plan_write-plan.result.victim c.len-tasks.result c.len-tasks.ensures.count c.plan_write-plan.ensures.victim
+    let list = listed _ c.self.invariant c.args.word.0 c.fill.new.self c.deref.result.now c.deref.ensures.value c.fill.ensures.committed c.fill.ensures.active in
+    chosen_within _ c.self.invariant c.args.unit.0 c.place_of-place.result c.args.word.0 c.place_of-place.ensures.within c.place_of-place.ensures.at_work c.fill.new.self list c.plan_write-plan.result.victim c.len-tasks.result c.len-tasks.ensures.count c.plan_write-plan.ensures.victim
 
 abbrev before : goal.After-victim_of → BusValue
 before c = let inside = c.self.inside in record { caches = inside.caches.items; spill = inside.spill; backing = inside.backing.items; units = inside.queue; commits = inside.commits; probes = inside.probes }
@@ -92,10 +92,10 @@ changed c = c.plan_write-plan.result.changed.items
 
 plan_of : (c : goal.After-victim_of) → IsPlanned (before c) c.place_of-place.result c.args.word.0 c.args.value (line c) (previous c) (changed c) c.unwrap_or-left.result
 plan_of c =
-    let list : HasList (before c) c.args.word.0 c.of-list.result = listed (before c) c.self.invariant c.args.word.0 c.of-list.result c.deref.result.now c.deref.ensures.value c.of-list.ensures.committed c.of-list.ensures.active in
-    planned (before c) c.self.invariant c.args.unit.0 c.place_of-place.result c.args.word.0 c.place_of-place.ensures.within c.place_of-place.ensures.at_work c.of-list.result list
+    let list : HasList (before c) c.args.word.0 c.fill.new.self = listed (before c) c.self.invariant c.args.word.0 c.fill.new.self c.deref.result.now c.deref.ensures.value c.fill.ensures.committed c.fill.ensures.active in
+    planned (before c) c.self.invariant c.args.unit.0 c.place_of-place.result c.args.word.0 c.place_of-place.ensures.within c.place_of-place.ensures.at_work c.fill.new.self list
     c.plan_write-plan.result.changed.items c.plan_write-plan.ensures.listed c.args.value c.unwrap_or-left.result (bits_of c.plan_write-plan.result.bits) (option_map (λ (u : UnitId). u.0) c.plan_write-plan.result.next) (option_map (λ (u : UnitId). u.0) c.plan_write-plan.result.previous)
-    (left_is (before c) c.self.invariant c.args.unit.0 c.place_of-place.result c.args.word.0 c.place_of-place.ensures.within c.place_of-place.ensures.at_work c.of-list.result list c.plan_write-plan.result.victim c.len-tasks.result c.len-tasks.ensures.count c.plan_write-plan.ensures.victim c.unwrap_or-left.result c.unwrap_or-left.ensures)
+    (left_is (before c) c.self.invariant c.args.unit.0 c.place_of-place.result c.args.word.0 c.place_of-place.ensures.within c.place_of-place.ensures.at_work c.fill.new.self list c.plan_write-plan.result.victim c.len-tasks.result c.len-tasks.ensures.count c.plan_write-plan.ensures.victim c.unwrap_or-left.result c.unwrap_or-left.ensures)
     c.plan_write-plan.ensures.valid c.plan_write-plan.ensures.line c.plan_write-plan.ensures.others c.plan_write-plan.ensures.next c.plan_write-plan.ensures.previous c.plan_write-plan.ensures.linked
 
 sizes_are : (c : goal.After-victim_of) (told : ℕ) → KeepsSizes (before c) (after c told)
@@ -141,8 +141,8 @@ returns-clause-refused c =
 pub returns-clause-victim : goal.returns-clause-victim
 unfolding observed
 returns-clause-victim c =
-    let list : HasList (before c) c.args.word.0 c.of-list.result = listed (before c) c.self.invariant c.args.word.0 c.of-list.result c.deref.result.now c.deref.ensures.value c.of-list.ensures.committed c.of-list.ensures.active in
-    rw (← c.self.view_is) (λ s p runs. c.victim_of.ensures ∙ chosen_shown (before c) c.self.invariant c.args.unit.0 c.place_of-place.result c.args.word.0 c.place_of-place.ensures.within c.place_of-place.ensures.at_work c.of-list.result list c.plan_write-plan.result.victim c.len-tasks.result c.len-tasks.ensures.count c.plan_write-plan.ensures.victim s p runs.agrees runs.within runs.unit_is)
+    let list : HasList (before c) c.args.word.0 c.fill.new.self = listed (before c) c.self.invariant c.args.word.0 c.fill.new.self c.deref.result.now c.deref.ensures.value c.fill.ensures.committed c.fill.ensures.active in
+    rw (← c.self.view_is) (λ s p runs. c.victim_of.ensures ∙ chosen_shown (before c) c.self.invariant c.args.unit.0 c.place_of-place.result c.args.word.0 c.place_of-place.ensures.within c.place_of-place.ensures.at_work c.fill.new.self list c.plan_write-plan.result.victim c.len-tasks.result c.len-tasks.ensures.count c.plan_write-plan.ensures.victim s p runs.agrees runs.within runs.unit_is)
 
 pub returns-clause-table : goal.returns-clause-table
 unfolding observed
@@ -157,8 +157,8 @@ returns-clause-table c =
 pub returns-clause-probes : goal.returns-clause-probes
 unfolding observed
 returns-clause-probes c =
-    let each : CountsOneOfEach c.new-probes.result c.of-list.new.probes (before c).caches = subst (CountsOneOfEach c.new-probes.result c.of-list.new.probes) c.deref.ensures.value c.of-list.ensures.counted in
-    let changed : CountsUpTo c.of-list.new.probes c.store_line.new.probes (length (before c).caches) = subst (λ (xs : List CacheValue). CountsUpTo c.of-list.new.probes c.store_line.new.probes (length xs)) c.deref_mut.ensures.value c.in_ok-store_line.ensures.searches in
+    let each : CountsOneOfEach c.new-probes.result c.fill.new.probes (before c).caches = subst (CountsOneOfEach c.new-probes.result c.fill.new.probes) c.deref.ensures.value c.fill.ensures.counted in
+    let changed : CountsUpTo c.fill.new.probes c.store_line.new.probes (length (before c).caches) = subst (λ (xs : List CacheValue). CountsUpTo c.fill.new.probes c.store_line.new.probes (length xs)) c.deref_mut.ensures.value c.in_ok-store_line.ensures.searches in
     rw (← c.self.view_is) (record {
       some = omega (arith, c.new-probes.ensures.searches, each.searches, changed.kept);
       few = omega (arith, c.new-probes.ensures.searches, each.searches, changed.few);

@@ -1,5 +1,0 @@
-use Rattle.svc_vol.proofs.Validity.{found_lines}
-use Rattle.svc_vol.proofs.list.VersionList.beside.Goals as goal
-
-pub of_found-requires-clause-valid : goal.of_found-requires-clause-valid
-of_found-requires-clause-valid c = rw c.deref.ensures.0 (found_lines c.args.caches.now c.args.word.0 c.find_others.new.found.items c.find_others.ensures.lines)

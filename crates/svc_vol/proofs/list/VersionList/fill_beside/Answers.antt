@@ -1,0 +1,5 @@
+use Rattle.svc_vol.proofs.Validity.{found_lines}
+use Rattle.svc_vol.proofs.list.VersionList.fill_beside.Goals as goal
+
+pub list_found-requires-clause-valid : goal.list_found-requires-clause-valid
+list_found-requires-clause-valid c = rw c.deref.ensures.0 (found_lines c.args.caches.now c.args.word.0 c.find_others.new.found.items c.find_others.ensures.lines)
