@@ -1,5 +1,5 @@
 -- The two parts of the list of a word's committed lines: clean lines, and versions.
-use Rattle.std.specs.Prelude.{◌≡◌, ◌≢◌, ℕ, ◌+◌, ◌<◌, Bool, true, false, not, ◌&&◌, Option, Some, None, List, ◌++◌, length, get_or}
+use Rattle.std.specs.Prelude.{◌≡◌, ◌≢◌, ℕ, ◌<◌, Bool, true, false, not, ◌&&◌, Option, Some, None, List, ◌++◌, length, get_or}
 use Rattle.svc_line.specs.Bits.{is_committed, is_dirty}
 use Rattle.svc_line.specs.Line.{SeenLine, seen}
 use Rattle.svc_line.specs.declared.line.Line.{Line}

@@ -1,4 +1,4 @@
-use Rattle.std.proofs.Common.{◌≤◌, ◌+◌, sym, subst, length, map, option_map, arith}
+use Rattle.std.proofs.Common.{sym, subst, length, map, option_map, arith}
 use Rattle.svc_line.specs.Line.{seen}
 use Rattle.svc_vol.specs.Lines.{lines_at}
 use Rattle.svc_vol.specs.Walked.{AreWalked}

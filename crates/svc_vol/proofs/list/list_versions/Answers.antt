@@ -1,4 +1,4 @@
-use Rattle.std.proofs.Common.{◌≡◌, ◌+◌, ◌∙◌, refl, sym, ap, subst, get_or, map, option_map, arith, true≢false}
+use Rattle.std.proofs.Common.{◌+◌, ◌∙◌, refl, sym, ap, subst, get_or, map, option_map, arith, true≢false}
 use Rattle.svc_line.specs.Line.{seen}
 use Rattle.svc_vol.specs.declared.version.Version.{Version}
 use Rattle.svc_vol.specs.Lines.{is_committed_version, lines_at}

@@ -1,4 +1,4 @@
-use Rattle.std.proofs.Common.{◌≡◌, ◌∙◌, ◌<◌, sym, ap, length, map, option_map, inl, inr, arith, below_more, true≢false, rules}
+use Rattle.std.proofs.Common.{◌∙◌, ◌<◌, sym, ap, length, map, option_map, inl, inr, arith, below_more, true≢false, rules}
 use Rattle.std.proofs.lemmas.Bool.{cases_Bool}
 use Rattle.svc_line.specs.Line.{seen}
 use Rattle.svc_links_laws.proofs.Walking.{walk_begins}

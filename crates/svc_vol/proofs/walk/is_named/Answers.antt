@@ -1,4 +1,4 @@
-use Rattle.std.proofs.Common.{◌≡◌, ◌∙◌, sym, ap, below_more}
+use Rattle.std.proofs.Common.{◌∙◌, sym, ap, below_more}
 use Rattle.svc_vol.specs.Walked.{is_before}
 use Rattle.svc_vol.proofs.Finding.{line_at}
 use Rattle.svc_vol.proofs.walk.is_named.Goals as goal

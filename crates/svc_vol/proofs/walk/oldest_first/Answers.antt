@@ -1,11 +1,11 @@
-use Rattle.std.proofs.Common.{◌≡◌, ◌+◌, ◌-◌, ◌∙◌, refl, true, [], ◌∷◌, ◌++◌, List, sym, ap, subst, length, get_or, map, option_map, inl, inr, arith, length-append}
+use Rattle.std.proofs.Common.{◌≡◌, ◌+◌, ◌-◌, ◌∙◌, refl, true, [], ◌∷◌, ◌++◌, sym, ap, subst, length, get_or, map, option_map, inl, inr, arith, length-append}
 use Rattle.std.proofs.lemmas.Bool.{cases_Bool}
 use Rattle.std.proofs.lemmas.List.{get_or_at}
 use Rattle.svc_line.specs.Line.{seen}
 use Rattle.svc_links_laws.specs.Walks.{IsWalkSoFar}
 use Rattle.svc_links_laws.proofs.Walking.{walk_dirty, walk_goes_on}
-use Rattle.svc_vol.specs.Lines.{UnitLines, lines_at, links_of, versions_of}
-use Rattle.svc_vol.proofs.Assembling.{are_walked, none_walked}
+use Rattle.svc_vol.specs.Lines.{lines_at, links_of, versions_of}
+use Rattle.svc_vol.proofs.Assembling.{are_walked}
 use Rattle.svc_vol.proofs.walk.oldest_first.Goals as goal
 
 pub next_of-requires : goal.next_of-requires
