@@ -6,3 +6,5 @@ pub mod LinesNamed
 pub mod Holding
 pub mod TaskRows
 pub mod Standings
+pub mod Settled
+pub mod Caches

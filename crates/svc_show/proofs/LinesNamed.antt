@@ -229,11 +229,11 @@ entry_kept img config a s e legal miss kept = by e.kind legal
 
 -- ---- legal histories
 
-or_first : (x y : Bool) → (x || y) ≡ false → x ≡ false
+pub or_first : (x y : Bool) → (x || y) ≡ false → x ≡ false
 or_first true y h = h
 or_first false y h = refl
 
-or_second : (x y : Bool) → (x || y) ≡ false → y ≡ false
+pub or_second : (x y : Bool) → (x || y) ≡ false → y ≡ false
 or_second true y h = cc
 or_second false y h = h
 

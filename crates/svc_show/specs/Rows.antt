@@ -1,10 +1,18 @@
 -- The rows by which a machine is shown.
-use Rattle.std.specs.Prelude.{ℕ, Bool, cond, List, ◌++◌, Option, Some, None, codes, decimal}
+use Rattle.std.specs.Prelude.{ℕ, Bool, cond, List, [], ◌∷◌, ◌++◌, Option, Some, None, codes, decimal, flat_map}
 use Rattle.svc_core_laws.specs.declared.end.End.{End}
 use Rattle.svc_core_laws.specs.declared.end.End.TheVariants as end
 use Rattle.svc_bus_laws.specs.BusLine.{BusLine}
 use Rattle.svc_machine.specs.declared.shown.ActiveTask.{ActiveTask}
 use Rattle.svc_report.specs.Fields.{optional}
+
+-- a number after a comma
+abbrev pub field : ℕ → List ℕ
+field n = codes "," ++ decimal n
+
+-- a name, and numbers after it
+abbrev pub named_fields : (name numbers : List ℕ) → List ℕ
+named_fields name numbers = name ++ flat_map field numbers
 
 -- a row of a name and a text
 abbrev pub told_row : (name text : List ℕ) → List ℕ
@@ -21,36 +29,33 @@ state_word (Some (end.Next entry)) = codes "next"
 state_word (Some (end.Exit code)) = codes "exit"
 state_word (Some (end.Trap number)) = codes "trap"
 
+-- the last column of a task
+abbrev pub state_end : (state : List ℕ) → List ℕ
+state_end state = codes "," ++ (state ++ codes "\n")
+
 -- the row of the active task of this number
 abbrev pub task_row : (number : ℕ) → ActiveTask → List ℕ
 task_row number task =
-    codes "task," ++ (decimal number ++ (codes "," ++ (decimal task.unit.0 ++ (codes "," ++ (decimal task.entry
-    ++ (codes "," ++ (decimal task.turns ++ (codes "," ++ (state_word task.done ++ codes "\n")))))))))
+    named_fields (codes "task") (number ∷ task.unit.0 ∷ task.entry ∷ task.turns ∷ []) ++ state_end (state_word task.done)
 
 -- the letter of a bit that is set, or a dash
 abbrev pub letter : Bool → List ℕ → List ℕ
 letter set name = cond set name (codes "-")
 
--- the first columns of a line's row
-abbrev pub line_front : (unit word value : ℕ) → List ℕ
-line_front unit word value =
-    codes "line," ++ (decimal unit ++ (codes "," ++ (decimal word ++ (codes "," ++ (decimal value ++ codes ",")))))
-
--- its last one: V, which every line has, and S, L, C and T
+-- the last column of a line: V, which every line has, and S, L, C and T
 abbrev pub line_bits : BusLine → List ℕ
 line_bits l =
-    codes "V" ++ (letter l.store (codes "S") ++ (letter l.load (codes "L") ++ (letter l.commit (codes "C")
+    codes ",V" ++ (letter l.store (codes "S") ++ (letter l.load (codes "L") ++ (letter l.commit (codes "C")
     ++ (letter l.stale (codes "T") ++ codes "\n"))))
 
 -- the row of a unit's line of a word
 abbrev pub line_row : (unit word : ℕ) → BusLine → List ℕ
-line_row unit word l = line_front unit word l.value ++ line_bits l
+line_row unit word l = named_fields (codes "line") (unit ∷ word ∷ l.value ∷ []) ++ line_bits l
 
 -- the row of the head's version of a word whose line was replaced
 abbrev pub spill_row : (word value : ℕ) → List ℕ
-spill_row word value = codes "spill," ++ (decimal word ++ (codes "," ++ (decimal value ++ codes "\n")))
+spill_row word value = named_fields (codes "spill") (word ∷ value ∷ []) ++ codes "\n"
 
 -- the row of a word's committed and backing values
 abbrev pub memory_row : (word committed backing : ℕ) → List ℕ
-memory_row word committed backing =
-    codes "memory," ++ (decimal word ++ (codes "," ++ (decimal committed ++ (codes "," ++ (decimal backing ++ codes "\n")))))
+memory_row word committed backing = named_fields (codes "memory") (word ∷ committed ∷ backing ∷ []) ++ codes "\n"

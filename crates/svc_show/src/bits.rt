@@ -1,14 +1,13 @@
 // The bits of a line.
 
-ghost use Rattle.std.specs.Prelude.{◌≡◌, OnOk, IfErr};
-ghost use Rattle.std.specs.Io.KnownBytes.{Appends};
+ghost use Rattle.std.specs.Prelude.{◌∷◌, [], ◌++◌, ◌≡◌, ◌&&◌, OnOk, IfErr};
 ghost use Rattle.svc_bus.specs.Calls.{line_shown};
 ghost use Rattle.svc_line.specs.Bits.{bits_of};
-ghost use Rattle.svc_report.specs.Faults.{IsWriteFault};
+ghost use Rattle.svc_report.specs.declared.error.ReportError.TheVariants.{Memory};
 ghost use Rattle.svc_show.specs.Rows.{letter, line_bits};
 
+use crate::text::write_text;
 use bitflags::Flags;
-use std::io::Write;
 use svc_line::LineBits;
 use svc_report::ReportError;
 
@@ -44,24 +43,34 @@ fn is_stale(bits: LineBits) -> bool
     bits.contains(LineBits::STALE)
 }
 
-// The letter of a bit that is set, or a dash.
-fn letter(is_set: bool, name: &'static str) -> &'static str
-    ensures { result.now ≡ letter is_set name.now }
+/// A committed task's version: S and C are set.
+pub(crate) fn is_version(bits: LineBits) -> bool
+    ensures { result ≡ ((bits_of bits).commit && (bits_of bits).store) }
 {
-    if is_set { name } else { "-" }
+    is_committed(bits) && is_stored(bits)
 }
 
-/// Writes the letters of a valid line's bits, and ends its row.
-pub(crate) fn write_bits<W: Write>(line: (LineBits, u32), w: &mut W) -> Result<(), ReportError>
-    ensures ok { OnOk result (Appends (W.contents w.old) (W.contents w.new) (line_bits (line_shown line))) }
-    ensures err { IfErr result IsWriteFault }
+// The letter of a bit that is set, or a dash.
+fn letter(is_set: bool, name: u8) -> u8
+    ensures { result ∷ [] ≡ letter is_set (name ∷ []) }
 {
-    let store = letter(is_stored(line.0), "S");
-    let load = letter(is_loaded(line.0), "L");
-    let commit = letter(is_committed(line.0), "C");
-    let stale = letter(is_stale(line.0), "T");
-    match writeln!(w, "V{store}{load}{commit}{stale}") {
-        Ok(()) => Ok(()),
-        Err(_) => Err(ReportError::Write),
-    }
+    if is_set { name } else { b'-' }
+}
+
+/// Writes the last column of a valid line, the letters of its bits, and ends its row.
+pub(crate) fn write_bits(line: (LineBits, u32), rows: &mut Vec<u8>) -> Result<(), ReportError>
+    ensures ok { OnOk result (rows.new.items ≡ rows.old.items ++ line_bits (line_shown line)) }
+    ensures err { IfErr result (λ e. e ≡ Memory) }
+{
+    let bits = line.0;
+    let letters = [
+        b',',
+        b'V',
+        letter(is_stored(bits), b'S'),
+        letter(is_loaded(bits), b'L'),
+        letter(is_committed(bits), b'C'),
+        letter(is_stale(bits), b'T'),
+        b'\n',
+    ];
+    write_text(&letters, rows)
 }

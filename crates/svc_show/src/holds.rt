@@ -4,7 +4,9 @@ ghost use Rattle.std.specs.Prelude.{◌≡◌, ◌<◌, is_some, option_map};
 ghost use Rattle.svc_core_laws.specs.Turns.{data_words};
 ghost use Rattle.svc_bus.specs.Calls.{line_shown};
 ghost use Rattle.svc_bus.specs.Observed.{observed};
+ghost use Rattle.svc_show.specs.Named.{line_named};
 
+use crate::named::Named;
 use svc_base::{UnitId, WordAddr};
 use svc_line::LineBits;
 use svc_machine::Machine;
@@ -17,13 +19,18 @@ pub(crate) fn line_of(machine: &Machine, unit: UnitId, word: WordAddr) -> Option
     machine.line_at(unit, word)
 }
 
-/// The unit has a valid line of the word.
-pub(crate) fn has_line(machine: &Machine, unit: UnitId, word: WordAddr) -> bool
-    ensures { result ≡ is_some ((observed machine.now.bus).lines unit.0 word.0) }
+/// The unit's valid line of a named word. Its cache is searched only where the unit may have named the word.
+pub(crate) fn line_of_named(
+    machine: &Machine,
+    unit: UnitId,
+    named: Named,
+) -> Option<(LineBits, u32)>
+    ensures { option_map line_shown result ≡ line_named (observed machine.now.bus) named unit.0 }
 {
-    match line_of(machine, unit, word) {
-        Some(_) => true,
-        None => false,
+    if named.by.may_have(unit) {
+        line_of(machine, unit, named.word)
+    } else {
+        None
     }
 }
 

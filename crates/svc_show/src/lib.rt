@@ -3,6 +3,7 @@
 #![tactic(auto)]
 
 mod bits;
+mod cached;
 mod holds;
 mod lines;
 mod memory;

@@ -1,10 +1,8 @@
 // The text that shows a machine.
 
 ghost use Rattle.std.specs.Prelude.{◌≡◌, ◌≤◌, ◌++◌, OnOk, IfOk, IfErr};
-ghost use Rattle.std.specs.Io.KnownBytes.{Appends};
 ghost use Rattle.svc_core_laws.specs.Turns.{data_words};
 ghost use Rattle.svc_bus.specs.Observed.{observed};
-ghost use Rattle.svc_report.specs.Faults.{IsWriteFault};
 ghost use Rattle.svc_report.specs.declared.error.ReportError.TheVariants.{Memory};
 ghost use Rattle.svc_show.specs.Named.{AreNamed, IsHeldBy};
 ghost use Rattle.svc_show.specs.Show.{line_rows, machine_rows, memory_rows, show_of, spill_rows};
@@ -17,85 +15,80 @@ use crate::progress::write_progress;
 use crate::tasks::write_tasks;
 use crate::text::write_number;
 use std::alloc::Global;
-use std::io::Write;
 use svc_history::Recorder;
 use svc_machine::Machine;
 use svc_report::ReportError;
 
 // Writes a row for each valid line.
-fn write_all_lines<W: Write>(
+fn write_all_lines(
     machine: &Machine,
     named: &[Named],
-    w: &mut W,
+    rows: &mut Vec<u8>,
 ) -> Result<(), ReportError>
     requires held { IsHeldBy (observed machine.now.bus) (data_words machine.now.image) named.now }
     ensures ok { let m = machine.now in
-        OnOk result (Appends (W.contents w.old) (W.contents w.new)
-        (line_rows m.config.units (data_words m.image) (observed m.bus))) }
-    ensures err { IfErr result IsWriteFault }
+        OnOk result (rows.new.items ≡ rows.old.items ++ line_rows m.config.units (data_words m.image) (observed m.bus)) }
+    ensures err { IfErr result (λ e. e ≡ Memory) }
 {
     let units = machine.config().units;
-    write_lines(machine, units, named, w)
+    write_lines(machine, units, named, rows)
 }
 
 // Writes a row for each spilled word.
-fn write_all_spills<W: Write>(
+fn write_all_spills(
     machine: &Machine,
     named: &[Named],
-    w: &mut W,
+    rows: &mut Vec<u8>,
 ) -> Result<(), ReportError>
     requires held { IsHeldBy (observed machine.now.bus) (data_words machine.now.image) named.now }
     ensures ok { let m = machine.now in
-        OnOk result (Appends (W.contents w.old) (W.contents w.new) (spill_rows (data_words m.image) (observed m.bus))) }
-    ensures err { IfErr result IsWriteFault }
+        OnOk result (rows.new.items ≡ rows.old.items ++ spill_rows (data_words m.image) (observed m.bus)) }
+    ensures err { IfErr result (λ e. e ≡ Memory) }
 {
-    write_spills(machine, named, w)
+    write_spills(machine, named, rows)
 }
 
 // Writes a row for each word that has a valid line or is spilled.
-fn write_all_words<W: Write>(
+fn write_all_words(
     machine: &Machine,
     named: &[Named],
-    w: &mut W,
+    rows: &mut Vec<u8>,
 ) -> Result<(), ReportError>
     requires held { IsHeldBy (observed machine.now.bus) (data_words machine.now.image) named.now }
     ensures ok { let m = machine.now in
-        OnOk result (Appends (W.contents w.old) (W.contents w.new)
-        (memory_rows m.image m.config m.plain (observed m.bus) (data_words m.image))) }
-    ensures err { IfErr result IsWriteFault }
+        OnOk result (rows.new.items ≡ rows.old.items ++ memory_rows m.image m.config m.plain (observed m.bus) (data_words m.image)) }
+    ensures err { IfErr result (λ e. e ≡ Memory) }
 {
-    write_words(machine, named, w)
+    write_words(machine, named, rows)
 }
 
 // Writes the rows of a machine.
-fn write_machine<W: Write>(machine: &Machine, named: &[Named], w: &mut W) -> Result<(), ReportError>
+fn write_machine(machine: &Machine, named: &[Named], rows: &mut Vec<u8>) -> Result<(), ReportError>
     requires held { IsHeldBy (observed machine.now.bus) (data_words machine.now.image) named.now }
     ensures ok { let m = machine.now in
-        OnOk result (Appends (W.contents w.old) (W.contents w.new)
-        (machine_rows m.image m.config m.plain (observed m.bus))) }
-    ensures err { IfErr result IsWriteFault }
+        OnOk result (rows.new.items ≡ rows.old.items ++ machine_rows m.image m.config m.plain (observed m.bus)) }
+    ensures err { IfErr result (λ e. e ≡ Memory) }
 {
-    write_progress(machine, w)?;
-    write_tasks(machine, w)?;
-    write_all_lines(machine, named, w)?;
-    write_all_spills(machine, named, w)?;
-    write_all_words(machine, named, w)
+    write_progress(machine, rows)?;
+    write_tasks(machine, rows)?;
+    write_all_lines(machine, named, rows)?;
+    write_all_spills(machine, named, rows)?;
+    write_all_words(machine, named, rows)
 }
 
 // Writes how many entries a history has, and the rows of the machine where it leads.
-fn write_rows<W: Write>(recorder: &Recorder, named: &[Named], w: &mut W) -> Result<(), ReportError>
+fn write_rows(recorder: &Recorder, named: &[Named], rows: &mut Vec<u8>) -> Result<(), ReportError>
     requires named { let r = recorder.now in AreNamed r.entries (data_words r.machine.image) named.now }
     ensures ok { let r = recorder.now in
-        OnOk result (Appends (W.contents w.old) (W.contents w.new)
-        (show_of r.machine.image r.machine.config r.entries)) }
-    ensures err { IfErr result IsWriteFault }
+        OnOk result (rows.new.items ≡ rows.old.items ++ show_of r.machine.image r.machine.config r.entries) }
+    ensures err { IfErr result (λ e. e ≡ Memory) }
 {
     let count = recorder.entries().len();
-    write_number("at", count as u64, w)?;
+    write_number("at", count as u64, rows)?;
     let machine = recorder.machine();
     // its image is sound, so its history names each word that is held
     let _start = machine.image().start();
-    write_machine(machine, named, w)
+    write_machine(machine, named, rows)
 }
 
 /// The text of the machine where a history leads: how many entries it has, the tasks committed, the entries that are due and
@@ -104,7 +97,7 @@ fn write_rows<W: Write>(recorder: &Recorder, named: &[Named], w: &mut W) -> Resu
 ///
 /// Only words that an entry names can be in a line or spilled, so no other word is looked up.
 ///
-/// Errors: [`ReportError::Memory`]. A writer over memory fails only for want of memory.
+/// Errors: [`ReportError::Memory`].
 pub fn show_text(alloc: Global, recorder: &Recorder) -> Result<Vec<u8>, ReportError>
     ensures text { let r = recorder.now in
         IfOk result (λ text. text.items ≡ show_of r.machine.image r.machine.config r.entries) }
@@ -112,9 +105,7 @@ pub fn show_text(alloc: Global, recorder: &Recorder) -> Result<Vec<u8>, ReportEr
 {
     let words = words_of(recorder.machine());
     let named = named_words(alloc, recorder.entries(), words)?;
-    let mut text = Vec::new(alloc);
-    match write_rows(recorder, &named, &mut text) {
-        Ok(()) => Ok(text),
-        Err(_) => Err(ReportError::Memory),
-    }
+    let mut rows = Vec::new(alloc);
+    write_rows(recorder, &named, &mut rows)?;
+    Ok(rows)
 }

@@ -1,17 +1,15 @@
 // The active tasks.
 
-ghost use Rattle.std.specs.Prelude.{◌≡◌, ◌+◌, ◌<◌, OnOk, IfErr, length};
-ghost use Rattle.std.specs.Io.KnownBytes.{Appends};
+ghost use Rattle.std.specs.Prelude.{◌++◌, ◌≡◌, ◌+◌, ◌<◌, OnOk, IfErr, length};
 ghost use Rattle.svc_core_laws.specs.Words.{program};
 ghost use Rattle.svc_machine.specs.Reads.{task_of};
 ghost use Rattle.svc_machine_laws.specs.PlainMachine.{running};
-ghost use Rattle.svc_report.specs.Faults.{IsWriteFault};
+ghost use Rattle.svc_report.specs.declared.error.ReportError.TheVariants.{Memory};
 ghost use Rattle.svc_report.specs.Fields.{optional};
-ghost use Rattle.svc_show.specs.Rows.{state_word, task_row};
+ghost use Rattle.svc_show.specs.Rows.{state_end, state_word, task_row};
 ghost use Rattle.svc_show.specs.Show.{task_rows};
 
-use crate::text::write_text;
-use std::io::Write;
+use crate::text::{write_fields, write_text};
 use svc_core_laws::End;
 use svc_machine::{ActiveTask, Machine};
 use svc_report::ReportError;
@@ -28,19 +26,29 @@ fn state_word(done: Option<End>) -> &'static str
     }
 }
 
-// Writes the row of the active task of this number.
-fn write_task<W: Write>(number: u64, task: ActiveTask, w: &mut W) -> Result<(), ReportError>
-    ensures ok { OnOk result (Appends (W.contents w.old) (W.contents w.new) (task_row number task)) }
-    ensures err { IfErr result IsWriteFault }
+// Writes the last column of a task, and ends its row.
+fn write_state(state: &str, rows: &mut Vec<u8>) -> Result<(), ReportError>
+    ensures ok { OnOk result (rows.new.items ≡ rows.old.items ++ state_end state.now) }
+    ensures err { IfErr result (λ e. e ≡ Memory) }
 {
-    let unit = task.unit.0;
-    let entry = task.entry;
-    let turns = task.turns;
-    let state = state_word(task.done);
-    match writeln!(w, "task,{number},{unit},{entry},{turns},{state}") {
-        Ok(()) => Ok(()),
-        Err(_) => Err(ReportError::Write),
-    }
+    write_text(b",", rows)?;
+    write_text(state.as_bytes(), rows)?;
+    write_text(b"\n", rows)
+}
+
+// Writes the row of the active task of this number.
+fn write_task(number: u64, task: ActiveTask, rows: &mut Vec<u8>) -> Result<(), ReportError>
+    ensures ok { OnOk result (rows.new.items ≡ rows.old.items ++ task_row number task) }
+    ensures err { IfErr result (λ e. e ≡ Memory) }
+{
+    let numbers = [
+        number,
+        u64::from(task.unit.0),
+        u64::from(task.entry),
+        u64::from(task.turns),
+    ];
+    write_fields(b"task", &numbers, rows)?;
+    write_state(state_word(task.done), rows)
 }
 
 // The number of the active task at a place.
@@ -55,28 +63,26 @@ fn number_at(machine: &Machine, place: usize) -> u64
 }
 
 // Writes the row of the active task at a place.
-fn write_task_at<W: Write>(machine: &Machine, place: usize, w: &mut W) -> Result<(), ReportError>
+fn write_task_at(machine: &Machine, place: usize, rows: &mut Vec<u8>) -> Result<(), ReportError>
     requires active { place < length machine.now.plain.tasks }
     ensures ok { let m = machine.now in
-        OnOk result (Appends (W.contents w.old) (W.contents w.new)
-        (optional (task_row (m.plain.commits + place)) (task_of m place))) }
-    ensures err { IfErr result IsWriteFault }
+        OnOk result (rows.new.items ≡ rows.old.items ++ optional (task_row (m.plain.commits + place)) (task_of m place)) }
+    ensures err { IfErr result (λ e. e ≡ Memory) }
 {
     match machine.task_at(place) {
-        Some(task) => write_task(number_at(machine, place), task, w),
-        None => write_text(b"", w),
+        Some(task) => write_task(number_at(machine, place), task, rows),
+        None => Ok(()),
     }
 }
 
 /// Writes a row for each active task, oldest first.
-pub(crate) fn write_tasks<W: Write>(machine: &Machine, w: &mut W) -> Result<(), ReportError>
+pub(crate) fn write_tasks(machine: &Machine, rows: &mut Vec<u8>) -> Result<(), ReportError>
     ensures ok { let m = machine.now in
-        OnOk result (Appends (W.contents w.old) (W.contents w.new)
-        (task_rows m.plain.commits (running (program m.image) m.plain))) }
-    ensures err { IfErr result IsWriteFault }
+        OnOk result (rows.new.items ≡ rows.old.items ++ task_rows m.plain.commits (running (program m.image) m.plain)) }
+    ensures err { IfErr result (λ e. e ≡ Memory) }
 {
     for place in 0..machine.active_tasks() {
-        write_task_at(machine, place, w)?;
+        write_task_at(machine, place, rows)?;
     }
     Ok(())
 }

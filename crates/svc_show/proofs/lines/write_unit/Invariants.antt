@@ -1,10 +1,9 @@
-use Rattle.std.proofs.Common.{take}
+use Rattle.std.proofs.Common.{◌≡◌, ◌++◌, take}
 use Rattle.std.specs.Prelude.{flat_map}
-use Rattle.std.specs.Io.KnownBytes.{Appends}
 use Rattle.svc_bus.specs.Observed.{observed}
 use Rattle.svc_show.specs.Named.{named_line}
 use Rattle.svc_show.proofs.lines.write_unit.Given as goal
 
 abbrev pub invariant-loop-one : goal.invariant-loop-one
-invariant-loop-one g l =
-    Appends (g.W.Write.contents l.fn.w) (g.W.Write.contents l.w) (flat_map (named_line (observed l.machine.bus) l.unit.0) (take l.one-index l.named))
+invariant-loop-one l =
+    l.rows.items ≡ l.fn.rows.items ++ flat_map (named_line (observed l.machine.bus) l.unit.0) (take l.one-index l.named)

@@ -1,4 +1,4 @@
-use Rattle.std.proofs.Common.{subst}
+use Rattle.std.proofs.Common.{Some, subst}
 use Rattle.std.specs.Io.KnownBytes.{Appends}
 use Rattle.svc_core_laws.specs.Turns.{data_words}
 use Rattle.svc_bus.specs.Observed.{observed}
@@ -7,14 +7,13 @@ use Rattle.svc_show.proofs.Held.{inside_held, spills_held}
 use Rattle.svc_show.proofs.show.write_all_spills.Goals as goal
 
 pub write_spills-requires : goal.write_spills-requires
-write_spills-requires g c =
+write_spills-requires c =
     let m = c.args.machine.now in
     record { in_data = inside_held (observed m.bus) (data_words m.image) c.args.named.now c.requires.held }
 
 pub returns-clause-ok : goal.returns-clause-ok
-returns-clause-ok g c =
-    let now = g.W.Write.contents in
+returns-clause-ok c =
     let m = c.args.machine.now in
     let words = data_words m.image in
     let same = spills_held (observed m.bus) words c.args.named.now c.requires.held in
-    on_ok c.write_spills.result (subst (Appends (now c.args.w.now) (now c.write_spills.new.w)) same) c.write_spills.ensures.ok
+    on_ok c.write_spills.result (subst (Appends (Some c.args.rows.now.items) (Some c.write_spills.new.rows.items)) same) c.write_spills.ensures.ok

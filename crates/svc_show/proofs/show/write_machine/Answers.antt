@@ -1,4 +1,4 @@
-use Rattle.std.proofs.Common.{◌++◌}
+use Rattle.std.proofs.Common.{Some, ◌++◌}
 use Rattle.svc_core_laws.specs.Turns.{data_words}
 use Rattle.svc_core_laws.specs.Words.{program}
 use Rattle.svc_bus.specs.Observed.{observed}
@@ -8,18 +8,17 @@ use Rattle.svc_show.specs.Show.{line_rows, memory_rows, progress_rows, spill_row
 use Rattle.svc_show.proofs.show.write_machine.Goals as goal
 
 pub returns-clause-ok : goal.returns-clause-ok
-returns-clause-ok g c =
-    let now = g.W.Write.contents in
+returns-clause-ok c =
     let m = c.args.machine.now in
     let bus = observed m.bus in
     let units = m.config.units in
     let words = data_words m.image in
-    let a = now c.args.w.now in
-    let b = now c.write_progress.new.w in
-    let d = now c.write_tasks.new.w in
-    let e = now c.write_all_lines.new.w in
-    let f = now c.write_all_spills.new.w in
-    let h = now c.write_all_words.new.w in
+    let a = Some c.args.rows.now.items in
+    let b = Some c.write_progress.new.rows.items in
+    let d = Some c.write_tasks.new.rows.items in
+    let e = Some c.write_all_lines.new.rows.items in
+    let f = Some c.write_all_spills.new.rows.items in
+    let h = Some c.write_all_words.new.rows.items in
     let progress = progress_rows m.image m.config m.plain in
     let tasks = task_rows m.plain.commits (running (program m.image) m.plain) in
     let lines = line_rows units words bus in

@@ -1,4 +1,4 @@
-use Rattle.std.proofs.Common.{◌≡◌, ◌∙◌, ℕ, List, codes, length, ap, subst, sym}
+use Rattle.std.proofs.Common.{Some, ◌≡◌, ◌∙◌, ℕ, List, codes, length, ap, subst, sym}
 use Rattle.std.specs.Io.KnownBytes.{Appends}
 use Rattle.svc_image.specs.Image.{IsImage}
 use Rattle.svc_core_laws.specs.Turns.{data_words}
@@ -15,12 +15,11 @@ use Rattle.svc_show.proofs.Standings.{shown_at}
 use Rattle.svc_show.proofs.show.write_rows.Goals as goal
 
 pub returns-clause-ok : goal.returns-clause-ok
-returns-clause-ok g c =
-    let now = g.W.Write.contents in
+returns-clause-ok c =
     let r = c.args.recorder.now in
-    let a = now c.args.w.now in
-    let b = now c.write_number.new.w in
-    let d = now c.write_machine.new.w in
+    let a = Some c.args.rows.now.items in
+    let b = Some c.write_number.new.rows.items in
+    let d = Some c.write_machine.new.rows.items in
     let told = number_row (codes "at") (length r.entries) in
     let rows = λ (m : MachineValue). machine_rows m.image m.config m.plain (observed m.bus) in
     let same : rows c.machine-machine.result.now ≡ standing_rows r.machine.image r.machine.config (standing_of r) =
@@ -31,7 +30,7 @@ returns-clause-ok g c =
     (subst (λ (text : List ℕ). Appends b d text) same h)) c.write_machine.ensures.ok
 
 pub write_machine-requires : goal.write_machine-requires
-write_machine-requires g c =
+write_machine-requires c =
     let r = c.args.recorder.now in
     let sound = subst IsImage (c.image.ensures ∙ ap (λ (m : MachineValue). m.image) c.machine-machine.ensures.machine) c.start-start.ensures.sound in
     record {

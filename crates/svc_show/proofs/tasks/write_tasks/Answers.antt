@@ -1,4 +1,4 @@
-use Rattle.std.proofs.Common.{List, subst, arith}
+use Rattle.std.proofs.Common.{Some, List, subst, arith}
 use Rattle.std.specs.Io.KnownBytes.{Appends}
 use Rattle.svc_core_laws.specs.State.{State}
 use Rattle.svc_core_laws.specs.Words.{program}
@@ -8,20 +8,18 @@ use Rattle.svc_show.specs.Show.{task_rows}
 use Rattle.svc_show.proofs.tasks.write_tasks.Goals as goal
 
 pub loop-place-preserved : goal.loop-place-preserved
-loop-place-preserved g c =
-    let now = g.W.Write.contents in
+loop-place-preserved c =
     let m = c.args.machine.now in
-    let a = now c.args.w.now in
-    let b = now c.loop-place.w in
-    let d = now c.write_task_at.new.w in
+    let a = Some c.args.rows.now.items in
+    let b = Some c.loop-place.rows.items in
+    let d = Some c.write_task_at.new.rows.items in
     task_more m.plain.commits (running (program m.image) m.plain) c.loop-place.place a b d c.loop-place.invariant c.in_ok-write_task_at.ensures.ok
 
 pub returns-clause-ok : goal.returns-clause-ok
-returns-clause-ok g c =
-    let now = g.W.Write.contents in
+returns-clause-ok c =
     let m = c.args.machine.now in
-    let a = now c.args.w.now in
-    let b = now c.loop-place.w in
+    let a = Some c.args.rows.now.items in
+    let b = Some c.loop-place.rows.items in
     let end = c.loop-place-test.false in
     let count = c.active_tasks-place-end.ensures in
     let all = all_tasks (program m.image) m.plain c.loop-place.place (omega (arith, end, count)) in

@@ -1,0 +1,102 @@
+// What caches have of a named word, and what the committed tasks have left of it.
+
+ghost use Rattle.std.specs.Prelude.{◌≡◌, ◌≤◌, ◌||◌, is_some, option_map};
+ghost use Rattle.std.specs.List.{list_any, range_with_len};
+ghost use Rattle.svc_core_laws.specs.Bytes.{word_at};
+ghost use Rattle.svc_core_laws.specs.Sequence.{plain_seq};
+ghost use Rattle.svc_core_laws.specs.Turns.{data_words};
+ghost use Rattle.svc_bus.specs.Calls.{line_shown};
+ghost use Rattle.svc_bus.specs.Observed.{observed};
+ghost use Rattle.svc_show.specs.Named.{AreVersions, HasItsLines, and_line, and_version, is_named_line};
+
+use crate::bits::is_version;
+use crate::holds::{backing_of, line_of_named};
+use crate::named::Named;
+use svc_base::UnitId;
+use svc_line::LineBits;
+use svc_machine::Machine;
+
+/// The valid lines that have a committed task's version.
+#[derive(Clone, Copy, Debug, PartialEq, Eq)]
+pub(crate) enum Versions {
+    /// None has.
+    Absent,
+    /// One alone, with this value.
+    One(u32),
+    /// More than one.
+    Several,
+}
+
+impl Versions {
+    // With one more version.
+    fn and(self, value: u32) -> Versions
+        ensures { result ≡ and_version self value }
+    {
+        match self {
+            Versions::Absent => Versions::One(value),
+            Versions::One(_) | Versions::Several => Versions::Several,
+        }
+    }
+}
+
+/// What caches have of a word.
+#[derive(Clone, Copy, Debug, PartialEq, Eq)]
+pub(crate) struct Cached {
+    /// A valid line.
+    pub(crate) line: bool,
+    /// Committed tasks' versions.
+    pub(crate) versions: Versions,
+}
+
+impl Cached {
+    // With another cache, which has this line or none.
+    fn and(self, line: Option<(LineBits, u32)>) -> Cached
+        ensures line { result.line ≡ (self.line || is_some (option_map line_shown line)) }
+        ensures versions { result.versions ≡ and_line self.versions (option_map line_shown line) }
+    {
+        let Some((bits, value)) = line else {
+            return self;
+        };
+        Cached {
+            line: true,
+            versions: if is_version(bits) {
+                self.versions.and(value)
+            } else {
+                self.versions
+            },
+        }
+    }
+
+    /// What so many caches have of a named word.
+    pub(crate) fn of(machine: &Machine, units: u32, named: Named) -> Cached
+        requires few { units ≤ 16 }
+        ensures line { result.line ≡ list_any (is_named_line (observed machine.now.bus) named) (range_with_len 0 units) }
+        ensures versions { AreVersions (observed machine.now.bus) named units result.versions }
+    {
+        let mut cached = Cached {
+            line: false,
+            versions: Versions::Absent,
+        };
+        for unit in 0..units {
+            cached = cached.and(line_of_named(machine, UnitId(unit as u8), named));
+        }
+        cached
+    }
+}
+
+/// The value that the committed tasks have left of a named word. Only where several caches have a version of theirs is the
+/// newest one looked for.
+pub(crate) fn committed_of(machine: &Machine, named: Named, versions: Versions) -> u32
+    requires own { HasItsLines (observed machine.now.bus) (data_words machine.now.image) named }
+    requires versions { AreVersions (observed machine.now.bus) named machine.now.config.units versions }
+    ensures { let m = machine.now in result ≡ word_at (plain_seq m.image m.plain.commits).memory named.word.0 }
+{
+    // its image is sound, so what the committed tasks leave is its program's
+    let _start = machine.image().start();
+    let _standing = machine.config();
+    match versions {
+        Versions::Absent => backing_of(machine, named.word),
+        Versions::One(value) => value,
+        Versions::Several => machine.committed_memory(named.word),
+    }
+}
