@@ -19,9 +19,9 @@ use Rattle.svc_view.specs.declared.totals.Total.{Total}
 use Rattle.svc_view.specs.Profile.{is_of, part_of, total, total_of}
 use Rattle.svc_view.specs.Runs.{is_load, is_store, tasks_of}
 use Rattle.svc_view.proofs.Buckets.{sum_flat}
-use Rattle.svc_words.specs.declared.shares.Column.{Column}
-use Rattle.svc_words.specs.declared.shares.Column.TheVariants as column
-use Rattle.svc_words.specs.declared.shares.Share.{Share}
+use Rattle.svc_words.specs.Column.{Column}
+use Rattle.svc_words.specs.Column as column
+use Rattle.svc_words.specs.Column.{Share}
 use Rattle.svc_words.specs.Named.{NamesItsWord}
 use Rattle.svc_words.specs.Words.{count_of, cut_word, entry_amount, entry_share, share_of, shares_of, task_amount, task_share, word_at, words_named}
 use Rattle.svc_words.proofs.Blamed.{HasCause, IsBlamed, all_blamed}

@@ -6,9 +6,9 @@ use Rattle.std.proofs.lemmas.List.Sums.{sum_by-append}
 use Rattle.svc_base.specs.declared.ids.WordAddr.{WordAddr}
 use Rattle.svc_history_laws.specs.declared.entry.Entry.{Entry}
 use Rattle.svc_report.specs.Counting.{one_where}
-use Rattle.svc_words.specs.declared.shares.Column.{Column}
-use Rattle.svc_words.specs.declared.shares.Column.TheVariants as column
-use Rattle.svc_words.specs.declared.shares.Share.{Share}
+use Rattle.svc_words.specs.Column.{Column}
+use Rattle.svc_words.specs.Column as column
+use Rattle.svc_words.specs.Column.{Share}
 use Rattle.svc_view.specs.declared.task_run.Fate.{Fate}
 use Rattle.svc_view.specs.declared.task_run.Fate.TheVariants as fate
 use Rattle.svc_view.specs.declared.task_run.TaskRun.{TaskRun}

@@ -1,7 +1,9 @@
-pub mod Tallies
+pub mod InColumns
 pub mod Inside
-pub mod WordRows
 pub mod Unnamed
+pub mod Tallies
+pub mod Ordered
+pub mod WordRows
 pub mod Blamed
 pub mod AddingWords
 pub mod Done

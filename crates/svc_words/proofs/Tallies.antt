@@ -1,83 +1,106 @@
--- Counts by word: what shares count together for each word.
-use Rattle.std.proofs.Common.{◌≡◌, ◌∙◌, ◌+◌, ◌<◌, ◌≤◌, ◌^◌, ◌∷◌, ◌==◌, ◌⊎◌, inl, inr, [], ℕ, zero, suc, List, Bool, true, false, cond, not, length, get_or, take, set, refl, ap, sym, subst, arith, eq-eqb, ne_eqb}
-use Rattle.std.specs.Prelude.{map, replicate}
-use Rattle.std.specs.List.{AllByRecursion, filter, range_with_len, sum_by}
-use Rattle.std.proofs.lemmas.Bool.{cases_eq}
-use Rattle.std.proofs.lemmas.List.{get_or-set_same, get_or-set_other, length-set, length-replicate, get_or-replicate, take_all}
-use Rattle.std.proofs.lemmas.List.Elements.{filter_more}
+-- A table of what shares count together for each word, one share more.
+use Rattle.std.proofs.Common.{◌≡◌, ◌∙◌, ◌+◌, ◌<◌, ◌≤◌, ◌^◌, ◌∷◌, ◌⊎◌, inl, inr, [], ℕ, List, Bool, true, false, Option, Some, None, cond, not, length, get_or, map, take, refl, ap, sym, subst, arith, eq-eqb, ne_eqb}
+use Rattle.std.specs.Prelude.{◌==◌, ◌||◌, unwrap_or}
+use Rattle.std.specs.BTreeMap.{BTreeMap, Updates, get}
+use Rattle.std.specs.List.{filter, list_any, sum_by}
+use Rattle.std.specs.Ordering.{is_eq, nat_cmp}
+use Rattle.std.proofs.lemmas.Bool.{cases_Bool, cases_eq}
+use Rattle.std.proofs.lemmas.List.{map-append, take_all, take_more}
 use Rattle.std.proofs.lemmas.List.Filters.{sum_by-filter_both}
-use Rattle.std.proofs.lemmas.List.FromFn.{fill_by_all}
-use Rattle.std.proofs.lemmas.List.Sums.{sum_by-append, sum_by_more_le}
-use Rattle.svc_words.specs.declared.shares.Share.{Share}
+use Rattle.std.proofs.lemmas.List.Folds.{list_any_more}
+use Rattle.std.proofs.lemmas.List.Sums.{sum_by_more_le}
+use Rattle.svc_words.specs.Column.{Column, Share}
+use Rattle.svc_words.specs.declared.counts.Counts.{Counts}
+use Rattle.svc_words.specs.declared.shares.WordShare.{WordShare}
+use Rattle.svc_words.specs.Counts.{Adds, IsTally, amount, counts_at, in_column, no_counts, share_in}
 use Rattle.svc_words.specs.Words.{count_in}
+use Rattle.svc_words.proofs.InColumns.{of_none, sum_in_column}
+use Rattle.svc_words.proofs.Unnamed.{count_both}
 
-abbrev pub IsTally : List Share → ℕ → List ℕ → Type 0
-IsTally ss words counts = (length counts ≡ words) × ((w : ℕ) → w < words → get_or counts w 0 ≡ count_in ss w)
-
-pub tally_none : (words : ℕ) → IsTally [] words (replicate words 0)
-tally_none words = (length-replicate words 0, λ w inside. get_or-replicate words w 0 0 inside)
+pub tally_none : (m : BTreeMap ℕ Counts) → m.entries ≡ [] → IsTally [] m
+tally_none m none = record { counts = λ w c. rw none (of_none c); absent = λ w h. rw none refl }
 
 -- one share more
-count_more : (ss : List Share) (i : ℕ) (d : Share) (w : ℕ) → i < length ss
-    → count_in (take (i + 1) ss) w ≡ count_in (take i ss) w + cond ((get_or ss i d).word == w) (get_or ss i d).amount 0
-count_more ss i d w inside =
+count_more : (c : Column) (ss : List WordShare) (i : ℕ) (d : WordShare) (w : ℕ) → i < length ss
+    → count_in (in_column c (take (i + 1) ss)) w ≡ count_in (in_column c (take i ss)) w + cond ((get_or ss i d).word == w) (amount c (get_or ss i d).counts) 0
+count_more c ss i d w inside =
     let x = get_or ss i d in
-    let amount = λ (s : Share). s.amount in
-    let p = λ (s : Share). s.word == w in
-    ap (sum_by amount) (filter_more p ss i d inside) ∙ sum_by-append amount (filter p (take i ss)) (cond (p x) (x ∷ []) [])
-    ∙ ap (λ (n : ℕ). sum_by amount (filter p (take i ss)) + n) (by x (p x))
+    let so_far = in_column c (take i ss) in
+    ap (λ (l : List WordShare). count_in (in_column c l) w) (take_more ss i d inside)
+    ∙ ap (λ (l : List Share). count_in l w) (map-append (share_in c) (take i ss) (x ∷ []))
+    ∙ count_both so_far (share_in c x ∷ []) w
+    ∙ ap (λ (n : ℕ). count_in so_far w + n) (by (share_in c x) (x.word == w))
   where
-    by : (x : Share) (b : Bool) → sum_by (λ (s : Share). s.amount) (cond b (x ∷ []) []) ≡ cond b x.amount 0
-    by x true = omega arith
-    by x false = refl
+    by : (s : Share) (b : Bool) → sum_by (λ (s : Share). s.amount) (cond b (s ∷ []) []) ≡ cond b s.amount 0
+    by s true = omega arith
+    by s false = refl
 
-pub tally_more : (ss : List Share) (words : ℕ) (counts : List ℕ) (i : ℕ) (d : Share) → i < length ss → (get_or ss i d).word < words
-    → IsTally (take i ss) words counts
-    → IsTally (take (i + 1) ss) words (set counts (get_or ss i d).word (get_or counts (get_or ss i d).word 0 + (get_or ss i d).amount))
-tally_more ss words counts i d inside below is = (length-set counts at new ∙ is.0, λ w within. each w within (cases_eq at w))
+false_true : ◌≡◌ {A = Bool} false true → ⊥
+false_true h = cc
+
+-- numbers that differ are told apart
+pub apart : (k q : ℕ) → (k ≡ q → ⊥) → is_eq (nat_cmp k q) ≡ false
+apart k q ne = grind (arith, ne)
+
+pub alike : (k q : ℕ) → k ≡ q → is_eq (nat_cmp k q) ≡ true
+alike k q e = grind (arith, e)
+
+pub tally_more : (ss : List WordShare) (i : ℕ) (d : WordShare) (m n : BTreeMap ℕ Counts) → i < length ss → IsTally (take i ss) m
+    → Adds (get_or ss i d) m n → IsTally (take (i + 1) ss) n
+tally_more ss i d m n inside is adds = record { counts = λ w c. each w c (cases_eq x.word w); absent = λ w h. gone w h (cases_eq x.word w) }
   where
-    x : Share
+    x : WordShare
     x = get_or ss i d
 
-    at : ℕ
-    at = x.word
+    each : (w : ℕ) (c : Column) → (x.word ≡ w) ⊎ (x.word ≡ w → ⊥) → amount c (counts_at n w) ≡ count_in (in_column c (take (i + 1) ss)) w
+    each w c (inl e) =
+        let was = is.counts x.word c in
+        let same = eq-eqb x.word x.word refl in
+        let all : count_in (in_column c (take (i + 1) ss)) x.word ≡ count_in (in_column c (take i ss)) x.word + amount c x.counts =
+        count_more c ss i d x.word inside ∙ rw same refl in
+        let sum = adds.counts c in
+        let here : amount c (counts_at n x.word) ≡ count_in (in_column c (take (i + 1) ss)) x.word = omega (arith, was, all, sum) in
+        subst (λ (v : ℕ). amount c (counts_at n v) ≡ count_in (in_column c (take (i + 1) ss)) v) e here
+    each w c (inr ne) =
+        let kept : amount c (counts_at n w) ≡ amount c (counts_at m w) = ap (λ (o : Option Counts). amount c (unwrap_or o no_counts)) (adds.others w (ne_eqb x.word w ne)) in
+        let was = is.counts w c in
+        let apart = ne_eqb x.word w ne in
+        let all : count_in (in_column c (take (i + 1) ss)) w ≡ count_in (in_column c (take i ss)) w + 0 = count_more c ss i d w inside ∙ rw apart refl in
+        omega (arith, kept, was, all)
 
-    new : ℕ
-    new = get_or counts at 0 + x.amount
+    left_false : (p q : Bool) → (p || q) ≡ false → p ≡ false
+    left_false true q h = h
+    left_false false q h = refl
 
-    each : (w : ℕ) → w < words → (at ≡ w) ⊎ (at ≡ w → ⊥) → get_or (set counts at new) w 0 ≡ count_in (take (i + 1) ss) w
-    each w within (inl e) =
-        let long = is.0 in
-        let was : get_or counts at 0 ≡ count_in (take i ss) at = is.1 at below in
-        let more : count_in (take (i + 1) ss) at ≡ count_in (take i ss) at + x.amount = count_more ss i d at inside ∙ rw (eq-eqb at at refl) refl in
-        let now : get_or (set counts at new) at 0 ≡ new = get_or-set_same counts at new 0 (omega (arith, long, below)) in
-        let all : get_or (set counts at new) at 0 ≡ count_in (take (i + 1) ss) at = omega (arith, was, more, now) in
-        subst (λ (k : ℕ). get_or (set counts at new) k 0 ≡ count_in (take (i + 1) ss) k) e all
-    each w within (inr ne) =
-        let was : get_or counts w 0 ≡ count_in (take i ss) w = is.1 w within in
-        let more : count_in (take (i + 1) ss) w ≡ count_in (take i ss) w + 0 = count_more ss i d w inside ∙ rw (ne_eqb at w ne) refl in
-        let now : get_or (set counts at new) w 0 ≡ get_or counts w 0 = get_or-set_other counts at w new 0 (λ e. ne (sym e)) in
-        omega (arith, was, more, now)
+    right_false : (p q : Bool) → (p || q) ≡ false → q ≡ false
+    right_false true q h = cc
+    right_false false q h = h
 
--- the counts so far and the next amount are within the sum of all amounts
-pub tally_fits : (ss : List Share) (words : ℕ) (counts : List ℕ) (i : ℕ) (d : Share) → i < length ss → (get_or ss i d).word < words
-    → IsTally (take i ss) words counts → sum_by (λ (s : Share). s.amount) ss < 2 ^ 64 → get_or counts (get_or ss i d).word 0 + (get_or ss i d).amount < 2 ^ 64
-tally_fits ss words counts i d inside below is few =
+    gone : (w : ℕ) → list_any (λ (s : WordShare). s.word == w) (take (i + 1) ss) ≡ false → (x.word ≡ w) ⊎ (x.word ≡ w → ⊥) → get nat_cmp n w ≡ None
+    gone w h (inl e) =
+        let all = sym (list_any_more (λ (s : WordShare). s.word == w) ss i d inside) ∙ h in
+        absurd (false_true (sym (right_false (list_any (λ (s : WordShare). s.word == w) (take i ss)) (x.word == w) all) ∙ eq-eqb x.word w e))
+    gone w h (inr ne) =
+        let all = sym (list_any_more (λ (s : WordShare). s.word == w) ss i d inside) ∙ h in
+        adds.others w (ne_eqb x.word w ne) ∙ is.absent w (left_false (list_any (λ (s : WordShare). s.word == w) (take i ss)) (x.word == w) all)
+
+-- the counts so far and the next share's are within the sum of all
+pub tally_fits : (ss : List WordShare) (m : BTreeMap ℕ Counts) (i : ℕ) (d : WordShare) → i < length ss → IsTally (take i ss) m
+    → ((c : Column) → sum_by (λ (s : WordShare). amount c s.counts) ss < 2 ^ 64)
+    → (c : Column) → amount c (counts_at m (get_or ss i d).word) + amount c (get_or ss i d).counts < 2 ^ 64
+tally_fits ss m i d inside is few c =
     let x = get_or ss i d in
-    let amount = λ (s : Share). s.amount in
+    let each = λ (s : WordShare). amount c s.counts in
     let p = λ (s : Share). s.word == x.word in
     let q = λ (s : Share). not (s.word == x.word) in
-    let was : get_or counts x.word 0 ≡ count_in (take i ss) x.word = is.1 x.word below in
-    let both : sum_by amount (filter p (take i ss)) + sum_by amount (filter q (take i ss)) ≡ sum_by amount (take i ss) = sum_by-filter_both p q (λ s. refl) amount (take i ss) in
-    let whole : sum_by amount (take i ss) + x.amount ≤ sum_by amount ss = sum_by_more_le amount ss i d inside in
-    omega (arith, was, both, whole, few)
+    let so_far = in_column c (take i ss) in
+    let was = is.counts x.word c in
+    let both : sum_by (λ (s : Share). s.amount) (filter p so_far) + sum_by (λ (s : Share). s.amount) (filter q so_far) ≡ sum_by (λ (s : Share). s.amount) so_far =
+    sum_by-filter_both p q (λ s. refl) (λ (s : Share). s.amount) so_far in
+    let same = sum_in_column c (take i ss) in
+    let whole : sum_by each (take i ss) + each x ≤ sum_by each ss = sum_by_more_le each ss i d inside in
+    let most = few c in
+    omega (arith, was, both, same, whole, most)
 
-pub tally_all : (ss : List Share) (words : ℕ) (counts : List ℕ) (i : ℕ) → length ss ≤ i → IsTally (take i ss) words counts
-    → counts ≡ map (count_in ss) (range_with_len 0 words)
-tally_all ss words counts i end is =
-    fill_by_all (count_in ss) counts words 0 is.0 (λ w within. is.1 w within ∙ ap (λ (xs : List Share). count_in xs w) (take_all i ss end))
-
-pub share_at : (ss : List Share) (words i : ℕ) (d : Share) → i < length ss → AllByRecursion (λ s. s.word < words) ss → (get_or ss i d).word < words
-share_at [] words i d inside all = let never : ⊥ = omega (arith, inside) in absurd never
-share_at (s ∷ ss) words zero d inside all = all.0
-share_at (s ∷ ss) words (suc i) d inside all = share_at ss words i d (omega (arith, inside)) all.1
+pub tally_all : (ss : List WordShare) (m : BTreeMap ℕ Counts) (i : ℕ) → length ss ≤ i → IsTally (take i ss) m → IsTally ss m
+tally_all ss m i end is = subst (λ (xs : List WordShare). IsTally xs m) (take_all i ss end) is

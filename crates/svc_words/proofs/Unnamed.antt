@@ -12,9 +12,9 @@ use Rattle.svc_view.specs.declared.task_run.Fate.TheVariants as fate
 use Rattle.svc_view.specs.declared.task_run.TaskRun.{TaskRun}
 use Rattle.svc_view.specs.Runs.{tasks_of}
 use Rattle.svc_view.proofs.Buckets.{sum_by_number}
-use Rattle.svc_words.specs.declared.shares.Column.{Column}
-use Rattle.svc_words.specs.declared.shares.Column.TheVariants as column
-use Rattle.svc_words.specs.declared.shares.Share.{Share}
+use Rattle.svc_words.specs.Column.{Column}
+use Rattle.svc_words.specs.Column as column
+use Rattle.svc_words.specs.Column.{Share}
 use Rattle.svc_words.specs.Words.{count_in, count_of, cut_word, entry_amount, entry_share, is_named, share_of, shares_of, task_amount, task_share, word_at, words_end, words_named}
 use Rattle.svc_words.proofs.Inside.{all_inside}
 
@@ -36,7 +36,7 @@ missed (Some a) amount w miss = by (cases_eq a.0 w)
         absurd never
     by (inr ne) = rw (ne_eqb a.0 w ne) refl
 
-count_both : (xs ys : List Share) (w : ℕ) → count_in (xs ++ ys) w ≡ count_in xs w + count_in ys w
+pub count_both : (xs ys : List Share) (w : ℕ) → count_in (xs ++ ys) w ≡ count_in xs w + count_in ys w
 count_both xs ys w =
     let p = λ (s : Share). s.word == w in
     let amount = λ (s : Share). s.amount in

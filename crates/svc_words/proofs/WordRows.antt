@@ -1,44 +1,70 @@
--- The rows of the words that entries name, from the columns.
-use Rattle.std.proofs.Common.{◌≡◌, ◌∙◌, ◌+◌, ◌<◌, ◌≤◌, ◌++◌, ◌∷◌, [], ℕ, zero, suc, List, Bool, true, false, cond, refl, ap, ap₂, arith}
-use Rattle.std.specs.Prelude.{codes, decimal, flat_map, nat_lt, slice_index}
-use Rattle.std.specs.List.{filter, range_with_len}
-use Rattle.std.proofs.lemmas.List.FromFn.{get_or-map-range_with_len}
+-- The rows of a table of counts are those of the words that entries name.
+use Rattle.std.proofs.Common.{◌≡◌, ◌∙◌, ◌+◌, ◌<◌, ◌≤◌, ◌++◌, ◌∷◌, ◌⊎◌, inl, inr, [], ℕ, zero, suc, List, Bool, true, false, Option, None, Some, cond, refl, ap, ap₂, subst, sym, arith, ne_eqb}
+use Rattle.std.specs.Prelude.{◌==◌, ◌||◌, codes, decimal, flat_map, is_some, nat_lt}
+use Rattle.std.specs.BTreeMap.{BTreeMap, IsOrdered, get}
+use Rattle.std.specs.List.{AllByRecursion, filter, list_any, range_with_len, sum_by}
+use Rattle.std.specs.Map.{keys_of, lookup}
+use Rattle.std.specs.Option.{IsSome}
+use Rattle.std.specs.Ordering.{nat_cmp}
 use Rattle.svc_history_laws.specs.declared.entry.Entry.{Entry}
-use Rattle.svc_words.specs.declared.shares.Column.{Column}
-use Rattle.svc_words.specs.declared.shares.Column.TheVariants as column
-use Rattle.svc_words.specs.declared.words.Columns.{Columns}
-use Rattle.svc_words.specs.Columns.{AreColumns, counts_in, text_at, told_at}
-use Rattle.svc_words.specs.Words.{count_of, count_text, counts_told, is_named, word_row, words_end, words_named}
+use Rattle.svc_words.specs.Column.{Column}
+use Rattle.svc_words.specs.Column as column
+use Rattle.svc_words.specs.declared.counts.Counts.{Counts}
+use Rattle.svc_words.specs.declared.shares.WordShare.{WordShare}
+use Rattle.svc_words.specs.Counts.{IsTally, all_shares, amount, counted_row, counts_at, in_column, named_row, told_of}
+use Rattle.svc_words.specs.Words.{count_in, count_of, count_text, counts_told, is_named, word_row, words_end, words_named}
+use Rattle.svc_words.proofs.InColumns.{all_in_column}
+use Rattle.svc_words.proofs.Inside.{all_inside}
+use Rattle.svc_words.proofs.Ordered.{below_all, found, from_zero, row_at, rows_over}
 
--- the count of a word
-at : (c : Column) (es : List Entry) (counts : List ℕ) (word : ℕ) → counts ≡ counts_in c es → word < words_end es → slice_index counts word ≡ count_of c es word
-at c es counts word is inside =
-    ap (λ (ns : List ℕ). slice_index ns word) is ∙ get_or-map-range_with_len (count_of c es) 0 (words_end es) word word 0 inside (omega arith)
+module _ (es : List Entry) (m : BTreeMap ℕ Counts) (is : IsTally (all_shares es) m) where
+  -- what the table has of a word
+  has : (c : Column) (w : ℕ) → amount c (counts_at m w) ≡ count_of c es w
+  has c w = is.counts w c ∙ ap (λ ss. count_in ss w) (all_in_column c es)
 
-told : (es : List Entry) (t : Columns) (word : ℕ) → AreColumns es t → word < words_end es → told_at t word ≡ counts_told es word
-told es t word are inside =
-    ap₂ (λ (n : ℕ) (l : List ℕ). n ∷ l) (at column.Loads es t.loads.items word are.loads inside)
-    (ap₂ (λ (n : ℕ) (l : List ℕ). n ∷ l) (at column.Stores es t.stores.items word are.stores inside)
-    (ap₂ (λ (n : ℕ) (l : List ℕ). n ∷ l) (at column.Versions es t.versions.items word are.versions inside)
-    (ap₂ (λ (n : ℕ) (l : List ℕ). n ∷ l) (at column.Violations es t.violations.items word are.violations inside)
-    (ap₂ (λ (n : ℕ) (l : List ℕ). n ∷ l) (at column.Squashed es t.squashed.items word are.squashed inside)
-    (ap (λ (n : ℕ). n ∷ []) (at column.Turns es t.turns.items word are.turns inside))))))
+  told : (w : ℕ) → told_of (counts_at m w) ≡ counts_told es w
+  told w =
+      ap₂ (λ (n : ℕ) (l : List ℕ). n ∷ l) (has column.Loads w)
+      (ap₂ (λ (n : ℕ) (l : List ℕ). n ∷ l) (has column.Stores w)
+      (ap₂ (λ (n : ℕ) (l : List ℕ). n ∷ l) (has column.Versions w)
+      (ap₂ (λ (n : ℕ) (l : List ℕ). n ∷ l) (has column.Violations w)
+      (ap₂ (λ (n : ℕ) (l : List ℕ). n ∷ l) (has column.Squashed w)
+      (ap (λ (n : ℕ). n ∷ []) (has column.Turns w))))))
 
-row : (es : List Entry) (t : Columns) (word : ℕ) → AreColumns es t → word < words_end es → text_at t word ≡ cond (is_named es word) (word_row es word) []
-row es t word are inside =
-    ap₂ (λ (n : ℕ) (l : List ℕ). cond (nat_lt 0 n) (decimal word ++ (flat_map count_text l ++ codes "\n")) []) (at column.Named es t.named.items word are.named inside) (told es t word are inside)
+  -- the row of a word that is in the table or isn't
+  shown : (w : ℕ) (o : Option Counts) → get nat_cmp m w ≡ o → row_at named_row w o ≡ cond (is_named es w) (word_row es w) []
+  shown w o there =
+      by o there
+      ∙ ap₂ (λ (n : ℕ) (l : List ℕ). cond (nat_lt 0 n) (decimal w ++ (flat_map count_text l ++ codes "\n")) []) (has column.Named w) (told w)
+    where
+      by : (o : Option Counts) → get nat_cmp m w ≡ o → row_at named_row w o ≡ named_row (w, counts_at m w)
+      by None e = rw e refl
+      by (Some k) e = rw e refl
 
--- from a word on
-rows_from : (es : List Entry) (t : Columns) (a n : ℕ) → AreColumns es t → a + n ≤ words_end es
-    → flat_map (text_at t) (range_with_len a n) ≡ flat_map (word_row es) (filter (is_named es) (range_with_len a n))
-rows_from es t a zero are le = refl
-rows_from es t a (suc n) are le =
-    ap₂ (λ (k l : List ℕ). k ++ l) (row es t a are (omega (arith, le))) (rows_from es t (a + 1) n are (omega (arith, le)))
-    ∙ by (is_named es a) (filter (is_named es) (range_with_len (a + 1) n))
-  where
-    by : (b : Bool) (ws : List ℕ) → cond b (word_row es a) [] ++ flat_map (word_row es) ws ≡ flat_map (word_row es) (cond b (a ∷ ws) ws)
-    by true ws = refl
-    by false ws = refl
+  -- over all words, and over those that are named
+  kept : (a n : ℕ) → flat_map (λ w. row_at named_row w (found named_row m.entries w)) (range_with_len a n) ≡ flat_map (word_row es) (filter (is_named es) (range_with_len a n))
+  kept a zero = refl
+  kept a (suc n) =
+      ap₂ (λ (k l : List ℕ). k ++ l) (shown a (get nat_cmp m a) refl) (kept (a + 1) n)
+      ∙ by (is_named es a) (filter (is_named es) (range_with_len (a + 1) n))
+    where
+      by : (b : Bool) (ws : List ℕ) → cond b (word_row es a) [] ++ flat_map (word_row es) ws ≡ flat_map (word_row es) (cond b (a ∷ ws) ws)
+      by true ws = refl
+      by false ws = refl
 
-pub rows : (es : List Entry) (t : Columns) → AreColumns es t → flat_map (text_at t) (range_with_len 0 (words_end es)) ≡ flat_map (word_row es) (words_named es)
-rows es t are = rows_from es t 0 (words_end es) are (omega arith)
+  -- no word lies past the last one that is named
+  past : (ss : List WordShare) (end w : ℕ) → AllByRecursion (λ s. s.word < end) (in_column column.Named ss) → end ≤ w → list_any (λ (s : WordShare). s.word == w) ss ≡ false
+  past [] end w all le = refl
+  past (s ∷ ss) end w all le =
+      let below = all.0 in
+      let miss : (s.word == w) ≡ false = ne_eqb s.word w (λ e. omega (arith, below, le, e)) in
+      ap (λ (b : Bool). b || list_any (λ (s : WordShare). s.word == w) ss) miss ∙ past ss end w all.1 le
+
+  below : (w : ℕ) → words_end es ≤ w → get nat_cmp m w ≡ None
+  below w le =
+      is.absent w (past (all_shares es) (words_end es) w
+      (subst (AllByRecursion (λ s. s.word < words_end es)) (sym (all_in_column column.Named es)) (all_inside column.Named es)) le)
+
+  pub rows : IsOrdered nat_cmp m → flat_map named_row m.entries ≡ flat_map (word_row es) (words_named es)
+  rows ordered = rows_over named_row m.entries ordered 0 (words_end es) (words_end es) (omega arith)
+      (below_all named_row m.entries (words_end es) below) (from_zero named_row (keys_of m.entries)) ∙ kept 0 (words_end es)

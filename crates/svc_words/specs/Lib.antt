@@ -1,4 +1,5 @@
+pub mod Column
 pub mod Words
-pub mod Columns
+pub mod Counts
 pub mod Named
 pub mod OneTask

@@ -11,7 +11,7 @@ ghost use Rattle.svc_view.specs.declared.totals.Group.TheVariants as group;
 ghost use Rattle.svc_view.specs.declared.totals.Measure.TheVariants as measure;
 ghost use Rattle.svc_view.specs.Profile.{total, total_of};
 ghost use Rattle.svc_view.specs.Runs.{is_load, is_store, tasks_of};
-ghost use Rattle.svc_words.specs.declared.shares.Column.TheVariants as column;
+ghost use Rattle.svc_words.specs.Column as column;
 ghost use Rattle.svc_words.specs.Named.{NamesItsWord};
 ghost use Rattle.svc_words.specs.OneTask.{EachIsOfOneTask};
 ghost use Rattle.svc_words.specs.Words.{count_of, words_named};

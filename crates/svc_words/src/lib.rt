@@ -2,9 +2,11 @@
 //! the rows come to what the profile tells.
 #![tactic(auto)]
 
+mod counts;
 mod laws;
-pub mod shares;
-pub mod words;
+mod shares;
+mod tally;
+mod words;
 
 pub use laws::{legal_entries_name_their_words, word_rows_add_up, word_rows_are_of_tasks};
 pub use words::write_words;
