@@ -1,8 +1,8 @@
 -- What caches have of a named word, one cache more.
-use Rattle.std.proofs.Common.{◌≡◌, ◌∙◌, ◌+◌, ◌<◌, ◌⊎◌, inl, inr, ℕ, Bool, true, false, Option, None, cond, refl, ap, sym, subst, arith, ne_eqb}
+use Rattle.std.proofs.Common.{◌≡◌, ◌∙◌, ◌+◌, ◌<◌, ◌⊎◌, inl, inr, ℕ, Bool, true, false, None, cond, refl, ap, sym, arith}
 use Rattle.std.specs.Prelude.{◌==◌}
 use Rattle.std.proofs.lemmas.Bool.{cases_eq}
-use Rattle.svc_bus_laws.specs.BusLine.{BusLine, is_committed_dirty_line, value_of_line}
+use Rattle.svc_bus_laws.specs.BusLine.{is_committed_dirty_line, value_of_line}
 use Rattle.svc_bus_laws.specs.BusState.{BusState}
 use Rattle.svc_show.specs.declared.cached.Versions.{Versions}
 use Rattle.svc_show.specs.declared.cached.Versions.TheVariants.{Absent, One, Several}

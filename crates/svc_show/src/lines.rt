@@ -26,11 +26,7 @@ fn write_line(
     ensures ok { OnOk result (rows.new.items ≡ rows.old.items ++ line_row unit.0 word.0 (line_shown line)) }
     ensures err { IfErr result (λ e. e ≡ Memory) }
 {
-    let numbers = [
-        u64::from(unit.0),
-        u64::from(word.0),
-        u64::from(line.1),
-    ];
+    let numbers = [u64::from(unit.0), u64::from(word.0), u64::from(line.1)];
     write_fields(b"line", &numbers, rows)?;
     write_bits(line, rows)
 }

@@ -65,11 +65,7 @@ fn write_memory(
         (rows.new.items ≡ rows.old.items ++ memory_row word.0 committed backing) }
     ensures err { IfErr result (λ e. e ≡ Memory) }
 {
-    let numbers = [
-        u64::from(word.0),
-        u64::from(committed),
-        u64::from(backing),
-    ];
+    let numbers = [u64::from(word.0), u64::from(committed), u64::from(backing)];
     write_fields(b"memory", &numbers, rows)?;
     write_text(b"\n", rows)
 }

@@ -1,17 +1,16 @@
 -- The rows of a table of counts are those of the words that entries name.
-use Rattle.std.proofs.Common.{◌≡◌, ◌∙◌, ◌+◌, ◌<◌, ◌≤◌, ◌++◌, ◌∷◌, ◌⊎◌, inl, inr, [], ℕ, zero, suc, List, Bool, true, false, Option, None, Some, cond, refl, ap, ap₂, subst, sym, arith, ne_eqb}
-use Rattle.std.specs.Prelude.{◌==◌, ◌||◌, codes, decimal, flat_map, is_some, nat_lt}
+use Rattle.std.proofs.Common.{◌≡◌, ◌∙◌, ◌+◌, ◌<◌, ◌≤◌, ◌++◌, ◌∷◌, [], ℕ, zero, suc, List, Bool, true, false, Option, None, Some, cond, refl, ap, ap₂, subst, sym, arith, ne_eqb}
+use Rattle.std.specs.Prelude.{◌==◌, ◌||◌, codes, decimal, flat_map, nat_lt}
 use Rattle.std.specs.BTreeMap.{BTreeMap, IsOrdered, get}
-use Rattle.std.specs.List.{AllByRecursion, filter, list_any, range_with_len, sum_by}
-use Rattle.std.specs.Map.{keys_of, lookup}
-use Rattle.std.specs.Option.{IsSome}
+use Rattle.std.specs.List.{AllByRecursion, filter, list_any, range_with_len}
+use Rattle.std.specs.Map.{keys_of}
 use Rattle.std.specs.Ordering.{nat_cmp}
 use Rattle.svc_history_laws.specs.declared.entry.Entry.{Entry}
 use Rattle.svc_words.specs.Column.{Column}
 use Rattle.svc_words.specs.Column as column
 use Rattle.svc_words.specs.declared.counts.Counts.{Counts}
 use Rattle.svc_words.specs.declared.shares.WordShare.{WordShare}
-use Rattle.svc_words.specs.Counts.{IsTally, all_shares, amount, counted_row, counts_at, in_column, named_row, told_of}
+use Rattle.svc_words.specs.Counts.{IsTally, all_shares, amount, counts_at, in_column, named_row, told_of}
 use Rattle.svc_words.specs.Words.{count_in, count_of, count_text, counts_told, is_named, word_row, words_end, words_named}
 use Rattle.svc_words.proofs.InColumns.{all_in_column}
 use Rattle.svc_words.proofs.Inside.{all_inside}

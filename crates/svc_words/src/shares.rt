@@ -64,10 +64,7 @@ fn push_share(
 }
 
 // Adds what the entries count.
-fn push_entries(
-    entries: &[Entry],
-    shares: &mut Vec<WordShare>,
-) -> Result<(), ReportError>
+fn push_entries(entries: &[Entry], shares: &mut Vec<WordShare>) -> Result<(), ReportError>
     ensures list { OnOk result
         (shares.new.items ≡ shares.old.items ++ flat_map (entry_counted) entries.now) }
     ensures err { IfErr result (λ e. e ≡ Memory) }

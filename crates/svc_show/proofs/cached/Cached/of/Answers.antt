@@ -1,8 +1,6 @@
-use Rattle.std.proofs.Common.{◌∙◌, ◌+◌, Bool, Option, ap, ap₂, subst, sym}
+use Rattle.std.proofs.Common.{◌∙◌, ◌+◌, Bool, ap, ap₂, subst, sym}
 use Rattle.std.specs.Prelude.{◌||◌, is_some}
 use Rattle.svc_bus.specs.Observed.{observed}
-use Rattle.svc_bus_laws.specs.BusLine.{BusLine}
-use Rattle.svc_show.specs.declared.cached.Versions.{Versions}
 use Rattle.svc_show.specs.Named.{AreVersions, and_line, is_named_line}
 use Rattle.svc_show.proofs.Caches.{one_cache}
 use Rattle.svc_show.proofs.Ranges.{any_more}
