@@ -1,10 +1,11 @@
 -- The active tasks after an entry: which of them go on, and which are settled.
-use Rattle.std.proofs.Common.{◌≡◌, ◌∙◌, ◌+◌, ◌<◌, ◌≤◌, ◌++◌, ◌∷◌, [], ◌||◌, ℕ, suc, List, Bool, true, false, not, cond, refl, map, take, drop, length, get_or, ap, sym, append_assoc, drop-cons, arith}
-use Rattle.std.specs.List.{filter, list_any}
+use Rattle.std.proofs.Common.{◌≡◌, ◌∙◌, ◌+◌, ◌<◌, ◌≤◌, ◌++◌, ◌∷◌, [], ◌||◌, ℕ, suc, List, Bool, true, false, not, cond, refl, map, take, drop, length, get_or, ap, sym, append_assoc, drop-cons, length-append, arith, ◌-◌}
+use Rattle.std.specs.List.{filter, list_any, remove}
 use Rattle.std.proofs.Math.ListN.{set}
 use Rattle.std.proofs.Math.Seq.{get_or-append_seam, set-append_seam}
 use Rattle.std.proofs.lemmas.Bool.{true≢false}
-use Rattle.std.proofs.lemmas.List.{drop_all, drop_more, length-map, length-take-le, map_more, take_more}
+use Rattle.std.proofs.lemmas.List.{drop_all, drop_more, append-nil, length-map, length-take-le, map_more, take_more}
+use Rattle.std.proofs.lemmas.List.Edits.{remove-append_right}
 use Rattle.std.proofs.lemmas.List.Elements.{filter-append}
 use Rattle.std.proofs.lemmas.List.Folds.{list_any-append}
 use Rattle.std.proofs.Math.Bool.{or-false}
@@ -13,16 +14,63 @@ use Rattle.svc_history_laws.specs.Board.{commits}
 use Rattle.svc_view.specs.declared.task_run.TaskRun.{TaskRun}
 use Rattle.svc_view.specs.Runs.{Runs, after, begun, goes_on, is_settled, runs_from, step}
 
--- one task more is sorted
-pub one_more : (p : TaskRun → Bool) (old part new xs : List TaskRun) (i : ℕ) (d : TaskRun) → i < length xs
-    → part ≡ old ++ filter p (take i xs)
-    → new ≡ part ++ cond (p (get_or xs i d)) (get_or xs i d ∷ []) []
-    → new ≡ old ++ filter p (take (i + 1) xs)
-one_more p old part new xs i d inside is grown =
-    let before = take i xs in
-    let one = get_or xs i d ∷ [] in
-    grown ∙ ap (λ (l : List TaskRun). l ++ filter p one) is ∙ append_assoc old (filter p before) (filter p one)
-    ∙ ap (λ (l : List TaskRun). old ++ l) (sym (filter-append p before one) ∙ ap (filter p) (sym (take_more xs i d inside)))
+-- the tasks that go on up to an index, and all from there on
+abbrev pub part_way : List TaskRun → (i : ℕ) → List TaskRun
+part_way old i = filter goes_on (take i old) ++ drop i old
+
+-- one task more is seen
+one_seen : (p : TaskRun → Bool) (old : List TaskRun) (i : ℕ) (d : TaskRun) (b : Bool) → i < length old → p (get_or old i d) ≡ b
+    → filter p (take (i + 1) old) ≡ filter p (take i old) ++ cond b (get_or old i d ∷ []) []
+one_seen p old i d b inside is =
+    let o = get_or old i d in
+    ap (filter p) (take_more old i d inside) ∙ filter-append p (take i old) (o ∷ [])
+    ∙ ap (λ (c : Bool). filter p (take i old) ++ cond c (o ∷ []) []) is
+
+-- it stands behind those that go on
+next_seen : (old now : List TaskRun) (i n : ℕ) (d e : TaskRun) → i < length old → n ≡ length (filter goes_on (take i old)) → now ≡ part_way old i
+    → get_or now n e ≡ get_or old i d
+next_seen old now i n d e inside count is =
+    let xs = filter goes_on (take i old) in
+    let o = get_or old i d in
+    let rest = drop (i + 1) old in
+    ap (λ (l : List TaskRun). get_or l n e) (is ∙ ap (λ (l : List TaskRun). xs ++ l) (drop_more old i d inside))
+    ∙ ap (λ (m : ℕ). get_or (xs ++ (o ∷ rest)) m e) count ∙ get_or-append_seam xs o rest e
+
+-- it goes on
+pub one_goes : (old now : List TaskRun) (i n : ℕ) (d : TaskRun) → i < length old → n ≡ length (filter goes_on (take i old)) → now ≡ part_way old i
+    → d ≡ get_or now n d → goes_on d ≡ true
+    → (n + 1 ≡ length (filter goes_on (take (i + 1) old))) × (now ≡ part_way old (i + 1)) × (filter is_settled (take (i + 1) old) ≡ filter is_settled (take i old))
+one_goes old now i n d inside count is this goes =
+    let xs = filter goes_on (take i old) in
+    let o = get_or old i d in
+    let rest = drop (i + 1) old in
+    let it : goes_on o ≡ true = ap goes_on (sym (this ∙ next_seen old now i n d d inside count is)) ∙ goes in
+    let more : filter goes_on (take (i + 1) old) ≡ xs ++ (o ∷ []) = one_seen goes_on old i d true inside it in
+    let longer : length (filter goes_on (take (i + 1) old)) ≡ length xs + 1 = ap length more ∙ length-append xs (o ∷ []) in (
+      omega (arith, count, longer),
+      is ∙ ap (λ (l : List TaskRun). xs ++ l) (drop_more old i d inside) ∙ sym (append_assoc xs (o ∷ []) rest) ∙ ap (λ (l : List TaskRun). l ++ rest) (sym more),
+      one_seen is_settled old i d false inside (ap not it) ∙ append-nil (filter is_settled (take i old)),
+    )
+
+-- it is settled, and taken out
+pub one_goes_out : (old now : List TaskRun) (i n : ℕ) (d out : TaskRun) → i < length old → n ≡ length (filter goes_on (take i old)) → now ≡ part_way old i
+    → d ≡ get_or now n d → out ≡ get_or now n out → goes_on d ≡ false
+    → (n ≡ length (filter goes_on (take (i + 1) old))) × (remove now n ≡ part_way old (i + 1)) × (filter is_settled (take (i + 1) old) ≡ filter is_settled (take i old) ++ (out ∷ []))
+one_goes_out old now i n d out inside count is this taken stops =
+    let xs = filter goes_on (take i old) in
+    let o = get_or old i d in
+    let rest = drop (i + 1) old in
+    let it : goes_on o ≡ false = ap goes_on (sym (this ∙ next_seen old now i n d d inside count is)) ∙ stops in
+    let same : filter goes_on (take (i + 1) old) ≡ xs = one_seen goes_on old i d false inside it ∙ append-nil xs in
+    let first : n - n ≡ 0 = omega arith in
+    let most : n ≤ n = omega arith in (
+      count ∙ ap length (sym same),
+      ap (λ (l : List TaskRun). remove l n) (is ∙ ap (λ (l : List TaskRun). xs ++ l) (drop_more old i d inside))
+          ∙ remove-append_right xs (o ∷ rest) n n (sym count) most ∙ ap (λ (m : ℕ). xs ++ remove (o ∷ rest) m) first
+          ∙ ap (λ (l : List TaskRun). l ++ rest) (sym same),
+      one_seen is_settled old i d true inside (ap not it)
+          ∙ ap (λ (r : TaskRun). filter is_settled (take i old) ++ (r ∷ [])) (sym (taken ∙ next_seen old now i n d out inside count is)),
+    )
 
 -- the tasks from an index on are as they were
 whole : (f : TaskRun → TaskRun) (old now : List TaskRun) (i : ℕ) (d : TaskRun) → i < length old

@@ -18,5 +18,6 @@ pub use profile_row::write_profile_row;
 pub use runs::tasks_of;
 pub use task_run::{Fate, TaskRun};
 pub use tasks::write_tasks;
+pub use text::{put_number, put_text};
 pub use totals::{Group, Measure, Total};
 pub use units::write_units;

@@ -12,7 +12,6 @@ ghost use Rattle.svc_view.specs.Seen.{seen};
 
 use crate::task_run::{Fate, TaskRun, turns_in};
 use std::alloc::Global;
-use std::mem;
 use svc_history_laws::{Entry, Kind};
 use svc_report::ReportError;
 
@@ -23,23 +22,6 @@ pub(crate) struct TaskRuns {
     pub(crate) commits: u64,
     pub(crate) settled: Vec<TaskRun>,
     pub(crate) active: Vec<TaskRun>,
-    // empty, with room for the active ones
-    pub(crate) spare: Vec<TaskRun>,
-}
-
-// Adds a task to a list if the condition holds.
-pub(crate) fn push_where(
-    holds: bool,
-    run: TaskRun,
-    list: &mut Vec<TaskRun>,
-) -> Result<(), ReportError>
-    ensures list { OnOk result (list.new.items ≡ list.old.items ++ cond holds (run ∷ []) []) }
-    ensures err { IfErr result (λ e. e ≡ Memory) }
-{
-    if holds {
-        list.push(run)?;
-    }
-    Ok(())
 }
 
 // Adds a task to a list, if there is one.
@@ -79,20 +61,19 @@ fn go_on(active: &mut [TaskRun], at: u64, entry: &Entry) -> bool
     settled
 }
 
-// Sorts tasks into those that go on and those whose fate is decided.
-fn sort_out(
-    active: &[TaskRun],
-    going: &mut Vec<TaskRun>,
-    settled: &mut Vec<TaskRun>,
-) -> Result<(), ReportError>
-    requires empty { going.old.items ≡ [] }
-    ensures going { OnOk result (going.new.items ≡ filter goes_on active.now) }
-    ensures settled { OnOk result (settled.new.items ≡ settled.old.items ++ filter is_settled active.now) }
+// Moves the tasks whose fate is decided from the active ones to the others.
+fn settle(active: &mut Vec<TaskRun>, settled: &mut Vec<TaskRun>) -> Result<(), ReportError>
+    ensures active { OnOk result (active.new.items ≡ filter goes_on active.old.items) }
+    ensures settled { OnOk result (settled.new.items ≡ settled.old.items ++ filter is_settled active.old.items) }
     ensures err { IfErr result (λ e. e ≡ Memory) }
 {
-    for run in active {
-        push_where(run.fate.is_active(), *run, going)?;
-        push_where(!run.fate.is_active(), *run, settled)?;
+    let mut going = 0;
+    for _index in 0..active.len() {
+        if active[going].fate.is_active() {
+            going += 1;
+        } else {
+            settled.push(active.remove(going))?;
+        }
     }
     Ok(())
 }
@@ -100,14 +81,12 @@ fn sort_out(
 impl TaskRuns {
     // No tasks.
     fn none(alloc: Global) -> TaskRuns
-        ensures none { seen result ≡ no_runs }
-        ensures spare { result.spare.items ≡ [] }
+        ensures { seen result ≡ no_runs }
     {
         TaskRuns {
             commits: 0,
             settled: Vec::new(alloc),
             active: Vec::new(alloc),
-            spare: Vec::new(alloc),
         }
     }
 
@@ -139,16 +118,12 @@ impl TaskRuns {
     fn step(&mut self, at: u64, entry: &Entry) -> Result<(), ReportError>
         requires few { AreFew at (seen self.old) }
         requires inside { at < MAX_EVENTS }
-        requires spare { self.old.spare.items ≡ [] }
         ensures step { OnOk result (seen self.new ≡ step at entry.now (seen self.old)) }
-        ensures spare { OnOk result (self.new.spare.items ≡ []) }
         ensures err { IfErr result (λ e. e ≡ Memory) }
     {
         let begun = self.begun(at, entry);
         if go_on(&mut self.active, at, entry) {
-            sort_out(&self.active, &mut self.spare, &mut self.settled)?;
-            mem::swap(&mut self.active, &mut self.spare);
-            self.spare.clear();
+            settle(&mut self.active, &mut self.settled)?;
         }
         push_some(begun, &mut self.active)?;
         self.commits += commits_in(entry.kind);
@@ -181,7 +156,6 @@ impl TaskRuns {
             commits: _,
             settled: mut tasks,
             active,
-            spare: _,
         } = self;
         tasks.extend_from_slice(&active)?;
         Ok(tasks)

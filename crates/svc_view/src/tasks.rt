@@ -1,6 +1,6 @@
 // The table of a history's tasks.
 
-ghost use Rattle.std.specs.Prelude.{◌≡◌, ◌≤◌, ◌++◌, OnOk, IfOk, IfErr, flat_map, length};
+ghost use Rattle.std.specs.Prelude.{◌≡◌, ◌≤◌, ◌++◌, OnOk, IfOk, IfErr, codes, decimal, flat_map, length};
 ghost use Rattle.std.specs.Io.KnownBytes.{Appends};
 ghost use Rattle.svc_base.specs.declared.config.TheConstants.{MAX_EVENTS};
 ghost use Rattle.svc_report.specs.Faults.{IsWriteFault};
@@ -9,11 +9,14 @@ ghost use Rattle.svc_view.specs.Tasks.{fate_word, optional_text, task_end, task_
 
 use crate::runs::tasks_of;
 use crate::task_run::{Fate, TaskRun};
-use crate::text::write_text;
-use std::alloc::Global;
+use crate::text::{put_number, put_text, write_text};
+use std::alloc::{AllocError, Global};
 use std::io::Write;
 use svc_history_laws::Entry;
 use svc_report::ReportError;
+
+// The names of the columns.
+const HEADER: &[u8] = b"task,unit,entry,first,last,turns,loads,stores,fate\n";
 
 impl Fate {
     /// The word for a fate.
@@ -30,91 +33,64 @@ impl Fate {
     }
 }
 
-// Writes what a task was.
-fn write_front<W: Write>(run: &TaskRun, w: &mut W) -> Result<(), ReportError>
-    ensures ok { OnOk result (Appends (W.contents w.old) (W.contents w.new) (task_front run.now)) }
-    ensures err { IfErr result IsWriteFault }
+// Adds a number and its comma.
+fn put_column(text: &mut Vec<u8>, number: u64) -> Result<(), AllocError>
+    ensures { OnOk result (text.new.items ≡ text.old.items ++ (decimal number ++ codes ",")) }
 {
-    let number = run.number;
-    let unit = run.unit.0;
-    let entry = run.entry;
-    let first = run.first;
-    match write!(w, "{number},{unit},{entry},{first},") {
-        Ok(()) => Ok(()),
-        Err(_) => Err(ReportError::Write),
-    }
+    put_number(text, number)?;
+    put_text(text, ",")
 }
 
-// Writes a number, if there is one.
-fn write_optional<W: Write>(number: Option<u64>, w: &mut W) -> Result<(), ReportError>
-    ensures ok { OnOk result (Appends (W.contents w.old) (W.contents w.new) (optional_text number)) }
-    ensures err { IfErr result IsWriteFault }
+// Adds what a task was.
+fn put_front(text: &mut Vec<u8>, run: &TaskRun) -> Result<(), AllocError>
+    ensures { OnOk result (text.new.items ≡ text.old.items ++ task_front run.now) }
+{
+    put_column(text, run.number)?;
+    put_column(text, u64::from(run.unit.0))?;
+    put_column(text, u64::from(run.entry))?;
+    put_column(text, run.first)
+}
+
+// Adds a number, if there is one.
+fn put_optional(text: &mut Vec<u8>, number: Option<u64>) -> Result<(), AllocError>
+    ensures { OnOk result (text.new.items ≡ text.old.items ++ optional_text number) }
 {
     match number {
-        Some(number) => match write!(w, "{number}") {
-            Ok(()) => Ok(()),
-            Err(_) => Err(ReportError::Write),
-        },
-        None => write_text(b"", w),
+        Some(number) => put_number(text, number),
+        None => Ok(()),
     }
 }
 
-// Writes what a task did, and what became of it.
-fn write_end<W: Write>(run: &TaskRun, w: &mut W) -> Result<(), ReportError>
-    ensures ok { OnOk result (Appends (W.contents w.old) (W.contents w.new) (task_end run.now)) }
-    ensures err { IfErr result IsWriteFault }
+// Adds what a task did, and what became of it.
+fn put_end(text: &mut Vec<u8>, run: &TaskRun) -> Result<(), AllocError>
+    ensures { OnOk result (text.new.items ≡ text.old.items ++ task_end run.now) }
 {
-    let turns = run.turns;
-    let loads = run.loads;
-    let stores = run.stores;
-    let fate = run.fate.word();
-    match writeln!(w, ",{turns},{loads},{stores},{fate}") {
-        Ok(()) => Ok(()),
-        Err(_) => Err(ReportError::Write),
-    }
+    put_text(text, ",")?;
+    put_column(text, run.turns)?;
+    put_column(text, run.loads)?;
+    put_column(text, run.stores)?;
+    put_text(text, run.fate.word())?;
+    put_text(text, "\n")
 }
 
-// Writes the row of a task.
-fn write_task<W: Write>(run: &TaskRun, w: &mut W) -> Result<(), ReportError>
-    ensures ok { OnOk result (Appends (W.contents w.old) (W.contents w.new) (task_row run.now)) }
-    ensures err { IfErr result IsWriteFault }
+// Adds the row of a task.
+fn put_task(text: &mut Vec<u8>, run: &TaskRun) -> Result<(), AllocError>
+    ensures { OnOk result (text.new.items ≡ text.old.items ++ task_row run.now) }
 {
-    write_front(run, w)?;
-    write_optional(run.last, w)?;
-    write_end(run, w)
+    put_front(text, run)?;
+    put_optional(text, run.last)?;
+    put_end(text, run)
 }
 
-// Writes a row for each of the tasks.
-fn write_rows<W: Write>(runs: &[TaskRun], w: &mut W) -> Result<(), ReportError>
-    ensures ok { OnOk result (Appends (W.contents w.old) (W.contents w.new) (flat_map task_row runs.now)) }
-    ensures err { IfErr result IsWriteFault }
+// The text of the table of these tasks.
+fn table_of(alloc: Global, runs: &[TaskRun]) -> Result<Vec<u8>, AllocError>
+    ensures { IfOk result (λ text. text.items ≡ task_header ++ flat_map task_row runs.now) }
 {
+    let mut text = Vec::from_slice(alloc, HEADER)?;
     for run in runs {
-        write_task(run, w)?;
+        put_task(&mut text, run)?;
     }
-    Ok(())
-}
-
-// Writes the table of the tasks.
-fn write_table<W: Write>(runs: &[TaskRun], w: &mut W) -> Result<(), ReportError>
-    ensures ok { OnOk result
-        (Appends (W.contents w.old) (W.contents w.new) (task_header ++ flat_map task_row runs.now)) }
-    ensures err { IfErr result IsWriteFault }
-{
-    write_text(b"task,unit,entry,first,last,turns,loads,stores,fate\n", w)?;
-    write_rows(runs, w)
-}
-
-// The text of that table. A writer over memory fails only for lack of memory.
-fn table_of(alloc: Global, runs: &[TaskRun]) -> Result<Vec<u8>, ReportError>
-    ensures text { IfOk result (λ text. text.items ≡ task_header ++ flat_map task_row runs.now) }
-    ensures err { IfErr result (λ e. e ≡ Memory) }
-{
-    let mut text = Vec::new(alloc);
-    match write_table(runs, &mut text) {
-        Ok(()) => Ok(text),
-        Err(_) => Err(ReportError::Memory),
-    }
+    Ok(text)
 }
 
 // The tasks of a history, in the order in which they begin.

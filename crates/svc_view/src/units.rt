@@ -1,6 +1,6 @@
 // The table of units.
 
-ghost use Rattle.std.specs.Prelude.{◌≡◌, ◌≤◌, ◌++◌, OnOk, IfOk, IfErr, decimal, flat_map, length};
+ghost use Rattle.std.specs.Prelude.{◌≡◌, ◌≤◌, ◌++◌, ◌∷◌, [], OnOk, IfOk, IfErr, cond, decimal, flat_map, length};
 ghost use Rattle.std.specs.Io.KnownBytes.{Appends};
 ghost use Rattle.std.specs.List.{AllByRecursion};
 ghost use Rattle.svc_base.specs.declared.config.TheConstants.{MAX_EVENTS};
@@ -9,7 +9,7 @@ ghost use Rattle.svc_report.specs.declared.error.ReportError.TheVariants.{Memory
 ghost use Rattle.svc_view.specs.Bounds.{IsLight};
 ghost use Rattle.svc_view.specs.Units.{is_on, tasks_on, total_column, unit_columns, unit_header, unit_row, unit_rows, unit_table};
 
-use crate::runs::{push_where, tasks_of};
+use crate::runs::tasks_of;
 use crate::task_run::TaskRun;
 use crate::text::write_text;
 use crate::totals::{Group, Measure, Total};
@@ -23,6 +23,17 @@ fn is_on(unit: u32, run: &TaskRun) -> bool
     ensures { result ≡ is_on unit run.now }
 {
     u32::from(run.unit.0) == unit
+}
+
+// Adds a task to a list if the condition holds.
+fn push_where(holds: bool, run: TaskRun, list: &mut Vec<TaskRun>) -> Result<(), ReportError>
+    ensures list { OnOk result (list.new.items ≡ list.old.items ++ cond holds (run ∷ []) []) }
+    ensures err { IfErr result (λ e. e ≡ Memory) }
+{
+    if holds {
+        list.push(run)?;
+    }
+    Ok(())
 }
 
 // The tasks that a unit ran.

@@ -16,7 +16,6 @@ loop-index-preserved c =
     let few = c.turns_in-turns.ensures.few in (
       next_entry es i nothing (seen c.loop-index.runs) (seen c.step.new.self) (runs_of es) c.loop-index-test.true stepped c.loop-index.invariant.0,
       subst (AreFew (i + 1)) (sym stepped) (few_after i (get_or es i nothing) (seen c.loop-index.runs) (omega (arith, value, few)) c.loop-index.invariant.1),
-      c.in_ok-step.ensures.spare,
     )
 
 pub returns-clause-runs : goal.returns-clause-runs

@@ -8,7 +8,7 @@ use Rattle.svc_view.specs.Runs.{after, goes_on, is_settled}
 use Rattle.svc_view.specs.Seen.{seen}
 use Rattle.svc_view.proofs.Sorting.{all_go_on, none_settled, stepped}
 use Rattle.svc_view.proofs.runs.TaskRuns.step.Goals as goal
-use Rattle.svc_view.proofs.runs.TaskRuns.step.Goals.{then-go_on+in_ok-sort_out, else-go_on}
+use Rattle.svc_view.proofs.runs.TaskRuns.step.Goals.{then-go_on+in_ok-settle, else-go_on}
 
 pub returns-clause-step : goal.returns-clause-step
 returns-clause-step c =
@@ -20,22 +20,22 @@ returns-clause-step c =
     let same = with_items_is list c.go_on.new.active (ap length gone ∙ length-map s.active (after c.args.at e) ∙ sym list.ok.0) in
     let settled : c.if-go_on.self.settled.items ≡ s.settled ++ filter is_settled now =
     elim c.if-go_on.branch [
-      | then-go_on+in_ok-sort_out w ↦ ap (λ (t : TaskRuns). t.settled.items) w.self-is ∙ (w.in_ok-sort_out.ensures {u = tt}).settled
-          ∙ ap (λ (l : List TaskRun). s.settled ++ filter is_settled l) (w.deref.ensures.value ∙ same ∙ gone)
+      | then-go_on+in_ok-settle w ↦ ap (λ (t : TaskRuns). t.settled.items) w.self-is ∙ (w.in_ok-settle.ensures {u = tt}).settled
+          ∙ ap (λ (l : List TaskRun). s.settled ++ filter is_settled l) (same ∙ gone)
       | else-go_on w ↦ ap (λ (t : TaskRuns). t.settled.items) w.self-is ∙ sym (append-nil s.settled)
           ∙ ap (λ (l : List TaskRun). s.settled ++ l) (sym (none_settled c.go_on.new.active (sym c.go_on.ensures.settled ∙ w.if-go_on.false)))
           ∙ ap (λ (l : List TaskRun). s.settled ++ filter is_settled l) gone
     ] in
     let active : c.if-go_on.self.active.items ≡ filter goes_on now =
     elim c.if-go_on.branch [
-      | then-go_on+in_ok-sort_out w ↦ ap (λ (t : TaskRuns). t.active.items) w.self-is ∙ ap (λ v. v.items) w.swap.ensures.x_after
-          ∙ (w.in_ok-sort_out.ensures {u = tt}).going ∙ ap (filter goes_on) (w.deref.ensures.value ∙ same ∙ gone)
+      | then-go_on+in_ok-settle w ↦ ap (λ (t : TaskRuns). t.active.items) w.self-is
+          ∙ (w.in_ok-settle.ensures {u = tt}).active ∙ ap (filter goes_on) (same ∙ gone)
       | else-go_on w ↦ ap (λ (t : TaskRuns). t.active.items) w.self-is ∙ same
           ∙ sym (all_go_on c.go_on.new.active (sym c.go_on.ensures.settled ∙ w.if-go_on.false)) ∙ ap (filter goes_on) gone
     ] in
     let count : c.if-go_on.self.commits ≡ s.commits =
     elim c.if-go_on.branch [
-      | then-go_on+in_ok-sort_out w ↦ ap (λ (t : TaskRuns). t.commits) w.self-is
+      | then-go_on+in_ok-settle w ↦ ap (λ (t : TaskRuns). t.commits) w.self-is
       | else-go_on w ↦ ap (λ (t : TaskRuns). t.commits) w.self-is
     ] in
     stepped c.args.at e s _ (ap (λ n. n + c.commits_in.result) count ∙ ap (λ n. s.commits + n) c.commits_in.ensures.value) settled
