@@ -7,10 +7,9 @@ use crate::defs::{fill_of, name_of};
 use crate::frame::{BOTTOM, Frame, Point, TOP};
 use crate::marks::{Mark, MarkKind};
 use crate::rows::Rows;
-use crate::shapes::{diamond, put, ring, square};
-use std::alloc::{AllocError, Global};
-use std::io::Write;
-use svc_view::TaskRun;
+use crate::shapes::{Piece, diamond, put, ring, square};
+use itoa::Buffer;
+use std::alloc::AllocError;
 
 // What a text stands in: black on a white rim.
 const RIM: &str = "paint-order='stroke' stroke='#fff' stroke-width='4' stroke-linejoin='round'";
@@ -31,53 +30,31 @@ pub(crate) fn write_bar(frame: &Frame, bar: &Bar, text: &mut Vec<u8>) -> Result<
     let entry = bar.task.entry;
     let first = bar.task.first;
     let turns = bar.task.turns;
-    put!(
-        text,
-        "<rect x='{x}' y='{y}' width='{width}' height='{height}' rx='3' fill='{fill}' stroke='#333'>"
-    )?;
-    put!(
-        text,
-        "<title>task {number} at address {entry}, begun by entry {first}: {fate}; turns: {turns}</title></rect>\n"
-    )
+    put!(text, "<rect x='" x "' y='" y "' width='" width "' height='" height "' rx='3' fill='" fill "' stroke='#333'>")?;
+    put!(text, "<title>task " number " at address " entry ", begun by entry " first ": " fate "; turns: " turns "</title></rect>\n")
 }
 
-// What a bar of so many letters says of its task: its number and entry, as far as there is room.
-fn name_within(alloc: Global, task: &TaskRun, letters: u64) -> Result<String, AllocError> {
-    let number = task.number;
-    let entry = task.entry;
-    let whole = format!(in alloc; "task {number} @ {entry}")?;
-    if whole.len() as u64 <= letters {
-        return Ok(whole);
-    }
-    let short = format!(in alloc; "{number}@{entry}")?;
-    if short.len() as u64 <= letters {
-        return Ok(short);
-    }
-    let bare = format!(in alloc; "{number}")?;
-    if bare.len() as u64 <= letters {
-        return Ok(bare);
-    }
-    Ok(String::new(alloc))
-}
-
-/// Writes what a bar says of its task.
-pub(crate) fn write_name(
-    alloc: Global,
-    frame: &Frame,
-    bar: &Bar,
-    text: &mut Vec<u8>,
-) -> Result<(), AllocError> {
+/// Writes what a bar says of its task: its number and entry, as far as there is room.
+pub(crate) fn write_name(frame: &Frame, bar: &Bar, text: &mut Vec<u8>) -> Result<(), AllocError> {
     let x = frame.bar_left(bar) + 4;
     let y = frame.bar_top(bar.task.unit.0) + 12;
-    let letters = frame.bar_width(bar).saturating_sub(8) / 7;
-    let name = name_within(alloc, &bar.task, letters)?;
-    if name.is_empty() {
+    let letters = frame.bar_width(bar).saturating_sub(8) as usize / 7;
+    let mut number = Buffer::new();
+    let mut entry = Buffer::new();
+    let number = number.format(bar.task.number);
+    let entry = entry.format(bar.task.entry);
+    if number.len() > letters {
         return Ok(());
     }
-    put!(
-        text,
-        "<text x='{x}' y='{y}' font-size='12' {RIM}>{name}</text>\n"
-    )
+    put!(text, "<text x='" x "' y='" y "' font-size='12' " RIM ">")?;
+    if number.len() + entry.len() + 8 <= letters {
+        put!(text, "task " number " @ " entry)?;
+    } else if number.len() + entry.len() + 1 <= letters {
+        put!(text, number "@" entry)?;
+    } else {
+        put!(text, number)?;
+    }
+    put!(text, "</text>\n")
 }
 
 // Writes a mark's row of the trace, for the pointer.
@@ -89,17 +66,14 @@ fn write_title(
 ) -> Result<(), AllocError> {
     let place = mark.place;
     let index = place.saturating_sub(frame.window.from);
-    put!(text, "<title>entry {place}: ")?;
+    put!(text, "<title>entry " place ": ")?;
     text.extend_from_slice(rows.row(index as usize))?;
     put!(text, "</title>")
 }
 
 // Writes a commit's line.
 fn commit(text: &mut Vec<u8>, x: u64) -> Result<(), AllocError> {
-    put!(
-        text,
-        "<path d='M{x} {TOP}V{BOTTOM}' fill='none' stroke='#2e7d32' stroke-width='2' stroke-dasharray='6 4'>"
-    )
+    put!(text, "<path d='M" x " " TOP "V" BOTTOM "' fill='none' stroke='#2e7d32' stroke-width='2' stroke-dasharray='6 4'>")
 }
 
 // Writes an arrow of this form.
@@ -107,10 +81,7 @@ fn arrow(text: &mut Vec<u8>, from: Point, to: Point, form: &str) -> Result<(), A
     let Point { x, y } = from;
     let right = to.x;
     let down = to.y;
-    put!(
-        text,
-        "<path d='M{x} {y}L{right} {down}' fill='none' {form}>"
-    )
+    put!(text, "<path d='M" x " " y "L" right " " down "' fill='none' " form ">")
 }
 
 /// Writes a mark: what it is, and its row of the trace.
@@ -132,7 +103,7 @@ pub(crate) fn write_mark(
     }
     write_title(frame, rows, mark, text)?;
     let close = close_of(mark.kind);
-    put!(text, "</{close}>\n")
+    put!(text, "</" close ">\n")
 }
 
 // The element that a mark is.
@@ -153,10 +124,7 @@ fn write_saying(
 ) -> Result<(), AllocError> {
     let x = (from.x + to.x) / 2 + 12;
     let y = (from.y + to.y) / 2 + 2;
-    put!(
-        text,
-        "<text x='{x}' y='{y}' font-style='italic' {RIM}>{saying}</text>\n"
-    )
+    put!(text, "<text x='" x "' y='" y "' font-style='italic' " RIM ">" saying "</text>\n")
 }
 
 // Writes the value of a shape before it.
@@ -165,13 +133,13 @@ fn write_value(frame: &Frame, mark: &Mark, text: &mut Vec<u8>) -> Result<(), All
     let x = middle.x - frame.radius() - 6;
     let y = middle.y + 5;
     let word = mark.entry.word.unwrap_or(0);
-    put!(text, "<text x='{x}' y='{y}' text-anchor='end' {RIM}>")?;
+    put!(text, "<text x='" x "' y='" y "' text-anchor='end' " RIM ">")?;
     match mark.entry.addr {
         Some(addr) => {
             let addr = addr.0;
-            put!(text, "word {addr} = {word}</text>\n")
+            put!(text, "word " addr " = " word "</text>\n")
         }
-        None => put!(text, "{word}</text>\n"),
+        None => put!(text, word "</text>\n"),
     }
 }
 
@@ -180,10 +148,7 @@ fn write_committed(frame: &Frame, mark: &Mark, text: &mut Vec<u8>) -> Result<(),
     let x = frame.x(mark.place) - 6;
     let y = TOP + 18;
     let number = mark.entry.word.unwrap_or(0);
-    put!(
-        text,
-        "<text x='{x}' y='{y}' text-anchor='end' {RIM}>task {number} is committed</text>\n"
-    )
+    put!(text, "<text x='" x "' y='" y "' text-anchor='end' " RIM ">task " number " is committed</text>\n")
 }
 
 /// Writes what a mark stands for.

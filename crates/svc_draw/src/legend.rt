@@ -4,9 +4,8 @@ ghost use Rattle.std.specs.Prelude.{◌≤◌, ◌<◌};
 
 use crate::defs::{fill_of, name_of};
 use crate::frame::{BOTTOM, Frame, HEIGHT, LEFT, Point, RIGHT, TOP, WIDTH};
-use crate::shapes::{diamond, put, ring, square};
+use crate::shapes::{Piece, diamond, put, ring, square};
 use std::alloc::AllocError;
-use std::io::Write;
 use svc_view::Fate;
 
 const FATES: [Fate; 5] = [
@@ -29,10 +28,7 @@ fn write_fate(fate: Fate, x: u64, text: &mut Vec<u8>) -> Result<(), AllocError>
     let fill = fill_of(fate);
     let name = name_of(fate);
     let after = x + 40;
-    put!(
-        text,
-        "<rect x='{x}' y='48' width='32' height='18' fill='{fill}' stroke='#111'/><text x='{after}' y='62'>{name}</text>\n"
-    )
+    put!(text, "<rect x='" x "' y='48' width='32' height='18' fill='" fill "' stroke='#111'/><text x='" after "' y='62'>" name "</text>\n")
 }
 
 // A sample of each fate.
@@ -85,29 +81,20 @@ pub(crate) fn write_heads(size: u64, text: &mut Vec<u8>) -> Result<(), AllocErro
 {
     let thin = 11 + size;
     let bold = 18 + size;
-    put!(
-        text,
-        "<defs><marker id='thin' markerWidth='12' markerHeight='10' refX='{thin}' refY='5' orient='auto' markerUnits='userSpaceOnUse'><path d='M0 0L11 5L0 10Z' fill='#14508c'/></marker>"
-    )?;
-    put!(
-        text,
-        "<marker id='bold' markerWidth='18' markerHeight='16' refX='{bold}' refY='8' orient='auto' markerUnits='userSpaceOnUse'><path d='M0 0L17 8L0 16Z' fill='#b01010'/></marker></defs>\n"
-    )
+    put!(text, "<defs><marker id='thin' markerWidth='12' markerHeight='10' refX='" thin "' refY='5' orient='auto' markerUnits='userSpaceOnUse'><path d='M0 0L11 5L0 10Z' fill='#14508c'/></marker>")?;
+    put!(text, "<marker id='bold' markerWidth='18' markerHeight='16' refX='" bold "' refY='8' orient='auto' markerUnits='userSpaceOnUse'><path d='M0 0L17 8L0 16Z' fill='#b01010'/></marker></defs>\n")
 }
 
 /// Writes the legend.
 pub(crate) fn write_legend(
     frame: &Frame,
-    total: usize,
+    total: u64,
     text: &mut Vec<u8>,
 ) -> Result<(), AllocError> {
     let units = frame.units;
     let from = frame.window.from;
     let count = frame.window.to - from;
-    put!(
-        text,
-        "<text x='{LEFT}' y='30' font-size='18' font-weight='bold'>{count} of {total} entries, from entry {from}; units: {units}</text>\n"
-    )?;
+    put!(text, "<text x='" LEFT "' y='30' font-size='18' font-weight='bold'>" count " of " total " entries, from entry " from "; units: " units "</text>\n")?;
     write_fates(text)?;
     write_shapes(text)?;
     write_arrows(frame.radius(), text)
@@ -121,10 +108,7 @@ fn write_lane(frame: &Frame, lane: u8, text: &mut Vec<u8>) -> Result<(), AllocEr
     let height = frame.lane_top(lane + 1).saturating_sub(top);
     let fill = if lane % 2 == 0 { "#f4f5f7" } else { "#fff" };
     let middle = top + height / 2 + 5;
-    put!(
-        text,
-        "<rect x='{LEFT}' y='{top}' width='{WIDTH}' height='{height}' fill='{fill}'/><text x='20' y='{middle}'>unit {lane}</text>\n"
-    )
+    put!(text, "<rect x='" LEFT "' y='" top "' width='" WIDTH "' height='" height "' fill='" fill "'/><text x='20' y='" middle "'>unit " lane "</text>\n")
 }
 
 /// Writes the lanes.
@@ -132,10 +116,7 @@ pub(crate) fn write_lanes(frame: &Frame, text: &mut Vec<u8>) -> Result<(), Alloc
     for lane in 0..frame.units {
         write_lane(frame, lane, text)?;
     }
-    put!(
-        text,
-        "<rect x='{LEFT}' y='{TOP}' width='{WIDTH}' height='{HEIGHT}' fill='none' stroke='#888'/>\n"
-    )
+    put!(text, "<rect x='" LEFT "' y='" TOP "' width='" WIDTH "' height='" HEIGHT "' fill='none' stroke='#888'/>\n")
 }
 
 // Every how many entries the axis has a number: as often as there is room.
@@ -157,10 +138,7 @@ fn write_place(frame: &Frame, place: u64, text: &mut Vec<u8>) -> Result<(), Allo
     let x = frame.x(place);
     let end = BOTTOM + 7;
     let below = BOTTOM + 22;
-    put!(
-        text,
-        "<path d='M{x} {BOTTOM}V{end}' stroke='#111'/><text x='{x}' y='{below}' text-anchor='middle'>{place}</text>\n"
-    )
+    put!(text, "<path d='M" x " " BOTTOM "V" end "' stroke='#111'/><text x='" x "' y='" below "' text-anchor='middle'>" place "</text>\n")
 }
 
 /// Writes the axis.
@@ -172,12 +150,6 @@ pub(crate) fn write_axis(frame: &Frame, text: &mut Vec<u8>) -> Result<(), AllocE
         }
     }
     let title = BOTTOM + 46;
-    put!(
-        text,
-        "<text x='{LEFT}' y='{title}'>in a bar: the number of its task @ the address where that began</text>\n"
-    )?;
-    put!(
-        text,
-        "<text x='{RIGHT}' y='{title}' text-anchor='end'>entry of the trace, counted from 0</text>\n"
-    )
+    put!(text, "<text x='" LEFT "' y='" title "'>in a bar: the number of its task @ the address where that began</text>\n")?;
+    put!(text, "<text x='" RIGHT "' y='" title "' text-anchor='end'>entry of the trace, counted from 0</text>\n")
 }

@@ -11,9 +11,8 @@ use crate::frame::Frame;
 use crate::legend::{write_axis, write_heads, write_lanes, write_legend};
 use crate::marks::{Mark, MarkKind, marks_of};
 use crate::rows::Rows;
-use crate::shapes::put;
+use crate::shapes::{Piece, put};
 use std::alloc::{AllocError, Global};
-use std::io::Write;
 use svc_history_laws::Entry;
 use svc_report::ReportError;
 
@@ -62,14 +61,9 @@ fn write_bars(frame: &Frame, bars: &[Bar], text: &mut Vec<u8>) -> Result<(), All
 }
 
 // Writes what the bars say of their tasks.
-fn write_names(
-    alloc: Global,
-    frame: &Frame,
-    bars: &[Bar],
-    text: &mut Vec<u8>,
-) -> Result<(), AllocError> {
+fn write_names(frame: &Frame, bars: &[Bar], text: &mut Vec<u8>) -> Result<(), AllocError> {
     for bar in bars {
-        write_name(alloc, frame, bar, text)?;
+        write_name(frame, bar, text)?;
     }
     Ok(())
 }
@@ -84,16 +78,16 @@ fn text_of(
     marks: &[Mark],
 ) -> Result<Vec<u8>, AllocError> {
     let mut text = Vec::new(alloc);
-    put!(&mut text, "{HEAD}")?;
+    put!(&mut text, HEAD)?;
     write_heads(frame.radius(), &mut text)?;
-    write_legend(frame, total, &mut text)?;
+    write_legend(frame, total as u64, &mut text)?;
     write_lanes(frame, &mut text)?;
     write_bars(frame, bars, &mut text)?;
     for wanted in 0..3 {
         write_layer(frame, rows, marks, wanted, &mut text)?;
     }
     write_values(frame, marks, &mut text)?;
-    write_names(alloc, frame, bars, &mut text)?;
+    write_names(frame, bars, &mut text)?;
     write_axis(frame, &mut text)?;
     put!(&mut text, "</svg>\n")?;
     Ok(text)
