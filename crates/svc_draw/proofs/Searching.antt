@@ -1,20 +1,25 @@
 -- What a search has left to do, one step on and at the end.
-use Rattle.std.proofs.Common.{◌≡◌, ◌<◌, ◌≤◌, ◌+◌, ◌-◌, ◌&&◌, ◌++◌, ◌∷◌, [], ◌∙◌, ◌==◌, Bool, cond, true, false, refl, ap, sym, ℕ, zero, suc, List, Option, Some, None, take, drop, get_or, length, append_assoc, add-one, arith, drop-cons}
-use Rattle.std.proofs.lemmas.List.{append-nil, at_drop_all, at_drop_more, drop_more}
+use Rattle.std.proofs.Common.{◌≡◌, ◌<◌, ◌≤◌, ◌+◌, ◌-◌, ◌&&◌, ◌++◌, ◌∷◌, [], ◌∙◌, ◌==◌, Bool, cond, true, false, refl, ap, sym, ℕ, zero, suc, List, Option, Some, None, take, drop, get_or, length, append_assoc, add-one, arith, drop-cons, length-drop}
+use Rattle.std.proofs.lemmas.List.{append-nil, get_or-drop, at_drop_all, at_drop_more, drop_more}
 use Rattle.std.proofs.lemmas.Bool.{and_parts, and_right, lt-leb, ltb-true, ne_eqb}
+use Rattle.std.specs.HashMap.{get}
 use Rattle.std.specs.Prelude.{nat_le, nat_lt}
+use Rattle.svc_base.specs.declared.ids.UnitId.{UnitId}
+use Rattle.svc_base.specs.declared.ids.WordAddr.{WordAddr}
 use Rattle.svc_history_laws.specs.declared.entry.CutKind.{CutKind}
 use Rattle.svc_history_laws.specs.declared.entry.CutKind.TheVariants as cause
 use Rattle.svc_history_laws.specs.declared.entry.Entry.{Entry}
-use Rattle.svc_view.specs.Runs.{is_number}
+use Rattle.svc_view.specs.Runs.{is_number, is_store}
 use Rattle.svc_draw.specs.declared.bars.Bar.{Bar}
 use Rattle.svc_draw.specs.declared.bars.Window.{Window}
 use Rattle.svc_draw.specs.declared.marks.Mark.{Mark}
 use Rattle.svc_draw.specs.declared.marks.MarkKind.{MarkKind}
 use Rattle.svc_draw.specs.declared.marks.MarkKind.TheVariants as mark
 use Rattle.svc_draw.specs.declared.marks.Spot.{Spot}
+use Rattle.svc_draw.specs.declared.stores.LastStores.{LastStores}
 use Rattle.svc_draw.specs.Bars.{runs}
-use Rattle.svc_draw.specs.Marks.{arrow, between, first_bar, first_where, handed, is_before, is_over, is_victim, kind_of, last_where, left_at, marks_at, marks_from, shape, squashed, taken, task_at, task_of}
+use Rattle.svc_draw.specs.Marks.{arrow, between, first_bar, first_where, handed, handed_by, is_before, is_given, is_over, is_same_word, is_victim, kind_of, last_shown, last_where, left_at, marks_at, marks_by, marks_from, shape, squashed, stores, taken, task_at, task_of}
+use Rattle.svc_draw.specs.Stores.{AreLastShown, is_key, last_store}
 
 -- both fail where one does
 pub first_fails : (x y : Bool) → false ≡ x → (x && y) ≡ false
@@ -65,23 +70,6 @@ last_more p found at (e ∷ es) (suc n) d inside =
     last_more p (cond (p e) (Some at) found) (suc at) es n d within
     ∙ ap (λ m. cond (p (get_or es n d)) (Some m) (last_where p (cond (p e) (Some at) found) (suc at) (take n es))) place
 
--- a search from the end goes on past an entry that is not such, and ends at one that is
-pub last_goes_on : (p : Entry → Bool) (at : ℕ) (es : List Entry) (m n : ℕ) (d : Entry) → m ≡ suc n → n < length es → p (get_or es n d) ≡ false
-    → last_where p None at (take m es) ≡ last_where p None at (take n es)
-last_goes_on p at es m n d is inside other =
-    ap (λ k. last_where p None at (take k es)) is ∙ last_more p None at es n d inside
-    ∙ ap (λ b. cond b (Some (at + n)) (last_where p None at (take n es))) other
-
-pub last_found : (p : Entry → Bool) (at : ℕ) (es : List Entry) (m n : ℕ) (d : Entry) → m ≡ suc n → n < length es → p (get_or es n d) ≡ true
-    → last_where p None at (take m es) ≡ Some (at + n)
-last_found p at es m n d is inside such =
-    ap (λ k. last_where p None at (take k es)) is ∙ last_more p None at es n d inside
-    ∙ ap (λ b. cond b (Some (at + n)) (last_where p None at (take n es))) such
-
-pub none_found : (p : Entry → Bool) (at : ℕ) (es : List Entry) (m : ℕ) → m ≡ 0 → last_where p None at (take m es) ≡ None
-unfolding last_where
-none_found p at es m is = ap (λ k. last_where p None at (take k es)) is
-
 -- bars that are over are left out, and the first that isn't is where that ends
 pub left_goes_on : (at : ℕ) (bs : List Bar) (i : ℕ) (d : Bar) → i < length bs → is_over at (get_or bs i d) ≡ true → left_at at (drop i bs) ≡ left_at at (drop (i + 1) bs)
 unfolding left_at
@@ -123,6 +111,68 @@ over_is_no_victim : (at later : ℕ) (e : Entry) (b : Bar) → at ≤ later → 
 over_is_no_victim at later e b le over =
     let parts = and_parts (is_before b.task.last at) (nat_lt b.end at) over in
     and_right (is_number e.first b.task.number) (is_number b.task.last later) (not_decided b.task.last at later le parts.0)
+
+-- no store is shown before the first entry shown
+pub none_shown : (es : List Entry) (w : Window) (unit : UnitId) (word : Option WordAddr) → last_shown es w w.from unit word ≡ None
+unfolding last_where
+none_shown es w unit word =
+    let none : w.from - w.from ≡ 0 = omega arith in
+    ap (λ n. last_where (stores unit word) None w.from (take n (drop w.from es))) none
+
+-- one entry more
+one_more_shown : (es : List Entry) (w : Window) (at : ℕ) (d : Entry) (unit : UnitId) (word : Option WordAddr) → w.from ≤ at → at < length es
+    → last_shown es w (at + 1) unit word ≡ cond (stores unit word (get_or es at d)) (Some at) (last_shown es w at unit word)
+one_more_shown es w at d unit word from inside =
+    let p = stores unit word in
+    let rest = drop w.from es in
+    let n = at - w.from in
+    let many : (at + 1) - w.from ≡ suc n = omega (arith, from) in
+    let count = length-drop w.from es in
+    let within : n < length rest = omega (arith, count, from, inside) in
+    let place : w.from + n ≡ at = omega (arith, from) in
+    let before = last_where p None w.from (take n rest) in
+    let this : get_or rest n d ≡ get_or es at d = get_or-drop w.from es n d ∙ ap (λ m. get_or es m d) place in
+    ap (λ m. last_where p None w.from (take m rest)) many
+    ∙ last_more p None w.from rest n d within
+    ∙ ap (λ (e : Entry). cond (p e) (Some (w.from + n)) before) this
+    ∙ ap (λ (m : ℕ). cond (p (get_or es at d)) (Some m) before) place
+
+-- a store is put down at its unit and word
+pub put_down : (e : Entry) (a : WordAddr) (at : ℕ) (old new : LastStores) → e.addr ≡ Some a → is_store e.reply ≡ true
+    → ((q : ℕ × ℕ) → get is_key new.places q ≡ cond (is_key (e.unit.0, a.0) q) (Some at) (get is_key old.places q))
+    → (unit : UnitId) (word : Option WordAddr) → last_store new unit word ≡ cond (stores unit word e) (Some at) (last_store old unit word)
+put_down e a at old new is store told unit None =
+    let other : is_same_word e.addr None ≡ false = ap (λ o. is_same_word o None) is in
+    let no : stores unit None e ≡ false = and_right (is_store e.reply) ((e.unit.0 == unit.0) && is_same_word e.addr None) (and_right (e.unit.0 == unit.0) (is_same_word e.addr None) other) in
+    let none : Option ℕ = None in
+    ap (λ b. cond b (Some at) none) (sym no)
+put_down e a at old new is store told unit (Some word) =
+    let same : Bool = e.unit.0 == unit.0 in
+    let is_it : stores unit (Some word) e ≡ is_key (e.unit.0, a.0) (unit.0, word.0) =
+    ap (λ b. b && (same && is_same_word e.addr (Some word))) store ∙ ap (λ o. same && is_same_word o (Some word)) is in
+    told (unit.0, word.0) ∙ ap (λ b. cond b (Some at) (get is_key old.places (unit.0, word.0))) (sym is_it)
+
+-- what is known of the stores goes on
+pub noted : (es : List Entry) (w : Window) (at : ℕ) (d : Entry) (old new : LastStores) → w.from ≤ at → at < length es → AreLastShown es w at old
+    → ((unit : UnitId) (word : Option WordAddr) → last_store new unit word ≡ cond (stores unit word (get_or es at d)) (Some at) (last_store old unit word))
+    → AreLastShown es w (at + 1) new
+noted es w at d old new from inside known told =
+    λ unit word. told unit word ∙ ap (λ (o : Option ℕ). cond (stores unit word (get_or es at d)) (Some at) o) (known unit word)
+    ∙ sym (one_more_shown es w at d unit word from inside)
+
+-- so the marks are those of the entries that are shown
+same_hand : (f g : UnitId → Option WordAddr → Option ℕ) → ((unit : UnitId) (word : Option WordAddr) → f unit word ≡ g unit word) → (e : Entry) (from : Option UnitId)
+    → handed_by f e from ≡ handed_by g e from
+same_hand f g same e None = refl
+same_hand f g same e (Some unit) =
+    let spot : Option ℕ → Spot = λ place. record { lane = unit; place = place } in
+    ap (λ (o : Option ℕ). cond (is_given e.served) (Some (spot o)) None) (same unit e.addr)
+
+marks_known : (es : List Entry) (w : Window) (at : ℕ) (s : LastStores) (bs : List Bar) (e : Entry) → AreLastShown es w at s
+    → marks_by (last_store s) es bs at e ≡ marks_at es w bs at e
+marks_known es w at s bs e known =
+    ap (λ (o : Option Spot). shape bs at e (kind_of e.reply) ++ (arrow mark.Handed bs at e o ++ arrow mark.Squash bs at e (squashed es bs at e e.cause)))
+    (same_hand (last_store s) (last_shown es w at) known e e.from)
 
 -- so an entry's marks are the same, and those of all from there on
 same_squash : (es : List Entry) (bs : List Bar) (at later : ℕ) (e : Entry) (why : Option CutKind) → at ≤ later
@@ -201,10 +251,18 @@ all_marks es w bs at to marks all over so_far =
     sym (append-nil marks) ∙ ap (λ xs. marks ++ xs) (sym (no_marks es w bs at to over)) ∙ so_far
 
 -- the same where the bars that are over are left out first
-pub one_more_left : (es : List Entry) (w : Window) (bs left : List Bar) (at to : ℕ) (d : Entry) (old new all : List Mark) → at < to → to ≤ length es
+one_more_left : (es : List Entry) (w : Window) (bs left : List Bar) (at to : ℕ) (d : Entry) (old new all : List Mark) → at < to → to ≤ length es
     → left ≡ left_at at bs → new ≡ old ++ marks_at es w left at (get_or es at d) → old ++ marks_from es w bs at (between at to es) ≡ all
     → new ++ marks_from es w left (at + 1) (between (at + 1) to es) ≡ all
 one_more_left es w bs left at to d old new all below inside is pushed so_far =
     let here : at ≤ at = omega arith in
     one_more_mark es w left at to d old new all below inside pushed
     (ap (λ ms. old ++ ms) (ap (λ l. marks_from es w l at (between at to es)) is ∙ marks_of_left es w bs at at (between at to es) here) ∙ so_far)
+
+-- and what is known of the stores before it tells the marks of an entry
+pub one_more_known : (es : List Entry) (w : Window) (bs left : List Bar) (at to : ℕ) (d : Entry) (s : LastStores) (old new all : List Mark) → at < to → to ≤ length es
+    → left ≡ left_at at bs → AreLastShown es w at s → new ≡ old ++ marks_by (last_store s) es left at (get_or es at d)
+    → old ++ marks_from es w bs at (between at to es) ≡ all → new ++ marks_from es w left (at + 1) (between (at + 1) to es) ≡ all
+one_more_known es w bs left at to d s old new all below inside is known pushed so_far =
+    one_more_left es w bs left at to d old new all below inside is
+    (pushed ∙ ap (λ ms. old ++ ms) (marks_known es w at s left (get_or es at d) known)) so_far

@@ -96,13 +96,18 @@ task_at bs unit at = task_of (first_bar (runs unit at) bs)
 abbrev pub is_victim : Entry → (at : ℕ) → Bar → Bool
 is_victim e at b = is_number e.first b.task.number && is_number b.task.last at
 
--- where a given version was last stored, if that is shown
+-- the last entry shown before an index by which a unit stored a word, if any
+abbrev pub last_shown : List Entry → Window → (at : ℕ) → UnitId → Option WordAddr → Option ℕ
+last_shown es w at unit word = last_where (stores unit word) None w.from (between w.from at es)
+
+-- where a given version was last stored, by what is known of that
+abbrev pub handed_by : (UnitId → Option WordAddr → Option ℕ) → Entry → Option UnitId → Option Spot
+handed_by place e None = None
+handed_by place e (Some unit) = cond (is_given e.served) (Some (record { lane = unit; place = place unit e.addr })) None
+
+-- the same by the entries that are shown
 abbrev pub handed : List Entry → Window → (at : ℕ) → Entry → Option UnitId → Option Spot
-handed es w at e None = None
-handed es w at e (Some unit) =
-    cond (is_given e.served)
-    (Some (record { lane = unit; place = last_where (stores unit e.addr) None w.from (between w.from at es) }))
-    None
+handed es w at e from = handed_by (last_shown es w at) e from
 
 -- where a task first took the word from elsewhere, if that is shown
 abbrev pub taken : List Entry → (at : ℕ) → Entry → Option Bar → Option Spot
@@ -125,11 +130,15 @@ arrow kind bs at e None = []
 arrow kind bs at e (Some spot) =
     record { kind = kind; entry = e; place = at; task = task_at bs e.unit.0 at; other = Some spot } ∷ []
 
-abbrev pub marks_at : List Entry → Window → List Bar → (at : ℕ) → Entry → List Mark
-marks_at es w bs at e =
+-- the marks of an entry, by what is known of the stores before it, and by the entries that are shown
+abbrev pub marks_by : (UnitId → Option WordAddr → Option ℕ) → List Entry → List Bar → (at : ℕ) → Entry → List Mark
+marks_by place es bs at e =
     shape bs at e (kind_of e.reply)
-    ++ (arrow mark.Handed bs at e (handed es w at e e.from)
+    ++ (arrow mark.Handed bs at e (handed_by place e e.from)
     ++ arrow mark.Squash bs at e (squashed es bs at e e.cause))
+
+abbrev pub marks_at : List Entry → Window → List Bar → (at : ℕ) → Entry → List Mark
+marks_at es w bs at e = marks_by (last_shown es w at) es bs at e
 
 -- those of the entries from an index on
 unfoldable pub marks_from : List Entry → Window → List Bar → (at : ℕ) → List Entry → List Mark

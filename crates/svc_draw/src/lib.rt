@@ -11,6 +11,7 @@ pub mod marks;
 mod picture;
 mod rows;
 mod shapes;
+mod stores;
 
 pub use bars::{Bar, Window, bars_of};
 pub use marks::{Mark, MarkKind, Spot, marks_of};

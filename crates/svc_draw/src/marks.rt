@@ -3,10 +3,12 @@
 ghost use Rattle.std.specs.Prelude.{◌≡◌, ◌+◌, ◌≤◌, ◌++◌, None, Some, OnOk, IfOk, IfErr, length};
 ghost use Rattle.svc_base.specs.declared.config.TheConstants.{MAX_EVENTS};
 ghost use Rattle.svc_report.specs.declared.error.ReportError.TheVariants.{Memory};
-ghost use Rattle.svc_view.specs.Runs.{is_number, is_store};
-ghost use Rattle.svc_draw.specs.Marks.{arrow, between, first_bar, first_where, handed, is_given, is_over, is_same_word, is_taken, is_victim, kind_of, last_where, left_at, marks_at, marks_of, shape, squashed, stores, takes, taken, task_at};
+ghost use Rattle.svc_view.specs.Runs.{is_number};
+ghost use Rattle.svc_draw.specs.Marks.{arrow, between, first_bar, first_where, handed_by, is_given, is_over, is_same_word, is_taken, is_victim, kind_of, left_at, marks_by, marks_of, shape, squashed, takes, taken, task_at};
+ghost use Rattle.svc_draw.specs.Stores.{last_store};
 
 use crate::bars::{Bar, Window};
+use crate::stores::LastStores;
 use std::alloc::Global;
 use svc_base::{UnitId, WordAddr};
 use svc_history_laws::{CutKind, Entry, ReplyKind, ServedKind};
@@ -97,42 +99,11 @@ fn is_taken(served: Option<ServedKind>) -> bool
     }
 }
 
-// The entry stored.
-fn is_store(reply: ReplyKind) -> bool
-    ensures { result ≡ is_store reply }
-{
-    match reply {
-        ReplyKind::Stored => true,
-        _ => false,
-    }
-}
-
-// The entry is a store of the word by the unit.
-fn stores(unit: UnitId, word: Option<WordAddr>, entry: &Entry) -> bool
-    ensures { result ≡ stores unit word entry.now }
-{
-    is_store(entry.reply) && entry.unit.0 == unit.0 && is_same_word(entry.addr, word)
-}
-
 // The entry is a read of the word by the unit that was served from elsewhere.
 fn takes(unit: UnitId, word: Option<WordAddr>, entry: &Entry) -> bool
     ensures { result ≡ takes unit word entry.now }
 {
     is_taken(entry.served) && entry.unit.0 == unit.0 && is_same_word(entry.addr, word)
-}
-
-// The index of the last of these entries by which the unit stored the word. The first of them has this index.
-fn stored_at(entries: &[Entry], unit: UnitId, word: Option<WordAddr>, from: u64) -> Option<u64>
-    requires few { from + length entries.now ≤ MAX_EVENTS }
-    ensures { result ≡ last_where (stores unit word) None from entries.now }
-{
-    for after in 0..entries.len() {
-        let index = entries.len() - 1 - after;
-        if stores(unit, word, &entries[index]) {
-            return Some(from + index as u64);
-        }
-    }
-    None
 }
 
 // The index of the first of these entries by which the unit took the word from elsewhere.
@@ -198,20 +169,16 @@ fn victim(bars: &[Bar], entry: &Entry, at: u64) -> Option<Bar>
 }
 
 // Where the version was stored that the entry's read was given, if it was another's.
-fn handed_at(entries: &[Entry], window: &Window, at: u64, entry: &Entry) -> Option<Spot>
-    requires few { length entries.now ≤ MAX_EVENTS }
-    requires after { window.now.from ≤ at }
-    requires inside { at ≤ length entries.now }
-    ensures { result ≡ handed entries.now window.now at entry.now entry.now.from }
+fn handed_by(stores: &LastStores, entry: &Entry) -> Option<Spot>
+    ensures { result ≡ handed_by (last_store stores.now) entry.now entry.now.from }
 {
     let lane = entry.from?;
     if !is_given(entry.served) {
         return None;
     }
-    let before = &entries[window.from as usize..at as usize];
     Some(Spot {
         lane,
-        place: stored_at(before, lane, entry.addr, window.from),
+        place: stores.last(lane, entry.addr),
     })
 }
 
@@ -310,17 +277,16 @@ fn push_arrow(
 // Adds the marks of the entry at an index.
 fn push_marks(
     entries: &[Entry],
-    window: &Window,
+    stores: &LastStores,
     bars: &[Bar],
     at: u64,
     entry: &Entry,
     marks: &mut Vec<Mark>,
 ) -> Result<(), ReportError>
     requires few { length entries.now ≤ MAX_EVENTS }
-    requires after { window.now.from ≤ at }
     requires inside { at ≤ length entries.now }
     ensures list { OnOk result (marks.new.items ≡ marks.old.items
-        ++ marks_at entries.now window.now bars.now at entry.now) }
+        ++ marks_by (last_store stores.now) entries.now bars.now at entry.now) }
     ensures err { IfErr result (λ e. e ≡ Memory) }
 {
     push_shape(bars, at, entry, marks)?;
@@ -329,7 +295,7 @@ fn push_marks(
         bars,
         at,
         entry,
-        handed_at(entries, window, at, entry),
+        handed_by(stores, entry),
         marks,
     )?;
     push_arrow(
@@ -380,10 +346,13 @@ pub fn marks_of(
     ensures err { IfErr result (λ e. e ≡ Memory) }
 {
     let mut marks = Vec::new(alloc);
+    let mut stores = LastStores::none(alloc);
     let mut left = bars;
     for at in window.from..window.to {
+        let entry = &entries[at as usize];
         left = left_at(left, at);
-        push_marks(entries, window, left, at, &entries[at as usize], &mut marks)?;
+        push_marks(entries, &stores, left, at, entry, &mut marks)?;
+        stores.note(at, entry)?;
     }
     Ok(marks)
 }

@@ -1,0 +1,57 @@
+// Where each unit last stored each word.
+
+ghost use Rattle.std.specs.Prelude.{◌≡◌, None, Option, Some, OnOk, IfErr, cond};
+ghost use Rattle.svc_base.specs.declared.ids.UnitId.{UnitId};
+ghost use Rattle.svc_base.specs.declared.ids.WordAddr.{WordAddr};
+ghost use Rattle.svc_report.specs.declared.error.ReportError.TheVariants.{Memory};
+ghost use Rattle.svc_draw.specs.Marks.{stores};
+ghost use Rattle.svc_draw.specs.Stores.{last_store};
+
+use std::alloc::Global;
+use std::collections::HashMap;
+use svc_base::{UnitId, WordAddr};
+use svc_history_laws::Entry;
+use svc_report::ReportError;
+use svc_view::task_run::stores_in;
+
+/// Where each unit last stored each word: the index of an entry.
+#[derive(Drop)]
+pub(crate) struct LastStores {
+    pub(crate) places: HashMap<(u8, u32), u64>,
+}
+
+impl LastStores {
+    /// No stores.
+    pub(crate) fn none(alloc: Global) -> LastStores
+        ensures { (unit : UnitId) (word : Option WordAddr) → last_store result unit word ≡ None }
+    {
+        LastStores {
+            places: HashMap::new(alloc),
+        }
+    }
+
+    /// Where the unit last stored the word.
+    pub(crate) fn last(&self, unit: UnitId, word: Option<WordAddr>) -> Option<u64>
+        ensures { result ≡ last_store self.now unit word }
+    {
+        match word {
+            Some(word) => self.places.get(&(unit.0, word.0)).copied(),
+            None => None,
+        }
+    }
+
+    /// The entry at an index, which may be a store.
+    pub(crate) fn note(&mut self, at: u64, entry: &Entry) -> Result<(), ReportError>
+        ensures places { OnOk result ((unit : UnitId) (word : Option WordAddr) → last_store self.new unit word
+            ≡ cond (stores unit word entry.now) (Some at) (last_store self.old unit word)) }
+        ensures err { IfErr result (λ e. e ≡ Memory) }
+    {
+        let Some(word) = entry.addr else {
+            return Ok(());
+        };
+        if stores_in(entry) {
+            self.places.insert((entry.unit.0, word.0), at)?;
+        }
+        Ok(())
+    }
+}
