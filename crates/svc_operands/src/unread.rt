@@ -1,6 +1,6 @@
 // Where a text could not be read further, and what may stand there.
 
-ghost use Rattle.std.specs.Prelude.{◌≡◌, length};
+ghost use Rattle.std.specs.Prelude.{◌≡◌, ◌+◌, ◌<◌, ◌^◌, length};
 ghost use Rattle.svc_operands.specs.Characters.{past_spaces};
 
 use crate::characters::skip_spaces;
@@ -108,7 +108,8 @@ pub fn stopped_at(text: &[u8], wanted: Wanted) -> Unread
 
 /// The fault of a name that is followed by this text.
 pub fn stopped_at_name(name: &[u8], text: &[u8], wanted: Wanted) -> Unread
-    ensures { result.wanted ≡ wanted }
+    ensures left { length name.now + length text.now < 2 ^ 64 → result.left ≡ length name.now + length text.now }
+    ensures wanted { result.wanted ≡ wanted }
 {
     Unread {
         left: name.len().saturating_add(text.len()),
