@@ -6,15 +6,15 @@ ghost use Rattle.svc_image.specs.Image as value;
 ghost use Rattle.svc_draft.specs.declared.statement.Statement.{Statement};
 ghost use Rattle.svc_asm.specs.declared.assembling.Stop.TheVariants as halt;
 ghost use Rattle.svc_asm.specs.declared.assembling.AssembleError.TheVariants as error;
-ghost use Rattle.svc_image.specs.declared.error.ImageError.TheVariants as fault;
+ghost use Rattle.svc_draft.specs.declared.refusal.Refusal.TheVariants as lack;
 ghost use Rattle.svc_draft.specs.Layouts.{Layout, layout_of};
 ghost use Rattle.svc_asm.specs.Programs.{Takes, Makes, IsLaid, IsProgramOf};
 
 use crate::found::{Found, found_in};
 use crate::parts::read_next;
 use std::alloc::Global;
-use svc_draft::{Draft, Refusal};
-use svc_image::{Image, ImageError};
+use svc_draft::{Draft, Next, Refusal, Statement};
+use svc_image::Image;
 use svc_operands::{Unread, Wanted, skip_spaces, split_name, stopped_at};
 use thiserror::Error;
 
@@ -30,16 +30,14 @@ pub enum AssembleError {
         found: Found,
         wanted: Wanted,
     },
-    /// What begins at this line and column may not stand there.
-    #[error("{line}:{column}: {refusal}")]
+    /// What begins at this line and column may not stand there, or the lines up to there make no image.
+    #[error("{line}:{column}: found {found}, expected {refusal}")]
     Refused {
         line: usize,
         column: usize,
+        found: Found,
         refusal: Refusal,
     },
-    /// The lines make no image.
-    #[error("{0}")]
-    Image(ImageError),
     /// Memory ran out.
     #[error("out of memory")]
     Memory,
@@ -53,10 +51,25 @@ enum Stop {
     Memory,
 }
 
-// Adds what the first line says, and answers what follows it.
-fn take_line<'a>(text: &'a [u8], draft: &mut Draft<'a>) -> Result<&'a [u8], Stop>
-    ensures ok { IfOk result (λ rest.
-        (s : Statement) × Takes text.now (layout_of draft.old) s rest.now (layout_of draft.new)) }
+// How many bytes of the text are left from its second word on.
+fn left_behind_name(text: &[u8]) -> usize {
+    let (_, operands) = split_name(text);
+    skip_spaces(operands).len()
+}
+
+// How many bytes of a line are left from what is refused on: the line itself, its operand, or a character of a string.
+fn refused_at(next: Next, text: &[u8], refusal: Refusal) -> usize {
+    match (next, refusal) {
+        (Next::Character(_), _) => text.len(),
+        (_, Refusal::ZeroRegister | Refusal::Limit) => left_behind_name(text),
+        _ => skip_spaces(text).len(),
+    }
+}
+
+// Adds what the first line says, and answers that and what follows it.
+fn take_line<'a>(text: &'a [u8], draft: &mut Draft<'a>) -> Result<(Statement, &'a [u8]), Stop>
+    ensures ok { IfOk result (λ said.
+        Takes text.now (layout_of draft.old) said.0 said.1.now (layout_of draft.new)) }
     ensures err { IfErr result (λ e. (e ≡ halt.Memory)
         ⊎ ((s : Statement) (rest : List ℕ) (next : Layout) → Takes text.now (layout_of draft.old) s rest next → ⊥)) }
 {
@@ -69,39 +82,52 @@ fn take_line<'a>(text: &'a [u8], draft: &mut Draft<'a>) -> Result<&'a [u8], Stop
         return Err(Stop::Unread(stopped_at(text, Wanted::LineEnd)));
     }
     let (name, _) = split_name(text);
+    let next = draft.next();
     match draft.take(name, statement) {
-        Ok(()) => Ok(rest),
+        Ok(()) => Ok((statement, rest)),
         Err(Refusal::Memory) => Err(Stop::Memory),
         Err(refusal) => Err(Stop::Refused {
-            left: skip_spaces(text).len(),
+            left: refused_at(next, text, refusal),
             refusal,
         }),
     }
 }
 
-// Adds what every line says.
-fn take_lines<'a>(text: &'a [u8], draft: &mut Draft<'a>) -> Result<(), Stop>
-    ensures ok { OnOk result ((ss : List Statement) × Makes ss text.now (layout_of draft.old) (layout_of draft.new)) }
+// How many bytes of the text are left from the value of the last `.svc_start` on, behind this line.
+fn start_behind(said: Statement, line: &[u8], before: usize) -> usize {
+    match said {
+        Statement::Start(_) => left_behind_name(line),
+        _ => before,
+    }
+}
+
+// Adds what every line says, and answers how many bytes are left from the value of the last `.svc_start` on.
+fn take_lines<'a>(text: &'a [u8], draft: &mut Draft<'a>) -> Result<usize, Stop>
+    ensures ok { IfOk result (λ _. (ss : List Statement) × Makes ss text.now (layout_of draft.old) (layout_of draft.new)) }
     ensures err { IfErr result (λ e. (e ≡ halt.Memory)
         ⊎ ((ss : List Statement) (made : Layout) → Makes ss text.now (layout_of draft.old) made → ⊥)) }
 {
     let mut rest = text;
+    let mut start = 0;
     while !rest.is_empty() {
-        rest = take_line(rest, draft)?;
+        let (said, behind) = take_line(rest, draft)?;
+        start = start_behind(said, rest, start);
+        rest = behind;
     }
-    Ok(())
+    Ok(start)
 }
 
-// Reads the text twice, for its labels and for what it makes under their names.
-fn lay<'a>(alloc: Global, text: &'a [u8]) -> Result<Draft<'a>, Stop>
-    ensures ok { IfOk result (λ d. IsLaid text.now (layout_of d)) }
+// Reads the text twice, for its labels and for what it makes under their names. Beside that, how many bytes are left
+// from the value of the last `.svc_start` on.
+fn lay<'a>(alloc: Global, text: &'a [u8]) -> Result<(Draft<'a>, usize), Stop>
+    ensures ok { IfOk result (λ laid. IsLaid text.now (layout_of laid.0)) }
     ensures err { IfErr result (λ e. (e ≡ halt.Memory) ⊎ ((made : Layout) → IsLaid text.now made → ⊥)) }
 {
     let mut first = Draft::new(alloc);
     take_lines(text, &mut first)?;
     let mut draft = first.again(alloc);
-    take_lines(text, &mut draft)?;
-    Ok(draft)
+    let start = take_lines(text, &mut draft)?;
+    Ok((draft, start))
 }
 
 // The line and the column, each counted from 1, of the place where so many bytes of the text are left.
@@ -144,6 +170,7 @@ fn told(text: &[u8], stop: Stop) -> AssembleError
             AssembleError::Refused {
                 line,
                 column,
+                found: found_at(text, left),
                 refusal,
             }
         }
@@ -151,13 +178,17 @@ fn told(text: &[u8], stop: Stop) -> AssembleError
     }
 }
 
-// How it is told that the lines make no image.
-fn no_image(why: ImageError) -> AssembleError
-    ensures { (why ≡ fault.Memory) → result ≡ error.Memory }
+// Where the lines make no image: at the start that they say, or where they end.
+fn no_image(start: usize, refusal: Refusal) -> Stop
+    ensures { (refusal ≡ lack.Memory) → result ≡ halt.Memory }
 {
-    match why {
-        ImageError::Memory => AssembleError::Memory,
-        _ => AssembleError::Image(why),
+    match refusal {
+        Refusal::Memory => Stop::Memory,
+        Refusal::OtherStart => Stop::Refused {
+            left: start,
+            refusal,
+        },
+        _ => Stop::Refused { left: 0, refusal },
     }
 }
 
@@ -169,12 +200,12 @@ pub fn assemble(alloc: Global, text: &[u8]) -> Result<Image, AssembleError>
     ensures whole { (img : value.Image) → IsImage img → IsProgramOf text.now img
         → MatchResult result (λ i. i ≡ img) (λ e. e ≡ error.Memory) }
 {
-    let draft = match lay(alloc, text) {
-        Ok(draft) => draft,
+    let (draft, start) = match lay(alloc, text) {
+        Ok(laid) => laid,
         Err(stop) => return Err(told(text, stop)),
     };
     match draft.finish(alloc) {
         Ok(image) => Ok(image),
-        Err(error) => Err(no_image(error)),
+        Err(refusal) => Err(told(text, no_image(start, refusal))),
     }
 }

@@ -1,5 +1,6 @@
 -- Where the lines of a program put what they say, and the image that this makes.
-use Rattle.std.specs.Prelude.{◌≡◌, ℕ, ◌+◌, ◌*◌, ◌-◌, ◌/◌, ◌%◌, ◌^◌, ◌≤◌, Bool, true, false, nat_eq, nat_le, nat_lt, is_some, ◌==◌, List, [], ◌∷◌, ◌++◌, length, map, Option, Some, None, unwrap_or, if◌then◌else◌, slice_set, slice_get, option_map, take, drop, ◌&&◌}
+use Rattle.std.specs.Prelude.{◌≡◌, ℕ, ◌+◌, ◌*◌, ◌-◌, ◌/◌, ◌%◌, ◌^◌, ◌≤◌, Bool, true, false, nat_eq, nat_le, nat_lt, is_some, ◌==◌, List, [], ◌∷◌, ◌++◌, length, map, Option, Some, None, unwrap_or, if◌then◌else◌, slice_set, slice_get, option_map, take, drop, ◌&&◌, not}
+use Rattle.std.specs.List.{list_any}
 use Rattle.std.specs.Str.{bytes_eq}
 use Rattle.std.specs.Map.{update}
 use Rattle.std.specs.HashMap.{get, get_by}
@@ -23,6 +24,7 @@ use Rattle.svc_draft.specs.declared.statement.Statement.TheVariants as say
 use Rattle.svc_draft.specs.declared.draft.Draft.{Draft}
 use Rattle.svc_draft.specs.Options.{◌>>=◌}
 use Rattle.svc_draft.specs.Areas.{padding, with_more, with_zeros, bytes_in, data_of}
+use Rattle.svc_draft.specs.Limits.{is_limit}
 use Rattle.svc_draft.specs.Locals.{last_local, first_local}
 use Rattle.svc_draft.specs.Versions.{has_other, version_in}
 
@@ -179,11 +181,19 @@ in_section change section.Rodata d = change d.rodata_bytes >>= (λ bytes. Some (
 in_section change section.Data d = change d.data_bytes >>= (λ bytes. Some (record d { data_bytes = bytes }))
 in_section change section.Bss d = change d.bss_bytes >>= (λ bytes. Some (record d { bss_bytes = bytes }))
 
+-- how many bytes the image's data has so far, each section in whole words
+abbrev pub data_size : Layout → ℕ
+data_size d = whole_size d.rodata_bytes + whole_size d.data_bytes + whole_size d.bss_bytes
+
+-- an image has at most 65,536 words of data
+abbrev pub with_room : Layout → Option Layout
+with_room d = if nat_le (data_size d) 262144 then Some d else None
+
 unfoldable pub with_bytes : List ℕ → Layout → Option Layout
-with_bytes more d = in_section (with_more more) d.section d
+with_bytes more d = in_section (with_more more) d.section d >>= with_room
 
 unfoldable pub with_blank : ℕ → Layout → Option Layout
-with_blank count d = if count == 0 then Some d else in_section (with_zeros count) d.section d
+with_blank count d = if count == 0 then Some d else in_section (with_zeros count) d.section d >>= with_room
 
 -- zeros up to the next multiple of a step
 unfoldable pub with_align : ℕ → Layout → Option Layout
@@ -241,13 +251,21 @@ read_only_up_to bytes d = Some (record d { read_only = bytes / 4 })
 unfoldable pub with_read_only : Layout → Option Layout
 with_read_only d = if data_up_to d.section d % 4 == 0 then with_version version.Two d >>= read_only_up_to (data_up_to d.section d) else None
 
+-- the limit of turns of the entries that have none of their own
+unfoldable pub with_limit : ℕ → Layout → Option Layout
+with_limit n d = if is_limit n then Some (record d { limit = n }) else None
+
+-- whether an entry may stand at the next word of the text: none does, there are fewer than 1,024, and the text isn't full
+abbrev pub takes_entry : Layout → Bool
+takes_entry d = nat_lt (length d.text) 65536 && (nat_lt (length d.entries) 1024 && not (list_any (λ e. e == 4 * length d.text) d.entries))
+
 -- an entry at the next word of the text; only version 2 gives it a limit of its own
 unfoldable pub with_place : Option ℕ → Layout → Option Layout
-with_place limit d = if nat_lt (length d.text) 65536 then Some (record d { entries = d.entries ++ (4 * length d.text ∷ []); limits = d.limits ++ (limit ∷ []) }) else None
+with_place limit d = if takes_entry d then Some (record d { entries = d.entries ++ (4 * length d.text ∷ []); limits = d.limits ++ (limit ∷ []) }) else None
 
 abbrev pub with_own : Option ℕ → Layout → Option Layout
 with_own None d = Some d
-with_own (Some limit) d = with_version version.Two d
+with_own (Some limit) d = if is_limit limit then with_version version.Two d else None
 
 unfoldable pub with_entry : Option ℕ → Layout → Option Layout
 with_entry limit d = with_own limit d >>= with_place limit
@@ -299,7 +317,7 @@ after name (say.Version v) d = with_version v d
 after name say.ReadOnly d = with_read_only d
 after name (say.Entry limit) d = with_entry limit d
 after name (say.Start n) d = Some (record d { start = Some n })
-after name (say.Limit n) d = Some (record d { limit = n })
+after name (say.Limit n) d = with_limit n d
 after name (say.Register r n) d = with_register r n d
 after name (say.Section s) d = Some (record d { section = s })
 after name (say.Zeros n) d = with_blank n d

@@ -2,5 +2,6 @@ pub mod Options
 pub mod Areas
 pub mod Refusals
 pub mod Versions
+pub mod Limits
 pub mod Locals
 pub mod Layouts

@@ -4,6 +4,7 @@ ghost use Rattle.std.specs.Prelude.{◌≡◌, ◌++◌, ◌/◌, ◌%◌, ◌�
 ghost use Rattle.std.specs.Str.{bytes_eq};
 ghost use Rattle.std.specs.HashMap.{get_by};
 ghost use Rattle.svc_image.specs.declared.error.ImageError.TheVariants as image_error;
+ghost use Rattle.svc_draft.specs.Limits.{is_limit};
 ghost use Rattle.svc_draft.specs.Versions.{has_other};
 
 use crate::area::{join, padding, put_more, put_zeros, whole_size};
@@ -21,6 +22,8 @@ use svc_rv32i::{Register, encode};
 const MOST_WORDS: usize = 65_536;
 /// The byte address of the data.
 const DATA_PLACE: u32 = 0x0010_0000;
+/// The most bytes of the image's data.
+const MOST_DATA: u32 = 262_144;
 /// The most entries.
 const MOST_ENTRIES: usize = 1024;
 /// The most local labels. Each is looked at for every name of one, so that few bound the time.
@@ -77,9 +80,10 @@ impl<'a> Draft<'a> {
     ghost use Rattle.svc_image.specs.Version.{own_number, listed};
     ghost use Rattle.svc_image.specs.Format.{bytes_of_words};
     ghost use Rattle.svc_draft.specs.Versions.{version_in};
-    ghost use Rattle.svc_draft.specs.Areas.{bytes_in};
+    ghost use Rattle.svc_draft.specs.declared.refusal.Refusal.TheVariants as refusal;
+    ghost use Rattle.svc_draft.specs.Areas.{bytes_in, with_more, with_zeros};
     ghost use Rattle.svc_draft.specs.Refusals.{Refuses};
-    ghost use Rattle.svc_draft.specs.Layouts.{layout_of, empty, no_names, first_pass, second_pass, size, base, place, spot_here, here, address_of, address_back, address_ahead, distance_from, with_word, with_bytes, with_blank, with_align, with_value, with_symbol, with_passed, with_local, with_common, with_instruction, with_pair, with_relative, with_version, data_up_to, with_read_only, with_own, with_place, with_entry, with_register, after, start_in, limits_in, file_in, data_in, HasFewParts, IsMadeOf};
+    ghost use Rattle.svc_draft.specs.Layouts.{layout_of, empty, no_names, first_pass, second_pass, size, base, place, spot_here, here, address_of, address_back, address_ahead, distance_from, with_word, in_section, with_room, data_size, with_bytes, with_blank, with_align, with_value, with_symbol, with_passed, with_local, with_common, with_instruction, with_pair, with_relative, with_version, data_up_to, with_read_only, with_own, with_place, with_entry, with_limit, with_register, after, start_in, limits_in, file_in, data_in, HasFewParts, IsMadeOf};
 
     /// No lines yet, in the first pass.
     pub fn new(alloc: Global) -> Draft<'a>
@@ -270,7 +274,7 @@ impl<'a> Draft<'a> {
             Statement::ReadOnly => return self.set_read_only(),
             Statement::Entry(limit) => return self.push_entry(limit),
             Statement::Start(start) => self.start = Some(start),
-            Statement::Limit(limit) => self.limit = limit,
+            Statement::Limit(limit) => return self.set_limit(limit),
             Statement::Register(register, value) => return self.set_register(register, value),
             Statement::Section(section) => self.section = section,
             Statement::Zeros(count) => return self.push_blank(count),
@@ -394,16 +398,62 @@ impl<'a> Draft<'a> {
         Ok(())
     }
 
-    #[tactic(auto, unfolding(crate::specs::Layouts::with_bytes))]
-    fn push_bytes(&mut self, bytes: &[u8]) -> Result<(), Refusal>
-        ensures ok { OnOk result (with_bytes bytes.now (layout_of self.old) ≡ Some (layout_of self.new)) }
-        ensures err { IfErr result (λ e. Refuses e (with_bytes bytes.now (layout_of self.old))) }
+    // How many bytes the image's data has so far.
+    fn data_size(&self) -> u32
+        ensures { result ≡ data_size (layout_of self.now) }
+    {
+        whole_size(&self.rodata_bytes) + whole_size(&self.data_bytes) + whole_size(&self.bss_bytes)
+    }
+
+    // Refuses more data than an image may have.
+    fn check_room(&self) -> Result<(), Refusal>
+        ensures ok { OnOk result (with_room (layout_of self.now) ≡ Some (layout_of self.now)) }
+        ensures err { IfErr result (λ e. Refuses e (with_room (layout_of self.now))) }
+    {
+        if self.data_size() > MOST_DATA {
+            return Err(Refusal::FullData);
+        }
+        Ok(())
+    }
+
+    // Puts bytes behind those of the section of what follows.
+    fn extend_section(&mut self, bytes: &[u8]) -> Result<(), Refusal>
+        ensures ok { OnOk result (in_section (with_more bytes.now) (layout_of self.old).section (layout_of self.old)
+            ≡ Some (layout_of self.new)) }
+        ensures err { IfErr result (λ e.
+            Refuses e (in_section (with_more bytes.now) (layout_of self.old).section (layout_of self.old))) }
     {
         match self.section {
             Section::Text => Err(Refusal::InText),
             Section::Rodata => put_more(&mut self.rodata_bytes, bytes),
             Section::Data => put_more(&mut self.data_bytes, bytes),
             Section::Bss => put_more(&mut self.bss_bytes, bytes),
+        }
+    }
+
+    #[tactic(auto, unfolding(crate::specs::Layouts::with_bytes))]
+    fn push_bytes(&mut self, bytes: &[u8]) -> Result<(), Refusal>
+        ensures ok { OnOk result (with_bytes bytes.now (layout_of self.old) ≡ Some (layout_of self.new)) }
+        ensures err { IfErr result (λ e. Refuses e (with_bytes bytes.now (layout_of self.old))) }
+    {
+        match self.extend_section(bytes) {
+            Ok(()) => self.check_room(),
+            Err(refusal) => Err(refusal),
+        }
+    }
+
+    // Puts zeros behind the bytes of the section of what follows.
+    fn fill_section(&mut self, count: u32) -> Result<(), Refusal>
+        ensures ok { OnOk result (in_section (with_zeros count) (layout_of self.old).section (layout_of self.old)
+            ≡ Some (layout_of self.new)) }
+        ensures err { IfErr result (λ e.
+            Refuses e (in_section (with_zeros count) (layout_of self.old).section (layout_of self.old))) }
+    {
+        match self.section {
+            Section::Text => Err(Refusal::InText),
+            Section::Rodata => put_zeros(&mut self.rodata_bytes, count),
+            Section::Data => put_zeros(&mut self.data_bytes, count),
+            Section::Bss => put_zeros(&mut self.bss_bytes, count),
         }
     }
 
@@ -415,11 +465,9 @@ impl<'a> Draft<'a> {
         if count == 0 {
             return Ok(());
         }
-        match self.section {
-            Section::Text => Err(Refusal::InText),
-            Section::Rodata => put_zeros(&mut self.rodata_bytes, count),
-            Section::Data => put_zeros(&mut self.data_bytes, count),
-            Section::Bss => put_zeros(&mut self.bss_bytes, count),
+        match self.fill_section(count) {
+            Ok(()) => self.check_room(),
+            Err(refusal) => Err(refusal),
         }
     }
 
@@ -512,6 +560,18 @@ impl<'a> Draft<'a> {
         }
     }
 
+    #[tactic(auto, unfolding(crate::specs::Layouts::with_limit))]
+    fn set_limit(&mut self, limit: u32) -> Result<(), Refusal>
+        ensures ok { OnOk result (with_limit limit (layout_of self.old) ≡ Some (layout_of self.new)) }
+        ensures err { IfErr result (λ e. Refuses e (with_limit limit (layout_of self.old))) }
+    {
+        if !is_limit(limit) {
+            return Err(Refusal::Limit);
+        }
+        self.limit = limit;
+        Ok(())
+    }
+
     // An entry with a limit of its own makes the program one of version 2.
     fn allow_own(&mut self, limit: Option<u32>) -> Result<(), Refusal>
         ensures ok { OnOk result (with_own limit (layout_of self.old) ≡ Some (layout_of self.new)) }
@@ -519,7 +579,8 @@ impl<'a> Draft<'a> {
     {
         match limit {
             None => Ok(()),
-            Some(_) => self.set_version(Version::Two),
+            Some(limit) if is_limit(limit) => self.set_version(Version::Two),
+            Some(_) => Err(Refusal::Limit),
         }
     }
 
@@ -532,7 +593,14 @@ impl<'a> Draft<'a> {
         if words >= MOST_WORDS {
             return Err(Refusal::FullText);
         }
-        self.entries.push(4 * words as u32)?;
+        if self.entries.len() >= MOST_ENTRIES {
+            return Err(Refusal::FullEntries);
+        }
+        let place = 4 * words as u32;
+        if self.entries.contains(&place) {
+            return Err(Refusal::EntryTwice);
+        }
+        self.entries.push(place)?;
         self.limits.push(limit)?;
         Ok(())
     }
@@ -562,15 +630,40 @@ impl<'a> Draft<'a> {
 
     /// The image that the lines make. Where no line says so, the first task begins at the first entry, the limit is
     /// 65,536, every register is 0, and the data is one word 0; zeros fill its last word.
-    pub fn finish(self, alloc: Global) -> Result<Image, ImageError>
+    ///
+    /// Errors: `NoEntry`, `NoInstruction` and `OtherStart`, which no line tells, and `Memory`.
+    pub fn finish(self, alloc: Global) -> Result<Image, Refusal>
         ensures ok { IfOk result (IsMadeOf (layout_of self.entry)) }
         // What the lines make is made, unless memory runs out.
         ensures whole { (img : value.Image) → IsImage img → IsMadeOf (layout_of self.entry) img
+            → MatchResult result (λ i. i ≡ img) (λ e. e ≡ refusal.Memory) }
+    {
+        match self.make(alloc) {
+            Ok(image) => Ok(image),
+            Err(error) => Err(self.lack(error)),
+        }
+    }
+
+    fn make(&self, alloc: Global) -> Result<Image, ImageError>
+        ensures ok { IfOk result (IsMadeOf (layout_of self.now)) }
+        ensures whole { (img : value.Image) → IsImage img → IsMadeOf (layout_of self.now) img
             → MatchResult result (λ i. i ≡ img) (λ e. e ≡ image_error.Memory) }
     {
         let joined = join(alloc, &self.rodata_bytes, &self.data_bytes, &self.bss_bytes)?;
         let bytes = self.file(alloc, &joined)?;
         Image::read(alloc, &bytes)
+    }
+
+    // What the lines lack, by why they make no image. A count too great is refused at its line, so that here one is 0.
+    fn lack(&self, error: ImageError) -> Refusal
+        ensures { (error ≡ image_error.Memory) → result ≡ refusal.Memory }
+    {
+        match error {
+            ImageError::Memory => Refusal::Memory,
+            ImageError::Start => Refusal::OtherStart,
+            _ if self.entries.is_empty() => Refusal::NoEntry,
+            _ => Refusal::NoInstruction,
+        }
     }
 
     // The bytes of the image's file that has this data.
@@ -648,6 +741,13 @@ impl<'a> Draft<'a> {
             [] => 0,
         }
     }
+}
+
+// Whether a task may have this limit of turns.
+fn is_limit(limit: u32) -> bool
+    ensures { result ≡ is_limit limit }
+{
+    (1..=65_536).contains(&limit)
 }
 
 // Whether another version is said.

@@ -56,7 +56,6 @@ fn load_text<F: Files>(alloc: Global, name: &str, files: &mut F) -> Result<Vec<u
 fn assembly_fault(alloc: Global, name: &str, error: AssembleError) -> Fault {
     let told = match error {
         AssembleError::Memory => return Fault::File,
-        AssembleError::Image(fault) => format!(in alloc; "{name}: {fault}"),
         placed => format!(in alloc; "{name}:{placed}"),
     };
     match told {

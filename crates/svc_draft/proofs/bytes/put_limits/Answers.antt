@@ -1,4 +1,4 @@
-use Rattle.std.proofs.Common.{◌≡◌, ◌++◌, ◌∙◌, sym, ap, unwrap_or, get_or, ℕ, Option, None}
+use Rattle.std.proofs.Common.{◌≡◌, ◌++◌, ◌∙◌, sym, ap, unwrap_or, get_or, ℕ, None}
 use Rattle.std.proofs.lemmas.List.{append-nil}
 use Rattle.svc_image.specs.Format.{bytes_of_word, bytes_of_words}
 use Rattle.svc_draft.proofs.Wordwise.{mapped-more, put_behind}

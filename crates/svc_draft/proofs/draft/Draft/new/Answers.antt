@@ -1,4 +1,4 @@
-use Rattle.std.proofs.Common.{◌≡◌, ◌∙◌, refl}
+use Rattle.std.proofs.Common.{◌∙◌, refl}
 use Rattle.svc_draft.proofs.draft.Draft.new.Goals as goal
 
 pub returns : goal.returns

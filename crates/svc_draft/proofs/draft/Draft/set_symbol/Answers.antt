@@ -1,10 +1,9 @@
-use Rattle.std.proofs.Common.{◌≡◌, ◌∙◌, sym, ap, false, List, ℕ, Option, Some, is_some}
+use Rattle.std.proofs.Common.{◌≡◌, ◌∙◌, sym, ap, false, List, ℕ, Some, is_some}
 use Rattle.std.specs.Str.{bytes_eq}
 use Rattle.std.specs.Map.{update}
 use Rattle.std.specs.HashMap.{get_by}
 use Rattle.std.proofs.lemmas.Map.Text.{hash_map_updates_str}
 use Rattle.std.proofs.Math.Path.{fun_ext}
-use Rattle.svc_draft.specs.declared.section.Spot.{Spot}
 use Rattle.svc_draft.specs.Layouts.{Names, layout_of, with_symbol}
 use Rattle.svc_draft.proofs.draft.Draft.set_symbol.Goals as goal
 

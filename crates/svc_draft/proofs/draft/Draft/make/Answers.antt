@@ -1,5 +1,5 @@
-use Rattle.std.proofs.Common.{◌≡◌, ◌∙◌}
-use Rattle.svc_draft.proofs.draft.Draft.finish.Goals as goal
+use Rattle.std.proofs.Common.{◌∙◌}
+use Rattle.svc_draft.proofs.draft.Draft.make.Goals as goal
 
 pub returns-clause-whole : goal.returns-clause-whole
 returns-clause-whole c = λ img sound made.
