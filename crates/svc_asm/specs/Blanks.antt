@@ -1,5 +1,5 @@
 -- Zeros, so many of them or up to an alignment.
-use Rattle.std.specs.Prelude.{ℕ, ◌^◌, ◌≤◌, nat_le, List, Option, Some, None, if◌then◌else◌, codes}
+use Rattle.std.specs.Prelude.{ℕ, ◌^◌, nat_le, List, Option, Some, None, if◌then◌else◌, codes}
 use Rattle.std.specs.Str.{bytes_eq}
 use Rattle.svc_draft.specs.declared.statement.Statement.{Statement}
 use Rattle.svc_draft.specs.declared.statement.Statement.TheVariants as say

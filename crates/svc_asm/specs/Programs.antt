@@ -1,5 +1,5 @@
 -- What a whole text says, and the image that it makes.
-use Rattle.std.specs.Prelude.{◌≡◌, ℕ, ◌<◌, Bool, true, false, List, [], ◌∷◌, length, Some}
+use Rattle.std.specs.Prelude.{◌≡◌, ℕ, ◌<◌, List, [], ◌∷◌, length, Some}
 use Rattle.svc_image.specs.Image.{Image}
 use Rattle.svc_draft.specs.declared.statement.Statement.{Statement}
 use Rattle.svc_draft.specs.Layouts.{Layout, first_pass, second_pass, after, IsMadeOf}

@@ -1,5 +1,5 @@
 -- The sections of other assemblers, and their directives that say nothing of an image.
-use Rattle.std.specs.Prelude.{ℕ, nat_eq, Bool, true, false, List, Option, Some, None, if◌then◌else◌, codes}
+use Rattle.std.specs.Prelude.{ℕ, nat_eq, Bool, true, List, Option, Some, None, if◌then◌else◌, codes}
 use Rattle.std.specs.List.{starts_with}
 use Rattle.std.specs.Str.{bytes_eq}
 use Rattle.svc_draft.specs.declared.section.Section.TheVariants as section

@@ -1,5 +1,5 @@
 -- What a line says: directives and instructions, read from their text.
-use Rattle.std.specs.Prelude.{ℕ, ◌+◌, ◌*◌, ◌-◌, ◌^◌, Bool, true, false, not, ◌&&◌, ◌==◌, nat_le, nat_lt, List, [], ◌∷◌, drop, Option, Some, None, if◌then◌else◌, codes, option_map}
+use Rattle.std.specs.Prelude.{ℕ, Bool, false, not, ◌==◌, List, [], ◌∷◌, drop, Option, Some, None, if◌then◌else◌, codes}
 use Rattle.std.specs.Str.{bytes_eq}
 use Rattle.svc_image.specs.declared.version.Version.{Version}
 use Rattle.svc_image.specs.declared.version.Version.TheVariants as version
@@ -15,8 +15,8 @@ use Rattle.svc_asm.specs.Sections.{begins_data, section_named, is_passed}
 use Rattle.svc_instructions.specs.Couples.{couple_named, couple_at}
 use Rattle.svc_instructions.specs.Relative.{relative_named}
 use Rattle.svc_asm.specs.Blanks.{blank_named, blank_at}
-use Rattle.svc_operands.specs.Operands.{Read, register_at, first_register_at, number_at}
-use Rattle.svc_operands.specs.Values.{value_at, short_at, upper_at, address_at}
+use Rattle.svc_operands.specs.Operands.{Read, first_register_at, number_at}
+use Rattle.svc_operands.specs.Values.{value_at}
 
 -- the directives that have a number, or a label's address
 unfoldable pub word_at : Layout → List ℕ → Read Statement

@@ -67,12 +67,22 @@ fn string_named(name: &[u8]) -> Option<Ending>
     None
 }
 
-/// What is left, where something is: no text ends within a list.
-pub fn read_left(text: &[u8]) -> Result<&[u8], Unread>
+// What may stand where this is read next.
+fn wanted_by(next: Next) -> Wanted {
+    match next {
+        Next::Line => Wanted::Statement,
+        Next::Value(_) => Wanted::Value,
+        Next::Character(_) => Wanted::Quote,
+        Next::Symbol | Next::Common => Wanted::Label,
+    }
+}
+
+/// What is left, of which this is read next, where something is: no text ends within a list.
+pub fn read_left(next: Next, text: &[u8]) -> Result<&[u8], Unread>
     ensures { Gives (λ x. x.now) result (some_left text.now) }
 {
     match text {
-        [] => Err(stopped_at(text, Wanted::Value)),
+        [] => Err(stopped_at(text, wanted_by(next))),
         _ => Ok(text),
     }
 }
@@ -81,7 +91,7 @@ pub fn read_left(text: &[u8]) -> Result<&[u8], Unread>
 fn read_open(next: Next, text: &[u8]) -> Result<(Statement, &[u8]), Unread>
     ensures { Gives (λ x. (x.0, x.1.now)) result (open_at next text.now) }
 {
-    let rest = read_left(text)?;
+    let rest = read_left(next, text)?;
     Ok((Statement::Open(next), rest))
 }
 
@@ -190,7 +200,7 @@ pub fn read_over(text: &[u8]) -> Result<(Next, &[u8]), Unread>
 pub fn read_more(next: Next, text: &[u8]) -> Result<(Next, &[u8]), Unread>
     ensures { Gives (λ x. (x.0, x.1.now)) result (more_at next text.now) }
 {
-    let rest = read_left(text)?;
+    let rest = read_left(next, text)?;
     Ok((next, rest))
 }
 

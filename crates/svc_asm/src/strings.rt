@@ -8,6 +8,14 @@ use crate::parts::{read_left, read_more, read_over};
 use svc_draft::{Ending, Next, Statement, Width};
 use svc_operands::{Unread, Wanted, escaped, read_mark, skip_mark, stopped_at};
 
+// The fault of a backslash that this follows. A space is no blank there.
+fn stopped_behind_backslash(text: &[u8]) -> Unread {
+    Unread {
+        left: text.len(),
+        wanted: Wanted::Escape,
+    }
+}
+
 #[tactic(auto, unfolding(crate::specs::DataLines::next_quote_at))]
 fn read_next_quote(ending: Ending, text: &[u8]) -> Result<(Next, &[u8]), Unread>
     ensures { Gives (λ x. (x.0, x.1.now)) result (next_quote_at ending text.now) }
@@ -49,11 +57,9 @@ fn read_close(ending: Ending, text: &[u8]) -> Result<(Statement, &[u8]), Unread>
 fn read_on(ending: Ending, character: u8, text: &[u8]) -> Result<(Statement, &[u8]), Unread>
     ensures { Gives (λ x. (x.0, x.1.now)) result (put_at ending character text.now) }
 {
-    let rest = read_left(text)?;
-    Ok((
-        Statement::Value(Width::Byte, character as u32, Next::Character(ending)),
-        rest,
-    ))
+    let next = Next::Character(ending);
+    let rest = read_left(next, text)?;
+    Ok((Statement::Value(Width::Byte, character as u32, next), rest))
 }
 
 fn split_octal(text: &[u8]) -> Option<(u32, &[u8])>
@@ -91,7 +97,7 @@ fn read_octal(ending: Ending, text: &[u8]) -> Result<(Statement, &[u8]), Unread>
             let (three, rest) = octal_on(two, rest);
             read_on(ending, (three % 256) as u8, rest)
         }
-        None => Err(stopped_at(text, Wanted::Escape)),
+        None => Err(stopped_behind_backslash(text)),
     }
 }
 
@@ -100,7 +106,7 @@ fn read_escape(ending: Ending, text: &[u8]) -> Result<(Statement, &[u8]), Unread
     ensures { Gives (λ x. (x.0, x.1.now)) result (escape_at ending text.now) }
 {
     match text {
-        [] => Err(stopped_at(text, Wanted::Escape)),
+        [] => Err(stopped_behind_backslash(text)),
         [letter, rest @ ..] => match escaped(*letter) {
             Some(character) => read_on(ending, character, rest),
             None => read_octal(ending, text),

@@ -28,7 +28,7 @@ use Rattle.svc_list.proofs.LinesBack.{Trails, three, unlabelled, names_stop, com
 use Rattle.svc_list.proofs.NotesBack.{bare_ends, word_ends}
 use Rattle.svc_list.proofs.LabelsBack.{label_apart, label_same, colon_name, label_back, empty_back, text_spot, spot_is, label_found, label_again}
 use Rattle.svc_list.proofs.AimsBack.{branch_named, jump_named, branch_aims, jump_aims, branch_known, jump_known, branch_unknown, jump_unknown}
-use Rattle.svc_list.proofs.LayoutsBack.{MeansOne, AreMarks, next_marks, top_marks, marked, worded, one_entry, one_word, shown_laid, entries_of, limits_of}
+use Rattle.svc_list.proofs.LayoutsBack.{MeansOne, AreMarks, next_marks, top_marks, marked, worded, Free, free_later, free_behind, one_entry, one_word, shown_laid, entries_of, limits_of}
 use Rattle.svc_list.proofs.Leading.{Leads, one_leads, leads_none, leads_both, leads_at, line_leads}
 use Rattle.svc_list.proofs.Printing.{text_both}
 
@@ -280,13 +280,13 @@ label_and_more known count labelled n d low at good rest e h =
     (leads_both (text_of (labels labelled n)) (text_of rest) d (record d { names = labelled_in known labelled n d.names }) e (labels_lead known count labelled n d low at good) h)
 
 pub code_leads : MeansOne → (known : Bool) (count : ℕ) (labelled : ℕ → Bool) → count ≤ 65536 → (ms : List (ℕ × Option ℕ)) (ws : List ℕ) (n : ℕ) (d : Layout) → n + length ws ≡ count → AllByRecursion (λ w. w < 2 ^ 32) ws → AllByRecursion (λ (m : ℕ × Option ℕ). HasText (say.Entry m.1)) ms
-    → AreMarks d.version (4 * n) (4 * (n + length ws)) ms → IsAt known n d → Good known count labelled n d.names → HaveLabels count labelled n ws
+    → AreMarks d.version (4 * n) (4 * (n + length ws)) ms → IsAt known n d → length d.entries + length ms ≤ 1024 → Free n d.entries → Good known count labelled n d.names → HaveLabels count labelled n ws
     → Leads (text_of (code count labelled n ms ws)) d (with_code known count labelled n ms ws d)
 unfolding text_of code
-code_leads law known count labelled few [] [] n d all fit texts placed at good named =
+code_leads law known count labelled few [] [] n d all fit texts placed at room free good named =
     rw (append-nil d.entries, append-nil d.limits, append-nil d.text) (leads_none d)
-code_leads law known count labelled few (m ∷ ms) [] n d all fit texts placed at good named = absurd (omega (arith, placed.0, placed.2))
-code_leads law known count labelled few [] (w ∷ ws) n d all fit texts placed at good named =
+code_leads law known count labelled few (m ∷ ms) [] n d all fit texts placed at room free good named = absurd (omega (arith, placed.0, placed.2))
+code_leads law known count labelled few [] (w ∷ ws) n d all fit texts placed at room free good named =
     let low : n < count = omega (arith, all) in
     let e₁ = record d { names = labelled_in known labelled n d.names } in
     let at₁ : IsAt known n e₁ = record { text = at.text; words = at.words; pass = at.pass; line = at.line } in
@@ -295,12 +295,12 @@ code_leads law known count labelled few [] (w ∷ ws) n d all fit texts placed a
     let e₂ = worded e₁ v in
     let rest = code count labelled (suc n) [] ws in
     let end = with_code known count labelled (suc n) [] ws e₂ in
-    let more = code_leads law known count labelled few [] ws (suc n) e₂ (omega (arith, all)) fit.1 tt tt (next_at_word known n e₁ v at₁) good₁ named.1 in
+    let more = code_leads law known count labelled few [] ws (suc n) e₂ (omega (arith, all)) fit.1 tt tt (next_at_word known n e₁ v at₁) room (free_later n d.entries free) good₁ named.1 in
     let behind = word_and_more law known count labelled n e₁ w low few fit.0 at₁ good₁ named.0 rest end more in
     let whole = label_and_more known count labelled n d low at good (coded count (4 * n) w ∷ rest) end behind in
     leads_at (text_of (code count labelled n [] (w ∷ ws))) d end (with_code known count labelled n [] (w ∷ ws) d)
     (ap (λ (xs : List ℕ). record end { text = xs }) (append_assoc d.text (v ∷ []) (words_in known count (suc n) ws))) whole
-code_leads law known count labelled few (m ∷ ms) (w ∷ ws) n d all fit texts placed at good named =
+code_leads law known count labelled few (m ∷ ms) (w ∷ ws) n d all fit texts placed at room free good named =
     let low : n < count = omega (arith, all) in
     let e₁ = record d { names = labelled_in known labelled n d.names } in
     let at₁ : IsAt known n e₁ = record { text = at.text; words = at.words; pass = at.pass; line = at.line } in
@@ -316,9 +316,9 @@ code_leads law known count labelled few (m ∷ ms) (w ∷ ws) n d all fit texts 
           let rest = code count labelled (suc n) ms ws in
           let end = with_code known count labelled (suc n) ms ws e₃ in
           let next = top_marks d.version (4 * suc n) n (length ws) ms (next_marks d.version n m.0 (4 * (n + suc (length ws))) ms same placed.4) in
-          let more = code_leads law known count labelled few ms ws (suc n) e₃ (omega (arith, all)) fit.1 texts.1 next (next_at_word known n e₂ v at₂) good₁ named.1 in
+          let more = code_leads law known count labelled few ms ws (suc n) e₃ (omega (arith, all)) fit.1 texts.1 next (next_at_word known n e₂ v at₂) (omega (arith, room, length-append d.entries (m.0 ∷ []))) (free_behind n m.0 d.entries same free) good₁ named.1 in
           let behind = word_and_more law known count labelled n e₂ w low few fit.0 at₂ good₁ named.0 rest end more in
-          let entry = line_leads (say.Entry m.1) [] e₁ e₂ at.line texts.0 bare_ends (one_entry e₁ m (omega (arith, at.words, low, few)) (omega (arith, same, at.words)) placed.3) in
+          let entry = line_leads (say.Entry m.1) [] e₁ e₂ at.line texts.0 bare_ends (one_entry e₁ m (omega (arith, at.words, low, few)) (omega (arith, room)) (λ k above. free k (omega (arith, above, at.words))) (omega (arith, same, at.words)) placed.3) in
           let both = leads_both (line_of (bare (say.Entry m.1))) (line_of (coded count (4 * n) w) ++ text_of rest) e₁ e₂ end entry behind in
           let whole = label_and_more known count labelled n d low at good (bare (say.Entry m.1) ∷ coded count (4 * n) w ∷ rest) end both in
           rw here (leads_at (text_of (labels labelled n ++ (bare (say.Entry m.1) ∷ coded count (4 * n) w ∷ rest))) d end (with_code known count labelled n (m ∷ ms) (w ∷ ws) d)
@@ -332,7 +332,7 @@ code_leads law known count labelled few (m ∷ ms) (w ∷ ws) n d all fit texts 
           let rest = code count labelled (suc n) (m ∷ ms) ws in
           let end = with_code known count labelled (suc n) (m ∷ ms) ws e₂ in
           let next = top_marks d.version (4 * suc n) n (length ws) (m ∷ ms) (above, placed.1, placed.2, placed.3, placed.4) in
-          let more = code_leads law known count labelled few (m ∷ ms) ws (suc n) e₂ (omega (arith, all)) fit.1 texts next (next_at_word known n e₁ v at₁) good₁ named.1 in
+          let more = code_leads law known count labelled few (m ∷ ms) ws (suc n) e₂ (omega (arith, all)) fit.1 texts next (next_at_word known n e₁ v at₁) room (free_later n d.entries free) good₁ named.1 in
           let behind = word_and_more law known count labelled n e₁ w low few fit.0 at₁ good₁ named.0 rest end more in
           let whole = label_and_more known count labelled n d low at good (coded count (4 * n) w ∷ rest) end behind in
           rw here (leads_at (text_of (labels labelled n ++ (coded count (4 * n) w ∷ rest))) d end (with_code known count labelled n (m ∷ ms) (w ∷ ws) d)

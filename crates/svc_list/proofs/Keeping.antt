@@ -1,5 +1,5 @@
 -- A line of a listing leaves what is read next: a line.
-use Rattle.std.proofs.Common.{◌≡◌, ℕ, ◌*◌, ◌-◌, ◌%◌, Bool, true, false, ◌==◌, nat_lt, List, [], ◌∷◌, ◌++◌, length, Option, Some, None, subst, if◌then◌else◌, slice_set}
+use Rattle.std.proofs.Common.{◌≡◌, ℕ, ◌*◌, ◌-◌, ◌%◌, Bool, true, false, ◌==◌, nat_lt, nat_le, List, [], ◌∷◌, ◌++◌, length, Option, Some, None, subst, if◌then◌else◌, slice_set}
 use Rattle.svc_rv32i.specs.declared.instr.Register.{Register}
 use Rattle.svc_rv32i.specs.Words.{word_of}
 use Rattle.svc_image.specs.declared.version.Version.{Version}
@@ -13,7 +13,8 @@ use Rattle.svc_draft.specs.declared.statement.Statement.TheVariants as say
 use Rattle.svc_draft.specs.Options.{◌>>=◌}
 use Rattle.svc_draft.specs.Areas.{with_more, bytes_in}
 use Rattle.svc_draft.specs.Versions.{has_other}
-use Rattle.svc_draft.specs.Layouts.{Layout, with_word, in_section, with_bytes, with_number, with_value, word_in, with_version, data_up_to, read_only_up_to, with_read_only, with_own, with_place, with_entry, with_register, after}
+use Rattle.svc_draft.specs.Limits.{is_limit}
+use Rattle.svc_draft.specs.Layouts.{Layout, with_word, in_section, data_size, with_room, with_bytes, with_number, with_value, word_in, with_version, data_up_to, read_only_up_to, with_read_only, with_own, takes_entry, with_place, with_entry, with_limit, with_register, after}
 use Rattle.svc_list.specs.Listings.{HasText}
 
 -- where there is a layout, this is read next
@@ -47,9 +48,12 @@ section_keeps n change section.Rodata d h = bytes_keep n (change d.rodata_bytes)
 section_keeps n change section.Data d h = bytes_keep n (change d.data_bytes) (λ bytes. record d { data_bytes = bytes }) (λ xs. h)
 section_keeps n change section.Bss d h = bytes_keep n (change d.bss_bytes) (λ bytes. record d { bss_bytes = bytes }) (λ xs. h)
 
+room_keeps : (n : Next) (d : Layout) → d.next ≡ n → Keeps n (with_room d)
+room_keeps n d h = if_keeps n (nat_le (data_size d) 262144) (Some d) h
+
 more_keeps : (n : Next) (more : List ℕ) (d : Layout) → d.next ≡ n → Keeps n (with_bytes more d)
 unfolding with_bytes
-more_keeps n more d h = section_keeps n (with_more more) d.section d h
+more_keeps n more d h = both_keep n (in_section (with_more more) d.section d) with_room (section_keeps n (with_more more) d.section d h) (λ x k. room_keeps n x k)
 
 number_keeps : (n : Next) (s : Section) (w : ℕ) (d : Layout) → d.next ≡ n → Keeps n (with_number s wide.Word w d)
 number_keeps n section.Text w d h = word_keeps n w d h
@@ -80,12 +84,16 @@ read_only_keeps n d h =
 
 own_keeps : (n : Next) (limit : Option ℕ) (d : Layout) → d.next ≡ n → Keeps n (with_own limit d)
 own_keeps n None d h = h
-own_keeps n (Some limit) d h = version_keeps n version.Two d h
+own_keeps n (Some limit) d h = if_keeps n (is_limit limit) (with_version version.Two d) (version_keeps n version.Two d h)
+
+limit_keeps : (n : Next) (limit : ℕ) (d : Layout) → d.next ≡ n → Keeps n (with_limit limit d)
+unfolding with_limit
+limit_keeps n limit d h = if_keeps n (is_limit limit) (Some (record d { limit = limit })) h
 
 place_keeps : (n : Next) (limit : Option ℕ) (d : Layout) → d.next ≡ n → Keeps n (with_place limit d)
 unfolding with_place
 place_keeps n limit d h =
-    if_keeps n (nat_lt (length d.text) 65536) (Some (record d { entries = d.entries ++ (4 * length d.text ∷ []); limits = d.limits ++ (limit ∷ []) })) h
+    if_keeps n (takes_entry d) (Some (record d { entries = d.entries ++ (4 * length d.text ∷ []); limits = d.limits ++ (limit ∷ []) })) h
 
 entry_keeps : (n : Next) (limit : Option ℕ) (d : Layout) → d.next ≡ n → Keeps n (with_entry limit d)
 unfolding with_entry
@@ -106,7 +114,7 @@ line_keeps n (say.Version v) d h k = version_keeps n v d k
 line_keeps n say.ReadOnly d h k = read_only_keeps n d k
 line_keeps n (say.Entry limit) d h k = entry_keeps n limit d k
 line_keeps n (say.Start m) d h k = k
-line_keeps n (say.Limit m) d h k = k
+line_keeps n (say.Limit m) d h k = limit_keeps n m d k
 line_keeps n (say.Register r m) d h k = register_keeps n r m d k
 line_keeps n (say.Section s) d h k = absurd h
 line_keeps n (say.Zeros m) d h k = absurd h

@@ -1,10 +1,11 @@
 -- The lines of an image make its layout.
-use Rattle.std.proofs.Common.{◌≡◌, ℕ, suc, ◌+◌, ◌-◌, ◌*◌, ◌/◌, ◌%◌, ◌^◌, ◌<◌, ◌≤◌, ◌↔◌, inl, inr, Bool, true, false, ◌==◌, ◌&&◌, nat_le, nat_lt, List, [], ◌∷◌, ◌++◌, length, map, slice_index, take, drop, Option, Some, None, refl, ap, sym, ◌∙◌, subst, arith}
+use Rattle.std.proofs.Common.{◌≡◌, ℕ, suc, ◌+◌, ◌-◌, ◌*◌, ◌/◌, ◌%◌, ◌^◌, ◌<◌, ◌≤◌, ◌↔◌, inl, inr, Bool, true, false, ◌==◌, ◌&&◌, not, nat_le, nat_lt, List, [], ◌∷◌, ◌++◌, length, map, slice_index, take, drop, Option, Some, None, refl, ap, sym, ◌∙◌, subst, arith}
 use Rattle.std.proofs.Math.Seq.{set-append_seam}
 use Rattle.std.proofs.lemmas.Bool.{eq-eqb, eqb-true, ne_eqb, le-leb, cases_eq, and_parts}
 use Rattle.std.proofs.lemmas.List.{append_assoc, append-nil, length-append, length-take-le, take-append-drop}
+use Rattle.std.proofs.lemmas.List.Folds.{list_any-append}
 use Rattle.std.proofs.lemmas.Grind.{flat_map-append}
-use Rattle.std.specs.List.{AllByRecursion}
+use Rattle.std.specs.List.{AllByRecursion, list_any}
 use Rattle.svc_rv32i.specs.declared.instr.Instr.{Instr}
 use Rattle.svc_rv32i.specs.declared.instr.Instr.TheVariants as i
 use Rattle.svc_rv32i.specs.Words.{word_of}
@@ -12,7 +13,7 @@ use Rattle.svc_rv32i.specs.Meaning.{register, meaning}
 use Rattle.svc_image.specs.declared.version.Version.{Version}
 use Rattle.svc_image.specs.declared.version.Version.TheVariants as version
 use Rattle.svc_image.specs.Version.{read_only_by, own_number, listed}
-use Rattle.svc_image.specs.Image.{Image}
+use Rattle.svc_image.specs.Image.{Image, IsLimit}
 use Rattle.svc_image.specs.Format.{bytes_of_word, bytes_of_words, file_of}
 use Rattle.svc_draft.specs.declared.section.Section.TheVariants as section
 use Rattle.svc_draft.specs.declared.statement.Width.TheVariants as wide
@@ -20,7 +21,8 @@ use Rattle.svc_draft.specs.declared.statement.Next.TheVariants as go
 use Rattle.svc_draft.specs.declared.statement.Statement.TheVariants as say
 use Rattle.svc_draft.specs.Options.{◌>>=◌}
 use Rattle.svc_draft.specs.Areas.{with_more}
-use Rattle.svc_draft.specs.Layouts.{Layout, Names, no_distances, with_word, with_bytes, with_value, with_version, with_read_only, with_own, with_place, with_entry, with_register, after, limits_in, file_in}
+use Rattle.svc_draft.specs.Limits.{is_limit}
+use Rattle.svc_draft.specs.Layouts.{Layout, Names, no_distances, with_word, with_bytes, with_value, with_version, with_read_only, with_own, with_place, with_entry, with_limit, with_register, data_size, after, limits_in, file_in}
 use Rattle.svc_draft.proofs.Wordwise.{length-bytes_of_word, length-bytes_of_words}
 use Rattle.svc_list.specs.Listings.{Line, Says, Labels, Aims, Starts, bare, shown, setting, settings, own_limit, marks, data_lines, all_data}
 
@@ -136,14 +138,22 @@ unfolding with_version
 version_again version.One d h = rw h refl
 version_again version.Two d h = rw h refl
 
+-- a limit of an image may be said
+limit_is : (n : ℕ) → IsLimit n → is_limit n ≡ true
+limit_is n h = rw (le-leb 1 n h.0, le-leb n 65536 h.1) refl
+
+pub limit_laid : (n : ℕ) (d : Layout) → IsLimit n → with_limit n d ≡ Some (record d { limit = n })
+unfolding with_limit
+limit_laid n d h = rw (limit_is n h) refl
+
 -- an entry with a limit of its own stands in a program of version 2
 abbrev pub Allows : Option Version → Option ℕ → Type 0
 Allows v None = Unit {0}
-Allows v (Some limit) = v ≡ Some version.Two
+Allows v (Some limit) = (v ≡ Some version.Two) × (is_limit limit ≡ true)
 
 own_allowed : (o : Option ℕ) (d : Layout) → Allows d.version o → with_own o d ≡ Some d
 own_allowed None d h = refl
-own_allowed (Some limit) d h = version_again version.Two d h
+own_allowed (Some limit) d h = rw h.1 (version_again version.Two d h.0)
 
 -- marks from an address on, below the end of the text, in a program of this version
 abbrev pub AreMarks : Option Version → ℕ → ℕ → List (ℕ × Option ℕ) → Type 0
@@ -164,15 +174,28 @@ marked d m = record d { entries = d.entries ++ (m.0 ∷ []); limits = d.limits +
 abbrev pub worded : Layout → ℕ → Layout
 worded d w = record d { text = d.text ++ (w ∷ []) }
 
-one_place : (d : Layout) (m : ℕ × Option ℕ) → length d.text < 65536 → m.0 ≡ 4 * length d.text → with_place m.1 d ≡ Some (marked d m)
-unfolding with_place
-one_place d m h same =
-    let fits : nat_lt (length d.text) 65536 ≡ true = le-leb (suc (length d.text)) 65536 h in
-    rw fits (ap (λ (e : ℕ). Some (record d { entries = d.entries ++ (e ∷ []); limits = d.limits ++ (m.1 ∷ []) })) (sym same))
+-- no entry stands at a word from the n-th on
+abbrev pub Free : ℕ → List ℕ → Type 0
+Free n entries = (k : ℕ) → n ≤ k → list_any (λ e. e == 4 * k) entries ≡ false
 
-pub one_entry : (d : Layout) (m : ℕ × Option ℕ) → length d.text < 65536 → m.0 ≡ 4 * length d.text → Allows d.version m.1 → with_entry m.1 d ≡ Some (marked d m)
+pub free_later : (n : ℕ) (entries : List ℕ) → Free n entries → Free (suc n) entries
+free_later n entries free k above = free k (omega (arith, above))
+
+pub free_behind : (n m : ℕ) (entries : List ℕ) → m ≡ 4 * n → Free n entries → Free (suc n) (entries ++ (m ∷ []))
+free_behind n m entries same free k above =
+    list_any-append (λ e. e == 4 * k) entries (m ∷ [])
+    ∙ rw (free k (omega (arith, above)), ne_eqb m (4 * k) (λ here. omega (arith, here, same, above))) refl
+
+one_place : (d : Layout) (m : ℕ × Option ℕ) → length d.text < 65536 → length d.entries < 1024 → Free (length d.text) d.entries → m.0 ≡ 4 * length d.text → with_place m.1 d ≡ Some (marked d m)
+unfolding with_place
+one_place d m h few free same =
+    let fits : nat_lt (length d.text) 65536 ≡ true = le-leb (suc (length d.text)) 65536 h in
+    let room : nat_lt (length d.entries) 1024 ≡ true = le-leb (suc (length d.entries)) 1024 few in
+    rw (fits, room, free (length d.text) (omega arith)) (ap (λ (e : ℕ). Some (record d { entries = d.entries ++ (e ∷ []); limits = d.limits ++ (m.1 ∷ []) })) (sym same))
+
+pub one_entry : (d : Layout) (m : ℕ × Option ℕ) → length d.text < 65536 → length d.entries < 1024 → Free (length d.text) d.entries → m.0 ≡ 4 * length d.text → Allows d.version m.1 → with_entry m.1 d ≡ Some (marked d m)
 unfolding with_entry
-one_entry d m h same allowed = ap (λ (o : Option Layout). o >>= with_place m.1) (own_allowed m.1 d allowed) ∙ one_place d m h same
+one_entry d m h few free same allowed = ap (λ (o : Option Layout). o >>= with_place m.1) (own_allowed m.1 d allowed) ∙ one_place d m h few free same
 
 pub one_word : (d : Layout) (w : ℕ) → length d.text < 65536 → with_word w d ≡ Some (worded d w)
 unfolding with_word
@@ -198,14 +221,19 @@ abbrev pub Above : ℕ → ℕ → List ℕ → Type 0
 Above low top [] = Unit {0}
 Above low top (e ∷ es) = (low ≤ e) × (e % 4 ≡ 0) × (e < top) × Above (e + 1) top es
 
-own_allows : (v : Version) (limit : ℕ) → Allows (Some v) (own_limit v limit)
-own_allows version.One limit = tt
-own_allows version.Two limit = refl
+own_allows : (v : Version) (limit : ℕ) → IsLimit limit → Allows (Some v) (own_limit v limit)
+own_allows version.One limit h = tt
+own_allows version.Two limit h = (refl, limit_is limit h)
 
-pub marks_are : (v : Version) (low top : ℕ) (es ls : List ℕ) → Above low top es → AreMarks (Some v) low top (marks v es ls)
-marks_are v low top [] ls h = tt
-marks_are v low top (e ∷ es) [] h = tt
-marks_are v low top (e ∷ es) (l ∷ ls) h = (h.0, h.1, h.2, own_allows v l, marks_are v (e + 1) top es ls h.3)
+pub marks_are : (v : Version) (low top : ℕ) (es ls : List ℕ) → AllByRecursion IsLimit ls → Above low top es → AreMarks (Some v) low top (marks v es ls)
+marks_are v low top [] ls limits h = tt
+marks_are v low top (e ∷ es) [] limits h = tt
+marks_are v low top (e ∷ es) (l ∷ ls) limits h = (h.0, h.1, h.2, own_allows v l limits.0, marks_are v (e + 1) top es ls limits.1 h.3)
+
+pub marks_few : (v : Version) (es ls : List ℕ) → length (marks v es ls) ≤ length es
+marks_few v [] ls = omega arith
+marks_few v (e ∷ es) [] = omega arith
+marks_few v (e ∷ es) (l ∷ ls) = omega (arith, marks_few v es ls)
 
 pub marks_entries : (v : Version) (es ls : List ℕ) → length ls ≡ length es → entries_of (marks v es ls) ≡ es
 marks_entries v [] ls h = refl
@@ -222,24 +250,31 @@ marks_limits v (e ∷ es) (l ∷ ls) h = ap (λ (xs : List (Option ℕ)). own_li
 abbrev holding : Layout → List ℕ → Layout
 holding d xs = record d { data_bytes = xs }
 
-one_datum : (d : Layout) (bytes : List ℕ) (w : ℕ) → d.section ≡ section.Data → length bytes + 4 ≤ 262144 → with_bytes (bytes_of_word w) (holding d bytes) ≡ Some (holding d (bytes ++ bytes_of_word w))
+-- .data is the only section of data
+abbrev pub IsAlone : Layout → Type 0
+IsAlone d = (d.rodata_bytes ≡ []) × (d.bss_bytes ≡ [])
+
+one_datum : (d : Layout) (bytes : List ℕ) (w : ℕ) → d.section ≡ section.Data → IsAlone d → length bytes + 4 ≤ 262144 → with_bytes (bytes_of_word w) (holding d bytes) ≡ Some (holding d (bytes ++ bytes_of_word w))
 unfolding with_bytes with_more
-one_datum d bytes w inside room =
+one_datum d bytes w inside alone room =
     let four : length (bytes_of_word w) ≡ 4 = length-bytes_of_word w in
     let fits : nat_le (length bytes + length (bytes_of_word w)) 262144 ≡ true = le-leb (length bytes + length (bytes_of_word w)) 262144 (omega (arith, room, four)) in
-    rw (inside, fits) refl
+    let next = holding d (bytes ++ bytes_of_word w) in
+    let left : nat_le (data_size next) 262144 ≡ true =
+    le-leb (data_size next) 262144 (omega (arith, room, four, length-append bytes (bytes_of_word w), ap length alone.0, ap length alone.1)) in
+    rw (inside, fits, left) refl
 
 word_in_data : (d : Layout) (w : ℕ) → d.section ≡ section.Data → after [] (say.Word w) d ≡ with_bytes (bytes_of_word w) d
 unfolding with_value
 word_in_data d w h = rw h refl
 
-data_laid : (d : Layout) (n : ℕ) (bytes ws : List ℕ) → d.section ≡ section.Data → length bytes + 4 * length ws ≤ 262144 → after_all (data_lines n ws) (holding d bytes) ≡ Some (holding d (bytes ++ bytes_of_words ws))
+data_laid : (d : Layout) (n : ℕ) (bytes ws : List ℕ) → d.section ≡ section.Data → IsAlone d → length bytes + 4 * length ws ≤ 262144 → after_all (data_lines n ws) (holding d bytes) ≡ Some (holding d (bytes ++ bytes_of_words ws))
 unfolding bytes_of_words
-data_laid d n bytes [] inside room = rw (append-nil bytes) refl
-data_laid d n bytes (w ∷ ws) inside room =
+data_laid d n bytes [] inside alone room = rw (append-nil bytes) refl
+data_laid d n bytes (w ∷ ws) inside alone room =
     let longer_by : length (bytes ++ bytes_of_word w) ≡ length bytes + 4 = length-append bytes (bytes_of_word w) ∙ ap (λ n. length bytes + n) (length-bytes_of_word w) in
-    ap (λ o. o >>= after_all (data_lines (n + 4) ws)) (word_in_data (holding d bytes) w inside ∙ one_datum d bytes w inside (omega (arith, room)))
-    ∙ data_laid d (n + 4) (bytes ++ bytes_of_word w) ws inside (omega (arith, room, longer_by))
+    ap (λ o. o >>= after_all (data_lines (n + 4) ws)) (word_in_data (holding d bytes) w inside ∙ one_datum d bytes w inside alone (omega (arith, room)))
+    ∙ data_laid d (n + 4) (bytes ++ bytes_of_word w) ws inside alone (omega (arith, room, longer_by))
     ∙ ap (λ xs. Some (holding d xs)) (append_assoc bytes (bytes_of_word w) (bytes_of_words ws))
 
 bytes_of_both : (xs ys : List ℕ) → bytes_of_words (xs ++ ys) ≡ bytes_of_words xs ++ bytes_of_words ys
@@ -256,13 +291,13 @@ fixed_laid d words inside first two =
     let count : length (bytes_of_words words) / 4 ≡ length words = omega (arith, size) in
     rw (version_again version.Two (holding d (bytes_of_words words)) two, inside, up_to, by_words, count) refl
 
-pub all_data_laid : (v : Version) (n : ℕ) (words : List ℕ) (d : Layout) → d.version ≡ Some v → d.section ≡ section.Data → d.data_from ≡ 0 → d.data_bytes ≡ [] → d.read_only ≡ 0 → n ≤ length words → length words ≤ 65536
+pub all_data_laid : (v : Version) (n : ℕ) (words : List ℕ) (d : Layout) → d.version ≡ Some v → d.section ≡ section.Data → IsAlone d → d.data_from ≡ 0 → d.data_bytes ≡ [] → d.read_only ≡ 0 → n ≤ length words → length words ≤ 65536
     → after_all (all_data v n words) d ≡ Some (record d { data_bytes = bytes_of_words words; read_only = read_only_by v n })
-all_data_laid version.One n words d said inside first none free few most =
+all_data_laid version.One n words d said inside alone first none free few most =
     ap (λ (xs : List ℕ). after_all (data_lines 1048576 words) (holding d xs)) none
-    ∙ data_laid d 1048576 [] words inside (omega (arith, most))
+    ∙ data_laid d 1048576 [] words inside alone (omega (arith, most))
     ∙ ap (λ (q : ℕ). Some (record d { data_bytes = bytes_of_words words; read_only = q })) free
-all_data_laid version.Two n words d said inside first none free few most =
+all_data_laid version.Two n words d said inside alone first none free few most =
     let front = take n words in
     let back = drop n words in
     let count : length front ≡ n = length-take-le n words few in
@@ -270,10 +305,10 @@ all_data_laid version.Two n words d said inside first none free few most =
     let sizes : length front + length back ≡ length words = sym (length-append front back) ∙ ap length split in
     let room : length (bytes_of_words front) + 4 * length back ≤ 262144 = omega (arith, length-bytes_of_words front, sizes, most) in
     let fixed : after_all (data_lines 1048576 front) d ≡ Some (holding d (bytes_of_words front)) =
-    ap (λ (xs : List ℕ). after_all (data_lines 1048576 front) (holding d xs)) none ∙ data_laid d 1048576 [] front inside (omega (arith, sizes, most)) in
+    ap (λ (xs : List ℕ). after_all (data_lines 1048576 front) (holding d xs)) none ∙ data_laid d 1048576 [] front inside alone (omega (arith, sizes, most)) in
     after_both (data_lines 1048576 front) (bare say.ReadOnly ∷ data_lines (1048576 + 4 * n) back) d (holding d (bytes_of_words front)) fixed
     ∙ ap (λ o. o >>= after_all (data_lines (1048576 + 4 * n) back)) (fixed_laid d front inside first said)
-    ∙ data_laid (record d { read_only = length front }) (1048576 + 4 * n) (bytes_of_words front) back inside room
+    ∙ data_laid (record d { read_only = length front }) (1048576 + 4 * n) (bytes_of_words front) back inside alone room
     ∙ ap (λ (xs : List ℕ). Some (record d { data_bytes = xs; read_only = length front })) (sym (bytes_of_both front back) ∙ ap bytes_of_words split)
     ∙ ap (λ (q : ℕ). Some (record d { data_bytes = bytes_of_words words; read_only = q })) count
 

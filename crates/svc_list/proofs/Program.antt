@@ -29,7 +29,7 @@ use Rattle.svc_list.proofs.LinesBack.{IsRead, by_directive, directive_stops, unl
 use Rattle.svc_list.proofs.NotesBack.{bare_ends, address_ends}
 use Rattle.svc_list.proofs.LabelsBack.{text_spot}
 use Rattle.svc_list.proofs.AimsBack.{label_value}
-use Rattle.svc_list.proofs.LayoutsBack.{MeansOne, Above, common_limit, layout_for, registers_in, settings_laid, are_zeros, marks_are, marks_entries, marks_limits, limits_of, all_data_laid, image_file}
+use Rattle.svc_list.proofs.LayoutsBack.{MeansOne, Above, common_limit, layout_for, registers_in, settings_laid, are_zeros, marks_are, marks_few, limit_laid, marks_entries, marks_limits, limits_of, all_data_laid, image_file}
 use Rattle.svc_list.proofs.Leading.{Leads, one_leads, leads_none, leads_both, leads_at, leads_whole, line_leads, lines_lead}
 use Rattle.svc_list.proofs.CodeBack.{Good, HaveLabels, with_code, words_in, names_in, known_address, unknown_address, here_is, placed_is, code_leads, words_known, names_known, names_found}
 use Rattle.svc_list.proofs.Printing.{listing_parts}
@@ -93,9 +93,9 @@ limits_small : (ls : List ℕ) → All IsLimit ls → AllByRecursion (λ l. l < 
 limits_small [] h = tt
 limits_small (l ∷ ls) h = (omega (arith, (All-head IsLimit l ls h).1), limits_small ls (All-tail IsLimit l ls h))
 
-first_small : (ls : List ℕ) → AllByRecursion (λ l. l < 2 ^ 32) ls → slice_index ls 0 < 2 ^ 32
-first_small [] h = omega arith
-first_small (l ∷ ls) h = h.0
+first_limit : (ls : List ℕ) → All IsLimit ls → 1 ≤ length ls → IsLimit (slice_index ls 0)
+first_limit [] h some = absurd (omega (arith, some))
+first_limit (l ∷ ls) h some = All-head IsLimit l ls h
 
 start_placed : (n s : ℕ) (es : List ℕ) → All (StartsWord n) es → list_any (λ e. e == s) es ≡ true → (s % 4 ≡ 0) × (s < 4 * n)
 start_placed n s [] placed any = absurd (cc)
@@ -189,7 +189,7 @@ start_at_label false d start pass text none begins =
 abbrev headed : Names → Bool → ℕ → Version → (limit start : ℕ) → Layout
 headed names known from v limit start = record (empty names known 0 from) { version = Some v; limit = common_limit v limit; start = Some start }
 
-head_leads : (v : Version) (limit start : ℕ) (names : Names) (known : Bool) (from : ℕ) → limit < 2 ^ 32 → Begins known names start
+head_leads : (v : Version) (limit start : ℕ) (names : Names) (known : Bool) (from : ℕ) → IsLimit limit → Begins known names start
     → Leads (text_of (head_lines v limit start)) (empty names known 0 from) (headed names known from v limit (begun known start))
 unfolding text_of with_version
 head_leads version.One limit start names known from fit begins =
@@ -198,7 +198,7 @@ head_leads version.One limit start names known from fit begins =
     let d₂ = record d₁ { limit = limit } in
     let d₃ = record d₂ { start = Some (begun known start) } in
     let last = leads_both (line_of (Starts start)) [] d₂ d₃ d₃ (start_leads d₂ start (begun known start) refl (start_at_label known d₂ start refl refl refl begins)) (leads_none d₃) in
-    let limits = leads_both (line_of (bare (say.Limit limit))) (line_of (Starts start) ++ []) d₁ d₂ d₃ (line_leads (say.Limit limit) [] d₁ d₂ refl fit bare_ends refl) last in
+    let limits = leads_both (line_of (bare (say.Limit limit))) (line_of (Starts start) ++ []) d₁ d₂ d₃ (line_leads (say.Limit limit) [] d₁ d₂ refl (omega (arith, fit.1)) bare_ends (limit_laid limit d₁ fit)) last in
     leads_both (line_of (bare (say.Version version.One))) (line_of (bare (say.Limit limit)) ++ (line_of (Starts start) ++ [])) d₀ d₁ d₃ (line_leads (say.Version version.One) [] d₀ d₁ refl tt bare_ends refl) limits
 head_leads version.Two limit start names known from fit begins =
     let d₀ = empty names known 0 from in
@@ -255,12 +255,12 @@ pass_leads law names known from img sound begins good =
     let d₅ = record d₄ { data_bytes = bytes_of_words img.words; read_only = read_only_by v img.read_only } in
     let top : 4 * count ≡ 4 * (0 + count) = omega arith in
     let above = above_from count 0 img.entries sound.entries_rise sound.entries_placed (λ e fs same. omega arith) in
-    let placed = marks_are v 0 (4 * (0 + count)) img.entries img.limits (subst (λ (t : ℕ). Above 0 t img.entries) top above) in
-    let first = head_leads v limit img.start names known from (first_small img.limits limits) begins in
+    let placed = marks_are v 0 (4 * (0 + count)) img.entries img.limits (recursion_from_All IsLimit img.limits sound.limits_fit) (subst (λ (t : ℕ). Above 0 t img.entries) top above) in
+    let first = head_leads v limit img.start names known from (first_limit img.limits sound.limits_fit (omega (arith, sound.limits_each, sound.entries_some))) begins in
     let second = lines_lead (settings 1 img.registers) d₁ d₂ refl (settings_text 1 img.registers (fits img.registers sound.registers_fit)) (settings_laid d₁ [] img.registers zeros 1 refl (sym sound.registers_all) (are_zeros zeros refl) (omega (arith, sound.registers_all))) in
-    let third = code_leads law known count labelled sound.text_few ms img.text 0 d₂ (omega arith) (fits img.text sound.text_fits) (marks_text v img.entries img.limits limits) placed (record { text = refl; words = refl; pass = refl; line = refl }) good (image_labels img) in
+    let third = code_leads law known count labelled sound.text_few ms img.text 0 d₂ (omega arith) (fits img.text sound.text_fits) (marks_text v img.entries img.limits limits) placed (record { text = refl; words = refl; pass = refl; line = refl }) (omega (arith, marks_few v img.entries img.limits, sound.entries_few)) (λ k above. refl) good (image_labels img) in
     let fourth = line_leads say.Data [] d₃ d₄ refl tt bare_ends refl in
-    let fifth = lines_lead (all_data v img.read_only img.words) d₄ d₅ refl (all_data_text v img.read_only img.words (fits img.words sound.words_fit)) (all_data_laid v img.read_only img.words d₄ refl refl refl refl refl sound.read_only_few sound.words_few) in
+    let fifth = lines_lead (all_data v img.read_only img.words) d₄ d₅ refl (all_data_text v img.read_only img.words (fits img.words sound.words_fit)) (all_data_laid v img.read_only img.words d₄ refl refl (refl, refl) refl refl refl sound.read_only_few sound.words_few) in
     let body = text_of (all_data v img.read_only img.words) in
     let words = text_of (code count labelled 0 ms img.text) in
     let sets = text_of (settings 1 img.registers) in

@@ -3,7 +3,7 @@
 mod rows;
 
 use rows::{LINES, WORDS};
-use std::alloc::Global;
+use std::alloc::{AllocError, Global};
 use svc_asm::assemble;
 use svc_image::Image;
 
@@ -159,12 +159,18 @@ const FAULTS: [(&str, &str); 11] = [
         "abcdefghijklmnopqrstuvwxyz x1\n",
         "1:1: found `abcdefghijklmnopqrstuvwx...`, expected an instruction or a directive",
     ),
-    ("a: nop\na: nop\n", "2:1: a label has a name of its own"),
+    (
+        "a: nop\na: nop\n",
+        "2:1: found `a`, expected a name that stands for nothing else",
+    ),
     (
         ".svc_version 1\n.svc_entry 5\n",
-        "2:1: the program has another version of the image format",
+        "2:1: found `.svc_entry`, expected directives of one version of the image",
     ),
-    ("nop\n", "a count of the image is out of range"),
+    (
+        "nop\n",
+        "2:1: found the end of the text, expected .svc_entry above an instruction",
+    ),
 ];
 
 #[test]
@@ -172,4 +178,28 @@ fn the_first_fault_is_told_where_it_stands(rt: HostRuntime) {
     for (text, wanted) in FAULTS {
         assert!(rt; is_told(rt.alloc(), text, wanted), "{wanted}");
     }
+}
+
+// A line of so many words 0 and one more.
+fn words_line(alloc: Global, count: usize) -> Result<String, AllocError> {
+    let mut line = String::new(alloc);
+    line.push_str(".word 0")?;
+    for _ in 0..count {
+        line.push_str(",0")?;
+    }
+    Ok(line)
+}
+
+// Whether this is told of such a line.
+fn is_told_of_words(alloc: Global, count: usize, wanted: &str) -> bool {
+    match words_line(alloc, count) {
+        Ok(line) => is_told(alloc, line.as_str(), wanted),
+        Err(_) => false,
+    }
+}
+
+#[test]
+fn a_word_too_many_is_told(rt: HostRuntime) {
+    let wanted = "1:131079: found `0`, expected no more than 65536 words of text";
+    assert!(rt; is_told_of_words(rt.alloc(), 65_536, wanted));
 }

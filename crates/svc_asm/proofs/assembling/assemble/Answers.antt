@@ -11,8 +11,8 @@ returns-in-Err-clause-whole c = λ img sound program.
 
 pub returns-in-Ok-finish-clause-whole : goal.returns-in-Ok-finish-clause-whole
 returns-in-Ok-finish-clause-whole c = λ img sound program.
-    c.in-Ok-finish.ensures.whole img sound (program_made c.args.text.now (layout_of c.in-Ok.draft) img c.in-Ok.ensures.ok program)
+    c.in-Ok-finish.ensures.whole img sound (program_made c.args.text.now (layout_of c.in-Ok.laid.0) img c.in-Ok.ensures.ok program)
 
 pub returns-in-Err-finish-clause-whole : goal.returns-in-Err-finish-clause-whole
 returns-in-Err-finish-clause-whole c = λ img sound program.
-    c.no_image.ensures (c.in-Err-finish.ensures.whole img sound (program_made c.args.text.now (layout_of c.in-Ok.draft) img c.in-Ok.ensures.ok program))
+    c.told-in-Err-finish.ensures (c.no_image.ensures (c.in-Err-finish.ensures.whole img sound (program_made c.args.text.now (layout_of c.in-Ok.laid.0) img c.in-Ok.ensures.ok program)))

@@ -1,14 +1,14 @@
-use Rattle.std.proofs.Common.{◌≡◌, inl, inr}
+use Rattle.std.proofs.Common.{inl, inr}
 use Rattle.std.proofs.lemmas.Result.{err_from_is_err_and}
 use Rattle.svc_draft.specs.Layouts.{layout_of}
 use Rattle.svc_asm.proofs.Program.{not_laid}
 use Rattle.svc_asm.proofs.assembling.lay.Goals as goal
 
-pub returns-in_err-take_lines-2-clause-err : goal.returns-in_err-take_lines-2-clause-err
-returns-in_err-take_lines-2-clause-err c =
-    let p = err_from_is_err_and c.from_residual-in_err-take_lines-2.result c.from_residual-in_err-take_lines-2.ensures.1 in
+pub returns-in_err-start-clause-err : goal.returns-in_err-start-clause-err
+returns-in_err-start-clause-err c =
+    let p = err_from_is_err_and c.from_residual-in_err-start.result c.from_residual-in_err-start.ensures.1 in
     let said = c.in_ok-take_lines.ensures.ok in
-    rw (p.1, p.2) (elim c.in_err-take_lines-2.ensures.err [
+    rw (p.1, p.2) (elim c.in_err-start.ensures.err [
       | inl memory ↦ inl memory
       | inr none ↦ inr (not_laid c.args.text.now said.0 (layout_of c.new-first.result) (layout_of c.take_lines.new.draft) (layout_of c.again-draft.result) c.new-first.ensures said.1 c.again-draft.ensures none)
     ])

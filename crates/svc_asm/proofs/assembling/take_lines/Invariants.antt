@@ -1,4 +1,4 @@
-use Rattle.std.proofs.Common.{◌≡◌, List, length}
+use Rattle.std.proofs.Common.{List, length}
 use Rattle.svc_draft.specs.declared.statement.Statement.{Statement}
 use Rattle.svc_draft.specs.Layouts.{Layout, layout_of}
 use Rattle.svc_asm.specs.Programs.{Makes}

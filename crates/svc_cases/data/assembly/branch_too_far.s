@@ -1,0 +1,3 @@
+.svc_entry
+    beqz a0, . + 4096
+    ecall

@@ -1,0 +1,3 @@
+.svc_entry
+    ecall
+    .byte 1

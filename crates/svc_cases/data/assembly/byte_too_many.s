@@ -1,0 +1,5 @@
+.svc_entry
+    ecall
+.data
+    .zero 262144
+    .byte 1

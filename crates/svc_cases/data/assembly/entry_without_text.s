@@ -1,0 +1,3 @@
+.data
+.svc_entry
+    .word 1

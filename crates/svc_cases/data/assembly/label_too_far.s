@@ -1,0 +1,4 @@
+.set far, 4100
+.svc_entry
+    nop
+    beqz a0, far

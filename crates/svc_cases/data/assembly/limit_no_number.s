@@ -1,0 +1,3 @@
+.svc_limit ten
+.svc_entry
+    ecall

@@ -1,0 +1,3 @@
+.svc_limit 0
+.svc_entry
+    ecall

@@ -1,0 +1,4 @@
+.set here, 4
+.set here, 8
+.svc_entry
+    ecall

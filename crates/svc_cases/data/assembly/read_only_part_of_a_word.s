@@ -1,0 +1,5 @@
+.svc_entry
+    ecall
+.data
+    .half 1
+.svc_readonly

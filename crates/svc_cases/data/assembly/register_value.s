@@ -1,0 +1,3 @@
+.svc_register a0, nowhere
+.svc_entry
+    ecall

@@ -1,0 +1,3 @@
+.svc_entry
+    ecall
+here:   .svc_start   here  # 4

@@ -1,0 +1,4 @@
+.svc_entry
+here:
+.svc_entry
+    ecall

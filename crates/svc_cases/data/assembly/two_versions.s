@@ -1,0 +1,4 @@
+.svc_version 1
+.svc_version 2
+.svc_entry
+    ecall

@@ -1,0 +1,1 @@
+.svc_version 3
