@@ -1,6 +1,6 @@
 // Text, to an image, in two passes: the first finds the labels.
 
-ghost use Rattle.std.specs.Prelude.{◌≡◌, ℕ, ◌⊎◌, List, IfOk, IfErr, OnOk, MatchResult};
+ghost use Rattle.std.specs.Prelude.{◌≡◌, ℕ, ◌⊎◌, List, IfOk, IfErr, MatchResult};
 ghost use Rattle.svc_image.specs.Image.{IsImage};
 ghost use Rattle.svc_image.specs.Image as value;
 ghost use Rattle.svc_draft.specs.declared.statement.Statement.{Statement};
@@ -103,7 +103,8 @@ fn start_behind(said: Statement, line: &[u8], before: usize) -> usize {
 
 // Adds what every line says, and answers how many bytes are left from the value of the last `.svc_start` on.
 fn take_lines<'a>(text: &'a [u8], draft: &mut Draft<'a>) -> Result<usize, Stop>
-    ensures ok { IfOk result (λ _. (ss : List Statement) × Makes ss text.now (layout_of draft.old) (layout_of draft.new)) }
+    ensures ok { IfOk result (λ _.
+        (ss : List Statement) × Makes ss text.now (layout_of draft.old) (layout_of draft.new)) }
     ensures err { IfErr result (λ e. (e ≡ halt.Memory)
         ⊎ ((ss : List Statement) (made : Layout) → Makes ss text.now (layout_of draft.old) made → ⊥)) }
 {

@@ -75,6 +75,6 @@ pub fn read_blank(blank: Blank, text: &[u8]) -> Result<(Statement, &[u8]), Unrea
     let (number, rest) = read_number(text)?;
     match blank_of(blank, number) {
         Some(statement) => Ok((statement, rest)),
-        None => Err(stopped_at(text, Wanted::Field)),
+        None => Err(stopped_at(text, Wanted::Power)),
     }
 }

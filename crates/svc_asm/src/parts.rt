@@ -186,6 +186,15 @@ fn fitted(width: Width, number: Signed) -> Option<u32>
     }
 }
 
+// A number of so many bytes, as what may stand at a place.
+fn number_in(width: Width) -> Wanted {
+    match width {
+        Width::Byte => Wanted::Byte,
+        Width::Half => Wanted::Half,
+        Width::Word => Wanted::Number,
+    }
+}
+
 /// The end of a line, behind which a line is read.
 #[tactic(auto, unfolding(crate::specs::DataLines::over_at))]
 pub fn read_over(text: &[u8]) -> Result<(Next, &[u8]), Unread>
@@ -225,7 +234,7 @@ fn read_item<'a>(
     let (signed, rest) = read_datum(draft, text)?;
     let number = match fitted(width, signed) {
         Some(number) => number,
-        None => return Err(stopped_at(text, Wanted::Field)),
+        None => return Err(stopped_at(text, number_in(width))),
     };
     let (next, rest) = read_going(Next::Value(width), rest)?;
     Ok((Statement::Value(width, number, next), rest))

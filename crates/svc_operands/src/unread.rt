@@ -78,9 +78,15 @@ pub enum Wanted {
     /// What may follow a backslash.
     #[error("a letter of an escape or an octal digit")]
     Escape,
-    /// A number that the directive's bytes have room for.
-    #[error("a number that fits")]
-    Field,
+    /// A number that one byte has room for, with its sign or without.
+    #[error("a number from -128 to 255")]
+    Byte,
+    /// A number that two bytes have room for.
+    #[error("a number from -32768 to 65535")]
+    Half,
+    /// The power of two of an alignment.
+    #[error("a number from 0 to 16")]
+    Power,
     /// A number, a dot or a name that was set before.
     #[error("a number, a dot or a name that stands above")]
     Symbol,
