@@ -183,8 +183,7 @@ fn list_active(
 }
 
 impl VersionList {
-    /// A list without lines.
-    #[inline(always)]
+    /// An empty list.
     pub fn new() -> VersionList
         ensures committed { result.committed ≡ [] }
         ensures active { result.active ≡ [] }
@@ -216,7 +215,7 @@ impl VersionList {
         list
     }
 
-    /// The valid lines of the word come into a list without lines. Each cache is searched once.
+    /// The valid lines of the word are put into an empty list. Each cache is searched once.
     pub fn fill(&mut self, caches: &[Cache], queue: &TaskQueue, word: WordAddr, probes: &mut Probes)
         requires empty { (self.old.committed ≡ []) × (self.old.active ≡ []) }
         requires few { length caches.now ≤ CAPACITY }
