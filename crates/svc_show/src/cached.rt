@@ -70,7 +70,8 @@ impl Cached {
     /// What so many caches have of a named word.
     pub(crate) fn of(machine: &Machine, units: u32, named: Named) -> Cached
         requires few { units ≤ 16 }
-        ensures line { result.line ≡ list_any (is_named_line (observed machine.now.bus) named) (range_with_len 0 units) }
+        ensures line { result.line
+            ≡ list_any (is_named_line (observed machine.now.bus) named) (range_with_len 0 units) }
         ensures versions { AreVersions (observed machine.now.bus) named units result.versions }
     {
         let mut cached = Cached {

@@ -54,7 +54,8 @@ fn write_unit(
     named: &[Named],
     rows: &mut Vec<u8>,
 ) -> Result<(), ReportError>
-    ensures ok { OnOk result (rows.new.items ≡ rows.old.items ++ flat_map (named_line (observed machine.now.bus) unit.0) named.now) }
+    ensures ok { OnOk result
+        (rows.new.items ≡ rows.old.items ++ flat_map (named_line (observed machine.now.bus) unit.0) named.now) }
     ensures err { IfErr result (λ e. e ≡ Memory) }
 {
     for one in named {
@@ -71,7 +72,8 @@ pub(crate) fn write_lines(
     rows: &mut Vec<u8>,
 ) -> Result<(), ReportError>
     requires few { units ≤ 16 }
-    ensures ok { OnOk result (rows.new.items ≡ rows.old.items ++ named_lines units (observed machine.now.bus) named.now) }
+    ensures ok { OnOk result
+        (rows.new.items ≡ rows.old.items ++ named_lines units (observed machine.now.bus) named.now) }
     ensures err { IfErr result (λ e. e ≡ Memory) }
 {
     for unit in 0..units {

@@ -29,7 +29,8 @@ fn write_spill(word: WordAddr, value: u32, rows: &mut Vec<u8>) -> Result<(), Rep
 // Writes the row of the word, where it is spilled.
 fn write_spill_of(machine: &Machine, word: WordAddr, rows: &mut Vec<u8>) -> Result<(), ReportError>
     requires in_data { word.0 < data_words machine.now.image }
-    ensures ok { OnOk result (rows.new.items ≡ rows.old.items ++ optional (spill_row word.0) ((observed machine.now.bus).spill word.0)) }
+    ensures ok { OnOk result
+        (rows.new.items ≡ rows.old.items ++ optional (spill_row word.0) ((observed machine.now.bus).spill word.0)) }
     ensures err { IfErr result (λ e. e ≡ Memory) }
 {
     match spill_of(machine, word) {
@@ -45,7 +46,8 @@ pub(crate) fn write_spills(
     rows: &mut Vec<u8>,
 ) -> Result<(), ReportError>
     requires in_data { AllByRecursion (λ n. n.word.0 < data_words machine.now.image) named.now }
-    ensures ok { OnOk result (rows.new.items ≡ rows.old.items ++ flat_map (named_spill (observed machine.now.bus)) named.now) }
+    ensures ok { OnOk result
+        (rows.new.items ≡ rows.old.items ++ flat_map (named_spill (observed machine.now.bus)) named.now) }
     ensures err { IfErr result (λ e. e ≡ Memory) }
 {
     for one in named {
@@ -95,7 +97,8 @@ pub(crate) fn write_words(
 ) -> Result<(), ReportError>
     requires own { AllByRecursion (HasItsLines (observed machine.now.bus) (data_words machine.now.image)) named.now }
     ensures ok { let m = machine.now in
-        OnOk result (rows.new.items ≡ rows.old.items ++ flat_map (named_memory m.image m.config m.plain (observed m.bus)) named.now) }
+        OnOk result (rows.new.items ≡ rows.old.items
+        ++ flat_map (named_memory m.image m.config m.plain (observed m.bus)) named.now) }
     ensures err { IfErr result (λ e. e ≡ Memory) }
 {
     for one in named {

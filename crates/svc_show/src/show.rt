@@ -27,7 +27,8 @@ fn write_all_lines(
 ) -> Result<(), ReportError>
     requires held { IsHeldBy (observed machine.now.bus) (data_words machine.now.image) named.now }
     ensures ok { let m = machine.now in
-        OnOk result (rows.new.items ≡ rows.old.items ++ line_rows m.config.units (data_words m.image) (observed m.bus)) }
+        OnOk result (rows.new.items ≡ rows.old.items
+        ++ line_rows m.config.units (data_words m.image) (observed m.bus)) }
     ensures err { IfErr result (λ e. e ≡ Memory) }
 {
     let units = machine.config().units;
@@ -56,7 +57,8 @@ fn write_all_words(
 ) -> Result<(), ReportError>
     requires held { IsHeldBy (observed machine.now.bus) (data_words machine.now.image) named.now }
     ensures ok { let m = machine.now in
-        OnOk result (rows.new.items ≡ rows.old.items ++ memory_rows m.image m.config m.plain (observed m.bus) (data_words m.image)) }
+        OnOk result (rows.new.items ≡ rows.old.items
+        ++ memory_rows m.image m.config m.plain (observed m.bus) (data_words m.image)) }
     ensures err { IfErr result (λ e. e ≡ Memory) }
 {
     write_words(machine, named, rows)

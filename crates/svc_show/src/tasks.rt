@@ -66,7 +66,8 @@ fn number_at(machine: &Machine, place: usize) -> u64
 fn write_task_at(machine: &Machine, place: usize, rows: &mut Vec<u8>) -> Result<(), ReportError>
     requires active { place < length machine.now.plain.tasks }
     ensures ok { let m = machine.now in
-        OnOk result (rows.new.items ≡ rows.old.items ++ optional (task_row (m.plain.commits + place)) (task_of m place)) }
+        OnOk result (rows.new.items ≡ rows.old.items
+        ++ optional (task_row (m.plain.commits + place)) (task_of m place)) }
     ensures err { IfErr result (λ e. e ≡ Memory) }
 {
     match machine.task_at(place) {

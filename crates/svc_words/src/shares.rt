@@ -101,7 +101,8 @@ pub(crate) fn shares_of(
     ensures shares { IfOk result (λ shares. shares.items ≡ all_shares entries.now) }
     ensures err { IfErr result (λ e. e ≡ Memory) }
 {
-    let mut shares = Vec::new(alloc);
+    // nearly each share is an entry's
+    let mut shares = Vec::with_capacity(alloc, entries.len())?;
     push_entries(entries, &mut shares)?;
     push_tasks(entries, runs, &mut shares)?;
     Ok(shares)

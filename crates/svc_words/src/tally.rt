@@ -18,6 +18,7 @@ fn add(share: WordShare, words: &mut BTreeMap<u32, Counts>) -> Result<(), Report
     ensures adds { OnOk result (Adds share words.old words.new) }
     ensures err { IfErr result (λ e. e ≡ Memory) }
 {
+    // the first share of a word, which is the only one of most words, takes one search
     if let Some(counted) = words.insert(share.word, share.counts)? {
         words.insert(share.word, counted.plus(share.counts))?;
     }

@@ -77,7 +77,7 @@ fn push_row(word: u32, counts: &Counts, rows: &mut Vec<u8>) -> Result<(), Report
     Ok(())
 }
 
-// Adds the row of a word that an entry names.
+// Adds the row of a word if an entry names it, as one names each word for which something is counted.
 fn push_named(word: u32, counts: &Counts, rows: &mut Vec<u8>) -> Result<(), ReportError>
     ensures ok { OnOk result (rows.new.items ≡ rows.old.items ++ named_row (word, counts.now)) }
     ensures err { IfErr result (λ e. e ≡ Memory) }
