@@ -9,6 +9,7 @@ use Rattle.svc_history_laws.specs.Entries.{entry_of}
 use Rattle.svc_history.specs.Recorded.{Recorded, standing_of}
 use Rattle.svc_schedule.specs.declared.step.TheConstants.{EVERY_UNIT}
 use Rattle.svc_schedule.specs.Moves.{IsMade, IsPassed}
+use Rattle.svc_schedule.specs.Orders.{around}
 use Rattle.svc_schedule.specs.Steps.{FirstMoves, asked}
 
 -- units that are passed over may stand before others
@@ -42,8 +43,12 @@ one_more most old new [] first = absurd first
 one_more most old new (u ∷ us) (inl made) = made_one most old new u made
 one_more most old new (u ∷ us) (inr (passed, first)) = one_more most old new us first
 
+-- the code's units are all of them, by number
+by_number : EVERY_UNIT ≡ around 0 16
+by_number = refl
+
 -- each unit below 16 is among all of them
-each_at : (k : ℕ) → k < 16 → get_or EVERY_UNIT k (record { 0 = 0 }) ≡ record { 0 = k }
+each_at : (k : ℕ) → k < 16 → get_or (around 0 16) k (record { 0 = 0 }) ≡ record { 0 = k }
 each_at zero h = refl
 each_at (suc zero) h = refl
 each_at (suc (suc zero)) h = refl
@@ -62,15 +67,17 @@ each_at (suc (suc (suc (suc (suc (suc (suc (suc (suc (suc (suc (suc (suc (suc ze
 each_at (suc (suc (suc (suc (suc (suc (suc (suc (suc (suc (suc (suc (suc (suc (suc zero))))))))))))))) h = refl
 each_at (suc (suc (suc (suc (suc (suc (suc (suc (suc (suc (suc (suc (suc (suc (suc (suc k)))))))))))))))) h = absurd (omega (arith, h))
 
-each_passed : (most : ℕ) (old : Recorded) → All (IsPassed most old) EVERY_UNIT → (k : ℕ) → k < 16 → IsPassed most old (record { 0 = k })
-each_passed most old all k h = subst (IsPassed most old) (each_at k h) (All-get_or (IsPassed most old) EVERY_UNIT k (record { 0 = 0 }) h all)
+each_passed : (most : ℕ) (old : Recorded) → All (IsPassed most old) (around 0 16) → (k : ℕ) → k < 16 → IsPassed most old (record { 0 = k })
+each_passed most old all k h = subst (IsPassed most old) (each_at k h) (All-get_or (IsPassed most old) (around 0 16) k (record { 0 = 0 }) h all)
 
 -- where the named units are passed over, one of all units moves, as some unit does
 pub one_of_all : (most : ℕ) (old mid new : Recorded) (named : List UnitId) (moved : Bool) → mid ≡ old → All (IsPassed most old) named
     → (moved ≡ true → FirstMoves most mid new EVERY_UNIT) → (moved ≡ false → (new ≡ mid) × All (IsPassed most mid) EVERY_UNIT)
     → (((unit : ℕ) → unit < 16 → IsPassed most old (record { 0 = unit })) → ⊥) → FirstMoves most old new (asked named)
-one_of_all most old mid new named true same all first none stuck = passes_on most old new named EVERY_UNIT all (subst (λ r. FirstMoves most r new EVERY_UNIT) same (first refl))
-one_of_all most old mid new named false same all first none stuck = absurd (stuck (each_passed most old (subst (λ r. All (IsPassed most r) EVERY_UNIT) same (none refl).1)))
+one_of_all most old mid new named true same all first none stuck =
+    passes_on most old new named (around 0 16) all (subst (λ r. FirstMoves most r new (around 0 16)) same (subst (FirstMoves most mid new) by_number (first refl)))
+one_of_all most old mid new named false same all first none stuck =
+    absurd (stuck (each_passed most old (subst (λ r. All (IsPassed most r) (around 0 16)) same (subst (All (IsPassed most mid)) by_number (none refl).1))))
 
 -- ---- the loop over units
 

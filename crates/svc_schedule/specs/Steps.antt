@@ -9,8 +9,8 @@ use Rattle.svc_core_laws.specs.Sequence.{ending_of, plain_seq}
 use Rattle.svc_machine.specs.Reads.{is_full}
 use Rattle.svc_machine.specs.Value.{MachineValue}
 use Rattle.svc_history.specs.Recorded.{Recorded, IsLegal}
-use Rattle.svc_schedule.specs.declared.step.TheConstants.{EVERY_UNIT}
 use Rattle.svc_schedule.specs.Moves.{IsMade, IsPassed}
+use Rattle.svc_schedule.specs.Orders.{around}
 
 -- the first of these units whose move isn't refused makes it: the ones before it are passed over, and its event is
 -- accepted
@@ -18,9 +18,9 @@ abbrev pub FirstMoves : (most : ℕ) → (old new : Recorded) → List UnitId �
 FirstMoves most old new [] = ⊥
 FirstMoves most old new (unit ∷ units) = IsMade most old new unit ⊎ (IsPassed most old unit × FirstMoves most old new units)
 
--- the units that a step asks, in order: those that are named, and then each by number
+-- the units that a step asks, in order: those that are named, and then each of the 16 that there may be, by number
 abbrev pub asked : (named : List UnitId) → List UnitId
-asked named = named ++ EVERY_UNIT
+asked named = named ++ around 0 16
 
 -- so many steps of a policy, which lead from one policy and history to others; before each the machine stands where the
 -- history leads

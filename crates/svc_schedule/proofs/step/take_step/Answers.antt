@@ -1,7 +1,7 @@
 use Rattle.std.proofs.Common.{subst, sym}
 use Rattle.svc_history.specs.Recorded.{Recorded}
 use Rattle.svc_schedule.specs.Bursts.{AreReady}
-use Rattle.svc_schedule.specs.declared.step.TheConstants.{EVERY_UNIT}
+use Rattle.svc_schedule.specs.Orders.{around}
 use Rattle.svc_schedule.proofs.Going.{someone_moves}
 use Rattle.svc_schedule.proofs.Stepping.{one_of_all, stops_in}
 use Rattle.svc_schedule.proofs.step.take_step.Goals as goal
@@ -13,7 +13,7 @@ ask_in_turn-moved-requires c =
 
 pub returns-then-ask_in_turn-clause-moves : goal.returns-then-ask_in_turn-clause-moves
 returns-then-ask_in_turn-clause-moves c =
-    stops_in c.args.most c.args.recorder.now c.ask_in_turn.new.recorder c.args.named.now EVERY_UNIT (c.ask_in_turn.ensures.moved c.if-ask_in_turn.true)
+    stops_in c.args.most c.args.recorder.now c.ask_in_turn.new.recorder c.args.named.now (around 0 16) (c.ask_in_turn.ensures.moved c.if-ask_in_turn.true)
 
 pub returns-clause-moves : goal.returns-clause-moves
 returns-clause-moves c =
