@@ -125,11 +125,15 @@ impl Recorder {
     {
         let _entries = &self.entries;
         let machine = self.machine_with(unit)?;
+        let ended = self.has_ended();
+        let is_head = machine.is_head(unit);
+        let guess = machine.guess();
+        // The lease is copied last, so that it comes to its place at once.
         Ok(Glance {
-            ended: self.has_ended(),
+            ended,
             lease: machine.lease(unit).copied(),
-            is_head: machine.is_head(unit),
-            guess: machine.guess(),
+            is_head,
+            guess,
         })
     }
 
