@@ -1,5 +1,5 @@
 -- What it means to do what a command line asks for.
-use Rattle.std.specs.Prelude.{◌≡◌, ⊤, ℕ, false, List, Option, Some, None, IfSome, ◌++◌, codes, string_bytes}
+use Rattle.std.specs.Prelude.{◌≡◌, ◌⊎◌, ⊤, ℕ, false, List, Option, Some, None, IfSome, ◌++◌, codes, string_bytes}
 use Rattle.std.specs.Io.KnownBytes.{Appends}
 use Rattle.std.specs.List.{AllByRecursion}
 use Rattle.svc_image.specs.Image.{Image}
@@ -17,9 +17,12 @@ use Rattle.svc_program.specs.declared.request.Source.TheVariants as source
 use Rattle.svc_program.specs.declared.request.Request.{Request}
 use Rattle.svc_program.specs.declared.request.Request.TheVariants as request
 use Rattle.svc_program.specs.declared.request.TheConstants.{VERSION}
+use Rattle.svc_program.specs.declared.faults.Fault.{Fault}
+use Rattle.svc_program.specs.declared.faults.Fault.TheVariants as fault
 use Rattle.svc_program.specs.Assembly.{Assembles, Lists}
 use Rattle.svc_program.specs.Costs.{TellsCost}
 use Rattle.svc_program.specs.Drawings.{IsDrawn}
+use Rattle.svc_program.specs.Faults.{IsReportFault}
 use Rattle.svc_program.specs.Runs.{FindsSound, GoesBy, IsRunOf, Reports, ReportsRun}
 use Rattle.svc_program.specs.Scripts.{PlaysScript}
 use Rattle.svc_program.specs.Shown.{TellsMachine}
@@ -99,3 +102,7 @@ KeepsFiles (request.Run from config schedule (Some name) row) held saved = ⊤
 KeepsFiles (request.Draw from config trace picture first count) held saved = ⊤
 KeepsFiles (request.Assemble text image) held saved = ⊤
 KeepsFiles _ held saved = saved ≡ held
+
+-- a request that fails has changed no file, but where its fault is that of a file or of a text: such a fault may come while one is written, or behind that
+abbrev pub Spares : Fault → (held saved : List ℕ → Option (List ℕ)) → Type 0
+Spares f held saved = (f ≡ fault.File) ⊎ IsReportFault f ⊎ (saved ≡ held)

@@ -3,6 +3,7 @@
 ghost use Rattle.std.specs.Prelude.{◌≡◌, ◌⊎◌, IfOk, IfErr, IfSome};
 ghost use Rattle.svc_program.specs.Assembly.{Assembles, Lists};
 ghost use Rattle.svc_program.specs.Faults.{IsReportFault};
+ghost use Rattle.svc_program.specs.Requests.{Spares};
 
 use crate::faults::Fault;
 use crate::files::Files;
@@ -24,7 +25,8 @@ pub fn assemble_file<F: Files>(
     image: &str,
     files: &mut F,
 ) -> Result<u8, Fault>
-    ensures { IfOk result (Assembles (F.held files.old text.now) (F.held files.new image.now)) }
+    ensures done { IfOk result (Assembles (F.held files.old text.now) (F.held files.new image.now)) }
+    ensures spared { IfErr result (λ fault. Spares fault (F.held files.old) (F.held files.new)) }
 {
     let bytes = load_text(alloc, text, files)?;
     let made = match assemble(alloc, &bytes) {

@@ -3,7 +3,7 @@
 ghost use Rattle.std.specs.Prelude.{◌≡◌, ◌⊎◌, Err, IfOk, IfErr};
 ghost use Rattle.svc_program.specs.Faults.{IsEarly, IsReportFault};
 ghost use Rattle.svc_program.specs.Names.{IsOverItself};
-ghost use Rattle.svc_program.specs.Requests.{Does, HasImage, KeepsFiles, Shows, version_row};
+ghost use Rattle.svc_program.specs.Requests.{Does, HasImage, KeepsFiles, Shows, Spares, version_row};
 
 use crate::assembly::assemble_file;
 use crate::faults::Fault;
@@ -36,6 +36,7 @@ pub fn perform<R: Threads + Wait + Sync, F: Files, O: Write>(
     ensures silent { IfErr result (λ fault. IsReportFault fault ⊎ (out.new ≡ out.old)) }
     ensures order { IfErr result (λ fault. IsEarly fault ⊎ HasImage request.entry (F.held files.old)) }
     ensures kept { KeepsFiles request.entry (F.held files.old) (F.held files.new) }
+    ensures spared { IfErr result (λ fault. Spares fault (F.held files.old) (F.held files.new)) }
 
     // Nothing is read or written if that would lose a file.
     ensures apart { IsOverItself request.entry → (result ≡ Err Fault.File) × (F.held files.new ≡ F.held files.old)
@@ -60,6 +61,7 @@ fn dispatch<R: Threads + Wait + Sync, F: Files, O: Write>(
     ensures silent { IfErr result (λ fault. IsReportFault fault ⊎ (out.new ≡ out.old)) }
     ensures order { IfErr result (λ fault. IsEarly fault ⊎ HasImage request.entry (F.held files.old)) }
     ensures kept { KeepsFiles request.entry (F.held files.old) (F.held files.new) }
+    ensures spared { IfErr result (λ fault. Spares fault (F.held files.old) (F.held files.new)) }
 {
     match request {
         Request::Help(text) => show_help(&text, out),

@@ -3,7 +3,7 @@
 ghost use Rattle.std.specs.Prelude.{◌≡◌, None, IfOk, IfErr, IfSome};
 ghost use Rattle.svc_image.specs.Format.{file_of};
 ghost use Rattle.svc_program.specs.Faults.{IsEarly};
-ghost use Rattle.svc_program.specs.Requests.{IsOfSource, IsScriptIn, IsTraceIn, SavesTrace};
+ghost use Rattle.svc_program.specs.Requests.{IsOfSource, IsScriptIn, IsTraceIn, SavesTrace, Spares};
 
 use crate::faults::Fault;
 use crate::files::Files;
@@ -83,6 +83,7 @@ pub fn save_trace<F: Files>(
 ) -> Result<(), Fault>
     ensures saved { IfOk result (λ _. IfSome name.entry (λ name. SavesTrace (F.held files.new) name.now entries.now)) }
     ensures kept { name.entry ≡ None → F.held files.new ≡ F.held files.old }
+    ensures spared { IfErr result (λ fault. Spares fault (F.held files.old) (F.held files.new)) }
 {
     let Some(name) = name else {
         return Ok(());

@@ -3,7 +3,7 @@
 ghost use Rattle.std.specs.Prelude.{ℕ, List, Option, ◌≡◌, ◌⊎◌, IfOk, IfErr};
 ghost use Rattle.svc_program.specs.declared.request.Request.TheVariants as request;
 ghost use Rattle.svc_program.specs.Faults.{IsEarly, IsReportFault};
-ghost use Rattle.svc_program.specs.Requests.{Does, IsOfSource, IsThere, IsTraceIn, KeepsFiles};
+ghost use Rattle.svc_program.specs.Requests.{Does, IsOfSource, IsThere, IsTraceIn, KeepsFiles, Spares};
 
 use crate::assembly::list_image;
 use crate::check::check;
@@ -45,6 +45,7 @@ pub(crate) fn do_run<R: Threads + Wait + Sync, F: Files, O: Write>(
     ensures order { IfErr result (λ fault. IsEarly fault ⊎ IsThere (F.held files.old) image.entry) }
     ensures kept { KeepsFiles (request.Run image.entry config schedule trace.entry row.entry) (F.held files.old)
         (F.held files.new) }
+    ensures spared { IfErr result (λ fault. Spares fault (F.held files.old) (F.held files.new)) }
 {
     let image = load_image(alloc, image, files)?;
     let recorder = run_image(rt, alloc, &image, config, schedule)?;
@@ -181,6 +182,7 @@ pub(crate) fn do_draw<F: Files>(
         → Does (request.Draw image.entry config trace.entry picture.entry from count) (F.held files.old)
         (F.held files.new) out out exit) }
     ensures order { IfErr result (λ fault. IsEarly fault ⊎ IsThere (F.held files.old) image.entry) }
+    ensures spared { IfErr result (λ fault. Spares fault (F.held files.old) (F.held files.new)) }
 {
     let (image, entries) = load_traced(alloc, image, trace, files)?;
     let text = draw_trace(alloc, &image, config, &entries, from, count)?;
