@@ -103,6 +103,7 @@ KeepsFiles (request.Draw from config trace picture first count) held saved = ⊤
 KeepsFiles (request.Assemble text image) held saved = ⊤
 KeepsFiles _ held saved = saved ≡ held
 
--- a request that fails has changed no file, but where its fault is that of a file or of a text: such a fault may come while one is written, or behind that
+-- a request that fails has changed no file, unless its fault is that of a file or of a text, which may come while a file is written
+-- or after that
 abbrev pub Spares : Fault → (held saved : List ℕ → Option (List ℕ)) → Type 0
 Spares f held saved = (f ≡ fault.File) ⊎ IsReportFault f ⊎ (saved ≡ held)
