@@ -1,9 +1,11 @@
 -- What the words of a command line may ask for.
-use Rattle.std.specs.Prelude.{◌≡◌, ◌≤◌, ◌↔◌, ◌⊎◌, ⊤, ℕ, List, Some, length, map, codes, slice_get, string_bytes}
+use Rattle.std.specs.Prelude.{◌≡◌, ◌≤◌, ◌↔◌, ◌⊎◌, ℕ, List, Option, None, Some, length, map, codes, slice_get, string_bytes}
 use Rattle.std.specs.declared.string.String.{String}
+use Rattle.svc_base.specs.declared.config.Config.{Config}
 use Rattle.svc_program.specs.declared.request.Source.TheVariants as source
 use Rattle.svc_program.specs.declared.request.Request.{Request}
 use Rattle.svc_program.specs.declared.request.Request.TheVariants as request
+use Rattle.svc_program.specs.Requests.{KeepsFiles}
 
 -- the texts of words, the program's name first
 abbrev pub texts : {A : Type 0} → List (String A) → List (List ℕ)
@@ -25,9 +27,17 @@ Has kind words = (k : ℕ) × (word : List ℕ) × (slice_get words k ≡ Some w
 abbrev pub IsNamed : List ℕ → List (List ℕ) → Type 0
 IsNamed name words = slice_get words 1 ≡ Some name
 
--- to run the built-in image
+-- one unit, 16 sets of 2 lines, 100,000 events and 1,000,000 turns
+pub record IsFirst (c : Config) : Type 0 where
+  pub units : c.units ≡ 1
+  pub sets : c.sets ≡ 16
+  pub ways : c.ways ≡ 2
+  pub events : c.events ≡ 100000
+  pub turns : c.turns ≡ 1000000
+
+-- to run the built-in image so by a thread, to save nothing, and to print the summary
 abbrev pub IsBuiltInRun : Request → Type 0
-IsBuiltInRun (request.Run source.BuiltIn config schedule trace row) = ⊤
+IsBuiltInRun (request.Run source.BuiltIn config schedule trace row) = IsFirst config × (schedule ≡ None) × (trace ≡ None) × (row ≡ None)
 IsBuiltInRun _ = ⊥
 
 -- the words name what is asked for: help or the version by a word of its own, and else the subcommand
@@ -49,3 +59,7 @@ Names words (request.List from) = IsNamed (codes "list") words
 pub record MayAsk (words : List (List ℕ)) (asked : Request) : Type 0 where
   pub named : Names words asked
   pub built_in : IsBuiltInRun asked ↔ (length words ≤ 1)
+
+-- no file is changed, but where what the words may ask for may change one
+abbrev pub KeepsAsked : List (List ℕ) → (held saved : List ℕ → Option (List ℕ)) → Type 0
+KeepsAsked words held saved = (saved ≡ held) ⊎ ((asked : Request) × MayAsk words asked × KeepsFiles asked held saved)

@@ -3,7 +3,7 @@
 ghost use Rattle.std.specs.Prelude.{◌≡◌, ◌≢◌, ◌⊎◌, ◌≤◌, IfOk, IfErr};
 ghost use Rattle.svc_program.specs.Faults.{IsReportFault};
 ghost use Rattle.svc_program.specs.Requests.{Does};
-ghost use Rattle.svc_command.specs.Asked.{MayAsk, texts};
+ghost use Rattle.svc_command.specs.Asked.{KeepsAsked, MayAsk, texts};
 
 use crate::reading::request_of;
 use std::alloc::Global;
@@ -27,6 +27,7 @@ pub fn execute<R: Threads + Wait + Sync, F: Files, O: Write, E: Write>(
     ensures done { result ≢ 1 → (request : Request) × MayAsk (texts words.now) request
         × Does request (F.held files.old) (F.held files.new) (O.contents out.old) (O.contents out.new) result }
     ensures status { result ≤ 2 }
+    ensures kept { KeepsAsked (texts words.now) (F.held files.old) (F.held files.new) }
 {
     match answer(rt, alloc, words, files, out) {
         Ok(status) => status,
@@ -45,6 +46,7 @@ fn answer<R: Threads + Wait + Sync, F: Files, O: Write>(
     ensures done { IfOk result (λ status. (request : Request) × MayAsk (texts words.now) request
         × Does request (F.held files.old) (F.held files.new) (O.contents out.old) (O.contents out.new) status) }
     ensures silent { IfErr result (λ fault. IsReportFault fault ⊎ (out.new ≡ out.old)) }
+    ensures kept { KeepsAsked (texts words.now) (F.held files.old) (F.held files.new) }
 {
     let request = request_of(alloc, words)?;
     perform(rt, alloc, request, files, out)
