@@ -28,16 +28,17 @@ abbrev pub IsNamed : List ℕ → List (List ℕ) → Type 0
 IsNamed name words = slice_get words 1 ≡ Some name
 
 -- one unit, 16 sets of 2 lines, 100,000 events and 1,000,000 turns
-pub record IsFirst (c : Config) : Type 0 where
+pub record IsBuiltInConfig (c : Config) : Type 0 where
   pub units : c.units ≡ 1
   pub sets : c.sets ≡ 16
   pub ways : c.ways ≡ 2
   pub events : c.events ≡ 100000
   pub turns : c.turns ≡ 1000000
 
--- to run the built-in image so by a thread, to save nothing, and to print the summary
+-- to run the built-in image so, with a thread for the unit, to save nothing, and to print the summary
 abbrev pub IsBuiltInRun : Request → Type 0
-IsBuiltInRun (request.Run source.BuiltIn config schedule trace row) = IsFirst config × (schedule ≡ None) × (trace ≡ None) × (row ≡ None)
+IsBuiltInRun (request.Run source.BuiltIn config schedule trace row) =
+    IsBuiltInConfig config × (schedule ≡ None) × (trace ≡ None) × (row ≡ None)
 IsBuiltInRun _ = ⊥
 
 -- the words name what is asked for: help or the version by a word of its own, and else the subcommand
