@@ -74,6 +74,11 @@ pub record Adds (s : WordShare) (m n : BTreeMap ℕ Counts) : Type 0 where
   pub counts : (c : Column) → amount c (counts_at n s.word) ≡ amount c (counts_at m s.word) + amount c s.counts
   pub others : (word : ℕ) → (s.word == word) ≡ false → get nat_cmp n word ≡ get nat_cmp m word
 
+-- the same for what is counted for a word, if there is one
+abbrev pub AddsFor : Option WordAddr → Counts → BTreeMap ℕ Counts → BTreeMap ℕ Counts → Type 0
+AddsFor None k m n = n ≡ m
+AddsFor (Some a) k m n = Adds (record { word = a.0; counts = k }) m n
+
 -- a table of what shares count together for each word
 pub record IsTally (ss : List WordShare) (m : BTreeMap ℕ Counts) : Type 0 where
   pub counts : (word : ℕ) (c : Column) → amount c (counts_at m word) ≡ count_in (in_column c ss) word

@@ -1,16 +1,21 @@
 // Counts by word.
 
-ghost use Rattle.std.specs.Prelude.{◌≡◌, ◌+◌, ◌<◌, ◌^◌, OnOk, IfOk, IfErr};
+ghost use Rattle.std.specs.Prelude.{◌≡◌, ◌+◌, ◌<◌, ◌^◌, ◌++◌, [], OnOk, IfOk, IfErr, IfSome, flat_map};
 ghost use Rattle.std.specs.List.{sum_by};
 ghost use Rattle.svc_report.specs.declared.error.ReportError.TheVariants.{Memory};
-ghost use Rattle.svc_words.specs.Counts.{Adds, IsTally, amount, counts_at};
+ghost use Rattle.svc_words.specs.Counts.{Adds, AddsFor, IsTally, all_shares, amount, counts_at};
+ghost use Rattle.svc_words.specs.Counts.{entry_counted, task_counted};
+ghost use Rattle.svc_view.specs.Runs.{tasks_of};
 ghost use Rattle.svc_words.specs.Column.{Column};
 
 use crate::counts::Counts;
-use crate::shares::WordShare;
+use crate::shares::{WordShare, cut_word};
 use std::alloc::Global;
 use std::collections::BTreeMap;
+use svc_base::WordAddr;
+use svc_history_laws::Entry;
 use svc_report::ReportError;
+use svc_view::TaskRun;
 
 // Adds a share to what is counted of its word.
 fn add(share: WordShare, words: &mut BTreeMap<u32, Counts>) -> Result<(), ReportError>
@@ -25,18 +30,73 @@ fn add(share: WordShare, words: &mut BTreeMap<u32, Counts>) -> Result<(), Report
     Ok(())
 }
 
-/// What the shares count together for each of their words.
+// Adds what is counted for a word, if there is one.
+fn add_for(
+    word: Option<WordAddr>,
+    counts: Counts,
+    words: &mut BTreeMap<u32, Counts>,
+) -> Result<(), ReportError>
+    requires few { IfSome word (λ w. (c : Column) → amount c (counts_at words.old w.0) + amount c counts < 2 ^ 64) }
+    ensures adds { OnOk result (AddsFor word counts words.old words.new) }
+    ensures err { IfErr result (λ e. e ≡ Memory) }
+{
+    match word {
+        Some(word) => add(
+            WordShare {
+                word: word.0,
+                counts,
+            },
+            words,
+        ),
+        None => Ok(()),
+    }
+}
+
+// Adds what the entries count.
+fn add_entries(entries: &[Entry], words: &mut BTreeMap<u32, Counts>) -> Result<(), ReportError>
+    requires none { IsTally [] words.old }
+    requires few { (c : Column) → sum_by (λ s. amount c s.counts) (flat_map entry_counted entries.now) < 2 ^ 64 }
+    ensures counts { OnOk result (IsTally (flat_map entry_counted entries.now) words.new) }
+    ensures err { IfErr result (λ e. e ≡ Memory) }
+{
+    for entry in entries {
+        add_for(entry.addr, Counts::of_entry(entry), words)?;
+    }
+    Ok(())
+}
+
+// Adds what the tasks count to what the entries do.
+fn add_tasks(
+    entries: &[Entry],
+    runs: &[TaskRun],
+    words: &mut BTreeMap<u32, Counts>,
+) -> Result<(), ReportError>
+    requires counted { IsTally (flat_map entry_counted entries.now) words.old }
+    requires few { (c : Column) → sum_by (λ s. amount c s.counts)
+        (flat_map entry_counted entries.now ++ flat_map (task_counted entries.now) runs.now) < 2 ^ 64 }
+    ensures counts { OnOk result (IsTally
+        (flat_map entry_counted entries.now ++ flat_map (task_counted entries.now) runs.now) words.new) }
+    ensures err { IfErr result (λ e. e ≡ Memory) }
+{
+    for run in runs {
+        add_for(cut_word(entries, run), Counts::of_task(run), words)?;
+    }
+    Ok(())
+}
+
+/// What the entries and the tasks of a history count together for each word.
 pub(crate) fn tally(
     alloc: Global,
-    shares: &[WordShare],
+    entries: &[Entry],
+    runs: &[TaskRun],
 ) -> Result<BTreeMap<u32, Counts>, ReportError>
-    requires few { (c : Column) → sum_by (λ s. amount c s.counts) shares.now < 2 ^ 64 }
-    ensures counts { IfOk result (λ words. IsTally shares.now words) }
+    requires tasks { runs.now ≡ tasks_of entries.now }
+    requires few { (c : Column) → sum_by (λ s. amount c s.counts) (all_shares entries.now) < 2 ^ 64 }
+    ensures counts { IfOk result (λ words. IsTally (all_shares entries.now) words) }
     ensures err { IfErr result (λ e. e ≡ Memory) }
 {
     let mut words = BTreeMap::new(alloc);
-    for share in shares {
-        add(*share, &mut words)?;
-    }
+    add_entries(entries, &mut words)?;
+    add_tasks(entries, runs, &mut words)?;
     Ok(words)
 }

@@ -11,7 +11,6 @@ ghost use Rattle.svc_words.specs.Counts.{counted_row, named_row, told_of};
 ghost use Rattle.svc_words.specs.Words.{count_text, word_header, word_table};
 
 use crate::counts::Counts;
-use crate::shares::shares_of;
 use crate::tally::tally;
 use itoa::Buffer;
 use std::alloc::Global;
@@ -108,8 +107,7 @@ fn table_of(alloc: Global, entries: &[Entry]) -> Result<Vec<u8>, ReportError>
     ensures err { IfErr result (λ e. e ≡ Memory) }
 {
     let runs = tasks_of(alloc, entries)?;
-    let shares = shares_of(alloc, entries, &runs)?;
-    let words = tally(alloc, &shares)?;
+    let words = tally(alloc, entries, &runs)?;
     let mut text = Vec::from_slice(
         alloc,
         b"word,loads,stores,versions,violations,squashed,turns-squashed\n",

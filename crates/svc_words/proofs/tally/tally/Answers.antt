@@ -1,21 +1,14 @@
+use Rattle.std.proofs.Common.{arith}
+use Rattle.std.specs.Prelude.{flat_map}
+use Rattle.std.proofs.lemmas.List.Sums.{sum_by-append}
+use Rattle.svc_view.specs.Runs.{tasks_of}
 use Rattle.svc_words.specs.declared.shares.WordShare.{WordShare}
-use Rattle.svc_words.specs.Counts.{no_counts}
-use Rattle.svc_words.proofs.Tallies.{tally_all, tally_fits, tally_more, tally_none}
+use Rattle.svc_words.specs.Counts.{amount, entry_counted, task_counted}
 use Rattle.svc_words.proofs.tally.tally.Goals as goal
 
-abbrev nobody : WordShare
-nobody = record { word = 0; counts = no_counts }
-
-pub loop-share-init : goal.loop-share-init
-loop-share-init c = tally_none c.new-words.result c.new-words.ensures.empty
-
-pub add-requires : goal.add-requires
-add-requires c =
-    record { few = λ k. tally_fits c.args.shares.now c.loop-share.words c.loop-share.share-index nobody c.loop-share-test.true c.loop-share.invariant c.requires.few k }
-
-pub loop-share-preserved : goal.loop-share-preserved
-loop-share-preserved c =
-    tally_more c.args.shares.now c.loop-share.share-index nobody c.loop-share.words c.add.new.words c.loop-share-test.true c.loop-share.invariant c.in_ok-add.ensures.adds
-
-pub returns-clause-counts : goal.returns-clause-counts
-returns-clause-counts c = tally_all c.args.shares.now c.loop-share.words c.loop-share.share-index c.loop-share-test.false c.loop-share.invariant
+pub add_entries-requires-clause-few : goal.add_entries-requires-clause-few
+add_entries-requires-clause-few c k =
+    let es = c.args.entries.now in
+    let both = sum_by-append (λ (s : WordShare). amount k s.counts) (flat_map entry_counted es) (flat_map (task_counted es) (tasks_of es)) in
+    let few = c.requires.few k in
+    omega (arith, both, few)
