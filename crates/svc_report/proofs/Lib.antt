@@ -10,3 +10,4 @@ pub mod RoundTrip
 pub mod Steps
 pub mod Tracks
 pub mod LegalRows
+pub mod Numerals

@@ -1,5 +1,5 @@
 -- The texts of fields.
-use Rattle.std.specs.Prelude.{ℕ, List, [], Option, Some, None, Bool, true, false, codes, decimal, ◌≡◌, ◌≢◌}
+use Rattle.std.specs.Prelude.{ℕ, List, [], Option, Some, None, Bool, true, false, ◌==◌, ◌&&◌, ◌||◌, codes, decimal, get_or, length, nat_lt, ◌≡◌, ◌≢◌}
 use Rattle.svc_base.specs.declared.ids.UnitId.{UnitId}
 use Rattle.svc_base.specs.declared.ids.WordAddr.{WordAddr}
 use Rattle.svc_history_laws.specs.declared.entry.Kind.{Kind}
@@ -56,6 +56,10 @@ address_text addr = decimal addr.0
 abbrev pub optional : {A : Type 0} → (A → List ℕ) → Option A → List ℕ
 optional text None = []
 optional text (Some x) = text x
+
+-- a sign or a zero stands before other bytes
+abbrev pub is_padded : List ℕ → Bool
+is_padded field = (get_or field 0 0 == 43) || ((get_or field 0 0 == 48) && nat_lt 1 (length field))
 
 -- what a field is read as: a value with P whose text it is, or none where no value with P has this text
 abbrev pub Reads : {A : Type 0} → (A → Type 0) → (A → List ℕ) → List ℕ → Option A → Type 0

@@ -1,6 +1,6 @@
 // Reads a text no further than into its first record that is too long.
 
-ghost use Rattle.std.specs.Prelude.{◌≡◌, ◌≤◌, ◌<◌, ◌++◌, ℕ, List, None, Some, length, take};
+ghost use Rattle.std.specs.Prelude.{◌≡◌, ◌≤◌, ◌++◌, if◌then◌else◌, ℕ, List, None, Some, length, nat_lt, take};
 ghost use Rattle.svc_report.specs.Limit.{most_bytes};
 ghost use Rattle.svc_report.specs.Places.{gauge_after, known_through, passed, plain_after, place_after, start_after};
 
@@ -80,38 +80,33 @@ struct Gauge {
 }
 
 impl Gauge {
-    // After this byte, unless it makes its record too long.
-    fn after(self, byte: u8) -> Option<Gauge>
-        ensures { result ≡ gauge_after self byte }
+    // Goes past this byte, unless that makes its record too long.
+    fn pass(&mut self, byte: u8) -> bool
+        ensures { gauge_after self.old byte ≡ (if result then Some self.new else None) }
     {
-        let place = self.place.after(byte);
-        if place == Place::Between {
-            Some(Gauge { place, size: 0 })
+        self.place = self.place.after(byte);
+        if self.place == Place::Between {
+            self.size = 0;
         } else if self.size < MOST_BYTES {
-            Some(Gauge {
-                place,
-                size: self.size + 1,
-            })
+            self.size += 1;
         } else {
-            None
+            return false;
         }
+        true
     }
 
-    // After as many of these bytes as may be read, and how many that is.
-    fn after_all(self, bytes: &[u8]) -> (Option<Gauge>, usize)
-        ensures count { result.1 ≤ length bytes.now }
-        ensures less { result.1 < length bytes.now → result.0 ≡ None }
-        ensures passes { (rest : List ℕ)
-            → passed (Some self) (bytes.now ++ rest) ≡ take result.1 bytes.now ++ passed result.0 rest }
+    // Goes past as many of these bytes as may be read, and says how many that is.
+    fn pass_all(&mut self, bytes: &[u8]) -> usize
+        ensures count { result ≤ length bytes.now }
+        ensures passes { (rest : List ℕ) → passed (Some self.old) (bytes.now ++ rest)
+            ≡ take result bytes.now ++ passed (if nat_lt result (length bytes.now) then None else Some self.new) rest }
     {
-        let mut gauge = self;
         for count in 0..bytes.len() {
-            match gauge.after(bytes[count]) {
-                Some(next) => gauge = next,
-                None => return (None, count),
+            if !self.pass(bytes[count]) {
+                return count;
             }
         }
-        (Some(gauge), bytes.len())
+        bytes.len()
     }
 }
 
@@ -143,12 +138,12 @@ impl<R: Read> Read for Limited<R> {
     ghost remaining = { known_through R.remaining };
 
     fn read(&mut self, buffer: &mut [u8]) -> Result<usize> {
-        let Some(gauge) = self.gauge else {
+        let Some(mut gauge) = self.gauge else {
             return Ok(0);
         };
         let count = self.reader.read(buffer)?;
-        let (gauge, kept) = gauge.after_all(&buffer[..count]);
-        self.gauge = gauge;
-        Ok(kept)
+        let passed = gauge.pass_all(&buffer[..count]);
+        self.gauge = if passed < count { None } else { Some(gauge) };
+        Ok(passed)
     }
 }

@@ -1,7 +1,7 @@
 // Numbers in fields: decimal, without a sign and without leading zeros.
 
 ghost use Rattle.std.specs.Prelude.{◌≡◌, ◌<◌, ◌≤◌, ◌^◌, IfSome, decimal};
-ghost use Rattle.svc_report.specs.Fields.{Reads, optional, unit_text, address_text};
+ghost use Rattle.svc_report.specs.Fields.{Reads, is_padded, optional, unit_text, address_text};
 
 use itoa::Buffer;
 use std::str;
@@ -51,23 +51,28 @@ pub(crate) fn address_text(buffer: &mut Buffer, addr: Option<WordAddr>) -> &str
     }
 }
 
+// Whether a sign or a zero stands before other bytes: the parser takes both, and the text of a number has neither.
+fn is_padded(field: &[u8]) -> bool
+    ensures { result ≡ is_padded field.now }
+{
+    match field.first() {
+        Some(b'+') => true,
+        Some(b'0') => field.len() > 1,
+        _ => false,
+    }
+}
+
 /// The number whose text this is.
 pub(crate) fn number_of(field: &[u8]) -> Option<u32>
     ensures { Reads (λ n. n < 2 ^ 32) decimal field.now result }
 {
+    if is_padded(field) {
+        return None;
+    }
     let Ok(text) = str::from_utf8(field) else {
         return None;
     };
-    let Ok(number) = text.parse::<u32>() else {
-        return None;
-    };
-    // A sign or a leading zero is lost in the number, so its text is a different one.
-    let mut buffer = Buffer::new();
-    if buffer.format(number).as_bytes() == field {
-        Some(number)
-    } else {
-        None
-    }
+    text.parse().ok()
 }
 
 /// The number of at most `most` whose text this is.

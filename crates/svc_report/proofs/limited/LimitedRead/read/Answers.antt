@@ -1,9 +1,11 @@
-use Rattle.std.proofs.Common.{◌≡◌, ◌++◌, ◌<◌, ◌≤◌, ◌∙◌, [], ℕ, List, Option, Some, None, length, take, ap, arith, refl, suc, zero, take-take, length-take-le}
-use Rattle.std.specs.Prelude.{option_map}
+use Rattle.std.proofs.Common.{◌≡◌, ◌++◌, ◌<◌, ◌≤◌, ◌∙◌, [], ℕ, List, Bool, Option, Some, None, length, take, ap, sym, arith, refl, suc, zero, inl, inr, take-take, length-take-le}
+use Rattle.std.proofs.lemmas.Bool.{cases_Bool, lt-ltb, ltb-true}
+use Rattle.std.specs.Prelude.{if◌then◌else◌, nat_lt, option_map}
 use Rattle.std.specs.Io.KnownBytes.{Consumes, IsAtEnd}
 use Rattle.svc_report.specs.Places.{passed, passed_from}
 use Rattle.svc_report.specs.declared.limited.Gauge.{Gauge}
 use Rattle.svc_report.proofs.limited.LimitedRead.read.Goals as goal
+use Rattle.svc_report.proofs.limited.LimitedRead.read.Goals.{then-passed-count, else-passed-count}
 
 none_passed : (o : Option Gauge) → passed o [] ≡ []
 unfolding passed_from
@@ -30,8 +32,22 @@ passes_on (Some xs) (Some ys) g o count n buf fits read end most less on =
       λ none some. at_end o ys count n (λ zero. end zero some) (λ low. less (omega (arith, len))) none,
     )
 
+-- what is left of the gauge: nothing where fewer bytes were passed than were read
+abbrev left : Gauge → ℕ → ℕ → Option Gauge
+left g n count = if nat_lt n count then None else Some g
+
 pub returns-clause-bytes : goal.returns-clause-bytes
 returns-clause-bytes g c =
     let read = c.in_ok-count.ensures in
-    let all = c.after_all-gauge.ensures in
-    rw c.in-Some.is (passes_on _ _ c.in-Some.gauge c.after_all-gauge.result.0 c.in_ok-count.count c.after_all-gauge.result.1 c.read.new.buf read.bound.0 read.bytes.0 read.bytes.1 all.count all.less all.passes)
+    let all = c.pass_all-passed.ensures in
+    let bytes = take c.in_ok-count.count c.read.new.buf in
+    let gauge = c.pass_all-passed.new.self in
+    let n = c.pass_all-passed.result in
+    let is_left : c.if-passed-count.self ≡ left gauge n (length bytes) = elim c.if-passed-count.branch [
+      | then-passed-count w ↦ w.self-is ∙ ap (λ (b : Bool). if b then None else Some gauge) (sym (lt-ltb n (length bytes) (omega (arith, w.if-passed-count, read.bound.1))))
+      | else-passed-count w ↦ elim (cases_Bool (nat_lt n (length bytes))) [
+        | inl low ↦ absurd (omega (arith, ltb-true n (length bytes) low, w.if-passed-count, read.bound.1))
+        | inr high ↦ w.self-is ∙ ap (λ (b : Bool). if b then None else Some gauge) (sym high)
+      ]
+    ] in
+    rw (c.in-Some.is, is_left) (passes_on _ _ c.in-Some.gauge (left gauge n (length bytes)) c.in_ok-count.count n c.read.new.buf read.bound.0 read.bytes.0 read.bytes.1 all.count (λ low. rw (lt-ltb _ _ low) refl) all.passes)
