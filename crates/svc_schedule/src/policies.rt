@@ -130,9 +130,22 @@ fn around(first: u32, units: u32) -> Order
 {
     let mut order = ArrayVec::new();
     for n in 0..units {
-        order.push(UnitId(((first + n) % units) as u8));
+        order.push(UnitId(wrapped(first + n, units) as u8));
     }
     order
+}
+
+// The remainder of a number that is below twice that of the units: a difference costs less than a division.
+fn wrapped(number: u32, units: u32) -> u32
+    requires low { number < units + units }
+    ensures around { result ≡ number % units }
+    ensures below { result < units }
+{
+    if number < units {
+        number
+    } else {
+        number - units
+    }
 }
 
 // All units by the ages of their tasks, and by number where these are the same.
