@@ -23,10 +23,9 @@ fn add(share: WordShare, words: &mut BTreeMap<u32, Counts>) -> Result<(), Report
     ensures adds { OnOk result (Adds share words.old words.new) }
     ensures err { IfErr result (λ e. e ≡ Memory) }
 {
-    // the first share of a word, which is the only one of most words, takes one search
-    if let Some(counted) = words.insert(share.word, share.counts)? {
-        words.insert(share.word, counted.plus(share.counts))?;
-    }
+    // one search, whether the word has a share yet or not
+    let counted = words.entry(share.word)?.or_insert(Counts::none());
+    *counted = counted.plus(share.counts);
     Ok(())
 }
 

@@ -1,6 +1,6 @@
 // The table of words.
 
-ghost use Rattle.std.specs.Prelude.{◌≡◌, ◌≤◌, ◌++◌, OnOk, IfOk, IfErr, decimal, flat_map, length};
+ghost use Rattle.std.specs.Prelude.{◌≡◌, ◌≤◌, ◌+◌, ◌*◌, ◌++◌, OnOk, IfOk, IfErr, drop, flat_map, length};
 ghost use Rattle.std.specs.BTreeMap.{IsOrdered};
 ghost use Rattle.std.specs.Ordering.{nat_cmp};
 ghost use Rattle.std.specs.Io.KnownBytes.{Appends};
@@ -12,7 +12,7 @@ ghost use Rattle.svc_words.specs.Words.{count_text, word_header, word_table};
 
 use crate::counts::Counts;
 use crate::tally::tally;
-use itoa::Buffer;
+use itoa::write_digits;
 use std::alloc::Global;
 use std::collections::BTreeMap;
 use std::io::Write;
@@ -35,44 +35,43 @@ fn told_of(counts: &Counts) -> [u64; 6]
     ]
 }
 
-// Adds a number.
-fn push_number(number: u64, rows: &mut Vec<u8>) -> Result<(), ReportError>
-    ensures ok { OnOk result (rows.new.items ≡ rows.old.items ++ decimal number) }
-    ensures err { IfErr result (λ e. e ≡ Memory) }
+// The longest row: seven numbers of at most 20 digits, and a byte after each.
+const ROW_LEN: usize = 147;
+
+// Puts a count as a further column in a row, before what it has from `end` on, and returns where the column begins.
+fn put_count(count: u64, row: &mut [u8; ROW_LEN], end: usize) -> usize
+    requires room { (21 ≤ end) × (end ≤ ROW_LEN) }
+    ensures text { drop result row.new ≡ count_text count ++ drop end row.old }
+    ensures short { (end ≤ result + 21) × (result ≤ end) }
 {
-    let mut digits = Buffer::new();
-    rows.extend_from_slice(digits.format(number).as_bytes())?;
-    Ok(())
+    let at = write_digits(count, row, end) - 1;
+    row[at] = b',';
+    at
 }
 
-// Adds a count as a further column.
-fn push_count(count: u64, rows: &mut Vec<u8>) -> Result<(), ReportError>
-    ensures ok { OnOk result (rows.new.items ≡ rows.old.items ++ count_text count) }
-    ensures err { IfErr result (λ e. e ≡ Memory) }
+// Puts counts as further columns in a row, before what it has from `end` on, and returns where the first begins.
+fn put_counts(counts: &[u64], row: &mut [u8; ROW_LEN], end: usize) -> usize
+    requires room { (21 * length counts.now ≤ end) × (end ≤ ROW_LEN) }
+    ensures text { drop result row.new ≡ flat_map count_text counts.now ++ drop end row.old }
+    ensures short { (end ≤ result + 21 * length counts.now) × (result ≤ end) }
 {
-    rows.push(b',')?;
-    push_number(count, rows)
-}
-
-// Adds counts as further columns.
-fn push_counts(counts: &[u64], rows: &mut Vec<u8>) -> Result<(), ReportError>
-    ensures ok { OnOk result (rows.new.items ≡ rows.old.items ++ flat_map count_text counts.now) }
-    ensures err { IfErr result (λ e. e ≡ Memory) }
-{
-    for count in counts {
-        push_count(*count, rows)?;
+    let mut at = end;
+    for count in counts.iter().rev() {
+        at = put_count(*count, row, at);
     }
-    Ok(())
+    at
 }
 
-// Adds the row of a word.
+// Adds the row of a word. It is put together from its end, as the digits of a number are, and added at once.
 fn push_row(word: u32, counts: &Counts, rows: &mut Vec<u8>) -> Result<(), ReportError>
     ensures ok { OnOk result (rows.new.items ≡ rows.old.items ++ counted_row word counts.now) }
     ensures err { IfErr result (λ e. e ≡ Memory) }
 {
-    push_number(u64::from(word), rows)?;
-    push_counts(&told_of(counts), rows)?;
-    rows.push(b'\n')?;
+    let mut row = [0; ROW_LEN];
+    row[ROW_LEN - 1] = b'\n';
+    let at = put_counts(&told_of(counts), &mut row, ROW_LEN - 1);
+    let at = write_digits(u64::from(word), &mut row, at);
+    rows.extend_from_slice(&row[at..])?;
     Ok(())
 }
 
