@@ -16,6 +16,7 @@ use svc_base::OpenError;
 use svc_cache::Cache;
 use svc_order::TaskQueue;
 use svc_retire::Spill;
+use svc_vol::VersionList;
 
 /// The bus: it serves one call at a time, and each is one step.
 ///
@@ -32,6 +33,8 @@ pub struct Bus {
     pub(crate) commits: u64,
     // the look-ups of the last accepted read or write
     pub(crate) probes: u32,
+    // The last request's version list: a request fills it anew, so it says nothing of the bus.
+    pub(crate) list: VersionList,
 }
 
 impl Model for Bus {
@@ -111,6 +114,7 @@ impl Bus {
             queue: TaskQueue::new(),
             commits: 0,
             probes: 0,
+            list: VersionList::new(),
         })
     }
 }

@@ -146,10 +146,10 @@ impl Bus {
         ensures probes { IfOk result (λ r. LookUps r.1 (observed self.new).probes (observed self.old).caches) }
     {
         let place = place_of(&self.queue, unit);
-        let mut list = VersionList::new();
-        list.fill_beside(&self.caches, &self.queue, word, unit, line, &mut probes);
+        self.list
+            .fill_beside(&self.caches, &self.queue, word, unit, line, &mut probes);
         let backing = self.backing[word.0 as usize];
-        let plan = plan_read(&list, unit, place, self.spill.get(word), backing);
+        let plan = plan_read(&self.list, unit, place, self.spill.get(word), backing);
         let outcome = Outcome {
             served: plan.served,
             line: Line {
@@ -161,7 +161,7 @@ impl Bus {
         if let Err(SetFull(named)) = carry_out(
             &mut self.caches,
             &mut self.backing,
-            &list,
+            &self.list,
             unit,
             word,
             &outcome,

@@ -20,7 +20,6 @@ use svc_cache::Probes;
 use svc_line::Line;
 use svc_order::TaskQueue;
 use svc_retire::Spill;
-use svc_vol::VersionList;
 
 // The line that was replaced goes to the spill table if it is an active task's version.
 fn spill_version(spill: &mut Spill, word: WordAddr, line: &Line)
@@ -67,12 +66,11 @@ impl Bus {
         if is_pinned(&self.queue, unit, &line) {
             return Err(Refusal::Pinned);
         }
-        let mut list = VersionList::new();
-        list.fill(&self.caches, &self.queue, word, &mut probes);
+        self.list.fill(&self.caches, &self.queue, word, &mut probes);
         take_line(
             &mut self.caches,
             &mut self.backing,
-            &list,
+            &self.list,
             unit,
             word,
             &mut probes,

@@ -18,7 +18,6 @@ use svc_base::{Refusal, TaskNo, UnitId, WordAddr};
 use svc_cache::Probes;
 use svc_line::Line;
 use svc_vcl::plan_write;
-use svc_vol::VersionList;
 
 // The victim as a write answers it: its number, and how many tasks are squashed.
 fn victim_of(commits: u64, victim: Option<usize>, tasks: usize) -> Option<Victim>
@@ -64,9 +63,8 @@ impl Bus {
     {
         let place = place_of(&self.queue, unit);
         let mut probes = Probes::new();
-        let mut list = VersionList::new();
-        list.fill(&self.caches, &self.queue, word, &mut probes);
-        let plan = plan_write(&list, unit, place);
+        self.list.fill(&self.caches, &self.queue, word, &mut probes);
+        let plan = plan_write(&self.list, unit, place);
         let tasks = self.queue.len();
         let left = plan.victim.unwrap_or(tasks);
         let store = Store {
@@ -85,7 +83,7 @@ impl Bus {
             &mut self.caches,
             &mut self.backing,
             &self.queue,
-            &list,
+            &self.list,
             &store,
             &mut probes,
         )?;

@@ -7,7 +7,7 @@ ghost use Rattle.svc_report.specs.Places.{gauge_after, known_through, passed, pl
 use std::io::{Read, Result};
 
 // The most bytes of a record that are read, not counting its line end.
-const MOST_BYTES: u16 = 4096;
+const MOST_BYTES: u32 = 4096;
 
 // Where in a text its next byte is. A line end within quotes ends nothing.
 #[derive(Clone, Copy, PartialEq, Eq, Debug)]
@@ -33,7 +33,10 @@ impl Place {
     fn plain_after(byte: u8) -> Place
         ensures { result ≡ plain_after byte }
     {
-        if byte == b',' {
+        // Digits and letters come after the comma, and most bytes of a text are such.
+        if byte > b',' {
+            Place::Plain
+        } else if byte == b',' {
             Place::Field
         } else if byte == b'\r' || byte == b'\n' {
             Place::Between
@@ -76,7 +79,7 @@ impl Place {
 #[derive(Clone, Copy)]
 struct Gauge {
     place: Place,
-    size: u16,
+    size: u32,
 }
 
 impl Gauge {

@@ -55,11 +55,10 @@ pub(crate) fn address_text(buffer: &mut Buffer, addr: Option<WordAddr>) -> &str
 fn is_padded(field: &[u8]) -> bool
     ensures { result ≡ is_padded field.now }
 {
-    match field.first() {
-        Some(b'+') => true,
-        Some(b'0') => field.len() > 1,
-        _ => false,
+    if field.is_empty() {
+        return false;
     }
+    field[0] == b'+' || (field[0] == b'0' && field.len() > 1)
 }
 
 /// The number whose text this is.

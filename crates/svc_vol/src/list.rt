@@ -24,8 +24,13 @@ pub const CAPACITY: usize = 16;
 ///
 /// Among the committed lines those that were stored to are in the order of their tasks, oldest
 /// first. An active line is at the place of its task in the queue.
+///
+/// A list may be filled again and again, for any word: it keeps the places in which it is made.
 #[derive(Drop)]
 pub struct VersionList {
+    // What a search finds in each cache, and the units of the committed versions, oldest first.
+    found: ArrayVec<Option<Line>, CAPACITY>,
+    order: ArrayVec<usize, CAPACITY>,
     committed: ArrayVec<Version, CAPACITY>,
     active: ArrayVec<Option<Version>, CAPACITY>,
 }
@@ -48,21 +53,20 @@ fn copy_in(line: &Option<Line>) -> Option<Line>
     }
 }
 
-// One look-up in each cache: the word's line in it. A list is filled in place, since passing one on
-// costs more than filling it.
+// One look-up in each cache: the word's line in it.
 fn find(
     found: &mut ArrayVec<Option<Line>, CAPACITY>,
     caches: &[Cache],
     word: WordAddr,
     probes: &mut Probes,
 )
-    requires empty { found.old.items ≡ [] }
     requires few { length caches.now ≤ CAPACITY }
     requires room { HasRoomForEach probes.old caches.now }
     ensures lines { map (option_map seen) found.new.items ≡ map
         (λ (cache : CacheValue). line_of cache word.0) caches.now }
     ensures counted { CountsOneOfEach probes.old probes.new caches.now }
 {
+    found.clear();
     for cache in caches {
         found.push(cache.lookup(word, probes));
     }
@@ -97,7 +101,6 @@ fn find_others(
     line: Option<Line>,
     probes: &mut Probes,
 )
-    requires empty { found.old.items ≡ [] }
     requires few { length caches.now ≤ CAPACITY }
     requires known { unit.0 < length caches.now }
     requires line { lines_in caches.now word.0 unit.0 ≡ option_map seen line }
@@ -106,6 +109,7 @@ fn find_others(
         (λ (cache : CacheValue). line_of cache word.0) caches.now }
     ensures counted { CountsEachOther probes.old probes.new caches.now }
 {
+    found.clear();
     for cache in caches {
         let is_known = found.len() == unit.0 as usize;
         found.push(line_beside(cache, word, is_known, line, probes));
@@ -114,10 +118,10 @@ fn find_others(
 
 // The committed lines that were not stored to, by unit.
 fn list_copies(committed: &mut ArrayVec<Version, CAPACITY>, found: &[Option<Line>])
-    requires empty { committed.old.items ≡ [] }
     requires few { length found.now ≤ CAPACITY }
     ensures { AreCopies (lines_at (map (option_map seen) found.now)) (length found.now) committed.new.items }
 {
+    committed.clear();
     for unit in 0..found.len() {
         if let Some(line) = copy_in(&found[unit]) {
             committed.push(Version {
@@ -152,17 +156,19 @@ fn list_versions(
 }
 
 // The committed lines among those that were found: the clean ones, and then the versions, oldest first.
-fn list_committed(committed: &mut ArrayVec<Version, CAPACITY>, found: &[Option<Line>])
-    requires empty { committed.old.items ≡ [] }
+fn list_committed(
+    committed: &mut ArrayVec<Version, CAPACITY>,
+    order: &mut ArrayVec<usize, CAPACITY>,
+    found: &[Option<Line>],
+)
     requires few { length found.now ≤ CAPACITY }
     requires valid { AreValid (lines_at (map (option_map seen) found.now)) }
     requires ranked { IsRanked (length found.now) (lines_at (map (option_map seen) found.now)) }
     ensures { AreCommitted (lines_at (map (option_map seen) found.now)) (length found.now) committed.new.items }
 {
-    let mut order = ArrayVec::new();
-    oldest_first(&mut order, found);
+    oldest_first(order, found);
     list_copies(committed, found);
-    list_versions(committed, &order, found);
+    list_versions(committed, order, found);
 }
 
 // The active lines among those that were found, by the places of their tasks.
@@ -171,15 +177,36 @@ fn list_active(
     found: &[Option<Line>],
     queue: &TaskQueue,
 )
-    requires empty { active.old.items ≡ [] }
     requires known { (place : ℕ) → place < length queue.now → get_or queue.now place 0 < length found.now }
     ensures { map (option_map seen_version) active.new.items
         ≡ active_versions (lines_at (map (option_map seen) found.now)) queue.now }
 {
+    active.clear();
     for place in 0..queue.len() {
         let unit = queue.unit_at(place);
         active.push(Version::active(unit, found[unit.0 as usize]));
     }
+}
+
+// The valid lines among those that were found, in order.
+fn list_found(
+    committed: &mut ArrayVec<Version, CAPACITY>,
+    active: &mut ArrayVec<Option<Version>, CAPACITY>,
+    order: &mut ArrayVec<usize, CAPACITY>,
+    found: &[Option<Line>],
+    queue: &TaskQueue,
+)
+    requires few { length found.now ≤ CAPACITY }
+    requires known { (place : ℕ) → place < length queue.now → get_or queue.now place 0 < length found.now }
+    requires valid { AreValid (lines_at (map (option_map seen) found.now)) }
+    requires ranked { IsRanked (length found.now) (lines_at (map (option_map seen) found.now)) }
+    ensures committed { AreCommitted (lines_at (map (option_map seen) found.now))
+        (length found.now) committed.new.items }
+    ensures active { map (option_map seen_version) active.new.items
+        ≡ active_versions (lines_at (map (option_map seen) found.now)) queue.now }
+{
+    list_committed(committed, order, found);
+    list_active(active, found, queue);
 }
 
 impl VersionList {
@@ -189,6 +216,8 @@ impl VersionList {
         ensures active { result.active ≡ [] }
     {
         VersionList {
+            found: ArrayVec::new(),
+            order: ArrayVec::new(),
             committed: ArrayVec::new(),
             active: ArrayVec::new(),
         }
@@ -215,9 +244,8 @@ impl VersionList {
         list
     }
 
-    /// The valid lines of the word are put into an empty list. Each cache is searched once.
+    /// The list becomes that of the valid lines of the word. Each cache is searched once.
     pub fn fill(&mut self, caches: &[Cache], queue: &TaskQueue, word: WordAddr, probes: &mut Probes)
-        requires empty { (self.old.committed ≡ []) × (self.old.active ≡ []) }
         requires few { length caches.now ≤ CAPACITY }
         requires known { (place : ℕ) → place < length queue.now → get_or queue.now place 0 < length caches.now }
         requires ranked { IsRanked (length caches.now) (lines_in caches.now word.0) }
@@ -227,9 +255,14 @@ impl VersionList {
             ≡ active_versions (lines_in caches.now word.0) queue.now }
         ensures counted { CountsOneOfEach probes.old probes.new caches.now }
     {
-        let mut found = ArrayVec::new();
-        find(&mut found, caches, word, probes);
-        self.list_found(&found, queue);
+        find(&mut self.found, caches, word, probes);
+        list_found(
+            &mut self.committed,
+            &mut self.active,
+            &mut self.order,
+            &self.found,
+            queue,
+        );
     }
 
     /// The same, if the unit's line is known already. Each other cache is searched once.
@@ -242,7 +275,6 @@ impl VersionList {
         line: Option<Line>,
         probes: &mut Probes,
     )
-        requires empty { (self.old.committed ≡ []) × (self.old.active ≡ []) }
         requires few { length caches.now ≤ CAPACITY }
         requires known { (place : ℕ) → place < length queue.now → get_or queue.now place 0 < length caches.now }
         requires cached { unit.0 < length caches.now }
@@ -254,25 +286,14 @@ impl VersionList {
             ≡ active_versions (lines_in caches.now word.0) queue.now }
         ensures counted { CountsEachOther probes.old probes.new caches.now }
     {
-        let mut found = ArrayVec::new();
-        find_others(&mut found, caches, word, unit, line, probes);
-        self.list_found(&found, queue);
-    }
-
-    // The valid lines among those that were found, in order.
-    fn list_found(&mut self, found: &[Option<Line>], queue: &TaskQueue)
-        requires empty { (self.old.committed ≡ []) × (self.old.active ≡ []) }
-        requires few { length found.now ≤ CAPACITY }
-        requires known { (place : ℕ) → place < length queue.now → get_or queue.now place 0 < length found.now }
-        requires valid { AreValid (lines_at (map (option_map seen) found.now)) }
-        requires ranked { IsRanked (length found.now) (lines_at (map (option_map seen) found.now)) }
-        ensures committed { AreCommitted (lines_at (map (option_map seen) found.now))
-            (length found.now) self.new.committed }
-        ensures active { map (option_map seen_version) self.new.active
-            ≡ active_versions (lines_at (map (option_map seen) found.now)) queue.now }
-    {
-        list_committed(&mut self.committed, found);
-        list_active(&mut self.active, found, queue);
+        find_others(&mut self.found, caches, word, unit, line, probes);
+        list_found(
+            &mut self.committed,
+            &mut self.active,
+            &mut self.order,
+            &self.found,
+            queue,
+        );
     }
 
     /// The committed lines. Of those that were stored to, the oldest is the first.

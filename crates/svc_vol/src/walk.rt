@@ -1,6 +1,6 @@
 //! The walk along the links of committed versions, from the oldest to the newest.
 
-ghost use Rattle.std.specs.Prelude.{◌≡◌, ◌≤◌, ◌<◌, ℕ, [], true, false, Some, None, length, map, option_map, MatchOption, IsTrue, IsFalse};
+ghost use Rattle.std.specs.Prelude.{◌≡◌, ◌≤◌, ◌<◌, ℕ, true, false, Some, None, length, map, option_map, MatchOption, IsTrue, IsFalse};
 ghost use Rattle.svc_line.specs.Line.{seen};
 ghost use Rattle.svc_links_laws.specs.LinkOrder.{IsFirst};
 ghost use Rattle.svc_links_laws.specs.LinkSteps.{is_unit};
@@ -101,11 +101,11 @@ fn next_of(found: &[Option<Line>], unit: usize) -> Option<usize>
 /// The units of the committed versions, oldest first: along the links, from the version to which no
 /// other links.
 pub(crate) fn oldest_first(order: &mut ArrayVec<usize, CAPACITY>, found: &[Option<Line>])
-    requires empty { order.old.items ≡ [] }
     requires few { length found.now ≤ CAPACITY }
     requires ranked { IsRanked (length found.now) (lines_at (map (option_map seen) found.now)) }
     ensures walked { AreWalked (lines_at (map (option_map seen) found.now)) (length found.now) order.new.items }
 {
+    order.clear();
     let Some(first) = first_of(found) else { return };
     order.push(first);
     let mut last = first;
