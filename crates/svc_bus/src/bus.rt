@@ -10,13 +10,15 @@ ghost use Rattle.svc_bus_laws.specs.BusState.{Agrees};
 ghost use Rattle.svc_bus.specs.Observed.{observed};
 ghost use Rattle.svc_bus.specs.Opened.{AreEmpty};
 
+use arrayvec::ArrayVec;
 use std::alloc::Global;
 use std::marker::Model;
 use svc_base::OpenError;
 use svc_cache::Cache;
 use svc_order::TaskQueue;
 use svc_retire::Spill;
-use svc_vol::VersionList;
+use svc_vcl::STALE_CAPACITY;
+use svc_vol::{Version, VersionList};
 
 /// The bus: it serves one call at a time, and each is one step.
 ///
@@ -33,8 +35,10 @@ pub struct Bus {
     pub(crate) commits: u64,
     // the look-ups of the last accepted read or write
     pub(crate) probes: u32,
-    // The last request's version list: a request fills it anew, so it says nothing of the bus.
+    // The last request's version list, and the lines that the last write changed. They are kept for their room alone: each
+    // request fills them anew, so they say nothing of the bus.
     pub(crate) list: VersionList,
+    pub(crate) changed: ArrayVec<Version, STALE_CAPACITY>,
 }
 
 impl Model for Bus {
@@ -115,6 +119,7 @@ impl Bus {
             commits: 0,
             probes: 0,
             list: VersionList::new(),
+            changed: ArrayVec::new(),
         })
     }
 }

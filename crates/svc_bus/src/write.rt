@@ -64,7 +64,7 @@ impl Bus {
         let place = place_of(&self.queue, unit);
         let mut probes = Probes::new();
         self.list.fill(&self.caches, &self.queue, word, &mut probes);
-        let plan = plan_write(&self.list, unit, place);
+        let plan = plan_write(&self.list, unit, place, &mut self.changed);
         let tasks = self.queue.len();
         let left = plan.victim.unwrap_or(tasks);
         let store = Store {
@@ -76,7 +76,7 @@ impl Bus {
                 next: plan.next,
             },
             previous: plan.previous,
-            changed: &plan.changed,
+            changed: &self.changed,
             left,
         };
         store_line(

@@ -1,11 +1,11 @@
 -- The links that a write sets, and the version before the written one.
-use Rattle.std.proofs.Common.{◌≡◌, ◌≢◌, ◌∙◌, refl, sym, ap, ap₂, subst, ℕ, zero, suc, ◌+◌, ◌<◌, ◌≤◌, Bool, true, false, cond, not, ◌&&◌, ◌||◌, ltb, lt-ltb, le-ltb, ltb-true, Option, Some, None, List, [], ◌∷◌, ◌++◌, length, get_or, take, option_map, is_some, inl, inr, arith, true≢false, unwrap_or}
+use Rattle.std.proofs.Common.{◌≡◌, ◌∙◌, refl, sym, ap, ap₂, ℕ, zero, suc, ◌+◌, ◌<◌, ◌≤◌, Bool, true, false, cond, not, ◌&&◌, ◌||◌, ltb, le-ltb, Option, Some, None, List, [], ◌∷◌, length, get_or, is_some, inl, inr, arith, true≢false}
 use Rattle.std.specs.Prelude.{option_and_then}
 use Rattle.std.specs.Bool.{◌==◌}
-use Rattle.std.proofs.lemmas.Bool.{and_parts, and_from, cases_Bool, cases_lt, eq-eqb, eqb-true}
+use Rattle.std.proofs.lemmas.Bool.{and_parts, cases_Bool, eq-eqb, eqb-true}
 use Rattle.std.proofs.lemmas.List.Folds.{list_any-append}
 use Rattle.svc_line.specs.Bits.{bits_of}
-use Rattle.svc_bus_laws.specs.Search.{least, greatest, any_below}
+use Rattle.svc_bus_laws.specs.Search.{least}
 use Rattle.svc_bus_laws.specs.LineTable.{LineTable}
 use Rattle.svc_bus_laws.specs.BusLine.{BusLine, purged_line, version_of_line}
 use Rattle.svc_bus_laws.specs.BusState.{BusState}
@@ -14,7 +14,7 @@ use Rattle.svc_bus_laws.proofs.Searches.{any_found, greatest_cases, least_cases}
 use Rattle.svc_links_laws.specs.LinkSteps.{place_after, place_before, unit_of}
 use Rattle.svc_vol.specs.declared.version.Version.{Version}
 use Rattle.svc_vol.specs.Versions.{Versions}
-use Rattle.svc_vcl.specs.Listed.{entry_at, is_version, nearest_in, nearest_version_in, next_in, next_version_in}
+use Rattle.svc_vcl.specs.Listed.{entry_at, is_version, nearest_version_in, next_in, next_version_in}
 use Rattle.svc_vcl.specs.Described.{IsEntryOf, IsRequest, line_shown}
 use Rattle.svc_vcl.specs.Planned.{changed_in, is_copy_of, is_named, is_passed_in, is_unmarked_in, marked_where, relinked_in, stale_in, unit_in}
 use Rattle.svc_vcl.proofs.Entries.{nearest_is, version_here}

@@ -23,8 +23,8 @@ use svc_vol::{CAPACITY, Version, VersionList};
 /// How many lines can become stale at most, going by the types: all of a version list.
 pub const STALE_CAPACITY: usize = 2 * CAPACITY;
 
-/// What a write does.
-#[derive(Drop)]
+/// What a write does, beside the lines of other units that change.
+#[derive(Clone, Copy)]
 pub struct WritePlan {
     /// The place of the task that is squashed, with all after it.
     pub victim: Option<usize>,
@@ -34,8 +34,6 @@ pub struct WritePlan {
     pub next: Option<UnitId>,
     /// The unit whose version is the nearest older one among active tasks. Its line is to link to the writer's unit.
     pub previous: Option<UnitId>,
-    /// The lines of other units that change, as they were before: those on which T is set, and that of `previous`.
-    pub changed: ArrayVec<Version, STALE_CAPACITY>,
 }
 
 // T is set.
@@ -123,10 +121,18 @@ fn unit_of(version: Option<Version>) -> Option<UnitId>
 }
 
 /// The plan of a write by the unit of the task at a place: the victim, if any, the bits that the unit's
-/// line then has, the links of the line and of the version before it, and the lines of other units that
-/// change: the committed copies and the lines of earlier tasks become stale, and the version before is linked. (A write
-/// purges the word, so no committed version is left.)
-pub fn plan_write(list: &VersionList, unit: UnitId, place: usize) -> WritePlan
+/// line then has, and the links of the line and of the version before it. (A write purges the word, so no committed
+/// version is left.)
+///
+/// `changed` becomes the lines of other units that change, as they were before: the committed copies and the lines of
+/// earlier tasks, which become stale, and that of the version before, which is linked. It is filled in place, since it
+/// is large.
+pub fn plan_write(
+    list: &VersionList,
+    unit: UnitId,
+    place: usize,
+    changed: &mut ArrayVec<Version, STALE_CAPACITY>,
+) -> WritePlan
     requires { place < length list.now.active }
     ensures victim { (b : BusState) (t : LineTable) (a : ℕ) → IsRequest b t a list.now unit.0 place
         → result.victim ≡ victim (bus_map b) place a }
@@ -141,15 +147,15 @@ pub fn plan_write(list: &VersionList, unit: UnitId, place: usize) -> WritePlan
         → option_map (λ unit. unit.0) result.previous ≡ unit_of b.units
         (place_before (λ q. is_some (version_of_line (bus_line_at b q a))) place) }
     ensures linked { (other : ℕ) → option_map (λ unit. unit.0) result.previous ≡ Some other
-        → is_named result.changed.items other ≡ true }
-    ensures listed { result.changed.items ≡ changed_in list.now unit.0 place }
+        → is_named changed.new.items other ≡ true }
+    ensures listed { changed.new.items ≡ changed_in list.now unit.0 place }
     // what the write makes of another unit's line
     ensures others { (b : BusState) (t : LineTable) (a value other : ℕ) → IsRequest b t a list.now unit.0 place
         → other ≢ unit.0 → (bus_write b place a value).lines other a
-        ≡ marked_where (is_named result.changed.items other)
+        ≡ marked_where (is_named changed.new.items other)
         (purged_line (line_after_cut b (survivors (bus_map b) place a) other a)) }
     ensures stale { (b : BusState) (t : LineTable) (a other : ℕ) → IsRequest b t a list.now unit.0 place
-        → is_named result.changed.items other
+        → is_named changed.new.items other
         ≡ (becomes_stale b place a other || is_named (relinked_in (nearest_version_in list.now.active place)) other) }
 {
     let active = list.active();
@@ -159,15 +165,14 @@ pub fn plan_write(list: &VersionList, unit: UnitId, place: usize) -> WritePlan
     let bits = own_bits(&active[place]).on_store(overtaken);
     let next = unit_of(next(active, left, place));
     let nearest = nearest(active, place);
-    let mut changed = ArrayVec::new();
-    list_copies(&mut changed, list.committed(), unit);
-    list_earlier(&mut changed, &active[..place]);
-    list_previous(&mut changed, nearest);
+    changed.clear();
+    list_copies(changed, list.committed(), unit);
+    list_earlier(changed, &active[..place]);
+    list_previous(changed, nearest);
     WritePlan {
         victim,
         bits,
         next,
         previous: unit_of(nearest),
-        changed,
     }
 }

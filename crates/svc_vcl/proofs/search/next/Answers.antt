@@ -1,4 +1,4 @@
-use Rattle.std.proofs.Common.{◌≡◌, ◌∙◌, ◌<◌, ◌≤◌, ◌&&◌, ltb, lt-ltb, le-ltb, true, false, sym, ap, length, arith, below_more}
+use Rattle.std.proofs.Common.{◌≡◌, ◌∙◌, ◌<◌, ◌&&◌, ltb, lt-ltb, true, sym, ap, arith, below_more}
 use Rattle.std.specs.Prelude.{option_and_then}
 use Rattle.std.proofs.lemmas.Bool.{and_from}
 use Rattle.svc_vcl.specs.Listed.{entry_at, is_version}

@@ -76,7 +76,7 @@ returns-clause-listed c =
     ∙ ap₂ (λ (xs : List Version) (o : Option Version). xs ++ relinked_in o)
     (c.list_earlier.ensures.listed
     ∙ ap₂ (λ (xs ys : List Version). xs ++ ys)
-    (c.list_copies.ensures.listed ∙ ap₂ (λ (xs committed : List Version). xs ++ copies_in committed c.args.unit.0) c.new-changed.ensures c.committed.ensures.lines)
+    (c.list_copies.ensures.listed ∙ ap₂ (λ (xs committed : List Version). xs ++ copies_in committed c.args.unit.0) c.clear.ensures c.committed.ensures.lines)
     (ap (λ (active : List (Option Version)). passed_in (take c.args.place active)) c.active-active.ensures.lines))
     (nearest_is c)
 

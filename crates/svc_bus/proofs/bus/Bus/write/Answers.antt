@@ -42,19 +42,19 @@ store_line-requires-clause-units c = rw c.deref_mut.ensures.value (units_known _
 pub store_line-requires-clause-held : goal.store_line-requires-clause-held
 store_line-requires-clause-held c =
     let list = listed _ c.self.invariant c.args.word.0 c.fill.new.self c.deref.result.now c.deref.ensures.value c.fill.ensures.committed c.fill.ensures.active in
-    rw c.deref-2.ensures.0 (held_lines _ c.self.invariant c.args.unit.0 c.place_of-place.result c.args.word.0 c.place_of-place.ensures.within c.place_of-place.ensures.at_work c.fill.new.self list c.plan_write-plan.result.changed.items c.plan_write-plan.ensures.listed c.deref_mut.result.now c.deref_mut.ensures.value)
+    rw c.deref-2.ensures.0 (held_lines _ c.self.invariant c.args.unit.0 c.place_of-place.result c.args.word.0 c.place_of-place.ensures.within c.place_of-place.ensures.at_work c.fill.new.self list c.plan_write-plan.new.changed.items c.plan_write-plan.ensures.listed c.deref_mut.result.now c.deref_mut.ensures.value)
 
 pub store_line-requires-clause-once : goal.store_line-requires-clause-once
 store_line-requires-clause-once c =
     let list = listed _ c.self.invariant c.args.word.0 c.fill.new.self c.deref.result.now c.deref.ensures.value c.fill.ensures.committed c.fill.ensures.active in
-    rw c.deref-2.ensures.0 (once_each _ c.self.invariant c.args.unit.0 c.place_of-place.result c.args.word.0 c.place_of-place.ensures.within c.place_of-place.ensures.at_work c.fill.new.self list c.plan_write-plan.result.changed.items c.plan_write-plan.ensures.listed c.deref_mut.result.now c.deref_mut.ensures.value)
+    rw c.deref-2.ensures.0 (once_each _ c.self.invariant c.args.unit.0 c.place_of-place.result c.args.word.0 c.place_of-place.ensures.within c.place_of-place.ensures.at_work c.fill.new.self list c.plan_write-plan.new.changed.items c.plan_write-plan.ensures.listed c.deref_mut.result.now c.deref_mut.ensures.value)
 
 pub store_line-requires-clause-active : goal.store_line-requires-clause-active
 unfolding observed
 store_line-requires-clause-active c =
     let list = listed _ c.self.invariant c.args.word.0 c.fill.new.self c.deref.result.now c.deref.ensures.value c.fill.ensures.committed c.fill.ensures.active in
     let known : c.args.word.0 < length c.self.inside.backing.items = rw (← c.self.view_is) at c.requires.in_memory in
-    line_active _ c.self.invariant c.args.unit.0 c.place_of-place.result c.args.word.0 c.place_of-place.ensures.within c.place_of-place.ensures.at_work c.fill.new.self list c.plan_write-plan.result.changed.items c.plan_write-plan.ensures.listed c.args.value c.unwrap_or-left.result (bits_of c.plan_write-plan.result.bits) (option_map (λ (u : UnitId). u.0) c.plan_write-plan.result.next) (option_map (λ (u : UnitId). u.0) c.plan_write-plan.result.previous)
+    line_active _ c.self.invariant c.args.unit.0 c.place_of-place.result c.args.word.0 c.place_of-place.ensures.within c.place_of-place.ensures.at_work c.fill.new.self list c.plan_write-plan.new.changed.items c.plan_write-plan.ensures.listed c.args.value c.unwrap_or-left.result (bits_of c.plan_write-plan.result.bits) (option_map (λ (u : UnitId). u.0) c.plan_write-plan.result.next) (option_map (λ (u : UnitId). u.0) c.plan_write-plan.result.previous)
     (left_is _ c.self.invariant c.args.unit.0 c.place_of-place.result c.args.word.0 c.place_of-place.ensures.within c.place_of-place.ensures.at_work c.fill.new.self list c.plan_write-plan.result.victim c.len-tasks.result c.len-tasks.ensures.count c.plan_write-plan.ensures.victim c.unwrap_or-left.result c.unwrap_or-left.ensures)
     c.plan_write-plan.ensures.valid c.plan_write-plan.ensures.line c.plan_write-plan.ensures.others c.plan_write-plan.ensures.next c.plan_write-plan.ensures.previous c.plan_write-plan.ensures.linked known
 
@@ -88,13 +88,13 @@ abbrev previous : goal.After-victim_of → Option ℕ
 previous c = option_map (λ (u : UnitId). u.0) c.plan_write-plan.result.previous
 
 abbrev changed : goal.After-victim_of → List Version
-changed c = c.plan_write-plan.result.changed.items
+changed c = c.plan_write-plan.new.changed.items
 
 plan_of : (c : goal.After-victim_of) → IsPlanned (before c) c.place_of-place.result c.args.word.0 c.args.value (line c) (previous c) (changed c) c.unwrap_or-left.result
 plan_of c =
     let list : HasList (before c) c.args.word.0 c.fill.new.self = listed (before c) c.self.invariant c.args.word.0 c.fill.new.self c.deref.result.now c.deref.ensures.value c.fill.ensures.committed c.fill.ensures.active in
     planned (before c) c.self.invariant c.args.unit.0 c.place_of-place.result c.args.word.0 c.place_of-place.ensures.within c.place_of-place.ensures.at_work c.fill.new.self list
-    c.plan_write-plan.result.changed.items c.plan_write-plan.ensures.listed c.args.value c.unwrap_or-left.result (bits_of c.plan_write-plan.result.bits) (option_map (λ (u : UnitId). u.0) c.plan_write-plan.result.next) (option_map (λ (u : UnitId). u.0) c.plan_write-plan.result.previous)
+    c.plan_write-plan.new.changed.items c.plan_write-plan.ensures.listed c.args.value c.unwrap_or-left.result (bits_of c.plan_write-plan.result.bits) (option_map (λ (u : UnitId). u.0) c.plan_write-plan.result.next) (option_map (λ (u : UnitId). u.0) c.plan_write-plan.result.previous)
     (left_is (before c) c.self.invariant c.args.unit.0 c.place_of-place.result c.args.word.0 c.place_of-place.ensures.within c.place_of-place.ensures.at_work c.fill.new.self list c.plan_write-plan.result.victim c.len-tasks.result c.len-tasks.ensures.count c.plan_write-plan.ensures.victim c.unwrap_or-left.result c.unwrap_or-left.ensures)
     c.plan_write-plan.ensures.valid c.plan_write-plan.ensures.line c.plan_write-plan.ensures.others c.plan_write-plan.ensures.next c.plan_write-plan.ensures.previous c.plan_write-plan.ensures.linked
 
