@@ -16,7 +16,8 @@ use Rattle.svc_core.specs.declared.burst.Lease.{Lease}
 use Rattle.svc_machine_laws.specs.Events.{Event, Submit, Replace}
 use Rattle.svc_machine_laws.specs.Standing.{refused}
 use Rattle.svc_history_laws.specs.declared.entry.Entry.{Entry}
-use Rattle.svc_history.specs.Applying.{IsRecorded, refused_at}
+use Rattle.svc_history_laws.specs.declared.entry.Slip.{Slip}
+use Rattle.svc_history.specs.Applying.{IsApplied, refused_at}
 use Rattle.svc_history.specs.Moves.{NextMove, move_of}
 use Rattle.svc_history.specs.Moves as move
 use Rattle.svc_history.specs.Recorded.{Recorded, standing_of}
@@ -46,8 +47,8 @@ ready_back img most n bs new is old ready =
     subst (AreReady img most) (sym (ap (λ k. take k (new ++ drop (length new) bs)) same ∙ take-append_seam new (drop (length new) bs))) ready
 
 -- an accepted event is recorded
-pub recorded : {A : Type 0} (old new : Recorded) (x : Event) (done : A) → IsRecorded old new x (Ok done) → Records old new x
-recorded old new x done is = record {
+pub recorded : (old new : Recorded) (x : Event) (slip : Slip) → IsApplied old new x (Ok slip) → Records old new x
+recorded old new x slip is = record {
   accepted = is.refused;
   entries = is.entries ∙ ap (λ (e : Entry). old.entries ++ e ∷ []) is.entry;
   image = is.image;
@@ -78,14 +79,14 @@ module _ (most : ℕ) (old new : Recorded) (unit : UnitId) (known : unit.0 < old
   })
 
   -- what was answered to the event of its move
-  pub asked_passed : {A : Type 0} (mv : NextMove) (x : Event) → move_of old.machine unit.0 ≡ mv → Wants mv x → (o : Result A Refusal) (ok : Bool) → ok ≡ is_ok o → IsRecorded old new x o
+  pub asked_passed : (mv : NextMove) (x : Event) → move_of old.machine unit.0 ≡ mv → Wants mv x → (o : Result Slip Refusal) (ok : Bool) → ok ≡ is_ok o → IsApplied old new x o
       → ok ≡ false → (new ≡ old) × IsPassed most old unit
-  asked_passed mv x is asks (Ok done) ok ok_is applied e = absurd (both_ways ok e ok_is)
+  asked_passed mv x is asks (Ok slip) ok ok_is applied e = absurd (both_ways ok e ok_is)
   asked_passed mv x is asks (Err why) ok ok_is applied e = (applied.unchanged, passed mv x why is asks applied.refused)
 
-  pub asked_made : {A : Type 0} (mv : NextMove) (x : Event) → move_of old.machine unit.0 ≡ mv → Wants mv x → (o : Result A Refusal) (ok : Bool) → ok ≡ is_ok o → IsRecorded old new x o
+  pub asked_made : (mv : NextMove) (x : Event) → move_of old.machine unit.0 ≡ mv → Wants mv x → (o : Result Slip Refusal) (ok : Bool) → ok ≡ is_ok o → IsApplied old new x o
       → ok ≡ true → IsMade most old new unit
-  asked_made mv x is asks (Ok done) ok ok_is applied e = made mv x is asks (recorded old new x done applied)
+  asked_made mv x is asks (Ok slip) ok ok_is applied e = made mv x is asks (recorded old new x slip applied)
   asked_made mv x is asks (Err why) ok ok_is applied e = absurd (both_ways ok ok_is e)
 
   module _ (lease : Lease) (runs : move_of old.machine unit.0 ≡ move.RunOn lease) (b : Advance) (burst : IsBurstOf old.machine.image most lease b) where
@@ -104,11 +105,11 @@ module _ (most : ℕ) (old new : Recorded) (unit : UnitId) (known : unit.0 < old
     replace_passed addr full why h = passed (move.RunOn lease) (Replace unit.0 addr.0) why runs (b, burst, inr (addr, full, refl)) h
 
     -- what was answered to the replacement
-    pub replace_answered : {A : Type 0} (mid : Recorded) → mid ≡ old → (addr : WordAddr) → why_not (Submit b) ≡ Some (refusal.SetFull addr) → (o : Result A Refusal) (ok : Bool) → ok ≡ is_ok o
-        → IsRecorded mid new (Replace unit.0 addr.0) o
+    pub replace_answered : (mid : Recorded) → mid ≡ old → (addr : WordAddr) → why_not (Submit b) ≡ Some (refusal.SetFull addr) → (o : Result Slip Refusal) (ok : Bool) → ok ≡ is_ok o
+        → IsApplied mid new (Replace unit.0 addr.0) o
         → (ok ≡ true → IsMade most old new unit) × (ok ≡ false → (new ≡ old) × IsPassed most old unit)
-    replace_answered mid same addr full (Ok done) ok ok_is applied =
-        (λ e. replace_made addr full (subst (λ (r : Recorded). Records r new (Replace unit.0 addr.0)) same (recorded mid new (Replace unit.0 addr.0) done applied)), λ e. absurd (both_ways ok e ok_is))
+    replace_answered mid same addr full (Ok slip) ok ok_is applied =
+        (λ e. replace_made addr full (subst (λ (r : Recorded). Records r new (Replace unit.0 addr.0)) same (recorded mid new (Replace unit.0 addr.0) slip applied)), λ e. absurd (both_ways ok e ok_is))
     replace_answered mid same addr full (Err why) ok ok_is applied = (
       λ e. absurd (both_ways ok ok_is e),
       λ e. (applied.unchanged ∙ same, replace_passed addr full why (subst (λ (r : Recorded). refused_at r (Replace unit.0 addr.0) ≡ Some why) same applied.refused)),

@@ -86,8 +86,8 @@ fn make_move(recorder: &mut Recorder, bursts: &mut [Burst], unit: UnitId, most: 
     };
     match next {
         Move::Ended | Move::Wait => false,
-        Move::Begin { guess } => recorder.record(Event::Assign { unit, guess }).is_ok(),
-        Move::Commit => recorder.record(Event::Commit { by: unit }).is_ok(),
+        Move::Begin { guess } => recorder.apply(Event::Assign { unit, guess }).is_ok(),
+        Move::Commit => recorder.apply(Event::Commit { by: unit }).is_ok(),
         Move::RunOn(lease) => {
             let burst = &mut bursts[usize::from(unit.0)];
             make_burst(burst, lease, recorder.machine().image(), most);
@@ -104,11 +104,11 @@ fn run_on(recorder: &mut Recorder, burst: &Burst, unit: UnitId) -> bool
     ensures passed { IsFalse result → (most : ℕ) → RunsOnBy most recorder.old unit burst.now
         → (recorder.new ≡ recorder.old) × IsPassed most recorder.old unit }
 {
-    let Err(refusal) = recorder.record(Event::Submit { burst }) else {
+    let Err(refusal) = recorder.apply(Event::Submit { burst }) else {
         return true;
     };
     match refusal {
-        Refusal::SetFull(addr) => recorder.record(Event::Replace { unit, addr }).is_ok(),
+        Refusal::SetFull(addr) => recorder.apply(Event::Replace { unit, addr }).is_ok(),
         _ => false,
     }
 }

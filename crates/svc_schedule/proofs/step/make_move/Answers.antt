@@ -14,32 +14,32 @@ returns-in-Begin-clause-made c = λ e.
     let old = c.args.recorder.now in
     let sees = c.in-Ok.ensures {u = tt} in
     let is = sym sees.moves ∙ ap told c.in-Begin.is in
-    asked_made c.args.most old c.record.new.self c.args.unit sees.refused (move.Begin c.in-Begin.guess) (Assign c.args.unit.0 c.in-Begin.guess) is refl
-    c.record.result c.is_ok.result c.is_ok.ensures.value c.record.ensures e
+    asked_made c.args.most old c.apply.new.self c.args.unit sees.refused (move.Begin c.in-Begin.guess) (Assign c.args.unit.0 c.in-Begin.guess) is refl
+    c.apply.result c.is_ok.result c.is_ok.ensures.value c.apply.ensures e
 
 pub returns-in-Begin-clause-passed : goal.returns-in-Begin-clause-passed
 returns-in-Begin-clause-passed c = λ e.
     let old = c.args.recorder.now in
     let sees = c.in-Ok.ensures {u = tt} in
     let is = sym sees.moves ∙ ap told c.in-Begin.is in
-    asked_passed c.args.most old c.record.new.self c.args.unit sees.refused (move.Begin c.in-Begin.guess) (Assign c.args.unit.0 c.in-Begin.guess) is refl
-    c.record.result c.is_ok.result c.is_ok.ensures.value c.record.ensures e
+    asked_passed c.args.most old c.apply.new.self c.args.unit sees.refused (move.Begin c.in-Begin.guess) (Assign c.args.unit.0 c.in-Begin.guess) is refl
+    c.apply.result c.is_ok.result c.is_ok.ensures.value c.apply.ensures e
 
 pub returns-in-Commit-clause-made : goal.returns-in-Commit-clause-made
 returns-in-Commit-clause-made c = λ e.
     let old = c.args.recorder.now in
     let sees = c.in-Ok.ensures {u = tt} in
     let is = sym sees.moves ∙ ap told c.in-Commit.is in
-    asked_made c.args.most old c.record-in-Commit.new.self c.args.unit sees.refused move.Commit (Commit c.args.unit.0) is refl
-    c.record-in-Commit.result c.is_ok-in-Commit.result c.is_ok-in-Commit.ensures.value c.record-in-Commit.ensures e
+    asked_made c.args.most old c.apply-in-Commit.new.self c.args.unit sees.refused move.Commit (Commit c.args.unit.0) is refl
+    c.apply-in-Commit.result c.is_ok-in-Commit.result c.is_ok-in-Commit.ensures.value c.apply-in-Commit.ensures e
 
 pub returns-in-Commit-clause-passed : goal.returns-in-Commit-clause-passed
 returns-in-Commit-clause-passed c = λ e.
     let old = c.args.recorder.now in
     let sees = c.in-Ok.ensures {u = tt} in
     let is = sym sees.moves ∙ ap told c.in-Commit.is in
-    asked_passed c.args.most old c.record-in-Commit.new.self c.args.unit sees.refused move.Commit (Commit c.args.unit.0) is refl
-    c.record-in-Commit.result c.is_ok-in-Commit.result c.is_ok-in-Commit.ensures.value c.record-in-Commit.ensures e
+    asked_passed c.args.most old c.apply-in-Commit.new.self c.args.unit sees.refused move.Commit (Commit c.args.unit.0) is refl
+    c.apply-in-Commit.result c.is_ok-in-Commit.result c.is_ok-in-Commit.ensures.value c.apply-in-Commit.ensures e
 
 pub make_burst-requires : goal.make_burst-requires
 make_burst-requires c =
