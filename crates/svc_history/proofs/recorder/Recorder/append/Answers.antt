@@ -1,16 +1,14 @@
-use Rattle.std.proofs.Common.{◌≡◌, ◌<◌, ◌∙◌, [], ◌∷◌, ◌++◌, Result, Ok, Err, true, is_ok, sym, ap, subst, arith, vec_len, vec_capacity}
+use Rattle.std.proofs.Common.{◌≡◌, ◌<◌, ◌∙◌, [], ◌∷◌, ◌++◌, Ok, Err, true, is_ok, refl, sym, ap, subst, arith, vec_len, vec_capacity}
 use Rattle.std.proofs.lemmas.Result.{err_from_is_err_and}
-use Rattle.svc_base.specs.declared.refusal.Refusal.{Refusal}
 use Rattle.svc_machine_laws.specs.Standing.{Standing, after_event}
 use Rattle.svc_machine_laws.proofs.Given.{given}
 use Rattle.svc_machine.specs.Events.{event_of}
-use Rattle.svc_history_laws.specs.declared.entry.Slip.{Slip}
-use Rattle.svc_history.specs.Applying.{IsApplied}
+use Rattle.svc_history.specs.Applying.{IsApplied, slip_at, with_slip}
 use Rattle.svc_history.specs.Recorded.{Recorded, standing_of}
 use Rattle.svc_history.specs.Kept.{IsKept}
 use Rattle.svc_history.proofs.Recording.{Follows, counts, recorded, sequential, leads_there, stayed, entry_is, below_limit}
 use Rattle.svc_history.proofs.Small.{small}
-use Rattle.svc_history.proofs.recorder.Recorder.apply.Goals as goal
+use Rattle.svc_history.proofs.recorder.Recorder.append.Goals as goal
 
 pub telling-entry-requires : goal.telling-entry-requires
 telling-entry-requires c =
@@ -73,8 +71,8 @@ returns-in_err-reply c =
     let because = says.refused (standing_of r) kept.legal.here in
     let told = err_from_is_err_and c.from_residual.result c.from_residual.ensures.1 in
     let same : c.from_residual.result ≡ Err c.in_err-reply.field-0.0 = told.1 ∙ ap Err told.2 in
-    subst (λ (old : Recorded). IsApplied old after x c.from_residual.result) c.self.view_is
-    (subst (λ (answer : Result Slip Refusal). IsApplied r after x answer) (sym same) (stayed r x c.step.new.self _ kept because says.unchanged))
+    subst (λ (old : Recorded). IsApplied old after x (with_slip (slip_at old x) c.from_residual.result)) c.self.view_is
+    (subst (λ answer. IsApplied r after x (with_slip (slip_at r x) answer)) (sym same) (stayed r x c.step.new.self _ kept because says.unchanged))
 
 -- an accepted one
 pub returns : goal.returns
@@ -82,11 +80,12 @@ returns c =
     let r = before_push c in
     let kept = kept_after c in
     let f = follows c in
-    let done : IsApplied r (after c) (event_of c.args.event) (Ok (record { index = c.len-index.result; entry = c.telling-entry.result })) = record {
+    let x = event_of c.args.event in
+    let done : IsApplied r (after c) x (Ok (slip_at r x)) = record {
       refused = f.accepted;
-      index = omega (arith, c.len-index.ensures, c.self.inside.entries.ok.0);
-      entry = f.entry;
-      entries = pushed c;
+      index = refl;
+      entry = refl;
+      entries = pushed c ∙ ap (λ e. r.entries ++ e ∷ []) f.entry;
       standing = led c;
       image = f.image;
       config = f.config;
@@ -96,4 +95,4 @@ returns c =
       counted = counts (after c) kept;
       headline = sequential (after c) kept;
     } in
-    subst (λ (old : Recorded). IsApplied old (after c) (event_of c.args.event) (Ok (record { index = c.len-index.result; entry = c.telling-entry.result }))) c.self.view_is done
+    subst (λ (old : Recorded). IsApplied old (after c) x (Ok (slip_at old x))) c.self.view_is done
