@@ -2,9 +2,9 @@
 use Rattle.std.specs.Prelude.{◌≡◌, ◌≤◌, ◌↔◌, ◌⊎◌, ℕ, List, Option, None, Some, length, map, codes, slice_get, string_bytes}
 use Rattle.std.specs.declared.string.String.{String}
 use Rattle.svc_base.specs.declared.config.Config.{Config}
-use Rattle.svc_program.specs.declared.request.Source.TheVariants as source
-use Rattle.svc_program.specs.declared.request.Request.{Request}
-use Rattle.svc_program.specs.declared.request.Request.TheVariants as request
+use Rattle.svc_request.specs.declared.request.Source.TheVariants as source
+use Rattle.svc_request.specs.declared.request.Request.{Request}
+use Rattle.svc_request.specs.declared.request.Request.TheVariants as request
 use Rattle.svc_program.specs.Requests.{KeepsFiles}
 
 -- the texts of words, the program's name first

@@ -1,7 +1,7 @@
 //! The program over any words, files and streams.
 
 ghost use Rattle.std.specs.Prelude.{◌≡◌, ◌≢◌, ◌⊎◌, ◌≤◌, IfOk, IfErr};
-ghost use Rattle.svc_program.specs.Faults.{IsReportFault};
+ghost use Rattle.svc_request.specs.Faults.{IsReportFault};
 ghost use Rattle.svc_program.specs.Requests.{Does};
 ghost use Rattle.svc_command.specs.Asked.{KeepsAsked, MayAsk, texts};
 

@@ -1,5 +1,5 @@
 -- What an event comes to at a recorder.
-use Rattle.std.specs.Prelude.{◌≡◌, ◌++◌, ◌∷◌, [], length, Option, Some, None, Result, Ok, Err, IfOk, OnErr, MatchResult}
+use Rattle.std.specs.Prelude.{◌≡◌, ◌++◌, ◌∷◌, [], length, Option, Some, None, Result, IfOk, OnErr, MatchResult}
 use Rattle.svc_base.specs.declared.refusal.Refusal.{Refusal}
 use Rattle.svc_machine_laws.specs.Events.{Event}
 use Rattle.svc_machine_laws.specs.Standing.{Standing, after_event, refused, reply_to}
@@ -41,15 +41,3 @@ pub record IsApplied (old new : Recorded) (x : Event) (answer : Result Slip Refu
   pub legal : IsLegal new
   pub counted : IsCounted new
   pub headline : IsSequentialMachine (board new.entries).committed new.machine
-
--- the slip of an accepted event
-abbrev pub slip_at : Recorded → Event → Slip
-slip_at r x = record { index = length r.entries; entry = entry_at r x }
-
-abbrev pub with_slip : {A : Type 0} → Slip → Result A Refusal → Result Slip Refusal
-with_slip slip (Ok done) = Ok slip
-with_slip slip (Err why) = Err why
-
--- an event is appended just as it is applied, and only its slip isn't handed on
-abbrev pub IsAppended : {A : Type 0} → (old new : Recorded) → Event → Result A Refusal → Type 0
-IsAppended old new x answer = IsApplied old new x (with_slip (slip_at old x) answer)

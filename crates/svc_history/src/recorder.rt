@@ -5,7 +5,7 @@ ghost use Rattle.svc_machine.specs.Events.{event_of};
 ghost use Rattle.svc_machine.specs.Value.{IsSequentialMachine};
 ghost use Rattle.svc_history_laws.specs.Board.{board};
 ghost use Rattle.svc_history.specs.Recorded.{IsCounted, IsLegal};
-ghost use Rattle.svc_history.specs.Applying.{IsApplied, IsAppended};
+ghost use Rattle.svc_history.specs.Applying.{IsApplied};
 ghost use Rattle.svc_history.specs.Glances.{IsGlance, IsUnitKnown, has_ended, is_full_ending};
 ghost use Rattle.svc_history.specs.Moves.{move_of, told};
 
@@ -79,22 +79,14 @@ impl Recorder {
         ensures { IsApplied self.old self.new (event_of event.entry) result }
     {
         let index = self.entries.len();
-        self.append(event)?;
-        Ok(Slip {
-            index,
-            entry: self.entries[index],
-        })
-    }
-
-    /// The same for the crate's own replay, which makes no slip of the new entry.
-    pub(crate) fn append(&mut self, event: Event<'_>) -> Result<(), Refusal>
-        ensures { IsAppended self.old self.new (event_of event.entry) result }
-    {
         let reply = self.machine.step(event)?;
         let named = named(event);
         let entry = telling(named, &reply);
         let _pushed = self.entries.push(entry);
-        Ok(())
+        Ok(Slip {
+            index,
+            entry: self.entries[index],
+        })
     }
 
     /// The machine where the history leads. Its reads tell what running the committed tasks one after another leaves.

@@ -97,10 +97,9 @@ fn compared(recorder: &mut Recorder, entry: &Entry, event: Event<'_>) -> Result<
     ensures config { recorder.new.machine.config ≡ recorder.old.machine.config }
     ensures fault { IsLegal recorder.old → IfErr result (IsWrongThere recorder.old entry.now) }
 {
-    let index = recorder.entries().len();
-    match recorder.append(event) {
-        Ok(()) if is_same(&recorder.entries()[index], entry) => Ok(()),
-        Ok(()) => Err(TraceFaultKind::Differs),
+    match recorder.apply(event) {
+        Ok(slip) if is_same(&slip.entry, entry) => Ok(()),
+        Ok(_) => Err(TraceFaultKind::Differs),
         Err(_) => Err(TraceFaultKind::Refused),
     }
 }

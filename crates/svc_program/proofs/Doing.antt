@@ -6,9 +6,9 @@ use Rattle.svc_image.specs.Image.{Image}
 use Rattle.svc_history_laws.specs.declared.entry.Entry.{Entry}
 use Rattle.svc_history.specs.Recorded.{Recorded}
 use Rattle.svc_report.specs.declared.table.TableRow.{TableRow}
-use Rattle.svc_program.specs.declared.request.Schedule.{Schedule}
-use Rattle.svc_program.specs.declared.request.Source.{Source}
-use Rattle.svc_program.specs.declared.request.Request.TheVariants as request
+use Rattle.svc_request.specs.declared.request.Schedule.{Schedule}
+use Rattle.svc_request.specs.declared.request.Source.{Source}
+use Rattle.svc_request.specs.declared.request.Request.TheVariants as request
 use Rattle.svc_program.specs.Requests.{Does, IsOfSource, IsTraceIn, SavesTrace}
 use Rattle.svc_program.specs.Runs.{GoesBy, IsRunOf, ReportsRun}
 use Rattle.svc_program.specs.Shown.{TellsMachine}

@@ -9,7 +9,7 @@ use Rattle.svc_history_laws.specs.declared.entry.Entry.{Entry}
 use Rattle.svc_history_laws.specs.Legal.{LegalHistory}
 use Rattle.svc_history.specs.Recorded.{IsLegal, Recorded}
 use Rattle.svc_show.specs.Show.{show_of}
-use Rattle.svc_program.specs.declared.faults.Fault.TheVariants.{File}
+use Rattle.svc_request.specs.declared.faults.Fault.TheVariants.{File}
 use Rattle.svc_program.specs.Shown.{IsPastTheEnd, shown_entries}
 
 -- so many, as far as there are any

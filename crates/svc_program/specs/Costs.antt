@@ -10,8 +10,8 @@ use Rattle.svc_view.specs.ProfileRow.{profile_row}
 use Rattle.svc_view.specs.Tasks.{task_table}
 use Rattle.svc_view.specs.Units.{unit_table}
 use Rattle.svc_words.specs.Words.{word_table}
-use Rattle.svc_program.specs.declared.request.Table.{Table}
-use Rattle.svc_program.specs.declared.request.Table.TheVariants as table
+use Rattle.svc_request.specs.declared.request.Table.{Table}
+use Rattle.svc_request.specs.declared.request.Table.TheVariants as table
 
 -- what is told of a history: its profile, or a table of its tasks, of the configuration's units or of the words that it touches, or the profile as a row of a table
 abbrev pub cost_text : Option Table → Config → List Entry → List ℕ

@@ -1,9 +1,7 @@
-pub mod Faults
 pub mod Requests
 pub mod Runs
 pub mod Costs
 pub mod Shown
 pub mod Scripts
 pub mod Assembly
-pub mod Names
 pub mod Drawings

@@ -12,17 +12,17 @@ use Rattle.svc_report.specs.declared.script.Step.{Step}
 use Rattle.svc_report.specs.Records.{IsText}
 use Rattle.svc_report.specs.Script.{HasStepRow, script_records}
 use Rattle.svc_report.specs.Trace.{HasRow, text_of, trace_records}
-use Rattle.svc_program.specs.declared.request.Source.{Source}
-use Rattle.svc_program.specs.declared.request.Source.TheVariants as source
-use Rattle.svc_program.specs.declared.request.Request.{Request}
-use Rattle.svc_program.specs.declared.request.Request.TheVariants as request
-use Rattle.svc_program.specs.declared.request.TheConstants.{VERSION}
-use Rattle.svc_program.specs.declared.faults.Fault.{Fault}
-use Rattle.svc_program.specs.declared.faults.Fault.TheVariants as fault
+use Rattle.svc_request.specs.declared.request.Source.{Source}
+use Rattle.svc_request.specs.declared.request.Source.TheVariants as source
+use Rattle.svc_request.specs.declared.request.Request.{Request}
+use Rattle.svc_request.specs.declared.request.Request.TheVariants as request
+use Rattle.svc_request.specs.declared.request.TheConstants.{VERSION}
+use Rattle.svc_request.specs.declared.faults.Fault.{Fault}
+use Rattle.svc_request.specs.declared.faults.Fault.TheVariants as fault
 use Rattle.svc_program.specs.Assembly.{Assembles, Lists}
 use Rattle.svc_program.specs.Costs.{TellsCost}
 use Rattle.svc_program.specs.Drawings.{IsDrawn}
-use Rattle.svc_program.specs.Faults.{IsReportFault}
+use Rattle.svc_request.specs.Faults.{IsReportFault}
 use Rattle.svc_program.specs.Runs.{FindsSound, GoesBy, IsRunOf, Reports, ReportsRun}
 use Rattle.svc_program.specs.Scripts.{PlaysScript}
 use Rattle.svc_program.specs.Shown.{TellsMachine}

@@ -22,9 +22,9 @@ use Rattle.svc_report.specs.declared.counts.Counts.{Counts}
 use Rattle.svc_report.specs.declared.table.TableRow.{TableRow}
 use Rattle.svc_report.specs.Summary.{counts_of, summary_of}
 use Rattle.svc_report.specs.Table.{summary_row}
-use Rattle.svc_program.specs.declared.request.Order.{Order}
-use Rattle.svc_program.specs.declared.request.Order.TheVariants as order
-use Rattle.svc_program.specs.declared.request.Schedule.{Schedule}
+use Rattle.svc_request.specs.declared.request.Order.{Order}
+use Rattle.svc_request.specs.declared.request.Order.TheVariants as order
+use Rattle.svc_request.specs.declared.request.Schedule.{Schedule}
 
 -- the exit status of a run: 0 where the program came to its exit, else 2
 abbrev pub status_of : Ending → ℕ

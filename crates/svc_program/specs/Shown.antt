@@ -6,8 +6,8 @@ use Rattle.svc_image.specs.Image.{Image}
 use Rattle.svc_history_laws.specs.declared.entry.Entry.{Entry}
 use Rattle.svc_history_laws.specs.Legal.{LegalHistory}
 use Rattle.svc_show.specs.Show.{show_of}
-use Rattle.svc_program.specs.declared.faults.Fault.{Fault}
-use Rattle.svc_program.specs.declared.faults.Fault.TheVariants as fault
+use Rattle.svc_request.specs.declared.faults.Fault.{Fault}
+use Rattle.svc_request.specs.declared.faults.Fault.TheVariants as fault
 
 -- the entries after which the machine is shown: the first so many, or all
 abbrev pub shown_entries : Option ℕ → List Entry → List Entry

@@ -2,17 +2,16 @@
 
 ghost use Rattle.std.specs.Prelude.{◌≡◌, ◌⊎◌, IfOk, IfErr, IfSome};
 ghost use Rattle.svc_program.specs.Assembly.{Assembles, Lists};
-ghost use Rattle.svc_program.specs.Faults.{IsReportFault};
+ghost use Rattle.svc_request.specs.Faults.{IsReportFault};
 ghost use Rattle.svc_program.specs.Requests.{Spares};
 
-use crate::faults::Fault;
-use crate::files::Files;
 use crate::front::front_of;
 use std::alloc::Global;
 use std::io::Write;
 use svc_asm::{AssembleError, assemble};
 use svc_image::Image;
 use svc_list::list;
+use svc_request::{Fault, Files};
 
 /// Assembles the text of one file, and makes its image the whole content of another. It returns the
 /// exit status.

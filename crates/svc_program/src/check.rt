@@ -2,15 +2,15 @@
 
 ghost use Rattle.std.specs.Prelude.{◌≡◌, ◌⊎◌, length, IfOk, IfErr};
 ghost use Rattle.std.specs.Io.KnownBytes.{Appends};
-ghost use Rattle.svc_program.specs.Faults.{IsReportFault, TellsOfTrace};
+ghost use Rattle.svc_request.specs.Faults.{IsReportFault, TellsOfTrace};
 ghost use Rattle.svc_program.specs.Runs.{FindsSound};
 
-use crate::faults::Fault;
 use std::alloc::Global;
 use std::io::Write;
 use svc_base::Config;
 use svc_history::{Entry, check_trace};
 use svc_image::Image;
+use svc_request::Fault;
 
 /// Replays the entries, and prints that they are sound. It returns the exit status.
 pub fn check<O: Write>(

@@ -1,14 +1,11 @@
 //! Does what is asked for, over any files and streams.
 
 ghost use Rattle.std.specs.Prelude.{◌≡◌, ◌⊎◌, Err, IfOk, IfErr};
-ghost use Rattle.svc_program.specs.Faults.{IsEarly, IsReportFault};
-ghost use Rattle.svc_program.specs.Names.{IsOverItself};
+ghost use Rattle.svc_request.specs.Faults.{IsEarly, IsReportFault};
+ghost use Rattle.svc_request.specs.Names.{IsOverItself};
 ghost use Rattle.svc_program.specs.Requests.{Does, HasImage, KeepsFiles, Shows, Spares, version_row};
 
 use crate::assembly::assemble_file;
-use crate::faults::Fault;
-use crate::files::Files;
-use crate::request::{Request, VERSION};
 use crate::subcommands::{
     do_check, do_draw, do_list, do_profile, do_run, do_script, do_sequential, do_show,
 };
@@ -16,6 +13,7 @@ use std::alloc::Global;
 use std::io::Write;
 use std::sync::Wait;
 use std::thread::Threads;
+use svc_request::{Fault, Files, Request, VERSION};
 
 /// Does what is asked for. It returns the exit status: 0 if the run came to the program's exit, a
 /// trace was sound, an image was assembled or listed, or help or the version was asked for, and 2
@@ -42,7 +40,7 @@ pub fn perform<R: Threads + Wait + Sync, F: Files, O: Write>(
     ensures apart { IsOverItself request.entry → (result ≡ Err Fault.File) × (F.held files.new ≡ F.held files.old)
         × (out.new ≡ out.old) }
 {
-    if request.is_over_itself() || request.is_over_one_file(files) {
+    if request.is_over_itself(files) {
         return Err(Fault::File);
     }
     dispatch(rt, alloc, request, files, out)

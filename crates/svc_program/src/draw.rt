@@ -1,17 +1,17 @@
 //! `draw`: a picture of a trace.
 
 ghost use Rattle.std.specs.Prelude.{◌≡◌, ◌⊎◌, IfOk, IfErr};
-ghost use Rattle.svc_program.specs.declared.faults.Fault.TheVariants.{File};
+ghost use Rattle.svc_request.specs.declared.faults.Fault.TheVariants.{File};
 ghost use Rattle.svc_program.specs.Drawings.{IsDrawn};
-ghost use Rattle.svc_program.specs.Faults.{IsReportFault, TellsOfTrace};
+ghost use Rattle.svc_request.specs.Faults.{IsReportFault, TellsOfTrace};
 
-use crate::faults::Fault;
 use std::alloc::Global;
 use svc_base::Config;
 use svc_draw::draw;
 use svc_history::{Entry, check_trace};
 use svc_history_laws::history_leads_on;
 use svc_image::Image;
+use svc_request::Fault;
 
 /// Replays the entries, and draws at most the given number of them, from the given one on.
 ///

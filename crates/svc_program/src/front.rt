@@ -1,11 +1,11 @@
 //! The beginning of a file that may have no end.
 
 ghost use Rattle.std.specs.Prelude.{◌≡◌, ◌≤◌, IfOk, IfErr, IfSome, length};
-ghost use Rattle.svc_program.specs.Faults.{IsEarly};
+ghost use Rattle.svc_request.specs.Faults.{IsEarly};
 
-use crate::faults::Fault;
 use std::alloc::Global;
 use std::io::Read;
+use svc_request::Fault;
 
 /// What a reader gives, up to one byte more than `most`. If there are at most `most` bytes, they
 /// are the whole file.

@@ -2,18 +2,16 @@
 
 ghost use Rattle.std.specs.Prelude.{◌≡◌, None, IfOk, IfErr, IfSome};
 ghost use Rattle.svc_image.specs.Format.{file_of};
-ghost use Rattle.svc_program.specs.Faults.{IsEarly};
+ghost use Rattle.svc_request.specs.Faults.{IsEarly};
 ghost use Rattle.svc_program.specs.Requests.{IsOfSource, IsScriptIn, IsTraceIn, SavesTrace, Spares};
 
-use crate::faults::Fault;
-use crate::files::Files;
 use crate::front::front_of;
-use crate::request::Source;
 use std::alloc::Global;
 use std::io::Read;
 use svc_history::Entry;
 use svc_image::{Image, ImageError, samples};
 use svc_report::{ReportError, Step, read_script, read_trace, write_trace};
+use svc_request::{Fault, Files, Source};
 
 // The size in bytes of the largest image, which is one of version 2: the header with the registers,
 // entries, as many limits, text and data.

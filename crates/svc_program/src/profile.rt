@@ -5,10 +5,8 @@ ghost use Rattle.std.specs.Io.KnownBytes.{Appends};
 ghost use Rattle.svc_base.specs.declared.config.TheConstants.{MAX_EVENTS};
 ghost use Rattle.svc_report.specs.Faults.{IsWriteFault};
 ghost use Rattle.svc_program.specs.Costs.{TellsCost, cost_text};
-ghost use Rattle.svc_program.specs.Faults.{IsReportFault, TellsOfTrace};
+ghost use Rattle.svc_request.specs.Faults.{IsReportFault, TellsOfTrace};
 
-use crate::faults::Fault;
-use crate::request::Table;
 use std::alloc::Global;
 use std::io::Write;
 use svc_base::Config;
@@ -16,6 +14,7 @@ use svc_history::{Entry, check_trace};
 use svc_history_laws::history_leads_on;
 use svc_image::Image;
 use svc_report::ReportError;
+use svc_request::{Fault, Table};
 use svc_view::{write_profile, write_profile_row, write_tasks, write_units};
 use svc_words::write_words;
 

@@ -2,16 +2,15 @@
 
 ghost use Rattle.std.specs.Prelude.{IfOk, IfErr};
 ghost use Rattle.svc_program.specs.Runs.{GoesBy, IsRunOf, IsScheduledBy};
-ghost use Rattle.svc_program.specs.Faults.{IsRunFault};
+ghost use Rattle.svc_request.specs.Faults.{IsRunFault};
 
-use crate::faults::Fault;
-use crate::request::{Order, Schedule};
 use std::alloc::Global;
 use std::sync::Wait;
 use std::thread::Threads;
 use svc_base::{Config, UnitId};
 use svc_history::Recorder;
 use svc_image::Image;
+use svc_request::{Fault, Order, Schedule};
 use svc_schedule::{Oldest, Random, Rotate, Youngest, run_schedule};
 use svc_threads::{Gate, Phase, run_units};
 

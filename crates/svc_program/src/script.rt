@@ -7,10 +7,9 @@ ghost use Rattle.svc_machine.specs.Events.{event_of};
 ghost use Rattle.svc_machine.specs.Reads.{lease_of};
 ghost use Rattle.svc_history.specs.Recorded.{IsLegal};
 ghost use Rattle.svc_program.specs.Runs.{ReportsOn};
-ghost use Rattle.svc_program.specs.Faults.{IsReportFault, IsRunFault};
+ghost use Rattle.svc_request.specs.Faults.{IsReportFault, IsRunFault};
 ghost use Rattle.svc_program.specs.Scripts.{DoesKind, Gives, HasBurst, HasPlayed, PlaysScript, Submits, Takes, Tries, answer_row, kept_for};
 
-use crate::faults::Fault;
 use crate::summary::print_recorded;
 use std::alloc::Global;
 use std::io::Write;
@@ -19,6 +18,7 @@ use svc_core::Burst;
 use svc_history::{Entry, Event, Recorder};
 use svc_image::Image;
 use svc_report::{Step, StepKind, write_entry};
+use svc_request::Fault;
 
 /// The outcome of a step of a script.
 #[derive(Clone, Copy, Debug, PartialEq, Eq)]

@@ -2,15 +2,15 @@
 
 ghost use Rattle.std.specs.Prelude.{◌≡◌, ◌⊎◌, false, None, IfOk, IfErr};
 ghost use Rattle.svc_plain.specs.Tasks.{tasks_run};
-ghost use Rattle.svc_program.specs.Faults.{IsReportFault};
+ghost use Rattle.svc_request.specs.Faults.{IsReportFault};
 ghost use Rattle.svc_program.specs.Runs.{Reports};
 
-use crate::faults::Fault;
 use crate::summary::print;
 use std::alloc::Global;
 use std::io::Write;
 use svc_image::Image;
 use svc_plain::run_tasks;
+use svc_request::Fault;
 
 /// Runs at most this many tasks on one flat memory, and prints the summary. It returns the exit
 /// status.

@@ -3,16 +3,16 @@
 ghost use Rattle.std.specs.Prelude.{◌≡◌, ◌⊎◌, ◌≤◌, ◌<◌, IfOk, IfErr, IfSome, length, min, nat_lt, unwrap_or};
 ghost use Rattle.svc_history_laws.specs.Legal.{LegalHistory};
 ghost use Rattle.svc_show.specs.Show.{show_of};
-ghost use Rattle.svc_program.specs.declared.faults.Fault.TheVariants.{File};
-ghost use Rattle.svc_program.specs.Faults.{IsReportFault, TellsOfTrace};
+ghost use Rattle.svc_request.specs.declared.faults.Fault.TheVariants.{File};
+ghost use Rattle.svc_request.specs.Faults.{IsReportFault, TellsOfTrace};
 ghost use Rattle.svc_program.specs.Shown.{IsPastTheEnd, TellsMachine, shown_entries};
 
-use crate::faults::Fault;
 use std::alloc::Global;
 use std::io::Write;
 use svc_base::Config;
 use svc_history::{Entry, Recorder, check_on, open_trace};
 use svc_image::Image;
+use svc_request::Fault;
 use svc_show::show_text;
 use svc_view::text::write_text;
 

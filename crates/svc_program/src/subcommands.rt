@@ -1,18 +1,15 @@
 //! The subcommands that want an image: its file is read first, then that of a script or a trace, and then it is done.
 
 ghost use Rattle.std.specs.Prelude.{ℕ, List, Option, ◌≡◌, ◌⊎◌, IfOk, IfErr};
-ghost use Rattle.svc_program.specs.declared.request.Request.TheVariants as request;
-ghost use Rattle.svc_program.specs.Faults.{IsEarly, IsReportFault};
+ghost use Rattle.svc_request.specs.declared.request.Request.TheVariants as request;
+ghost use Rattle.svc_request.specs.Faults.{IsEarly, IsReportFault};
 ghost use Rattle.svc_program.specs.Requests.{Does, IsOfSource, IsThere, IsTraceIn, KeepsFiles, Spares};
 
 use crate::assembly::list_image;
 use crate::check::check;
 use crate::draw::draw_trace;
-use crate::faults::Fault;
-use crate::files::Files;
 use crate::load::{load_image, load_script, load_trace, save_trace};
 use crate::profile::profile;
-use crate::request::{Schedule, Source, Table};
 use crate::run::run_image;
 use crate::script::script;
 use crate::sequential::sequential;
@@ -26,6 +23,7 @@ use svc_base::Config;
 use svc_history::Entry;
 use svc_image::Image;
 use svc_report::TableRow;
+use svc_request::{Fault, Files, Schedule, Source, Table};
 
 /// Runs an image, saves its trace where a file is named for it, and prints the summary.
 pub(crate) fn do_run<R: Threads + Wait + Sync, F: Files, O: Write>(

@@ -3,15 +3,15 @@
 ghost use Rattle.std.specs.Prelude.{◌≡◌, ◌⊎◌, OnOk, IfOk, IfErr, Some};
 ghost use Rattle.std.specs.Io.KnownBytes.{Appends};
 ghost use Rattle.svc_report.specs.Summary.{summary_of};
-ghost use Rattle.svc_program.specs.Faults.{IsReportFault};
+ghost use Rattle.svc_request.specs.Faults.{IsReportFault};
 ghost use Rattle.svc_program.specs.Runs.{ReportsOn, ReportsRow, ReportsRun, status_of};
 
-use crate::faults::Fault;
 use std::alloc::Global;
 use std::io::Write;
 use svc_core::Ending;
 use svc_history::Recorder;
 use svc_report::{Counts, TableRow, write_summary, write_summary_row};
+use svc_request::Fault;
 
 /// Prints the summary of a run: the output words, how many tasks were run or committed, the ending,
 /// and the counts if they are given. It returns the exit status.

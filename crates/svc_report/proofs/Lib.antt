@@ -1,7 +1,6 @@
 pub mod Counting
 pub mod Pending
 pub mod PlainLines
-pub mod Limits
 pub mod Rows
 pub mod Whole
 pub mod Short

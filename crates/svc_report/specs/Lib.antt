@@ -7,6 +7,4 @@ pub mod Rows
 pub mod Script
 pub mod Summary
 pub mod Trace
-pub mod Limit
-pub mod Places
 pub mod Table

@@ -4,7 +4,6 @@
 mod counts;
 mod error;
 mod laws;
-mod limited;
 mod lines;
 mod numbers;
 mod reading;

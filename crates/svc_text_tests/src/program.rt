@@ -126,6 +126,17 @@ enum Printing {
     Version,
 }
 
+const KINDS: [Printing; 8] = [
+    Printing::Summary,
+    Printing::Script,
+    Printing::Check,
+    Printing::Profile,
+    Printing::Tasks,
+    Printing::Show,
+    Printing::List,
+    Printing::Version,
+];
+
 fn request_of<'a>(kind: Printing, config: Config) -> Request<'a> {
     let image = Source::BuiltIn;
     match kind {
@@ -212,17 +223,35 @@ fn failures_are_told<R: Threads + Wait + Sync + AllocGlobal>(rt: &R, kind: Print
 
 #[test]
 fn output_that_fails_once_is_told(rt: HostRuntime) {
-    for kind in [
-        Printing::Summary,
-        Printing::Script,
-        Printing::Check,
-        Printing::Profile,
-        Printing::Tasks,
-        Printing::Show,
-        Printing::List,
-        Printing::Version,
-    ] {
+    for kind in KINDS {
         assert!(rt; failures_are_told(&rt, kind));
+    }
+}
+
+// A writer that takes all bytes, and can't be flushed.
+#[derive(Drop)]
+struct Unflushed;
+
+impl Write for Unflushed {
+    fn write(&mut self, buf: &[u8]) -> io::Result<usize> {
+        Ok(buf.len())
+    }
+
+    fn flush(&mut self) -> io::Result<()> {
+        Err(io::Error::from(ErrorKind::BrokenPipe))
+    }
+}
+
+// Whether that is told.
+fn flush_is_told<R: Threads + Wait + Sync + AllocGlobal>(rt: &R, kind: Printing) -> bool {
+    let answer = print(rt, kind, &mut Unflushed);
+    matches!(answer, Some(Err(Fault::Report(ReportError::Write))))
+}
+
+#[test]
+fn output_that_is_not_flushed_is_told(rt: HostRuntime) {
+    for kind in KINDS {
+        assert!(rt; flush_is_told(&rt, kind));
     }
 }
 

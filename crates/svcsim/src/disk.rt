@@ -1,7 +1,7 @@
 //! What the program takes from the system: the words of its command line, and the files of the disk.
 
 ghost use Rattle.std.specs.Prelude.{◌≡◌, IfErr};
-ghost use Rattle.svc_program.specs.declared.faults.Fault.TheVariants.{File};
+ghost use Rattle.svc_request.specs.declared.faults.Fault.TheVariants.{File};
 
 use std::os::unix::fs::MetadataExt;
 use std::rt::{self, Env};

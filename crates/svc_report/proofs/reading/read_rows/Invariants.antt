@@ -1,7 +1,7 @@
 use Rattle.std.proofs.Common.{◌≡◌, ◌+◌, length, map}
 use Rattle.std.specs.List.{AllByRecursion}
 use Rattle.svc_report.specs.Records.{IsOpen}
-use Rattle.svc_report.specs.Places.{known_through}
+use Rattle.svc_limited.specs.Places.{known_through}
 use Rattle.svc_report.specs.Rows.{records_of}
 use Rattle.svc_report.proofs.Tracks.{Tracks}
 use Rattle.svc_report.proofs.reading.read_rows.Given as goal

@@ -8,8 +8,8 @@ use Rattle.svc_history.specs.declared.trace.TraceFaultKind.TheVariants as kind
 use Rattle.svc_history.specs.Faults.{IsFault}
 use Rattle.svc_report.specs.declared.error.ReportError.{ReportError}
 use Rattle.svc_report.specs.declared.error.ReportError.TheVariants as error
-use Rattle.svc_program.specs.declared.faults.Fault.{Fault}
-use Rattle.svc_program.specs.declared.faults.Fault.TheVariants as fault
+use Rattle.svc_request.specs.declared.faults.Fault.{Fault}
+use Rattle.svc_request.specs.declared.faults.Fault.TheVariants as fault
 
 -- the number of a fault of a trace
 abbrev pub trace_fault_number : TraceFaultKind → ℕ

@@ -2,10 +2,10 @@ use Rattle.std.proofs.Common.{◌≡◌, ◌++◌, ◌<◌, ◌≤◌, ◌∙◌
 use Rattle.std.proofs.lemmas.Bool.{cases_Bool, lt-ltb, ltb-true}
 use Rattle.std.specs.Prelude.{if◌then◌else◌, nat_lt, option_map}
 use Rattle.std.specs.Io.KnownBytes.{Consumes, IsAtEnd}
-use Rattle.svc_report.specs.Places.{passed, passed_from}
-use Rattle.svc_report.specs.declared.limited.Gauge.{Gauge}
-use Rattle.svc_report.proofs.limited.LimitedRead.read.Goals as goal
-use Rattle.svc_report.proofs.limited.LimitedRead.read.Goals.{then-passed-count, else-passed-count}
+use Rattle.svc_limited.specs.Places.{passed, passed_from}
+use Rattle.svc_limited.specs.declared.gauge.Gauge.{Gauge}
+use Rattle.svc_limited.proofs.limited.LimitedRead.read.Goals as goal
+use Rattle.svc_limited.proofs.limited.LimitedRead.read.Goals.{then-passed-count, else-passed-count}
 
 none_passed : (o : Option Gauge) → passed o [] ≡ []
 unfolding passed_from

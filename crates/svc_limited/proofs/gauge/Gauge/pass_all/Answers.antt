@@ -2,9 +2,9 @@ use Rattle.std.proofs.Common.{◌≡◌, ◌∷◌, ◌++◌, ◌+◌, ◌∙◌
 use Rattle.std.specs.Prelude.{if◌then◌else◌}
 use Rattle.std.proofs.lemmas.Bool.{lt-ltb}
 use Rattle.std.proofs.lemmas.List.{take_more}
-use Rattle.svc_report.specs.Places.{gauge_after, passed}
-use Rattle.svc_report.proofs.Limits.{gauge_none, gauge_some}
-use Rattle.svc_report.proofs.limited.Gauge.pass_all.Goals as goal
+use Rattle.svc_limited.specs.Places.{gauge_after, passed}
+use Rattle.svc_limited.proofs.Limits.{gauge_none, gauge_some}
+use Rattle.svc_limited.proofs.gauge.Gauge.pass_all.Goals as goal
 
 onward : (bytes : List ℕ) (k : ℕ) (rest : List ℕ) → k < length bytes → drop k bytes ++ rest ≡ get_or bytes k 0 ∷ (drop (k + 1) bytes ++ rest)
 onward bytes k rest low = ap (λ (t : List ℕ). t ++ rest) (drop-cons bytes k 0 low) ∙ ap (λ (j : ℕ). get_or bytes k 0 ∷ (drop j bytes ++ rest)) (sym (add-one k))

@@ -1,4 +1,4 @@
-//! The files that the program reads and writes.
+// The files that the program reads and writes.
 
 ghost use Rattle.std.specs.Prelude.{◌≡◌, ℕ, List, Option, None, Some, IfOk, IfSome, IsTrue, OnOk};
 

@@ -1,8 +1,8 @@
-//! Why the program gives up, and the words in which it says so.
+// Why the program gives up, and the words in which it says so.
 
 ghost use Rattle.std.specs.Prelude.{◌≡◌};
-ghost use Rattle.svc_program.specs.declared.faults.Fault.TheVariants.{File, Image, Open, Report, Run, Trace};
-ghost use Rattle.svc_program.specs.Faults.{told_as, trace_fault_number};
+ghost use Rattle.svc_request.specs.declared.faults.Fault.TheVariants.{File, Image, Open, Report, Run, Trace};
+ghost use Rattle.svc_request.specs.Faults.{told_as, trace_fault_number};
 ghost use Rattle.svc_report.specs.declared.error.ReportError.TheVariants.{Write};
 
 use crate::files::FileFault;
@@ -144,8 +144,8 @@ impl<T: Drop> From<AllocFailed<T>> for Fault {
     }
 }
 
-/// The exit status of a fault.
-pub const FAULT_STATUS: u8 = 1;
+// The exit status of a fault.
+const FAULT_STATUS: u8 = 1;
 
 /// Reports a fault in one line, or in the text that the parser of command lines gives. It returns
 /// the exit status. If writing to `err` fails, that is ignored: there is nowhere else to report it.

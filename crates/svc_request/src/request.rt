@@ -1,4 +1,4 @@
-//! What may be asked of the program.
+// What may be asked of the program.
 
 ghost use Rattle.std.specs.Prelude.{◌≡◌, ◌<◌, ◌≤◌, ◌↔◌, IfSome, IsSome};
 

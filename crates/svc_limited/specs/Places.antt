@@ -1,10 +1,10 @@
 -- Where a reader of limited records stands in a text, as its bytes go by.
 use Rattle.std.specs.Prelude.{ℕ, List, [], ◌∷◌, ◌+◌, ◌==◌, ◌||◌, Bool, true, false, nat_lt, if◌then◌else◌, Option, Some, None, option_map}
-use Rattle.svc_report.specs.Limit.{most_bytes}
-use Rattle.svc_report.specs.declared.limited.Gauge.{Gauge}
-use Rattle.svc_report.specs.declared.limited.Limited.{Limited}
-use Rattle.svc_report.specs.declared.limited.Place.{Place}
-use Rattle.svc_report.specs.declared.limited.Place.TheVariants as place
+use Rattle.svc_limited.specs.Limit.{most_bytes}
+use Rattle.svc_limited.specs.declared.gauge.Gauge.{Gauge}
+use Rattle.svc_limited.specs.declared.limited.Limited.{Limited}
+use Rattle.svc_limited.specs.declared.place.Place.{Place}
+use Rattle.svc_limited.specs.declared.place.Place.TheVariants as place
 
 -- after a byte that stands outside of quotes and opens none
 abbrev pub plain_after : ℕ → Place

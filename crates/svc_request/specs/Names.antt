@@ -1,8 +1,8 @@
 -- The names of files in a request.
 use Rattle.std.specs.Prelude.{◌≡◌, ◌⊎◌, Some}
-use Rattle.svc_program.specs.declared.request.Source.TheVariants as source
-use Rattle.svc_program.specs.declared.request.Request.{Request}
-use Rattle.svc_program.specs.declared.request.Request.TheVariants as request
+use Rattle.svc_request.specs.declared.request.Source.TheVariants as source
+use Rattle.svc_request.specs.declared.request.Request.{Request}
+use Rattle.svc_request.specs.declared.request.Request.TheVariants as request
 
 -- the file that is to be written is one that is to be read
 abbrev pub IsOverItself : Request → Type 0

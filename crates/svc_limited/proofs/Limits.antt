@@ -8,11 +8,11 @@ use Rattle.csv.specs.declared.parser.State.{State}
 use Rattle.csv.specs.declared.parser.State.TheVariants as st
 use Rattle.csv.specs.declared.parser.Action.{Action}
 use Rattle.csv.specs.declared.parser.Action.TheVariants as act
-use Rattle.svc_report.specs.Limit.{is_between, most_bytes, readable, readable_from}
-use Rattle.svc_report.specs.Places.{gauge_after, is_outside, passed, passed_from, place_after, start_after}
-use Rattle.svc_report.specs.declared.limited.Gauge.{Gauge}
-use Rattle.svc_report.specs.declared.limited.Place.{Place}
-use Rattle.svc_report.specs.declared.limited.Place.TheVariants as place
+use Rattle.svc_limited.specs.Limit.{is_between, most_bytes, readable, readable_from}
+use Rattle.svc_limited.specs.Places.{gauge_after, is_outside, passed, passed_from, place_after, start_after}
+use Rattle.svc_limited.specs.declared.gauge.Gauge.{Gauge}
+use Rattle.svc_limited.specs.declared.place.Place.{Place}
+use Rattle.svc_limited.specs.declared.place.Place.TheVariants as place
 
 -- the place of a state of `csv`
 abbrev pub place_of : State → Place
