@@ -1,24 +1,15 @@
 -- What a unit thread sees of a recorder at a glance.
-use Rattle.std.specs.Prelude.{Bool, true, false, ◌≡◌, ◌<◌, ◌≤◌, ℕ, ◌||◌, is_some, Result, MatchResult}
+use Rattle.std.specs.Prelude.{Bool, ◌≡◌, ◌<◌, ◌≤◌, ℕ, ◌||◌, is_some, Result, MatchResult}
 use Rattle.svc_base.specs.declared.config.Config.{Config}
 use Rattle.svc_base.specs.declared.ids.UnitId.{UnitId}
 use Rattle.svc_base.specs.declared.refusal.Refusal.{Refusal}
 use Rattle.svc_base.specs.declared.refusal.Refusal.TheVariants as refusal
-use Rattle.svc_core_laws.specs.declared.end.Ending.{Ending}
-use Rattle.svc_core_laws.specs.declared.end.Ending.TheVariants as ending
 use Rattle.svc_core_laws.specs.Sequence.{plain_seq}
 use Rattle.svc_core_laws.specs.Words.{program}
 use Rattle.svc_machine_laws.specs.Guess.{guess}
 use Rattle.svc_machine.specs.Value.{MachineValue}
 use Rattle.svc_machine.specs.Reads.{is_full, lease_of, runs_head}
 use Rattle.svc_history.specs.declared.glance.Glance.{Glance}
-
--- the ending is that of a full history
-abbrev pub is_full_ending : Ending → Bool
-is_full_ending (ending.Exit code) = false
-is_full_ending (ending.Trap number) = false
-is_full_ending (ending.Full due) = true
-is_full_ending (ending.Open due) = false
 
 -- no further event of the run is accepted: it has stopped, or the history is full
 abbrev pub has_ended : MachineValue → Bool

@@ -6,7 +6,7 @@ ghost use Rattle.svc_machine.specs.Value.{IsSequentialMachine};
 ghost use Rattle.svc_history_laws.specs.Board.{board};
 ghost use Rattle.svc_history.specs.Recorded.{IsCounted, IsLegal};
 ghost use Rattle.svc_history.specs.Applying.{IsApplied};
-ghost use Rattle.svc_history.specs.Glances.{IsGlance, IsUnitKnown, has_ended, is_full_ending};
+ghost use Rattle.svc_history.specs.Glances.{IsGlance, IsUnitKnown, has_ended};
 ghost use Rattle.svc_history.specs.Moves.{move_of, told};
 
 use crate::glance::{Glance, Move, move_by};
@@ -14,7 +14,6 @@ use crate::writing::{named, telling};
 use std::alloc::Global;
 use std::marker::Model;
 use svc_base::{Config, OpenError, Refusal, UnitId};
-use svc_core_laws::Ending;
 use svc_history_laws::{Entry, Slip};
 use svc_image::Image;
 use svc_machine::{Event, Machine};
@@ -38,16 +37,6 @@ impl Model for Recorder {
     ghost invariant = { λ r.
         IsKept (record { machine = r.machine; entries = r.entries.items })
         × (r.machine.config.events ≤ vec_capacity r.entries) };
-}
-
-// The ending is that of a full history.
-fn is_full(ending: Ending) -> bool
-    ensures { result ≡ is_full_ending ending }
-{
-    match ending {
-        Ending::Full(_) => true,
-        _ => false,
-    }
 }
 
 impl Recorder {
@@ -115,7 +104,7 @@ impl Recorder {
         ensures legal { IsLegal self.now }
     {
         let _entries = &self.entries;
-        self.machine.stopped().is_some() || is_full(self.machine.ending())
+        self.machine.stopped().is_some() || self.machine.is_full()
     }
 
     /// What the unit's thread needs to know for its next event.

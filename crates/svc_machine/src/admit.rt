@@ -221,14 +221,6 @@ impl Machine {
         self.config.units <= u32::from(unit.0)
     }
 
-    // No further event is accepted.
-    #[tactic(auto, unfolding(crate::specs::Refusing::machine_at))]
-    pub(crate) fn is_full(&self) -> bool
-        ensures { result ≡ history_full self.now.config (machine_at self.now) }
-    {
-        self.config.events <= self.accepted
-    }
-
     fn has_stopped(&self) -> bool
         ensures { result ≡ is_some (machine_at self.now).stopped }
     {

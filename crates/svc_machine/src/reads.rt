@@ -11,9 +11,11 @@ ghost use Rattle.svc_bus_laws.specs.BusState.{unnumbered};
 ghost use Rattle.svc_bus.specs.Calls.{line_shown};
 ghost use Rattle.svc_machine_laws.specs.Guess.{guess};
 ghost use Rattle.svc_machine_laws.specs.Reached.{IsReached};
+ghost use Rattle.svc_machine_laws.specs.Refusals.{history_full};
 ghost use Rattle.svc_machine_laws.specs.Standing.{Standing};
 ghost use Rattle.svc_machine.specs.Value.{StandsAt};
 ghost use Rattle.svc_machine.specs.Reads.{is_full, lease_of, runs_head};
+ghost use Rattle.svc_machine.specs.Refusing.{machine_at};
 
 use crate::machine::Machine;
 use crate::seat::last_end;
@@ -124,6 +126,15 @@ impl Machine {
         ensures { result ≡ (plain_seq self.now.image self.now.plain.commits).stopped }
     {
         self.stopped
+    }
+
+    /// Whether the history is full, so that no further event is accepted.
+    #[tactic(auto, unfolding(crate::specs::Refusing::machine_at))]
+    pub fn is_full(&self) -> bool
+        ensures full { result ≡ is_full self.now }
+        ensures refused { result ≡ history_full self.now.config (machine_at self.now) }
+    {
+        self.config.events <= self.accepted
     }
 
     /// How the run has ended: by the exit or trap that stopped it; otherwise it is full if no
