@@ -4,7 +4,9 @@
 #   bench/run.sh [ROUNDS [SVCSIM]]
 #
 # SVCSIM is the program to be measured; without it the proved one is built by `rt run`. Needs rustc, and rt without SVCSIM.
-# What both print of the tasks is compared with the sequential twin's, in each round.
+# What both print of the tasks is compared with the sequential twin's, in each round. The rows of `profile` and `draw` have
+# `check` of the same trace in the twin's place, and those of `list` and `assemble` GNU's assembler of the same text: they need
+# Python and Debian's binutils-riscv64-unknown-elf, and are left out without it.
 set -euo pipefail
 
 rounds=${1:-10}
@@ -26,6 +28,12 @@ for name in loop local apart memory small large spin; do
     ./images "$name" "$name.svci"
     ./plain_twin "$name.svci" 1000000 > "$name.expected"
 done
+# The image of the greatest size and its listing; the lines of this project's directives, which GNU's assembler lacks, are few.
+if command -v riscv64-unknown-elf-as > /dev/null; then
+    "$root/bench/greatest_image.py" greatest.svci
+    "$svcsim" list greatest.svci > greatest.s
+    grep -v '^\.svc_' greatest.s > gnu.s
+fi
 
 # Runs a command of a row, its output going to the file `printed`. Its times go to `times` once `amount` is known.
 timed() {
@@ -100,9 +108,29 @@ race_trace() {
     timed "$svcsim" check memory.svci proved.csv --units 1 --events 100000
     [ "$(cat printed)" = sound,100000 ] || fail "svcsim does not find the trace sound"
     note check proved 100000
+    note profile twin 100000
+    note draw twin 100000
+    timed "$svcsim" profile memory.svci proved.csv --units 1 --events 100000
+    note profile proved 100000
+    timed "$svcsim" draw memory.svci proved.csv picture.svg --count 400 --units 1 --events 100000
+    note draw proved 100000
     timed ./threads_twin check memory.svci 1 100000 proved.csv
     [ "$(cat printed)" = sound,100000 ] || fail "the twin does not find the trace sound"
     note check twin 100000
+}
+
+# The image of the greatest size, listed and assembled again. GNU's assembler stops at its object: it doesn't link.
+race_assembly() {
+    [ -f gnu.s ] || return 0
+    timed "$svcsim" list greatest.svci
+    cmp printed greatest.s
+    note list proved 1
+    timed "$svcsim" assemble greatest.s made.svci
+    cmp made.svci greatest.svci
+    note assemble proved 1
+    timed riscv64-unknown-elf-as -march=rv32i -mabi=ilp32 gnu.s -o gnu.o
+    note list twin 1
+    note assemble twin 1
 }
 
 for ((round = 0; round < rounds; round++)); do
@@ -121,6 +149,7 @@ for ((round = 0; round < rounds; round++)); do
     race_trace
     race_run small 1 commit-100 150000
     race_run large 1 commit-65536 150000
+    race_assembly
 done
 
 # The median times for one of what is counted, and their ratios: below 1 svcsim is the faster one.
@@ -189,6 +218,12 @@ awk -v rounds="$rounds" '
         }
         row("trace", "run --trace, seconds for 100,000 entries", 100000, "%7.3f")
         row("check", "check, seconds for 100,000 entries", 100000, "%7.3f")
+        row("profile", "profile, seconds for 100,000 entries, beside check", 100000, "%7.3f")
+        row("draw", "draw of 400 of 100,000 entries, seconds, beside check", 100000, "%7.3f")
+        if (("list", "twin", "cpu") in count) {
+            row("list", "list, seconds for 131,072 words, beside GNU\047s assembler", 1, "%7.3f")
+            row("assemble", "assemble, seconds for 131,072 words, beside GNU\047s", 1, "%7.3f")
+        }
         row("commit-100", "a task of two accesses over 100 words, ns", 1e9, "%7.0f")
         row("commit-65536", "the same over 65,536 words, ns", 1e9, "%7.0f")
         print ""
