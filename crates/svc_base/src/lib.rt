@@ -12,6 +12,3 @@ pub use config::{Config, ConfigError};
 pub use ids::{TaskNo, UnitId, WordAddr};
 pub use refusal::{OpenError, Refusal};
 pub use served::Served;
-
-#[cfg(test)]
-mod tests;

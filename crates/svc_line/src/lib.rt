@@ -8,6 +8,3 @@ pub mod line;
 
 pub use bits::LineBits;
 pub use line::Line;
-
-#[cfg(test)]
-mod tests;

@@ -5,6 +5,3 @@
 pub mod queue;
 
 pub use queue::{CAPACITY, TaskQueue};
-
-#[cfg(test)]
-mod tests;

@@ -15,6 +15,3 @@ pub mod spill;
 pub use lines::{commit_lines, squash_lines};
 pub use purging::purge;
 pub use spill::Spill;
-
-#[cfg(test)]
-mod tests;
