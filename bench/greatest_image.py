@@ -1,5 +1,5 @@
 #!/usr/bin/env python3
-"""Makes an image of the greatest size of version 1, for `assembly.sh`: 1,024 entries, 65,536 words of program, of each kind of
+"""Makes an image of the greatest size of version 1, for `run.sh`: 1,024 entries, 65,536 words of program, of each kind of
 instruction and with branches and jumps into it, and 65,536 words of data, all drawn from one seed.
 
     bench/greatest_image.py IMAGE

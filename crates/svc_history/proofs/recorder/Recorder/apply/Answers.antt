@@ -47,7 +47,6 @@ fits_i c =
     let free : vec_len c.self.inside.entries < vec_capacity c.self.inside.entries = omega (arith, room, i.0.accepted, i.1, c.self.inside.entries.ok.0) in
     c.push-pushed.ensures.succeeds free
 
-
 pub index-requires : goal.index-requires
 index-requires c = let ok = fits_i c in omega (arith, c.len-index.ensures, rw ok at c.push-pushed.ensures.len)
 
