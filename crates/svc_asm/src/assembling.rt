@@ -193,7 +193,9 @@ fn no_image(start: usize, refusal: Refusal) -> Stop
     }
 }
 
-/// The image that a program's text makes. Any bytes are answered: by an image, or by the first fault.
+/// The image that a program's text makes. The text may be any bytes.
+///
+/// Errors: the text's first fault, or that memory ran out.
 pub fn assemble(alloc: Global, text: &[u8]) -> Result<Image, AssembleError>
     ensures program { IfOk result (IsProgramOf text.now) }
 

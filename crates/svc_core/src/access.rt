@@ -20,9 +20,10 @@ pub struct Place {
     pub lane: u32,
 }
 
-/// Where a store lies in data of so many words, of which the first ones are read-only, or the number of its trap:
-/// 5 where it isn't aligned to its width, else 6 where it lies outside the data, else 10 where its word is
-/// read-only.
+/// Where a store lies in data of so many words, of which the first ones are read-only.
+///
+/// Errors: the number of its trap: 5 where it isn't aligned to its width, else 6 where it lies outside the data, else 10
+/// where its word is read-only.
 #[inline(always)]
 pub fn store_place(kind: StoreKind, addr: u32, words: u32, read_only: u32) -> Result<Place, u8>
     requires { words ≤ 65536 }
@@ -39,8 +40,9 @@ pub fn store_place(kind: StoreKind, addr: u32, words: u32, read_only: u32) -> Re
     Ok(place)
 }
 
-/// Where a load lies in data of so many words, or the number of its trap: 5 where it isn't aligned to its width,
-/// else 6 where it lies outside the data.
+/// Where a load lies in data of so many words.
+///
+/// Errors: the number of its trap: 5 where it isn't aligned to its width, else 6 where it lies outside the data.
 #[inline(always)]
 pub fn load_place(kind: LoadKind, addr: u32, words: u32) -> Result<Place, u8>
     requires { words ≤ 65536 }

@@ -149,6 +149,8 @@ fn read_set(text: &[u8]) -> Result<(Statement, &[u8]), Unread>
 }
 
 /// The instructions of such a name and its operands.
+///
+/// Errors: what stands where no such thing can be read, and what may stand there.
 #[tactic(auto, unfolding(crate::specs::Couples::couple_at))]
 pub fn read_couple<'a>(
     draft: &Draft,

@@ -196,6 +196,8 @@ fn read_form<'a>(draft: &Draft, form: Form, text: &'a [u8]) -> Result<(Instr, &'
 }
 
 /// The instruction of a name and its operands.
+///
+/// Errors: what stands where no such thing can be read, and what may stand there.
 #[tactic(auto, unfolding(crate::specs::Instructions::instruction_at))]
 pub fn read_instruction<'a>(
     draft: &Draft,

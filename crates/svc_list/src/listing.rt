@@ -549,6 +549,8 @@ fn put_head(out: &mut Vec<u8>, version: Version, limit: u32, start: u32) -> Resu
 }
 
 /// The listing of an image: a text that is assembled to it.
+///
+/// Errors: memory ran out.
 pub fn list(alloc: Global, image: &Image) -> Result<Vec<u8>, AllocError>
     ensures listing { IfOk result (λ text. text.items ≡ listing_of image.now) }
 

@@ -48,7 +48,8 @@ pub(crate) fn do_asked(
     requires running { IsRunning (observed bus.old) seat.old.lease.unit.0 }
     requires size { (observed bus.old).words ≡ data_words image.now }
     requires waiting { asked_word image.now ask ≡ None → length seat.old.waiting.items ≡ core.now.emitted }
-    ensures refused { result_err result ≡ refused_for (observed bus.old) seat.old.lease.unit.0 (asked_word image.now ask) }
+    ensures refused { result_err result
+        ≡ refused_for (observed bus.old) seat.old.lease.unit.0 (asked_word image.now ask) }
     ensures unchanged { OnErr result ((seat.new ≡ seat.old) × (bus.new ≡ bus.old)) }
     ensures done { (t : LineTable) → (place : ℕ) → RunsAt (observed bus.old) seat.old.lease.unit.0 t place
         → IfOk result (IsDone image.now (want_of image.now core.now ask) t place

@@ -19,6 +19,9 @@ pub struct Signed {
     pub magnitude: u32,
 }
 
+/// A register, by its number or by its name in the calling convention.
+///
+/// Errors: what stands where none can be read, and what may stand there.
 #[tactic(auto, unfolding(crate::specs::Operands::register_at))]
 pub fn read_register(text: &[u8]) -> Result<(Register, &[u8]), Unread>
     ensures { Gives (λ x. (x.0, x.1.now)) result (register_at text.now) }
@@ -31,6 +34,8 @@ pub fn read_register(text: &[u8]) -> Result<(Register, &[u8]), Unread>
 }
 
 /// What follows a mark.
+///
+/// Errors: what stands where none can be read, and what may stand there.
 pub fn read_mark(mark: u8, wanted: Wanted, text: &[u8]) -> Result<&[u8], Unread>
     ensures { Gives (λ x. x.now) result (mark_at mark text.now) }
 {
@@ -41,6 +46,8 @@ pub fn read_mark(mark: u8, wanted: Wanted, text: &[u8]) -> Result<&[u8], Unread>
 }
 
 /// A register and the comma behind it.
+///
+/// Errors: what stands where none can be read, and what may stand there.
 #[tactic(auto, unfolding(crate::specs::Operands::first_register_at))]
 pub fn read_first_register(text: &[u8]) -> Result<(Register, &[u8]), Unread>
     ensures { Gives (λ x. (x.0, x.1.now)) result (first_register_at text.now) }
@@ -51,6 +58,8 @@ pub fn read_first_register(text: &[u8]) -> Result<(Register, &[u8]), Unread>
 }
 
 /// A number, or a character as one.
+///
+/// Errors: what stands where none can be read, and what may stand there.
 #[tactic(auto, unfolding(crate::specs::Operands::number_at))]
 pub fn read_number(text: &[u8]) -> Result<(u32, &[u8]), Unread>
     ensures { Gives (λ x. (x.0, x.1.now)) result (number_at text.now) }
@@ -66,6 +75,8 @@ pub fn read_number(text: &[u8]) -> Result<(u32, &[u8]), Unread>
 }
 
 /// A number whose sign was read before it.
+///
+/// Errors: what stands where none can be read, and what may stand there.
 #[tactic(auto, unfolding(crate::specs::Operands::behind_sign))]
 pub fn read_behind_sign(negative: bool, text: &[u8]) -> Result<(Signed, &[u8]), Unread>
     ensures { Gives (λ x. (x.0, x.1.now)) result (behind_sign negative text.now) }
@@ -81,6 +92,8 @@ pub fn read_behind_sign(negative: bool, text: &[u8]) -> Result<(Signed, &[u8]), 
 }
 
 /// A number that may have a minus sign.
+///
+/// Errors: what stands where none can be read, and what may stand there.
 #[tactic(auto, unfolding(crate::specs::Operands::signed_at))]
 pub fn read_signed(text: &[u8]) -> Result<(Signed, &[u8]), Unread>
     ensures { Gives (λ x. (x.0, x.1.now)) result (signed_at text.now) }
@@ -222,6 +235,8 @@ fn amount_of(number: u32) -> Option<ShiftAmount>
 }
 
 /// A number that fits into 12 bits.
+///
+/// Errors: what stands where none can be read, and what may stand there.
 #[tactic(auto, unfolding(crate::specs::Operands::number_short_at))]
 pub fn read_number_short(text: &[u8]) -> Result<(Short, &[u8]), Unread>
     ensures { Gives (λ x. (x.0, x.1.now)) result (number_short_at text.now) }
@@ -234,6 +249,8 @@ pub fn read_number_short(text: &[u8]) -> Result<(Short, &[u8]), Unread>
 }
 
 /// A number that fits into 20 bits.
+///
+/// Errors: what stands where none can be read, and what may stand there.
 #[tactic(auto, unfolding(crate::specs::Operands::number_upper_at))]
 pub fn read_number_upper(text: &[u8]) -> Result<(Long, &[u8]), Unread>
     ensures { Gives (λ x. (x.0, x.1.now)) result (number_upper_at text.now) }
@@ -245,6 +262,9 @@ pub fn read_number_upper(text: &[u8]) -> Result<(Long, &[u8]), Unread>
     }
 }
 
+/// By how much a shift shifts, from 0 to 31.
+///
+/// Errors: what stands where none can be read, and what may stand there.
 #[tactic(auto, unfolding(crate::specs::Operands::amount_at))]
 pub fn read_amount(text: &[u8]) -> Result<(ShiftAmount, &[u8]), Unread>
     ensures { Gives (λ x. (x.0, x.1.now)) result (amount_at text.now) }

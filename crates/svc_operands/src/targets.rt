@@ -56,6 +56,8 @@ fn read_offset<'a>(draft: &Draft, text: &'a [u8]) -> Result<(Signed, &'a [u8]), 
 }
 
 /// How far a branch goes.
+///
+/// Errors: what stands where none can be read, and what may stand there.
 #[tactic(auto, unfolding(crate::specs::Targets::branch_at))]
 pub fn read_branch<'a>(draft: &Draft, text: &'a [u8]) -> Result<(Short, &'a [u8]), Unread>
     ensures { Gives (λ x. (x.0, x.1.now)) result (branch_at (layout_of draft.now) text.now) }
@@ -68,6 +70,8 @@ pub fn read_branch<'a>(draft: &Draft, text: &'a [u8]) -> Result<(Short, &'a [u8]
 }
 
 /// How far a jump goes.
+///
+/// Errors: what stands where none can be read, and what may stand there.
 #[tactic(auto, unfolding(crate::specs::Targets::jump_at))]
 pub fn read_jump<'a>(draft: &Draft, text: &'a [u8]) -> Result<(Long, &'a [u8]), Unread>
     ensures { Gives (λ x. (x.0, x.1.now)) result (jump_at (layout_of draft.now) text.now) }

@@ -25,8 +25,9 @@ pub struct PlainOutcome {
     pub ending: Ending,
 }
 
-/// Runs the first `k` tasks of a program, or as many as there are, one after another on one flat memory. The
-/// one error is that memory ran out, before the first task or between two.
+/// Runs the first `k` tasks of a program, or as many as there are, one after another on one flat memory.
+///
+/// Errors: [`PlainError::Memory`], before the first task or between two.
 pub fn run_tasks(alloc: Global, image: &Image, k: u64) -> Result<PlainOutcome, PlainError>
     ensures tasks { IfOk result (λ o. o.tasks ≡ tasks_run image.now k) }
     ensures size { IfOk result (λ o. length o.memory.items ≡ length image.now.words) }

@@ -115,7 +115,8 @@ fn push_named(word: WordAddr, by: Namers, named: &mut Vec<Named>) -> Result<(), 
 // The words that are marked, in their order.
 fn list_marked(alloc: Global, marks: &[Namers]) -> Result<Vec<Named>, ReportError>
     requires few { length marks.now < 2 ^ 32 }
-    ensures named { IfOk result (λ named. named.items ≡ flat_map (named_at marks.now) (range_with_len 0 (length marks.now))) }
+    ensures named { IfOk result
+        (λ named. named.items ≡ flat_map (named_at marks.now) (range_with_len 0 (length marks.now))) }
     ensures err { IfErr result (λ e. e ≡ Memory) }
 {
     let mut named = Vec::new(alloc);
