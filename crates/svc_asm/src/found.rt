@@ -4,7 +4,7 @@ ghost use Rattle.std.specs.Prelude.{◌≤◌};
 
 use std::fmt;
 
-/// The most characters that are told of a word.
+/// The most characters of a word that a fault shows.
 const MOST_TOLD: usize = 24;
 
 /// What stands where a text can't be read further.

@@ -14,7 +14,7 @@ use svc_program::{Fault, Files, Request, perform, tell};
 
 /// Does what the words of a command line ask for, of which the first is the program's name, and answers
 /// the exit status: 0 where the run came to the program's exit, a trace was sound, or help or the version was asked for,
-/// 1 at a fault, which is told on `err`, and 2 at any other ending. The first fault is told, looked for in this order:
+/// 1 at a fault, which is printed on `err`, and 2 at any other ending. It is the first fault, looked for in this order:
 /// the words, the configuration, the image, the script or trace, the opening of the machine, the run, the output.
 pub fn execute<R: Threads + Wait + Sync, F: Files, O: Write, E: Write>(
     rt: &R,

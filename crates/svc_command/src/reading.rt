@@ -18,7 +18,7 @@ For more information, try '--help'.
 
 /// What these words ask for, of which the first is the program's name.
 ///
-/// Errors: a mistake in the words, told by the text of their parser, before one in the configuration.
+/// Errors: a mistake in the words, with their parser's text, before one in the configuration.
 pub fn request_of<'a>(alloc: Global, words: &'a [String]) -> Result<Request<'a>, Fault>
     ensures { IfOk result (MayAsk (texts words.now)) }
 {

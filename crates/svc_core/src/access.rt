@@ -20,7 +20,7 @@ pub struct Place {
     pub lane: u32,
 }
 
-/// Where a store lies in data of so many words, of which the first ones are read-only.
+/// Where a store lies in data of `words` words, of which the first `read_only` are read-only.
 ///
 /// Errors: the number of its trap: 5 where it isn't aligned to its width, else 6 where it lies outside the data, else 10
 /// where its word is read-only.
@@ -40,7 +40,7 @@ pub fn store_place(kind: StoreKind, addr: u32, words: u32, read_only: u32) -> Re
     Ok(place)
 }
 
-/// Where a load lies in data of so many words.
+/// Where a load lies in data of `words` words.
 ///
 /// Errors: the number of its trap: 5 where it isn't aligned to its width, else 6 where it lies outside the data.
 #[inline(always)]

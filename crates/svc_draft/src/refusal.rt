@@ -6,7 +6,7 @@ ghost use Rattle.svc_draft.specs.declared.refusal.Refusal.TheVariants as refusal
 use std::alloc::{AllocError, AllocFailed};
 use thiserror::Error;
 
-/// Why a line may not stand where it stands, or why the lines make no image: told by what may stand there.
+/// Why a line may not stand where it does, or why the lines make no image: each names what may stand there.
 #[derive(Clone, Copy, Debug, Error)]
 pub enum Refusal {
     /// The text has 65,536 words already.

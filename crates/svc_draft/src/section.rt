@@ -22,7 +22,7 @@ pub struct Local {
     pub spot: Spot,
 }
 
-/// What a name stands for: so many bytes behind the beginning of a section. A number stands so far behind the text's.
+/// What a name stands for: a number of bytes from the beginning of a section. A plain number counts from the text's.
 #[derive(Clone, Copy)]
 pub struct Spot {
     /// The section.

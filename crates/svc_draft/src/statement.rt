@@ -30,7 +30,7 @@ pub enum Ending {
 pub enum Next {
     /// A line.
     Line,
-    /// A number of a list, each of which takes so many bytes.
+    /// A number of a list, with the bytes that each takes.
     Value(Width),
     /// A character of a string, or the quote behind its last one.
     Character(Ending),
@@ -69,7 +69,7 @@ pub enum Statement {
     Register(Register, u32),
     /// `.rodata` and its like: what follows stands in this section.
     Section(Section),
-    /// `.zero N`: so many zeros of the section.
+    /// `.zero N`: N zero bytes of the section.
     Zeros(u32),
     /// `.align N`: zeros up to the next address that this number divides.
     Align(u32),

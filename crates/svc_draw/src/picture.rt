@@ -93,7 +93,7 @@ fn text_of(
     Ok(text)
 }
 
-/// The picture of a history's entries, so many from an index on: one SVG that stands alone.
+/// The picture of `count` of a history's entries, from an index on: one SVG that needs no other file.
 ///
 /// Errors: [`ReportError::Memory`].
 pub fn draw(

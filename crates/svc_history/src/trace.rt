@@ -126,7 +126,7 @@ pub fn open_trace(alloc: Global, image: &Image, config: Config) -> Result<Record
     }
 }
 
-/// Goes on with the replay of these entries, of which the recorder has the first ones, up to so many of them.
+/// Goes on with the replay of these entries, of which the recorder has the first ones, up to the given number of them.
 ///
 /// Errors: the first faulty entry, with what is wrong with it. The recorder's history may then end with another entry
 /// than the trace's.

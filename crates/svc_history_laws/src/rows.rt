@@ -6,7 +6,7 @@ ghost use Rattle.svc_history_laws.specs.Board.{board};
 ghost use Rattle.svc_history_laws.specs.Rows.{assigned, loading, putting_out, storing_part};
 ghost use Rattle.svc_history_laws.specs.Stories.{story};
 
-/// Unit 1 loads, is assigned anew, loads word 5 as 7, stores a part of it, which makes 8, and puts 3 out; between these
+/// Unit 1 loads, is assigned again, loads word 5 as 7, stores a part of it, which makes 8, and puts 3 out; between these
 /// unit 0 is assigned and loads. The story of unit 1 is its last three, the newest first; that of unit 0 is its load; that
 /// of unit 2 is empty. Of seven events two are assignments.
 pub fn story_of_two_units()

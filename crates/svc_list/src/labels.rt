@@ -38,7 +38,7 @@ fn placed(count: u32, target: Option<u32>) -> Option<u32>
     }
 }
 
-/// Where in the text, which has so many words, the branch or the jump at an address leads.
+/// Where in the text, which has `count` words, the branch or the jump at an address leads.
 pub fn target_of(count: u32, address: u32, instr: Option<Instr>) -> Option<u32>
     requires count { count ≤ 65536 }
     requires address { address < 262144 }

@@ -37,8 +37,8 @@ pub fn guide_steps<C>()
         ≡ guide_committed done.end (guide_settled done.end (guide_of p entries s)) }
 {}
 
-/// The guess that a sequencer gives, told how the youngest active task has ended, is the one that is read
-/// off the sequential run.
+/// The guess that a sequencer gives, where it knows how the youngest active task has ended, is the one that is
+/// read off the sequential run.
 pub fn guess_is_guided()
     ensures { (img : Image) → (config : Config) → (s : Standing) → IsReached img config s
         → guess_of (last_end (run_done (program img)) (running (program img) s.plain))

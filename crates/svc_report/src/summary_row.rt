@@ -69,7 +69,7 @@ fn push_numbers(fields: &mut Fields, numbers: &[u64]) -> Result<(), AllocError>
 }
 
 /// Writes the summary of a run as a row of a table: its label, how many tasks were committed, the word and the number of
-/// the ending, and the counts. The words put out aren't told.
+/// the ending, and the counts. The words put out aren't in it.
 ///
 /// Errors: [`ReportError::Memory`], [`ReportError::Write`].
 pub fn write_summary_row<W: Write>(

@@ -16,7 +16,7 @@ use std::marker::Model;
 /// The row of a table that stands for a run.
 #[derive(Clone, Copy, Debug, PartialEq, Eq)]
 pub struct TableRow<'a> {
-    /// Its first field, by which it is told from other rows.
+    /// Its first field, which distinguishes it from other rows.
     pub label: &'a str,
     /// Whether the names of the columns stand before it.
     pub header: bool,

@@ -26,7 +26,7 @@ pub trait Files {
     fn save(&mut self, name: &str, bytes: &[u8]) -> Result<(), FileFault>
         ensures saved { OnOk result (IfSome (held self.new name.now) (λ known. known ≡ bytes.now)) };
 
-    /// Whether two names are of one file, as far as can be told. Equal names are.
+    /// Whether two names are of one file, as far as can be known. Equal names are.
     fn is_same(&self, one: &str, other: &str) -> bool
         ensures { one.now ≡ other.now → IsTrue result };
 }

@@ -109,7 +109,7 @@ pub enum Request<'a> {
         trace: &'a str,
         by: Option<Table<'a>>,
     },
-    /// To replay a trace so, and to show the machine after the first so many of its entries, or after all.
+    /// To replay a trace so, and to show the machine after the first `at` of its entries, or after all.
     Show {
         image: Source<'a>,
         config: Config,

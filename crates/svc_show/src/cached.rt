@@ -67,7 +67,7 @@ impl Cached {
         }
     }
 
-    /// What so many caches have of a named word.
+    /// What the caches of the units have of a named word.
     pub(crate) fn of(machine: &Machine, units: u32, named: Named) -> Cached
         requires few { units ≤ 16 }
         ensures line { result.line

@@ -64,7 +64,7 @@ fn write_unit(
     Ok(())
 }
 
-/// Writes a row for each valid line of so many units among the named words, by unit and then word.
+/// Writes a row for each valid line of the units among the named words, by unit and then word.
 pub(crate) fn write_lines(
     machine: &Machine,
     units: u32,

@@ -38,7 +38,7 @@ enum Tried {
     Ended,
 }
 
-/// The body of a unit's thread: at most so many turns. A turn reads the board. Where the last turn stalled and the
+/// The body of a unit's thread: at most `turns` turns. A turn reads the board. Where the last turn stalled and the
 /// board shows the same numbers it stalls again, without the lock. Else the unit takes a glance and does its next move:
 /// it begins a task at the guess, runs its task by a burst, without the lock, and submits that, or commits its head.
 /// Where its cache is full it replaces a line in the same turn. It stalls where it has to wait, and where the line may
