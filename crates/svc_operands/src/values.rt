@@ -97,6 +97,8 @@ fn read_sum(term: u32, negative: bool, text: &[u8]) -> Result<(u32, &[u8]), Unre
 }
 
 /// A value of 32 bits: a number, `.`, a label, or one of them and a number that is added or taken away.
+///
+/// Errors: what stands where none can be read, and what may stand there.
 #[tactic(auto, unfolding(crate::specs::Values::value_at))]
 pub fn read_value<'a>(draft: &Draft, text: &'a [u8]) -> Result<(u32, &'a [u8]), Unread>
     ensures { Gives (λ x. (x.0, x.1.now)) result (value_at (layout_of draft.now) text.now) }
@@ -142,6 +144,8 @@ fn read_enclosed<'a>(draft: &Draft, text: &'a [u8]) -> Result<(u32, &'a [u8]), U
 }
 
 /// What follows a percent sign, `pcrel_hi(VALUE)`, as how far it is from here to the value.
+///
+/// Errors: what stands where none can be read, and what may stand there.
 #[tactic(auto, unfolding(crate::specs::Values::relative_at))]
 pub fn read_relative<'a>(draft: &Draft, text: &'a [u8]) -> Result<(u32, &'a [u8]), Unread>
     ensures { Gives (λ x. (x.0, x.1.now)) result (relative_at (layout_of draft.now) text.now) }
@@ -216,6 +220,8 @@ fn read_low<'a>(draft: &Draft, text: &'a [u8]) -> Result<(Short, &'a [u8]), Unre
 }
 
 /// An immediate of 12 bits: a number that fits, `%lo(VALUE)` or `%pcrel_lo(LABEL)`.
+///
+/// Errors: what stands where none can be read, and what may stand there.
 #[tactic(auto, unfolding(crate::specs::Values::short_at))]
 pub fn read_short<'a>(draft: &Draft, text: &'a [u8]) -> Result<(Short, &'a [u8]), Unread>
     ensures { Gives (λ x. (x.0, x.1.now)) result (short_at (layout_of draft.now) text.now) }
@@ -227,6 +233,8 @@ pub fn read_short<'a>(draft: &Draft, text: &'a [u8]) -> Result<(Short, &'a [u8])
 }
 
 /// An immediate of 20 bits: a number that fits, `%hi(VALUE)` or `%pcrel_hi(VALUE)`.
+///
+/// Errors: what stands where none can be read, and what may stand there.
 #[tactic(auto, unfolding(crate::specs::Values::upper_at))]
 pub fn read_upper<'a>(draft: &Draft, text: &'a [u8]) -> Result<(Long, &'a [u8]), Unread>
     ensures { Gives (λ x. (x.0, x.1.now)) result (upper_at (layout_of draft.now) text.now) }
@@ -238,6 +246,8 @@ pub fn read_upper<'a>(draft: &Draft, text: &'a [u8]) -> Result<(Long, &'a [u8]),
 }
 
 /// An immediate and a register in parentheses.
+///
+/// Errors: what stands where none can be read, and what may stand there.
 #[tactic(auto, unfolding(crate::specs::Values::address_at))]
 pub fn read_address<'a>(
     draft: &Draft,

@@ -49,7 +49,9 @@ impl Fields {
         }
     }
 
-    /// Adds a text. Where memory runs out no field is left.
+    /// Adds a text.
+    ///
+    /// Errors: memory ran out; then no field is left.
     pub fn push(&mut self, text: &str) -> Result<(), AllocError>
         ensures { OnOk result (self.new ≡ self.old ++ (text.now ∷ [])) }
     {
@@ -61,6 +63,8 @@ impl Fields {
     }
 
     /// Adds a number.
+    ///
+    /// Errors: memory ran out; then no field is left.
     pub fn push_number(&mut self, number: u64) -> Result<(), AllocError>
         ensures { OnOk result (self.new ≡ self.old ++ (decimal number ∷ [])) }
     {
