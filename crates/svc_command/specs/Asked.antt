@@ -56,6 +56,11 @@ Names words (request.Draw from config trace picture first count) = IsNamed (code
 Names words (request.Assemble text image) = IsNamed (codes "assemble") words
 Names words (request.List from) = IsNamed (codes "list") words
 
+-- a subcommand of this name asks for it: words that begin with the name name it, and it isn't the run of the built-in image
+pub record IsAskedBy (name : List ℕ) (asked : Request) : Type 0 where
+  pub named : (words : List (List ℕ)) → IsNamed name words → Names words asked
+  pub other : ¬ IsBuiltInRun asked
+
 -- what the words of a line may ask for: what they name, and the run of the built-in image exactly where there is none but the program's name
 pub record MayAsk (words : List (List ℕ)) (asked : Request) : Type 0 where
   pub named : Names words asked

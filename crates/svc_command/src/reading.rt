@@ -1,7 +1,7 @@
 //! What the words of a command line ask for.
 
-ghost use Rattle.std.specs.Prelude.{◌≡◌, ◌≢◌, IfOk, IsTrue};
-ghost use Rattle.svc_command.specs.Asked.{Has, IsBuiltInRun, IsHelpWord, IsNamed, IsVersionWord, MayAsk, Names, texts};
+ghost use Rattle.std.specs.Prelude.{◌≡◌, ◌≢◌, IfOk, IsTrue, codes};
+ghost use Rattle.svc_command.specs.Asked.{Has, IsAskedBy, IsBuiltInRun, IsHelpWord, IsNamed, IsVersionWord, MayAsk, Names, texts};
 
 use crate::command::command;
 use clap::error::ErrorKind;
@@ -101,64 +101,132 @@ fn asked<'a>(
     ensures other { IfOk result (λ asked. ¬ (IsBuiltInRun asked)) }
 {
     match matches.subcommand() {
-        Some(("run", given)) if is_named(words, "run") => Ok(Request::Run {
-            image: image(given)?,
-            config: configuration(given)?,
-            schedule: schedule(alloc, given)?,
-            trace: given.get_str("trace"),
-            row: row(given),
-        }),
-        Some(("seq", given)) if is_named(words, "seq") => Ok(Request::Sequential {
-            image: image(given)?,
-            tasks: number(given, "tasks")?,
-        }),
-        Some(("script", given)) if is_named(words, "script") => Ok(Request::Script {
-            image: image(given)?,
-            config: configuration(given)?,
-            events: given.get_str("EVENTS").ok_or(Fault::File)?,
-        }),
-        Some(("check", given)) if is_named(words, "check") => Ok(Request::Check {
-            image: image(given)?,
-            config: configuration(given)?,
-            trace: given.get_str("TRACE").ok_or(Fault::File)?,
-        }),
-        Some(("profile", given)) if is_named(words, "profile") => Ok(Request::Profile {
-            image: image(given)?,
-            config: configuration(given)?,
-            trace: given.get_str("TRACE").ok_or(Fault::File)?,
-            by: table(given)?,
-        }),
-        Some(("show", given)) if is_named(words, "show") => Ok(Request::Show {
-            image: image(given)?,
-            config: configuration(given)?,
-            trace: given.get_str("TRACE").ok_or(Fault::File)?,
-            at: given.get_one::<u64>("at"),
-        }),
-        Some(("draw", given)) if is_named(words, "draw") => Ok(Request::Draw {
-            image: image(given)?,
-            config: configuration(given)?,
-            trace: given.get_str("TRACE").ok_or(Fault::File)?,
-            picture: given.get_str("FILE.svg").ok_or(Fault::File)?,
-            from: number(given, "from")?,
-            count: number(given, "count")?,
-        }),
-        Some(("assemble", given)) if is_named(words, "assemble") => Ok(Request::Assemble {
-            text: given.get_str("FILE").ok_or(Fault::File)?,
-            image: given.get_str("IMAGE").ok_or(Fault::File)?,
-        }),
-        Some(("list", given)) if is_named(words, "list") => Ok(Request::List {
-            image: image(given)?,
-        }),
+        Some(("run", given)) if is_named(words, "run") => run(alloc, given),
+        Some(("seq", given)) if is_named(words, "seq") => sequential(given),
+        Some(("script", given)) if is_named(words, "script") => script(given),
+        Some(("check", given)) if is_named(words, "check") => check(given),
+        Some(("profile", given)) if is_named(words, "profile") => profile(given),
+        Some(("show", given)) if is_named(words, "show") => show(given),
+        Some(("draw", given)) if is_named(words, "draw") => draw(given),
+        Some(("assemble", given)) if is_named(words, "assemble") => assemble(given),
+        Some(("list", given)) if is_named(words, "list") => list(given),
         // The parser reads no other subcommand, and no line that begins otherwise.
         _ => Err(Fault::File),
     }
+}
+
+// What `run` asks for.
+fn run<'a>(alloc: Global, given: &ArgMatches<'a>) -> Result<Request<'a>, Fault>
+    ensures { IfOk result (IsAskedBy (codes "run")) }
+{
+    Ok(Request::Run {
+        image: image(given)?,
+        config: configuration(given)?,
+        schedule: schedule(alloc, given)?,
+        trace: given.get_str("trace"),
+        row: row(given),
+    })
+}
+
+// What `seq` asks for.
+fn sequential<'a>(given: &ArgMatches<'a>) -> Result<Request<'a>, Fault>
+    ensures { IfOk result (IsAskedBy (codes "seq")) }
+{
+    Ok(Request::Sequential {
+        image: image(given)?,
+        tasks: number(given, "tasks")?,
+    })
+}
+
+// What `script` asks for.
+fn script<'a>(given: &ArgMatches<'a>) -> Result<Request<'a>, Fault>
+    ensures { IfOk result (IsAskedBy (codes "script")) }
+{
+    Ok(Request::Script {
+        image: image(given)?,
+        config: configuration(given)?,
+        events: file(given, "EVENTS")?,
+    })
+}
+
+// What `check` asks for.
+fn check<'a>(given: &ArgMatches<'a>) -> Result<Request<'a>, Fault>
+    ensures { IfOk result (IsAskedBy (codes "check")) }
+{
+    Ok(Request::Check {
+        image: image(given)?,
+        config: configuration(given)?,
+        trace: file(given, "TRACE")?,
+    })
+}
+
+// What `profile` asks for.
+fn profile<'a>(given: &ArgMatches<'a>) -> Result<Request<'a>, Fault>
+    ensures { IfOk result (IsAskedBy (codes "profile")) }
+{
+    Ok(Request::Profile {
+        image: image(given)?,
+        config: configuration(given)?,
+        trace: file(given, "TRACE")?,
+        by: table(given)?,
+    })
+}
+
+// What `show` asks for.
+fn show<'a>(given: &ArgMatches<'a>) -> Result<Request<'a>, Fault>
+    ensures { IfOk result (IsAskedBy (codes "show")) }
+{
+    Ok(Request::Show {
+        image: image(given)?,
+        config: configuration(given)?,
+        trace: file(given, "TRACE")?,
+        at: given.get_one::<u64>("at"),
+    })
+}
+
+// What `draw` asks for.
+fn draw<'a>(given: &ArgMatches<'a>) -> Result<Request<'a>, Fault>
+    ensures { IfOk result (IsAskedBy (codes "draw")) }
+{
+    Ok(Request::Draw {
+        image: image(given)?,
+        config: configuration(given)?,
+        trace: file(given, "TRACE")?,
+        picture: file(given, "FILE.svg")?,
+        from: number(given, "from")?,
+        count: number(given, "count")?,
+    })
+}
+
+// What `assemble` asks for.
+fn assemble<'a>(given: &ArgMatches<'a>) -> Result<Request<'a>, Fault>
+    ensures { IfOk result (IsAskedBy (codes "assemble")) }
+{
+    Ok(Request::Assemble {
+        text: file(given, "FILE")?,
+        image: file(given, "IMAGE")?,
+    })
+}
+
+// What `list` asks for.
+fn list<'a>(given: &ArgMatches<'a>) -> Result<Request<'a>, Fault>
+    ensures { IfOk result (IsAskedBy (codes "list")) }
+{
+    Ok(Request::List {
+        image: image(given)?,
+    })
+}
+
+// A file that has to be named, so a line that was read names it.
+fn file<'a>(given: &ArgMatches<'a>, name: &str) -> Result<&'a str, Fault> {
+    given.get_str(name).ok_or(Fault::File)
 }
 
 // The image's file.
 fn image<'a>(given: &ArgMatches<'a>) -> Result<Source<'a>, Fault>
     ensures { IfOk result (λ source. source ≢ Source.BuiltIn) }
 {
-    let name = given.get_str("IMAGE").ok_or(Fault::File)?;
+    let name = file(given, "IMAGE")?;
     Ok(Source::File(name))
 }
 

@@ -1,6 +1,5 @@
-// What no text shows: the slips and the history as values, what a unit's thread sees, and refused memory. Scripts and
-// traces, with what is printed of them, are cases of the program. What is expected follows from the sample's text by
-// hand.
+// What no text shows: the slips and the history as values, and what a unit's thread sees. Scripts and traces, with what is
+// printed of them, are cases of the program. What is expected follows from the sample's text by hand.
 
 use crate::script::{Line, first, four_units, taken};
 use std::alloc::Global;
@@ -12,7 +11,6 @@ use svc_image::samples::P;
 
 mod events;
 mod glances;
-mod memory;
 mod traces;
 
 // Plays a line; a submission without a lease is refused as that of an idle unit.

@@ -1,5 +1,5 @@
-// What no script shows: what the reads tell, bursts of other images and machines, the last epochs, and refused memory.
-// Scripts with what they print are cases of the program. What is expected follows from the sample's text by hand.
+// What no script shows: what the reads tell, bursts of other images and machines, and the last epochs. Scripts with what
+// they print are cases of the program. What is expected follows from the sample's text by hand.
 
 use crate::script::{Line, four_units, taken};
 use std::alloc::Global;
@@ -10,7 +10,6 @@ use svc_machine::{Event, Machine, Reply};
 
 mod driven;
 mod limits;
-mod memory;
 mod reads;
 
 // The answer to an event.

@@ -84,50 +84,79 @@ fn value_in(cache: &Cache) -> Option<u32>
     Some(line.value)
 }
 
-#[test]
-fn spilled_versions_go_to_memory_once(rt: HostRuntime) -> Result<(), Fail> {
-    let mut spill = Spill::open(rt.alloc(), 3).map_err(|_| "memory")?;
+// What was read of a spill table, and what memory held after each time that it was written back.
+#[derive(Clone, Copy)]
+struct Spilled {
+    read: [Option<u32>; 2],
+    memory: [[u32; 3]; 2],
+}
+
+fn spill_and_write_back(alloc: Global) -> Result<Spilled, OpenError> {
+    let mut spill = Spill::open(alloc, 3)?;
     let mut backing = [10, 11, 12];
     spill.put(WordAddr(2), 5);
     spill.put(WordAddr(0), 6);
     spill.put(WordAddr(2), 7);
-    assert_eq!(rt; spill.len(), 3);
-    assert_eq!(rt; spill.get(WordAddr(2)), Some(7));
+    let newest = spill.get(WordAddr(2));
     spill.clear(WordAddr(0));
-    assert_eq!(rt; spill.get(WordAddr(0)), None);
     spill.put(WordAddr(1), 8);
     spill.write_back(&mut backing);
-    assert_eq!(rt; backing, [10, 8, 7]);
-    assert_eq!(rt; spill.get(WordAddr(2)), None);
+    let first = backing;
+    let gone = spill.get(WordAddr(2));
     spill.put(WordAddr(0), 9);
     spill.write_back(&mut backing);
-    assert_eq!(rt; backing, [9, 8, 7]);
+    Ok(Spilled {
+        read: [newest, gone],
+        memory: [first, backing],
+    })
+}
+
+#[test]
+fn spilled_versions_go_to_memory_once(rt: HostRuntime) -> Result<(), Fail> {
+    let seen = spill_and_write_back(rt.alloc()).map_err(|_| "memory")?;
+    assert_eq!(rt; seen.read, [Some(7), None]);
+    assert_eq!(rt; seen.memory, [[10, 8, 7], [9, 8, 7]]);
     Ok(())
+}
+
+// The value of a line that was loaded, and whether it is committed, after a commit.
+fn line_after_a_commit(rt: &impl Abort, alloc: Global) -> Result<Option<(u32, bool)>, OpenError> {
+    let mut cache = cache_with(rt, alloc, loaded(5))?;
+    commit_lines(&mut cache);
+    let left = cache.lookup(WORD, &mut Probes::new());
+    Ok(left.map(|line| (line.value, line.bits.is_committed())))
 }
 
 #[test]
 fn a_commit_leaves_the_line_in_its_cache(rt: HostRuntime) -> Result<(), Fail> {
-    let mut cache = cache_with(&rt, rt.alloc(), loaded(5)).map_err(|_| "memory")?;
-    commit_lines(&mut cache);
-    let left = cache.lookup(WORD, &mut Probes::new());
-    assert_eq!(rt;
-        left.map(|line| (line.value, line.bits.is_committed())),
-        Some((5, true))
-    );
+    let left = line_after_a_commit(&rt, rt.alloc()).map_err(|_| "memory")?;
+    assert_eq!(rt; left, Some((5, true)));
     Ok(())
 }
 
-#[test]
-fn a_squash_takes_out_the_active_lines_of_the_cut_tasks(rt: HostRuntime) -> Result<(), Fail> {
+// The values of the word's lines after the last two tasks of three were cut, and after all were.
+fn values_after_squashes(
+    rt: &impl Abort,
+    alloc: Global,
+) -> Result<[[Option<u32>; 3]; 2], OpenError> {
     let lines = [stored(10), loaded(20), committed(stored(30))];
-    let mut caches = caches_with(&rt, rt.alloc(), lines).map_err(|_| "memory")?;
+    let mut caches = caches_with(rt, alloc, lines)?;
     let mut queue = TaskQueue::new();
     queue.push(UnitId(1));
     queue.push(UnitId(0));
     queue.push(UnitId(2));
     squash_lines(&mut caches, &queue, 1);
-    assert_eq!(rt; values_in(&caches), [None, Some(20), Some(30)]);
+    let later = values_in(&caches);
     squash_lines(&mut caches, &queue, 0);
-    assert_eq!(rt; values_in(&caches), [None, None, Some(30)]);
+    Ok([later, values_in(&caches)])
+}
+
+#[test]
+fn a_squash_takes_out_the_active_lines_of_the_cut_tasks(rt: HostRuntime) -> Result<(), Fail> {
+    let values = values_after_squashes(&rt, rt.alloc()).map_err(|_| "memory")?;
+    assert_eq!(rt;
+        values,
+        [[None, Some(20), Some(30)], [None, None, Some(30)]]
+    );
     Ok(())
 }

@@ -3,7 +3,6 @@
 ghost use Rattle.std.specs.Prelude.{◌≡◌, IfOk, IfErr, IfSome, MatchResult};
 ghost use Rattle.std.specs.List.{AllByRecursion};
 ghost use Rattle.csv.specs.Records.{fields_of};
-ghost use Rattle.svc_report.specs.Fields.{IsAny, Reads};
 ghost use Rattle.svc_report.specs.Records.{IsText};
 ghost use Rattle.svc_report.specs.Script.{FirstBadStep, HasStepRow, IsScriptFault, kind_with, script_records, step_columns, word_text};
 
@@ -11,6 +10,7 @@ use crate::error::ReportError;
 use crate::numbers::{optional_number_of, unit_of};
 use crate::reading::{Row, read_rows};
 use crate::records::field;
+use crate::words::{Word, named};
 use csv::ByteRecord;
 use std::alloc::Global;
 use std::io::Read;
@@ -57,21 +57,6 @@ enum StepWord {
 }
 
 impl StepWord {
-    fn of(field: &[u8]) -> Option<StepWord>
-        ensures { Reads IsAny word_text field.now result }
-    {
-        match field {
-            b"assign" => Some(StepWord::Assign),
-            b"submit" => Some(StepWord::Submit),
-            b"replace" => Some(StepWord::Replace),
-            b"cancel" => Some(StepWord::Cancel),
-            b"commit" => Some(StepWord::Commit),
-            b"take" => Some(StepWord::Take),
-            b"give" => Some(StepWord::Give),
-            _ => None,
-        }
-    }
-
     // The kind with this word and number, if the word needs a number and there is one, or needs
     // none and there is none.
     fn with(self, arg: Option<u32>) -> Option<StepKind>
@@ -90,6 +75,34 @@ impl StepWord {
     }
 }
 
+impl Word for StepWord {
+    ghost word = { word_text };
+
+    fn all() -> &'static [StepWord] {
+        &[
+            StepWord::Assign,
+            StepWord::Submit,
+            StepWord::Replace,
+            StepWord::Cancel,
+            StepWord::Commit,
+            StepWord::Take,
+            StepWord::Give,
+        ]
+    }
+
+    fn text(self) -> &'static str {
+        match self {
+            StepWord::Assign => "assign",
+            StepWord::Submit => "submit",
+            StepWord::Replace => "replace",
+            StepWord::Cancel => "cancel",
+            StepWord::Commit => "commit",
+            StepWord::Take => "take",
+            StepWord::Give => "give",
+        }
+    }
+}
+
 // The names of the columns.
 const HEADER: [&[u8]; 3] = [b"kind", b"unit", b"arg"];
 
@@ -101,7 +114,7 @@ fn step_of(row: &ByteRecord) -> Result<Step, u8>
     if row.len() != HEADER.len() {
         return Err(0);
     }
-    let word = StepWord::of(field(row, 0)).ok_or(1)?;
+    let word = named::<StepWord>(field(row, 0)).ok_or(1)?;
     let unit = unit_of(field(row, 1)).ok_or(2)?;
     let arg = optional_number_of(field(row, 2)).ok_or(3)?;
     let kind = word.with(arg).ok_or(3)?;

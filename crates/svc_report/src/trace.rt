@@ -18,8 +18,7 @@ use crate::numbers::{
 use crate::reading::{Row, read_rows};
 use crate::records::field;
 use crate::words::{
-    ask_of, ask_text, cause_of, cause_text, kind_of, kind_text, reply_of, reply_text, served_of,
-    served_text,
+    ask_of, ask_text, cause_text, kind_text, named, named_or_none, reply_text, served_text,
 };
 use csv::ByteRecord;
 use itoa::Buffer;
@@ -115,17 +114,17 @@ fn entry_of(row: &ByteRecord) -> Result<Entry, u8>
         return Err(0);
     }
     Ok(Entry {
-        kind: kind_of(field(row, 0)).ok_or(1)?,
+        kind: named(field(row, 0)).ok_or(1)?,
         unit: unit_of(field(row, 1)).ok_or(2)?,
         arg: optional_number_of(field(row, 2)).ok_or(3)?,
         local: optional_small_of(field(row, 3), MOST_LOCAL).ok_or(4)?,
         ask: ask_of(field(row, 4)).ok_or(5)?,
-        reply: reply_of(field(row, 5)).ok_or(6)?,
+        reply: named(field(row, 5)).ok_or(6)?,
         addr: optional_address_of(field(row, 6)).ok_or(7)?,
         word: optional_number_of(field(row, 7)).ok_or(8)?,
-        served: served_of(field(row, 8)).ok_or(9)?,
+        served: named_or_none(field(row, 8)).ok_or(9)?,
         from: optional_unit_of(field(row, 9)).ok_or(10)?,
-        cause: cause_of(field(row, 10)).ok_or(11)?,
+        cause: named_or_none(field(row, 10)).ok_or(11)?,
         first: optional_number_of(field(row, 11)).ok_or(12)?,
         squashed: optional_number_of(field(row, 12)).ok_or(13)?,
     })

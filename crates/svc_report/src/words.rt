@@ -1,6 +1,6 @@
 // Words in fields.
 
-ghost use Rattle.std.specs.Prelude.{◌≡◌};
+ghost use Rattle.std.specs.Prelude.{◌≡◌, ℕ, List, Some, slice_get};
 ghost use Rattle.svc_report.specs.Fields.{IsAny, Reads, kind_word, reply_word, served_word, cause_word, ask_word, optional};
 
 use svc_history_laws::{CutKind, Kind, ReplyKind, ServedKind};
@@ -73,64 +73,110 @@ pub(crate) fn ask_text(ask: Option<bool>) -> &'static str
     }
 }
 
-/// The kind whose word this is.
-pub(crate) fn kind_of(field: &[u8]) -> Option<Kind>
-    ensures { Reads IsAny kind_word field.now result }
+/// What a column holds as one of a few words.
+pub(crate) trait Word: Copy + 'static {
+    // The word of each.
+    ghost word: { Self → List ℕ };
+
+    /// Each of them.
+    fn all() -> &'static [Self]
+        ensures { (x : Self) → (k : ℕ) × (slice_get result.now k ≡ Some x) };
+
+    /// The word.
+    fn text(self) -> &'static str
+        ensures { result.now ≡ word self };
+}
+
+/// The one whose word this is.
+pub(crate) fn named<W: Word>(field: &[u8]) -> Option<W>
+    ensures { Reads IsAny W.word field.now result }
 {
-    match field {
-        b"assign" => Some(Kind::Assign),
-        b"submit" => Some(Kind::Submit),
-        b"replace" => Some(Kind::Replace),
-        b"cancel" => Some(Kind::Cancel),
-        b"commit" => Some(Kind::Commit),
-        _ => None,
+    for word in W::all() {
+        if word.text().as_bytes() == field {
+            return Some(*word);
+        }
+    }
+    None
+}
+
+/// The one whose word this is, or none of them where the field is empty.
+pub(crate) fn named_or_none<W: Word>(field: &[u8]) -> Option<Option<W>>
+    ensures { Reads IsAny (optional W.word) field.now result }
+{
+    if field.is_empty() {
+        return Some(None);
+    }
+    named(field).map(Some)
+}
+
+impl Word for Kind {
+    ghost word = { kind_word };
+
+    fn all() -> &'static [Kind] {
+        &[
+            Kind::Assign,
+            Kind::Submit,
+            Kind::Replace,
+            Kind::Cancel,
+            Kind::Commit,
+        ]
+    }
+
+    fn text(self) -> &'static str {
+        kind_text(self)
     }
 }
 
-/// The reply whose word this is.
-pub(crate) fn reply_of(field: &[u8]) -> Option<ReplyKind>
-    ensures { Reads IsAny reply_word field.now result }
-{
-    match field {
-        b"assigned" => Some(ReplyKind::Assigned),
-        b"ran" => Some(ReplyKind::Ran),
-        b"loaded" => Some(ReplyKind::Loaded),
-        b"stored" => Some(ReplyKind::Stored),
-        b"emitted" => Some(ReplyKind::Emitted),
-        b"trapped" => Some(ReplyKind::Trapped),
-        b"replaced" => Some(ReplyKind::Replaced),
-        b"cancelled" => Some(ReplyKind::Cancelled),
-        b"committed" => Some(ReplyKind::Committed),
-        _ => None,
+impl Word for ReplyKind {
+    ghost word = { reply_word };
+
+    fn all() -> &'static [ReplyKind] {
+        &[
+            ReplyKind::Ran,
+            ReplyKind::Loaded,
+            ReplyKind::Stored,
+            ReplyKind::Assigned,
+            ReplyKind::Committed,
+            ReplyKind::Emitted,
+            ReplyKind::Replaced,
+            ReplyKind::Cancelled,
+            ReplyKind::Trapped,
+        ]
+    }
+
+    fn text(self) -> &'static str {
+        reply_text(self)
     }
 }
 
-/// The supplier whose word this is, or no supplier.
-pub(crate) fn served_of(field: &[u8]) -> Option<Option<ServedKind>>
-    ensures { Reads IsAny (optional served_word) field.now result }
-{
-    match field {
-        b"" => Some(None),
-        b"hit" => Some(Some(ServedKind::Hit)),
-        b"reuse" => Some(Some(ServedKind::Reuse)),
-        b"version" => Some(Some(ServedKind::Version)),
-        b"spill" => Some(Some(ServedKind::Spill)),
-        b"committed" => Some(Some(ServedKind::Committed)),
-        b"memory" => Some(Some(ServedKind::Memory)),
-        _ => None,
+impl Word for ServedKind {
+    ghost word = { served_word };
+
+    fn all() -> &'static [ServedKind] {
+        &[
+            ServedKind::Hit,
+            ServedKind::Memory,
+            ServedKind::Version,
+            ServedKind::Reuse,
+            ServedKind::Committed,
+            ServedKind::Spill,
+        ]
+    }
+
+    fn text(self) -> &'static str {
+        served_text(Some(self))
     }
 }
 
-/// The cause whose word this is, or no cause.
-pub(crate) fn cause_of(field: &[u8]) -> Option<Option<CutKind>>
-    ensures { Reads IsAny (optional cause_word) field.now result }
-{
-    match field {
-        b"" => Some(None),
-        b"violation" => Some(Some(CutKind::Violation)),
-        b"guess" => Some(Some(CutKind::Guess)),
-        b"cancel" => Some(Some(CutKind::Cancel)),
-        _ => None,
+impl Word for CutKind {
+    ghost word = { cause_word };
+
+    fn all() -> &'static [CutKind] {
+        &[CutKind::Violation, CutKind::Guess, CutKind::Cancel]
+    }
+
+    fn text(self) -> &'static str {
+        cause_text(Some(self))
     }
 }
 

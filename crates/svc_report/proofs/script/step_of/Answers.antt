@@ -15,7 +15,7 @@ unfolding FirstBadStep step_columns
 returns-in_err-word c =
     let fs = fields_of c.args.row.now in
     let len : length fs ≡ 3 = sym c.len.ensures ∙ c.if-len-ne3.false in
-    let none = rw c.in_err-word.ensures.ok_part at c.of.ensures in
+    let none = rw c.in_err-word.ensures.ok_part at c.named.ensures in
     gave_up c.from_residual.result _ _ 1 _ (FirstBadStep fs) c.from_residual.ensures.1 c.in_err-word.ensures.value c.in_err-word.ensures.ok_part
     (len, (some_step word.Assign 0, some_row word.Assign 0 (omega arith), refl), λ s p h. none _ tt (c.field.ensures ∙ front fs (step_columns s) 1 0 (omega arith) h))
 
@@ -25,7 +25,7 @@ returns-in_err-unit c =
     let fs = fields_of c.args.row.now in
     let len : length fs ≡ 3 = sym c.len.ensures ∙ c.if-len-ne3.false in
     let w = c.in_ok-word.word in
-    let a = rw c.in_ok-word.ensures.ok_part at c.of.ensures in
+    let a = rw c.in_ok-word.ensures.ok_part at c.named.ensures in
     let first = sym c.field.ensures ∙ a.1 ∙ ap word_text (sym (word_of-some w)) in
     let none = rw c.in_err-unit.ensures.ok_part at c.unit_of.ensures in
     gave_up c.from_residual-in_err-unit.result _ _ 2 _ (FirstBadStep fs) c.from_residual-in_err-unit.ensures.1 c.in_err-unit.ensures.value c.in_err-unit.ensures.ok_part
@@ -37,7 +37,7 @@ returns-in_err-arg c =
     let fs = fields_of c.args.row.now in
     let len : length fs ≡ 3 = sym c.len.ensures ∙ c.if-len-ne3.false in
     let w = c.in_ok-word.word in
-    let a = rw c.in_ok-word.ensures.ok_part at c.of.ensures in
+    let a = rw c.in_ok-word.ensures.ok_part at c.named.ensures in
     let b = rw c.in_ok-unit.ensures.ok_part at c.unit_of.ensures in
     let u = c.in_ok-unit.unit.0 in
     let first = sym c.field.ensures ∙ a.1 ∙ ap word_text (sym (word_of-some w)) in
@@ -52,7 +52,7 @@ returns-in_err-kind c =
     let fs = fields_of c.args.row.now in
     let len : length fs ≡ 3 = sym c.len.ensures ∙ c.if-len-ne3.false in
     let w = c.in_ok-word.word in
-    let a = rw c.in_ok-word.ensures.ok_part at c.of.ensures in
+    let a = rw c.in_ok-word.ensures.ok_part at c.named.ensures in
     let b = rw c.in_ok-unit.ensures.ok_part at c.unit_of.ensures in
     let d = rw c.in_ok-arg.ensures.ok_part at c.optional_number_of.ensures in
     let u = c.in_ok-unit.unit.0 in
@@ -71,7 +71,7 @@ unfolding step_columns
 returns c =
     let fs = fields_of c.args.row.now in
     let len : length fs ≡ 3 = sym c.len.ensures ∙ c.if-len-ne3.false in
-    let a = rw c.in_ok-word.ensures.ok_part at c.of.ensures in
+    let a = rw c.in_ok-word.ensures.ok_part at c.named.ensures in
     let b = rw c.in_ok-unit.ensures.ok_part at c.unit_of.ensures in
     let d = rw c.in_ok-arg.ensures.ok_part at c.optional_number_of.ensures in
     let found = found_with c.in_ok-word.word c.in_ok-arg.arg c.in_ok-kind.kind (sym c.with.ensures ∙ c.in_ok-kind.ensures.ok_part) in
