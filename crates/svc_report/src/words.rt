@@ -78,7 +78,7 @@ pub(crate) trait Word: Copy + 'static {
     // The word of each.
     ghost word: { Self → List ℕ };
 
-    /// Each of them.
+    /// Each of them, the most frequent ones first: a field is compared with their words in this order.
     fn all() -> &'static [Self]
         ensures { (x : Self) → (k : ℕ) × (slice_get result.now k ≡ Some x) };
 
@@ -114,11 +114,11 @@ impl Word for Kind {
 
     fn all() -> &'static [Kind] {
         &[
-            Kind::Assign,
             Kind::Submit,
+            Kind::Assign,
+            Kind::Commit,
             Kind::Replace,
             Kind::Cancel,
-            Kind::Commit,
         ]
     }
 
@@ -132,9 +132,9 @@ impl Word for ReplyKind {
 
     fn all() -> &'static [ReplyKind] {
         &[
-            ReplyKind::Ran,
             ReplyKind::Loaded,
             ReplyKind::Stored,
+            ReplyKind::Ran,
             ReplyKind::Assigned,
             ReplyKind::Committed,
             ReplyKind::Emitted,

@@ -3,9 +3,9 @@ use Rattle.svc_history_laws.specs.declared.entry.ReplyKind.TheVariants as word
 use Rattle.svc_report.proofs.words.ReplyKindWord.all.Goals as goal
 
 pub returns : goal.returns
-returns c word.Ran = (0, refl)
-returns c word.Loaded = (1, refl)
-returns c word.Stored = (2, refl)
+returns c word.Loaded = (0, refl)
+returns c word.Stored = (1, refl)
+returns c word.Ran = (2, refl)
 returns c word.Assigned = (3, refl)
 returns c word.Committed = (4, refl)
 returns c word.Emitted = (5, refl)
