@@ -17,9 +17,7 @@ use crate::numbers::{
 };
 use crate::reading::{Row, read_rows};
 use crate::records::field;
-use crate::words::{
-    ask_of, ask_text, cause_text, kind_text, named, named_or_none, reply_text, served_text,
-};
+use crate::words::{Word, named, named_or_none, text_or_none};
 use csv::ByteRecord;
 use itoa::Buffer;
 use std::alloc::Global;
@@ -61,17 +59,17 @@ fn write_row<W: Write>(pending: &mut Pending, entry: &Entry, w: &mut W) -> Resul
     let mut first = Buffer::new();
     let mut squashed = Buffer::new();
     let fields = [
-        kind_text(entry.kind).as_bytes(),
+        entry.kind.text().as_bytes(),
         unit_text(&mut unit, Some(entry.unit)).as_bytes(),
         number_text(&mut arg, entry.arg).as_bytes(),
         small_text(&mut local, entry.local).as_bytes(),
-        ask_text(entry.ask).as_bytes(),
-        reply_text(entry.reply).as_bytes(),
+        text_or_none(entry.ask).as_bytes(),
+        entry.reply.text().as_bytes(),
         address_text(&mut addr, entry.addr).as_bytes(),
         number_text(&mut word, entry.word).as_bytes(),
-        served_text(entry.served).as_bytes(),
+        text_or_none(entry.served).as_bytes(),
         unit_text(&mut from, entry.from).as_bytes(),
-        cause_text(entry.cause).as_bytes(),
+        text_or_none(entry.cause).as_bytes(),
         number_text(&mut first, entry.first).as_bytes(),
         number_text(&mut squashed, entry.squashed).as_bytes(),
     ];
@@ -118,7 +116,7 @@ fn entry_of(row: &ByteRecord) -> Result<Entry, u8>
         unit: unit_of(field(row, 1)).ok_or(2)?,
         arg: optional_number_of(field(row, 2)).ok_or(3)?,
         local: optional_small_of(field(row, 3), MOST_LOCAL).ok_or(4)?,
-        ask: ask_of(field(row, 4)).ok_or(5)?,
+        ask: named_or_none(field(row, 4)).ok_or(5)?,
         reply: named(field(row, 5)).ok_or(6)?,
         addr: optional_address_of(field(row, 6)).ok_or(7)?,
         word: optional_number_of(field(row, 7)).ok_or(8)?,

@@ -5,86 +5,28 @@ ghost use Rattle.svc_report.specs.Fields.{IsAny, Reads, kind_word, reply_word, s
 
 use svc_history_laws::{CutKind, Kind, ReplyKind, ServedKind};
 
-/// The word of an event's kind.
-pub(crate) fn kind_text(kind: Kind) -> &'static str
-    ensures { result.now ≡ kind_word kind }
-{
-    match kind {
-        Kind::Assign => "assign",
-        Kind::Submit => "submit",
-        Kind::Replace => "replace",
-        Kind::Cancel => "cancel",
-        Kind::Commit => "commit",
-    }
-}
-
-/// The word of a reply.
-pub(crate) fn reply_text(reply: ReplyKind) -> &'static str
-    ensures { result.now ≡ reply_word reply }
-{
-    match reply {
-        ReplyKind::Assigned => "assigned",
-        ReplyKind::Ran => "ran",
-        ReplyKind::Loaded => "loaded",
-        ReplyKind::Stored => "stored",
-        ReplyKind::Emitted => "emitted",
-        ReplyKind::Trapped => "trapped",
-        ReplyKind::Replaced => "replaced",
-        ReplyKind::Cancelled => "cancelled",
-        ReplyKind::Committed => "committed",
-    }
-}
-
-/// The word of a supplier that may not apply.
-pub(crate) fn served_text(served: Option<ServedKind>) -> &'static str
-    ensures { result.now ≡ optional served_word served }
-{
-    match served {
-        None => "",
-        Some(ServedKind::Hit) => "hit",
-        Some(ServedKind::Reuse) => "reuse",
-        Some(ServedKind::Version) => "version",
-        Some(ServedKind::Spill) => "spill",
-        Some(ServedKind::Committed) => "committed",
-        Some(ServedKind::Memory) => "memory",
-    }
-}
-
-/// The word of a cause that may not apply.
-pub(crate) fn cause_text(cause: Option<CutKind>) -> &'static str
-    ensures { result.now ≡ optional cause_word cause }
-{
-    match cause {
-        None => "",
-        Some(CutKind::Violation) => "violation",
-        Some(CutKind::Guess) => "guess",
-        Some(CutKind::Cancel) => "cancel",
-    }
-}
-
-/// 1 with an ask and 0 without one, if that applies.
-pub(crate) fn ask_text(ask: Option<bool>) -> &'static str
-    ensures { result.now ≡ optional ask_word ask }
-{
-    match ask {
-        None => "",
-        Some(true) => "1",
-        Some(false) => "0",
-    }
-}
-
 /// What a column holds as one of a few words.
 pub(crate) trait Word: Copy + 'static {
     // The word of each.
     ghost word: { Self → List ℕ };
 
-    /// Each of them, the most frequent ones first: a field is compared with their words in this order.
+    /// Each of them.
     fn all() -> &'static [Self]
         ensures { (x : Self) → (k : ℕ) × (slice_get result.now k ≡ Some x) };
 
     /// The word.
     fn text(self) -> &'static str
         ensures { result.now ≡ word self };
+}
+
+/// The word of a value that may not apply: nothing where it doesn't.
+pub(crate) fn text_or_none<W: Word>(value: Option<W>) -> &'static str
+    ensures { result.now ≡ optional W.word value }
+{
+    match value {
+        None => "",
+        Some(value) => value.text(),
+    }
 }
 
 /// The one whose word this is.
@@ -114,16 +56,22 @@ impl Word for Kind {
 
     fn all() -> &'static [Kind] {
         &[
-            Kind::Submit,
             Kind::Assign,
-            Kind::Commit,
+            Kind::Submit,
             Kind::Replace,
             Kind::Cancel,
+            Kind::Commit,
         ]
     }
 
     fn text(self) -> &'static str {
-        kind_text(self)
+        match self {
+            Kind::Assign => "assign",
+            Kind::Submit => "submit",
+            Kind::Replace => "replace",
+            Kind::Cancel => "cancel",
+            Kind::Commit => "commit",
+        }
     }
 }
 
@@ -132,20 +80,30 @@ impl Word for ReplyKind {
 
     fn all() -> &'static [ReplyKind] {
         &[
+            ReplyKind::Assigned,
+            ReplyKind::Ran,
             ReplyKind::Loaded,
             ReplyKind::Stored,
-            ReplyKind::Ran,
-            ReplyKind::Assigned,
-            ReplyKind::Committed,
             ReplyKind::Emitted,
+            ReplyKind::Trapped,
             ReplyKind::Replaced,
             ReplyKind::Cancelled,
-            ReplyKind::Trapped,
+            ReplyKind::Committed,
         ]
     }
 
     fn text(self) -> &'static str {
-        reply_text(self)
+        match self {
+            ReplyKind::Assigned => "assigned",
+            ReplyKind::Ran => "ran",
+            ReplyKind::Loaded => "loaded",
+            ReplyKind::Stored => "stored",
+            ReplyKind::Emitted => "emitted",
+            ReplyKind::Trapped => "trapped",
+            ReplyKind::Replaced => "replaced",
+            ReplyKind::Cancelled => "cancelled",
+            ReplyKind::Committed => "committed",
+        }
     }
 }
 
@@ -155,16 +113,23 @@ impl Word for ServedKind {
     fn all() -> &'static [ServedKind] {
         &[
             ServedKind::Hit,
-            ServedKind::Memory,
-            ServedKind::Version,
             ServedKind::Reuse,
-            ServedKind::Committed,
+            ServedKind::Version,
             ServedKind::Spill,
+            ServedKind::Committed,
+            ServedKind::Memory,
         ]
     }
 
     fn text(self) -> &'static str {
-        served_text(Some(self))
+        match self {
+            ServedKind::Hit => "hit",
+            ServedKind::Reuse => "reuse",
+            ServedKind::Version => "version",
+            ServedKind::Spill => "spill",
+            ServedKind::Committed => "committed",
+            ServedKind::Memory => "memory",
+        }
     }
 }
 
@@ -176,18 +141,23 @@ impl Word for CutKind {
     }
 
     fn text(self) -> &'static str {
-        cause_text(Some(self))
+        match self {
+            CutKind::Violation => "violation",
+            CutKind::Guess => "guess",
+            CutKind::Cancel => "cancel",
+        }
     }
 }
 
-/// Whether there is an ask, or nothing if that doesn't apply.
-pub(crate) fn ask_of(field: &[u8]) -> Option<Option<bool>>
-    ensures { Reads IsAny (optional ask_word) field.now result }
-{
-    match field {
-        b"" => Some(None),
-        b"1" => Some(Some(true)),
-        b"0" => Some(Some(false)),
-        _ => None,
+// Whether a burst ends in an ask.
+impl Word for bool {
+    ghost word = { ask_word };
+
+    fn all() -> &'static [bool] {
+        &[false, true]
+    }
+
+    fn text(self) -> &'static str {
+        if self { "1" } else { "0" }
     }
 }

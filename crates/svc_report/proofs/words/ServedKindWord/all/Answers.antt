@@ -4,8 +4,8 @@ use Rattle.svc_report.proofs.words.ServedKindWord.all.Goals as goal
 
 pub returns : goal.returns
 returns c word.Hit = (0, refl)
-returns c word.Memory = (1, refl)
+returns c word.Reuse = (1, refl)
 returns c word.Version = (2, refl)
-returns c word.Reuse = (3, refl)
+returns c word.Spill = (3, refl)
 returns c word.Committed = (4, refl)
-returns c word.Spill = (5, refl)
+returns c word.Memory = (5, refl)
