@@ -1,7 +1,7 @@
 //! What a run of the program leaves, and where it is not what is wanted.
 
-ghost use Rattle.std.specs.Prelude.{◌≡◌, ◌↔◌, None, IsTrue};
-ghost use Rattle.svc_outcome.specs.Wanted.{Fits, IsAsWanted};
+ghost use Rattle.std.specs.Prelude.{◌≡◌, None, Decides, IfSome};
+ghost use Rattle.svc_outcome.specs.Wanted.{Fits, IsAsWanted, IsFirstOther};
 
 /// What a run of the program leaves: its status, what it wrote on standard output and standard error, and the file that it
 /// saved, shown by its name as a line and its text.
@@ -25,7 +25,8 @@ pub enum Part {
 impl Outcome {
     /// The first part that isn't as wanted.
     pub fn first_other_part(&self, wanted: &Outcome) -> Option<Part>
-        ensures { result ≡ None → IsAsWanted self.now wanted.now }
+        ensures none { result ≡ None → IsAsWanted self.now wanted.now }
+        ensures part { IfSome result (IsFirstOther self.now wanted.now) }
     {
         if self.status != wanted.status {
             return Some(Part::Status);
@@ -48,7 +49,7 @@ const AND_SO_ON: &[u8] = b"...\n";
 
 // A text is the wanted one, or begins with what stands before the mark.
 fn fits(found: &[u8], wanted: &[u8]) -> bool
-    ensures { IsTrue result → Fits found.now wanted.now }
+    ensures { Decides result (Fits found.now wanted.now) }
 {
     match wanted.strip_suffix(AND_SO_ON) {
         Some(front) => found.starts_with(front),
