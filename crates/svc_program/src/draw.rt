@@ -5,11 +5,11 @@ ghost use Rattle.svc_request.specs.declared.faults.Fault.TheVariants.{File};
 ghost use Rattle.svc_program.specs.Drawings.{IsDrawn};
 ghost use Rattle.svc_request.specs.Faults.{IsReportFault, TellsOfTrace};
 
+use crate::check::replay;
 use std::alloc::Global;
 use svc_base::Config;
 use svc_draw::draw;
-use svc_history::{Entry, check_trace};
-use svc_history_laws::history_leads_on;
+use svc_history::Entry;
 use svc_image::Image;
 use svc_request::Fault;
 
@@ -28,13 +28,10 @@ pub fn draw_trace(
     ensures fault { IfErr result (λ fault. (fault ≡ File) ⊎ IsReportFault fault
         ⊎ TellsOfTrace image.now config entries.now fault) }
 {
-    let _recorder = check_trace(alloc, image, config, entries)?;
+    replay(alloc, image, config, entries)?;
     if from as usize > entries.len() {
         return Err(Fault::File);
     }
-    // a legal history has no more entries than the configuration allows
-    let _start = image.start();
-    history_leads_on();
     let text = draw(
         alloc,
         entries,

@@ -7,11 +7,11 @@ ghost use Rattle.svc_report.specs.Faults.{IsWriteFault};
 ghost use Rattle.svc_program.specs.Costs.{TellsCost, cost_text};
 ghost use Rattle.svc_request.specs.Faults.{IsReportFault, TellsOfTrace};
 
+use crate::check::replay;
 use std::alloc::Global;
 use std::io::Write;
 use svc_base::Config;
-use svc_history::{Entry, check_trace};
-use svc_history_laws::history_leads_on;
+use svc_history::Entry;
 use svc_image::Image;
 use svc_report::ReportError;
 use svc_request::{Fault, Table};
@@ -32,10 +32,7 @@ pub fn profile<O: Write>(
     ensures fault { IfErr result (λ fault.
         IsReportFault fault ⊎ (TellsOfTrace image.now config entries.now fault × (out.new ≡ out.old))) }
 {
-    let _recorder = check_trace(alloc, image, config, entries)?;
-    // a legal history has no more entries than the configuration allows
-    let _start = image.start();
-    history_leads_on();
+    replay(alloc, image, config, entries)?;
     write_cost(alloc, config, entries, by, out)?;
     out.flush()?;
     Ok(0)

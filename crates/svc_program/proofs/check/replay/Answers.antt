@@ -4,10 +4,10 @@ use Rattle.svc_base.specs.declared.config.Config.{Config}
 use Rattle.svc_image.specs.Image.{Image}
 use Rattle.svc_history_laws.specs.Histories.{LeadsOn}
 use Rattle.svc_history_laws.specs.Legal.{LegalHistory}
-use Rattle.svc_program.proofs.draw.draw_trace.Goals as goal
+use Rattle.svc_program.proofs.check.replay.Goals as goal
 
-pub draw-requires-clause-few : goal.draw-requires-clause-few
-draw-requires-clause-few c =
+pub returns-clause-few : goal.returns-clause-few
+returns-clause-few c =
     let r = c.in_ok-_recorder._recorder in
     let told = c.in_ok-_recorder.ensures in
     let img = c.args.image.now in
