@@ -56,7 +56,7 @@ Names words (request.Draw from config trace picture first count) = IsNamed (code
 Names words (request.Assemble text image) = IsNamed (codes "assemble") words
 Names words (request.List from) = IsNamed (codes "list") words
 
--- a subcommand of this name asks for it: words that begin with the name name it, and it isn't the run of the built-in image
+-- what the subcommand of this name may ask for: a line with this name names it, and it isn't the run of the built-in image
 pub record IsAskedBy (name : List ℕ) (asked : Request) : Type 0 where
   pub named : (words : List (List ℕ)) → IsNamed name words → Names words asked
   pub other : ¬ IsBuiltInRun asked

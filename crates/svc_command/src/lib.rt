@@ -1,10 +1,15 @@
-//! The command line: what its words ask for, and the program over any words, files and streams.
+//! The command line: what its words ask for, and the program over any words, files and streams; and the words and the files
+//! that the system gives.
 #![tactic(auto)]
 
 mod arguments;
 mod command;
+mod disk;
 mod helps;
 mod program;
 mod reading;
+mod words;
 
+pub use disk::Disk;
 pub use program::execute;
+pub use words::words_of;

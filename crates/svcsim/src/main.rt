@@ -1,11 +1,8 @@
 //! `svcsim`: the program over the words of its command line, the disk and the standard streams.
 #![tactic(auto)]
 
-mod disk;
-
-use disk::{Disk, words_of};
 use std::process::ExitCode;
-use svc_command::execute;
+use svc_command::{Disk, execute, words_of};
 use svc_program::tell;
 
 fn main(rt: HostRuntime) -> ExitCode {
@@ -23,6 +20,3 @@ fn main(rt: HostRuntime) -> ExitCode {
     };
     ExitCode::from(status)
 }
-
-#[cfg(test)]
-mod tests;

@@ -1,11 +1,11 @@
 // Files of the disk, and words that are no text.
 
-use crate::disk::{Disk, words_of};
 use std::env::FillError;
 use std::fs;
 use std::io::Read;
 use std::rt::Env;
 use std::test::Fail;
+use svc_command::{Disk, words_of};
 use svc_program::{Fault, Files};
 
 const NAME: &str = "saved-by-a-test.csv";

@@ -1,12 +1,8 @@
-//! What the program takes from the system: the words of its command line, and the files of the disk.
-
-ghost use Rattle.std.specs.Prelude.{◌≡◌, IfErr};
-ghost use Rattle.svc_request.specs.declared.faults.Fault.TheVariants.{File};
+//! The files of the disk.
 
 use std::os::unix::fs::MetadataExt;
-use std::rt::{self, Env};
-use std::{env, fs};
-use svc_program::{Fault, FileFault, Files};
+use std::{fs, rt};
+use svc_program::{FileFault, Files};
 
 /// The files of the disk. A name is a path.
 #[derive(Drop)]
@@ -35,20 +31,4 @@ impl<R: rt::Files + AllocGlobal> Files for Disk<'_, R> {
             _ => false,
         }
     }
-}
-
-/// The words of the command line, the program's name first.
-///
-/// Errors: [`Fault::File`], where a word isn't UTF-8 or memory was refused.
-pub fn words_of<R: Env + AllocGlobal>(rt: &R) -> Result<Vec<String>, Fault>
-    ensures { IfErr result (λ fault. fault ≡ File) }
-{
-    let Ok(given) = env::args(rt) else {
-        return Err(Fault::File);
-    };
-    let mut words = Vec::new(rt.alloc());
-    for word in given {
-        words.push(word)?;
-    }
-    Ok(words)
 }
