@@ -15,6 +15,7 @@ TOOLS = "riscv64-unknown-elf-"
 BRANCHES = "beq bne blt bge bltu bgeu".split()
 NAMES = BRANCHES + """lui auipc jal jalr lb lh lw lbu lhu sb sh sw addi slti sltiu xori ori andi slli srli srai
     add sub sll slt sltu xor srl sra or and ecall ebreak""".split()
+SHIFTS = "slli srli srai".split()
 NOTHING = 0x13
 DATA = 0x00100000
 
@@ -50,7 +51,7 @@ def target(name, operands):
 
 def shown(address, word, name, operands, labels):
     """A word as a listing shows it: a branch by the label of its target, or the distance to a target that has none."""
-    if name not in NAMES or not is_whole(word):
+    if name not in NAMES or not is_whole(word) or name in SHIFTS and int(operands[-1], 0) > 31:  # (it knows RV64's shifts)
         return f".word {word}"
     to = target(name, operands)
     if to is not None:

@@ -1,5 +1,5 @@
-// What no text shows: the slips and the history as values, and what a unit's thread sees. Scripts and traces, with what is
-// printed of them, are cases of the program. What is expected follows from the sample's text by hand.
+// What no text shows: what a unit's thread sees. Scripts and traces, with what is printed of them, are cases of the
+// program. What is expected follows from the sample's text by hand.
 
 use crate::script::{Line, first, four_units, taken};
 use std::alloc::Global;
@@ -9,9 +9,7 @@ use svc_history::{Event, Recorder, Slip};
 use svc_image::Image;
 use svc_image::samples::P;
 
-mod events;
 mod glances;
-mod traces;
 
 // Plays a line; a submission without a lease is refused as that of an idle unit.
 fn step(recorder: &mut Recorder, line: Line) -> Result<Slip, Refusal> {

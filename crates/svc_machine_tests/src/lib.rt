@@ -1,5 +1,4 @@
-//! Tests of the machine, of the parts of its bus, of its history, of its schedules and of its sequencer, by their public
-//! calls.
+//! Tests of the machine, of its lines' bits, of what units see of its history, and of its schedules, by their public calls.
 
 #![tactic(auto)]
 
@@ -10,12 +9,6 @@ mod line;
 #[cfg(test)]
 mod machine;
 #[cfg(test)]
-mod queue;
-#[cfg(test)]
-mod retire;
-#[cfg(test)]
 mod schedule;
 #[cfg(test)]
 mod script;
-#[cfg(test)]
-mod sequencer;

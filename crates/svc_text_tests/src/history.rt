@@ -23,7 +23,7 @@ commit,1,,,,committed,,1,,,,,
 ";
 
 /// An entry with the fields that always apply.
-pub fn plain(kind: Kind, unit: u8, reply: ReplyKind) -> Entry {
+fn plain(kind: Kind, unit: u8, reply: ReplyKind) -> Entry {
     Entry {
         kind,
         unit: UnitId(unit),

@@ -1,5 +1,5 @@
-//! Tests of the crates that read and write text: assembly and listings, histories' texts, profiles, the program's
-//! output, and the command line. They use what these crates make public, and no more.
+//! Tests of the crates that read and write text: assembly, histories' texts, the program's output, the command line and the
+//! disk. They use what these crates make public, and no more.
 
 #![tactic(auto)]
 
@@ -8,15 +8,13 @@ mod assembly;
 #[cfg(test)]
 mod command;
 #[cfg(test)]
+mod disk;
+#[cfg(test)]
 mod failing;
 #[cfg(test)]
 mod history;
 #[cfg(test)]
-mod listing;
-#[cfg(test)]
 mod no_files;
-#[cfg(test)]
-mod profile;
 #[cfg(test)]
 mod program;
 #[cfg(test)]

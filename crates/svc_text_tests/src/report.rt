@@ -1,7 +1,6 @@
-// Texts that no run of the program writes or reads, and streams that fail. The other texts are cases of `svc_cases`.
+// Streams that fail, and a history that is written and read again. Texts are cases of `svc_cases`.
 
 mod round_trips;
-mod rows;
 mod streams;
 
 use self::round_trips::text_in_memory;

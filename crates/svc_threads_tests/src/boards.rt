@@ -1,9 +1,10 @@
 // What the board shows, and what a unit may lease.
 
-ghost use Rattle.std.specs.Prelude.{◌≡◌, IfSome};
+ghost use Rattle.std.specs.Prelude.{◌≡◌};
 
 use crate::given::{Step, VIOLATION, WRONG_GUESS, config, opened, play, two_tasks};
 use std::alloc::Global;
+use std::process::Abort;
 use std::sync::Wait;
 use std::test::*;
 use std::thread;
@@ -22,11 +23,11 @@ fn row(events: u64, assigned: u64, committed: u64, squashed: u64) -> BoardRow {
 }
 
 // A bus on the sample of two tasks, for four units.
-fn bus_of_two<R: Wait>(rt: &R, alloc: Global) -> Option<(SharedBus, BoardPass)>
-    ensures { IfSome result (λ o. o.1.board ≡ o.0) }
+fn bus_of_two<R: Wait + Abort>(rt: &R, alloc: Global) -> (SharedBus, BoardPass)
+    ensures { result.1.board ≡ result.0 }
 {
-    let config = config(4, 16, 100, 1)?;
-    opened(rt, alloc, two_tasks(alloc)?, config)
+    let config = config(rt, 4, 16, 100, 1);
+    opened(rt, alloc, two_tasks(rt, alloc), config)
 }
 
 // What is seen of some steps.
@@ -35,7 +36,7 @@ struct Seen {
     // what the board shows before them
     before: BoardRow,
     // how many are accepted, up to the first that is not
-    accepted: Option<usize>,
+    accepted: usize,
     // what the board shows after them
     after: BoardRow,
     // the epoch of unit 0's task then
@@ -43,7 +44,7 @@ struct Seen {
     // whether a unit that is not there may lease
     stranger: bool,
     // what another board shows that is opened then
-    again: Option<BoardRow>,
+    again: BoardRow,
 }
 
 fn epoch_of<R: Wait>(rt: &R, bus: &SharedBus, unit: UnitId) -> Option<u64> {
@@ -52,63 +53,59 @@ fn epoch_of<R: Wait>(rt: &R, bus: &SharedBus, unit: UnitId) -> Option<u64> {
 }
 
 // What a board shows that is opened on the recorder.
-fn shown<R: Wait>(rt: &R, alloc: Global, recorder: Recorder) -> Option<BoardRow> {
-    let (bus, mut pass) = SharedBus::open(rt, alloc, recorder).ok()?;
-    Some(bus.board().read(rt, &mut pass))
+fn shown<R: Wait + Abort>(rt: &R, alloc: Global, recorder: Recorder) -> BoardRow {
+    let (bus, mut pass) = SharedBus::open(rt, alloc, recorder).expect(rt, "a bus");
+    bus.board().read(rt, &mut pass)
 }
 
-fn see<R: Wait>(rt: &R, alloc: Global, steps: &[Step]) -> Option<Seen> {
-    let (bus, mut pass) = bus_of_two(rt, alloc)?;
+fn see<R: Wait + Abort>(rt: &R, alloc: Global, steps: &[Step]) -> Seen {
+    let (bus, mut pass) = bus_of_two(rt, alloc);
     let before = bus.board().read(rt, &mut pass);
     let accepted = play(rt, alloc, &bus, steps);
     let after = bus.board().read(rt, &mut pass);
     let epoch = epoch_of(rt, &bus, UnitId(0));
     let stranger = bus.lease(rt, UnitId(4)).is_ok();
-    Some(Seen {
+    Seen {
         before,
         accepted,
         after,
         epoch,
         stranger,
         again: shown(rt, alloc, bus.into_recorder()),
-    })
+    }
 }
 
 #[test]
-fn a_thread_reads_what_it_did(rt: HostRuntime) -> Result<(), Fail> {
-    let seen = see(&rt, rt.alloc(), &[Step::Assign(0, 0)]).ok_or("memory")?;
+fn a_thread_reads_what_it_did(rt: HostRuntime) {
+    let seen = see(&rt, rt.alloc(), &[Step::Assign(0, 0)]);
     assert_eq!(rt; seen.before, row(0, 0, 0, 0));
-    assert_eq!(rt; seen.accepted, Some(1));
+    assert_eq!(rt; seen.accepted, 1);
     assert_eq!(rt; seen.after, row(1, 1, 0, 0));
     assert_eq!(rt; seen.epoch, Some(0));
     assert!(rt; !seen.stranger);
-    Ok(())
 }
 
 #[test]
-fn a_refused_event_leaves_the_board(rt: HostRuntime) -> Result<(), Fail> {
+fn a_refused_event_leaves_the_board(rt: HostRuntime) {
     let steps = [Step::Assign(0, 0), Step::Commit(0)];
-    let seen = see(&rt, rt.alloc(), &steps).ok_or("memory")?;
-    assert_eq!(rt; seen.accepted, Some(1));
+    let seen = see(&rt, rt.alloc(), &steps);
+    assert_eq!(rt; seen.accepted, 1);
     assert_eq!(rt; seen.after, row(1, 1, 0, 0));
-    Ok(())
 }
 
 #[test]
-fn a_board_counts_a_violation(rt: HostRuntime) -> Result<(), Fail> {
-    let seen = see(&rt, rt.alloc(), &VIOLATION).ok_or("memory")?;
-    assert_eq!(rt; seen.accepted, Some(10));
+fn a_board_counts_a_violation(rt: HostRuntime) {
+    let seen = see(&rt, rt.alloc(), &VIOLATION);
+    assert_eq!(rt; seen.accepted, 10);
     assert_eq!(rt; seen.after, row(10, 3, 2, 1));
-    assert_eq!(rt; seen.again, Some(row(10, 3, 2, 1)));
-    Ok(())
+    assert_eq!(rt; seen.again, row(10, 3, 2, 1));
 }
 
 #[test]
-fn a_board_counts_a_wrong_guess(rt: HostRuntime) -> Result<(), Fail> {
-    let seen = see(&rt, rt.alloc(), &WRONG_GUESS).ok_or("memory")?;
-    assert_eq!(rt; seen.accepted, Some(6));
+fn a_board_counts_a_wrong_guess(rt: HostRuntime) {
+    let seen = see(&rt, rt.alloc(), &WRONG_GUESS);
+    assert_eq!(rt; seen.accepted, 6);
     assert_eq!(rt; seen.after, row(6, 4, 1, 2));
-    Ok(())
 }
 
 // The row is in order, and no number of it is below the one before.
@@ -136,26 +133,23 @@ fn reads_are_sound<R: Wait>(rt: &R, bus: &SharedBus, mut pass: BoardPass) -> boo
 }
 
 // Whether the reads of one thread are sound while another does the steps, and how many of these are accepted.
-fn read_beside<R: Threads + Wait + Sync>(
+fn read_beside<R: Threads + Wait + Abort + Sync>(
     rt: &R,
     alloc: Global,
     steps: &[Step],
-) -> Option<(bool, Option<usize>)> {
-    let (bus, pass) = bus_of_two(rt, alloc)?;
+) -> (bool, usize) {
+    let (bus, pass) = bus_of_two(rt, alloc);
     let shared = &bus;
-    Some(thread::join(
+    thread::join(
         rt,
         move || -> bool
             requires { pass.board ≡ shared.now }
         { reads_are_sound(rt, shared, pass) },
-        || -> Option<usize> { play(rt, alloc, shared, steps) },
-    ))
+        || -> usize { play(rt, alloc, shared, steps) },
+    )
 }
 
 #[test]
-fn another_thread_reads_whole_rows(rt: HostRuntime) -> Result<(), Fail> {
-    let (sound, accepted) = read_beside(&rt, rt.alloc(), &VIOLATION).ok_or("memory")?;
-    assert_eq!(rt; accepted, Some(10));
-    assert_eq!(rt; sound, true);
-    Ok(())
+fn another_thread_reads_whole_rows(rt: HostRuntime) {
+    assert_eq!(rt; read_beside(&rt, rt.alloc(), &VIOLATION), (true, 10));
 }

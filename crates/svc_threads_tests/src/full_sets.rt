@@ -3,6 +3,7 @@
 use crate::gates::Open;
 use crate::given::{Left, count, run, two_tasks};
 use std::alloc::Global;
+use std::process::Abort;
 use std::sync::Wait;
 use std::sync::atomic::{AtomicU64, Ordering};
 use std::test::*;
@@ -15,31 +16,29 @@ use svc_image::{Image, samples};
 use svc_threads::{Board, Port, run_unit};
 
 // The sample of one task, whose load is of the next word.
-fn two_words(alloc: Global) -> Option<Image> {
+fn two_words(rt: &impl Abort, alloc: Global) -> Image {
     let mut bytes = samples::P1;
     bytes[168..172].copy_from_slice(&0x0042_A503_u32.to_le_bytes());
-    Image::read(alloc, &bytes).ok()
+    Image::read(alloc, &bytes).expect(rt, "an image")
 }
 
 // What the run of one unit leaves whose cache has one place, after so many turns.
-fn run_small<R: Threads + Wait + Sync>(rt: &R, alloc: Global, turns: u32) -> Option<Left> {
-    let config = Config::new(1, 1, 1, 100, turns).ok()?;
-    let image = two_words(alloc)?;
-    run(rt, alloc, &image, config, &Open)
+fn run_small<R: Threads + Wait + Abort + Sync>(rt: &R, alloc: Global, turns: u32) -> Left {
+    let config = Config::new(1, 1, 1, 100, turns).expect(rt, "a configuration");
+    run(rt, alloc, &two_words(rt, alloc), config, &Open)
 }
 
 // One place in the cache, and two words: between the store and the load one line is replaced, in the turn of the load
 // that was refused. So with the assignment, four submits, the load that was refused and the commit there are seven
 // turns.
 #[test]
-fn a_line_is_replaced_in_the_same_turn(rt: HostRuntime) -> Result<(), Fail> {
+fn a_line_is_replaced_in_the_same_turn(rt: HostRuntime) {
     for (turns, entries, ending) in [(7, 7, Ending::Exit(0)), (6, 6, Ending::Open(0))] {
-        let left = run_small(&rt, rt.alloc(), turns).ok_or("an outcome")?;
+        let left = run_small(&rt, rt.alloc(), turns);
         assert_eq!(rt; left.entries, entries, "{turns} turns");
         assert_eq!(rt; left.ending, ending, "{turns} turns");
         assert_eq!(rt; left.third, Some(Kind::Replace), "{turns} turns");
     }
-    Ok(())
 }
 
 /// A bus on which a unit's cache is full of lines that may not go.
@@ -89,9 +88,9 @@ impl Port for Pinned {
 
 // How many slips the unit's thread brings back after 50 turns, and how often it asked for a lease, a submit and a
 // replacement.
-fn calls<R: Wait>(rt: &R, alloc: Global) -> Option<(Option<usize>, [u64; 3])> {
-    let image = two_tasks(alloc)?;
-    let (board, pass) = Board::open(alloc).ok()?;
+fn calls<R: Wait + Abort>(rt: &R, alloc: Global) -> (Option<usize>, [u64; 3]) {
+    let image = two_tasks(rt, alloc);
+    let (board, pass) = Board::open(alloc).expect(rt, "a board");
     let port = Pinned {
         board,
         core: Core::start(&image, image.start()),
@@ -105,13 +104,12 @@ fn calls<R: Wait>(rt: &R, alloc: Global) -> Option<(Option<usize>, [u64; 3])> {
         port.submits.load(Ordering::SeqCst),
         port.replaces.load(Ordering::SeqCst),
     ];
-    Some((slips, asked))
+    (slips, asked)
 }
 
 #[test]
-fn a_unit_whose_lines_are_pinned_keeps_off_the_lock(rt: HostRuntime) -> Result<(), Fail> {
-    let (slips, asked) = calls(&rt, rt.alloc()).ok_or("memory")?;
+fn a_unit_whose_lines_are_pinned_keeps_off_the_lock(rt: HostRuntime) {
+    let (slips, asked) = calls(&rt, rt.alloc());
     assert_eq!(rt; slips, Some(0));
     assert_eq!(rt; asked, [1, 1, 1]);
-    Ok(())
 }

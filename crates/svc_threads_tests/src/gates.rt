@@ -3,6 +3,7 @@
 use crate::given::{Left, changed, config, one_task, opened, run, two_tasks};
 use crossbeam_utils::Backoff;
 use std::alloc::Global;
+use std::process::Abort;
 use std::sync::Wait;
 use std::sync::atomic::{AtomicU64, Ordering};
 use std::test::*;
@@ -12,7 +13,7 @@ use svc_core_laws::Ending;
 use svc_history::{Entry, Event, Recorder, Slip};
 use svc_image::Image;
 use svc_plain::run_tasks;
-use svc_threads::{Gate, Outcome, Phase, RunError, run_unit, run_units};
+use svc_threads::{Gate, Outcome, Phase, run_unit, run_units};
 
 /// The most snoozes of one wait.
 pub(crate) const LIMIT: u32 = 1_000_000;
@@ -114,9 +115,9 @@ impl Gate for Meeting {
 }
 
 // What is left of a run of four units that meet, and how often one waited in vain.
-fn run_meeting<R: Threads + Wait + Sync>(rt: &R, alloc: Global) -> Option<(Option<Left>, u64)> {
-    let config = config(4, 16, 100_000, 1_000_000)?;
-    let image = changed(alloc, 6_300, 0x0000_006F)?;
+fn run_meeting<R: Threads + Wait + Abort + Sync>(rt: &R, alloc: Global) -> (Left, u64) {
+    let config = config(rt, 4, 16, 100_000, 1_000_000);
+    let image = changed(rt, alloc, 6_300, 0x0000_006F);
     let gate = Meeting {
         assigns: Counters::new(),
         submits: Counters::new(),
@@ -124,35 +125,31 @@ fn run_meeting<R: Threads + Wait + Sync>(rt: &R, alloc: Global) -> Option<(Optio
         missed: AtomicU64::new(0),
     };
     let left = run(rt, alloc, &image, config, &gate);
-    Some((left, gate.missed.load(Ordering::SeqCst)))
+    (left, gate.missed.load(Ordering::SeqCst))
 }
 
 #[test]
-fn four_units_meet_at_each_submit(rt: HostRuntime) -> Result<(), Fail> {
-    let (left, missed) = run_meeting(&rt, rt.alloc()).ok_or("memory")?;
-    let left = left.ok_or("an outcome")?;
+fn four_units_meet_at_each_submit(rt: HostRuntime) {
+    let (left, missed) = run_meeting(&rt, rt.alloc());
     assert_eq!(rt; missed, 0);
     assert_eq!(rt; left.ending, Ending::Trap(1));
     assert_eq!(rt; left.committed, 1);
     assert_eq!(rt; left.lists, 4);
-    Ok(())
 }
 
 // What is left of a run of four units on the sample of two tasks.
-fn run_two<R: Threads + Wait + Sync>(rt: &R, alloc: Global) -> Option<Left> {
-    let config = config(4, 16, 1_000_000, 10_000_000)?;
-    let image = two_tasks(alloc)?;
-    run(rt, alloc, &image, config, &Open)
+fn run_two<R: Threads + Wait + Abort + Sync>(rt: &R, alloc: Global) -> Left {
+    let config = config(rt, 4, 16, 1_000_000, 10_000_000);
+    run(rt, alloc, &two_tasks(rt, alloc), config, &Open)
 }
 
 #[test]
-fn four_units_run_two_tasks(rt: HostRuntime) -> Result<(), Fail> {
-    let left = run_two(&rt, rt.alloc()).ok_or("an outcome")?;
+fn four_units_run_two_tasks(rt: HostRuntime) {
+    let left = run_two(&rt, rt.alloc());
     assert_eq!(rt; left.first_word, Some(5));
     assert_eq!(rt; left.words, 1);
     assert_eq!(rt; left.committed, 2);
     assert_eq!(rt; left.ending, Ending::Exit(5));
-    Ok(())
 }
 
 /// Says no at the n-th call of one unit.
@@ -178,67 +175,63 @@ fn closing(at: u64) -> Closes {
 }
 
 // What is left of a run of one unit whose gate closes.
-fn run_closing<R: Threads + Wait + Sync>(rt: &R, alloc: Global, at: u64) -> Option<Left> {
-    let config = config(1, 16, 100_000, 10_000)?;
-    let image = one_task(alloc)?;
-    run(rt, alloc, &image, config, &closing(at))
+fn run_closing<R: Threads + Wait + Abort + Sync>(rt: &R, alloc: Global, at: u64) -> Left {
+    let config = config(rt, 1, 16, 100_000, 10_000);
+    run(rt, alloc, &one_task(rt, alloc), config, &closing(at))
 }
 
 #[test]
-fn a_gate_that_closes_ends_one_unit(rt: HostRuntime) -> Result<(), Fail> {
+fn a_gate_that_closes_ends_one_unit(rt: HostRuntime) {
     for at in 1..13usize {
-        let left = run_closing(&rt, rt.alloc(), at as u64).ok_or("an outcome")?;
+        let left = run_closing(&rt, rt.alloc(), at as u64);
         assert_eq!(rt; left.entries, at / 2);
         let committed = if at == 12 { 1 } else { 0 };
         assert_eq!(rt; left.committed, committed);
     }
-    Ok(())
 }
 
 // Whether the output is what the plain evaluator gives for as many tasks, and whether it is nothing or 5.
-fn output_is_sound(alloc: Global, image: &Image, outcome: &Outcome) -> Option<(bool, bool)> {
+fn output_is_sound(
+    rt: &impl Abort,
+    alloc: Global,
+    image: &Image,
+    outcome: &Outcome,
+) -> (bool, bool) {
     let machine = outcome.recorder.machine();
     let output = machine.output();
-    match run_tasks(alloc, image, machine.committed_tasks()) {
-        Ok(plain) => Some((
-            output == plain.output.as_slice(),
-            output.is_empty() || output == [5].as_slice(),
-        )),
-        Err(_) => None,
-    }
+    let plain = run_tasks(alloc, image, machine.committed_tasks()).expect(rt, "a plain run");
+    (
+        output == plain.output.as_slice(),
+        output.is_empty() || output == [5].as_slice(),
+    )
 }
 
 // The same of a run of four units, the first of which has a gate that closes.
-fn closing_is_sound<R: Threads + Wait + Sync>(
+fn closing_is_sound<R: Threads + Wait + Abort + Sync>(
     rt: &R,
     alloc: Global,
     at: u64,
-) -> Option<(bool, bool)> {
-    let config = config(4, 16, 100_000, 10_000)?;
-    let image = two_tasks(alloc)?;
-    match run_units(rt, alloc, &image, config, &closing(at)) {
-        Ok(outcome) => output_is_sound(alloc, &image, &outcome),
-        Err(_) => None,
-    }
+) -> (bool, bool) {
+    let config = config(rt, 4, 16, 100_000, 10_000);
+    let image = two_tasks(rt, alloc);
+    let outcome = run_units(rt, alloc, &image, config, &closing(at)).expect(rt, "an outcome");
+    output_is_sound(rt, alloc, &image, &outcome)
 }
 
 #[test]
-fn a_gate_that_closes_leaves_a_sound_run(rt: HostRuntime) -> Result<(), Fail> {
+fn a_gate_that_closes_leaves_a_sound_run(rt: HostRuntime) {
     for at in 1..21u64 {
-        let (plain, known) = closing_is_sound(&rt, rt.alloc(), at).ok_or("an outcome")?;
-        assert!(rt; plain);
-        assert!(rt; known);
+        assert_eq!(rt; closing_is_sound(&rt, rt.alloc(), at), (true, true));
     }
-    Ok(())
 }
 
 // What the one unit's thread brings back, and the recorder that it leaves.
-fn one_unit<R: Wait>(rt: &R, alloc: Global) -> Option<(Result<Vec<Slip>, RunError>, Recorder)> {
-    let config = config(1, 16, 100, 50)?;
-    let (bus, pass) = opened(rt, alloc, one_task(alloc)?, config)?;
-    let image = one_task(alloc)?;
+fn one_unit<R: Wait + Abort>(rt: &R, alloc: Global) -> (Vec<Slip>, Recorder) {
+    let config = config(rt, 1, 16, 100, 50);
+    let (bus, pass) = opened(rt, alloc, one_task(rt, alloc), config);
+    let image = one_task(rt, alloc);
     let slips = run_unit(rt, alloc, &bus, UnitId(0), pass, &image, 50, &Open);
-    Some((slips, bus.into_recorder()))
+    (slips.expect(rt, "slips"), bus.into_recorder())
 }
 
 // The entries are those of the slips.
@@ -250,32 +243,13 @@ fn are_of(slips: &[Slip], entries: &[Entry]) -> bool {
     same
 }
 
-// The entries are the first ones of a run with memory enough, but not all six.
-fn are_first<R: Wait>(rt: &R, alloc: Global, entries: &[Entry]) -> Option<bool> {
-    match one_unit(rt, alloc) {
-        Some((Ok(_), ample)) => Some(entries.len() < 6 && ample.entries().starts_with(entries)),
-        _ => None,
-    }
-}
-
-// How the one unit's thread ended, with how many slips; and whether its entries are those of its slips, or where it was
-// cut short the first ones of an ample run.
-fn run_one<R: Wait>(rt: &R, alloc: Global) -> Option<(Result<usize, RunError>, bool)> {
-    let (slips, recorder) = one_unit(rt, alloc)?;
-    let entries = recorder.entries();
-    match slips {
-        Ok(slips) => Some((Ok(slips.len()), are_of(&slips, entries))),
-        Err(fault) => match are_first(rt, alloc, entries) {
-            Some(first) => Some((Err(fault), first)),
-            None => None,
-        },
-    }
+// With how many slips the one unit's thread ended, and whether its entries are those of its slips.
+fn run_one<R: Wait + Abort>(rt: &R, alloc: Global) -> (usize, bool) {
+    let (slips, recorder) = one_unit(rt, alloc);
+    (slips.len(), are_of(&slips, recorder.entries()))
 }
 
 #[test]
-fn a_unit_ends_with_the_run_or_for_want_of_memory(rt: HostRuntime) -> Result<(), Fail> {
-    let (ended, sound) = run_one(&rt, rt.alloc()).ok_or("memory")?;
-    assert!(rt; ended == Ok(6) || ended == Err(RunError::Memory));
-    assert!(rt; sound);
-    Ok(())
+fn a_unit_ends_with_the_run(rt: HostRuntime) {
+    assert_eq!(rt; run_one(&rt, rt.alloc()), (6, true));
 }

@@ -1,8 +1,10 @@
-// What the tests play on, and how they play: images, configurations, buses, and steps.
+// What the tests play on, and how they play: images, configurations, buses, and steps. What isn't expected ends the
+// process: a function that may end early has to let all that it holds go at each such end, which is dear to prove.
 
-ghost use Rattle.std.specs.Prelude.{◌≡◌, IfSome};
+ghost use Rattle.std.specs.Prelude.{◌≡◌};
 
 use std::alloc::Global;
+use std::process::Abort;
 use std::sync::Wait;
 use std::thread::Threads;
 use svc_base::{Config, UnitId};
@@ -44,40 +46,45 @@ pub(crate) const WRONG_GUESS: [Step; 6] = [
     Step::Assign(1, 0),
 ];
 
+// The image of a file.
+fn image_of(rt: &impl Abort, alloc: Global, file: &[u8]) -> Image {
+    Image::read(alloc, file).expect(rt, "an image")
+}
+
 /// The sample of two tasks.
-pub(crate) fn two_tasks(alloc: Global) -> Option<Image> {
-    Image::read(alloc, &samples::P).ok()
+pub(crate) fn two_tasks(rt: &impl Abort, alloc: Global) -> Image {
+    image_of(rt, alloc, &samples::P)
 }
 
 /// The sample of one task.
-pub(crate) fn one_task(alloc: Global) -> Option<Image> {
-    Image::read(alloc, &samples::P1).ok()
+pub(crate) fn one_task(rt: &impl Abort, alloc: Global) -> Image {
+    image_of(rt, alloc, &samples::P1)
 }
 
 /// The sample of two tasks, with another limit of turns and another word in place of its store.
-pub(crate) fn changed(alloc: Global, limit: u32, word: u32) -> Option<Image> {
+pub(crate) fn changed(rt: &impl Abort, alloc: Global, limit: u32, word: u32) -> Image {
     let mut bytes = samples::P;
     bytes[16..20].copy_from_slice(&limit.to_le_bytes());
     bytes[164..168].copy_from_slice(&word.to_le_bytes());
-    Image::read(alloc, &bytes).ok()
+    image_of(rt, alloc, &bytes)
 }
 
 /// A configuration with two ways.
-pub(crate) fn config(units: u32, sets: u32, events: u32, turns: u32) -> Option<Config> {
-    Config::new(units, sets, 2, events, turns).ok()
+pub(crate) fn config(rt: &impl Abort, units: u32, sets: u32, events: u32, turns: u32) -> Config {
+    Config::new(units, sets, 2, events, turns).expect(rt, "a configuration")
 }
 
 /// A bus over an opened recorder, and a pass of its board.
-pub(crate) fn opened<R: Wait>(
+pub(crate) fn opened<R: Wait + Abort>(
     rt: &R,
     alloc: Global,
     image: Image,
     config: Config,
-) -> Option<(SharedBus, BoardPass)>
-    ensures { IfSome result (λ o. o.1.board ≡ o.0) }
+) -> (SharedBus, BoardPass)
+    ensures { result.1.board ≡ result.0 }
 {
-    let recorder = Recorder::open(alloc, image, config).ok()?;
-    SharedBus::open(rt, alloc, recorder).ok()
+    let recorder = Recorder::open(alloc, image, config).expect(rt, "a recorder");
+    SharedBus::open(rt, alloc, recorder).expect(rt, "a bus")
 }
 
 /// Does a step on the sample of two tasks, where it is accepted.
@@ -100,13 +107,13 @@ fn submit<R: Wait>(rt: &R, bus: &SharedBus, image: &Image, unit: UnitId) -> Opti
 }
 
 /// Does steps on the sample of two tasks until one is refused, and tells how many were accepted.
-pub(crate) fn play<R: Wait>(
+pub(crate) fn play<R: Wait + Abort>(
     rt: &R,
     alloc: Global,
     bus: &SharedBus,
     steps: &[Step],
-) -> Option<usize> {
-    let image = two_tasks(alloc)?;
+) -> usize {
+    let image = two_tasks(rt, alloc);
     let mut accepted = 0_usize;
     for step in steps {
         if take(rt, bus, &image, *step).is_none() {
@@ -114,7 +121,7 @@ pub(crate) fn play<R: Wait>(
         }
         accepted = accepted.saturating_add(1);
     }
-    Some(accepted)
+    accepted
 }
 
 /// What a run of units on threads has left, as plain values.
@@ -145,17 +152,15 @@ fn left_by(outcome: &Outcome) -> Left {
 }
 
 /// Runs an image's units, and tells what they have left.
-pub(crate) fn run<G: Gate + Sync, R: Threads + Wait + Sync>(
+pub(crate) fn run<G: Gate + Sync, R: Threads + Wait + Abort + Sync>(
     rt: &R,
     alloc: Global,
     image: &Image,
     config: Config,
     gate: &G,
-) -> Option<Left> {
-    match run_units(rt, alloc, image, config, gate) {
-        Ok(outcome) => Some(left_by(&outcome)),
-        Err(_) => None,
-    }
+) -> Left {
+    let outcome = run_units(rt, alloc, image, config, gate).expect(rt, "an outcome");
+    left_by(&outcome)
 }
 
 /// How many slips a unit's thread brought back.

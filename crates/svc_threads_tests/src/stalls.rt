@@ -4,6 +4,7 @@ use crate::gates::{Counters, Open};
 use crate::given::{Left, changed, config, count, run};
 use crossbeam_utils::Backoff;
 use std::alloc::Global;
+use std::process::Abort;
 use std::sync::Wait;
 use std::sync::atomic::{AtomicU64, Ordering};
 use std::test::*;
@@ -63,9 +64,9 @@ struct Stalled {
 }
 
 // The unit's thread takes 50 turns.
-fn stall<R: Wait>(rt: &R, alloc: Global) -> Option<Stalled> {
-    let image = changed(alloc, 100, 0xFF9F_F06F)?;
-    let (board, pass) = Board::open(alloc).ok()?;
+fn stall<R: Wait + Abort>(rt: &R, alloc: Global) -> Stalled {
+    let image = changed(rt, alloc, 100, 0xFF9F_F06F);
+    let (board, pass) = Board::open(alloc).expect(rt, "a board");
     let core = after_a_burst(&image);
     let port = Waiting {
         board,
@@ -74,22 +75,21 @@ fn stall<R: Wait>(rt: &R, alloc: Global) -> Option<Stalled> {
         events: AtomicU64::new(0),
     };
     let slips = count(run_unit(rt, alloc, &port, UnitId(0), pass, &image, 50, &Open));
-    Some(Stalled {
+    Stalled {
         running: core.is_running(),
         slips,
         leases: port.leases.load(Ordering::SeqCst),
         events: port.events.load(Ordering::SeqCst),
-    })
+    }
 }
 
 #[test]
-fn a_stalled_unit_keeps_off_the_lock(rt: HostRuntime) -> Result<(), Fail> {
-    let seen = stall(&rt, rt.alloc()).ok_or("memory")?;
+fn a_stalled_unit_keeps_off_the_lock(rt: HostRuntime) {
+    let seen = stall(&rt, rt.alloc());
     assert!(rt; !seen.running);
     assert_eq!(rt; seen.slips, Some(0));
     assert_eq!(rt; seen.leases, 1);
     assert_eq!(rt; seen.events, 0);
-    Ok(())
 }
 
 const ASSIGN: u64 = 1;
@@ -179,9 +179,9 @@ impl Gate for Held {
 }
 
 // What is left of a run of two units that are held so, and how often one waited in vain.
-fn run_held<R: Threads + Wait + Sync>(rt: &R, alloc: Global) -> Option<(Option<Left>, u64)> {
-    let config = config(2, 16, 100, 10_000_000)?;
-    let image = changed(alloc, 100, 0xFF9F_F06F)?;
+fn run_held<R: Threads + Wait + Abort + Sync>(rt: &R, alloc: Global) -> (Left, u64) {
+    let config = config(rt, 2, 16, 100, 10_000_000);
+    let image = changed(rt, alloc, 100, 0xFF9F_F06F);
     let gate = Held {
         came: Counters::new(),
         assigned: Counters::new(),
@@ -191,15 +191,13 @@ fn run_held<R: Threads + Wait + Sync>(rt: &R, alloc: Global) -> Option<(Option<L
         missed: AtomicU64::new(0),
     };
     let left = run(rt, alloc, &image, config, &gate);
-    Some((left, gate.missed.load(Ordering::SeqCst)))
+    (left, gate.missed.load(Ordering::SeqCst))
 }
 
 #[test]
-fn a_stalled_unit_goes_on_again(rt: HostRuntime) -> Result<(), Fail> {
-    let (left, missed) = run_held(&rt, rt.alloc()).ok_or("memory")?;
-    let left = left.ok_or("an outcome")?;
+fn a_stalled_unit_goes_on_again(rt: HostRuntime) {
+    let (left, missed) = run_held(&rt, rt.alloc());
     assert_eq!(rt; missed, 0);
     assert_eq!(rt; left.entries, 100);
     assert_eq!(rt; left.ending, Ending::Full(0));
-    Ok(())
 }

@@ -3,6 +3,7 @@
 use crate::gates::Open;
 use crate::given::{config, one_task, opened};
 use std::alloc::Global;
+use std::process::Abort;
 use std::sync::Wait;
 use std::test::*;
 use std::thread::Threads;
@@ -58,27 +59,27 @@ impl Shared for Damaged {
 }
 
 // What a run on one unit over such a bus ends with.
-fn ending<R: Threads + Wait + Sync>(
+fn ending<R: Threads + Wait + Abort + Sync>(
     rt: &R,
     alloc: Global,
     damage: Damage,
-) -> Option<Result<(), RunError>> {
-    let config = config(1, 16, 100, 50)?;
-    let (bus, pass) = opened(rt, alloc, one_task(alloc)?, config)?;
-    let image = one_task(alloc)?;
+) -> Result<(), RunError> {
+    let config = config(rt, 1, 16, 100, 50);
+    let (bus, pass) = opened(rt, alloc, one_task(rt, alloc), config);
+    let image = one_task(rt, alloc);
     let port = Damaged { bus, damage };
     match run_over(rt, alloc, port, pass, &image, config, &Open) {
-        Ok(_) => Some(Ok(())),
-        Err(fault) => Some(Err(fault)),
+        Ok(_) => Ok(()),
+        Err(fault) => Err(fault),
     }
 }
 
 // The run has six events: the assignment, four submits and the commit.
 #[test]
 fn a_damaged_slip_tears_the_run(rt: HostRuntime) {
-    assert_eq!(rt; ending(&rt, rt.alloc(), Damage::Nothing), Some(Ok(())));
-    assert_eq!(rt; ending(&rt, rt.alloc(), Damage::Lost(6)), Some(Ok(())));
-    let torn = Some(Err(RunError::Torn));
+    assert_eq!(rt; ending(&rt, rt.alloc(), Damage::Nothing), Ok(()));
+    assert_eq!(rt; ending(&rt, rt.alloc(), Damage::Lost(6)), Ok(()));
+    let torn = Err(RunError::Torn);
     for index in 0..6 {
         assert_eq!(rt; ending(&rt, rt.alloc(), Damage::Lost(index)), torn);
         assert_eq!(rt; ending(&rt, rt.alloc(), Damage::Changed(index)), torn);

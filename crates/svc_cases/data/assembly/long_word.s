@@ -1,0 +1,3 @@
+# A word of 26 letters.
+.svc_entry
+    abcdefghijklmnopqrstuvwxyz x1

@@ -1,0 +1,3 @@
+# A comma is left out.
+.svc_entry
+    add x1, x2 x3
