@@ -204,5 +204,28 @@ sw x29, 31(x8)
 sw x19, 32(x30)
 ecall
 ebreak
+sub x1, x2, x3
+srai x1, x2, 3
+beq x0, x0, . - 4
+jal x1, . + 8
+lui x5, 256
+addi x1, x0, 5
+addi x1, x0, 6
+sw x1, 0(x5)
+sw x1, 2(x5)
+sw x1, 8(x5)
+sw x1, 10(x5)
+lw x10, 0(x5)
+addi x17, x0, 1
+addi x17, x0, 0
+addi x17, x0, 2
+sb x1, 0(x5)
+lbu x10, 1(x5)
+lbu x10, 4(x5)
+jal x0, . + 2
+jal x0, . + 1024
+jal x0, . - 4
+jal x0, . - 8
+jal x0, . + 0
 .data
 .word 0
