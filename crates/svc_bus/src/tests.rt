@@ -1,4 +1,4 @@
-//! Tests of a bus: rows of calls with their answers, and random walks.
+//! Tests of a bus: rows of calls with their answers.
 
 ghost use Rattle.std.specs.Prelude.{◌≡◌, ◌<◌, ◌≤◌, true, false, length, IfOk, IsTrue};
 ghost use Rattle.std.specs.Int.{is_power_of_two};
@@ -14,9 +14,6 @@ use std::process::Abort;
 use std::test::Fail;
 use svc_base::{OpenError, Refusal, UnitId, WordAddr};
 
-mod map;
-mod plain;
-mod random;
 mod rows;
 
 // What the calls require, checked on a bus.
@@ -105,28 +102,10 @@ fn open(rt: &impl Abort, alloc: Global, sets: u32, ways: u32, words: &[u32]) -> 
     requires some_ways { 1 ≤ ways }
     requires few_ways { ways ≤ MAX_WAYS }
 {
-    open_with(rt, alloc, UNITS, sets, ways, words)
-}
-
-// A bus of this many units.
-fn open_with(
-    rt: &impl Abort,
-    alloc: Global,
-    units: u32,
-    sets: u32,
-    ways: u32,
-    words: &[u32],
-) -> Result<Bus, Fail>
-    requires few_sets { sets ≤ MAX_SETS }
-    requires some_ways { 1 ≤ ways }
-    requires few_ways { ways ≤ MAX_WAYS }
-{
-    assert!(rt; 1 <= units);
-    assert!(rt; units <= 16);
     assert!(rt; sets.is_power_of_two());
     assert!(rt; words.len() < 100);
     let memory = Vec::from_slice(alloc, words).map_err(|_| "memory")?;
-    Bus::open(alloc, units, sets, ways, memory).map_err(|_| "memory".into())
+    Bus::open(alloc, UNITS, sets, ways, memory).map_err(|_| "memory".into())
 }
 
 fn begin(rt: &impl Abort, bus: &mut Bus, unit: UnitId) {

@@ -7,4 +7,3 @@ pub mod Caches
 pub mod Searches
 pub mod Counts
 pub mod Fulls
-pub mod Listings

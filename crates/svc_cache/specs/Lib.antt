@@ -6,4 +6,3 @@ pub mod Rows
 pub mod Sound
 pub mod Changes
 pub mod Sets
-pub mod Listed

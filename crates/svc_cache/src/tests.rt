@@ -5,14 +5,11 @@ ghost use Rattle.svc_base.specs.declared.config.TheConstants.{MAX_SETS, MAX_WAYS
 ghost use Rattle.svc_line.specs.Bits.{bits_of};
 
 use crate::{Cache, Probes, SetFull};
-use searched::SearchedLines;
 use std::alloc::Global;
 use std::process::Abort;
 use std::test::Fail;
 use svc_base::{OpenError, WordAddr};
 use svc_line::{Line, LineBits};
-
-mod searched;
 
 // An active line with this value.
 fn line(value: u32) -> Line
@@ -27,7 +24,7 @@ fn line(value: u32) -> Line
 
 // What is done to a cache.
 #[derive(Clone, Copy, Debug)]
-pub(crate) enum Step {
+enum Step {
     Fill(u32, u32),
     Drop(u32),
     Lookup(u32),
@@ -36,19 +33,9 @@ pub(crate) enum Step {
     Squash,
 }
 
-impl Step {
-    // How many searches the step takes.
-    fn searches(self) -> u32 {
-        match self {
-            Step::Fill(..) | Step::Drop(_) | Step::Lookup(_) | Step::Full(_) => 1,
-            Step::Commit | Step::Squash => 0,
-        }
-    }
-}
-
 // What a step answers.
 #[derive(Clone, Copy, Debug, PartialEq, Eq)]
-pub(crate) enum Answer {
+enum Answer {
     Done,
     Filled(Result<(), SetFull>),
     Found(Option<Line>),
@@ -145,64 +132,25 @@ fn a_set_of_four_ways_holds_four_lines(rt: HostRuntime) -> Result<(), Fail> {
     Ok(())
 }
 
-// Two sets of two ways: full sets, committed lines before active ones, squashes among both.
-const STEPS: [Step; 30] = [
-    Step::Fill(4, 40),
-    Step::Fill(2, 20),
-    Step::Full(0),
-    Step::Fill(0, 1),
-    Step::Fill(3, 30),
-    Step::Commit,
-    Step::Lookup(4),
-    Step::Drop(2),
-    Step::Fill(0, 2),
-    Step::Full(2),
-    Step::Fill(2, 21),
-    Step::Fill(0, 3),
-    Step::Fill(5, 50),
-    Step::Full(1),
-    Step::Fill(7, 70),
-    Step::Squash,
-    Step::Lookup(0),
-    Step::Lookup(5),
-    Step::Lookup(3),
-    Step::Full(1),
-    Step::Fill(1, 10),
-    Step::Full(5),
-    Step::Drop(3),
-    Step::Drop(3),
-    Step::Fill(5, 51),
-    Step::Full(3),
-    Step::Commit,
-    Step::Squash,
-    Step::Full(3),
-    Step::Lookup(5),
-];
-
-// The cache and the list answer the step in the same way, by as many searches.
-fn answers_agree(
-    rt: &impl Abort,
-    cache: &mut Tested,
-    list: &mut SearchedLines,
-    step: Step,
-) -> Result<(), Fail> {
-    let (answer, probes) = cache.perform(step);
-    let (list_answer, list_probes) = list.perform(rt, step)?;
-    assert_eq!(rt; answer, list_answer, "at {step:?}");
-    assert_eq!(rt; probes.searches, step.searches(), "at {step:?}");
-    assert_eq!(rt; list_probes.searches, step.searches(), "at {step:?}");
-    Ok(())
-}
-
+// Two ways: a commit and a squash keep the committed line, which leaves before an active one.
 #[test]
-fn a_searched_list_answers_the_same(rt: HostRuntime) -> Result<(), Fail> {
+fn a_committed_line_stays_until_it_leaves(rt: HostRuntime) -> Result<(), Fail> {
+    let committed = Line {
+        bits: LineBits::on_load(true, false).on_commit(),
+        ..line(20)
+    };
     let mut cache = Tested::open(&rt, rt.alloc(), 2, 2).map_err(|_| "memory")?;
-    let mut list = SearchedLines::new(rt.alloc(), 2, 2);
-    for step in STEPS {
-        answers_agree(&rt, &mut cache, &mut list, step)?;
-        for word in 0..8 {
-            answers_agree(&rt, &mut cache, &mut list, Step::Lookup(word))?;
-        }
+    for (step, expected) in [
+        (Step::Fill(2, 20), FILLED),
+        (Step::Commit, Answer::Done),
+        (Step::Fill(0, 10), FILLED),
+        (Step::Full(4), Answer::Named(Some(WordAddr(2)))),
+        (Step::Squash, Answer::Done),
+        (Step::Lookup(0), Answer::Found(None)),
+        (Step::Lookup(2), Answer::Found(Some(committed))),
+        (Step::Full(4), Answer::Named(None)),
+    ] {
+        assert_eq!(rt; cache.perform(step).0, expected, "at {step:?}");
     }
     Ok(())
 }

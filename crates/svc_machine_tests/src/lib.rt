@@ -1,9 +1,15 @@
-//! Tests of the machine, of its lines' bits, of what units see of its history, and of its schedules, by their public calls.
+//! Tests of the machine and of what it stands on, from configurations and images to its schedules, by their public calls.
 
 #![tactic(auto)]
 
 #[cfg(test)]
+mod base;
+#[cfg(test)]
+mod bursts;
+#[cfg(test)]
 mod history;
+#[cfg(test)]
+mod images;
 #[cfg(test)]
 mod line;
 #[cfg(test)]

@@ -48,7 +48,10 @@ pub(crate) fn named_or_none<W: Word>(field: &[u8]) -> Option<Option<W>>
     if field.is_empty() {
         return Some(None);
     }
-    named(field).map(Some)
+    match named(field) {
+        Some(value) => Some(Some(value)),
+        None => None,
+    }
 }
 
 impl Word for Kind {
