@@ -1,15 +1,18 @@
-//! Runs each case of a list through the program, over files in memory, and says of each that it is as wanted, or where
-//! it first differs.
+//! What the gate runs, as standard input says line by line. `cases` runs each case of a list through the program, over files
+//! in memory, and says of each that it is as wanted, or where it first differs. Any other line names a call, of which is
+//! said what it answers where memory is refused.
 #![tactic(auto)]
 
 mod case;
 mod error;
 mod folder;
 mod images;
+mod memory;
 
 use case::Case;
 use error::CaseError;
 use folder::Folder;
+use memory::answer;
 use std::fs;
 use std::rt::Files;
 use std::sync::Wait;
@@ -18,15 +21,28 @@ use svc_command::execute;
 use svc_outcome::{Outcome, Part};
 
 fn main(rt: HostRuntime) -> Result<(), CaseError> {
-    let list = fs::read_to_string(&rt, "cases.csv")?;
-    let images = fs::read_to_string(&rt, "images.csv")?;
+    for line in rt.lines(rt.alloc()) {
+        match line?.as_str() {
+            "cases" => run_all(&rt)?,
+            line => println!(rt; "{}", answer(&rt, line))?,
+        }
+    }
+    Ok(())
+}
+
+// Runs each case, and says how it ends.
+fn run_all<R: Files + Print + Threads + Wait + Sync + AllocGlobal>(
+    rt: &R,
+) -> Result<(), CaseError> {
+    let list = fs::read_to_string(rt, "cases.csv")?;
+    let images = fs::read_to_string(rt, "images.csv")?;
     for line in list.lines().skip(1) {
         let Some(case) = Case::of(line) else {
             return Err(CaseError::List);
         };
-        let wanted = case.wanted(&rt)?;
-        let found = run(&rt, &case, &images)?;
-        tell(&rt, case.name, &found, &wanted)?;
+        let wanted = case.wanted(rt)?;
+        let found = run(rt, &case, &images)?;
+        tell(rt, case.name, &found, &wanted)?;
     }
     Ok(())
 }

@@ -1,7 +1,7 @@
 //! The calls, by their names.
 
-use crate::attempt::{Attempt, Refused, Seen};
-use crate::{images, machines, program, texts, threads};
+use super::attempt::{Attempt, Refused, Seen};
+use super::{images, machines, program, texts, threads};
 use std::sync::Wait;
 use std::thread::Threads;
 

@@ -1,6 +1,6 @@
 //! A unit's turns over a shared bus.
 
-use crate::attempt::{Attempt, Refused, ready};
+use super::attempt::{Attempt, Refused, ready};
 use std::alloc::Global;
 use std::sync::Wait;
 use svc_base::{Config, OpenError, UnitId};

@@ -1,7 +1,6 @@
 //! What each call that takes memory answers where one of its requests is refused. Which one is up to whoever runs this:
-//! `rt try --fail-alloc N` refuses the Nth of all requests, and each line of standard input names a call and how many
-//! requests are made before it. After a name alone memory is taken to be ample.
-#![tactic(auto)]
+//! `rt try --fail-alloc N` refuses the Nth of all requests, and a line of standard input names a call and how many requests
+//! are made before it. After a name alone memory is taken to be ample.
 
 mod attempt;
 mod call;
@@ -14,25 +13,17 @@ mod texts;
 mod threads;
 mod wanted;
 
-use attempt::Seen;
-use call::seen;
-use requests::refused_within;
-use std::io;
+use self::attempt::Seen;
+use self::call::seen;
+use self::requests::refused_within;
 use std::sync::Wait;
 use std::thread::Threads;
 
 /// More requests than are made before any call.
 const AFTER: u32 = 2_000;
 
-fn main(rt: HostRuntime) -> io::Result<()> {
-    for line in rt.lines(rt.alloc()) {
-        println!(rt; "{}", answer(&rt, line?.as_str()))?;
-    }
-    Ok(())
-}
-
-// What is seen of the call that a line names.
-fn answer<R: Threads + Wait + Sync + AllocGlobal>(rt: &R, line: &str) -> &'static str {
+/// What is seen of the call that a line names.
+pub fn answer<R: Threads + Wait + Sync + AllocGlobal>(rt: &R, line: &str) -> &'static str {
     let (name, before) = match line.split_once(' ') {
         Some((name, before)) => (name, before.parse::<u32>().ok()),
         None => (line, None),

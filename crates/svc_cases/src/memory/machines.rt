@@ -1,8 +1,8 @@
 //! Calls that open machines and recorders. What is opened then takes ten events, for which no memory is left to ask.
 
-use crate::attempt::{Attempt, Refused, ready};
-use crate::history::ten_entries;
-use crate::images::sample;
+use super::attempt::{Attempt, Refused, ready};
+use super::history::ten_entries;
+use super::images::sample;
 use std::alloc::Global;
 use svc_base::{Config, OpenError, UnitId};
 use svc_core::{Burst, Core, Lease};

@@ -3,9 +3,9 @@
 ghost use Rattle.std.specs.Prelude.{◌≡◌, nat_eq, true, Ok, IfErr};
 ghost use Rattle.std.specs.List.{starts_with};
 
-use crate::attempt::{Attempt, Refused, ready};
-use crate::texts::{EVENTS, TEXT, TRACE};
-use crate::wanted::{
+use super::attempt::{Attempt, Refused, ready};
+use super::texts::{EVENTS, TEXT, TRACE};
+use super::wanted::{
     CHECK, LIST, PROFILE, PROFILE_BY_TASK, PROFILE_BY_UNIT, PROFILE_BY_WORD, PROFILE_ROW, RUN,
     RUN_ROW, SCHEDULE, SCRIPT, SEQ, SHOW, SHOW_AT,
 };

@@ -1,6 +1,6 @@
 //! Calls on images, and the plain runner.
 
-use crate::attempt::{Attempt, Refused, ready};
+use super::attempt::{Attempt, Refused, ready};
 use std::alloc::Global;
 use svc_core_laws::Ending;
 use svc_image::samples::{P, P2};

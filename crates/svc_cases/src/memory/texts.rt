@@ -1,7 +1,7 @@
 //! Calls that write and read texts. What is written goes to a room that is made before.
 
-use crate::attempt::{Attempt, Refused, ready};
-use crate::history::ten_entries;
+use super::attempt::{Attempt, Refused, ready};
+use super::history::ten_entries;
 use std::alloc::Global;
 use svc_core_laws::Ending;
 use svc_report::{
