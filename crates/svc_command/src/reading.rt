@@ -101,16 +101,27 @@ fn asked<'a>(
     ensures other { IfOk result (λ asked. ¬ (IsBuiltInRun asked)) }
 {
     match matches.subcommand() {
-        Some(("run", given)) if is_named(words, "run") => run(alloc, given),
-        Some(("seq", given)) if is_named(words, "seq") => sequential(given),
-        Some(("script", given)) if is_named(words, "script") => script(given),
-        Some(("check", given)) if is_named(words, "check") => check(given),
-        Some(("profile", given)) if is_named(words, "profile") => profile(given),
-        Some(("show", given)) if is_named(words, "show") => show(given),
-        Some(("draw", given)) if is_named(words, "draw") => draw(given),
-        Some(("assemble", given)) if is_named(words, "assemble") => assemble(given),
-        Some(("list", given)) if is_named(words, "list") => list(given),
-        // The parser reads no other subcommand, and no line that begins otherwise.
+        Some((name, given)) if is_named(words, name) => asked_by(alloc, name, given),
+        // The parser reads no line that begins otherwise.
+        _ => Err(Fault::File),
+    }
+}
+
+// What the subcommand of this name asks for.
+fn asked_by<'a>(alloc: Global, name: &str, given: &ArgMatches<'a>) -> Result<Request<'a>, Fault>
+    ensures { IfOk result (IsAskedBy name.now) }
+{
+    match name {
+        "run" => run(alloc, given),
+        "seq" => sequential(given),
+        "script" => script(given),
+        "check" => check(given),
+        "profile" => profile(given),
+        "show" => show(given),
+        "draw" => draw(given),
+        "assemble" => assemble(given),
+        "list" => list(given),
+        // The parser reads no other subcommand.
         _ => Err(Fault::File),
     }
 }
