@@ -1,6 +1,6 @@
 //! `show`: the machine to which a trace leads.
 
-ghost use Rattle.std.specs.Prelude.{◌≡◌, ◌⊎◌, ◌≤◌, ◌<◌, IfOk, IfErr, IfSome, length, min, nat_lt, unwrap_or};
+ghost use Rattle.std.specs.Prelude.{◌≡◌, [], ◌⊎◌, ◌≤◌, ◌<◌, IfOk, IfErr, IfSome, length, min, nat_lt, unwrap_or};
 ghost use Rattle.svc_history_laws.specs.Legal.{LegalHistory};
 ghost use Rattle.svc_show.specs.Show.{show_of};
 ghost use Rattle.svc_request.specs.declared.faults.Fault.TheVariants.{File};
@@ -54,9 +54,29 @@ fn text_at(
         ⊎ TellsOfTrace image.now config entries.now fault ⊎ IsPastTheEnd at image.now config entries.now fault) }
 {
     let mut recorder = open_trace(alloc, image, config)?;
-    check_on(&mut recorder, entries, shown_count(entries, at))?;
-    let text = show_text(alloc, &recorder)?;
-    check_on(&mut recorder, entries, entries.len())?;
+    text_on(alloc, &mut recorder, entries, at)
+}
+
+// The same by a recorder of the image and the configuration, before any event.
+fn text_on(
+    alloc: Global,
+    recorder: &mut Recorder,
+    entries: &[Entry],
+    at: Option<u64>,
+) -> Result<Vec<u8>, Fault>
+    requires { recorder.old.entries ≡ [] }
+    ensures text { IfOk result (λ text. text.items
+        ≡ show_of recorder.old.machine.image recorder.old.machine.config (shown_entries at entries.now)) }
+    ensures legal { IfOk result (λ text.
+        LegalHistory recorder.old.machine.image recorder.old.machine.config entries.now) }
+    ensures within { IfOk result (λ text. IfSome at (λ n. n ≤ length entries.now)) }
+    ensures fault { IfErr result (λ fault. IsReportFault fault
+        ⊎ TellsOfTrace recorder.old.machine.image recorder.old.machine.config entries.now fault
+        ⊎ IsPastTheEnd at recorder.old.machine.image recorder.old.machine.config entries.now fault) }
+{
+    check_on(recorder, entries, shown_count(entries, at))?;
+    let text = show_text(alloc, recorder)?;
+    check_on(recorder, entries, entries.len())?;
     // what the type keeps: its history is legal
     let _legal = recorder.entries();
     if is_past_the_end(entries, at) {

@@ -1,20 +1,12 @@
-use Rattle.std.proofs.Common.{◌∙◌, inr, ap, subst, sym, take}
-use Rattle.svc_history_laws.specs.declared.entry.Entry.{Entry}
-use Rattle.svc_program.proofs.Showing.{legal_whole, past_the_end, text_shown}
+use Rattle.std.proofs.Common.{◌≡◌, IfOk, subst}
+use Rattle.svc_base.specs.declared.config.Config.{Config}
+use Rattle.svc_image.specs.Image.{Image}
+use Rattle.svc_show.specs.Show.{show_of}
+use Rattle.svc_program.specs.Shown.{shown_entries}
 use Rattle.svc_program.proofs.show.text_at.Goals as goal
-
-pub returns-then-is_past_the_end-clause-fault : goal.returns-then-is_past_the_end-clause-fault
-returns-then-is_past_the_end-clause-fault c =
-    let es = c.args.entries.now in
-    let image = c.check_on-2.ensures.image ∙ (c.check_on.ensures.image ∙ c.in_ok-recorder.ensures.image) in
-    let config = c.check_on-2.ensures.config ∙ (c.check_on.ensures.config ∙ c.in_ok-recorder.ensures.config) in
-    let legal = legal_whole _ c.args.image.now c.args.config es c.entries-legal.ensures.legal image config c.in_ok-check_on-2.ensures.entries in
-    inr (inr (past_the_end c.args.at c.args.image.now c.args.config es (sym c.is_past_the_end.ensures ∙ c.if-is_past_the_end.true) legal))
 
 pub returns-clause-text : goal.returns-clause-text
 returns-clause-text c =
-    let es = c.args.entries.now in
-    let image = c.check_on.ensures.image ∙ c.in_ok-recorder.ensures.image in
-    let config = c.check_on.ensures.config ∙ c.in_ok-recorder.ensures.config in
-    let entries = c.in_ok-check_on.ensures.entries ∙ ap (λ (n : Rattle.std.proofs.Common.ℕ). take n es) c.shown_count.ensures in
-    c.in_ok-text.ensures.text ∙ text_shown _ c.args.image.now _ c.args.config c.args.at _ es image config entries
+    let es = shown_entries c.args.at c.args.entries.now in
+    subst (λ (i : Image). IfOk c.text_on.result (λ text. text.items ≡ show_of i c.args.config es)) c.in_ok-recorder.ensures.image
+    (subst (λ (g : Config). IfOk c.text_on.result (λ text. text.items ≡ show_of c.in_ok-recorder.recorder.machine.image g es)) c.in_ok-recorder.ensures.config c.text_on.ensures.text)
