@@ -21,6 +21,3 @@ mod write;
 pub use bus::Bus;
 pub use svc_base::Served;
 pub use victim::Victim;
-
-#[cfg(test)]
-mod tests;

@@ -1,6 +1,6 @@
-//! What a bus shows without changing: memory, spilled words, lines and full sets.
+//! What a bus shows without changing: its sizes, active tasks, memory, spilled words, lines and full sets.
 
-ghost use Rattle.std.specs.Prelude.{◌≡◌, ◌<◌, true, Option, option_map, IfSome};
+ghost use Rattle.std.specs.Prelude.{◌≡◌, ◌<◌, true, Option, option_map, length, get_or, IfSome};
 ghost use Rattle.svc_line.specs.Bits.{bits_of};
 ghost use Rattle.svc_bus_laws.specs.LineTable.{LineTable, committed_value};
 ghost use Rattle.svc_bus_laws.specs.BusState.{Agrees, unnumbered};
@@ -16,6 +16,39 @@ use svc_retire::purging::newest;
 use svc_vol::VersionList;
 
 impl Bus {
+    /// How many units share the bus, each with a cache of its own.
+    #[tactic(auto, unfolding(crate::specs::Observed::observed))]
+    pub fn units(&self) -> usize
+        ensures count { result ≡ (observed self.now).caches }
+    {
+        self.caches.len()
+    }
+
+    /// How many words the memory has.
+    #[tactic(auto, unfolding(crate::specs::Observed::observed))]
+    pub fn words(&self) -> usize
+        ensures count { result ≡ (observed self.now).words }
+    {
+        self.backing.len()
+    }
+
+    /// How many tasks are active.
+    #[tactic(auto, unfolding(crate::specs::Observed::observed))]
+    pub fn active_tasks(&self) -> usize
+        ensures count { result ≡ length (observed self.now).units }
+    {
+        self.queue.len()
+    }
+
+    /// The unit of the active task at a position, counted from 0, which is the head's.
+    #[tactic(auto, unfolding(crate::specs::Observed::observed))]
+    pub fn unit_at(&self, position: usize) -> UnitId
+        requires active { position < length (observed self.now).units }
+        ensures unit { result.0 ≡ get_or (observed self.now).units position 0 }
+    {
+        self.queue.unit_at(position)
+    }
+
     /// The word that the committed tasks have left: that of the newest committed dirty line,
     /// otherwise the backing word.
     #[tactic(auto, unfolding(crate::specs::Observed::observed))]

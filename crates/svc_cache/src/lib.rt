@@ -15,6 +15,3 @@ mod row;
 pub use cache::Cache;
 pub use probes::Probes;
 pub use row::SetFull;
-
-#[cfg(test)]
-mod tests;

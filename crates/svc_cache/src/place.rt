@@ -9,7 +9,7 @@ use svc_base::WordAddr;
 use svc_line::{Line, LineBits};
 
 /// A place of a cache. It holds its word while the line's bits have V; otherwise it is empty.
-#[derive(Clone, Copy, Debug, PartialEq, Eq)]
+#[derive(Clone, Copy)]
 pub struct Place {
     /// The word of the line.
     pub word: WordAddr,

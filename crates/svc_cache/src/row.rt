@@ -30,7 +30,7 @@ pub(crate) fn find(row: &[Place], word: WordAddr, probes: &mut Probes) -> Option
 }
 
 /// What the first places of a row show of the room in it.
-#[derive(Clone, Copy, Debug)]
+#[derive(Clone, Copy)]
 struct Survey {
     /// An empty place among them.
     empty: Option<usize>,

@@ -12,7 +12,7 @@ use svc_rv32i::{LoadKind, StoreKind};
 pub const DATA_START: u32 = 0x0010_0000;
 
 /// Where an access lies in the data.
-#[derive(Clone, Copy, Debug, PartialEq, Eq)]
+#[derive(Clone, Copy)]
 pub struct Place {
     /// The word address.
     pub word: u32,

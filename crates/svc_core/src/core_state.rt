@@ -12,7 +12,7 @@ use svc_image::Image;
 use svc_rv32i::Register;
 
 /// Where a task stands: its place, registers, turns, words put out, limit of turns, and end.
-#[derive(Clone, Copy, Debug, PartialEq, Eq)]
+#[derive(Clone, Copy)]
 pub struct Core {
     pub(crate) pc: u32,
     pub(crate) count: u32,

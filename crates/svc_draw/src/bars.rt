@@ -12,7 +12,7 @@ use svc_report::ReportError;
 use svc_view::{TaskRun, tasks_of};
 
 /// The entries that a picture shows, counted from 0: those from one index on, and before another.
-#[derive(Clone, Copy, Debug, PartialEq, Eq)]
+#[derive(Clone, Copy)]
 pub struct Window {
     /// The first one.
     pub from: u64,
@@ -35,7 +35,7 @@ impl Window {
 }
 
 /// A task that is active at one of the entries shown. A bar that ends at the window's end goes on past it.
-#[derive(Clone, Copy, Debug, PartialEq, Eq)]
+#[derive(Clone, Copy)]
 pub struct Bar {
     /// The task.
     pub task: TaskRun,

@@ -27,7 +27,7 @@ pub(crate) const HEIGHT: u64 = 720;
 pub(crate) const BOTTOM: u64 = 838;
 
 /// A place of a picture that isn't at its left or upper edge, so that a mark has room there.
-#[derive(Clone, Copy, Debug, PartialEq, Eq)]
+#[derive(Clone, Copy)]
 pub(crate) struct Point {
     pub(crate) x: u64,
     pub(crate) y: u64,
@@ -38,7 +38,7 @@ pub(crate) struct Point {
 }
 
 /// What a picture shows, and how large things are in it.
-#[derive(Clone, Copy, Debug, PartialEq, Eq)]
+#[derive(Clone, Copy)]
 pub(crate) struct Frame {
     pub(crate) window: Window,
     pub(crate) units: u8,

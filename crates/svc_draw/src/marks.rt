@@ -16,7 +16,7 @@ use svc_report::ReportError;
 use svc_view::TaskRun;
 
 /// What a mark tells.
-#[derive(Clone, Copy, Debug, PartialEq, Eq)]
+#[derive(Clone, Copy)]
 pub enum MarkKind {
     /// A word was loaded.
     Load,
@@ -33,7 +33,7 @@ pub enum MarkKind {
 }
 
 /// A place in the picture.
-#[derive(Clone, Copy, Debug, PartialEq, Eq)]
+#[derive(Clone, Copy)]
 pub struct Spot {
     /// The unit.
     pub lane: UnitId,
@@ -42,7 +42,7 @@ pub struct Spot {
 }
 
 /// A mark of the picture.
-#[derive(Clone, Copy, Debug, PartialEq, Eq)]
+#[derive(Clone, Copy)]
 pub struct Mark {
     /// What it tells.
     pub kind: MarkKind,

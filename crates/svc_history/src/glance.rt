@@ -6,7 +6,7 @@ ghost use Rattle.svc_history.specs.Moves.{next_move, told};
 use svc_core::Lease;
 
 /// What a unit thread needs to know for its next event.
-#[derive(Clone, Copy, Debug, PartialEq, Eq)]
+#[derive(Clone, Copy)]
 pub struct Glance {
     /// No event will be accepted that goes on with the run: it has stopped, or the history is full.
     pub ended: bool,
@@ -19,7 +19,7 @@ pub struct Glance {
 }
 
 /// What a unit does next. It lends the lease, so a move costs nothing to hand on.
-#[derive(Clone, Copy, Debug, PartialEq, Eq)]
+#[derive(Clone, Copy)]
 pub enum Move<'a> {
     /// It starts a task at the guess.
     Begin { guess: u32 },

@@ -14,7 +14,7 @@ use crate::version::Version;
 use byteorder::{ByteOrder, LittleEndian};
 
 /// The numbers of an image file's header.
-#[derive(Clone, Copy, Debug, PartialEq, Eq)]
+#[derive(Clone, Copy)]
 pub struct Header {
     /// The version of the format.
     pub version: Version,

@@ -4,7 +4,7 @@ ghost use Rattle.std.specs.Prelude.{◌≡◌, Option, Some, None, if◌then◌e
 ghost use Rattle.svc_image.specs.Version.{version_number, is_known, version_of};
 
 /// The version of an image's file.
-#[derive(Clone, Copy, Debug, PartialEq, Eq)]
+#[derive(Clone, Copy)]
 pub enum Version {
     /// One limit of turns for all tasks, and no read-only words.
     One,

@@ -5,7 +5,7 @@ ghost use Rattle.svc_limited.specs.Places.{place_after};
 ghost use Rattle.svc_limited.specs.declared.place.Place.TheVariants as place;
 
 // Where in a text its next byte is. A line end within quotes ends nothing.
-#[derive(Clone, Copy, PartialEq, Eq, Debug)]
+#[derive(Clone, Copy)]
 pub(crate) enum Place {
     // At the text's start, or after one or two bytes of a byte order mark.
     Front,

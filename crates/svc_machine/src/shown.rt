@@ -11,7 +11,7 @@ use svc_base::{UnitId, WordAddr};
 use svc_core_laws::End;
 
 /// The state of an active task.
-#[derive(Clone, Copy, Debug, PartialEq, Eq)]
+#[derive(Clone, Copy)]
 pub struct ActiveTask {
     /// The unit that runs it.
     pub unit: UnitId,

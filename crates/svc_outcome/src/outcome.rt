@@ -14,7 +14,7 @@ pub struct Outcome {
 }
 
 /// A part of what a run leaves.
-#[derive(Clone, Copy, Debug, PartialEq, Eq)]
+#[derive(Clone, Copy)]
 pub enum Part {
     Status,
     Out,

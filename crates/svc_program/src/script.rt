@@ -21,7 +21,7 @@ use svc_report::{Step, StepKind, write_entry};
 use svc_request::Fault;
 
 /// The outcome of a step of a script.
-#[derive(Clone, Copy, Debug, PartialEq, Eq)]
+#[derive(Clone, Copy)]
 pub enum Answer {
     /// Its event was accepted.
     Accepted(Entry),

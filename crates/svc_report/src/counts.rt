@@ -7,7 +7,7 @@ ghost use Rattle.svc_report.specs.Summary.{counts_of};
 use svc_history_laws::{CutKind, Entry, Kind, ServedKind};
 
 /// How many entries of a history have each kind, each supplier and each cause of a cut.
-#[derive(Clone, Copy, Debug, PartialEq, Eq)]
+#[derive(Clone, Copy)]
 pub struct Counts {
     /// Tasks that were begun.
     pub assign: u64,

@@ -17,7 +17,7 @@ use std::io::Read;
 use svc_base::{UnitId, WordAddr};
 
 /// What a step of a script asks for.
-#[derive(Clone, Copy, Debug, PartialEq, Eq)]
+#[derive(Clone, Copy)]
 pub enum StepKind {
     /// To begin a task, with this byte address as the guess of its entry.
     Assign(u32),
@@ -36,7 +36,7 @@ pub enum StepKind {
 }
 
 /// One step of a script.
-#[derive(Clone, Copy, Debug, PartialEq, Eq)]
+#[derive(Clone, Copy)]
 pub struct Step {
     /// The unit that it is about; for a commit, the one that asks for it.
     pub unit: UnitId,
@@ -45,7 +45,7 @@ pub struct Step {
 }
 
 // The word of a step.
-#[derive(Clone, Copy, Debug, PartialEq, Eq)]
+#[derive(Clone, Copy)]
 enum StepWord {
     Assign,
     Submit,

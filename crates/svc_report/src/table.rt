@@ -14,7 +14,7 @@ use std::io::Write;
 use std::marker::Model;
 
 /// The row of a table that stands for a run.
-#[derive(Clone, Copy, Debug, PartialEq, Eq)]
+#[derive(Clone, Copy)]
 pub struct TableRow<'a> {
     /// Its first field, which distinguishes it from other rows.
     pub label: &'a str,

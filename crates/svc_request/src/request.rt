@@ -10,7 +10,7 @@ use svc_report::TableRow;
 pub const VERSION: &str = "0.1.0";
 
 /// Where the bytes of an image come from.
-#[derive(Clone, Copy, Debug, PartialEq, Eq)]
+#[derive(Clone, Copy)]
 pub enum Source<'a> {
     /// The image that the program brings along.
     BuiltIn,
@@ -19,7 +19,7 @@ pub enum Source<'a> {
 }
 
 /// In which order the steps of a scheduled run ask the units for their moves.
-#[derive(Clone, Copy, Debug, PartialEq, Eq)]
+#[derive(Clone, Copy)]
 pub enum Order {
     /// By number, from the unit after the one that moved last.
     Rotate,
@@ -32,7 +32,7 @@ pub enum Order {
 }
 
 /// How a run goes in one host thread.
-#[derive(Clone, Copy, Debug, PartialEq, Eq)]
+#[derive(Clone, Copy)]
 pub struct Schedule {
     /// In which order the units are asked.
     pub order: Order,
@@ -57,7 +57,7 @@ impl Schedule {
 }
 
 /// A table of what speculation cost.
-#[derive(Clone, Copy, Debug, PartialEq, Eq)]
+#[derive(Clone, Copy)]
 pub enum Table<'a> {
     /// A row for each task that was begun.
     Tasks,

@@ -10,7 +10,7 @@ use std::marker::Model;
 use svc_base::{OpenError, WordAddr};
 
 /// What the table holds for a word.
-#[derive(Clone, Copy, Debug, PartialEq, Eq)]
+#[derive(Clone, Copy)]
 enum Place {
     /// No version of the word was spilled since the last commit.
     Unlisted,

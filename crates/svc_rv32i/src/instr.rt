@@ -12,7 +12,7 @@ pub struct Register {
 
 /// The twelve bits of a short immediate, as an unsigned number: bits 11 to 0 of the immediate itself, or bits 12 to 1 of a branch's offset, whose bit 0 is always clear (RV32I, section 2.3 Immediate Encoding Variants).
 /// They are not sign-extended: whoever carries out the instruction does that.
-#[derive(Clone, Copy, Debug, PartialEq, Eq)]
+#[derive(Clone, Copy)]
 pub struct Short {
     /// 0 to 4,095.
     pub bits: u16,
@@ -21,7 +21,7 @@ pub struct Short {
 
 /// The twenty bits of a long immediate, as an unsigned number: bits 31 to 12 of an upper immediate, whose other bits are clear, or bits 20 to 1 of a jump's offset, whose bit 0 is always clear (RV32I, section 2.3 Immediate Encoding Variants).
 /// They are not sign-extended: whoever carries out the instruction does that.
-#[derive(Clone, Copy, Debug, PartialEq, Eq)]
+#[derive(Clone, Copy)]
 pub struct Long {
     /// 0 to 1,048,575.
     pub bits: u32,
@@ -29,7 +29,7 @@ pub struct Long {
 }
 
 /// By how many bits an immediate shift shifts: the manual's shamt (RV32I, section 2.4.1 Integer Register-Immediate Instructions).
-#[derive(Clone, Copy, Debug, PartialEq, Eq)]
+#[derive(Clone, Copy)]
 pub struct ShiftAmount {
     /// 0 to 31.
     pub bits: u8,
@@ -37,7 +37,7 @@ pub struct ShiftAmount {
 }
 
 /// What a branch tests of rs1 and rs2 (RV32I, section 2.5.2 Conditional Branches).
-#[derive(Clone, Copy, Debug, PartialEq, Eq)]
+#[derive(Clone, Copy)]
 pub enum Comparison {
     /// BEQ: they are equal.
     Equal,
@@ -80,7 +80,7 @@ pub enum StoreKind {
 }
 
 /// An operation on rs1 and rs2 (RV32I, section 2.4.2 Integer Register-Register Operations).
-#[derive(Clone, Copy, Debug, PartialEq, Eq)]
+#[derive(Clone, Copy)]
 pub enum Operation {
     /// ADD: their sum, modulo 2^32.
     Add,
@@ -105,7 +105,7 @@ pub enum Operation {
 }
 
 /// An operation on rs1 and a sign-extended short immediate (RV32I, section 2.4.1 Integer Register-Immediate Instructions).
-#[derive(Clone, Copy, Debug, PartialEq, Eq)]
+#[derive(Clone, Copy)]
 pub enum ImmediateOperation {
     /// ADDI: their sum, modulo 2^32.
     Add,
@@ -122,7 +122,7 @@ pub enum ImmediateOperation {
 }
 
 /// A shift of rs1 by an immediate amount (RV32I, section 2.4.1 Integer Register-Immediate Instructions).
-#[derive(Clone, Copy, Debug, PartialEq, Eq)]
+#[derive(Clone, Copy)]
 pub enum ImmediateShift {
     /// SLLI: left; zeros come in.
     Left,
@@ -135,7 +135,7 @@ pub enum ImmediateShift {
 /// An instruction of RV32I, by its format and its operation.
 ///
 /// The register rd receives the result, and rs1 and rs2 are read; imm holds the immediate's bits as they are numbered, without sign.
-#[derive(Clone, Copy, Debug, PartialEq, Eq)]
+#[derive(Clone, Copy)]
 pub enum Instr {
     /// LUI: rd receives the upper immediate (RV32I, section 2.4.1 Integer Register-Immediate Instructions).
     Lui {

@@ -17,7 +17,7 @@ use svc_line::LineBits;
 use svc_machine::Machine;
 
 /// The valid lines that have a committed task's version.
-#[derive(Clone, Copy, Debug, PartialEq, Eq)]
+#[derive(Clone, Copy)]
 pub(crate) enum Versions {
     /// None has.
     Absent,
@@ -40,7 +40,7 @@ impl Versions {
 }
 
 /// What caches have of a word.
-#[derive(Clone, Copy, Debug, PartialEq, Eq)]
+#[derive(Clone, Copy)]
 pub(crate) struct Cached {
     /// A valid line.
     pub(crate) line: bool,

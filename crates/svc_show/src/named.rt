@@ -12,7 +12,7 @@ use svc_history::Entry;
 use svc_report::ReportError;
 
 /// The units whose entries name a word.
-#[derive(Clone, Copy, Debug, PartialEq, Eq)]
+#[derive(Clone, Copy)]
 pub(crate) enum Namers {
     /// None does.
     Nobody,
@@ -23,7 +23,7 @@ pub(crate) enum Namers {
 }
 
 /// A word that entries name.
-#[derive(Clone, Copy, Debug, PartialEq, Eq)]
+#[derive(Clone, Copy)]
 pub(crate) struct Named {
     /// The word.
     pub(crate) word: WordAddr,

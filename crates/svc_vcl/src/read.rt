@@ -17,7 +17,7 @@ use svc_line::LineBits;
 use svc_vol::VersionList;
 
 /// What a read does.
-#[derive(Clone, Copy, Debug, PartialEq, Eq)]
+#[derive(Clone, Copy)]
 pub struct ReadPlan {
     /// Who supplies the value.
     pub served: Served,

@@ -8,7 +8,7 @@ use svc_base::UnitId;
 use svc_history_laws::{CutKind, Entry, Kind, ReplyKind};
 
 /// What became of a task.
-#[derive(Clone, Copy, Debug, PartialEq, Eq)]
+#[derive(Clone, Copy)]
 pub enum Fate {
     /// It is still active.
     Active,
@@ -35,7 +35,7 @@ impl Fate {
 }
 
 /// A task that a history begins: what it did, and what became of it. Entries are counted from 0.
-#[derive(Clone, Copy, Debug, PartialEq, Eq)]
+#[derive(Clone, Copy)]
 pub struct TaskRun {
     /// Its number: how many tasks before it were committed or active when it began.
     pub number: u64,

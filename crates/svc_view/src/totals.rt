@@ -9,7 +9,7 @@ ghost use Rattle.svc_view.specs.Profile.{group_word, is_of, measure_word, measur
 use crate::task_run::{Fate, TaskRun};
 
 /// Which tasks.
-#[derive(Clone, Copy, Debug, PartialEq, Eq)]
+#[derive(Clone, Copy)]
 pub enum Group {
     /// All that were begun.
     Begun,
@@ -28,7 +28,7 @@ pub enum Group {
 }
 
 /// What is counted of them.
-#[derive(Clone, Copy, Debug, PartialEq, Eq)]
+#[derive(Clone, Copy)]
 pub enum Measure {
     /// The tasks themselves.
     Tasks,
@@ -41,7 +41,7 @@ pub enum Measure {
 }
 
 /// A total: a measure of the tasks of a group.
-#[derive(Clone, Copy, Debug, PartialEq, Eq)]
+#[derive(Clone, Copy)]
 pub struct Total {
     /// What is counted.
     pub measure: Measure,

@@ -9,7 +9,7 @@ use svc_base::UnitId;
 use svc_line::{Line, LineBits};
 
 /// A valid line of a word, and the unit whose cache holds it.
-#[derive(Clone, Copy, Debug, PartialEq, Eq)]
+#[derive(Clone, Copy)]
 pub struct Version {
     /// The unit.
     pub unit: UnitId,

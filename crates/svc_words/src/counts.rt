@@ -12,7 +12,7 @@ use svc_view::TaskRun;
 use svc_view::task_run::{loads_in, stores_in};
 
 /// What is counted of a word.
-#[derive(Clone, Copy, Debug, PartialEq, Eq)]
+#[derive(Clone, Copy)]
 pub(crate) struct Counts {
     /// Entries that name it.
     pub(crate) named: u64,

@@ -9,7 +9,7 @@ use svc_history_laws::Entry;
 use svc_view::{Fate, TaskRun};
 
 /// What is counted for a word.
-#[derive(Clone, Copy, Debug, PartialEq, Eq)]
+#[derive(Clone, Copy)]
 pub(crate) struct WordShare {
     /// The word.
     pub(crate) word: u32,

@@ -1,9 +1,15 @@
 //! The calls, by their names.
 
 use super::attempt::{Attempt, Refused, Seen};
-use super::{images, machines, program, texts, threads};
+use super::program::{self, HEADED};
+use super::wanted::{
+    PROFILE, PROFILE_BY_TASK, PROFILE_BY_UNIT, PROFILE_BY_WORD, PROFILE_ROW, RUN_ROW, SCHEDULE,
+    SHOW, SHOW_AT,
+};
+use super::{images, machines, texts, threads};
 use std::sync::Wait;
 use std::thread::Threads;
+use svc_program::Table;
 
 // Makes the call of this name; none where no call has it.
 fn attempt<R: Threads + Wait + Sync + AllocGlobal>(rt: &R, name: &str) -> Option<Attempt> {
@@ -32,15 +38,15 @@ fn attempt<R: Threads + Wait + Sync + AllocGlobal>(rt: &R, name: &str) -> Option
         "script" => program::script(rt),
         "check" => program::check(rt),
         "run" => program::run(rt),
-        "schedule" => program::schedule(rt),
-        "run_row" => program::run_row(rt),
-        "profile" => program::profile(rt),
-        "profile_by_task" => program::profile_by_task(rt),
-        "profile_by_unit" => program::profile_by_unit(rt),
-        "profile_by_word" => program::profile_by_word(rt),
-        "profile_row" => program::profile_row(rt),
-        "show" => program::show(rt),
-        "show_at" => program::show_at(rt),
+        "schedule" => program::schedule(rt, Some("saved"), None, SCHEDULE),
+        "run_row" => program::schedule(rt, None, Some(HEADED), RUN_ROW),
+        "profile" => program::profile(rt, None, PROFILE),
+        "profile_by_task" => program::profile(rt, Some(Table::Tasks), PROFILE_BY_TASK),
+        "profile_by_unit" => program::profile(rt, Some(Table::Units), PROFILE_BY_UNIT),
+        "profile_by_word" => program::profile(rt, Some(Table::Words), PROFILE_BY_WORD),
+        "profile_row" => program::profile(rt, Some(Table::Row(HEADED)), PROFILE_ROW),
+        "show" => program::show(rt, None, SHOW),
+        "show_at" => program::show(rt, Some(4), SHOW_AT),
         "draw" => program::draw(rt),
         "assemble" => program::assemble(rt),
         "list" => program::list(rt),

@@ -5,10 +5,7 @@ ghost use Rattle.std.specs.List.{starts_with};
 
 use super::attempt::{Attempt, Refused, ready};
 use super::texts::{EVENTS, TEXT, TRACE};
-use super::wanted::{
-    CHECK, LIST, PROFILE, PROFILE_BY_TASK, PROFILE_BY_UNIT, PROFILE_BY_WORD, PROFILE_ROW, RUN,
-    RUN_ROW, SCHEDULE, SCRIPT, SEQ, SHOW, SHOW_AT,
-};
+use super::wanted::{CHECK, LIST, RUN, SCRIPT, SEQ};
 use std::alloc::{AllocError, Global};
 use std::sync::Wait;
 use std::thread::Threads;
@@ -129,38 +126,31 @@ pub fn run<R: Threads + Wait + Sync + AllocGlobal>(rt: &R) -> Attempt {
     asked(rt, request, RUN)
 }
 
-/// Two tasks are run by four units in one thread, the youngest task first, and the trace is saved.
-pub fn schedule<R: Threads + Wait + Sync + AllocGlobal>(rt: &R) -> Attempt {
+/// Two tasks are run by four units in one thread, the youngest task first.
+pub fn schedule<'a, R: Threads + Wait + Sync + AllocGlobal>(
+    rt: &R,
+    trace: Option<&'a str>,
+    row: Option<TableRow<'a>>,
+    wanted: &str,
+) -> Attempt {
     let request = Request::Run {
         image: Source::File("p"),
         config: ready(Config::new(4, 16, 2, 100, 1000))?,
         schedule: Schedule::new(Order::Youngest, 63),
-        trace: Some("saved"),
-        row: None,
+        trace,
+        row,
     };
-    asked(rt, request, SCHEDULE)
+    asked(rt, request, wanted)
 }
 
-/// The same run is printed as a row of a table, after the names of the columns, and no trace is saved.
-pub fn run_row<R: Threads + Wait + Sync + AllocGlobal>(rt: &R) -> Attempt {
-    let request = Request::Run {
-        image: Source::File("p"),
-        config: ready(Config::new(4, 16, 2, 100, 1000))?,
-        schedule: Schedule::new(Order::Youngest, 63),
-        trace: None,
-        row: Some(HEADED),
-    };
-    asked(rt, request, RUN_ROW)
-}
-
-// A row of a table after the names of the columns.
-const HEADED: TableRow<'static> = TableRow {
+/// A row of a table after the names of the columns.
+pub const HEADED: TableRow<'static> = TableRow {
     label: "a",
     header: true,
 };
 
-// What the trace of ten events cost is told, by this table or in all.
-fn cost<R: Threads + Wait + Sync + AllocGlobal>(
+/// What the trace of ten events cost is told, by this table or in all.
+pub fn profile<R: Threads + Wait + Sync + AllocGlobal>(
     rt: &R,
     by: Option<Table<'_>>,
     wanted: &str,
@@ -174,33 +164,12 @@ fn cost<R: Threads + Wait + Sync + AllocGlobal>(
     asked(rt, request, wanted)
 }
 
-/// What the trace of ten events cost is told.
-pub fn profile<R: Threads + Wait + Sync + AllocGlobal>(rt: &R) -> Attempt {
-    cost(rt, None, PROFILE)
-}
-
-/// The same by task.
-pub fn profile_by_task<R: Threads + Wait + Sync + AllocGlobal>(rt: &R) -> Attempt {
-    cost(rt, Some(Table::Tasks), PROFILE_BY_TASK)
-}
-
-/// The same by unit.
-pub fn profile_by_unit<R: Threads + Wait + Sync + AllocGlobal>(rt: &R) -> Attempt {
-    cost(rt, Some(Table::Units), PROFILE_BY_UNIT)
-}
-
-/// The same by word.
-pub fn profile_by_word<R: Threads + Wait + Sync + AllocGlobal>(rt: &R) -> Attempt {
-    cost(rt, Some(Table::Words), PROFILE_BY_WORD)
-}
-
-/// The same as a row of a table.
-pub fn profile_row<R: Threads + Wait + Sync + AllocGlobal>(rt: &R) -> Attempt {
-    cost(rt, Some(Table::Row(HEADED)), PROFILE_ROW)
-}
-
-// The machine to which the trace of ten events leads is shown, after so many of them or after all.
-fn shown<R: Threads + Wait + Sync + AllocGlobal>(rt: &R, at: Option<u64>, wanted: &str) -> Attempt {
+/// The machine to which the trace of ten events leads is shown, after so many of them or after all.
+pub fn show<R: Threads + Wait + Sync + AllocGlobal>(
+    rt: &R,
+    at: Option<u64>,
+    wanted: &str,
+) -> Attempt {
     let request = Request::Show {
         image: Source::File("p"),
         config: ready(Config::new(4, 16, 2, 10, 1))?,
@@ -208,16 +177,6 @@ fn shown<R: Threads + Wait + Sync + AllocGlobal>(rt: &R, at: Option<u64>, wanted
         at,
     };
     asked(rt, request, wanted)
-}
-
-/// The machine is shown after all ten events.
-pub fn show<R: Threads + Wait + Sync + AllocGlobal>(rt: &R) -> Attempt {
-    shown(rt, None, SHOW)
-}
-
-/// The machine is shown after four of them.
-pub fn show_at<R: Threads + Wait + Sync + AllocGlobal>(rt: &R) -> Attempt {
-    shown(rt, Some(4), SHOW_AT)
 }
 
 /// A picture of the ten events is made, and saved.

@@ -1,4 +1,4 @@
-//! Tests of a bus: rows of calls with their answers.
+//! A bus: rows of calls with their answers.
 
 ghost use Rattle.std.specs.Prelude.{◌≡◌, ◌<◌, ◌≤◌, true, false, length, IfOk, IsTrue};
 ghost use Rattle.std.specs.Int.{is_power_of_two};
@@ -7,52 +7,33 @@ ghost use Rattle.svc_bus_laws.specs.Refusals.{is_head};
 ghost use Rattle.svc_bus.specs.Observed.{observed};
 ghost use Rattle.svc_bus.specs.Calls.{IsAtWork};
 
-use crate::{Bus, Served, Victim};
 use bitflags::Flags;
 use std::alloc::Global;
 use std::process::Abort;
 use std::test::Fail;
 use svc_base::{OpenError, Refusal, UnitId, WordAddr};
+use svc_bus::{Bus, Served, Victim};
 
 mod rows;
 
-// What the calls require, checked on a bus.
-#[tactic(auto, unfolding(crate::specs::Observed::observed))]
-impl Bus {
-    fn units(&self) -> usize
-        ensures { result ≡ (observed self.now).caches }
-    {
-        self.caches.len()
-    }
-
-    fn words(&self) -> usize
-        ensures { result ≡ (observed self.now).words }
-    {
-        self.backing.len()
-    }
-
-    fn tasks(&self) -> usize
-        ensures { result ≡ length (observed self.now).units }
-    {
-        self.queue.len()
-    }
-
-    fn runs_head(&self, unit: UnitId) -> bool
-        ensures { result ≡ is_head (observed self.now).units unit.0 }
-    {
-        match self.queue.head() {
-            Some(head) => head.0 == unit.0,
-            None => false,
-        }
-    }
-}
-
-#[tactic(auto, unfolding(crate::specs::Observed::observed))]
+// The unit has a task.
 fn is_at_work(bus: &Bus, unit: UnitId) -> bool
     ensures yes { result ≡ true → IsAtWork (observed bus.now) unit.0 }
     ensures no { result ≡ false → ¬ IsAtWork (observed bus.now) unit.0 }
 {
-    bus.queue.position(unit).is_some()
+    for position in 0..bus.active_tasks() {
+        if bus.unit_at(position).0 == unit.0 {
+            return true;
+        }
+    }
+    false
+}
+
+// The unit's task is the oldest one.
+fn runs_head(bus: &Bus, unit: UnitId) -> bool
+    ensures { result ≡ is_head (observed bus.now).units unit.0 }
+{
+    bus.active_tasks() > 0 && bus.unit_at(0).0 == unit.0
 }
 
 // A call of a bus.
@@ -115,14 +96,14 @@ fn begin(rt: &impl Abort, bus: &mut Bus, unit: UnitId) {
 }
 
 fn commit(rt: &impl Abort, bus: &mut Bus) {
-    assert!(rt; bus.tasks() > 0);
+    assert!(rt; bus.active_tasks() > 0);
     assert!(rt; bus.committed_tasks() < 1_000_000_000);
     bus.commit_head();
 }
 
 fn squash(rt: &impl Abort, bus: &mut Bus, unit: UnitId) {
     assert!(rt; is_at_work(bus, unit));
-    assert!(rt; !bus.runs_head(unit));
+    assert!(rt; !runs_head(bus, unit));
     bus.squash_from(unit);
 }
 

@@ -1,14 +1,14 @@
-//! Tests of a cache: which lines it holds, which one leaves, and how many places a step searches.
+//! A cache: which lines it holds, which one leaves, and how many places a step searches.
 
 ghost use Rattle.std.specs.Prelude.{◌≡◌, ◌≤◌, true};
 ghost use Rattle.svc_base.specs.declared.config.TheConstants.{MAX_SETS, MAX_WAYS};
 ghost use Rattle.svc_line.specs.Bits.{bits_of};
 
-use crate::{Cache, Probes, SetFull};
 use std::alloc::Global;
 use std::process::Abort;
 use std::test::Fail;
 use svc_base::{OpenError, WordAddr};
+use svc_cache::{Cache, Probes, SetFull};
 use svc_line::{Line, LineBits};
 
 // An active line with this value.
