@@ -1,16 +1,21 @@
 // Reads a text of a row for each item: what traces and scripts share.
 
-ghost use Rattle.std.specs.Prelude.{◌≡◌, ◌≤◌, ℕ, List, length, map, IfOk, IfErr, IfSome, MatchResult};
+ghost use Rattle.std.specs.Prelude.{◌≡◌, ◌≤◌, ℕ, List, [], Option, length, map, option_map, IfOk, IfErr, IfSome, MatchResult};
 ghost use Rattle.std.specs.List.{AllByRecursion};
+ghost use Rattle.csv.specs.Reading.{reader_state, source_of};
 ghost use Rattle.csv.specs.Records.{fields_of};
-ghost use Rattle.svc_report.specs.Records.{IsRead};
+ghost use Rattle.csv.specs.declared.parser.State.TheVariants as st;
+ghost use Rattle.svc_limited.specs.Limit.{readable};
+ghost use Rattle.svc_limited.specs.Places.{known_through};
+ghost use Rattle.svc_report.specs.Records.{IsOpen, IsRead};
 ghost use Rattle.svc_report.specs.Rows.{IsRowsFault, records_of};
 
 use crate::error::ReportError;
 use crate::records::{check_names, next_row, open};
-use csv::ByteRecord;
+use csv::{ByteRecord, Reader};
 use std::alloc::Global;
 use std::io::Read;
+use svc_limited::Limited;
 
 /// An item that has a row in a text.
 pub(crate) trait Row: Drop {
@@ -45,18 +50,39 @@ pub(crate) fn read_rows<T: Row, R: Read + Drop>(
 {
     let mut reader = open(alloc, reader);
     let mut row = ByteRecord::new(alloc);
-    if !next_row(&mut reader, &mut row)? {
+    let mut items = Vec::new(alloc);
+    add_rows(&mut reader, &mut row, names, &mut items)?;
+    Ok(items)
+}
+
+// Puts the items of a text's rows into an empty list. What it fills is lent, so that no early end lets it go.
+fn add_rows<T: Row, R: Read + Drop>(
+    reader: &mut Reader<Limited<R>>,
+    row: &mut ByteRecord,
+    names: &[&[u8]],
+    items: &mut Vec<T>,
+) -> Result<(), ReportError>
+    requires few { length names.now ≤ 100 }
+    requires open { IsOpen reader.old }
+    requires state { reader_state reader.old ≡ st.StartRecord }
+    requires empty { items.old.items ≡ [] }
+    ensures ok { (known : Option (List ℕ)) → source_of (known_through R.remaining) reader.old ≡ option_map readable known
+        → IfOk result (λ _. AllByRecursion T.has_row items.new.items × IfSome known
+        (λ text. IsRead text (records_of (map (λ n. n.now) names.now) T.columns items.new.items))) }
+    ensures err { (known : Option (List ℕ)) → source_of (known_through R.remaining) reader.old ≡ option_map readable known
+        → IfErr result (λ e. IsRowsFault (map (λ n. n.now) names.now) T.columns T.has_row T.first_bad known e) }
+{
+    if !next_row(reader, row)? {
         return Err(ReportError::Row { row: 1, column: 0 });
     }
-    if let Err(column) = check_names(&row, names) {
+    if let Err(column) = check_names(row, names) {
         return Err(ReportError::Row { row: 1, column });
     }
-    let mut items = Vec::new(alloc);
     for number in 2..u64::MAX {
-        if !next_row(&mut reader, &mut row)? {
-            return Ok(items);
+        if !next_row(reader, row)? {
+            return Ok(());
         }
-        match T::of(&row) {
+        match T::of(row) {
             Ok(item) => items.push(item)?,
             Err(column) => {
                 return Err(ReportError::Row {
