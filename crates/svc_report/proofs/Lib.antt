@@ -8,5 +8,4 @@ pub mod SameColumns
 pub mod RoundTrip
 pub mod Steps
 pub mod Tracks
-pub mod LegalRows
 pub mod Numerals

@@ -3,7 +3,6 @@
 
 mod counts;
 mod error;
-mod laws;
 mod lines;
 mod numbers;
 mod reading;
@@ -17,7 +16,6 @@ mod words;
 
 pub use counts::Counts;
 pub use error::ReportError;
-pub use laws::legal_history_has_rows;
 pub use script::{Step, StepKind, read_script};
 pub use summary::write_summary;
 pub use summary_row::write_summary_row;

@@ -3,8 +3,8 @@ use Rattle.std.proofs.Common.{subst}
 use Rattle.std.specs.List.{AllByRecursion}
 use Rattle.std.proofs.lemmas.List.{take_all}
 use Rattle.svc_machine_laws.specs.Standing.{opened_at}
-use Rattle.svc_report.proofs.LegalRows.{HasRowIfLegal, all_have_rows}
-use Rattle.svc_report.proofs.laws.legal_history_has_rows.Goals as goal
+use Rattle.svc_report_laws.proofs.LegalRows.{HasRowIfLegal, all_have_rows}
+use Rattle.svc_report_laws.proofs.rows.legal_history_has_rows.Goals as goal
 
 pub returns : goal.returns
 returns c = λ img config legal.

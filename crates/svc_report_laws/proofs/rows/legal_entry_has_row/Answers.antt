@@ -1,7 +1,7 @@
 -- The entry's type keeps each range but that of the local turns, and legality keeps that one.
 use Rattle.std.proofs.Common.{rules}
-use Rattle.svc_report.proofs.LegalRows.{few_turns}
-use Rattle.svc_report.proofs.laws.legal_entry_has_row.Goals as goal
+use Rattle.svc_report_laws.proofs.LegalRows.{few_turns}
+use Rattle.svc_report_laws.proofs.rows.legal_entry_has_row.Goals as goal
 
 pub returns : goal.returns
 returns c = λ img config s legal.
