@@ -63,14 +63,36 @@ fn a_configuration_keeps_its_numbers(rt: HostRuntime) {
 }
 
 #[test]
-fn errors_and_refusals_have_their_numbers(rt: HostRuntime) {
-    let numbers = [
-        OpenError::Memory.number(),
-        ConfigError::Units.number(),
-        ConfigError::Turns.number(),
-        Refusal::NoSuchUnit.number(),
-        Refusal::SetFull(WordAddr(3)).number(),
-        Refusal::EmptyBurst.number(),
-    ];
-    assert!(rt; numbers == [1, 1, 5, 1, 9, 17]);
+fn errors_have_their_numbers(rt: HostRuntime) {
+    assert_eq!(rt; OpenError::Memory.number(), 1);
+    assert_eq!(rt; ConfigError::Units.number(), 1);
+    assert_eq!(rt; ConfigError::Turns.number(), 5);
+}
+
+// The refusals, in the order in which one takes precedence over another.
+const REFUSALS: [Refusal; 17] = [
+    Refusal::NoSuchUnit,
+    Refusal::Busy,
+    Refusal::Idle,
+    Refusal::Stale,
+    Refusal::ForeignText,
+    Refusal::NotEntry,
+    Refusal::Stopped,
+    Refusal::Done,
+    Refusal::SetFull(WordAddr(3)),
+    Refusal::NotResident,
+    Refusal::Pinned,
+    Refusal::HeadNotDone,
+    Refusal::NoTask,
+    Refusal::IsHead,
+    Refusal::HistoryFull,
+    Refusal::EpochsSpent,
+    Refusal::EmptyBurst,
+];
+
+#[test]
+fn refusals_have_their_numbers(rt: HostRuntime) {
+    for (refusal, number) in REFUSALS.iter().zip(1..=17u8) {
+        assert_eq!(rt; refusal.number(), number);
+    }
 }

@@ -7,6 +7,10 @@ mod base;
 #[cfg(test)]
 mod bursts;
 #[cfg(test)]
+mod bus;
+#[cfg(test)]
+mod cache;
+#[cfg(test)]
 mod history;
 #[cfg(test)]
 mod images;

@@ -10,8 +10,7 @@ ghost use Rattle.svc_bus.specs.Calls.{IsAtWork};
 use bitflags::Flags;
 use std::alloc::Global;
 use std::process::Abort;
-use std::test::Fail;
-use svc_base::{OpenError, Refusal, UnitId, WordAddr};
+use svc_base::{Refusal, UnitId, WordAddr};
 use svc_bus::{Bus, Served, Victim};
 
 mod rows;
@@ -37,7 +36,7 @@ fn runs_head(bus: &Bus, unit: UnitId) -> bool
 }
 
 // A call of a bus.
-#[derive(Clone, Copy, Debug)]
+#[derive(Clone, Copy)]
 enum Step {
     Begin(u8),
     Read(u8, u32),
@@ -78,15 +77,15 @@ const T: u8 = 16;
 const UNITS: u32 = 4;
 
 // A bus of four units.
-fn open(rt: &impl Abort, alloc: Global, sets: u32, ways: u32, words: &[u32]) -> Result<Bus, Fail>
+fn open(rt: &impl Abort, alloc: Global, sets: u32, ways: u32, words: &[u32]) -> Bus
     requires few_sets { sets ≤ MAX_SETS }
     requires some_ways { 1 ≤ ways }
     requires few_ways { ways ≤ MAX_WAYS }
 {
     assert!(rt; sets.is_power_of_two());
     assert!(rt; words.len() < 100);
-    let memory = Vec::from_slice(alloc, words).map_err(|_| "memory")?;
-    Bus::open(alloc, UNITS, sets, ways, memory).map_err(|_| "memory".into())
+    let memory = Vec::from_slice(alloc, words).expect(rt, "memory");
+    Bus::open(alloc, UNITS, sets, ways, memory).expect(rt, "a bus")
 }
 
 fn begin(rt: &impl Abort, bus: &mut Bus, unit: UnitId) {

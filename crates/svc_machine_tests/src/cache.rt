@@ -6,8 +6,7 @@ ghost use Rattle.svc_line.specs.Bits.{bits_of};
 
 use std::alloc::Global;
 use std::process::Abort;
-use std::test::Fail;
-use svc_base::{OpenError, WordAddr};
+use svc_base::WordAddr;
 use svc_cache::{Cache, Probes, SetFull};
 use svc_line::{Line, LineBits};
 
@@ -23,7 +22,7 @@ fn line(value: u32) -> Line
 }
 
 // What is done to a cache.
-#[derive(Clone, Copy, Debug)]
+#[derive(Clone, Copy)]
 enum Step {
     Fill(u32, u32),
     Drop(u32),
@@ -50,14 +49,14 @@ struct Tested {
 }
 
 impl Tested {
-    fn open(rt: &impl Abort, alloc: Global, sets: u32, ways: u32) -> Result<Tested, OpenError>
+    fn open(rt: &impl Abort, alloc: Global, sets: u32, ways: u32) -> Tested
         requires few_sets { sets ≤ MAX_SETS }
         requires some_ways { 1 ≤ ways }
         requires few_ways { ways ≤ MAX_WAYS }
     {
         assert!(rt; sets.is_power_of_two());
-        let cache = Cache::open(alloc, sets, ways)?;
-        Ok(Tested { cache })
+        let cache = Cache::open(alloc, sets, ways).expect(rt, "a cache");
+        Tested { cache }
     }
 
     // The step's answer, and the probes that it took.
@@ -91,9 +90,9 @@ const FULL: Answer = Answer::Filled(Err(SetFull(WordAddr(0))));
 const FILLED: Answer = Answer::Filled(Ok(()));
 
 #[test]
-fn a_set_of_one_way_holds_one_line(rt: HostRuntime) -> Result<(), Fail> {
-    let mut cache = Tested::open(&rt, rt.alloc(), 2, 1).map_err(|_| "memory")?;
-    for (step, expected) in [
+fn a_set_of_one_way_holds_one_line(rt: HostRuntime) {
+    let mut cache = Tested::open(&rt, rt.alloc(), 2, 1);
+    let steps = [
         (Step::Fill(0, 10), FILLED),
         (Step::Fill(2, 12), FULL),
         (Step::Fill(1, 11), FILLED),
@@ -102,16 +101,16 @@ fn a_set_of_one_way_holds_one_line(rt: HostRuntime) -> Result<(), Fail> {
         (Step::Drop(0), Answer::Done),
         (Step::Fill(2, 12), FILLED),
         (Step::Lookup(0), Answer::Found(None)),
-    ] {
-        assert_eq!(rt; cache.perform(step).0, expected, "at {step:?}");
+    ];
+    for (number, (step, expected)) in steps.iter().enumerate() {
+        assert_eq!(rt; cache.perform(*step).0, *expected, "at step {number}");
     }
-    Ok(())
 }
 
 #[test]
-fn a_set_of_four_ways_holds_four_lines(rt: HostRuntime) -> Result<(), Fail> {
-    let mut cache = Tested::open(&rt, rt.alloc(), 256, 4).map_err(|_| "memory")?;
-    for (step, expected) in [
+fn a_set_of_four_ways_holds_four_lines(rt: HostRuntime) {
+    let mut cache = Tested::open(&rt, rt.alloc(), 256, 4);
+    let steps = [
         (Step::Fill(0, 1), FILLED),
         (Step::Fill(256, 2), FILLED),
         (Step::Fill(512, 3), FILLED),
@@ -123,24 +122,24 @@ fn a_set_of_four_ways_holds_four_lines(rt: HostRuntime) -> Result<(), Fail> {
         (Step::Fill(1024, 5), FILLED),
         (Step::Lookup(512), Answer::Found(None)),
         (Step::Lookup(768), Answer::Found(Some(line(4)))),
-    ] {
-        let (got, probes) = cache.perform(step);
-        assert_eq!(rt; got, expected, "at {step:?}");
+    ];
+    for (number, (step, expected)) in steps.iter().enumerate() {
+        let (got, probes) = cache.perform(*step);
+        assert_eq!(rt; got, *expected, "at step {number}");
         assert_eq!(rt; probes.searches, 1);
         assert!(rt; probes.places <= 4);
     }
-    Ok(())
 }
 
 // Two ways: a commit and a squash keep the committed line, which leaves before an active one.
 #[test]
-fn a_committed_line_stays_until_it_leaves(rt: HostRuntime) -> Result<(), Fail> {
+fn a_committed_line_stays_until_it_leaves(rt: HostRuntime) {
     let committed = Line {
         bits: LineBits::on_load(true, false).on_commit(),
         ..line(20)
     };
-    let mut cache = Tested::open(&rt, rt.alloc(), 2, 2).map_err(|_| "memory")?;
-    for (step, expected) in [
+    let mut cache = Tested::open(&rt, rt.alloc(), 2, 2);
+    let steps = [
         (Step::Fill(2, 20), FILLED),
         (Step::Commit, Answer::Done),
         (Step::Fill(0, 10), FILLED),
@@ -149,8 +148,8 @@ fn a_committed_line_stays_until_it_leaves(rt: HostRuntime) -> Result<(), Fail> {
         (Step::Lookup(0), Answer::Found(None)),
         (Step::Lookup(2), Answer::Found(Some(committed))),
         (Step::Full(4), Answer::Named(None)),
-    ] {
-        assert_eq!(rt; cache.perform(step).0, expected, "at {step:?}");
+    ];
+    for (number, (step, expected)) in steps.iter().enumerate() {
+        assert_eq!(rt; cache.perform(*step).0, *expected, "at step {number}");
     }
-    Ok(())
 }

@@ -17,24 +17,23 @@ fn shown(bits: u8, value: u32) -> Answer {
 
 // Each step in turn, with its answer and its look-ups.
 fn follow(rt: &impl Abort, bus: &mut Bus, steps: &[(Step, Answer)]) {
-    for (step, expected) in steps {
+    for (number, (step, expected)) in steps.iter().enumerate() {
         let before = bus.last_probes();
         let answer = perform(rt, bus, *step);
-        assert_eq!(rt; answer, *expected, "at {step:?}");
+        assert_eq!(rt; answer, *expected, "at step {number}");
         check_probes(rt, UNITS, answer, before, bus.last_probes());
     }
 }
 
 // The steps from an opened bus whose word 0 is 7.
-fn follow_from_start(rt: &impl Abort, alloc: Global, steps: &[(Step, Answer)]) -> Result<(), Fail> {
-    let mut bus = open(rt, alloc, 16, 2, &[7, 0, 0, 0])?;
+fn follow_from_start(rt: &impl Abort, alloc: Global, steps: &[(Step, Answer)]) {
+    let mut bus = open(rt, alloc, 16, 2, &[7, 0, 0, 0]);
     assert_eq!(rt; bus.last_probes(), 0);
     follow(rt, &mut bus, steps);
-    Ok(())
 }
 
 #[test]
-fn a_read_takes_the_version_of_the_nearest_earlier_task(rt: HostRuntime) -> Result<(), Fail> {
+fn a_read_takes_the_version_of_the_nearest_earlier_task(rt: HostRuntime) {
     follow_from_start(
         &rt,
         rt.alloc(),
@@ -56,7 +55,7 @@ fn a_read_takes_the_version_of_the_nearest_earlier_task(rt: HostRuntime) -> Resu
 }
 
 #[test]
-fn a_store_squashes_the_first_later_task_that_read_too_early(rt: HostRuntime) -> Result<(), Fail> {
+fn a_store_squashes_the_first_later_task_that_read_too_early(rt: HostRuntime) {
     let victim = Victim {
         first: TaskNo(1),
         tasks: 2,
@@ -80,7 +79,7 @@ fn a_store_squashes_the_first_later_task_that_read_too_early(rt: HostRuntime) ->
 }
 
 #[test]
-fn a_version_in_between_keeps_later_readers(rt: HostRuntime) -> Result<(), Fail> {
+fn a_version_in_between_keeps_later_readers(rt: HostRuntime) {
     follow_from_start(
         &rt,
         rt.alloc(),
@@ -98,7 +97,7 @@ fn a_version_in_between_keeps_later_readers(rt: HostRuntime) -> Result<(), Fail>
 }
 
 #[test]
-fn a_committed_version_stays_until_the_next_request(rt: HostRuntime) -> Result<(), Fail> {
+fn a_committed_version_stays_until_the_next_request(rt: HostRuntime) {
     follow_from_start(
         &rt,
         rt.alloc(),
@@ -121,7 +120,7 @@ fn a_committed_version_stays_until_the_next_request(rt: HostRuntime) -> Result<(
 }
 
 #[test]
-fn a_committed_copy_is_reused(rt: HostRuntime) -> Result<(), Fail> {
+fn a_committed_copy_is_reused(rt: HostRuntime) {
     follow_from_start(
         &rt,
         rt.alloc(),
@@ -136,7 +135,7 @@ fn a_committed_copy_is_reused(rt: HostRuntime) -> Result<(), Fail> {
 }
 
 #[test]
-fn a_stale_copy_is_filled_anew(rt: HostRuntime) -> Result<(), Fail> {
+fn a_stale_copy_is_filled_anew(rt: HostRuntime) {
     follow_from_start(
         &rt,
         rt.alloc(),
@@ -156,8 +155,8 @@ fn a_stale_copy_is_filled_anew(rt: HostRuntime) -> Result<(), Fail> {
 }
 
 #[test]
-fn a_full_set_asks_for_a_replacement(rt: HostRuntime) -> Result<(), Fail> {
-    let mut bus = open(&rt, rt.alloc(), 1, 1, &[0, 0])?;
+fn a_full_set_asks_for_a_replacement(rt: HostRuntime) {
+    let mut bus = open(&rt, rt.alloc(), 1, 1, &[0, 0]);
     follow(
         &rt,
         &mut bus,
@@ -191,11 +190,10 @@ fn a_full_set_asks_for_a_replacement(rt: HostRuntime) -> Result<(), Fail> {
             (Backing(1), Word(9)),
         ],
     );
-    Ok(())
 }
 
 #[test]
-fn a_replaced_version_of_the_head_goes_to_memory_with_it(rt: HostRuntime) -> Result<(), Fail> {
+fn a_replaced_version_of_the_head_goes_to_memory_with_it(rt: HostRuntime) {
     follow_from_start(
         &rt,
         rt.alloc(),
@@ -216,7 +214,7 @@ fn a_replaced_version_of_the_head_goes_to_memory_with_it(rt: HostRuntime) -> Res
 }
 
 #[test]
-fn a_store_of_the_head_empties_its_spill(rt: HostRuntime) -> Result<(), Fail> {
+fn a_store_of_the_head_empties_its_spill(rt: HostRuntime) {
     follow_from_start(
         &rt,
         rt.alloc(),
@@ -236,7 +234,7 @@ fn a_store_of_the_head_empties_its_spill(rt: HostRuntime) -> Result<(), Fail> {
 }
 
 #[test]
-fn tasks_order_versions_whatever_their_units(rt: HostRuntime) -> Result<(), Fail> {
+fn tasks_order_versions_whatever_their_units(rt: HostRuntime) {
     follow_from_start(
         &rt,
         rt.alloc(),
@@ -260,7 +258,7 @@ fn tasks_order_versions_whatever_their_units(rt: HostRuntime) -> Result<(), Fail
 }
 
 #[test]
-fn a_squash_in_the_middle_keeps_the_order(rt: HostRuntime) -> Result<(), Fail> {
+fn a_squash_in_the_middle_keeps_the_order(rt: HostRuntime) {
     follow_from_start(
         &rt,
         rt.alloc(),
@@ -291,7 +289,7 @@ fn a_squash_in_the_middle_keeps_the_order(rt: HostRuntime) -> Result<(), Fail> {
 // One look-up in each of the four caches, one for the line that is put in, and one for each line that is purged or
 // marked stale; a hit looks into its own cache alone.
 #[test]
-fn the_look_ups_of_each_call_are_told(rt: HostRuntime) -> Result<(), Fail> {
+fn the_look_ups_of_each_call_are_told(rt: HostRuntime) {
     let calls = [
         (Begin(0), 0),
         // from memory, and then a hit
@@ -311,10 +309,9 @@ fn the_look_ups_of_each_call_are_told(rt: HostRuntime) -> Result<(), Fail> {
         (Read(2, 0), 5),
         (Replace(3, 0), 5),
     ];
-    let mut bus = open(&rt, rt.alloc(), 16, 2, &[7, 0, 0, 0])?;
-    for (step, look_ups) in &calls {
+    let mut bus = open(&rt, rt.alloc(), 16, 2, &[7, 0, 0, 0]);
+    for (number, (step, look_ups)) in calls.iter().enumerate() {
         perform(&rt, &mut bus, *step);
-        assert_eq!(&rt; bus.last_probes(), *look_ups, "at {step:?}");
+        assert_eq!(&rt; bus.last_probes(), *look_ups, "at step {number}");
     }
-    Ok(())
 }
