@@ -1,6 +1,6 @@
 //! What the gate runs, as standard input says line by line. `cases` runs each case of a list through the program, over files
 //! in memory, and says of each that it is as wanted, or where it first differs. Any other line names a call, of which is
-//! said what it answers where memory is refused.
+//! said whether it answers rightly, also where memory is refused.
 #![tactic(auto)]
 
 mod case;
@@ -13,10 +13,10 @@ use case::Case;
 use error::CaseError;
 use folder::Folder;
 use memory::answer;
-use std::fs;
 use std::rt::Files;
 use std::sync::Wait;
 use std::thread::Threads;
+use std::{fs, str};
 use svc_command::execute;
 use svc_outcome::{Outcome, Part};
 
@@ -90,18 +90,21 @@ fn tell_line<R: Print>(
     found: &[u8],
     wanted: &[u8],
 ) -> Result<(), CaseError> {
-    let found = std::str::from_utf8(found).unwrap_or("(no text)");
-    let wanted = std::str::from_utf8(wanted).unwrap_or("(no text)");
+    let found = str::from_utf8(found).unwrap_or("(no text)");
+    let wanted = str::from_utf8(wanted).unwrap_or("(no text)");
+    let (line, other) = first_other_lines(found, wanted);
+    println!(rt; "{name}: {part} has '{line}' and not '{other}'")?;
+    Ok(())
+}
+
+// The first lines in which two texts differ.
+fn first_other_lines<'a>(found: &'a str, wanted: &'a str) -> (&'a str, &'a str) {
     let mut others = wanted.lines();
     for line in found.lines() {
-        let other = others.next();
-        if other != Some(line) {
-            let other = other.unwrap_or("(its end)");
-            println!(rt; "{name}: {part} has '{line}' and not '{other}'")?;
-            return Ok(());
+        let other = others.next().unwrap_or("(its end)");
+        if line != other {
+            return (line, other);
         }
     }
-    let other = others.next().unwrap_or("(its end)");
-    println!(rt; "{name}: {part} ends, and lacks '{other}'")?;
-    Ok(())
+    ("(its end)", others.next().unwrap_or("(its end)"))
 }

@@ -1,14 +1,16 @@
-//! What each call that takes memory answers where one of its requests is refused. Which one is up to whoever runs this:
+//! What calls answer, also where one of their requests for memory is refused. Which one is up to whoever runs this:
 //! `rt try --fail-alloc N` refuses the Nth of all requests, and a line of standard input names a call and how many requests
 //! are made before it. After a name alone memory is taken to be ample.
 
 mod attempt;
 mod call;
+mod help;
 mod history;
 mod images;
 mod machines;
 mod program;
 mod requests;
+mod system;
 mod texts;
 mod threads;
 mod wanted;
@@ -16,6 +18,7 @@ mod wanted;
 use self::attempt::Seen;
 use self::call::seen;
 use self::requests::refused_within;
+use std::rt::Files;
 use std::sync::Wait;
 use std::thread::Threads;
 
@@ -23,7 +26,7 @@ use std::thread::Threads;
 const AFTER: u32 = 2_000;
 
 /// What is seen of the call that a line names.
-pub fn answer<R: Threads + Wait + Sync + AllocGlobal>(rt: &R, line: &str) -> &'static str {
+pub fn answer<R: Files + Threads + Wait + Sync + AllocGlobal>(rt: &R, line: &str) -> &'static str {
     let (name, before) = match line.split_once(' ') {
         Some((name, before)) => (name, before.parse::<u32>().ok()),
         None => (line, None),
@@ -35,7 +38,11 @@ pub fn answer<R: Threads + Wait + Sync + AllocGlobal>(rt: &R, line: &str) -> &'s
 }
 
 // What is seen of a call after so many other requests for memory, where one of all requests is refused.
-fn seen_after<R: Threads + Wait + Sync + AllocGlobal>(rt: &R, name: &str, before: u32) -> Seen {
+fn seen_after<R: Files + Threads + Wait + Sync + AllocGlobal>(
+    rt: &R,
+    name: &str,
+    before: u32,
+) -> Seen {
     if refused_within(rt.alloc(), before) {
         return Seen::Before;
     }

@@ -1,14 +1,10 @@
-//! Tests of the crates that read and write text: assembly, histories' texts, the program's output, the command line and the
-//! disk. They use what these crates make public, and no more.
+//! Tests of the crates that read and write text: assembly, histories' texts, the program's output. They use what these crates
+//! make public, and no more.
 
 #![tactic(auto)]
 
 #[cfg(test)]
 mod assembly;
-#[cfg(test)]
-mod command;
-#[cfg(test)]
-mod disk;
 #[cfg(test)]
 mod failing;
 #[cfg(test)]

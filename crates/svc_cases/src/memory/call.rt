@@ -6,13 +6,14 @@ use super::wanted::{
     PROFILE, PROFILE_BY_TASK, PROFILE_BY_UNIT, PROFILE_BY_WORD, PROFILE_ROW, RUN_ROW, SCHEDULE,
     SHOW, SHOW_AT,
 };
-use super::{images, machines, texts, threads};
+use super::{help, images, machines, system, texts, threads};
+use std::rt::Files;
 use std::sync::Wait;
 use std::thread::Threads;
 use svc_program::Table;
 
 // Makes the call of this name; none where no call has it.
-fn attempt<R: Threads + Wait + Sync + AllocGlobal>(rt: &R, name: &str) -> Option<Attempt> {
+fn attempt<R: Files + Threads + Wait + Sync + AllocGlobal>(rt: &R, name: &str) -> Option<Attempt> {
     let alloc = rt.alloc();
     let attempt = match name {
         "image_read" => images::read(alloc),
@@ -50,13 +51,20 @@ fn attempt<R: Threads + Wait + Sync + AllocGlobal>(rt: &R, name: &str) -> Option
         "draw" => program::draw(rt),
         "assemble" => program::assemble(rt),
         "list" => program::list(rt),
+        "words" => system::words(alloc),
+        "words_that_are_no_text" => system::words_that_are_no_text(alloc),
+        "disk" => system::disk(rt),
+        "help_explains_each_option" => help::explains_each_option(rt),
+        "each_help_has_an_example" => help::has_an_example(rt),
+        "help_ends_with_the_faults" => help::ends_with_the_faults(rt),
+        "ten_thousand_words" => help::ten_thousand_words(rt),
         _ => return None,
     };
     Some(attempt)
 }
 
 /// Makes the call of this name, and once more where it told that memory was refused.
-pub fn seen<R: Threads + Wait + Sync + AllocGlobal>(rt: &R, name: &str) -> Seen {
+pub fn seen<R: Files + Threads + Wait + Sync + AllocGlobal>(rt: &R, name: &str) -> Seen {
     match attempt(rt, name) {
         None => Seen::Unknown,
         Some(Ok(true)) => Seen::Ample,

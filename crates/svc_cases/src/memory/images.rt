@@ -14,9 +14,9 @@ pub fn sample(alloc: Global) -> Result<Image, Refused> {
 
 // The image is that of two tasks.
 fn is_sample(image: &Image) -> bool {
-    image.entries() == [0, 12].as_slice()
-        && image.data_words() == [0, 0].as_slice()
-        && image.fetch(16).word == Some(0x0002_A503)
+    matches!(image.entries(), [0, 12])
+        && matches!(image.data_words(), [0, 0])
+        && matches!(image.fetch(16).word, Some(0x0002_A503))
 }
 
 /// The sample is read.

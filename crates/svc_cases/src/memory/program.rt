@@ -16,9 +16,9 @@ use svc_program::{
     FileFault, Files, Order, Request, Schedule, Source, Table, TableRow, perform, tell,
 };
 
-// The files that the words name. What is saved is as if it had gone to a disk.
+/// The files that the words name. What is saved is as if it had gone to a disk.
 #[derive(Drop)]
-struct Samples;
+pub struct Samples;
 
 // The image of two tasks.
 static IMAGE: [u8; 200] = P;
@@ -59,10 +59,10 @@ fn judged(status: u8, out: &[u8], err: &[u8], wanted: &str) -> Attempt
     }
 }
 
-// The words that ask for both tasks in order, the program's name first.
-fn words(alloc: Global) -> Result<Vec<String>, AllocError> {
+/// These words of a command line.
+pub fn line(alloc: Global, words: &[&str]) -> Result<Vec<String>, AllocError> {
     let mut line = Vec::new(alloc);
-    for word in ["svcsim", "seq", "p", "--tasks", "2"] {
+    for word in words {
         line.push(String::from_str(alloc, word)?)?;
     }
     Ok(line)
@@ -71,7 +71,7 @@ fn words(alloc: Global) -> Result<Vec<String>, AllocError> {
 /// Both tasks are run in order, as the words of a command line say.
 pub fn seq<R: Threads + Wait + Sync + AllocGlobal>(rt: &R) -> Attempt {
     let alloc = rt.alloc();
-    let words = ready(words(alloc))?;
+    let words = ready(line(alloc, &["svcsim", "seq", "p", "--tasks", "2"]))?;
     let mut out = Vec::new(alloc);
     let mut err = Vec::new(alloc);
     let status = execute(rt, alloc, &words, &mut Samples, &mut out, &mut err);

@@ -1,5 +1,7 @@
 //! A unit's turns over a shared bus.
 
+ghost use Rattle.std.specs.Prelude.{◌≡◌};
+
 use super::attempt::{Attempt, Refused, ready};
 use std::alloc::Global;
 use std::sync::Wait;
@@ -8,7 +10,7 @@ use svc_core_laws::Ending;
 use svc_history::{Entry, Recorder, ReplyKind};
 use svc_image::Image;
 use svc_image::samples::P1;
-use svc_threads::{Gate, Phase, RunError, SharedBus, run_unit};
+use svc_threads::{BoardPass, Gate, Phase, RunError, SharedBus, run_unit};
 
 // Lets every event through.
 struct Open;
@@ -56,22 +58,41 @@ fn are_first(entries: &[Entry]) -> bool {
     true
 }
 
+// How many slips the unit's thread brings back.
+fn slips<R: Wait>(
+    rt: &R,
+    alloc: Global,
+    bus: &SharedBus,
+    pass: BoardPass,
+    image: &Image,
+) -> Result<usize, RunError>
+    requires { pass.board ≡ bus.now }
+{
+    run_unit(rt, alloc, bus, UnitId(0), pass, image, TURNS, &Open).map(|slips| slips.len())
+}
+
+// The thread has brought back a slip of each event and the task is committed, or it has told that memory was refused.
+fn judged(slips: Result<usize, RunError>, recorder: &Recorder) -> Attempt {
+    let begins_rightly = are_first(recorder.entries());
+    match slips {
+        Ok(slips) => Ok(
+            begins_rightly
+                && slips == REPLIES.len()
+                && recorder.machine().ending() == Ending::Exit(5),
+        ),
+        Err(RunError::Memory) if begins_rightly => Err(Refused::Told),
+        Err(_) => Ok(false),
+    }
+}
+
 /// A unit runs one task over a bus of its own.
 pub fn run_alone<R: Wait>(rt: &R, alloc: Global) -> Attempt {
     let image = one_task(alloc)?;
-    let (bus, pass) = match SharedBus::open(rt, alloc, one_unit(alloc)?) {
-        Ok(opened) => opened,
-        Err(OpenError::Memory) => return Err(Refused::Told),
-    };
-    let ended = run_unit(rt, alloc, &bus, UnitId(0), pass, &image, TURNS, &Open);
-    let recorder = bus.into_recorder();
-    match ended {
-        Ok(slips) => Ok(
-            slips.len() == 6
-                && are_first(recorder.entries())
-                && recorder.machine().ending() == Ending::Exit(5),
-        ),
-        Err(RunError::Memory) if are_first(recorder.entries()) => Err(Refused::Told),
-        Err(_) => Ok(false),
+    match SharedBus::open(rt, alloc, one_unit(alloc)?) {
+        Ok((bus, pass)) => {
+            let slips = slips(rt, alloc, &bus, pass, &image);
+            judged(slips, &bus.into_recorder())
+        }
+        Err(OpenError::Memory) => Err(Refused::Told),
     }
 }
