@@ -1,7 +1,7 @@
 // Units whose cache has no room.
 
 use crate::gates::Open;
-use crate::given::{Left, count, run, two_tasks};
+use crate::given::{Left, count, image_of, put, run, two_tasks};
 use std::alloc::Global;
 use std::process::Abort;
 use std::sync::Wait;
@@ -18,8 +18,8 @@ use svc_threads::{Board, Port, run_unit};
 // The sample of one task, whose load is of the next word.
 fn two_words(rt: &impl Abort, alloc: Global) -> Image {
     let mut bytes = samples::P1;
-    bytes[168..172].copy_from_slice(&0x0042_A503_u32.to_le_bytes());
-    Image::read(alloc, &bytes).expect(rt, "an image")
+    put(&mut bytes, 168, 0x0042_A503);
+    image_of(rt, alloc, &bytes)
 }
 
 // What the run of one unit leaves whose cache has one place, after so many turns.

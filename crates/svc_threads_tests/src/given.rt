@@ -46,8 +46,8 @@ pub(crate) const WRONG_GUESS: [Step; 6] = [
     Step::Assign(1, 0),
 ];
 
-// The image of a file.
-fn image_of(rt: &impl Abort, alloc: Global, file: &[u8]) -> Image {
+/// The image of a file.
+pub(crate) fn image_of(rt: &impl Abort, alloc: Global, file: &[u8]) -> Image {
     Image::read(alloc, file).expect(rt, "an image")
 }
 
@@ -61,11 +61,18 @@ pub(crate) fn one_task(rt: &impl Abort, alloc: Global) -> Image {
     image_of(rt, alloc, &samples::P1)
 }
 
+/// Puts a word at a place of a file's bytes.
+pub(crate) fn put(bytes: &mut [u8], place: usize, word: u32) {
+    for (byte, new) in bytes.iter_mut().skip(place).zip(word.to_le_bytes()) {
+        *byte = new;
+    }
+}
+
 /// The sample of two tasks, with another limit of turns and another word in place of its store.
 pub(crate) fn changed(rt: &impl Abort, alloc: Global, limit: u32, word: u32) -> Image {
     let mut bytes = samples::P;
-    bytes[16..20].copy_from_slice(&limit.to_le_bytes());
-    bytes[164..168].copy_from_slice(&word.to_le_bytes());
+    put(&mut bytes, 16, limit);
+    put(&mut bytes, 164, word);
     image_of(rt, alloc, &bytes)
 }
 

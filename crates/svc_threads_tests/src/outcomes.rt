@@ -11,18 +11,13 @@ use svc_image::Image;
 use svc_threads::{RunError, SharedBus, reconcile};
 
 // The slips of the script with the violation, each of whose steps is accepted.
-fn slips_of<R: Wait + Abort>(rt: &R, alloc: Global, bus: &SharedBus) -> Vec<Slip> {
+fn slips_of<R: Wait + Abort>(rt: &R, alloc: Global, bus: &SharedBus) -> [Slip; 10] {
     let image = two_tasks(rt, alloc);
-    let mut slips = Vec::new(alloc);
-    for step in VIOLATION {
-        let slip = take(rt, bus, &image, step).expect(rt, "an accepted step");
-        slips.push(slip).expect(rt, "memory");
-    }
-    slips
+    VIOLATION.map(|step| take(rt, bus, &image, step).expect(rt, "an accepted step"))
 }
 
 // The recorder that the script leaves, and its slips.
-fn played<R: Wait + Abort>(rt: &R, alloc: Global) -> (Recorder, Vec<Slip>) {
+fn played<R: Wait + Abort>(rt: &R, alloc: Global) -> (Recorder, [Slip; 10]) {
     let config = config(rt, 4, 16, 100_000, 1_000_000);
     let (bus, _pass) = opened(rt, alloc, two_tasks(rt, alloc), config);
     let slips = slips_of(rt, alloc, &bus);
@@ -49,7 +44,7 @@ fn brought(rt: &impl Abort, alloc: Global, slips: &[Slip], lists: &[&[usize]]) -
     all
 }
 
-// What reconciling answers for this image and configuration, where the units' threads bring back these slips of the
+// The fault that reconciling finds for this image and configuration, where the units' threads bring back these slips of the
 // script.
 fn reconciled<R: Wait + Abort>(
     rt: &R,
@@ -57,17 +52,14 @@ fn reconciled<R: Wait + Abort>(
     image: &Image,
     given: Config,
     lists: &[&[usize]],
-) -> Result<(), RunError> {
+) -> Option<RunError> {
     let (recorder, slips) = played(rt, alloc);
     let lists = brought(rt, alloc, &slips, lists);
-    match reconcile(image, given, recorder, lists) {
-        Ok(_) => Ok(()),
-        Err(fault) => Err(fault),
-    }
+    reconcile(image, given, recorder, lists).err()
 }
 
 // The same for the sample of two tasks, and the script's configuration.
-fn own<R: Wait + Abort>(rt: &R, alloc: Global, lists: &[&[usize]]) -> Result<(), RunError> {
+fn own<R: Wait + Abort>(rt: &R, alloc: Global, lists: &[&[usize]]) -> Option<RunError> {
     let given = config(rt, 4, 16, 100_000, 1_000_000);
     reconciled(rt, alloc, &two_tasks(rt, alloc), given, lists)
 }
@@ -78,8 +70,8 @@ const SECOND: &[usize] = &[1, 2, 5, 6, 7, 8, 9];
 #[test]
 fn slips_are_the_history(rt: HostRuntime) {
     let answer = own(&rt, rt.alloc(), &[&[0, 3, 4], SECOND, &[], &[]]);
-    assert_eq!(rt; answer, Ok(()));
-    let torn = Err(RunError::Torn);
+    assert_eq!(rt; answer, None);
+    let torn = Some(RunError::Torn);
     let answer = own(&rt, rt.alloc(), &[&[0, 4], SECOND, &[], &[]]);
     assert_eq!(rt; answer, torn);
     let answer = own(&rt, rt.alloc(), &[&[3, 0, 4], SECOND, &[], &[]]);
@@ -91,19 +83,19 @@ fn slips_are_the_history(rt: HostRuntime) {
 // The lists of three units.
 const THREE: &[&[usize]] = &[&[0, 3, 4], SECOND, &[]];
 
-fn for_one_task<R: Wait + Abort>(rt: &R, alloc: Global) -> Result<(), RunError> {
+fn for_one_task<R: Wait + Abort>(rt: &R, alloc: Global) -> Option<RunError> {
     let given = config(rt, 4, 16, 100_000, 1_000_000);
     reconciled(rt, alloc, &one_task(rt, alloc), given, THREE)
 }
 
-fn for_few_sets<R: Wait + Abort>(rt: &R, alloc: Global) -> Result<(), RunError> {
+fn for_few_sets<R: Wait + Abort>(rt: &R, alloc: Global) -> Option<RunError> {
     let given = config(rt, 4, 8, 100_000, 1_000_000);
     reconciled(rt, alloc, &two_tasks(rt, alloc), given, THREE)
 }
 
 #[test]
 fn a_foreign_recorder_is_told_first(rt: HostRuntime) {
-    let foreign = Err(RunError::ForeignImage);
+    let foreign = Some(RunError::ForeignImage);
     assert_eq!(rt; for_one_task(&rt, rt.alloc()), foreign);
     assert_eq!(rt; for_few_sets(&rt, rt.alloc()), foreign);
 }

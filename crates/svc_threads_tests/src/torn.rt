@@ -58,34 +58,31 @@ impl Shared for Damaged {
     }
 }
 
-// What a run on one unit over such a bus ends with.
-fn ending<R: Threads + Wait + Abort + Sync>(
+// The fault with which a run on one unit over such a bus ends.
+fn fault<R: Threads + Wait + Abort + Sync>(
     rt: &R,
     alloc: Global,
     damage: Damage,
-) -> Result<(), RunError> {
+) -> Option<RunError> {
     let config = config(rt, 1, 16, 100, 50);
     let (bus, pass) = opened(rt, alloc, one_task(rt, alloc), config);
     let image = one_task(rt, alloc);
     let port = Damaged { bus, damage };
-    match run_over(rt, alloc, port, pass, &image, config, &Open) {
-        Ok(_) => Ok(()),
-        Err(fault) => Err(fault),
-    }
+    run_over(rt, alloc, port, pass, &image, config, &Open).err()
 }
 
 // The run has six events: the assignment, four submits and the commit.
 #[test]
 fn a_damaged_slip_tears_the_run(rt: HostRuntime) {
-    assert_eq!(rt; ending(&rt, rt.alloc(), Damage::Nothing), Ok(()));
-    assert_eq!(rt; ending(&rt, rt.alloc(), Damage::Lost(6)), Ok(()));
-    let torn = Err(RunError::Torn);
+    assert_eq!(rt; fault(&rt, rt.alloc(), Damage::Nothing), None);
+    assert_eq!(rt; fault(&rt, rt.alloc(), Damage::Lost(6)), None);
+    let torn = Some(RunError::Torn);
     for index in 0..6 {
-        assert_eq!(rt; ending(&rt, rt.alloc(), Damage::Lost(index)), torn);
-        assert_eq!(rt; ending(&rt, rt.alloc(), Damage::Changed(index)), torn);
+        assert_eq!(rt; fault(&rt, rt.alloc(), Damage::Lost(index)), torn);
+        assert_eq!(rt; fault(&rt, rt.alloc(), Damage::Changed(index)), torn);
         let other = (index + 1) % 6;
         assert_eq!(rt;
-            ending(&rt, rt.alloc(), Damage::Exchanged(index, other)),
+            fault(&rt, rt.alloc(), Damage::Exchanged(index, other)),
             torn
         );
     }
