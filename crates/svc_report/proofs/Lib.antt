@@ -1,3 +1,4 @@
+pub mod CountRows
 pub mod Counting
 pub mod Pending
 pub mod PlainLines

@@ -88,45 +88,30 @@ ending_number (ending.Open entry) = entry
 abbrev pub ending_row : Ending → List ℕ
 ending_row e = number_row (ending_word e) (ending_number e)
 
--- the counts in their order, and their names
-abbrev pub kind_names : List (List ℕ)
-kind_names = codes "kind-assign" ∷ codes "kind-submit" ∷ codes "kind-replace" ∷ codes "kind-cancel" ∷ codes "kind-commit" ∷ []
+-- the names of the counts, in their order
+abbrev pub count_names : List (List ℕ)
+count_names =
+    codes "kind-assign" ∷ codes "kind-submit" ∷ codes "kind-replace" ∷ codes "kind-cancel" ∷ codes "kind-commit"
+    ∷ codes "served-hit" ∷ codes "served-reuse" ∷ codes "served-version" ∷ codes "served-spill" ∷ codes "served-committed" ∷ codes "served-memory"
+    ∷ codes "cut-violation" ∷ codes "cut-guess" ∷ codes "cut-cancel" ∷ []
 
-abbrev pub kind_numbers : Counts → List ℕ
-kind_numbers c = c.assign ∷ c.submit ∷ c.replace ∷ c.cancel ∷ c.commit ∷ []
-
-abbrev pub supplier_names : List (List ℕ)
-supplier_names = codes "served-hit" ∷ codes "served-reuse" ∷ codes "served-version" ∷ codes "served-spill" ∷ codes "served-committed" ∷ codes "served-memory" ∷ []
-
-abbrev pub supplier_numbers : Counts → List ℕ
-supplier_numbers c = c.hit ∷ c.reuse ∷ c.version ∷ c.spill ∷ c.committed ∷ c.memory ∷ []
-
-abbrev pub cause_names : List (List ℕ)
-cause_names = codes "cut-violation" ∷ codes "cut-guess" ∷ codes "cut-cancel" ∷ []
-
-abbrev pub cause_numbers : Counts → List ℕ
-cause_numbers c = c.violation ∷ c.guess ∷ c.cancelled ∷ []
+-- the counts in this order
+abbrev pub count_numbers : Counts → List ℕ
+count_numbers c =
+    c.assign ∷ c.submit ∷ c.replace ∷ c.cancel ∷ c.commit
+    ∷ c.hit ∷ c.reuse ∷ c.version ∷ c.spill ∷ c.committed ∷ c.memory
+    ∷ c.violation ∷ c.guess ∷ c.cancelled ∷ []
 
 -- a row for each name and its number
 abbrev pub number_rows : List (List ℕ) → List ℕ → List ℕ
 number_rows [] numbers = []
 number_rows (name ∷ names) [] = []
-number_rows (name ∷ []) (number ∷ numbers) = number_row name number
-number_rows (name ∷ next ∷ names) (number ∷ numbers) = number_row name number ++ number_rows (next ∷ names) numbers
-
-abbrev pub kind_rows : Counts → List ℕ
-kind_rows c = number_rows kind_names (kind_numbers c)
-
-abbrev pub supplier_rows : Counts → List ℕ
-supplier_rows c = number_rows supplier_names (supplier_numbers c)
-
-abbrev pub cause_rows : Counts → List ℕ
-cause_rows c = number_rows cause_names (cause_numbers c)
+number_rows (name ∷ names) (number ∷ numbers) = number_row name number ++ number_rows names numbers
 
 -- a row for each count, where they are given
 abbrev pub counts_rows : Option Counts → List ℕ
 counts_rows None = []
-counts_rows (Some c) = kind_rows c ++ (supplier_rows c ++ cause_rows c)
+counts_rows (Some c) = number_rows count_names (count_numbers c)
 
 -- the words put out, the number of tasks, the ending, and the counts where they are given
 abbrev pub summary_of : List ℕ → ℕ → Ending → Option Counts → List ℕ

@@ -4,19 +4,19 @@ use Rattle.csv.specs.Writing.{default_writer, row_text}
 use Rattle.svc_core_laws.specs.declared.end.Ending.{Ending}
 use Rattle.svc_report.specs.declared.counts.Counts.{Counts}
 use Rattle.svc_report.specs.declared.table.TableRow.{TableRow}
-use Rattle.svc_report.specs.Summary.{cause_names, cause_numbers, ending_number, ending_word, kind_names, kind_numbers, supplier_names, supplier_numbers}
+use Rattle.svc_report.specs.Summary.{count_names, count_numbers, ending_number, ending_word}
 
 -- the line of a table's fields, as `csv` writes it, after that of its columns' names where there is to be a header
 abbrev pub table_text : Bool → List (List ℕ) → List (List ℕ) → List ℕ
 table_text header names fields = cond header (row_text default_writer names) [] ++ row_text default_writer fields
 
 abbrev pub summary_names : List (List ℕ)
-summary_names = codes "label" ∷ codes "tasks" ∷ codes "ending" ∷ codes "number" ∷ (kind_names ++ (supplier_names ++ cause_names))
+summary_names = codes "label" ∷ codes "tasks" ∷ codes "ending" ∷ codes "number" ∷ count_names
 
 abbrev pub summary_fields : List ℕ → ℕ → Ending → Counts → List (List ℕ)
 summary_fields label tasks ending c =
     label ∷ decimal tasks ∷ ending_word ending ∷ decimal (ending_number ending)
-    ∷ map decimal (kind_numbers c ++ (supplier_numbers c ++ cause_numbers c))
+    ∷ map decimal (count_numbers c)
 
 -- what a summary says but for the words put out, under the names of its rows
 abbrev pub summary_row : TableRow → ℕ → Ending → Counts → List ℕ

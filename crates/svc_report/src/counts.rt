@@ -2,7 +2,7 @@
 
 ghost use Rattle.std.specs.Prelude.{◌≡◌, [], Some};
 ghost use Rattle.svc_report.specs.Counting.{with_kind, with_supplier, with_cause, with_entry, HaveRoomForKind, HaveRoomForSupplier, HaveRoomForCause};
-ghost use Rattle.svc_report.specs.Summary.{counts_of};
+ghost use Rattle.svc_report.specs.Summary.{count_numbers, counts_of};
 
 use svc_history_laws::{CutKind, Entry, Kind, ServedKind};
 
@@ -50,6 +50,28 @@ impl Counts {
             counts.add(entry);
         }
         counts
+    }
+
+    /// The counts in the order in which they are shown.
+    pub(crate) fn numbers(&self) -> [u64; 14]
+        ensures { result ≡ count_numbers self.now }
+    {
+        [
+            self.assign,
+            self.submit,
+            self.replace,
+            self.cancel,
+            self.commit,
+            self.hit,
+            self.reuse,
+            self.version,
+            self.spill,
+            self.committed,
+            self.memory,
+            self.violation,
+            self.guess,
+            self.cancelled,
+        ]
     }
 
     // The counts of no entries.

@@ -1,10 +1,10 @@
 // Summaries of runs.
 
-ghost use Rattle.std.specs.Prelude.{◌≡◌, OnOk, IfErr};
+ghost use Rattle.std.specs.Prelude.{◌≡◌, All, OnOk, IfErr, length, map};
 ghost use Rattle.std.specs.Io.KnownBytes.{Appends, append_known};
 ghost use Rattle.svc_report.specs.Faults.{IsWriteFault};
 ghost use Rattle.svc_report.specs.Lines.{IsPlain};
-ghost use Rattle.svc_report.specs.Summary.{number_row, output_rows, ending_number, ending_row, ending_word, kind_rows, supplier_rows, cause_rows, counts_rows, summary_of};
+ghost use Rattle.svc_report.specs.Summary.{number_row, output_rows, ending_number, ending_row, ending_word, number_rows, summary_of};
 
 use crate::counts::Counts;
 use crate::error::ReportError;
@@ -84,72 +84,63 @@ fn write_ending<W: Write>(
     write_number(pending, ending_word(ending), ending_number(ending), w)
 }
 
-// Writes the counts of kinds.
-fn write_kinds<W: Write>(
+// The names of the counts, in the order in which they are shown.
+const NAMES: [&str; 14] = [
+    "kind-assign",
+    "kind-submit",
+    "kind-replace",
+    "kind-cancel",
+    "kind-commit",
+    "served-hit",
+    "served-reuse",
+    "served-version",
+    "served-spill",
+    "served-committed",
+    "served-memory",
+    "cut-violation",
+    "cut-guess",
+    "cut-cancel",
+];
+
+// Writes a row for each name and its number.
+fn write_numbers<W: Write>(
     pending: &mut Pending,
-    counts: &Counts,
+    names: &[&str],
+    numbers: &[u64],
     w: &mut W,
 ) -> Result<(), ReportError>
+    requires plain { All (λ name. IsPlain name.now) names.now }
+    requires each { length names.now ≡ length numbers.now }
     ensures ok { OnOk result (Appends (append_known (W.contents w.old) pending.old)
-        (append_known (W.contents w.new) pending.new) (kind_rows counts.now)) }
+        (append_known (W.contents w.new) pending.new) (number_rows (map (λ name. name.now) names.now) numbers.now)) }
     ensures err { IfErr result IsWriteFault }
 {
-    write_number(pending, "kind-assign", counts.assign, w)?;
-    write_number(pending, "kind-submit", counts.submit, w)?;
-    write_number(pending, "kind-replace", counts.replace, w)?;
-    write_number(pending, "kind-cancel", counts.cancel, w)?;
-    write_number(pending, "kind-commit", counts.commit, w)
+    for index in 0..names.len() {
+        write_number(pending, names[index], numbers[index], w)?;
+    }
+    Ok(())
 }
 
-// Writes the counts of suppliers.
-fn write_suppliers<W: Write>(
+// Writes the rows of a summary, by way of what is pending.
+fn write_rows<W: Write>(
     pending: &mut Pending,
-    counts: &Counts,
-    w: &mut W,
-) -> Result<(), ReportError>
-    ensures ok { OnOk result (Appends (append_known (W.contents w.old) pending.old)
-        (append_known (W.contents w.new) pending.new) (supplier_rows counts.now)) }
-    ensures err { IfErr result IsWriteFault }
-{
-    write_number(pending, "served-hit", counts.hit, w)?;
-    write_number(pending, "served-reuse", counts.reuse, w)?;
-    write_number(pending, "served-version", counts.version, w)?;
-    write_number(pending, "served-spill", counts.spill, w)?;
-    write_number(pending, "served-committed", counts.committed, w)?;
-    write_number(pending, "served-memory", counts.memory, w)
-}
-
-// Writes the counts of causes.
-fn write_causes<W: Write>(
-    pending: &mut Pending,
-    counts: &Counts,
-    w: &mut W,
-) -> Result<(), ReportError>
-    ensures ok { OnOk result (Appends (append_known (W.contents w.old) pending.old)
-        (append_known (W.contents w.new) pending.new) (cause_rows counts.now)) }
-    ensures err { IfErr result IsWriteFault }
-{
-    write_number(pending, "cut-violation", counts.violation, w)?;
-    write_number(pending, "cut-guess", counts.guess, w)?;
-    write_number(pending, "cut-cancel", counts.cancelled, w)
-}
-
-// Writes the counts, if they are given.
-fn write_counts<W: Write>(
-    pending: &mut Pending,
+    output: &[u32],
+    tasks: u64,
+    ending: Ending,
     counts: Option<Counts>,
     w: &mut W,
 ) -> Result<(), ReportError>
     ensures ok { OnOk result (Appends (append_known (W.contents w.old) pending.old)
-        (append_known (W.contents w.new) pending.new) (counts_rows counts)) }
+        (append_known (W.contents w.new) pending.new) (summary_of output.now tasks ending counts)) }
     ensures err { IfErr result IsWriteFault }
 {
-    let Some(counts) = counts else {
-        return Ok(());
-    };
-    write_kinds(pending, &counts, w)?;
-    write_suppliers(pending, &counts, w)?;
-    write_causes(pending, &counts, w)
+    write_output(pending, output, w)?;
+    write_number(pending, "tasks", tasks, w)?;
+    write_ending(pending, ending, w)?;
+    match counts {
+        None => Ok(()),
+        Some(counts) => write_numbers(pending, &NAMES, &counts.numbers(), w),
+    }
 }
 
 /// Writes the summary of a run: the output words, how many tasks were run or committed, the ending,
@@ -169,9 +160,6 @@ pub fn write_summary<W: Write>(
     ensures err { IfErr result IsWriteFault }
 {
     let mut pending = Pending::new(alloc);
-    write_output(&mut pending, output, w)?;
-    write_number(&mut pending, "tasks", tasks, w)?;
-    write_ending(&mut pending, ending, w)?;
-    write_counts(&mut pending, counts, w)?;
+    write_rows(&mut pending, output, tasks, ending, counts, w)?;
     pending.write_all(w)
 }

@@ -3,7 +3,6 @@
 ghost use Rattle.std.specs.Prelude.{◌≡◌, ◌++◌, OnOk, IfErr, decimal, map};
 ghost use Rattle.std.specs.Io.KnownBytes.{Appends};
 ghost use Rattle.svc_report.specs.Faults.{IsWriteFault};
-ghost use Rattle.svc_report.specs.Summary.{cause_numbers, kind_numbers, supplier_numbers};
 ghost use Rattle.svc_report.specs.Table.{summary_row};
 
 use crate::counts::Counts;
@@ -36,28 +35,6 @@ const COLUMNS: [&[u8]; 18] = [
     b"cut-cancel",
 ];
 
-// The counts in the order of the columns.
-fn numbers_of(counts: &Counts) -> [u64; 14]
-    ensures { result ≡ kind_numbers counts.now ++ (supplier_numbers counts.now ++ cause_numbers counts.now) }
-{
-    [
-        counts.assign,
-        counts.submit,
-        counts.replace,
-        counts.cancel,
-        counts.commit,
-        counts.hit,
-        counts.reuse,
-        counts.version,
-        counts.spill,
-        counts.committed,
-        counts.memory,
-        counts.violation,
-        counts.guess,
-        counts.cancelled,
-    ]
-}
-
 // Adds a field for each number.
 fn push_numbers(fields: &mut Fields, numbers: &[u64]) -> Result<(), AllocError>
     ensures { OnOk result (fields.new ≡ fields.old ++ map decimal numbers.now) }
@@ -89,6 +66,6 @@ pub fn write_summary_row<W: Write>(
     fields.push_number(tasks)?;
     fields.push(ending_word(ending))?;
     fields.push_number(ending_number(ending))?;
-    push_numbers(&mut fields, &numbers_of(counts))?;
+    push_numbers(&mut fields, &counts.numbers())?;
     write_row(alloc, row.header, &COLUMNS, &fields, w)
 }

@@ -96,11 +96,25 @@ pub fn write_trace<W: Write>(alloc: Global, entries: &[Entry], w: &mut W) -> Res
     ensures err { IfErr result IsWriteFault }
 {
     let mut pending = Pending::new(alloc);
+    write_rows(&mut pending, entries, w)?;
+    pending.write_all(w)
+}
+
+// Writes the names of the columns and the row of each entry, by way of what is pending.
+fn write_rows<W: Write>(
+    pending: &mut Pending,
+    entries: &[Entry],
+    w: &mut W,
+) -> Result<(), ReportError>
+    ensures ok { OnOk result (Appends (append_known (W.contents w.old) pending.old)
+        (append_known (W.contents w.new) pending.new) (text_of entries.now)) }
+    ensures err { IfErr result IsWriteFault }
+{
     pending.write_line(&HEADER, w)?;
     for entry in entries {
-        write_row(&mut pending, entry, w)?;
+        write_row(pending, entry, w)?;
     }
-    pending.write_all(w)
+    Ok(())
 }
 
 // The entry of a record, or the first bad column.

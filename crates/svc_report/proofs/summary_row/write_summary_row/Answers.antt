@@ -11,5 +11,5 @@ returns-clause-ok g c =
       c.new-fields.ensures,
       c.ending_word.ensures.word,
       c.ending_number.ensures,
-      c.numbers_of.ensures,
+      c.numbers.ensures,
     ) at c.write_row.ensures.ok

@@ -1,0 +1,8 @@
+// Assembly, histories' texts, and the program's output.
+
+mod assembly;
+mod failing;
+mod history;
+mod no_files;
+mod program;
+mod report;
