@@ -89,6 +89,24 @@ const FULL: Answer = Answer::Filled(Err(SetFull(WordAddr(0))));
 
 const FILLED: Answer = Answer::Filled(Ok(()));
 
+// How often a step searches a set.
+fn searches(step: Step) -> u32 {
+    match step {
+        Step::Commit | Step::Squash => 0,
+        _ => 1,
+    }
+}
+
+// Each step in turn is answered so, by one search of at most four places, and a commit and a squash by none.
+fn follow(rt: &impl Abort, cache: &mut Tested, steps: &[(Step, Answer)]) {
+    for (number, (step, expected)) in steps.iter().enumerate() {
+        let (answer, probes) = cache.perform(*step);
+        assert_eq!(rt; answer, *expected, "at step {number}");
+        assert_eq!(rt; probes.searches, searches(*step), "at step {number}");
+        assert!(rt; probes.places <= 4);
+    }
+}
+
 #[test]
 fn a_set_of_one_way_holds_one_line(rt: HostRuntime) {
     let mut cache = Tested::open(&rt, rt.alloc(), 2, 1);
@@ -102,9 +120,7 @@ fn a_set_of_one_way_holds_one_line(rt: HostRuntime) {
         (Step::Fill(2, 12), FILLED),
         (Step::Lookup(0), Answer::Found(None)),
     ];
-    for (number, (step, expected)) in steps.iter().enumerate() {
-        assert_eq!(rt; cache.perform(*step).0, *expected, "at step {number}");
-    }
+    follow(&rt, &mut cache, &steps);
 }
 
 #[test]
@@ -123,12 +139,7 @@ fn a_set_of_four_ways_holds_four_lines(rt: HostRuntime) {
         (Step::Lookup(512), Answer::Found(None)),
         (Step::Lookup(768), Answer::Found(Some(line(4)))),
     ];
-    for (number, (step, expected)) in steps.iter().enumerate() {
-        let (got, probes) = cache.perform(*step);
-        assert_eq!(rt; got, *expected, "at step {number}");
-        assert_eq!(rt; probes.searches, 1);
-        assert!(rt; probes.places <= 4);
-    }
+    follow(&rt, &mut cache, &steps);
 }
 
 // Two ways: a commit and a squash keep the committed line, which leaves before an active one.
@@ -149,7 +160,5 @@ fn a_committed_line_stays_until_it_leaves(rt: HostRuntime) {
         (Step::Lookup(2), Answer::Found(Some(committed))),
         (Step::Full(4), Answer::Named(None)),
     ];
-    for (number, (step, expected)) in steps.iter().enumerate() {
-        assert_eq!(rt; cache.perform(*step).0, *expected, "at step {number}");
-    }
+    follow(&rt, &mut cache, &steps);
 }

@@ -2,11 +2,11 @@
 
 ghost use Rattle.std.specs.Prelude.{◌<◌, ◌≤◌};
 
-use crate::script::agrees;
 use arrayvec::ArrayVec;
 use std::alloc::Global;
 use std::process::Abort;
 use svc_base::{Config, UnitId};
+use svc_core::Ending;
 use svc_history::Recorder;
 use svc_image::Image;
 use svc_image::samples::P;
@@ -28,19 +28,20 @@ impl Policy for Always {
     }
 }
 
-// How a run of four units ends.
-fn run_of<R: Abort, Q: Policy>(
+// How a run of four units ends, and how many events it has.
+fn end_of<R: Abort, Q: Policy>(
     rt: &R,
     alloc: Global,
     config: Config,
     burst: u32,
     policy: &mut Q,
-) -> Recorder
+) -> (Ending, usize)
     requires some { 0 < burst }
     requires few { burst ≤ 63 }
 {
     let image = Image::read(alloc, &P).expect(rt, "an image");
-    run_schedule(alloc, &image, config, burst, policy).expect(rt, "a run")
+    let run = run_schedule(alloc, &image, config, burst, policy).expect(rt, "a run");
+    (run.machine().ending(), run.entries().len())
 }
 
 // A configuration of four units.
@@ -52,18 +53,16 @@ fn limits(rt: &impl Abort, events: u32, turns: u32) -> Config {
 fn each_step_is_an_event_up_to_the_limit(rt: HostRuntime) {
     for events in 1..=42_u32 {
         let config = limits(&rt, events, 1_000);
-        let recorder = run_of(&rt, rt.alloc(), config, 1, &mut Rotate);
-        assert_eq!(rt; recorder.entries().len(), events.min(40) as usize);
+        let (_, entries) = end_of(&rt, rt.alloc(), config, 1, &mut Rotate);
+        assert_eq!(rt; entries, events.min(40) as usize);
     }
 }
 
 #[test]
 fn steps_are_counted_by_turns(rt: HostRuntime) {
     let config = limits(&rt, 1_000, 4);
-    let recorder = run_of(&rt, rt.alloc(), config, 63, &mut Rotate);
-    let (ending, events) = (recorder.machine().ending(), recorder.entries().len());
-    let told = format!(in rt.alloc(); "{ending:?} {events}");
-    agrees(&rt, told, "Open(0) 4");
+    let end = end_of(&rt, rt.alloc(), config, 63, &mut Rotate);
+    assert_eq!(rt; end, (Ending::Open(0), 4));
 }
 
 // Unit 3 mostly waits, and there is no unit 200.
@@ -71,8 +70,7 @@ fn steps_are_counted_by_turns(rt: HostRuntime) {
 fn units_that_are_left_out_are_asked(rt: HostRuntime) {
     for unit in [3, 200] {
         let config = limits(&rt, 1_000, 1_000);
-        let recorder = run_of(&rt, rt.alloc(), config, 63, &mut Always(unit));
-        let ending = recorder.machine().ending();
-        agrees(&rt, format!(in rt.alloc(); "{ending:?}"), "Exit(5)");
+        let (ending, _) = end_of(&rt, rt.alloc(), config, 63, &mut Always(unit));
+        assert_eq!(rt; ending, Ending::Exit(5));
     }
 }

@@ -310,8 +310,13 @@ fn the_look_ups_of_each_call_are_told(rt: HostRuntime) {
         (Replace(3, 0), 5),
     ];
     let mut bus = open(&rt, rt.alloc(), 16, 2, &[7, 0, 0, 0]);
+    tells(&rt, &mut bus, &calls);
+}
+
+// After each call so many look-ups are told.
+fn tells(rt: &impl Abort, bus: &mut Bus, calls: &[(Step, u32)]) {
     for (number, (step, look_ups)) in calls.iter().enumerate() {
-        perform(&rt, &mut bus, *step);
-        assert_eq!(&rt; bus.last_probes(), *look_ups, "at step {number}");
+        perform(rt, bus, *step);
+        assert_eq!(rt; bus.last_probes(), *look_ups, "at step {number}");
     }
 }

@@ -4,11 +4,11 @@ use super::after;
 use crate::script::agrees;
 use std::alloc::{AllocError, Global};
 use std::process::Abort;
-use svc_base::UnitId;
+use svc_base::{Refusal, UnitId};
 use svc_history::{Glance, Move};
 
 // A move, with the guess of the task that it begins, or the place of the task that it runs on.
-#[derive(Clone, Copy, Debug)]
+#[derive(Clone, Copy, Debug, PartialEq, Eq)]
 enum Step {
     Begin(u32),
     RunOn(u32),
@@ -47,16 +47,10 @@ fn seen(alloc: Global, glance: Glance) -> Result<String, AllocError> {
     format!(in alloc; "{ended} {at:?} {is_head} {guess:?}")
 }
 
-fn moved(alloc: Global, glance: Glance) -> Result<String, AllocError> {
-    let step = next_step(glance);
-    format!(in alloc; "{step:?}")
-}
-
-// The same, as the recorder tells it after so many of the ten events.
-fn told(rt: &impl Abort, alloc: Global, count: usize, unit: u8) -> Result<String, AllocError> {
+// The step that the recorder tells after so many of the ten events.
+fn told(rt: &impl Abort, alloc: Global, count: usize, unit: u8) -> Step {
     let recorder = after(rt, alloc, 1_000, count);
-    let step = step_of(recorder.next_move(UnitId(unit)).expect(rt, "a move"));
-    format!(in alloc; "{step:?}")
+    step_of(recorder.next_move(UnitId(unit)).expect(rt, "a move"))
 }
 
 // The unit's glance at a recorder with room for so many entries, after so many of the ten events.
@@ -65,10 +59,10 @@ fn glance(rt: &impl Abort, alloc: Global, room: u32, count: usize, unit: u8) -> 
     recorder.glance(UnitId(unit)).expect(rt, "a glance")
 }
 
-fn refuses(rt: &impl Abort, alloc: Global, unit: u8, wanted: &str) {
+// Why a unit has no glance.
+fn refusal(rt: &impl Abort, alloc: Global, unit: u8) -> Option<Refusal> {
     let recorder = after(rt, alloc, 1_000, 0);
-    let refused = recorder.glance(UnitId(unit)).err();
-    agrees(rt, format!(in alloc; "{refused:?}"), wanted);
+    recorder.glance(UnitId(unit)).err()
 }
 
 // After so many of the ten events, what the unit sees.
@@ -84,8 +78,8 @@ const GLANCES: [(usize, u8, &str); 7] = [
 
 #[test]
 fn glances_follow_the_events(rt: HostRuntime) {
-    refuses(&rt, rt.alloc(), 9, "Some(NoSuchUnit)");
-    refuses(&rt, rt.alloc(), 4, "Some(NoSuchUnit)");
+    let refused = [refusal(&rt, rt.alloc(), 9), refusal(&rt, rt.alloc(), 4)];
+    assert_eq!(rt; refused, [Some(Refusal::NoSuchUnit); 2]);
     for (count, unit, wanted) in &GLANCES {
         let glance = glance(&rt, rt.alloc(), 1_000, *count, *unit);
         agrees(&rt, seen(rt.alloc(), glance), wanted);
@@ -102,14 +96,14 @@ fn a_full_history_has_ended(rt: HostRuntime) {
 }
 
 // After so many of the ten events, what the unit does next.
-const MOVES: [(usize, u8, &str); 7] = [
-    (0, 1, "Begin(0)"),
-    (2, 3, "Begin(0)"),
-    (2, 1, "RunOn(12)"),
-    (4, 0, "Commit"),
-    (9, 1, "Commit"),
-    (10, 0, "Ended"),
-    (10, 3, "Ended"),
+const MOVES: [(usize, u8, Step); 7] = [
+    (0, 1, Step::Begin(0)),
+    (2, 3, Step::Begin(0)),
+    (2, 1, Step::RunOn(12)),
+    (4, 0, Step::Commit),
+    (9, 1, Step::Commit),
+    (10, 0, Step::Ended),
+    (10, 3, Step::Ended),
 ];
 
 // A unit begins at the guess, runs its task on, and commits it once that has ended and is the head; until then it
@@ -118,14 +112,14 @@ const MOVES: [(usize, u8, &str); 7] = [
 fn a_unit_moves_by_what_it_sees(rt: HostRuntime) {
     for (count, unit, wanted) in &MOVES {
         let glance = glance(&rt, rt.alloc(), 1_000, *count, *unit);
-        agrees(&rt, moved(rt.alloc(), glance), wanted);
-        agrees(&rt, told(&rt, rt.alloc(), *count, *unit), wanted);
+        assert_eq!(rt; next_step(glance), *wanted);
+        assert_eq!(rt; told(&rt, rt.alloc(), *count, *unit), *wanted);
     }
 }
 
 // The moves of a glance, and of the same where the unit isn't the head, where it has no task and there is a guess or
 // none, and where the run has ended.
-fn turned(alloc: Global, glance: Glance) -> Result<String, AllocError> {
+fn turned(glance: Glance) -> [Step; 5] {
     let later = Glance {
         is_head: false,
         ..glance
@@ -143,16 +137,25 @@ fn turned(alloc: Global, glance: Glance) -> Result<String, AllocError> {
         ended: true,
         ..glance
     };
-    let (first, second) = (next_step(glance), next_step(later));
-    let (third, fourth) = (next_step(idle), next_step(lost));
-    let fifth = next_step(over);
-    format!(in alloc; "{first:?} {second:?} {third:?} {fourth:?} {fifth:?}")
+    [
+        next_step(glance),
+        next_step(later),
+        next_step(idle),
+        next_step(lost),
+        next_step(over),
+    ]
 }
 
 // Each field that the move hangs on, where it alone is turned.
 #[test]
 fn the_first_case_that_holds_tells_the_move(rt: HostRuntime) {
     let glance = glance(&rt, rt.alloc(), 1_000, 4, 0);
-    let moves = "Commit Wait Begin(12) Wait Ended";
-    agrees(&rt, turned(rt.alloc(), glance), moves);
+    let moves = [
+        Step::Commit,
+        Step::Wait,
+        Step::Begin(12),
+        Step::Wait,
+        Step::Ended,
+    ];
+    assert_eq!(rt; turned(glance), moves);
 }

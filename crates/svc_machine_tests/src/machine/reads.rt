@@ -38,13 +38,16 @@ pub fn of_the_run(alloc: Global, machine: &Machine) -> Result<String, AllocError
 }
 
 // The unit's lease: whose it is, its epoch, and where its task stands.
+fn lease_of(machine: &Machine) -> Option<(u8, u64, u32)> {
+    let lease = machine.lease(UnitId(0))?;
+    Some((lease.unit.0, lease.epoch, lease.core.pc()))
+}
+
+// That lease, and whether each of the first two units has the head.
 fn of_the_lease(alloc: Global, machine: &Machine) -> Result<String, AllocError> {
-    let Some(lease) = machine.lease(UnitId(0)) else {
-        return format!(in alloc; "no lease");
-    };
-    let (unit, epoch, at) = (lease.unit, lease.epoch, lease.core.pc());
+    let lease = lease_of(machine);
     let (first, second) = (machine.is_head(UnitId(0)), machine.is_head(UnitId(1)));
-    format!(in alloc; "{unit:?} {epoch} {at} {first} {second}")
+    format!(in alloc; "{lease:?} {first} {second}")
 }
 
 // The committed word and the backing one.
@@ -89,14 +92,21 @@ fn tells(rt: &impl Abort, alloc: Global, file: &[u8], lines: &[Line], reads: Rea
 fn an_opened_machine_has_no_task(rt: HostRuntime) {
     let run = "4 0 Some(0) Some(0) [] None Open(0)";
     tells(&rt, rt.alloc(), &P, first(0), Reads::Run, run);
-    tells(&rt, rt.alloc(), &P, first(0), Reads::Units, "no lease");
+    tells(
+        &rt,
+        rt.alloc(),
+        &P,
+        first(0),
+        Reads::Units,
+        "None false false",
+    );
 }
 
 #[test]
 fn the_reads_follow_the_events(rt: HostRuntime) {
     let begun = "4 0 Some(0) Some(12) [] None Open(0)";
     tells(&rt, rt.alloc(), &P, BEGUN, Reads::Run, begun);
-    let units = "UnitId(0) 0 0 true false";
+    let units = "Some((0, 0, 0)) true false";
     tells(&rt, rt.alloc(), &P, BEGUN, Reads::Units, units);
     tells(&rt, rt.alloc(), &P, STORED, Reads::Run, begun);
     tells(&rt, rt.alloc(), &P, STORED, Reads::Memory, "0 0");
