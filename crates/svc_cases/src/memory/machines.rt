@@ -106,17 +106,20 @@ fn stepped(opened: Result<Machine, OpenError>) -> Attempt {
 
 /// A machine is opened, and takes ten events.
 pub fn open(alloc: Global) -> Attempt {
-    stepped(Machine::open(alloc, sample(alloc)?, four_units()?))
+    let config = four_units()?;
+    stepped(Machine::open(alloc, sample(alloc)?, config))
 }
 
 /// A machine is opened from a later epoch on, and takes ten events.
 pub fn open_from(alloc: Global) -> Attempt {
-    stepped(Machine::open_from(alloc, sample(alloc)?, four_units()?, 7))
+    let config = four_units()?;
+    stepped(Machine::open_from(alloc, sample(alloc)?, config, 7))
 }
 
 /// A recorder is opened, and takes ten events.
 pub fn record(alloc: Global) -> Attempt {
-    match Recorder::open(alloc, sample(alloc)?, four_units()?) {
+    let config = four_units()?;
+    match Recorder::open(alloc, sample(alloc)?, config) {
         Ok(mut recorder) => Ok(applies(&mut recorder)),
         Err(OpenError::Memory) => Err(Refused::Told),
     }
@@ -124,6 +127,7 @@ pub fn record(alloc: Global) -> Attempt {
 
 /// A machine is driven over the first task: it is begun, its store is submitted, and it is committed.
 pub fn driven(alloc: Global) -> Attempt {
+    let config = four_units()?;
     let image = sample(alloc)?;
     let lease = Lease::new(UnitId(0), 0, Core::start(&image, image.start()));
     let burst = lease.advance(&image, 63);
@@ -135,7 +139,7 @@ pub fn driven(alloc: Global) -> Attempt {
         Event::Submit { burst: &burst },
         Event::Commit { by: UnitId(0) },
     ];
-    match drive(alloc, image, four_units()?, &events) {
+    match drive(alloc, image, config, &events) {
         Ok(machine) => Ok(machine.committed_tasks() == 1 && machine.due() == Some(12)),
         Err(OpenError::Memory) => Err(Refused::Told),
     }
@@ -143,8 +147,8 @@ pub fn driven(alloc: Global) -> Attempt {
 
 /// Both tasks are run by four units in one thread, the youngest task first.
 pub fn scheduled(alloc: Global) -> Attempt {
-    let image = sample(alloc)?;
     let config = ready(Config::new(4, 16, 2, 100, 1_000))?;
+    let image = sample(alloc)?;
     match run_schedule(alloc, &image, config, 63, &mut Youngest) {
         Ok(recorder) => Ok(recorder.entries().len() == 54 && is_done(recorder.machine())),
         Err(OpenError::Memory) => Err(Refused::Told),
@@ -153,8 +157,9 @@ pub fn scheduled(alloc: Global) -> Attempt {
 
 /// The history of the ten events is replayed.
 pub fn check(alloc: Global) -> Attempt {
+    let config = four_units()?;
     let image = sample(alloc)?;
-    match check_trace(alloc, &image, four_units()?, &ten_entries()) {
+    match check_trace(alloc, &image, config, &ten_entries()) {
         Ok(replayed) => Ok(is_done(replayed.machine())),
         Err(fault) if fault.kind == TraceFaultKind::Memory && fault.index == 0 => {
             Err(Refused::Told)
