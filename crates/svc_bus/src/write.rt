@@ -42,7 +42,6 @@ impl Bus {
     ///
     /// Errors: [`Refusal::SetFull`] if the unit's cache has no line of the word and no room for
     /// one. Then nothing changes.
-    #[tactic(auto, unfolding(crate::specs::Observed::observed))]
     pub fn write(
         &mut self,
         unit: UnitId,

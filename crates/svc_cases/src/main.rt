@@ -36,15 +36,33 @@ fn run_all<R: Files + Print + Threads + Wait + Sync + AllocGlobal>(
 ) -> Result<(), CaseError> {
     let list = fs::read_to_string(rt, "cases.csv")?;
     let images = fs::read_to_string(rt, "images.csv")?;
+    run_each(rt, &list, &images)
+}
+
+// Runs each case of a list.
+fn run_each<R: Files + Print + Threads + Wait + Sync + AllocGlobal>(
+    rt: &R,
+    list: &str,
+    images: &str,
+) -> Result<(), CaseError> {
     for line in list.lines().skip(1) {
         let Some(case) = Case::of(line) else {
             return Err(CaseError::List);
         };
-        let wanted = case.wanted(rt)?;
-        let found = run(rt, &case, &images)?;
-        tell(rt, case.name, &found, &wanted)?;
+        run_one(rt, &case, images)?;
     }
     Ok(())
+}
+
+// Runs a case, and says how it ends.
+fn run_one<R: Files + Print + Threads + Wait + Sync + AllocGlobal>(
+    rt: &R,
+    case: &Case<'_>,
+    images: &str,
+) -> Result<(), CaseError> {
+    let wanted = case.wanted(rt)?;
+    let found = run(rt, case, images)?;
+    tell(rt, case.name, &found, &wanted)
 }
 
 // Runs the program by the case's words.
@@ -75,9 +93,13 @@ fn tell<R: Print>(rt: &R, name: &str, found: &Outcome, wanted: &Outcome) -> Resu
             "{name}: status {} and not {}",
             found.status, wanted.status
         )?,
-        Some(Part::Out) => tell_line(rt, name, "standard output", &found.out, &wanted.out)?,
-        Some(Part::Err) => tell_line(rt, name, "standard error", &found.err, &wanted.err)?,
-        Some(Part::Saved) => tell_line(rt, name, "the saved file", &found.saved, &wanted.saved)?,
+        Some(Part::Out) => {
+            return tell_line(rt, name, "standard output", &found.out, &wanted.out);
+        }
+        Some(Part::Err) => return tell_line(rt, name, "standard error", &found.err, &wanted.err),
+        Some(Part::Saved) => {
+            return tell_line(rt, name, "the saved file", &found.saved, &wanted.saved);
+        }
     }
     Ok(())
 }

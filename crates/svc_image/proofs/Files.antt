@@ -5,7 +5,7 @@ use Rattle.std.proofs.lemmas.Bool.Decides.{Decides-eqb}
 use Rattle.std.proofs.lemmas.List.{append-nil, drop_all, get_or_default}
 use Rattle.std.proofs.lemmas.Slice.Eq.{starts_is}
 use Rattle.std.specs.List.{starts_with}
-use Rattle.svc_image.specs.Format.{Check, magic, first_of, fault, file_of, own_of, header_checks, entry_checks, start_checks, limit_checks, end_checks, bytes_of_half, bytes_of_word, bytes_of_words, word_at, words_in, number_in, version_in, entry_count_in, text_count_in, data_count_in, own_in, is_own_outside, start_in, registers_in, entry_in, entries_in, limits_place, listed_in, limit_in, limits_in, text_place, data_place, end_place, falls, is_misplaced}
+use Rattle.svc_image.specs.Format.{Check, magic, first_of, fault, file_of, own_of, version_checks, count_checks, header_checks, entry_checks, start_checks, limit_checks, end_checks, bytes_of_half, bytes_of_word, bytes_of_words, word_at, words_in, number_in, version_in, entry_count_in, text_count_in, data_count_in, own_in, is_own_outside, start_in, registers_in, entry_in, entries_in, limits_place, listed_in, limit_in, limits_in, text_place, data_place, end_place, falls, is_misplaced}
 use Rattle.svc_image.specs.Version.{version_number, is_known, listed, read_only_by}
 use Rattle.svc_image.specs.Image.{IsImage, StartsWord, IsLimit, is_entry}
 use Rattle.svc_image.specs.Reading.{image_in}
@@ -38,7 +38,7 @@ passes (check ∷ rest) zero d low none = (first_of-cons check.0 check.1 (first_
 passes (check ∷ rest) (suc k) d low none = passes rest k d (omega (arith, low)) (first_of-cons check.0 check.1 (first_of rest) none).1
 
 header-facts : (bytes : List ℕ) (d : Check) → first_of (header_checks bytes) ≡ None → IsHeader bytes
-unfolding header_checks
+unfolding header_checks version_checks count_checks
 header-facts bytes d none =
     let at : (k : ℕ) → k < 14 → (slice_index_or (header_checks bytes) k d).0 ≡ false = λ k low. passes (header_checks bytes) k d low none in
     record {
@@ -133,7 +133,7 @@ sound-from-none bytes d small none =
 
 -- a header that holds an image's numbers has no fault
 header-none : (bytes : List ℕ) → IsHeader bytes → first_of (header_checks bytes) ≡ None
-unfolding header_checks
+unfolding header_checks version_checks count_checks
 header-none bytes header =
     let whole : (n : ℕ) → n ≤ 148 → nat_lt (length bytes) n ≡ false = λ n low. le-ltb (length bytes) n (omega (arith, low, header.whole)) in
     let begins : starts_with nat_eq bytes magic ≡ true = header.begins in

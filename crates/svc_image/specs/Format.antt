@@ -125,17 +125,25 @@ abbrev pub is_own_outside : Version → (words own : ℕ) → Bool
 is_own_outside version.One words own = is_outside 65536 own
 is_own_outside version.Two words own = nat_lt words own
 
--- the checks up to the registers, each field's after that it is whole; the start waits for the entries, and any register is sound
-unfoldable pub header_checks : List ℕ → List Check
-header_checks bytes =
+-- the checks of magic and version, each field's after that it is whole
+unfoldable pub version_checks : List ℕ → List Check
+version_checks bytes =
     ends_before bytes 4 ∷ (not (starts_with nat_eq bytes magic), Magic)
-    ∷ ends_before bytes 6 ∷ (not (is_known (number_in bytes)), error.Version)
-    ∷ ends_before bytes 8 ∷ (is_outside 1024 (entry_count_in bytes), Count)
+    ∷ ends_before bytes 6 ∷ (not (is_known (number_in bytes)), error.Version) ∷ []
+
+-- the checks from there up to the registers; the start waits for the entries, and any register is sound
+unfoldable pub count_checks : List ℕ → List Check
+count_checks bytes =
+    ends_before bytes 8 ∷ (is_outside 1024 (entry_count_in bytes), Count)
     ∷ ends_before bytes 12 ∷ (is_outside 65536 (text_count_in bytes), Count)
     ∷ ends_before bytes 16 ∷ (is_outside 65536 (data_count_in bytes), Count)
     ∷ ends_before bytes 20 ∷ (is_own_outside (version_in bytes) (data_count_in bytes) (own_in bytes), Count)
     ∷ ends_before bytes 24
     ∷ ends_before bytes 148 ∷ []
+
+-- the checks of a header
+unfoldable pub header_checks : List ℕ → List Check
+header_checks bytes = version_checks bytes ++ count_checks bytes
 
 -- the k-th entry isn't above the one before it
 abbrev pub falls : List ℕ → ℕ → Bool

@@ -2,7 +2,7 @@
 
 ghost use Rattle.std.specs.Prelude.{◌≡◌, ◌<◌, ◌≤◌, ◌+◌, ◌*◌, ◌^◌, length, nat_lt, if◌then◌else◌, IfOk, OnOk};
 ghost use Rattle.svc_image.specs.Version.{listed_count, read_only_by};
-ghost use Rattle.svc_image.specs.Format.{half_at, word_at, first_of, header_checks, is_outside, is_own_outside};
+ghost use Rattle.svc_image.specs.Format.{half_at, word_at, first_of, version_in, version_checks, count_checks, header_checks, is_outside, is_own_outside};
 ghost use Rattle.svc_image.specs.Reading.{InLimits, IsOwn, checked, header_in, size_of};
 
 use crate::error::ImageError;
@@ -129,12 +129,10 @@ fn own(version: Version, words: u32, value: u32) -> Result<u32, ImageError>
     }
 }
 
-/// The header, if it and the registers after it have no fault.
-#[tactic(auto, unfolding(crate::specs::Format::header_checks))]
-pub fn check_header(bytes: &[u8]) -> Result<Header, ImageError>
-    ensures value { result ≡ checked (first_of (header_checks bytes.now)) (header_in bytes.now) }
-    ensures counts { IfOk result InLimits }
-    ensures whole { OnOk result (148 ≤ length bytes.now) }
+// The version, if it and the magic before it have no fault.
+#[tactic(auto, unfolding(crate::specs::Format::version_checks))]
+fn check_version(bytes: &[u8]) -> Result<Version, ImageError>
+    ensures { result ≡ checked (first_of (version_checks bytes.now)) (version_in bytes.now) }
 {
     if bytes.len() < MAGIC.len() {
         return Err(ImageError::Short);
@@ -142,7 +140,17 @@ pub fn check_header(bytes: &[u8]) -> Result<Header, ImageError>
     if !bytes.starts_with(&MAGIC) {
         return Err(ImageError::Magic);
     }
-    let version = Version::of(half(bytes, VERSION_PLACE)?).ok_or(ImageError::Version)?;
+    Version::of(half(bytes, VERSION_PLACE)?).ok_or(ImageError::Version)
+}
+
+// The header, if what follows its version and the registers have no fault.
+#[tactic(auto, unfolding(crate::specs::Format::count_checks))]
+fn check_counts(bytes: &[u8], version: Version) -> Result<Header, ImageError>
+    requires { version ≡ version_in bytes.now }
+    ensures value { result ≡ checked (first_of (count_checks bytes.now)) (header_in bytes.now) }
+    ensures counts { IfOk result InLimits }
+    ensures whole { OnOk result (148 ≤ length bytes.now) }
+{
     let entries = count(half(bytes, ENTRY_COUNT_PLACE)?, MOST_ENTRIES)?;
     let text = count(word(bytes, TEXT_COUNT_PLACE)?, MOST_WORDS)?;
     let words = count(word(bytes, DATA_COUNT_PLACE)?, MOST_WORDS)?;
@@ -159,4 +167,14 @@ pub fn check_header(bytes: &[u8]) -> Result<Header, ImageError>
         own,
         start,
     })
+}
+
+/// The header, if it and the registers after it have no fault.
+pub fn check_header(bytes: &[u8]) -> Result<Header, ImageError>
+    ensures value { result ≡ checked (first_of (header_checks bytes.now)) (header_in bytes.now) }
+    ensures counts { IfOk result InLimits }
+    ensures whole { OnOk result (148 ≤ length bytes.now) }
+{
+    let version = check_version(bytes)?;
+    check_counts(bytes, version)
 }

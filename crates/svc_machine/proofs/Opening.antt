@@ -1,9 +1,5 @@
 -- A machine before any event.
-use Rattle.std.proofs.Common.{ℕ, ◌≡◌, ◌≤◌, true, List, [], map, None, refl, sym, ap, ◌∙◌, subst}
-use Rattle.std.specs.Prelude.{Result, Ok, Err, MatchResult, IfOk, is_ok}
-use Rattle.std.specs.Result.{result_ok}
-use Rattle.std.proofs.lemmas.Option.{same_Some}
-use borrow.Author.Tests.{both_ways}
+use Rattle.std.proofs.Common.{ℕ, ◌≡◌, ◌≤◌, List, [], map, None, refl, sym, subst}
 use Rattle.svc_base.specs.declared.config.Config.{Config}
 use Rattle.svc_image.specs.Image.{Image, IsImage}
 use Rattle.svc_bus_laws.specs.BusState.{Agrees}
@@ -16,11 +12,6 @@ use Rattle.svc_machine_laws.proofs.Folds.{opened_reached}
 use Rattle.svc_machine.specs.declared.seat.Seat.{Seat}
 use Rattle.svc_machine.specs.Seats.{plain_of}
 use Rattle.svc_machine.specs.Kept.{Kept, whole_seat}
-
--- what holds where a call succeeds holds of what it made, also where another error took the place of its own
-pub made : {A E F : Type 0} (r : Result A E) (m : Result A F) (a : A) (P : A → Type 0) (Q : E → Type 0) → m ≡ Ok a → MatchResult r (λ x. m ≡ Ok x) Q → is_ok m ≡ is_ok r → IfOk r P → P a
-made {A} {E} {F} (Ok x) m a P Q was h same p = let e : x ≡ a = same_Some x a (ap result_ok (sym h) ∙ ap result_ok was) in subst P e p
-made (Err e) m a P Q was h same p = absurd (both_ways true (sym (ap is_ok was) ∙ same) refl)
 
 pub opened_kept : (img : Image) → IsImage img → (config : Config) (first : ℕ) (bus : BusValue) (guide : Guide) (seats : List Seat) (places : ℕ) (output : List ℕ) (room : ℕ)
     → seats ≡ [] → output ≡ [] → guide ≡ guide_opened img.entries img.start → Agrees (observed bus) (no_lines img config) → config.units ≤ places → config.events ≤ room

@@ -1,6 +1,10 @@
 //! The machine: the fields behind it, its opening, and its step.
 
-ghost use Rattle.std.specs.Prelude.{◌≡◌, IfOk};
+ghost use Rattle.std.specs.Prelude.{◌≡◌, ◌≤◌, [], IfOk, vec_capacity};
+ghost use Rattle.svc_image.specs.Image.{IsImage};
+ghost use Rattle.svc_bus_laws.specs.BusState.{Agrees};
+ghost use Rattle.svc_bus_laws.specs.LineTable.{opened};
+ghost use Rattle.svc_bus.specs.Observed.{observed};
 ghost use Rattle.svc_machine_laws.specs.Standing.{opened_at};
 ghost use Rattle.svc_machine.specs.Events.{event_of};
 ghost use Rattle.svc_machine.specs.Steps.{IsStep};
@@ -9,7 +13,7 @@ ghost use Rattle.svc_machine.specs.Value.{StandsAt};
 use crate::admit::Admitted;
 use crate::event::Event;
 use crate::seat::Seat;
-use std::alloc::{AllocError, Global};
+use std::alloc::Global;
 use std::marker::Model;
 use svc_base::{Config, OpenError, Refusal};
 use svc_bus::Bus;
@@ -66,6 +70,30 @@ impl Model for Machine {
     }) };
 }
 
+// A bus without lines or tasks, over the image's data.
+fn open_bus(alloc: Global, image: &Image, config: Config) -> Result<Bus, OpenError>
+    ensures table { IfOk result (λ bus.
+        Agrees (observed bus) (opened config.units config.sets config.ways image.now.words)) }
+    ensures sound { IsImage image.now }
+{
+    let words = image.data_words();
+    let Ok(memory) = Vec::from_slice(alloc, words) else {
+        return Err(OpenError::Memory);
+    };
+    Bus::open(alloc, config.units, config.sets, config.ways, memory)
+}
+
+// An empty list with room for so many.
+fn with_room<T>(alloc: Global, count: u32) -> Result<Vec<T>, OpenError>
+    ensures empty { IfOk result (λ list. list.items ≡ []) }
+    ensures room { IfOk result (λ list. count ≤ vec_capacity list) }
+{
+    match Vec::with_capacity(alloc, count as usize) {
+        Ok(list) => Ok(list),
+        Err(_) => Err(OpenError::Memory),
+    }
+}
+
 impl Machine {
     /// A machine before any event. It allocates all that it will ever need; no other call of it
     /// takes memory.
@@ -93,11 +121,10 @@ impl Machine {
         ensures config { IfOk result (λ m. m.config ≡ config) }
         ensures standing { IfOk result (λ m. StandsAt m (opened_at image config first)) }
     {
-        let memory = Vec::from_slice(alloc, image.data_words()).map_err(no_memory)?;
-        let bus = Bus::open(alloc, config.units, config.sets, config.ways, memory)?;
+        let bus = open_bus(alloc, &image, config)?;
         let sequencer = Sequencer::open(alloc, &image)?;
-        let seats = Vec::with_capacity(alloc, config.units as usize).map_err(no_memory)?;
-        let output = Vec::with_capacity(alloc, config.events as usize).map_err(no_memory)?;
+        let seats = with_room(alloc, config.units)?;
+        let output = with_room(alloc, config.events)?;
         Ok(Machine {
             image,
             config,
@@ -128,10 +155,4 @@ impl Machine {
             Admitted::Commit { by, end } => Ok(self.commit(by, end)),
         }
     }
-}
-
-fn no_memory(_refused: AllocError) -> OpenError
-    ensures { result ≡ OpenError.Memory }
-{
-    OpenError::Memory
 }

@@ -1,3 +1,4 @@
+pub mod Assembled
 pub mod Doing
 pub mod Playing
 pub mod Reading

@@ -210,25 +210,11 @@ fn write_answer<O: Write>(alloc: Global, answer: &Answer, out: &mut O) -> Result
     ensures fault { IfErr result IsReportFault }
 {
     match answer {
-        Answer::Accepted(entry) => {
-            write_entry(alloc, entry, out)?;
-            Ok(())
-        }
-        Answer::Refused(refusal) => {
-            writeln!(out, "refused,{}", refusal.number())?;
-            Ok(())
-        }
-        Answer::Taken { local, ask: true } => {
-            writeln!(out, "taken,{local},1")?;
-            Ok(())
-        }
-        Answer::Taken { local, ask: false } => {
-            writeln!(out, "taken,{local},0")?;
-            Ok(())
-        }
-        Answer::Nothing => {
-            writeln!(out, "none")?;
-            Ok(())
-        }
+        Answer::Accepted(entry) => write_entry(alloc, entry, out)?,
+        Answer::Refused(refusal) => writeln!(out, "refused,{}", refusal.number())?,
+        Answer::Taken { local, ask: true } => writeln!(out, "taken,{local},1")?,
+        Answer::Taken { local, ask: false } => writeln!(out, "taken,{local},0")?,
+        Answer::Nothing => writeln!(out, "none")?,
     }
+    Ok(())
 }

@@ -1,9 +1,10 @@
 //! The subcommands that want an image: its file is read first, then that of a script or a trace, and then it is done.
 
-ghost use Rattle.std.specs.Prelude.{ℕ, List, Option, ◌≡◌, ◌⊎◌, IfOk, IfErr};
+ghost use Rattle.std.specs.Prelude.{ℕ, List, Option, None, ◌≡◌, ◌⊎◌, IfOk, IfErr, IfSome};
 ghost use Rattle.svc_request.specs.declared.request.Request.TheVariants as request;
 ghost use Rattle.svc_request.specs.Faults.{IsEarly, IsReportFault};
-ghost use Rattle.svc_program.specs.Requests.{Does, IsOfSource, IsThere, IsTraceIn, KeepsFiles, Spares};
+ghost use Rattle.svc_program.specs.Requests.{Does, IsOfSource, IsThere, IsTraceIn, KeepsFiles, SavesTrace, Spares};
+ghost use Rattle.svc_program.specs.Runs.{ReportsRun};
 
 use crate::assembly::list_image;
 use crate::check::check;
@@ -20,7 +21,7 @@ use std::io::Write;
 use std::sync::Wait;
 use std::thread::Threads;
 use svc_base::Config;
-use svc_history::Entry;
+use svc_history::{Entry, Recorder};
 use svc_image::Image;
 use svc_report::TableRow;
 use svc_request::{Fault, Files, Schedule, Source, Table};
@@ -47,8 +48,27 @@ pub(crate) fn do_run<R: Threads + Wait + Sync, F: Files, O: Write>(
 {
     let image = load_image(alloc, image, files)?;
     let recorder = run_image(rt, alloc, &image, config, schedule)?;
+    report_run(alloc, &recorder, trace, row, files, out)
+}
+
+// Saves the trace of what was recorded, where a file is named for it, and prints its summary.
+fn report_run<F: Files, O: Write>(
+    alloc: Global,
+    recorder: &Recorder,
+    trace: Option<&str>,
+    row: Option<TableRow<'_>>,
+    files: &mut F,
+    out: &mut O,
+) -> Result<u8, Fault>
+    ensures saved { IfOk result (λ _. IfSome trace.entry
+        (λ name. SavesTrace (F.held files.new) name.now recorder.now.entries)) }
+    ensures report { IfOk result (ReportsRun row.entry recorder.now (O.contents out.old) (O.contents out.new)) }
+    ensures silent { IfErr result (λ fault. IsReportFault fault ⊎ (out.new ≡ out.old)) }
+    ensures kept { trace.entry ≡ None → F.held files.new ≡ F.held files.old }
+    ensures spared { IfErr result (λ fault. Spares fault (F.held files.old) (F.held files.new)) }
+{
     save_trace(alloc, recorder.entries(), trace, files)?;
-    print_run(alloc, &recorder, row, out)
+    print_run(alloc, recorder, row, out)
 }
 
 /// Runs tasks of an image in order.

@@ -1,9 +1,9 @@
 // The summary of a run as a row of a table.
 
-ghost use Rattle.std.specs.Prelude.{◌≡◌, ◌++◌, OnOk, IfErr, decimal, map};
+ghost use Rattle.std.specs.Prelude.{◌≡◌, ◌++◌, [], OnOk, IfErr, decimal, map};
 ghost use Rattle.std.specs.Io.KnownBytes.{Appends};
 ghost use Rattle.svc_report.specs.Faults.{IsWriteFault};
-ghost use Rattle.svc_report.specs.Table.{summary_row};
+ghost use Rattle.svc_report.specs.Table.{summary_fields, summary_row};
 
 use crate::counts::Counts;
 use crate::error::ReportError;
@@ -45,6 +45,24 @@ fn push_numbers(fields: &mut Fields, numbers: &[u64]) -> Result<(), AllocError>
     Ok(())
 }
 
+// Puts the fields of a summary where there are none.
+fn push_fields(
+    fields: &mut Fields,
+    label: &str,
+    tasks: u64,
+    ending: Ending,
+    counts: &Counts,
+) -> Result<(), AllocError>
+    requires { fields.old ≡ [] }
+    ensures { OnOk result (fields.new ≡ summary_fields label.now tasks ending counts.now) }
+{
+    fields.push(label)?;
+    fields.push_number(tasks)?;
+    fields.push(ending_word(ending))?;
+    fields.push_number(ending_number(ending))?;
+    push_numbers(fields, &counts.numbers())
+}
+
 /// Writes the summary of a run as a row of a table: its label, how many tasks were committed, the word and the number of
 /// the ending, and the counts. The words put out aren't in it.
 ///
@@ -62,10 +80,6 @@ pub fn write_summary_row<W: Write>(
     ensures err { IfErr result IsWriteFault }
 {
     let mut fields = Fields::new(alloc);
-    fields.push(row.label)?;
-    fields.push_number(tasks)?;
-    fields.push(ending_word(ending))?;
-    fields.push_number(ending_number(ending))?;
-    push_numbers(&mut fields, &counts.numbers())?;
+    push_fields(&mut fields, row.label, tasks, ending, counts)?;
     write_row(alloc, row.header, &COLUMNS, &fields, w)
 }

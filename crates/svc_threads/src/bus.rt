@@ -1,16 +1,16 @@
 // One recorder for all units, under its lock.
 
-ghost use Rattle.std.specs.Prelude.{◌≡◌, false, IfOk, IfErr};
+ghost use Rattle.std.specs.Prelude.{◌≡◌, true, false, IfOk, IfErr};
 ghost use Rattle.std.specs.Arc.{arc_value};
 ghost use Rattle.svc_base.specs.declared.refusal.Refusal.TheVariants as refusal;
 ghost use Rattle.svc_machine.specs.Events.{event_of};
 ghost use Rattle.svc_history.specs.Glances.{IsGlance};
 ghost use Rattle.svc_history.specs.Recorded.{Recorded, IsLegal};
-ghost use Rattle.svc_threads.specs.Boards.{knower};
+ghost use Rattle.svc_threads.specs.Boards.{InOrder, knower};
 ghost use Rattle.svc_threads.specs.Counts.{row_of_entries};
 ghost use Rattle.svc_threads.specs.Ports.{IsAppliedToSome, IsGlanceOfSome, LeasesTo};
 
-use crate::board::{Board, BoardPass};
+use crate::board::{Board, BoardPass, BoardRow};
 use crate::locked::{Locked, counts_of};
 use crate::port::Port;
 use std::alloc::Global;
@@ -37,6 +37,41 @@ impl Model for SharedBus {
     ghost view = { λ b. arc_value b.board };
 }
 
+// A board that two hold, with its pass that publishes and one that reads.
+#[derive(Drop)]
+struct TwiceHeld {
+    board: Arc<Board>,
+    theirs: Arc<Board>,
+    publisher: BoardPass,
+    reader: BoardPass,
+}
+
+// A board that shows these numbers, which both passes know.
+fn open_board<R: Wait>(rt: &R, alloc: Global, counts: BoardRow) -> Result<TwiceHeld, OpenError>
+    requires { InOrder counts }
+    ensures same { IfOk result (λ held. arc_value held.theirs ≡ arc_value held.board) }
+    ensures publisher { IfOk result (λ held. held.publisher ≡ knower (arc_value held.board) true counts) }
+    ensures reader { IfOk result (λ held. held.reader ≡ knower (arc_value held.board) false counts) }
+{
+    let Ok((board, mut publisher)) = Board::open(alloc) else {
+        return Err(OpenError::Memory);
+    };
+    board.publish(rt, &mut publisher, counts);
+    let reader = board.split(&mut publisher);
+    let Ok(board) = Arc::new(alloc, board) else {
+        return Err(OpenError::Memory);
+    };
+    let Ok(theirs) = Arc::try_clone(&board) else {
+        return Err(OpenError::Memory);
+    };
+    Ok(TwiceHeld {
+        board,
+        theirs,
+        publisher,
+        reader,
+    })
+}
+
 impl SharedBus {
     /// Shares a recorder. The board shows its numbers, and the pass, which reads this board, knows them.
     ///
@@ -48,18 +83,13 @@ impl SharedBus {
     ) -> Result<(SharedBus, BoardPass), OpenError>
         ensures { IfOk result (λ r. r.1 ≡ knower r.0 false (row_of_entries recorder.entries)) }
     {
-        let Ok((board, mut publisher)) = Board::open(alloc) else {
-            return Err(OpenError::Memory);
-        };
         let counts = counts_of(&recorder);
-        board.publish(rt, &mut publisher, counts);
-        let reader = board.split(&mut publisher);
-        let Ok(board) = Arc::new(alloc, board) else {
-            return Err(OpenError::Memory);
-        };
-        let Ok(theirs) = Arc::try_clone(&board) else {
-            return Err(OpenError::Memory);
-        };
+        let TwiceHeld {
+            board,
+            theirs,
+            publisher,
+            reader,
+        } = open_board(rt, alloc, counts)?;
         let lock = Mutex::new(Locked::new(recorder, theirs, counts, publisher));
         Ok((SharedBus { lock, board }, reader))
     }

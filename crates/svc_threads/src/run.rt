@@ -12,7 +12,7 @@ use crate::unit::run_unit;
 use std::alloc::Global;
 use std::sync::Wait;
 use std::thread;
-use std::thread::Threads;
+use std::thread::{JoinHandle, Threads};
 use svc_base::{Config, UnitId};
 use svc_history::{Recorder, Slip};
 use svc_image::Image;
@@ -72,6 +72,19 @@ pub fn run_over<P: Shared, G: Gate + Sync, R: Threads + Wait + Sync>(
     reconcile(image, config, port.into_recorder(), slips)
 }
 
+// What each of the threads brings back, in their order.
+fn join_all<R: Threads>(
+    rt: &R,
+    alloc: Global,
+    threads: Vec<JoinHandle<Result<Vec<Slip>, RunError>>>,
+) -> Result<Vec<Vec<Slip>>, RunError> {
+    let mut slips = Vec::with_capacity(alloc, threads.len())?;
+    for child in threads {
+        slips.push(child.join(rt)?)?;
+    }
+    Ok(slips)
+}
+
 // Runs each unit in a thread of its own, and gives what each brought back.
 fn run_all<P: Port + Sync, G: Gate + Sync, R: Threads + Wait + Sync>(
     rt: &R,
@@ -103,11 +116,7 @@ fn run_all<P: Port + Sync, G: Gate + Sync, R: Threads + Wait + Sync>(
                     Err(_) => return Err(RunError::NotStarted),
                 }
             }
-            let mut slips = Vec::with_capacity(alloc, config.units as usize)?;
-            for child in threads {
-                slips.push(child.join(rt)?)?;
-            }
-            Ok(slips)
+            join_all(rt, alloc, threads)
         },
     )
 }

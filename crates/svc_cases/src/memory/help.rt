@@ -7,6 +7,17 @@ use std::sync::Wait;
 use std::thread::Threads;
 use svc_command::execute;
 
+/// Makes the call of this name, where it is one of these.
+pub fn attempt<R: Threads + Wait + Sync + AllocGlobal>(rt: &R, name: &str) -> Option<Attempt> {
+    match name {
+        "help_explains_each_option" => Some(explains_each_option(rt)),
+        "each_help_has_an_example" => Some(has_an_example(rt)),
+        "help_ends_with_the_faults" => Some(ends_with_the_faults(rt)),
+        "ten_thousand_words" => Some(ten_thousand_words(rt)),
+        _ => None,
+    }
+}
+
 // What is printed at these words, which ask for help.
 fn help<R: Threads + Wait + Sync + AllocGlobal>(
     rt: &R,
@@ -60,7 +71,7 @@ const OPTIONS: [&str; 11] = [
 ];
 
 /// The help of each subcommand that opens a machine explains the numbers of its configuration.
-pub fn explains_each_option<R: Threads + Wait + Sync + AllocGlobal>(rt: &R) -> Attempt {
+fn explains_each_option<R: Threads + Wait + Sync + AllocGlobal>(rt: &R) -> Attempt {
     for subcommand in ["run", "script", "check", "profile", "show", "draw"] {
         if !explains(rt, subcommand, &OPTIONS)? {
             return Ok(false);
@@ -82,7 +93,7 @@ const EXAMPLES: [(&str, &str); 9] = [
 ];
 
 /// The help of each subcommand has an example.
-pub fn has_an_example<R: Threads + Wait + Sync + AllocGlobal>(rt: &R) -> Attempt {
+fn has_an_example<R: Threads + Wait + Sync + AllocGlobal>(rt: &R) -> Attempt {
     for (subcommand, example) in EXAMPLES {
         if !explains(rt, subcommand, &[example])? {
             return Ok(false);
@@ -107,13 +118,13 @@ const FILE_FAULT: &[u8] =
     b"a trace has fewer entries than --at or --from says, or\n                  memory was refused elsewhere\n";
 
 /// The program's help ends with the faults.
-pub fn ends_with_the_faults<R: Threads + Wait + Sync + AllocGlobal>(rt: &R) -> Attempt {
+fn ends_with_the_faults<R: Threads + Wait + Sync + AllocGlobal>(rt: &R) -> Attempt {
     let text = help(rt, &["svcsim", "--help"])?;
     Ok(has_all(&text, &FAULTS) && text.ends_with(FILE_FAULT))
 }
 
 /// Ten thousand words are too many, and nothing is done.
-pub fn ten_thousand_words<R: Threads + Wait + Sync + AllocGlobal>(rt: &R) -> Attempt {
+fn ten_thousand_words<R: Threads + Wait + Sync + AllocGlobal>(rt: &R) -> Attempt {
     let alloc = rt.alloc();
     let mut words = ready(line(alloc, &["svcsim", "seq"]))?;
     for _ in 0..10_000 {

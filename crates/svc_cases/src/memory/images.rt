@@ -7,6 +7,20 @@ use svc_image::samples::{P, P2};
 use svc_image::{Image, ImageError, Version};
 use svc_plain::{PlainError, run_tasks};
 
+/// Makes the call of this name, where it is one of these.
+pub fn attempt(alloc: Global, name: &str) -> Option<Attempt> {
+    match name {
+        "image_read" => Some(read(alloc)),
+        "image_read_front" => Some(read_front(alloc)),
+        "image_read_second" => Some(read_second(alloc)),
+        "image_write" => Some(write(alloc)),
+        "image_copy" => Some(copy(alloc)),
+        "image_upgrade" => Some(upgrade(alloc)),
+        "run_tasks" => Some(run_in_order(alloc)),
+        _ => None,
+    }
+}
+
 /// The image of two tasks.
 pub fn sample(alloc: Global) -> Result<Image, Refused> {
     ready(Image::read(alloc, &P))
@@ -20,7 +34,7 @@ fn is_sample(image: &Image) -> bool {
 }
 
 /// The sample is read.
-pub fn read(alloc: Global) -> Attempt {
+fn read(alloc: Global) -> Attempt {
     match Image::read(alloc, &P) {
         Ok(image) => Ok(is_sample(&image)),
         Err(ImageError::Memory) => Err(Refused::Told),
@@ -29,12 +43,12 @@ pub fn read(alloc: Global) -> Attempt {
 }
 
 /// All but the sample's last byte is read, which is too short.
-pub fn read_front(alloc: Global) -> Attempt {
+fn read_front(alloc: Global) -> Attempt {
     Ok(matches!(Image::read(alloc, &P[..199]), Err(ImageError::Short)))
 }
 
 /// The sample of version 2 is read: its first data word is read-only, and its limits are 3 and 6 turns.
-pub fn read_second(alloc: Global) -> Attempt {
+fn read_second(alloc: Global) -> Attempt {
     match Image::read(alloc, &P2) {
         Ok(image) => Ok(
             is_sample(&image)
@@ -48,7 +62,7 @@ pub fn read_second(alloc: Global) -> Attempt {
 }
 
 /// The sample is written.
-pub fn write(alloc: Global) -> Attempt {
+fn write(alloc: Global) -> Attempt {
     let image = sample(alloc)?;
     match image.write(alloc) {
         Ok(bytes) => Ok(bytes.as_slice() == P.as_slice()),
@@ -58,7 +72,7 @@ pub fn write(alloc: Global) -> Attempt {
 }
 
 /// The sample is copied.
-pub fn copy(alloc: Global) -> Attempt {
+fn copy(alloc: Global) -> Attempt {
     let image = sample(alloc)?;
     match image.copy(alloc) {
         Ok(copied) => Ok(is_sample(&copied)),
@@ -68,7 +82,7 @@ pub fn copy(alloc: Global) -> Attempt {
 }
 
 /// The sample is made an image of version 2: no word is read-only, and the limit stands at each entry.
-pub fn upgrade(alloc: Global) -> Attempt {
+fn upgrade(alloc: Global) -> Attempt {
     let image = sample(alloc)?;
     match image.upgrade(alloc) {
         Ok(upgraded) => Ok(
@@ -84,7 +98,7 @@ pub fn upgrade(alloc: Global) -> Attempt {
 }
 
 /// Both of the sample's tasks are run in order.
-pub fn run_in_order(alloc: Global) -> Attempt {
+fn run_in_order(alloc: Global) -> Attempt {
     let image = sample(alloc)?;
     match run_tasks(alloc, &image, 2) {
         Ok(outcome) => Ok(

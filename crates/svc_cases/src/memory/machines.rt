@@ -11,6 +11,19 @@ use svc_history::{Event, Machine, Recorder, TraceFaultKind, check_trace};
 use svc_machine::drive;
 use svc_schedule::{Youngest, run_schedule};
 
+/// Makes the call of this name, where it is one of these.
+pub fn attempt(alloc: Global, name: &str) -> Option<Attempt> {
+    match name {
+        "machine_open" => Some(open(alloc)),
+        "machine_open_from" => Some(open_from(alloc)),
+        "drive" => Some(driven(alloc)),
+        "recorder_open" => Some(record(alloc)),
+        "check_trace" => Some(check(alloc)),
+        "run_schedule" => Some(scheduled(alloc)),
+        _ => None,
+    }
+}
+
 // An event: a burst is made of what its unit's task is then.
 #[derive(Clone, Copy)]
 enum Line {
@@ -105,19 +118,19 @@ fn stepped(opened: Result<Machine, OpenError>) -> Attempt {
 }
 
 /// A machine is opened, and takes ten events.
-pub fn open(alloc: Global) -> Attempt {
+fn open(alloc: Global) -> Attempt {
     let config = four_units()?;
     stepped(Machine::open(alloc, sample(alloc)?, config))
 }
 
 /// A machine is opened from a later epoch on, and takes ten events.
-pub fn open_from(alloc: Global) -> Attempt {
+fn open_from(alloc: Global) -> Attempt {
     let config = four_units()?;
     stepped(Machine::open_from(alloc, sample(alloc)?, config, 7))
 }
 
 /// A recorder is opened, and takes ten events.
-pub fn record(alloc: Global) -> Attempt {
+fn record(alloc: Global) -> Attempt {
     let config = four_units()?;
     match Recorder::open(alloc, sample(alloc)?, config) {
         Ok(mut recorder) => Ok(applies(&mut recorder)),
@@ -126,7 +139,7 @@ pub fn record(alloc: Global) -> Attempt {
 }
 
 /// A machine is driven over the first task: it is begun, its store is submitted, and it is committed.
-pub fn driven(alloc: Global) -> Attempt {
+fn driven(alloc: Global) -> Attempt {
     let config = four_units()?;
     let image = sample(alloc)?;
     let lease = Lease::new(UnitId(0), 0, Core::start(&image, image.start()));
@@ -146,7 +159,7 @@ pub fn driven(alloc: Global) -> Attempt {
 }
 
 /// Both tasks are run by four units in one thread, the youngest task first.
-pub fn scheduled(alloc: Global) -> Attempt {
+fn scheduled(alloc: Global) -> Attempt {
     let config = ready(Config::new(4, 16, 2, 100, 1_000))?;
     let image = sample(alloc)?;
     match run_schedule(alloc, &image, config, 63, &mut Youngest) {
@@ -156,7 +169,7 @@ pub fn scheduled(alloc: Global) -> Attempt {
 }
 
 /// The history of the ten events is replayed.
-pub fn check(alloc: Global) -> Attempt {
+fn check(alloc: Global) -> Attempt {
     let config = four_units()?;
     let image = sample(alloc)?;
     match check_trace(alloc, &image, config, &ten_entries()) {

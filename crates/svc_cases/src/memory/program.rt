@@ -5,7 +5,10 @@ ghost use Rattle.std.specs.List.{starts_with};
 
 use super::attempt::{Attempt, Refused, ready};
 use super::texts::{EVENTS, TEXT, TRACE};
-use super::wanted::{CHECK, LIST, RUN, SCRIPT, SEQ};
+use super::wanted::{
+    CHECK, LIST, PROFILE, PROFILE_BY_TASK, PROFILE_BY_UNIT, PROFILE_BY_WORD, PROFILE_ROW, RUN,
+    RUN_ROW, SCHEDULE, SCRIPT, SEQ, SHOW, SHOW_AT,
+};
 use std::alloc::{AllocError, Global};
 use std::sync::Wait;
 use std::thread::Threads;
@@ -15,6 +18,41 @@ use svc_image::samples::P;
 use svc_program::{
     FileFault, Files, Order, Request, Schedule, Source, Table, TableRow, perform, tell,
 };
+
+/// Makes the call of this name, where it is one of these.
+pub fn attempt<R: Threads + Wait + Sync + AllocGlobal>(rt: &R, name: &str) -> Option<Attempt> {
+    attempt_image(rt, name).or(attempt_trace(rt, name))
+}
+
+// The calls that want no trace.
+fn attempt_image<R: Threads + Wait + Sync + AllocGlobal>(rt: &R, name: &str) -> Option<Attempt> {
+    match name {
+        "seq" => Some(seq(rt)),
+        "script" => Some(script(rt)),
+        "run" => Some(run(rt)),
+        "schedule" => Some(schedule(rt, Some("saved"), None, SCHEDULE)),
+        "run_row" => Some(schedule(rt, None, Some(HEADED), RUN_ROW)),
+        "assemble" => Some(assemble(rt)),
+        "list" => Some(list(rt)),
+        _ => None,
+    }
+}
+
+// The calls that read one.
+fn attempt_trace<R: Threads + Wait + Sync + AllocGlobal>(rt: &R, name: &str) -> Option<Attempt> {
+    match name {
+        "check" => Some(check(rt)),
+        "profile" => Some(profile(rt, None, PROFILE)),
+        "profile_by_task" => Some(profile(rt, Some(Table::Tasks), PROFILE_BY_TASK)),
+        "profile_by_unit" => Some(profile(rt, Some(Table::Units), PROFILE_BY_UNIT)),
+        "profile_by_word" => Some(profile(rt, Some(Table::Words), PROFILE_BY_WORD)),
+        "profile_row" => Some(profile(rt, Some(Table::Row(HEADED)), PROFILE_ROW)),
+        "show" => Some(show(rt, None, SHOW)),
+        "show_at" => Some(show(rt, Some(4), SHOW_AT)),
+        "draw" => Some(draw(rt)),
+        _ => None,
+    }
+}
 
 /// The files that the words name. What is saved is as if it had gone to a disk.
 #[derive(Drop)]
@@ -69,7 +107,7 @@ pub fn line(alloc: Global, words: &[&str]) -> Result<Vec<String>, AllocError> {
 }
 
 /// Both tasks are run in order, as the words of a command line say.
-pub fn seq<R: Threads + Wait + Sync + AllocGlobal>(rt: &R) -> Attempt {
+fn seq<R: Threads + Wait + Sync + AllocGlobal>(rt: &R) -> Attempt {
     let alloc = rt.alloc();
     let words = ready(line(alloc, &["svcsim", "seq", "p", "--tasks", "2"]))?;
     let mut out = Vec::new(alloc);
@@ -95,7 +133,7 @@ fn asked<R: Threads + Wait + Sync + AllocGlobal>(
 }
 
 /// Ten events are done.
-pub fn script<R: Threads + Wait + Sync + AllocGlobal>(rt: &R) -> Attempt {
+fn script<R: Threads + Wait + Sync + AllocGlobal>(rt: &R) -> Attempt {
     let request = Request::Script {
         image: Source::File("p"),
         config: ready(Config::new(4, 16, 2, 10, 1))?,
@@ -105,7 +143,7 @@ pub fn script<R: Threads + Wait + Sync + AllocGlobal>(rt: &R) -> Attempt {
 }
 
 /// The trace of ten events is checked.
-pub fn check<R: Threads + Wait + Sync + AllocGlobal>(rt: &R) -> Attempt {
+fn check<R: Threads + Wait + Sync + AllocGlobal>(rt: &R) -> Attempt {
     let request = Request::Check {
         image: Source::File("p"),
         config: ready(Config::new(4, 16, 2, 10, 1))?,
@@ -115,7 +153,7 @@ pub fn check<R: Threads + Wait + Sync + AllocGlobal>(rt: &R) -> Attempt {
 }
 
 /// One task is run by a unit in a thread, and its trace is saved.
-pub fn run<R: Threads + Wait + Sync + AllocGlobal>(rt: &R) -> Attempt {
+fn run<R: Threads + Wait + Sync + AllocGlobal>(rt: &R) -> Attempt {
     let request = Request::Run {
         image: Source::BuiltIn,
         config: ready(Config::new(1, 16, 2, 100, 1000))?,
@@ -127,7 +165,7 @@ pub fn run<R: Threads + Wait + Sync + AllocGlobal>(rt: &R) -> Attempt {
 }
 
 /// Two tasks are run by four units in one thread, the youngest task first.
-pub fn schedule<'a, R: Threads + Wait + Sync + AllocGlobal>(
+fn schedule<'a, R: Threads + Wait + Sync + AllocGlobal>(
     rt: &R,
     trace: Option<&'a str>,
     row: Option<TableRow<'a>>,
@@ -144,13 +182,13 @@ pub fn schedule<'a, R: Threads + Wait + Sync + AllocGlobal>(
 }
 
 /// A row of a table after the names of the columns.
-pub const HEADED: TableRow<'static> = TableRow {
+const HEADED: TableRow<'static> = TableRow {
     label: "a",
     header: true,
 };
 
 /// What the trace of ten events cost is told, by this table or in all.
-pub fn profile<R: Threads + Wait + Sync + AllocGlobal>(
+fn profile<R: Threads + Wait + Sync + AllocGlobal>(
     rt: &R,
     by: Option<Table<'_>>,
     wanted: &str,
@@ -165,11 +203,7 @@ pub fn profile<R: Threads + Wait + Sync + AllocGlobal>(
 }
 
 /// The machine to which the trace of ten events leads is shown, after so many of them or after all.
-pub fn show<R: Threads + Wait + Sync + AllocGlobal>(
-    rt: &R,
-    at: Option<u64>,
-    wanted: &str,
-) -> Attempt {
+fn show<R: Threads + Wait + Sync + AllocGlobal>(rt: &R, at: Option<u64>, wanted: &str) -> Attempt {
     let request = Request::Show {
         image: Source::File("p"),
         config: ready(Config::new(4, 16, 2, 10, 1))?,
@@ -180,7 +214,7 @@ pub fn show<R: Threads + Wait + Sync + AllocGlobal>(
 }
 
 /// A picture of the ten events is made, and saved.
-pub fn draw<R: Threads + Wait + Sync + AllocGlobal>(rt: &R) -> Attempt {
+fn draw<R: Threads + Wait + Sync + AllocGlobal>(rt: &R) -> Attempt {
     let request = Request::Draw {
         image: Source::File("p"),
         config: ready(Config::new(4, 16, 2, 10, 1))?,
@@ -193,7 +227,7 @@ pub fn draw<R: Threads + Wait + Sync + AllocGlobal>(rt: &R) -> Attempt {
 }
 
 /// A text is assembled, and its image is saved.
-pub fn assemble<R: Threads + Wait + Sync + AllocGlobal>(rt: &R) -> Attempt {
+fn assemble<R: Threads + Wait + Sync + AllocGlobal>(rt: &R) -> Attempt {
     let request = Request::Assemble {
         text: "text",
         image: "saved",
@@ -202,7 +236,7 @@ pub fn assemble<R: Threads + Wait + Sync + AllocGlobal>(rt: &R) -> Attempt {
 }
 
 /// An image is listed.
-pub fn list<R: Threads + Wait + Sync + AllocGlobal>(rt: &R) -> Attempt {
+fn list<R: Threads + Wait + Sync + AllocGlobal>(rt: &R) -> Attempt {
     let request = Request::List {
         image: Source::File("p"),
     };

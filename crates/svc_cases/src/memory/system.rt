@@ -9,6 +9,16 @@ use std::{fs, rt};
 use svc_command::{Disk, words_of};
 use svc_program::{Fault, Files};
 
+/// Makes the call of this name, where it is one of these.
+pub fn attempt<R: rt::Files + AllocGlobal>(rt: &R, name: &str) -> Option<Attempt> {
+    match name {
+        "words" => Some(words(rt.alloc())),
+        "words_that_are_no_text" => Some(words_that_are_no_text(rt.alloc())),
+        "disk" => Some(disk(rt)),
+        _ => None,
+    }
+}
+
 // A command line of three words of one byte, of which the second may be any.
 #[derive(Drop)]
 struct Given {
@@ -47,7 +57,7 @@ fn is_read(words: &[String]) -> bool {
 }
 
 /// Three words are read.
-pub fn words(alloc: Global) -> Attempt {
+fn words(alloc: Global) -> Attempt {
     match words_of(&(Given { second: b'b' }, alloc)) {
         Ok(words) => Ok(is_read(&words)),
         Err(Fault::File) => Err(Refused::Told),
@@ -56,14 +66,14 @@ pub fn words(alloc: Global) -> Attempt {
 }
 
 /// Of three words the second is no UTF-8.
-pub fn words_that_are_no_text(alloc: Global) -> Attempt {
+fn words_that_are_no_text(alloc: Global) -> Attempt {
     Ok(matches!(words_of(&(Given { second: 0xFF }, alloc)), Err(Fault::File)))
 }
 
 const NAME: &str = "saved-by-a-call.csv";
 
 /// A file is saved, read, and known by another spelling of its path.
-pub fn disk<R: rt::Files + AllocGlobal>(rt: &R) -> Attempt {
+fn disk<R: rt::Files + AllocGlobal>(rt: &R) -> Attempt {
     let mut disk = Disk { rt };
     let is_right = disk.open(NAME).is_err()
         && disk.save(NAME, b"kind,unit\n").is_ok()

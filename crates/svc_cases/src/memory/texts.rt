@@ -8,6 +8,18 @@ use svc_report::{
     Counts, ReportError, read_script, read_trace, write_entry, write_summary, write_trace,
 };
 
+/// Makes the call of this name, where it is one of these.
+pub fn attempt(alloc: Global, name: &str) -> Option<Attempt> {
+    match name {
+        "write_trace" => Some(write_history(alloc)),
+        "write_entry" => Some(write_row(alloc)),
+        "write_summary" => Some(write_end(alloc)),
+        "read_trace" => Some(read_history(alloc)),
+        "read_script" => Some(read_events(alloc)),
+        _ => None,
+    }
+}
+
 /// The trace of ten events, in which the second task loads too early.
 pub const TRACE: &str = "kind,unit,arg,local,ask,reply,addr,word,served,from,cause,first,squashed
 assign,0,0,,,assigned,,0,,,,,
@@ -87,14 +99,14 @@ fn written(answer: Result<(), ReportError>, text: &[u8], wanted: &str) -> Attemp
 }
 
 /// The ten entries are written.
-pub fn write_history(alloc: Global) -> Attempt {
+fn write_history(alloc: Global) -> Attempt {
     let mut room = ready(Vec::with_capacity(alloc, ROOM))?;
     let answer = write_trace(alloc, &ten_entries(), &mut room);
     written(answer, &room, TRACE)
 }
 
 /// The fourth of them is written.
-pub fn write_row(alloc: Global) -> Attempt {
+fn write_row(alloc: Global) -> Attempt {
     let mut room = ready(Vec::with_capacity(alloc, ROOM))?;
     let [_, _, _, store, ..] = ten_entries();
     let answer = write_entry(alloc, &store, &mut room);
@@ -103,7 +115,7 @@ pub fn write_row(alloc: Global) -> Attempt {
 }
 
 /// The summary is written.
-pub fn write_end(alloc: Global) -> Attempt {
+fn write_end(alloc: Global) -> Attempt {
     let counts = Counts::of(&ten_entries());
     let mut room = ready(Vec::with_capacity(alloc, ROOM))?;
     let answer = write_summary(alloc, &[5], 2, Ending::Exit(5), Some(counts), &mut room);
@@ -111,7 +123,7 @@ pub fn write_end(alloc: Global) -> Attempt {
 }
 
 /// The trace is read.
-pub fn read_history(alloc: Global) -> Attempt {
+fn read_history(alloc: Global) -> Attempt {
     match read_trace(alloc, TRACE.as_bytes()) {
         Ok(entries) => Ok(entries.as_slice() == ten_entries().as_slice()),
         Err(ReportError::Memory) => Err(Refused::Told),
@@ -120,7 +132,7 @@ pub fn read_history(alloc: Global) -> Attempt {
 }
 
 /// The script is read.
-pub fn read_events(alloc: Global) -> Attempt {
+fn read_events(alloc: Global) -> Attempt {
     match read_script(alloc, EVENTS.as_bytes()) {
         Ok(steps) => Ok(steps.len() == 10),
         Err(ReportError::Memory) => Err(Refused::Told),

@@ -12,6 +12,14 @@ use svc_image::Image;
 use svc_image::samples::P1;
 use svc_threads::{BoardPass, Gate, Phase, RunError, SharedBus, run_unit};
 
+/// Makes the call of this name, where it is one of these.
+pub fn attempt<R: Wait>(rt: &R, alloc: Global, name: &str) -> Option<Attempt> {
+    match name {
+        "run_unit" => Some(run_alone(rt, alloc)),
+        _ => None,
+    }
+}
+
 // Lets every event through.
 struct Open;
 
@@ -86,7 +94,7 @@ fn judged(slips: Result<usize, RunError>, recorder: &Recorder) -> Attempt {
 }
 
 /// A unit runs one task over a bus of its own.
-pub fn run_alone<R: Wait>(rt: &R, alloc: Global) -> Attempt {
+fn run_alone<R: Wait>(rt: &R, alloc: Global) -> Attempt {
     let image = one_task(alloc)?;
     match SharedBus::open(rt, alloc, one_unit(alloc)?) {
         Ok((bus, pass)) => {

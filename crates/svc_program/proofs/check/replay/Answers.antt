@@ -1,5 +1,5 @@
 -- A legal history has no more entries than its configuration allows events.
-use Rattle.std.proofs.Common.{◌≡◌, ◌≤◌, List, length, ap, subst, arith}
+use Rattle.std.proofs.Common.{length, ap, subst, arith}
 use Rattle.svc_base.specs.declared.config.Config.{Config}
 use Rattle.svc_image.specs.Image.{Image}
 use Rattle.svc_history_laws.specs.Histories.{LeadsOn}

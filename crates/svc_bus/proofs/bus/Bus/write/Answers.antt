@@ -24,6 +24,12 @@ use Rattle.svc_bus.proofs.Planning.{HasList, listed, room_to_store, refusal_is, 
 use Rattle.svc_bus.proofs.Writing.{IsPlanned, IsWritten, written_bus, written_agreed}
 use Rattle.svc_bus.proofs.bus.Bus.write.Goals as goal
 
+pub place_of-place-requires : goal.place_of-place-requires
+unfolding observed
+place_of-place-requires c =
+    let work = rw (← c.self.view_is) at c.requires.at_work in
+    (work.0, work.1.within, work.1.unit_is)
+
 pub fill-requires-clause-room : goal.fill-requires-clause-room
 fill-requires-clause-room c = room_for_each _ c.self.invariant c.new-probes.result c.deref.result.now c.new-probes.ensures.searches c.new-probes.ensures.places c.deref.ensures.value
 
@@ -58,6 +64,10 @@ store_line-requires-clause-active c =
     (left_is _ c.self.invariant c.args.unit.0 c.place_of-place.result c.args.word.0 c.place_of-place.ensures.within c.place_of-place.ensures.at_work c.fill.new.self list c.plan_write-plan.result.victim c.len-tasks.result c.len-tasks.ensures.count c.plan_write-plan.ensures.victim c.unwrap_or-left.result c.unwrap_or-left.ensures)
     c.plan_write-plan.ensures.valid c.plan_write-plan.ensures.line c.plan_write-plan.ensures.others c.plan_write-plan.ensures.next c.plan_write-plan.ensures.previous c.plan_write-plan.ensures.linked known
 
+pub store_line-requires-clause-in_memory : goal.store_line-requires-clause-in_memory
+unfolding observed
+store_line-requires-clause-in_memory c = rw c.deref_mut-2.ensures.value (rw (← c.self.view_is) at c.requires.in_memory)
+
 pub store_line-requires-clause-room : goal.store_line-requires-clause-room
 store_line-requires-clause-room c = room_to_store _ c.self.invariant c.deref_mut.result.now c.deref_mut.ensures.value c.new-probes.result c.fill.new.probes c.new-probes.ensures.searches c.new-probes.ensures.places (subst (CountsOneOfEach c.new-probes.result c.fill.new.probes) c.deref.ensures.value c.fill.ensures.counted)
 
@@ -68,6 +78,10 @@ returns-in_err-store_line-clause-refused c =
     let answer = refusal_is _ c.self.invariant c.args.unit.0 c.args.word.0 known c.deref_mut.result.now c.deref_mut.ensures.value c.deref_mut-2.result.now c.deref_mut-2.ensures.value in
     let refused : full_refusal (observed c.args.self.now) c.args.unit.0 c.args.word.0 ≡ Some c.in_err-store_line.field-0.0 = rw (← c.self.view_is) (sym answer ∙ c.in_err-store_line.ensures.refused) in
     search rules
+
+pub empty_spill-requires : goal.empty_spill-requires
+unfolding observed
+empty_spill-requires c = rw c.self.invariant.spills (rw (← c.self.view_is) at c.requires.in_memory)
 
 pub victim_of-requires-clause-within : goal.victim_of-requires-clause-within
 victim_of-requires-clause-within c =

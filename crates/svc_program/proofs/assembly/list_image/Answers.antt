@@ -1,0 +1,16 @@
+use Rattle.std.proofs.Common.{ℕ, List, refl, subst, ◌∙◌}
+use Rattle.std.specs.Io.KnownBytes.{Appends}
+use Rattle.svc_program.proofs.Reported.{appended_and_kept}
+use Rattle.svc_program.proofs.assembly.list_image.Goals as goal
+
+pub returns-clause-listed : goal.returns-clause-listed
+returns-clause-listed g c =
+    let old = g.O.Write.contents c.args.out.now in
+    let written = g.O.Write.contents c.write_all.new.self in
+    let listed = c.in_ok-text.ensures in
+    record {
+      text = appended_and_kept old written (g.O.Write.contents c.flush.new.self) _
+          (subst (λ (bytes : List ℕ). Appends old written bytes) (c.deref.ensures.value ∙ listed.listing) c.in_ok-write_all.ensures.bytes) c.in_ok-flush.ensures.bytes;
+      program = rw listed.listing at listed.program;
+      status = refl;
+    }
