@@ -6,6 +6,7 @@ mod arguments;
 mod command;
 mod disk;
 mod helps;
+mod line;
 mod program;
 mod reading;
 mod words;

@@ -1,7 +1,7 @@
 //! The program over any words, files and streams.
 
 ghost use Rattle.std.specs.Prelude.{◌≡◌, ◌≢◌, ◌⊎◌, ◌≤◌, IfOk, IfErr};
-ghost use Rattle.svc_request.specs.Faults.{IsReportFault};
+ghost use Rattle.svc_request.specs.Faults.{IsOutputFault};
 ghost use Rattle.svc_program.specs.Requests.{Does};
 ghost use Rattle.svc_command.specs.Asked.{KeepsAsked, MayAsk, texts};
 
@@ -45,7 +45,7 @@ fn answer<R: Threads + Wait + Sync, F: Files, O: Write>(
 ) -> Result<u8, Fault>
     ensures done { IfOk result (λ status. (request : Request) × MayAsk (texts words.now) request
         × Does request (F.held files.old) (F.held files.new) (O.contents out.old) (O.contents out.new) status) }
-    ensures silent { IfErr result (λ fault. IsReportFault fault ⊎ (out.new ≡ out.old)) }
+    ensures silent { IfErr result (λ fault. IsOutputFault fault ⊎ (out.new ≡ out.old)) }
     ensures kept { KeepsAsked (texts words.now) (F.held files.old) (F.held files.new) }
 {
     let request = request_of(alloc, words)?;

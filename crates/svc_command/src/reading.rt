@@ -1,15 +1,21 @@
 //! What the words of a command line ask for.
 
-ghost use Rattle.std.specs.Prelude.{◌≡◌, ◌≢◌, IfOk, IsTrue, codes};
-ghost use Rattle.svc_command.specs.Asked.{Has, IsAskedBy, IsBuiltInRun, IsHelpWord, IsNamed, IsVersionWord, MayAsk, Names, texts};
+ghost use Rattle.std.specs.Prelude.{◌≡◌, ◌<◌, ◌⊎◌, length, IfOk, IfSome, IsTrue, codes};
+ghost use Rattle.svc_command.specs.Asked.{IsBuiltInRun, IsHelpWord, IsVersionWord, MayAsk, Names};
+ghost use Rattle.svc_command.specs.Given.{Gives, GivesConfig, GivesImage, GivesOrder, GivesRow, GivesRun, GivesSchedule, GivesTable, GivesTraced};
+ghost use Rattle.svc_command.specs.Line.{Has, HasWord, IsGivenNumber, IsNamed, IsNumberOf, IsValueOf, texts};
 
 use crate::command::command;
+use crate::line::Line;
 use clap::error::ErrorKind;
 use clap::{ArgMatches, Error};
 use std::alloc::Global;
 use svc_base::Config;
 use svc_core::MAX_BURST_TURNS;
-use svc_program::{Fault, Order, Request, Schedule, Source, Table, TableRow};
+use svc_program::{
+    Assembly, Fault, Order, Picture, Request, Run, Schedule, Scripted, Source, Table, TableRow,
+    Tasks, Traced,
+};
 
 const SEED_ALONE: &str = "error: the argument '--seed <N>' is of '--schedule random' alone
 
@@ -35,19 +41,19 @@ pub fn request_of<'a>(alloc: Global, words: &'a [String]) -> Result<Request<'a>,
 fn built_in<'a>() -> Result<Request<'a>, Fault>
     ensures { IfOk result IsBuiltInRun }
 {
-    Ok(Request::Run {
+    Ok(Request::Run(Run {
         image: Source::BuiltIn,
         config: Config::new(1, 16, 2, 100_000, 1_000_000)?,
         schedule: None,
         trace: None,
         row: None,
-    })
+    }))
 }
 
 // What the parser answers without a subcommand: the help or the version, or a mistake.
 fn unread<'a>(alloc: Global, words: &[String], error: &Error) -> Result<Request<'a>, Fault>
     ensures named { IfOk result (Names (texts words.now)) }
-    ensures other { IfOk result (λ asked. ¬ (IsBuiltInRun asked)) }
+    ensures gives { IfOk result (Gives (texts words.now)) }
 {
     let text = format!(in alloc; "{error}")?;
     match error.kind() {
@@ -98,162 +104,139 @@ fn asked<'a>(
     matches: &ArgMatches<'a>,
 ) -> Result<Request<'a>, Fault>
     ensures named { IfOk result (Names (texts words.now)) }
-    ensures other { IfOk result (λ asked. ¬ (IsBuiltInRun asked)) }
+    ensures gives { IfOk result (Gives (texts words.now)) }
 {
     match matches.subcommand() {
-        Some((name, given)) if is_named(words, name) => asked_by(alloc, name, given),
+        Some((name, given)) if is_named(words, name) => {
+            asked_by(alloc, name, Line { words, given })
+        }
         // The parser reads no line that begins otherwise.
         _ => Err(Fault::File),
     }
 }
 
 // What the subcommand of this name asks for.
-fn asked_by<'a>(alloc: Global, name: &str, given: &ArgMatches<'a>) -> Result<Request<'a>, Fault>
-    ensures { IfOk result (IsAskedBy name.now) }
+fn asked_by<'a>(alloc: Global, name: &str, line: Line<'_, 'a>) -> Result<Request<'a>, Fault>
+    ensures named { IsNamed name.now (texts line.entry.words.now)
+        → IfOk result (Names (texts line.entry.words.now)) }
+    ensures gives { IfOk result (Gives (texts line.entry.words.now)) }
 {
     match name {
-        "run" => run(alloc, given),
-        "seq" => sequential(given),
-        "script" => script(given),
-        "check" => check(given),
-        "profile" => profile(given),
-        "show" => show(given),
-        "draw" => draw(given),
-        "assemble" => assemble(given),
-        "list" => list(given),
+        "run" => Ok(Request::Run(run(alloc, line)?)),
+        "seq" => Ok(Request::Sequential(tasks(line)?)),
+        "script" => Ok(Request::Script(scripted(line)?)),
+        "check" => Ok(Request::Check(traced(line)?)),
+        "profile" => Ok(Request::Profile(traced(line)?, table(line)?)),
+        "show" => Ok(Request::Show(traced(line)?, line.index("at")?)),
+        "draw" => Ok(Request::Draw(traced(line)?, picture(line)?)),
+        "assemble" => Ok(Request::Assemble(assembly(line)?)),
+        "list" => Ok(Request::List(image(line)?)),
         // The parser reads no other subcommand.
         _ => Err(Fault::File),
     }
 }
 
-// What `run` asks for.
-fn run<'a>(alloc: Global, given: &ArgMatches<'a>) -> Result<Request<'a>, Fault>
-    ensures { IfOk result (IsAskedBy (codes "run")) }
+// The run that `run` asks for. A mistake of the line is told before one of the configuration.
+fn run<'a>(alloc: Global, line: Line<'_, 'a>) -> Result<Run<'a>, Fault>
+    ensures { IfOk result (GivesRun (texts line.entry.words.now)) }
 {
-    Ok(Request::Run {
-        image: image(given)?,
-        config: configuration(given)?,
-        schedule: schedule(alloc, given)?,
-        trace: given.get_str("trace"),
-        row: row(given),
+    let image = image(line)?;
+    let schedule = schedule(alloc, line)?;
+    Ok(Run {
+        image,
+        config: configuration(line)?,
+        schedule,
+        trace: line.option("trace")?,
+        row: row(line)?,
     })
 }
 
-// What `seq` asks for.
-fn sequential<'a>(given: &ArgMatches<'a>) -> Result<Request<'a>, Fault>
-    ensures { IfOk result (IsAskedBy (codes "seq")) }
+// The tasks that `seq` asks for.
+fn tasks<'a>(line: Line<'_, 'a>) -> Result<Tasks<'a>, Fault>
+    ensures image { IfOk result (λ tasks. GivesImage (texts line.entry.words.now) tasks.image) }
+    ensures most { IfOk result (λ tasks. IsGivenNumber (codes "tasks") tasks.most (texts line.entry.words.now)) }
 {
-    Ok(Request::Sequential {
-        image: image(given)?,
-        tasks: number(given, "tasks")?,
+    Ok(Tasks {
+        image: image(line)?,
+        most: line.given_number("tasks")?,
     })
 }
 
-// What `script` asks for.
-fn script<'a>(given: &ArgMatches<'a>) -> Result<Request<'a>, Fault>
-    ensures { IfOk result (IsAskedBy (codes "script")) }
+// The script that `script` asks for.
+fn scripted<'a>(line: Line<'_, 'a>) -> Result<Scripted<'a>, Fault>
+    ensures image { IfOk result (λ it. GivesImage (texts line.entry.words.now) it.image) }
+    ensures config { IfOk result (λ it. GivesConfig (texts line.entry.words.now) it.config) }
+    ensures events { IfOk result (λ it. HasWord it.events.now (texts line.entry.words.now)) }
 {
-    Ok(Request::Script {
-        image: image(given)?,
-        config: configuration(given)?,
-        events: file(given, "EVENTS")?,
+    Ok(Scripted {
+        image: image(line)?,
+        config: configuration(line)?,
+        events: line.file("EVENTS")?,
     })
 }
 
-// What `check` asks for.
-fn check<'a>(given: &ArgMatches<'a>) -> Result<Request<'a>, Fault>
-    ensures { IfOk result (IsAskedBy (codes "check")) }
+// The trace that a subcommand replays.
+fn traced<'a>(line: Line<'_, 'a>) -> Result<Traced<'a>, Fault>
+    ensures { IfOk result (GivesTraced (texts line.entry.words.now)) }
 {
-    Ok(Request::Check {
-        image: image(given)?,
-        config: configuration(given)?,
-        trace: file(given, "TRACE")?,
+    Ok(Traced {
+        image: image(line)?,
+        config: configuration(line)?,
+        trace: line.file("TRACE")?,
     })
 }
 
-// What `profile` asks for.
-fn profile<'a>(given: &ArgMatches<'a>) -> Result<Request<'a>, Fault>
-    ensures { IfOk result (IsAskedBy (codes "profile")) }
+// The picture that `draw` asks for.
+fn picture<'a>(line: Line<'_, 'a>) -> Result<Picture<'a>, Fault>
+    ensures file { IfOk result (λ it. HasWord it.file.now (texts line.entry.words.now)) }
+    ensures from { IfOk result (λ it. IsNumberOf (codes "from") 0 it.from (texts line.entry.words.now)) }
+    ensures count { IfOk result (λ it. IsNumberOf (codes "count") 400 it.count (texts line.entry.words.now)) }
 {
-    Ok(Request::Profile {
-        image: image(given)?,
-        config: configuration(given)?,
-        trace: file(given, "TRACE")?,
-        by: table(given)?,
+    Ok(Picture {
+        file: line.file("FILE.svg")?,
+        from: line.number("from", 0)?,
+        count: line.number("count", 400)?,
     })
 }
 
-// What `show` asks for.
-fn show<'a>(given: &ArgMatches<'a>) -> Result<Request<'a>, Fault>
-    ensures { IfOk result (IsAskedBy (codes "show")) }
+// The text that `assemble` asks for.
+fn assembly<'a>(line: Line<'_, 'a>) -> Result<Assembly<'a>, Fault>
+    ensures text { IfOk result (λ it. HasWord it.text.now (texts line.entry.words.now)) }
+    ensures image { IfOk result (λ it. HasWord it.image.now (texts line.entry.words.now)) }
 {
-    Ok(Request::Show {
-        image: image(given)?,
-        config: configuration(given)?,
-        trace: file(given, "TRACE")?,
-        at: given.get_one::<u64>("at"),
+    Ok(Assembly {
+        text: line.file("FILE")?,
+        image: line.file("IMAGE")?,
     })
-}
-
-// What `draw` asks for.
-fn draw<'a>(given: &ArgMatches<'a>) -> Result<Request<'a>, Fault>
-    ensures { IfOk result (IsAskedBy (codes "draw")) }
-{
-    Ok(Request::Draw {
-        image: image(given)?,
-        config: configuration(given)?,
-        trace: file(given, "TRACE")?,
-        picture: file(given, "FILE.svg")?,
-        from: number(given, "from")?,
-        count: number(given, "count")?,
-    })
-}
-
-// What `assemble` asks for.
-fn assemble<'a>(given: &ArgMatches<'a>) -> Result<Request<'a>, Fault>
-    ensures { IfOk result (IsAskedBy (codes "assemble")) }
-{
-    Ok(Request::Assemble {
-        text: file(given, "FILE")?,
-        image: file(given, "IMAGE")?,
-    })
-}
-
-// What `list` asks for.
-fn list<'a>(given: &ArgMatches<'a>) -> Result<Request<'a>, Fault>
-    ensures { IfOk result (IsAskedBy (codes "list")) }
-{
-    Ok(Request::List {
-        image: image(given)?,
-    })
-}
-
-// A file that has to be named, so a line that was read names it.
-fn file<'a>(given: &ArgMatches<'a>, name: &str) -> Result<&'a str, Fault> {
-    given.get_str(name).ok_or(Fault::File)
 }
 
 // The image's file.
-fn image<'a>(given: &ArgMatches<'a>) -> Result<Source<'a>, Fault>
-    ensures { IfOk result (λ source. source ≢ Source.BuiltIn) }
+fn image<'a>(line: Line<'_, 'a>) -> Result<Source<'a>, Fault>
+    ensures { IfOk result (GivesImage (texts line.entry.words.now)) }
 {
-    let name = file(given, "IMAGE")?;
+    let name = line.file("IMAGE")?;
     Ok(Source::File(name))
 }
 
 // The row of a table that the options ask for, if any.
-fn row<'a>(given: &ArgMatches<'a>) -> Option<TableRow<'a>> {
-    let label = given.get_str("row")?;
-    Some(TableRow {
-        label,
-        header: given.get_flag("header"),
-    })
+fn row<'a>(line: Line<'_, 'a>) -> Result<Option<TableRow<'a>>, Fault>
+    ensures { IfOk result (λ row. IfSome row (GivesRow (texts line.entry.words.now))) }
+{
+    match line.option("row")? {
+        Some(label) => Ok(Some(TableRow {
+            label,
+            header: line.flag("header"),
+        })),
+        None => Ok(None),
+    }
 }
 
 // The table of a profile that the options name, if any.
-fn table<'a>(given: &ArgMatches<'a>) -> Result<Option<Table<'a>>, Fault> {
-    match given.get_str("by") {
-        None => Ok(row(given).map(Table::Row)),
+fn table<'a>(line: Line<'_, 'a>) -> Result<Option<Table<'a>>, Fault>
+    ensures { IfOk result (λ table. IfSome table (GivesTable (texts line.entry.words.now))) }
+{
+    match line.option("by")? {
+        None => Ok(row(line)?.map(Table::Row)),
         Some("task") => Ok(Some(Table::Tasks)),
         Some("unit") => Ok(Some(Table::Units)),
         Some("word") => Ok(Some(Table::Words)),
@@ -263,45 +246,51 @@ fn table<'a>(given: &ArgMatches<'a>) -> Result<Option<Table<'a>>, Fault> {
 }
 
 // The schedule that the options give, if any.
-fn schedule(alloc: Global, given: &ArgMatches<'_>) -> Result<Option<Schedule>, Fault> {
-    let Some(name) = given.get_str("schedule") else {
+fn schedule(alloc: Global, line: Line<'_, '_>) -> Result<Option<Schedule>, Fault>
+    ensures { IfOk result (λ schedule. IfSome schedule (GivesSchedule (texts line.entry.words.now))) }
+{
+    let Some(name) = line.option("schedule")? else {
         return Ok(None);
     };
-    let order = order(alloc, name, given.get_one::<u32>("seed"))?;
-    let burst = given.get_one::<u32>("burst").unwrap_or(MAX_BURST_TURNS);
+    let order = order(alloc, name, line)?;
+    let burst = line.number("burst", MAX_BURST_TURNS)?;
     // The parser reads no other burst.
     let schedule = Schedule::new(order, burst).ok_or(Fault::File)?;
     Ok(Some(schedule))
 }
 
 // The order of this name. A seed is that of a random order alone.
-fn order(alloc: Global, name: &str, seed: Option<u32>) -> Result<Order, Fault> {
-    match (name, seed) {
-        ("random", seed) => Ok(Order::Random {
-            seed: seed.unwrap_or(0),
-        }),
-        (_, Some(_)) => Err(Fault::CommandLine(String::from_str(alloc, SEED_ALONE)?)),
-        ("rotate", None) => Ok(Order::Rotate),
-        ("oldest", None) => Ok(Order::Oldest),
-        ("youngest", None) => Ok(Order::Youngest),
+fn order(alloc: Global, name: &str, line: Line<'_, '_>) -> Result<Order, Fault>
+    ensures { IsValueOf (codes "schedule") name.now (texts line.entry.words.now)
+        → IfOk result (GivesOrder (texts line.entry.words.now)) }
+{
+    if name == "random" {
+        return Ok(Order::Random {
+            seed: line.number("seed", 0)?,
+        });
+    }
+    if line.given.contains_id("seed") {
+        return Err(Fault::CommandLine(String::from_str(alloc, SEED_ALONE)?));
+    }
+    match name {
+        "rotate" => Ok(Order::Rotate),
+        "oldest" => Ok(Order::Oldest),
+        "youngest" => Ok(Order::Youngest),
         // The parser reads no other name.
         _ => Err(Fault::File),
     }
 }
 
 // The configuration that the options give.
-fn configuration(given: &ArgMatches<'_>) -> Result<Config, Fault> {
+fn configuration(line: Line<'_, '_>) -> Result<Config, Fault>
+    ensures { IfOk result (GivesConfig (texts line.entry.words.now)) }
+{
     let config = Config::new(
-        number(given, "units")?,
-        number(given, "sets")?,
-        number(given, "ways")?,
-        number(given, "events")?,
-        number(given, "turns")?,
+        line.number("units", 4)?,
+        line.number("sets", 16)?,
+        line.number("ways", 2)?,
+        line.number("events", 100_000)?,
+        line.number("turns", 1_000_000)?,
     )?;
     Ok(config)
-}
-
-// The number of an option. Each is required or has a default, so a line that was read has it.
-fn number(given: &ArgMatches<'_>, name: &str) -> Result<u32, Fault> {
-    given.get_one::<u32>(name).ok_or(Fault::File)
 }

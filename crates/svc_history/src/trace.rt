@@ -1,6 +1,6 @@
 // A trace, replayed and checked.
 
-ghost use Rattle.std.specs.Prelude.{◌≡◌, ◌++◌, ◌∷◌, [], ◌≤◌, None, IfOk, IfErr, IfSome, OnOk, length, take};
+ghost use Rattle.std.specs.Prelude.{◌≡◌, ◌≢◌, ◌++◌, ◌∷◌, [], ◌≤◌, None, IfOk, IfErr, IfSome, OnOk, length, take};
 ghost use Rattle.svc_machine.specs.Events.{event_of};
 ghost use Rattle.svc_machine_laws.specs.Events.{Submit};
 ghost use Rattle.svc_history_laws.specs.Replay.{IsReplay, Lacks, ReplaysAs};
@@ -129,7 +129,7 @@ pub fn open_trace(alloc: Global, image: &Image, config: Config) -> Result<Record
 /// Goes on with the replay of these entries, of which the recorder has the first ones, up to the given number of them.
 ///
 /// Errors: the first faulty entry, with what is wrong with it. The recorder's history may then end with another entry
-/// than the trace's.
+/// than the trace's. No memory is taken, so none is refused.
 pub fn check_on(recorder: &mut Recorder, entries: &[Entry], count: usize) -> Result<(), TraceFault>
     requires begun { recorder.old.entries ≡ take (length recorder.old.entries) entries.now }
     requires further { length recorder.old.entries ≤ count }
@@ -139,6 +139,7 @@ pub fn check_on(recorder: &mut Recorder, entries: &[Entry], count: usize) -> Res
     ensures entries { OnOk result (recorder.new.entries ≡ take count entries.now) }
     ensures fault { IfErr result
         (IsFault recorder.old.machine.image recorder.old.machine.config entries.now) }
+    ensures no_memory { IfErr result (λ fault. fault.kind ≢ TraceFaultKind.Memory) }
 {
     let mut burst = Burst::empty(UnitId(0));
     for index in recorder.entries().len()..count {

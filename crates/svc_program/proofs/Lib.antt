@@ -1,7 +1,7 @@
+pub mod Answering
 pub mod Assembled
-pub mod Doing
 pub mod Playing
 pub mod Reading
 pub mod Reported
-pub mod Scripted
+pub mod WholeScript
 pub mod Showing

@@ -1,39 +1,43 @@
 //! `assemble` and `list`: a text to an image, and back.
 
 ghost use Rattle.std.specs.Prelude.{◌≡◌, ◌⊎◌, IfOk, IfErr, IfSome};
-ghost use Rattle.svc_program.specs.Assembly.{Assembles, Lists};
+ghost use Rattle.svc_request.specs.declared.request.Request.TheVariants as request;
 ghost use Rattle.svc_request.specs.Faults.{IsReportFault};
-ghost use Rattle.svc_program.specs.Requests.{Spares};
+ghost use Rattle.svc_program.specs.Assembly.{Lists};
+ghost use Rattle.svc_program.specs.Requests.{IsAnswered};
 
+use crate::flush::flush;
 use crate::front::front_of;
+use crate::load::load_image;
 use std::alloc::Global;
 use std::io::Write;
-use svc_asm::{AssembleError, assemble};
+use svc_asm::AssembleError;
 use svc_image::Image;
-use svc_list::list;
-use svc_request::{Fault, Files};
+use svc_request::{Assembly, Fault, Files, Source};
+use svc_view::text::write_text;
 
-/// Assembles the text of one file, and makes its image the whole content of another. It returns the
-/// exit status.
+/// Assembles the text of one file, and makes its image the whole content of another. Nothing is printed.
 ///
 /// Errors: a file that can't be read or written, the text's first fault, or lack of memory. Nothing
 /// is changed before the image's file is written.
-pub fn assemble_file<F: Files>(
+pub fn assemble<F: Files, O: Write>(
     alloc: Global,
-    text: &str,
-    image: &str,
+    assembly: Assembly<'_>,
     files: &mut F,
+    out: &O,
 ) -> Result<u8, Fault>
-    ensures done { IfOk result (Assembles (F.held files.old text.now) (F.held files.new image.now)) }
-    ensures spared { IfErr result (λ fault. Spares fault (F.held files.old) (F.held files.new)) }
+    ensures { IsAnswered O.contents (request.Assemble assembly.entry) (F.held files.old) (F.held files.new) out.now out.now result }
 {
-    let bytes = load_text(alloc, text, files)?;
-    let made = match assemble(alloc, &bytes) {
-        Ok(made) => made,
-        Err(error) => return Err(assembly_fault(alloc, text, error)),
+    let _nothing_is_printed = out;
+    let text = load_text(alloc, assembly.text, files)?;
+    let image = match svc_asm::assemble(alloc, &text) {
+        Ok(image) => image,
+        Err(error) => return Err(assembly_fault(alloc, assembly.text, error)),
     };
-    let file = made.write(alloc)?;
-    files.save(image, &file)?;
+    // what the type keeps: it is an image
+    let _start = image.start();
+    let file = image.write(alloc)?;
+    files.save(assembly.image, &file)?;
     Ok(0)
 }
 
@@ -65,13 +69,26 @@ fn assembly_fault(alloc: Global, name: &str, error: AssembleError) -> Fault {
     }
 }
 
-/// Prints an image as a text that assembles to it. It returns the exit status.
-pub fn list_image<O: Write>(alloc: Global, image: &Image, out: &mut O) -> Result<u8, Fault>
+/// Prints an image as a text that assembles to it.
+pub fn list<F: Files, O: Write>(
+    alloc: Global,
+    image: Source<'_>,
+    files: &mut F,
+    out: &mut O,
+) -> Result<u8, Fault>
+    ensures { IsAnswered O.contents (request.List image.entry) (F.held files.old) (F.held files.new) out.old out.new result }
+{
+    let image = load_image(alloc, image, files)?;
+    list_image(alloc, &image, out)
+}
+
+// Prints an image as a text that assembles to it.
+fn list_image<O: Write>(alloc: Global, image: &Image, out: &mut O) -> Result<u8, Fault>
     ensures listed { IfOk result (Lists image.now (O.contents out.old) (O.contents out.new)) }
     ensures fault { IfErr result (λ fault. IsReportFault fault ⊎ (out.new ≡ out.old)) }
 {
-    let text = list(alloc, image)?;
-    out.write_all(&text)?;
-    out.flush()?;
+    let text = svc_list::list(alloc, image)?;
+    write_text(&text, out)?;
+    flush(out)?;
     Ok(0)
 }

@@ -4,19 +4,35 @@ ghost use Rattle.std.specs.Prelude.{◌≡◌, ◌⊎◌, ◌≤◌, length, IfO
 ghost use Rattle.std.specs.Io.KnownBytes.{Appends};
 ghost use Rattle.svc_base.specs.declared.config.TheConstants.{MAX_EVENTS};
 ghost use Rattle.svc_history_laws.specs.Legal.{LegalHistory};
-ghost use Rattle.svc_request.specs.Faults.{IsReportFault, TellsOfTrace};
+ghost use Rattle.svc_request.specs.declared.request.Request.TheVariants as request;
+ghost use Rattle.svc_request.specs.Faults.{IsOutputFault, TellsOfTrace};
+ghost use Rattle.svc_program.specs.Requests.{IsAnswered};
 ghost use Rattle.svc_program.specs.Runs.{FindsSound};
 
+use crate::load::load_traced;
 use std::alloc::Global;
 use std::io::Write;
 use svc_base::Config;
 use svc_history::{Entry, check_trace};
 use svc_history_laws::history_leads_on;
 use svc_image::Image;
-use svc_request::Fault;
+use svc_request::{Fault, Files, Traced};
 
-/// Replays the entries, and prints that they are sound. It returns the exit status.
-pub fn check<O: Write>(
+/// Replays a trace, and prints that it is sound.
+pub fn check<F: Files, O: Write>(
+    alloc: Global,
+    traced: Traced<'_>,
+    files: &mut F,
+    out: &mut O,
+) -> Result<u8, Fault>
+    ensures { IsAnswered O.contents (request.Check traced.entry) (F.held files.old) (F.held files.new) out.old out.new result }
+{
+    let (image, entries) = load_traced(alloc, traced, files)?;
+    check_entries(alloc, &image, traced.config, &entries, out)
+}
+
+// Replays the entries, and prints that they are sound.
+fn check_entries<O: Write>(
     alloc: Global,
     image: &Image,
     config: Config,
@@ -24,7 +40,7 @@ pub fn check<O: Write>(
     out: &mut O,
 ) -> Result<u8, Fault>
     ensures sound { IfOk result (FindsSound image.now config entries.now (O.contents out.old) (O.contents out.new)) }
-    ensures fault { IfErr result (λ fault. IsReportFault fault
+    ensures fault { IfErr result (λ fault. IsOutputFault fault
         ⊎ (TellsOfTrace image.now config entries.now fault × (out.new ≡ out.old))) }
 {
     replay(alloc, image, config, entries)?;

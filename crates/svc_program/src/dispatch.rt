@@ -1,14 +1,18 @@
 //! Does what is asked for, over any files and streams.
 
 ghost use Rattle.std.specs.Prelude.{◌≡◌, ◌⊎◌, Err, IfOk, IfErr};
-ghost use Rattle.svc_request.specs.Faults.{IsEarly, IsReportFault};
+ghost use Rattle.svc_request.specs.Faults.{IsOutputFault};
 ghost use Rattle.svc_request.specs.Names.{IsOverItself};
-ghost use Rattle.svc_program.specs.Requests.{Does, HasImage, KeepsFiles, Shows, Spares, version_row};
+ghost use Rattle.svc_program.specs.Requests.{IsAnswered, Shows, version_row};
 
-use crate::assembly::assemble_file;
-use crate::subcommands::{
-    do_check, do_draw, do_list, do_profile, do_run, do_script, do_sequential, do_show,
-};
+use crate::assembly::{assemble, list};
+use crate::check::check;
+use crate::draw::draw;
+use crate::profile::profile;
+use crate::run::run;
+use crate::script::script;
+use crate::sequential::sequential;
+use crate::show::show;
 use std::alloc::Global;
 use std::io::Write;
 use std::sync::Wait;
@@ -20,7 +24,7 @@ use svc_request::{Fault, Files, Request, VERSION};
 /// at any other ending.
 ///
 /// Errors: the first fault, looked for in this order: a file that would be written over one that is read, the image,
-/// the script or trace, the opening of the machine, the run, the output. Before a fault that isn't one of a text
+/// the script or trace, the opening of the machine, the run, the output. Before a fault that isn't one of the output
 /// nothing is printed.
 pub fn perform<R: Threads + Wait + Sync, F: Files, O: Write>(
     rt: &R,
@@ -29,12 +33,8 @@ pub fn perform<R: Threads + Wait + Sync, F: Files, O: Write>(
     files: &mut F,
     out: &mut O,
 ) -> Result<u8, Fault>
-    ensures done { IfOk result (Does request.entry (F.held files.old) (F.held files.new) (O.contents out.old)
-        (O.contents out.new)) }
-    ensures silent { IfErr result (λ fault. IsReportFault fault ⊎ (out.new ≡ out.old)) }
-    ensures order { IfErr result (λ fault. IsEarly fault ⊎ HasImage request.entry (F.held files.old)) }
-    ensures kept { KeepsFiles request.entry (F.held files.old) (F.held files.new) }
-    ensures spared { IfErr result (λ fault. Spares fault (F.held files.old) (F.held files.new)) }
+    ensures answered { IsAnswered O.contents request.entry (F.held files.old) (F.held files.new) out.old out.new
+        result }
 
     // Nothing is read or written if that would lose a file.
     ensures apart { IsOverItself request.entry → (result ≡ Err Fault.File) × (F.held files.new ≡ F.held files.old)
@@ -54,63 +54,27 @@ fn dispatch<R: Threads + Wait + Sync, F: Files, O: Write>(
     files: &mut F,
     out: &mut O,
 ) -> Result<u8, Fault>
-    ensures done { IfOk result (Does request.entry (F.held files.old) (F.held files.new) (O.contents out.old)
-        (O.contents out.new)) }
-    ensures silent { IfErr result (λ fault. IsReportFault fault ⊎ (out.new ≡ out.old)) }
-    ensures order { IfErr result (λ fault. IsEarly fault ⊎ HasImage request.entry (F.held files.old)) }
-    ensures kept { KeepsFiles request.entry (F.held files.old) (F.held files.new) }
-    ensures spared { IfErr result (λ fault. Spares fault (F.held files.old) (F.held files.new)) }
+    ensures { IsAnswered O.contents request.entry (F.held files.old) (F.held files.new) out.old out.new result }
 {
     match request {
         Request::Help(text) => show_help(&text, out),
         Request::Version => show_version(out),
-        Request::Run {
-            image,
-            config,
-            schedule,
-            trace,
-            row,
-        } => do_run(rt, alloc, image, config, schedule, trace, row, files, out),
-        Request::Sequential { image, tasks } => do_sequential(alloc, image, tasks, files, out),
-        Request::Script {
-            image,
-            config,
-            events,
-        } => do_script(alloc, image, config, events, files, out),
-        Request::Check {
-            image,
-            config,
-            trace,
-        } => do_check(alloc, image, config, trace, files, out),
-        Request::Profile {
-            image,
-            config,
-            trace,
-            by,
-        } => do_profile(alloc, image, config, trace, by, files, out),
-        Request::Show {
-            image,
-            config,
-            trace,
-            at,
-        } => do_show(alloc, image, config, trace, at, files, out),
-        Request::Draw {
-            image,
-            config,
-            trace,
-            picture,
-            from,
-            count,
-        } => do_draw(alloc, image, config, trace, picture, from, count, files),
-        Request::Assemble { text, image } => assemble_file(alloc, text, image, files),
-        Request::List { image } => do_list(alloc, image, files, out),
+        Request::Run(asked) => run(rt, alloc, asked, files, out),
+        Request::Sequential(tasks) => sequential(alloc, tasks, files, out),
+        Request::Script(scripted) => script(alloc, scripted, files, out),
+        Request::Check(traced) => check(alloc, traced, files, out),
+        Request::Profile(traced, by) => profile(alloc, traced, by, files, out),
+        Request::Show(traced, at) => show(alloc, traced, at, files, out),
+        Request::Draw(traced, picture) => draw(alloc, traced, picture, files, out),
+        Request::Assemble(assembly) => assemble(alloc, assembly, files, out),
+        Request::List(image) => list(alloc, image, files, out),
     }
 }
 
 // Prints the help.
 fn show_help<O: Write>(text: &str, out: &mut O) -> Result<u8, Fault>
     ensures shown { IfOk result (Shows text.now (O.contents out.old) (O.contents out.new)) }
-    ensures fault { IfErr result IsReportFault }
+    ensures fault { IfErr result IsOutputFault }
 {
     out.write_all(text.as_bytes())?;
     out.flush()?;
@@ -120,7 +84,7 @@ fn show_help<O: Write>(text: &str, out: &mut O) -> Result<u8, Fault>
 // Prints the program's name and version.
 fn show_version<O: Write>(out: &mut O) -> Result<u8, Fault>
     ensures shown { IfOk result (Shows version_row (O.contents out.old) (O.contents out.new)) }
-    ensures fault { IfErr result IsReportFault }
+    ensures fault { IfErr result IsOutputFault }
 {
     writeln!(out, "svcsim {VERSION}")?;
     out.flush()?;

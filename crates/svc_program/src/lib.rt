@@ -5,6 +5,7 @@ mod assembly;
 mod check;
 mod dispatch;
 mod draw;
+mod flush;
 mod front;
 mod load;
 mod profile;
@@ -12,11 +13,11 @@ mod run;
 mod script;
 mod sequential;
 mod show;
-mod subcommands;
 mod summary;
 
 pub use dispatch::perform;
 pub use svc_report::TableRow;
 pub use svc_request::{
-    Fault, FileFault, Files, Order, Request, Schedule, Source, Table, VERSION, tell,
+    Assembly, Fault, FileFault, Files, Order, Picture, Request, Run, Schedule, Scripted, Source,
+    Table, Tasks, Traced, VERSION, tell,
 };

@@ -1,9 +1,10 @@
 //! The files of a request: its image, its script and its trace.
 
-ghost use Rattle.std.specs.Prelude.{◌≡◌, None, IfOk, IfErr, IfSome};
+ghost use Rattle.std.specs.Prelude.{◌≡◌, ◌⊎◌, None, IfOk, IfErr, IfSome, option_map};
 ghost use Rattle.svc_image.specs.Format.{file_of};
 ghost use Rattle.svc_request.specs.Faults.{IsEarly};
-ghost use Rattle.svc_program.specs.Requests.{IsOfSource, IsScriptIn, IsTraceIn, SavesTrace, Spares};
+ghost use Rattle.svc_request.specs.Held.{KeepsAllBut};
+ghost use Rattle.svc_program.specs.Requests.{IsLate, IsOfSource, IsScriptIn, IsThere, IsTraceIn, SavesTrace};
 
 use crate::front::front_of;
 use std::alloc::Global;
@@ -11,7 +12,7 @@ use std::io::Read;
 use svc_history::Entry;
 use svc_image::{Image, ImageError, samples};
 use svc_report::{ReportError, Step, read_script, read_trace, write_trace};
-use svc_request::{Fault, Files, Source};
+use svc_request::{Fault, Files, Source, Traced};
 
 // The size in bytes of the largest image, which is one of version 2: the header with the registers,
 // entries, as many limits, text and data.
@@ -31,6 +32,8 @@ pub fn load_image<F: Files>(
         Source::BuiltIn => Image::read(alloc, samples::P1.as_slice())?,
         Source::File(name) => read_image(alloc, files.open(name)?)?,
     };
+    // what the type keeps: it is an image
+    let _start = image.start();
     Ok(image)
 }
 
@@ -72,6 +75,22 @@ pub fn load_trace<F: Files>(alloc: Global, name: &str, files: &mut F) -> Result<
     Ok(entries)
 }
 
+/// The image of a trace, and then the trace's entries.
+pub fn load_traced<F: Files>(
+    alloc: Global,
+    traced: Traced<'_>,
+    files: &mut F,
+) -> Result<(Image, Vec<Entry>), Fault>
+    ensures image { IfOk result (λ it. IsOfSource (F.held files.old) traced.entry.image it.0) }
+    ensures trace { IfOk result (λ it. IsTraceIn (F.held files.old) traced.entry.trace.now it.1.items) }
+    ensures order { IfErr result (λ fault. IsEarly fault ⊎ IsThere (F.held files.old) traced.entry.image) }
+    ensures kept { F.held files.new ≡ F.held files.old }
+{
+    let image = load_image(alloc, traced.image, files)?;
+    let entries = load_trace(alloc, traced.trace, files)?;
+    Ok((image, entries))
+}
+
 /// Makes the text of these entries the whole content of the named file, if one is named.
 pub fn save_trace<F: Files>(
     alloc: Global,
@@ -80,8 +99,8 @@ pub fn save_trace<F: Files>(
     files: &mut F,
 ) -> Result<(), Fault>
     ensures saved { IfOk result (λ _. IfSome name.entry (λ name. SavesTrace (F.held files.new) name.now entries.now)) }
-    ensures kept { name.entry ≡ None → F.held files.new ≡ F.held files.old }
-    ensures spared { IfErr result (λ fault. Spares fault (F.held files.old) (F.held files.new)) }
+    ensures kept { KeepsAllBut (option_map (λ name. name.now) name.entry) (F.held files.old) (F.held files.new) }
+    ensures spared { IfErr result (λ fault. IsLate fault ⊎ (F.held files.new ≡ F.held files.old)) }
 {
     let Some(name) = name else {
         return Ok(());

@@ -4,22 +4,40 @@ ghost use Rattle.std.specs.Prelude.{◌≡◌, ◌⊎◌, ◌≤◌, length, IfO
 ghost use Rattle.std.specs.Io.KnownBytes.{Appends};
 ghost use Rattle.svc_base.specs.declared.config.TheConstants.{MAX_EVENTS};
 ghost use Rattle.svc_report.specs.Faults.{IsWriteFault};
+ghost use Rattle.svc_request.specs.declared.request.Request.TheVariants as request;
 ghost use Rattle.svc_program.specs.Costs.{TellsCost, cost_text};
+ghost use Rattle.svc_program.specs.Requests.{IsAnswered};
 ghost use Rattle.svc_request.specs.Faults.{IsReportFault, TellsOfTrace};
 
 use crate::check::replay;
+use crate::flush::flush;
+use crate::load::load_traced;
 use std::alloc::Global;
 use std::io::Write;
 use svc_base::Config;
 use svc_history::Entry;
 use svc_image::Image;
 use svc_report::ReportError;
-use svc_request::{Fault, Table};
+use svc_request::{Fault, Files, Table, Traced};
 use svc_view::{write_profile, write_profile_row, write_tasks, write_units};
 use svc_words::write_words;
 
-/// Replays the entries, and prints what their speculation cost. It returns the exit status.
-pub fn profile<O: Write>(
+/// Replays a trace, and prints what its speculation cost, in all or by a table.
+pub fn profile<F: Files, O: Write>(
+    alloc: Global,
+    traced: Traced<'_>,
+    by: Option<Table<'_>>,
+    files: &mut F,
+    out: &mut O,
+) -> Result<u8, Fault>
+    ensures { IsAnswered O.contents (request.Profile traced.entry by.entry) (F.held files.old) (F.held files.new) out.old out.new result }
+{
+    let (image, entries) = load_traced(alloc, traced, files)?;
+    profile_entries(alloc, &image, traced.config, &entries, by, out)
+}
+
+// Replays the entries, and prints what their speculation cost.
+fn profile_entries<O: Write>(
     alloc: Global,
     image: &Image,
     config: Config,
@@ -34,7 +52,7 @@ pub fn profile<O: Write>(
 {
     replay(alloc, image, config, entries)?;
     write_cost(alloc, config, entries, by, out)?;
-    out.flush()?;
+    flush(out)?;
     Ok(0)
 }
 

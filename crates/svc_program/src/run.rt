@@ -1,16 +1,23 @@
 //! How `run` runs an image.
 
-ghost use Rattle.std.specs.Prelude.{IfOk, IfErr};
-ghost use Rattle.svc_program.specs.Runs.{GoesBy, IsRunOf, IsScheduledBy};
-ghost use Rattle.svc_request.specs.Faults.{IsRunFault};
+ghost use Rattle.std.specs.Prelude.{◌≡◌, ◌⊎◌, IfOk, IfErr, IfSome, option_map};
+ghost use Rattle.svc_request.specs.declared.request.Request.TheVariants as request;
+ghost use Rattle.svc_request.specs.Faults.{IsOutputFault, IsRunFault};
+ghost use Rattle.svc_request.specs.Held.{KeepsAllBut};
+ghost use Rattle.svc_program.specs.Requests.{IsAnswered, IsLate, SavesTrace};
+ghost use Rattle.svc_program.specs.Runs.{GoesBy, IsRunOf, IsScheduledBy, ReportsRun};
 
+use crate::load::{load_image, save_trace};
+use crate::summary::print_run;
 use std::alloc::Global;
+use std::io::Write;
 use std::sync::Wait;
 use std::thread::Threads;
 use svc_base::{Config, UnitId};
 use svc_history::Recorder;
 use svc_image::Image;
-use svc_request::{Fault, Order, Schedule};
+use svc_report::TableRow;
+use svc_request::{Fault, Files, Order, Run, Schedule};
 use svc_schedule::{Oldest, Random, Rotate, Youngest, run_schedule};
 use svc_threads::{Gate, Phase, run_units};
 
@@ -23,10 +30,45 @@ impl Gate for OpenGate {
     }
 }
 
-/// Runs the image on all units of the configuration, by the schedule if there is one, otherwise
-/// each in a thread of its own, until the run has stopped or has used up its events or its turns:
-/// those of the threads, or the steps of the schedule.
-pub fn run_image<R: Threads + Wait + Sync>(
+/// Runs an image, saves the trace where a file is named for it, and prints the summary.
+pub fn run<R: Threads + Wait + Sync, F: Files, O: Write>(
+    rt: &R,
+    alloc: Global,
+    run: Run<'_>,
+    files: &mut F,
+    out: &mut O,
+) -> Result<u8, Fault>
+    ensures { IsAnswered O.contents (request.Run run.entry) (F.held files.old) (F.held files.new) out.old out.new result }
+{
+    let image = load_image(alloc, run.image, files)?;
+    let recorder = run_image(rt, alloc, &image, run.config, run.schedule)?;
+    report_run(alloc, &recorder, run.trace, run.row, files, out)
+}
+
+// Saves the trace of what was recorded, where a file is named for it, and prints its summary.
+fn report_run<F: Files, O: Write>(
+    alloc: Global,
+    recorder: &Recorder,
+    trace: Option<&str>,
+    row: Option<TableRow<'_>>,
+    files: &mut F,
+    out: &mut O,
+) -> Result<u8, Fault>
+    ensures saved { IfOk result (λ _. IfSome trace.entry
+        (λ name. SavesTrace (F.held files.new) name.now recorder.now.entries)) }
+    ensures report { IfOk result (ReportsRun row.entry recorder.now (O.contents out.old) (O.contents out.new)) }
+    ensures silent { IfErr result (λ fault. IsOutputFault fault ⊎ (out.new ≡ out.old)) }
+    ensures kept { KeepsAllBut (option_map (λ name. name.now) trace.entry) (F.held files.old) (F.held files.new) }
+    ensures spared { IfErr result (λ fault. IsLate fault ⊎ (F.held files.new ≡ F.held files.old)) }
+{
+    save_trace(alloc, recorder.entries(), trace, files)?;
+    print_run(alloc, recorder, row, out)
+}
+
+// Runs the image on all units of the configuration, by the schedule if there is one, otherwise
+// each in a thread of its own, until the run has stopped or has used up its events or its turns:
+// those of the threads, or the steps of the schedule.
+fn run_image<R: Threads + Wait + Sync>(
     rt: &R,
     alloc: Global,
     image: &Image,

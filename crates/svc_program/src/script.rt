@@ -6,10 +6,13 @@ ghost use Rattle.svc_base.specs.declared.refusal.Refusal.TheVariants as refusal;
 ghost use Rattle.svc_machine.specs.Events.{event_of};
 ghost use Rattle.svc_machine.specs.Reads.{lease_of};
 ghost use Rattle.svc_history.specs.Recorded.{IsLegal};
+ghost use Rattle.svc_request.specs.declared.request.Request.TheVariants as request;
+ghost use Rattle.svc_program.specs.Requests.{IsAnswered};
 ghost use Rattle.svc_program.specs.Runs.{ReportsOn};
-ghost use Rattle.svc_request.specs.Faults.{IsReportFault, IsRunFault};
+ghost use Rattle.svc_request.specs.Faults.{IsOutputFault, IsRunFault};
 ghost use Rattle.svc_program.specs.Scripts.{DoesKind, Gives, HasBurst, HasPlayed, PlaysScript, Submits, Takes, Tries, answer_row, kept_for};
 
+use crate::load::{load_image, load_script};
 use crate::summary::print_recorded;
 use std::alloc::Global;
 use std::io::Write;
@@ -18,7 +21,7 @@ use svc_core::Burst;
 use svc_history::{Entry, Event, Recorder};
 use svc_image::Image;
 use svc_report::{Step, StepKind, write_entry};
-use svc_request::Fault;
+use svc_request::{Fault, Files, Scripted};
 
 /// The outcome of a step of a script.
 #[derive(Clone, Copy)]
@@ -36,9 +39,22 @@ pub enum Answer {
 /// The bursts that are kept, by unit.
 type Kept = Vec<Option<Burst>>;
 
-/// Does the steps of a script, and prints a line for each, and then the summary. It returns the
-/// exit status.
-pub fn script<O: Write>(
+/// Does the steps of a script, and prints a line for each, and then the summary.
+pub fn script<F: Files, O: Write>(
+    alloc: Global,
+    scripted: Scripted<'_>,
+    files: &mut F,
+    out: &mut O,
+) -> Result<u8, Fault>
+    ensures { IsAnswered O.contents (request.Script scripted.entry) (F.held files.old) (F.held files.new) out.old out.new result }
+{
+    let image = load_image(alloc, scripted.image, files)?;
+    let steps = load_script(alloc, scripted.events, files)?;
+    play_script(alloc, image, scripted.config, &steps, out)
+}
+
+// Does the steps from before any event, and prints a line for each, and then the summary.
+fn play_script<O: Write>(
     alloc: Global,
     image: Image,
     config: Config,
@@ -46,7 +62,7 @@ pub fn script<O: Write>(
     out: &mut O,
 ) -> Result<u8, Fault>
     ensures script { IfOk result (PlaysScript image config steps.now (O.contents out.old) (O.contents out.new)) }
-    ensures silent { IfErr result (λ fault. IsReportFault fault ⊎ (IsRunFault fault × (out.new ≡ out.old))) }
+    ensures silent { IfErr result (λ fault. IsOutputFault fault ⊎ (IsRunFault fault × (out.new ≡ out.old))) }
 {
     let mut recorder = Recorder::open(alloc, image, config)?;
     let mut kept = no_bursts(alloc, config.units)?;
@@ -66,7 +82,7 @@ fn play_all<O: Write>(
     ensures played { IfOk result (λ exit. (between : Option (List ℕ))
         × HasPlayed steps.now (length steps.now) recorder.old kept.old.items recorder.new kept.new.items
         (O.contents out.old) between × ReportsOn recorder.new between (O.contents out.new) exit) }
-    ensures fault { IfErr result IsReportFault }
+    ensures fault { IfErr result IsOutputFault }
 {
     let _start = recorder.entries();
     play(alloc, recorder, kept, steps, out)?;
@@ -98,35 +114,35 @@ fn play<O: Write>(
     ensures played { OnOk result (HasPlayed steps.now
         (length steps.now) recorder.old kept.old.items recorder.new kept.new.items (O.contents out.old)
         (O.contents out.new)) }
-    ensures fault { IfErr result IsReportFault }
+    ensures fault { IfErr result IsOutputFault }
 {
     for step in steps {
-        let answer = done(recorder, kept, step);
+        let answer = do_step(recorder, kept, step);
         write_answer(alloc, &answer, out)?;
     }
     Ok(())
 }
 
 // Does a step.
-fn done(recorder: &mut Recorder, kept: &mut Kept, step: &Step) -> Answer
+fn do_step(recorder: &mut Recorder, kept: &mut Kept, step: &Step) -> Answer
     ensures step { DoesKind step.now.kind step.now.unit recorder.old kept.old.items result recorder.new kept.new.items }
     ensures image { recorder.new.machine.image ≡ recorder.old.machine.image }
     ensures config { recorder.new.machine.config ≡ recorder.old.machine.config }
 {
     let unit = step.unit;
     match step.kind {
-        StepKind::Assign(guess) => tried(recorder, Event::Assign { unit, guess }),
-        StepKind::Submit(turns) => submitted(recorder, unit, turns),
-        StepKind::Replace(addr) => tried(recorder, Event::Replace { unit, addr }),
-        StepKind::Cancel => tried(recorder, Event::Cancel { unit }),
-        StepKind::Commit => tried(recorder, Event::Commit { by: unit }),
-        StepKind::Take(turns) => taken(recorder, kept, unit, turns),
-        StepKind::Give => given(recorder, kept, unit),
+        StepKind::Assign(guess) => try_event(recorder, Event::Assign { unit, guess }),
+        StepKind::Submit(turns) => submit(recorder, unit, turns),
+        StepKind::Replace(addr) => try_event(recorder, Event::Replace { unit, addr }),
+        StepKind::Cancel => try_event(recorder, Event::Cancel { unit }),
+        StepKind::Commit => try_event(recorder, Event::Commit { by: unit }),
+        StepKind::Take(turns) => take(recorder, kept, unit, turns),
+        StepKind::Give => give(recorder, kept, unit),
     }
 }
 
 // Tries an event.
-fn tried(recorder: &mut Recorder, event: Event<'_>) -> Answer
+fn try_event(recorder: &mut Recorder, event: Event<'_>) -> Answer
     ensures tries { Tries recorder.old (event_of event.entry) result recorder.new }
     ensures image { recorder.new.machine.image ≡ recorder.old.machine.image }
     ensures config { recorder.new.machine.config ≡ recorder.old.machine.config }
@@ -150,19 +166,19 @@ fn burst(recorder: &Recorder, unit: UnitId, turns: u32) -> Result<Burst, Refusal
 }
 
 // Runs the unit's task on, and submits that burst.
-fn submitted(recorder: &mut Recorder, unit: UnitId, turns: u32) -> Answer
+fn submit(recorder: &mut Recorder, unit: UnitId, turns: u32) -> Answer
     ensures submits { Submits (lease_of recorder.old.machine unit.0) turns unit recorder.old result recorder.new }
     ensures image { recorder.new.machine.image ≡ recorder.old.machine.image }
     ensures config { recorder.new.machine.config ≡ recorder.old.machine.config }
 {
     match burst(recorder, unit, turns) {
-        Ok(burst) => tried(recorder, Event::Submit { burst: &burst }),
+        Ok(burst) => try_event(recorder, Event::Submit { burst: &burst }),
         Err(refusal) => Answer::Refused(refusal),
     }
 }
 
 // Runs the unit's task on, and keeps that burst.
-fn taken(recorder: &Recorder, kept: &mut Kept, unit: UnitId, turns: u32) -> Answer
+fn take(recorder: &Recorder, kept: &mut Kept, unit: UnitId, turns: u32) -> Answer
     ensures { Takes (lease_of recorder.now.machine unit.0) turns unit recorder.now kept.old.items result
         kept.new.items }
 {
@@ -179,20 +195,20 @@ fn taken(recorder: &Recorder, kept: &mut Kept, unit: UnitId, turns: u32) -> Answ
 }
 
 // Submits the burst that is kept for the unit, which is then no longer kept.
-fn given(recorder: &mut Recorder, kept: &mut Kept, unit: UnitId) -> Answer
+fn give(recorder: &mut Recorder, kept: &mut Kept, unit: UnitId) -> Answer
     ensures gives { Gives (kept_for kept.old.items unit) recorder.old result recorder.new }
     ensures kept { kept.new.items ≡ slice_set kept.old.items unit.0 None }
     ensures image { recorder.new.machine.image ≡ recorder.old.machine.image }
     ensures config { recorder.new.machine.config ≡ recorder.old.machine.config }
 {
-    match given_up(kept, unit) {
-        Some(burst) => tried(recorder, Event::Submit { burst: &burst }),
+    match take_out(kept, unit) {
+        Some(burst) => try_event(recorder, Event::Submit { burst: &burst }),
         None => Answer::Nothing,
     }
 }
 
 // Takes the unit's burst out of its place.
-fn given_up(kept: &mut Kept, unit: UnitId) -> Option<Burst>
+fn take_out(kept: &mut Kept, unit: UnitId) -> Option<Burst>
     ensures burst { result ≡ kept_for kept.old.items unit }
     ensures kept { kept.new.items ≡ slice_set kept.old.items unit.0 None }
 {
@@ -207,7 +223,7 @@ fn given_up(kept: &mut Kept, unit: UnitId) -> Option<Burst>
 // Prints the line of an answer.
 fn write_answer<O: Write>(alloc: Global, answer: &Answer, out: &mut O) -> Result<(), Fault>
     ensures text { OnOk result (Appends (O.contents out.old) (O.contents out.new) (answer_row answer.now)) }
-    ensures fault { IfErr result IsReportFault }
+    ensures fault { IfErr result IsOutputFault }
 {
     match answer {
         Answer::Accepted(entry) => write_entry(alloc, entry, out)?,

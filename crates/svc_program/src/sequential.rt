@@ -2,29 +2,44 @@
 
 ghost use Rattle.std.specs.Prelude.{◌≡◌, ◌⊎◌, false, None, IfOk, IfErr};
 ghost use Rattle.svc_plain.specs.Tasks.{tasks_run};
+ghost use Rattle.svc_request.specs.declared.request.Request.TheVariants as request;
 ghost use Rattle.svc_request.specs.Faults.{IsReportFault};
+ghost use Rattle.svc_program.specs.Requests.{IsAnswered};
 ghost use Rattle.svc_program.specs.Runs.{Reports};
 
+use crate::load::load_image;
 use crate::summary::print;
 use std::alloc::Global;
 use std::io::Write;
 use svc_image::Image;
 use svc_plain::run_tasks;
-use svc_request::Fault;
+use svc_request::{Fault, Files, Tasks};
 
-/// Runs at most this many tasks on one flat memory, and prints the summary. It returns the exit
-/// status.
-pub fn sequential<O: Write>(
+/// Runs tasks in order, on one flat memory, and prints the summary.
+pub fn sequential<F: Files, O: Write>(
     alloc: Global,
-    image: &Image,
-    tasks: u32,
+    tasks: Tasks<'_>,
+    files: &mut F,
     out: &mut O,
 ) -> Result<u8, Fault>
-    ensures report { IfOk result (Reports image.now tasks (tasks_run image.now tasks) false None (O.contents out.old)
+    ensures { IsAnswered O.contents (request.Sequential tasks.entry) (F.held files.old) (F.held files.new) out.old out.new result }
+{
+    let image = load_image(alloc, tasks.image, files)?;
+    run_in_order(alloc, &image, tasks.most, out)
+}
+
+// Runs at most this many tasks of an image, and prints the summary.
+fn run_in_order<O: Write>(
+    alloc: Global,
+    image: &Image,
+    most: u32,
+    out: &mut O,
+) -> Result<u8, Fault>
+    ensures report { IfOk result (Reports image.now most (tasks_run image.now most) false None (O.contents out.old)
         (O.contents out.new)) }
     ensures silent { IfErr result (λ fault. IsReportFault fault ⊎ (out.new ≡ out.old)) }
 {
-    let outcome = run_tasks(alloc, image, u64::from(tasks))?;
+    let outcome = run_tasks(alloc, image, u64::from(most))?;
     print(
         alloc,
         &outcome.output,

@@ -4,21 +4,38 @@ ghost use Rattle.std.specs.Prelude.{◌≡◌, [], ◌⊎◌, ◌≤◌, ◌<◌
 ghost use Rattle.svc_history_laws.specs.Legal.{LegalHistory};
 ghost use Rattle.svc_show.specs.Show.{show_of};
 ghost use Rattle.svc_request.specs.declared.faults.Fault.TheVariants.{File};
+ghost use Rattle.svc_request.specs.declared.request.Request.TheVariants as request;
 ghost use Rattle.svc_request.specs.Faults.{IsReportFault, TellsOfTrace};
+ghost use Rattle.svc_program.specs.Requests.{IsAnswered};
 ghost use Rattle.svc_program.specs.Shown.{IsPastTheEnd, TellsMachine, shown_entries};
 
+use crate::flush::flush;
+use crate::load::load_traced;
 use std::alloc::Global;
 use std::io::Write;
 use svc_base::Config;
 use svc_history::{Entry, Recorder, check_on, open_trace};
 use svc_image::Image;
-use svc_request::Fault;
+use svc_request::{Fault, Files, Traced};
 use svc_show::show_text;
 use svc_view::text::write_text;
 
-/// Replays the entries, and prints the machine after the first `at` of them, or after all. It
-/// returns the exit status.
-pub fn show<O: Write>(
+/// Replays a trace, and prints the machine after the first `at` of its entries, or after all.
+pub fn show<F: Files, O: Write>(
+    alloc: Global,
+    traced: Traced<'_>,
+    at: Option<u64>,
+    files: &mut F,
+    out: &mut O,
+) -> Result<u8, Fault>
+    ensures { IsAnswered O.contents (request.Show traced.entry at) (F.held files.old) (F.held files.new) out.old out.new result }
+{
+    let (image, entries) = load_traced(alloc, traced, files)?;
+    show_entries(alloc, &image, traced.config, &entries, at, out)
+}
+
+// Replays the entries, and prints the machine after the first `at` of them, or after all.
+fn show_entries<O: Write>(
     alloc: Global,
     image: &Image,
     config: Config,
@@ -34,7 +51,7 @@ pub fn show<O: Write>(
 {
     let text = text_at(alloc, image, config, entries, at)?;
     write_text(&text, out)?;
-    out.flush()?;
+    flush(out)?;
     Ok(0)
 }
 

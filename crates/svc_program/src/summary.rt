@@ -6,6 +6,7 @@ ghost use Rattle.svc_report.specs.Summary.{summary_of};
 ghost use Rattle.svc_request.specs.Faults.{IsReportFault};
 ghost use Rattle.svc_program.specs.Runs.{ReportsOn, ReportsRow, ReportsRun, status_of};
 
+use crate::flush::flush;
 use std::alloc::Global;
 use std::io::Write;
 use svc_core::Ending;
@@ -29,7 +30,7 @@ pub fn print<O: Write>(
         (summary_of output.now tasks ending counts)) }
 {
     write_summary(alloc, output, tasks, ending, counts, out)?;
-    out.flush()?;
+    flush(out)?;
     Ok(exit_status(ending))
 }
 
@@ -68,7 +69,7 @@ fn print_row<O: Write>(
     let counts = Counts::of(recorder.entries());
     let ending = machine.ending();
     write_summary_row(alloc, row, machine.committed_tasks(), ending, &counts, out)?;
-    out.flush()?;
+    flush(out)?;
     Ok(exit_status(ending))
 }
 

@@ -29,6 +29,12 @@ abbrev pub IsReportFault : Fault → Type 0
 IsReportFault (fault.Report e) = ⊤
 IsReportFault _ = ⊥
 
+-- a text wasn't read or written, or a line of the program's own wasn't printed
+abbrev pub IsOutputFault : Fault → Type 0
+IsOutputFault (fault.Report e) = ⊤
+IsOutputFault fault.Output = ⊤
+IsOutputFault _ = ⊥
+
 -- the machine wasn't opened, or the unit threads gave no outcome
 abbrev pub IsRunFault : Fault → Type 0
 IsRunFault (fault.Open e) = ⊤

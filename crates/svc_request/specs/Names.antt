@@ -1,13 +1,37 @@
 -- The names of files in a request.
-use Rattle.std.specs.Prelude.{◌≡◌, ◌⊎◌, Some}
+use Rattle.std.specs.Prelude.{◌≡◌, ◌⊎◌, ℕ, List, Option, None, Some, IsSomeAnd, option_map}
+use Rattle.svc_request.specs.declared.request.Source.{Source}
 use Rattle.svc_request.specs.declared.request.Source.TheVariants as source
 use Rattle.svc_request.specs.declared.request.Request.{Request}
 use Rattle.svc_request.specs.declared.request.Request.TheVariants as request
 
+-- the image's file has this name
+abbrev pub IsNameOf : List ℕ → Source → Type 0
+IsNameOf name source.BuiltIn = ⊥
+IsNameOf name (source.File file) = file.now ≡ name
+
+-- the image that a request is about, where it is about one that is there already
+abbrev pub source_of : Request → Option Source
+source_of (request.Run run) = Some run.image
+source_of (request.Sequential tasks) = Some tasks.image
+source_of (request.Script scripted) = Some scripted.image
+source_of (request.Check traced) = Some traced.image
+source_of (request.Profile traced by) = Some traced.image
+source_of (request.Show traced at) = Some traced.image
+source_of (request.Draw traced picture) = Some traced.image
+source_of (request.List image) = Some image
+source_of _ = None
+
+-- the name of the file that is to be written, if any is
+abbrev pub written_by : Request → Option (List ℕ)
+written_by (request.Run run) = option_map (λ name. name.now) run.trace
+written_by (request.Draw traced picture) = Some picture.file.now
+written_by (request.Assemble assembly) = Some assembly.image.now
+written_by _ = None
+
 -- the file that is to be written is one that is to be read
 abbrev pub IsOverItself : Request → Type 0
-IsOverItself (request.Run (source.File image) config schedule (Some trace) row) = image.now ≡ trace.now
-IsOverItself (request.Draw (source.File image) config trace picture from count) = (image.now ≡ picture.now) ⊎ (trace.now ≡ picture.now)
-IsOverItself (request.Draw source.BuiltIn config trace picture from count) = trace.now ≡ picture.now
-IsOverItself (request.Assemble text image) = text.now ≡ image.now
+IsOverItself (request.Run run) = IsSomeAnd run.trace (λ name. IsNameOf name.now run.image)
+IsOverItself (request.Draw traced picture) = (traced.trace.now ≡ picture.file.now) ⊎ IsNameOf picture.file.now traced.image
+IsOverItself (request.Assemble assembly) = assembly.text.now ≡ assembly.image.now
 IsOverItself _ = ⊥

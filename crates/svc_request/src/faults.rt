@@ -1,9 +1,8 @@
 // Why the program gives up, and the words in which it says so.
 
 ghost use Rattle.std.specs.Prelude.{◌≡◌};
-ghost use Rattle.svc_request.specs.declared.faults.Fault.TheVariants.{File, Image, Open, Report, Run, Trace};
+ghost use Rattle.svc_request.specs.declared.faults.Fault.TheVariants.{File, Image, Open, Output, Run, Trace};
 ghost use Rattle.svc_request.specs.Faults.{told_as, trace_fault_number};
-ghost use Rattle.svc_report.specs.declared.error.ReportError.TheVariants.{Write};
 
 use crate::files::FileFault;
 use std::alloc::{AllocError, AllocFailed};
@@ -52,6 +51,9 @@ pub enum Fault {
     /// A text couldn't be read or written.
     #[error("report fault {}", .0.number())]
     Report(ReportError),
+    /// A line of the program's own couldn't be printed.
+    #[error("file fault")]
+    Output,
     /// A file failed, or memory ran out and no other fault says so.
     #[error("file fault")]
     File,
@@ -119,12 +121,12 @@ impl From<ReportError> for Fault {
     }
 }
 
-// Only the output is written directly.
+// Only lines of the program's own are written directly.
 impl From<io::Error> for Fault {
-    ghost from_gives = { λ _ fault. fault ≡ Report Write };
+    ghost from_gives = { λ _ fault. fault ≡ Output };
 
     fn from(_error: io::Error) -> Fault {
-        Fault::Report(ReportError::Write)
+        Fault::Output
     }
 }
 

@@ -1,6 +1,7 @@
 // The files that the program reads and writes.
 
 ghost use Rattle.std.specs.Prelude.{◌≡◌, ℕ, List, Option, None, Some, IfOk, IfSome, IsTrue, OnOk};
+ghost use Rattle.svc_request.specs.Held.{KeepsOthers};
 
 use std::io::Read;
 
@@ -22,9 +23,11 @@ pub trait Files {
             (λ known. Self.Reader.remaining reader ≡ Some known)) }
         ensures kept { held self.new ≡ held self.old };
 
-    /// Makes these bytes the whole content of a file, which is created if there is none.
+    /// Makes these bytes the whole content of a file, which is created if there is none. Where that fails the file may hold
+    /// anything. Files of other names hold what they held.
     fn save(&mut self, name: &str, bytes: &[u8]) -> Result<(), FileFault>
-        ensures saved { OnOk result (IfSome (held self.new name.now) (λ known. known ≡ bytes.now)) };
+        ensures saved { OnOk result (IfSome (held self.new name.now) (λ known. known ≡ bytes.now)) }
+        ensures others { KeepsOthers (held self.old) (held self.new) name.now };
 
     /// Whether two names are of one file, as far as can be known. Equal names are.
     fn is_same(&self, one: &str, other: &str) -> bool

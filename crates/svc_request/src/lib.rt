@@ -8,4 +8,7 @@ mod request;
 
 pub use faults::{Fault, tell};
 pub use files::{FileFault, Files};
-pub use request::{Order, Request, Schedule, Source, Table, VERSION};
+pub use request::{
+    Assembly, Order, Picture, Request, Run, Schedule, Scripted, Source, Table, Tasks, Traced,
+    VERSION,
+};

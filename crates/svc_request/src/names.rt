@@ -1,7 +1,7 @@
 // Files that would be written over ones that are read.
 
 ghost use Rattle.std.specs.Prelude.{IsTrue};
-ghost use Rattle.svc_request.specs.Names.{IsOverItself};
+ghost use Rattle.svc_request.specs.Names.{IsNameOf, IsOverItself};
 
 use crate::files::Files;
 use crate::request::{Request, Source};
@@ -13,25 +13,26 @@ impl Request<'_> {
         ensures { IsOverItself self.now → IsTrue result }
     {
         match self {
-            Request::Run {
-                image: Source::File(image),
-                trace: Some(trace),
-                ..
-            } => files.is_same(image, trace),
-            Request::Draw {
-                image: Source::File(image),
-                trace,
-                picture,
-                ..
-            } => files.is_same(image, picture) || files.is_same(trace, picture),
-            Request::Draw {
-                image: Source::BuiltIn,
-                trace,
-                picture,
-                ..
-            } => files.is_same(trace, picture),
-            Request::Assemble { text, image } => files.is_same(text, image),
+            Request::Run(run) => match run.trace {
+                Some(trace) => is_source(run.image, trace, files),
+                None => false,
+            },
+            Request::Draw(traced, picture) => {
+                files.is_same(traced.trace, picture.file)
+                    || is_source(traced.image, picture.file, files)
+            }
+            Request::Assemble(assembly) => files.is_same(assembly.text, assembly.image),
             _ => false,
         }
+    }
+}
+
+// Whether the file of this name is that of the image, as far as `files` can tell.
+fn is_source<F: Files>(image: Source<'_>, name: &str, files: &F) -> bool
+    ensures { IsNameOf name.now image.entry → IsTrue result }
+{
+    match image {
+        Source::BuiltIn => false,
+        Source::File(file) => files.is_same(file, name),
     }
 }

@@ -69,6 +69,65 @@ pub enum Table<'a> {
     Row(TableRow<'a>),
 }
 
+/// A run of an image on a machine of a configuration.
+#[derive(Clone, Copy)]
+pub struct Run<'a> {
+    pub image: Source<'a>,
+    pub config: Config,
+    /// The order of its steps; without one each unit has a thread of its own.
+    pub schedule: Option<Schedule>,
+    /// The file that its trace is saved in.
+    pub trace: Option<&'a str>,
+    /// The row of a table that is printed in place of the summary.
+    pub row: Option<TableRow<'a>>,
+}
+
+/// The first tasks of an image, in order on one flat memory.
+#[derive(Clone, Copy)]
+pub struct Tasks<'a> {
+    pub image: Source<'a>,
+    /// How many tasks are run at most.
+    pub most: u32,
+}
+
+/// The events of a script, on a machine of a configuration.
+#[derive(Clone, Copy)]
+pub struct Scripted<'a> {
+    pub image: Source<'a>,
+    pub config: Config,
+    /// The script's file.
+    pub events: &'a str,
+}
+
+/// A trace of an image, which is replayed on a machine of a configuration.
+#[derive(Clone, Copy)]
+pub struct Traced<'a> {
+    pub image: Source<'a>,
+    pub config: Config,
+    /// The trace's file.
+    pub trace: &'a str,
+}
+
+/// A picture of a trace.
+#[derive(Clone, Copy)]
+pub struct Picture<'a> {
+    /// The file that it is saved in.
+    pub file: &'a str,
+    /// The first entry that it shows, counted from 0.
+    pub from: u32,
+    /// How many entries it shows at most.
+    pub count: u32,
+}
+
+/// A text that is assembled.
+#[derive(Clone, Copy)]
+pub struct Assembly<'a> {
+    /// The text's file.
+    pub text: &'a str,
+    /// The file that the image is saved in.
+    pub image: &'a str,
+}
+
 /// What is asked of the program. Files are known by their names.
 #[derive(Drop)]
 pub enum Request<'a> {
@@ -76,62 +135,22 @@ pub enum Request<'a> {
     Help(String),
     /// To print the program's name and version.
     Version,
-    /// To run an image on a machine of this configuration, by a schedule or else with a thread for each unit, to save
-    /// its trace where a file is named for it, and to print the summary, as a row of a table where one is asked for.
-    Run {
-        image: Source<'a>,
-        config: Config,
-        schedule: Option<Schedule>,
-        trace: Option<&'a str>,
-        row: Option<TableRow<'a>>,
-    },
-    /// To run this many tasks of an image in order, on one flat memory.
-    Sequential {
-        image: Source<'a>,
-        tasks: u32,
-    },
-    /// To apply a script's events to a machine of this configuration.
-    Script {
-        image: Source<'a>,
-        config: Config,
-        events: &'a str,
-    },
-    /// To replay a trace on a machine of this configuration.
-    Check {
-        image: Source<'a>,
-        config: Config,
-        trace: &'a str,
-    },
-    /// To replay a trace so, and to tell what its speculation cost, in all or by a table.
-    Profile {
-        image: Source<'a>,
-        config: Config,
-        trace: &'a str,
-        by: Option<Table<'a>>,
-    },
-    /// To replay a trace so, and to show the machine after the first `at` of its entries, or after all.
-    Show {
-        image: Source<'a>,
-        config: Config,
-        trace: &'a str,
-        at: Option<u64>,
-    },
-    /// To replay a trace so, and to save a picture of this many of its entries, from one on, in a file.
-    Draw {
-        image: Source<'a>,
-        config: Config,
-        trace: &'a str,
-        picture: &'a str,
-        from: u32,
-        count: u32,
-    },
-    /// To assemble a text, and to save its image in this file.
-    Assemble {
-        text: &'a str,
-        image: &'a str,
-    },
+    /// To run an image, to save the trace where a file is named for it, and to print the summary.
+    Run(Run<'a>),
+    /// To run tasks in order, and to print the summary.
+    Sequential(Tasks<'a>),
+    /// To do the events of a script, and to print a line for each, and the summary.
+    Script(Scripted<'a>),
+    /// To replay a trace, and to print whether it is sound.
+    Check(Traced<'a>),
+    /// To replay a trace, and to print what its speculation cost, in all or by a table.
+    Profile(Traced<'a>, Option<Table<'a>>),
+    /// To replay a trace, and to print the machine after this many of its entries, or after all.
+    Show(Traced<'a>, Option<u64>),
+    /// To replay a trace, and to save a picture of it.
+    Draw(Traced<'a>, Picture<'a>),
+    /// To assemble a text, and to save its image.
+    Assemble(Assembly<'a>),
     /// To print an image as a text that is assembled to it.
-    List {
-        image: Source<'a>,
-    },
+    List(Source<'a>),
 }

@@ -16,7 +16,8 @@ use svc_base::Config;
 use svc_command::execute;
 use svc_image::samples::P;
 use svc_program::{
-    FileFault, Files, Order, Request, Schedule, Source, Table, TableRow, perform, tell,
+    Assembly, FileFault, Files, Order, Picture, Request, Run, Schedule, Scripted, Source, Table,
+    TableRow, Traced, perform, tell,
 };
 
 /// Makes the call of this name, where it is one of these.
@@ -29,6 +30,7 @@ fn attempt_image<R: Threads + Wait + Sync + AllocGlobal>(rt: &R, name: &str) -> 
     match name {
         "seq" => Some(seq(rt)),
         "script" => Some(script(rt)),
+        "script_line" => Some(script_line(rt)),
         "run" => Some(run(rt)),
         "schedule" => Some(schedule(rt, Some("saved"), None, SCHEDULE)),
         "run_row" => Some(schedule(rt, None, Some(HEADED), RUN_ROW)),
@@ -83,6 +85,28 @@ impl Files for Samples {
     }
 }
 
+// What the program tells where memory was refused, the last by the parser of its words.
+const TOLD: [&str; 8] = [
+    "svcsim: file fault\n",
+    "svcsim: image fault 9\n",
+    "svcsim: plain fault 1\n",
+    "svcsim: open fault 1\n",
+    "svcsim: run fault 1\n",
+    "svcsim: report fault 1\n",
+    "svcsim: trace fault 1 at entry 0\n",
+    "error: out of memory\n",
+];
+
+// Whether this is told where memory was refused.
+fn is_told(err: &[u8]) -> bool {
+    for fault in TOLD {
+        if err == fault.as_bytes() {
+            return true;
+        }
+    }
+    false
+}
+
 // What the program has printed and ended with is right, or it has told of a fault and printed a beginning of that.
 fn judged(status: u8, out: &[u8], err: &[u8], wanted: &str) -> Attempt
     ensures right { result ≡ Ok true → (status ≡ 0) × (out.now ≡ wanted.now) }
@@ -90,7 +114,7 @@ fn judged(status: u8, out: &[u8], err: &[u8], wanted: &str) -> Attempt
 {
     if status == 0 {
         Ok(err.is_empty() && out == wanted.as_bytes())
-    } else if status == 1 && !err.is_empty() && wanted.as_bytes().starts_with(out) {
+    } else if status == 1 && is_told(err) && wanted.as_bytes().starts_with(out) {
         Err(Refused::Told)
     } else {
         Ok(false)
@@ -106,14 +130,23 @@ pub fn line(alloc: Global, words: &[&str]) -> Result<Vec<String>, AllocError> {
     Ok(line)
 }
 
-/// Both tasks are run in order, as the words of a command line say.
-fn seq<R: Threads + Wait + Sync + AllocGlobal>(rt: &R) -> Attempt {
+// Does what the words of a command line say, which prints this.
+fn told_by<R: Threads + Wait + Sync + AllocGlobal>(
+    rt: &R,
+    words: &[&str],
+    wanted: &str,
+) -> Attempt {
     let alloc = rt.alloc();
-    let words = ready(line(alloc, &["svcsim", "seq", "p", "--tasks", "2"]))?;
+    let words = ready(line(alloc, words))?;
     let mut out = Vec::new(alloc);
     let mut err = Vec::new(alloc);
     let status = execute(rt, alloc, &words, &mut Samples, &mut out, &mut err);
-    judged(status, &out, &err, SEQ)
+    judged(status, &out, &err, wanted)
+}
+
+/// Both tasks are run in order, as the words of a command line say.
+fn seq<R: Threads + Wait + Sync + AllocGlobal>(rt: &R) -> Attempt {
+    told_by(rt, &["svcsim", "seq", "p", "--tasks", "2"], SEQ)
 }
 
 // Does what is asked for, which prints this.
@@ -134,34 +167,44 @@ fn asked<R: Threads + Wait + Sync + AllocGlobal>(
 
 /// Ten events are done.
 fn script<R: Threads + Wait + Sync + AllocGlobal>(rt: &R) -> Attempt {
-    let request = Request::Script {
+    let scripted = Scripted {
         image: Source::File("p"),
         config: ready(Config::new(4, 16, 2, 10, 1))?,
         events: "events",
     };
-    asked(rt, request, SCRIPT)
+    asked(rt, Request::Script(scripted), SCRIPT)
+}
+
+/// The ten events are done, as the words of a command line say.
+fn script_line<R: Threads + Wait + Sync + AllocGlobal>(rt: &R) -> Attempt {
+    let words = ["svcsim", "script", "p", "events", "--events", "10", "--turns=1"];
+    told_by(rt, &words, SCRIPT)
+}
+
+/// The trace of ten events, on the machine that has room for them.
+fn ten_entries() -> Result<Traced<'static>, Refused> {
+    Ok(Traced {
+        image: Source::File("p"),
+        config: ready(Config::new(4, 16, 2, 10, 1))?,
+        trace: "trace",
+    })
 }
 
 /// The trace of ten events is checked.
 fn check<R: Threads + Wait + Sync + AllocGlobal>(rt: &R) -> Attempt {
-    let request = Request::Check {
-        image: Source::File("p"),
-        config: ready(Config::new(4, 16, 2, 10, 1))?,
-        trace: "trace",
-    };
-    asked(rt, request, CHECK)
+    asked(rt, Request::Check(ten_entries()?), CHECK)
 }
 
 /// One task is run by a unit in a thread, and its trace is saved.
 fn run<R: Threads + Wait + Sync + AllocGlobal>(rt: &R) -> Attempt {
-    let request = Request::Run {
+    let run = Run {
         image: Source::BuiltIn,
         config: ready(Config::new(1, 16, 2, 100, 1000))?,
         schedule: None,
         trace: Some("saved"),
         row: None,
     };
-    asked(rt, request, RUN)
+    asked(rt, Request::Run(run), RUN)
 }
 
 /// Two tasks are run by four units in one thread, the youngest task first.
@@ -171,14 +214,14 @@ fn schedule<'a, R: Threads + Wait + Sync + AllocGlobal>(
     row: Option<TableRow<'a>>,
     wanted: &str,
 ) -> Attempt {
-    let request = Request::Run {
+    let run = Run {
         image: Source::File("p"),
         config: ready(Config::new(4, 16, 2, 100, 1000))?,
         schedule: Schedule::new(Order::Youngest, 63),
         trace,
         row,
     };
-    asked(rt, request, wanted)
+    asked(rt, Request::Run(run), wanted)
 }
 
 /// A row of a table after the names of the columns.
@@ -193,52 +236,34 @@ fn profile<R: Threads + Wait + Sync + AllocGlobal>(
     by: Option<Table<'_>>,
     wanted: &str,
 ) -> Attempt {
-    let request = Request::Profile {
-        image: Source::File("p"),
-        config: ready(Config::new(4, 16, 2, 10, 1))?,
-        trace: "trace",
-        by,
-    };
-    asked(rt, request, wanted)
+    asked(rt, Request::Profile(ten_entries()?, by), wanted)
 }
 
 /// The machine to which the trace of ten events leads is shown, after so many of them or after all.
 fn show<R: Threads + Wait + Sync + AllocGlobal>(rt: &R, at: Option<u64>, wanted: &str) -> Attempt {
-    let request = Request::Show {
-        image: Source::File("p"),
-        config: ready(Config::new(4, 16, 2, 10, 1))?,
-        trace: "trace",
-        at,
-    };
-    asked(rt, request, wanted)
+    asked(rt, Request::Show(ten_entries()?, at), wanted)
 }
 
 /// A picture of the ten events is made, and saved.
 fn draw<R: Threads + Wait + Sync + AllocGlobal>(rt: &R) -> Attempt {
-    let request = Request::Draw {
-        image: Source::File("p"),
-        config: ready(Config::new(4, 16, 2, 10, 1))?,
-        trace: "trace",
-        picture: "saved",
+    let picture = Picture {
+        file: "saved",
         from: 0,
         count: 400,
     };
-    asked(rt, request, "")
+    asked(rt, Request::Draw(ten_entries()?, picture), "")
 }
 
 /// A text is assembled, and its image is saved.
 fn assemble<R: Threads + Wait + Sync + AllocGlobal>(rt: &R) -> Attempt {
-    let request = Request::Assemble {
+    let assembly = Assembly {
         text: "text",
         image: "saved",
     };
-    asked(rt, request, "")
+    asked(rt, Request::Assemble(assembly), "")
 }
 
 /// An image is listed.
 fn list<R: Threads + Wait + Sync + AllocGlobal>(rt: &R) -> Attempt {
-    let request = Request::List {
-        image: Source::File("p"),
-    };
-    asked(rt, request, LIST)
+    asked(rt, Request::List(Source::File("p")), LIST)
 }

@@ -7,7 +7,10 @@ use std::sync::Wait;
 use std::thread::Threads;
 use svc_base::Config;
 use svc_image::samples::P;
-use svc_program::{Fault, FileFault, Files, Request, Source, Table, perform, tell};
+use svc_program::{
+    Assembly, Fault, FileFault, Files, Request, Run, Scripted, Source, Table, Tasks, Traced,
+    perform, tell,
+};
 use svc_report::ReportError;
 
 // A writer that takes some bytes, and then fails.
@@ -39,13 +42,13 @@ impl Write for Narrow {
 // The run of the built-in image, by one unit.
 fn built_in<'a>() -> Option<Request<'a>> {
     let config = Config::new(1, 16, 2, 1000, 1000).ok()?;
-    Some(Request::Run {
+    Some(Request::Run(Run {
         image: Source::BuiltIn,
         config,
         schedule: None,
         trace: None,
         row: None,
-    })
+    }))
 }
 
 // The status of an answer, of which a fault is told.
@@ -139,37 +142,23 @@ const KINDS: [Printing; 8] = [
 
 fn request_of<'a>(kind: Printing, config: Config) -> Request<'a> {
     let image = Source::BuiltIn;
+    let traced = Traced {
+        image,
+        config,
+        trace: "trace",
+    };
     match kind {
-        Printing::Summary => Request::Sequential { image, tasks: 1 },
-        Printing::Script => Request::Script {
+        Printing::Summary => Request::Sequential(Tasks { image, most: 1 }),
+        Printing::Script => Request::Script(Scripted {
             image,
             config,
             events: "events",
-        },
-        Printing::Check => Request::Check {
-            image,
-            config,
-            trace: "trace",
-        },
-        Printing::Profile => Request::Profile {
-            image,
-            config,
-            trace: "trace",
-            by: None,
-        },
-        Printing::Tasks => Request::Profile {
-            image,
-            config,
-            trace: "trace",
-            by: Some(Table::Tasks),
-        },
-        Printing::Show => Request::Show {
-            image,
-            config,
-            trace: "trace",
-            at: None,
-        },
-        Printing::List => Request::List { image },
+        }),
+        Printing::Check => Request::Check(traced),
+        Printing::Profile => Request::Profile(traced, None),
+        Printing::Tasks => Request::Profile(traced, Some(Table::Tasks)),
+        Printing::Show => Request::Show(traced, None),
+        Printing::List => Request::List(image),
         Printing::Version => Request::Version,
     }
 }
@@ -195,6 +184,31 @@ fn whole<R: Threads + Wait + Sync + AllocGlobal>(rt: &R, kind: Printing) -> Opti
     }
 }
 
+// The rows of the script's two accepted events.
+const ACCEPTED: &str = "assign,0,0,,,assigned,,0,,,,,\nsubmit,0,,2,1,stored,0,5,,,,,\n";
+
+// The line of its refused one.
+const REFUSED: &str = "refused,12\n";
+
+// Whether the byte at this place of a kind's text is of a line of the program's own: that of a check, of the version or of a
+// refused event.
+fn is_of_a_line(kind: Printing, place: usize) -> bool {
+    match kind {
+        Printing::Check | Printing::Version => true,
+        Printing::Script => place >= ACCEPTED.len() && place < ACCEPTED.len() + REFUSED.len(),
+        _ => false,
+    }
+}
+
+// Whether that fault of output is told, as a file fault where it is of a line that is no text of its own.
+fn is_told(answer: Option<Result<u8, Fault>>, is_line: bool) -> bool {
+    match answer {
+        Some(Err(Fault::Output)) => is_line,
+        Some(Err(Fault::Report(ReportError::Write))) => !is_line,
+        _ => false,
+    }
+}
+
 // Whether the failure of a writer after so many bytes of the whole text is told, and nothing follows it.
 fn failure_is_told<R: Threads + Wait + Sync + AllocGlobal>(
     rt: &R,
@@ -204,7 +218,7 @@ fn failure_is_told<R: Threads + Wait + Sync + AllocGlobal>(
 ) -> bool {
     let mut out = FailingWriter::after(whole, left);
     let answer = print(rt, kind, &mut out);
-    matches!(answer, Some(Err(Fault::Report(ReportError::Write)))) && out.is_broken()
+    is_told(answer, is_of_a_line(kind, left)) && out.is_broken()
 }
 
 // The same for each number of bytes before the failure.
@@ -245,7 +259,7 @@ impl Write for Unflushed {
 // Whether that is told.
 fn flush_is_told<R: Threads + Wait + Sync + AllocGlobal>(rt: &R, kind: Printing) -> bool {
     let answer = print(rt, kind, &mut Unflushed);
-    matches!(answer, Some(Err(Fault::Report(ReportError::Write))))
+    is_told(answer, matches!(kind, Printing::Check | Printing::Version))
 }
 
 #[test]
@@ -301,17 +315,17 @@ fn file_fails<R: Threads + Wait + Sync + AllocGlobal>(
 fn an_image_over_a_reader_that_fails(rt: HostRuntime) {
     for left in 0..IMAGE.len() + 1 {
         let image = Source::File("image");
-        assert!(rt; file_fails(&rt, Request::Sequential { image, tasks: 1 }, left));
+        assert!(rt; file_fails(&rt, Request::Sequential(Tasks { image, most: 1 }), left));
     }
 }
 
 #[test]
 fn a_program_text_over_a_reader_that_fails(rt: HostRuntime) {
     for left in 0..TEXT.len() + 1 {
-        let request = Request::Assemble {
+        let assembly = Assembly {
             text: "text",
             image: "saved",
         };
-        assert!(rt; file_fails(&rt, request, left));
+        assert!(rt; file_fails(&rt, Request::Assemble(assembly), left));
     }
 }

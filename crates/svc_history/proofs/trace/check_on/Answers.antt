@@ -1,9 +1,14 @@
 use Rattle.std.proofs.Common.{subst, arith}
 use Rattle.svc_base.specs.declared.config.Config.{Config}
 use Rattle.svc_image.specs.Image.{Image}
-use Rattle.svc_history.specs.Faults.{IsFaultAt}
+use Rattle.svc_history.specs.Faults.{IsFaultAt, IsWrongThere}
 use Rattle.svc_history.proofs.Tracing.{fault_at, get_there}
 use Rattle.svc_history.proofs.trace.check_on.Goals as goal
+
+-- what is wrong with an entry is never that memory was refused
+pub returns-in-Err-clause-no_memory : goal.returns-in-Err-clause-no_memory
+returns-in-Err-clause-no_memory c = λ is.
+    subst (IsWrongThere c.loop-index.recorder _) is (c.in-Err.ensures {u = tt}).fault
 
 pub returns-in-Err-clause-fault : goal.returns-in-Err-clause-fault
 returns-in-Err-clause-fault c =

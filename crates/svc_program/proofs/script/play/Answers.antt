@@ -8,7 +8,7 @@ use Rattle.svc_program.proofs.script.play.Goals as goal
 pub loop-step-preserved : goal.loop-step-preserved
 loop-step-preserved g c =
     let none : Step = record { unit = record { 0 = 0 }; kind = Assign 0 } in
-    one_more_played c.args.steps.now c.loop-step.step-index c.args.recorder.now c.loop-step.recorder c.done-answer.new.recorder c.args.kept.now.items c.loop-step.kept.items c.done-answer.new.kept.items
-    (g.O.Write.contents c.args.out.now) (g.O.Write.contents c.loop-step.out) (g.O.Write.contents c.write_answer.new.out) _ c.done-answer.result c.loop-step.invariant
+    one_more_played c.args.steps.now c.loop-step.step-index c.args.recorder.now c.loop-step.recorder c.do_step-answer.new.recorder c.args.kept.now.items c.loop-step.kept.items c.do_step-answer.new.kept.items
+    (g.O.Write.contents c.args.out.now) (g.O.Write.contents c.loop-step.out) (g.O.Write.contents c.write_answer.new.out) _ c.do_step-answer.result c.loop-step.invariant
     (slice_get-get_or c.args.steps.now c.loop-step.step-index none (omega (arith, c.loop-step-test.true)))
-    c.done-answer.ensures.step c.done-answer.ensures.image c.done-answer.ensures.config c.in_ok-write_answer.ensures.text
+    c.do_step-answer.ensures.step c.do_step-answer.ensures.image c.do_step-answer.ensures.config c.in_ok-write_answer.ensures.text

@@ -12,8 +12,8 @@ returns-clause-report g c =
     let k = c.machine-machine.ensures.headline.tasks in
     let row = summary_row c.args.row (tasks_of r) (ending_after r.machine.image (tasks_of r) (is_full r.machine)) (counts_of r.entries) in
     record {
-      text = appended_and_kept (g.O.Write.contents c.args.out.now) (g.O.Write.contents c.write_summary_row.new.w) (g.O.Write.contents c.flush.new.self) row
+      text = appended_and_kept (g.O.Write.contents c.args.out.now) (g.O.Write.contents c.write_summary_row.new.w) (g.O.Write.contents c.flush.new.out) row
           (rw (c.committed_tasks.ensures, c.ending-ending.ensures, c.of-counts.ensures, c.entries.ensures.entries, m, k) at c.in_ok-write_summary_row.ensures.ok)
-          c.in_ok-flush.ensures.bytes;
+          c.in_ok-flush.ensures.kept;
       status = rw (c.ending-ending.ensures, m, k) at c.exit_status.ensures;
     }

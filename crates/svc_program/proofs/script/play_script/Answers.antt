@@ -1,5 +1,5 @@
-use Rattle.svc_program.proofs.Scripted.{scripted}
-use Rattle.svc_program.proofs.script.script.Goals as goal
+use Rattle.svc_program.proofs.WholeScript.{scripted}
+use Rattle.svc_program.proofs.script.play_script.Goals as goal
 
 pub returns-clause-script : goal.returns-clause-script
 returns-clause-script g c =

@@ -1,0 +1,84 @@
+-- What a request takes from the words of a line.
+use Rattle.std.specs.Prelude.{◌≡◌, ⊤, ℕ, true, List, Option, None, Some, IfSome, codes}
+use Rattle.svc_base.specs.declared.config.Config.{Config}
+use Rattle.svc_report.specs.declared.table.TableRow.{TableRow}
+use Rattle.svc_request.specs.declared.request.Order.{Order}
+use Rattle.svc_request.specs.declared.request.Order.TheVariants as order
+use Rattle.svc_request.specs.declared.request.Run.{Run}
+use Rattle.svc_request.specs.declared.request.Schedule.{Schedule}
+use Rattle.svc_request.specs.declared.request.Source.{Source}
+use Rattle.svc_request.specs.declared.request.Source.TheVariants as source
+use Rattle.svc_request.specs.declared.request.Table.{Table}
+use Rattle.svc_request.specs.declared.request.Table.TheVariants as table
+use Rattle.svc_request.specs.declared.request.Traced.{Traced}
+use Rattle.svc_request.specs.declared.request.Request.{Request}
+use Rattle.svc_request.specs.declared.request.Request.TheVariants as request
+use Rattle.svc_command.specs.Line.{HasWord, IsGivenNumber, IsNumberOf, IsValueOf, option_word}
+
+-- the image is the file of one of the words
+abbrev pub GivesImage : List (List ℕ) → Source → Type 0
+GivesImage words source.BuiltIn = ⊥
+GivesImage words (source.File name) = HasWord name.now words
+
+-- each number of the configuration is that of its option, or its default
+pub record GivesConfig (words : List (List ℕ)) (config : Config) : Type 0 where
+  pub units : IsNumberOf (codes "units") 4 config.units words
+  pub sets : IsNumberOf (codes "sets") 16 config.sets words
+  pub ways : IsNumberOf (codes "ways") 2 config.ways words
+  pub events : IsNumberOf (codes "events") 100000 config.events words
+  pub turns : IsNumberOf (codes "turns") 1000000 config.turns words
+
+-- the order is the one that the line names, with its seed
+abbrev pub GivesOrder : List (List ℕ) → Order → Type 0
+GivesOrder words order.Rotate = IsValueOf (codes "schedule") (codes "rotate") words
+GivesOrder words order.Oldest = IsValueOf (codes "schedule") (codes "oldest") words
+GivesOrder words order.Youngest = IsValueOf (codes "schedule") (codes "youngest") words
+GivesOrder words (order.Random seed) =
+    IsValueOf (codes "schedule") (codes "random") words × IsNumberOf (codes "seed") 0 seed words
+
+-- a schedule is that of its options
+pub record GivesSchedule (words : List (List ℕ)) (schedule : Schedule) : Type 0 where
+  pub order : GivesOrder words schedule.order
+  pub burst : IsNumberOf (codes "burst") 63 schedule.burst words
+
+-- the row of a table has the label that the line gives, and the names of the columns only where they are asked for
+pub record GivesRow (words : List (List ℕ)) (row : TableRow) : Type 0 where
+  pub label : IsValueOf (codes "row") row.label.now words
+  pub header : row.header ≡ true → HasWord (option_word (codes "header")) words
+
+-- the table is the one that the line names
+abbrev pub GivesTable : List (List ℕ) → Table → Type 0
+GivesTable words table.Tasks = IsValueOf (codes "by") (codes "task") words
+GivesTable words table.Units = IsValueOf (codes "by") (codes "unit") words
+GivesTable words table.Words = IsValueOf (codes "by") (codes "word") words
+GivesTable words (table.Row row) = GivesRow words row
+
+pub record GivesRun (words : List (List ℕ)) (run : Run) : Type 0 where
+  pub image : GivesImage words run.image
+  pub config_is : GivesConfig words run.config
+  pub schedule : IfSome run.schedule (GivesSchedule words)
+  pub trace : IfSome run.trace (λ name. IsValueOf (codes "trace") name.now words)
+  pub row : IfSome run.row (GivesRow words)
+
+pub record GivesTraced (words : List (List ℕ)) (traced : Traced) : Type 0 where
+  pub image : GivesImage words traced.image
+  pub config_is : GivesConfig words traced.config
+  pub trace : HasWord traced.trace.now words
+
+-- each file's name is one of the words or the value of its option, each number what the value of its option reads as or its
+-- default, and whatever else is asked for is named by the value of an option
+abbrev pub Gives : List (List ℕ) → Request → Type 0
+Gives words (request.Help text) = ⊤
+Gives words request.Version = ⊤
+Gives words (request.Run run) = GivesRun words run
+Gives words (request.Sequential tasks) = GivesImage words tasks.image × IsGivenNumber (codes "tasks") tasks.most words
+Gives words (request.Script scripted) =
+    GivesImage words scripted.image × GivesConfig words scripted.config × HasWord scripted.events.now words
+Gives words (request.Check traced) = GivesTraced words traced
+Gives words (request.Profile traced by) = GivesTraced words traced × IfSome by (GivesTable words)
+Gives words (request.Show traced at) = GivesTraced words traced × IfSome at (λ n. IsGivenNumber (codes "at") n words)
+Gives words (request.Draw traced picture) =
+    GivesTraced words traced × HasWord picture.file.now words
+    × IsNumberOf (codes "from") 0 picture.from words × IsNumberOf (codes "count") 400 picture.count words
+Gives words (request.Assemble assembly) = HasWord assembly.text.now words × HasWord assembly.image.now words
+Gives words (request.List image) = GivesImage words image

@@ -1,0 +1,179 @@
+//! A line of words, and what its parser made of it.
+
+ghost use Rattle.std.specs.Prelude.{◌≡◌, ◌++◌, Ok, IfOk, IfSome, IsTrue};
+ghost use Rattle.svc_command.specs.Line.{Has, HasWord, IsGivenNumber, IsJoined, IsNext, IsNumberOf, IsValueOf, option_word, texts};
+
+use clap::ArgMatches;
+use std::str::FromStr;
+use svc_program::Fault;
+
+/// The words of a line, and what its parser made of them. What the parser gives is taken where it stands on the line.
+#[derive(Clone, Copy)]
+pub(crate) struct Line<'w, 'a> {
+    pub(crate) words: &'w [String],
+    pub(crate) given: &'w ArgMatches<'a>,
+}
+
+impl<'a> Line<'_, 'a> {
+    /// A file by its place on the line, which has to be named.
+    pub(crate) fn file(self, name: &str) -> Result<&'a str, Fault>
+        ensures { IfOk result (λ file. HasWord file.now (texts self.entry.words.now)) }
+    {
+        match self.given.get_str(name) {
+            Some(file) if has_word(self.words, file) => Ok(file),
+            // The parser reads no line without it, and gives a word of the line.
+            _ => Err(Fault::File),
+        }
+    }
+
+    /// The value of an option, if it is given.
+    pub(crate) fn option(self, name: &str) -> Result<Option<&'a str>, Fault>
+        ensures { IfOk result (λ value. IfSome value
+            (λ text. IsValueOf name.now text.now (texts self.entry.words.now))) }
+    {
+        match self.given.get_str(name) {
+            Some(value) if has_value(self.words, name, value) => Ok(Some(value)),
+            // The parser gives a value that the line gives.
+            Some(_) => Err(Fault::File),
+            None => Ok(None),
+        }
+    }
+
+    /// The number of an option, or the default where none is given.
+    pub(crate) fn number(self, name: &str, default: u32) -> Result<u32, Fault>
+        ensures { IfOk result (λ number. IsNumberOf name.now default number (texts self.entry.words.now)) }
+    {
+        let Some(text) = self.given.get_str(name) else {
+            return Ok(default);
+        };
+        let number = number_of::<u32>(text)?;
+        if number == default || has_value(self.words, name, text) {
+            return Ok(number);
+        }
+        // The parser gives a value that the line gives, or the default.
+        Err(Fault::File)
+    }
+
+    /// The number of an option that has to be given.
+    pub(crate) fn given_number(self, name: &str) -> Result<u32, Fault>
+        ensures { IfOk result (λ number. IsGivenNumber name.now number (texts self.entry.words.now)) }
+    {
+        match self.option(name)? {
+            Some(text) => number_of::<u32>(text),
+            // The parser reads no line without it.
+            None => Err(Fault::File),
+        }
+    }
+
+    /// The number of 64 bits of an option, if it is given.
+    pub(crate) fn index(self, name: &str) -> Result<Option<u64>, Fault>
+        ensures { IfOk result (λ index. IfSome index (λ n. IsGivenNumber name.now n (texts self.entry.words.now))) }
+    {
+        match self.option(name)? {
+            Some(text) => Ok(Some(number_of::<u64>(text)?)),
+            None => Ok(None),
+        }
+    }
+
+    /// Whether a flag is given.
+    pub(crate) fn flag(self, name: &str) -> bool
+        ensures { IsTrue result → HasWord (option_word name.now) (texts self.entry.words.now) }
+    {
+        self.given.get_flag(name) && has_option(self.words, name)
+    }
+}
+
+// The number that a text reads as. The parser takes no other text for one.
+fn number_of<N: FromStr>(text: &str) -> Result<N, Fault>
+where
+    N::Err: Drop,
+    ensures { IfOk result (λ number. N.from_str_gives text.now (Ok number)) }
+{
+    match text.parse::<N>() {
+        Ok(number) => Ok(number),
+        Err(_) => Err(Fault::File),
+    }
+}
+
+// One of the words is this one.
+pub(crate) fn has_word(words: &[String], text: &str) -> bool
+    ensures { IsTrue result → HasWord text.now (texts words.now) }
+{
+    for word in words {
+        if word.as_str() == text {
+            return true;
+        }
+    }
+    false
+}
+
+// One of the words is the option of this name.
+fn has_option(words: &[String], name: &str) -> bool
+    ensures { IsTrue result → HasWord (option_word name.now) (texts words.now) }
+{
+    for word in words {
+        if is_option(word.as_str(), name) {
+            return true;
+        }
+    }
+    false
+}
+
+// The value stands behind the option of this name, as the next word or in one word with it.
+fn has_value(words: &[String], name: &str, value: &str) -> bool
+    ensures { IsTrue result → IsValueOf name.now value.now (texts words.now) }
+{
+    has_next(words, name, value) || has_joined(words, name, value)
+}
+
+// The value is the word behind the option of this name.
+fn has_next(words: &[String], name: &str, value: &str) -> bool
+    ensures { IsTrue result → IsNext name.now value.now (texts words.now) }
+{
+    for index in 1..words.len() {
+        if is_option(words[index - 1].as_str(), name) && words[index].as_str() == value {
+            return true;
+        }
+    }
+    false
+}
+
+// The value stands in one word with the option of this name.
+fn has_joined(words: &[String], name: &str, value: &str) -> bool
+    ensures { IsTrue result → Has (IsJoined name.now value.now) (texts words.now) }
+{
+    for word in words {
+        if is_joined(word.as_str(), name, value) {
+            return true;
+        }
+    }
+    false
+}
+
+// The word is the option of this name.
+fn is_option(word: &str, name: &str) -> bool
+    ensures { IsTrue result → word.now ≡ option_word name.now }
+{
+    match behind_option(word, name) {
+        Some(rest) => rest.is_empty(),
+        None => false,
+    }
+}
+
+// The word is the option of this name with the value behind `=`.
+fn is_joined(word: &str, name: &str, value: &str) -> bool
+    ensures { IsTrue result → IsJoined name.now value.now word.now }
+{
+    match behind_option(word, name) {
+        Some([b'=', rest @ ..]) => rest == value.as_bytes(),
+        _ => false,
+    }
+}
+
+// What stands in the word behind the option of this name.
+fn behind_option<'w>(word: &'w str, name: &str) -> Option<&'w [u8]>
+    ensures { IfSome result (λ rest. word.now ≡ option_word name.now ++ rest.now) }
+{
+    let long = word.as_bytes().strip_prefix(b"--".as_slice())?;
+    long.strip_prefix(name.as_bytes())
+}

@@ -1,0 +1,98 @@
+-- What a request comes to, put together of what its parts say.
+use Rattle.std.specs.Prelude.{IfOk, IfErr, IfSome}
+use Rattle.std.proofs.Common.{◌≡◌, ◌∙◌, ◌⊎◌, ℕ, List, Option, Some, None, Result, Ok, Err, inl, inr, ap, subst}
+use Rattle.svc_image.specs.Image.{Image}
+use Rattle.svc_history_laws.specs.declared.entry.Entry.{Entry}
+use Rattle.svc_history.specs.Recorded.{Recorded}
+use Rattle.svc_request.specs.declared.faults.Fault.{Fault}
+use Rattle.svc_request.specs.declared.faults.Fault.TheVariants as fault
+use Rattle.svc_request.specs.declared.request.Request.{Request}
+use Rattle.svc_request.specs.declared.request.Request.TheVariants as request
+use Rattle.svc_request.specs.declared.request.Run.{Run}
+use Rattle.svc_request.specs.declared.request.Traced.{Traced}
+use Rattle.svc_request.specs.Faults.{IsEarly, IsOutputFault, IsReportFault}
+use Rattle.svc_request.specs.Held.{Held, KeepsAllBut}
+use Rattle.svc_request.specs.Names.{written_by}
+use Rattle.svc_program.specs.Requests.{Does, HasImage, IsAnswered, IsLate, IsOfSource, IsReady, IsTracedIn, IsTraceIn, KeepsFiles, SavesTrace, Spares}
+use Rattle.svc_program.specs.Runs.{GoesBy, IsRunOf, ReportsRun}
+
+-- where no file is changed, none is but the one that is to be written
+pub all_kept : (name : Option (List ℕ)) (held saved : Held) → saved ≡ held → KeepsAllBut name held saved
+all_kept None held saved same = same
+all_kept (Some name) held saved same = λ other differs. ap (λ (h : Held). h other) same
+
+-- a fault before anything is printed or saved
+pub given_up : {O : Type 0} (contents : O → Option (List ℕ)) (asked : Request) (held saved : Held) (old new : O) (f : Fault)
+    → IsEarly f ⊎ HasImage asked held → saved ≡ held → new ≡ old → IsAnswered contents asked held saved old new (Err f)
+given_up contents asked held saved old new f order same quiet = record {
+  done = tt;
+  silent = inr quiet;
+  order = order;
+  kept = all_kept (written_by asked) held saved same;
+  spared = inl same;
+}
+
+-- with the image there, what is done of it or why not
+pub answered : {O : Type 0} (contents : O → Option (List ℕ)) (asked : Request) (held saved : Held) (old new : O) (r : Result ℕ Fault)
+    → HasImage asked held → IfOk r (Does asked held saved (contents old) (contents new)) → IfErr r (λ f. IsOutputFault f ⊎ (new ≡ old))
+    → KeepsFiles asked held saved → IfErr r (λ f. Spares asked f held saved) → IsAnswered contents asked held saved old new r
+answered contents asked held saved old new (Ok exit) image done silent kept spared =
+    record { done = done; silent = tt; order = tt; kept = kept; spared = tt }
+answered contents asked held saved old new (Err f) image done silent kept spared =
+    record { done = tt; silent = silent; order = inr image; kept = kept; spared = spared }
+
+output_fault : (f : Fault) → IsReportFault f → IsOutputFault f
+output_fault (fault.Report e) is = tt
+output_fault _ is = absurd is
+
+-- a fault of a text is one of the output, and before another one nothing is printed
+pub silent_before : {O : Type 0} (old new : O) (r : Result ℕ Fault) (Other : Fault → Type 0)
+    → IfErr r (λ f. IsReportFault f ⊎ (Other f × (new ≡ old))) → IfErr r (λ f. IsOutputFault f ⊎ (new ≡ old))
+silent_before old new (Ok exit) Other said = tt
+silent_before old new (Err f) Other (inl text) = inl (output_fault f text)
+silent_before old new (Err f) Other (inr other) = inr (other.1)
+
+on_err : (r : Result ℕ Fault) (P : Fault → Type 0) → ((f : Fault) → P f) → IfErr r P
+on_err (Ok exit) P all = tt
+on_err (Err f) P all = all f
+
+-- a file that isn't saved may hold anything, since there was something to save
+pub failed_save : (asked : Request) (held saved : Held) (r : Result ℕ Fault) → IfErr r (λ f. f ≡ fault.File) → IsReady asked held → IfErr r (λ f. Spares asked f held saved)
+failed_save asked held saved (Ok exit) is ready = tt
+failed_save asked held saved (Err f) is ready = inr (inl is, ready)
+
+-- the same where no file is changed
+pub answered_reading : {O : Type 0} (contents : O → Option (List ℕ)) (asked : Request) (held saved : Held) (old new : O) (r : Result ℕ Fault)
+    → HasImage asked held → saved ≡ held → IfOk r (Does asked held saved (contents old) (contents new)) → IfErr r (λ f. IsOutputFault f ⊎ (new ≡ old))
+    → IsAnswered contents asked held saved old new r
+answered_reading contents asked held saved old new r image same done silent =
+    answered contents asked held saved old new r image done silent (all_kept (written_by asked) held saved same)
+    (on_err r (λ f. Spares asked f held saved) (λ f. inl same))
+
+-- what is done of an image and a trace that were loaded
+pub of_loaded : (r : Result ℕ Fault) (held : Held) (traced : Traced) (img : Image) (es : List Entry) (Holds : Image → List Entry → ℕ → Type 0)
+    → IsOfSource held traced.image img → IsTraceIn held traced.trace.now es → IfOk r (Holds img es)
+    → IfOk r (λ exit. IsTracedIn held traced (λ i xs. Holds i xs exit))
+of_loaded (Ok exit) held traced img es Holds image trace holds = (img, image, es, trace, holds)
+of_loaded (Err f) held traced img es Holds image trace holds = tt
+
+-- a run: its trace is saved where a file is named for it, and its report printed
+pub run_answered : {O : Type 0} (contents : O → Option (List ℕ)) (run : Run) (held loaded saved : Held) (old new : O) (r : Result ℕ Fault) (img : Image) (recorded : Recorded)
+    → loaded ≡ held → IsOfSource held run.image img → IsRunOf img run.config recorded → GoesBy run.schedule img run.config recorded
+    → IfOk r (λ _. IfSome run.trace (λ name. SavesTrace saved name.now recorded.entries)) → IfOk r (ReportsRun run.row recorded (contents old) (contents new))
+    → IfErr r (λ f. IsOutputFault f ⊎ (new ≡ old)) → KeepsAllBut (written_by (request.Run run)) loaded saved → IfErr r (λ f. IsLate f ⊎ (saved ≡ loaded))
+    → IsAnswered contents (request.Run run) held saved old new r
+run_answered contents run held loaded saved old new (Ok exit) img recorded same image is_run goes trace report silent kept spared = record {
+  done = (img, image, recorded, is_run, goes, trace, report);
+  silent = tt;
+  order = tt;
+  kept = subst (λ (h : Held). KeepsAllBut (written_by (request.Run run)) h saved) same kept;
+  spared = tt;
+}
+run_answered contents run held loaded saved old new (Err f) img recorded same image is_run goes trace report silent kept spared = record {
+  done = tt;
+  silent = silent;
+  order = inr (img, image);
+  kept = subst (λ (h : Held). KeepsAllBut (written_by (request.Run run)) h saved) same kept;
+  spared = elim spared [ inl late ↦ inr (late, (img, image)) | inr keeps ↦ inl (keeps ∙ same) ];
+}

@@ -1,0 +1,17 @@
+use Rattle.std.proofs.Common.{subst, rules}
+use Rattle.svc_request.specs.declared.request.Request.TheVariants as request
+use Rattle.svc_request.specs.Held.{Held, KeepsOthers}
+use Rattle.svc_program.proofs.Answering.{failed_save}
+use Rattle.svc_program.proofs.draw.draw.Goals as goal
+
+pub returns-in_err-save : goal.returns-in_err-save
+returns-in_err-save g c =
+    let held = g.F.Files.held c.args.files.now in
+    let saved = g.F.Files.held c.save.new.self in
+    record {
+      done = search rules;
+      silent = search rules;
+      order = search rules;
+      kept = subst (λ (h : Held). KeepsOthers h saved c.args.picture.file.now) c.load_traced.ensures.kept c.save.ensures.others;
+      spared = failed_save (request.Draw c.args.traced c.args.picture) held saved c.from_residual-in_err-save.result (search rules) (c.in_ok-image.image, c.in_ok-image.ensures.image);
+    }
