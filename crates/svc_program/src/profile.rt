@@ -13,10 +13,9 @@ use std::io::Write;
 use svc_base::Config;
 use svc_history::Entry;
 use svc_image::Image;
+use svc_profile::{write_profile, write_profile_row, write_tasks, write_units, write_words};
 use svc_report::ReportError;
 use svc_request::{Fault, Table};
-use svc_view::{write_profile, write_profile_row, write_tasks, write_units};
-use svc_words::write_words;
 
 /// Replays the entries, and prints what their speculation cost. It returns the exit status.
 pub fn profile<O: Write>(

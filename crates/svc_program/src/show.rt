@@ -14,7 +14,7 @@ use svc_history::{Entry, Recorder, check_on, open_trace};
 use svc_image::Image;
 use svc_request::Fault;
 use svc_show::show_text;
-use svc_view::text::write_text;
+use svc_text::write_text;
 
 /// Replays the entries, and prints the machine after the first `at` of them, or after all. It
 /// returns the exit status.
