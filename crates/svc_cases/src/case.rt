@@ -4,7 +4,7 @@ use crate::error::CaseError;
 use std::alloc::{AllocError, Global};
 use std::fs;
 use std::rt::Files;
-use svc_outcome::Outcome;
+use svc_case_outcome::Outcome;
 
 /// One run of the program, and what is wanted of it: the fields of a line of the list.
 #[derive(Clone, Copy)]

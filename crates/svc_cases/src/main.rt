@@ -18,7 +18,7 @@ use std::sync::Wait;
 use std::thread::Threads;
 use std::{fs, str};
 use svc_command::execute;
-use svc_outcome::{Outcome, Part};
+use svc_case_outcome::{Outcome, Part};
 
 fn main(rt: HostRuntime) -> Result<(), CaseError> {
     for line in rt.lines(rt.alloc()) {

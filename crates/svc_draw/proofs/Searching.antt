@@ -9,7 +9,7 @@ use Rattle.svc_base.specs.declared.ids.WordAddr.{WordAddr}
 use Rattle.svc_history_laws.specs.declared.entry.CutKind.{CutKind}
 use Rattle.svc_history_laws.specs.declared.entry.CutKind.TheVariants as cause
 use Rattle.svc_history_laws.specs.declared.entry.Entry.{Entry}
-use Rattle.svc_view.specs.Runs.{is_number, is_store}
+use Rattle.svc_task_runs.specs.Runs.{is_number, is_store}
 use Rattle.svc_draw.specs.declared.bars.Bar.{Bar}
 use Rattle.svc_draw.specs.declared.bars.Window.{Window}
 use Rattle.svc_draw.specs.declared.marks.Mark.{Mark}

@@ -3,8 +3,8 @@ use Rattle.std.specs.Prelude.{ℕ, ◌+◌, ◌-◌, min, nat_lt, nat_le, ◌==�
 use Rattle.std.specs.List.{flat_map}
 use Rattle.std.specs.Option.{option_to_list}
 use Rattle.svc_history_laws.specs.declared.entry.Entry.{Entry}
-use Rattle.svc_view.specs.declared.task_run.TaskRun.{TaskRun}
-use Rattle.svc_view.specs.Runs.{tasks_of}
+use Rattle.svc_task_runs.specs.declared.task_run.TaskRun.{TaskRun}
+use Rattle.svc_task_runs.specs.Runs.{tasks_of}
 use Rattle.svc_draw.specs.declared.bars.Bar.{Bar}
 use Rattle.svc_draw.specs.declared.bars.Window.{Window}
 

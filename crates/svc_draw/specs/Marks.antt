@@ -9,8 +9,8 @@ use Rattle.svc_history_laws.specs.declared.entry.ReplyKind.{ReplyKind}
 use Rattle.svc_history_laws.specs.declared.entry.ReplyKind.TheVariants as reply
 use Rattle.svc_history_laws.specs.declared.entry.ServedKind.{ServedKind}
 use Rattle.svc_history_laws.specs.declared.entry.ServedKind.TheVariants as by
-use Rattle.svc_view.specs.declared.task_run.TaskRun.{TaskRun}
-use Rattle.svc_view.specs.Runs.{is_number, is_store}
+use Rattle.svc_task_runs.specs.declared.task_run.TaskRun.{TaskRun}
+use Rattle.svc_task_runs.specs.Runs.{is_number, is_store}
 use Rattle.svc_draw.specs.declared.bars.Bar.{Bar}
 use Rattle.svc_draw.specs.declared.bars.Window.{Window}
 use Rattle.svc_draw.specs.declared.marks.Mark.{Mark}

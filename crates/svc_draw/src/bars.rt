@@ -1,15 +1,13 @@
 // The bars of a picture: each task's, cut to the entries that are shown.
 
-ghost use Rattle.std.specs.Prelude.{◌≡◌, ◌≤◌, ◌++◌, OnOk, IfOk, IfErr, length};
+ghost use Rattle.std.specs.Prelude.{◌≡◌, ◌≤◌, ◌++◌, OnOk, IfOk, length};
 ghost use Rattle.std.specs.Option.{option_to_list};
 ghost use Rattle.svc_base.specs.declared.config.TheConstants.{MAX_EVENTS};
-ghost use Rattle.svc_report.specs.declared.error.ReportError.TheVariants.{Memory};
 ghost use Rattle.svc_draw.specs.Bars.{bar_of, bars_of, runs, window_of};
 
-use std::alloc::Global;
+use std::alloc::{AllocError, Global};
 use svc_history_laws::Entry;
-use svc_report::ReportError;
-use svc_view::{TaskRun, tasks_of};
+use svc_task_runs::{TaskRun, tasks_of};
 
 /// The entries that a picture shows, counted from 0: those from one index on, and before another.
 #[derive(Clone, Copy)]
@@ -76,9 +74,8 @@ fn bar_of(window: &Window, task: &TaskRun) -> Option<Bar>
 }
 
 // Adds a bar to a list, if there is one.
-fn push_bar(bar: Option<Bar>, bars: &mut Vec<Bar>) -> Result<(), ReportError>
-    ensures list { OnOk result (bars.new.items ≡ bars.old.items ++ option_to_list bar) }
-    ensures err { IfErr result (λ e. e ≡ Memory) }
+fn push_bar(bar: Option<Bar>, bars: &mut Vec<Bar>) -> Result<(), AllocError>
+    ensures { OnOk result (bars.new.items ≡ bars.old.items ++ option_to_list bar) }
 {
     if let Some(bar) = bar {
         bars.push(bar)?;
@@ -88,11 +85,10 @@ fn push_bar(bar: Option<Bar>, bars: &mut Vec<Bar>) -> Result<(), ReportError>
 
 /// The bars of the tasks that are active at one of the entries shown, those of decided fate first.
 ///
-/// Errors: [`ReportError::Memory`].
-pub fn bars_of(alloc: Global, entries: &[Entry], window: &Window) -> Result<Vec<Bar>, ReportError>
+/// Errors: [`AllocError`], if memory runs out.
+pub fn bars_of(alloc: Global, entries: &[Entry], window: &Window) -> Result<Vec<Bar>, AllocError>
     requires few { length entries.now ≤ MAX_EVENTS }
-    ensures bars { IfOk result (λ bars. bars.items ≡ bars_of entries.now window.now) }
-    ensures err { IfErr result (λ e. e ≡ Memory) }
+    ensures { IfOk result (λ bars. bars.items ≡ bars_of entries.now window.now) }
 {
     let tasks = tasks_of(alloc, entries)?;
     let mut bars = Vec::new(alloc);

@@ -1,15 +1,20 @@
 // The fixed parts of a picture: what it begins with, and how each fate is filled.
 
-use svc_view::Fate;
+use svc_task_runs::Fate;
 
 /// What a picture begins with: its size, and the hatchings.
 pub(crate) const HEAD: &str = "<?xml version='1.0' encoding='UTF-8'?>
-<svg xmlns='http://www.w3.org/2000/svg' width='1600' height='900' viewBox='0 0 1600 900' font-family='Helvetica, Arial, sans-serif' font-size='14' fill='#111'>
+<svg xmlns='http://www.w3.org/2000/svg' width='1600' height='900' viewBox='0 0 1600 900' \
+    font-family='Helvetica, Arial, sans-serif' font-size='14' fill='#111'>
 <defs>
-<pattern id='violation' width='8' height='8' patternUnits='userSpaceOnUse' patternTransform='rotate(45)'><rect width='8' height='8' fill='#fbd5d0'/><rect width='2' height='8' fill='#d9655a'/></pattern>
-<pattern id='guess' width='8' height='8' patternUnits='userSpaceOnUse' patternTransform='rotate(135)'><rect width='8' height='8' fill='#fdeac3'/><rect width='2' height='8' fill='#c9922e'/></pattern>
-<pattern id='cancel' width='8' height='8' patternUnits='userSpaceOnUse'><rect width='8' height='8' fill='#e6ddf3'/><circle cx='4' cy='4' r='2' fill='#7a5bb0'/></pattern>
-<pattern id='active' width='8' height='8' patternUnits='userSpaceOnUse'><rect width='8' height='8' fill='#ffffff'/><rect width='8' height='1' y='4' fill='#9ab4d0'/></pattern>
+<pattern id='violation' width='8' height='8' patternUnits='userSpaceOnUse' patternTransform='rotate(45)'><rect \
+    width='8' height='8' fill='#fbd5d0'/><rect width='2' height='8' fill='#d9655a'/></pattern>
+<pattern id='guess' width='8' height='8' patternUnits='userSpaceOnUse' patternTransform='rotate(135)'><rect \
+    width='8' height='8' fill='#fdeac3'/><rect width='2' height='8' fill='#c9922e'/></pattern>
+<pattern id='cancel' width='8' height='8' patternUnits='userSpaceOnUse'><rect width='8' height='8' \
+    fill='#e6ddf3'/><circle cx='4' cy='4' r='2' fill='#7a5bb0'/></pattern>
+<pattern id='active' width='8' height='8' patternUnits='userSpaceOnUse'><rect width='8' height='8' \
+    fill='#ffffff'/><rect width='8' height='1' y='4' fill='#9ab4d0'/></pattern>
 </defs>
 <rect width='1600' height='900' fill='#fff'/>
 ";

@@ -7,9 +7,10 @@ use crate::defs::{fill_of, name_of};
 use crate::frame::{BOTTOM, Frame, Point, TOP};
 use crate::marks::{Mark, MarkKind};
 use crate::rows::Rows;
-use crate::shapes::{Piece, diamond, put, ring, square};
+use crate::shapes::{diamond, ring, square};
 use itoa::Buffer;
 use std::alloc::AllocError;
+use svc_text::put;
 
 // What a text stands in: black on a white rim.
 const RIM: &str = "paint-order='stroke' stroke='#fff' stroke-width='4' stroke-linejoin='round'";
@@ -30,8 +31,17 @@ pub(crate) fn write_bar(frame: &Frame, bar: &Bar, text: &mut Vec<u8>) -> Result<
     let entry = bar.task.entry;
     let first = bar.task.first;
     let turns = bar.task.turns;
-    put!(text, "<rect x='" x "' y='" y "' width='" width "' height='" height "' rx='3' fill='" fill "' stroke='#333'>")?;
-    put!(text, "<title>task " number " at address " entry ", begun by entry " first ": " fate "; turns: " turns "</title></rect>\n")
+    put!(
+        text;
+        "<rect x='", x, "' y='", y, "' width='", width, "' height='", height, "' rx='3' fill='", fill,
+        "' stroke='#333'>",
+    );
+    put!(
+        text;
+        "<title>task ", number, " at address ", entry, ", begun by entry ", first, ": ", fate, "; turns: ", turns,
+        "</title></rect>\n",
+    );
+    Ok(())
 }
 
 /// Writes what a bar says of its task: its number and entry, as far as there is room.
@@ -46,15 +56,16 @@ pub(crate) fn write_name(frame: &Frame, bar: &Bar, text: &mut Vec<u8>) -> Result
     if number.len() > letters {
         return Ok(());
     }
-    put!(text, "<text x='" x "' y='" y "' font-size='12' " RIM ">")?;
+    put!(text; "<text x='", x, "' y='", y, "' font-size='12' ", RIM, ">");
     if number.len() + entry.len() + 8 <= letters {
-        put!(text, "task " number " @ " entry)?;
+        put!(text; "task ", number, " @ ", entry);
     } else if number.len() + entry.len() + 1 <= letters {
-        put!(text, number "@" entry)?;
+        put!(text; number, "@", entry);
     } else {
-        put!(text, number)?;
+        put!(text; number);
     }
-    put!(text, "</text>\n")
+    put!(text; "</text>\n");
+    Ok(())
 }
 
 // Writes a mark's row of the trace, for the pointer.
@@ -66,14 +77,18 @@ fn write_title(
 ) -> Result<(), AllocError> {
     let place = mark.place;
     let index = place.saturating_sub(frame.window.from);
-    put!(text, "<title>entry " place ": ")?;
-    text.extend_from_slice(rows.row(index as usize))?;
-    put!(text, "</title>")
+    put!(text; "<title>entry ", place, ": ", rows.row(index as usize), "</title>");
+    Ok(())
 }
 
 // Writes a commit's line.
 fn commit(text: &mut Vec<u8>, x: u64) -> Result<(), AllocError> {
-    put!(text, "<path d='M" x " " TOP "V" BOTTOM "' fill='none' stroke='#2e7d32' stroke-width='2' stroke-dasharray='6 4'>")
+    put!(
+        text;
+        "<path d='M", x, " ", TOP, "V", BOTTOM,
+        "' fill='none' stroke='#2e7d32' stroke-width='2' stroke-dasharray='6 4'>",
+    );
+    Ok(())
 }
 
 // Writes an arrow of this form.
@@ -81,7 +96,8 @@ fn arrow(text: &mut Vec<u8>, from: Point, to: Point, form: &str) -> Result<(), A
     let Point { x, y } = from;
     let right = to.x;
     let down = to.y;
-    put!(text, "<path d='M" x " " y "L" right " " down "' fill='none' " form ">")
+    put!(text; "<path d='M", x, " ", y, "L", right, " ", down, "' fill='none' ", form, ">");
+    Ok(())
 }
 
 /// Writes a mark: what it is, and its row of the trace.
@@ -103,7 +119,8 @@ pub(crate) fn write_mark(
     }
     write_title(frame, rows, mark, text)?;
     let close = close_of(mark.kind);
-    put!(text, "</" close ">\n")
+    put!(text; "</", close, ">\n");
+    Ok(())
 }
 
 // The element that a mark is.
@@ -124,7 +141,8 @@ fn write_saying(
 ) -> Result<(), AllocError> {
     let x = (from.x + to.x) / 2 + 12;
     let y = (from.y + to.y) / 2 + 2;
-    put!(text, "<text x='" x "' y='" y "' font-style='italic' " RIM ">" saying "</text>\n")
+    put!(text; "<text x='", x, "' y='", y, "' font-style='italic' ", RIM, ">", saying, "</text>\n");
+    Ok(())
 }
 
 // Writes the value of a shape before it.
@@ -133,14 +151,12 @@ fn write_value(frame: &Frame, mark: &Mark, text: &mut Vec<u8>) -> Result<(), All
     let x = middle.x - frame.radius() - 6;
     let y = middle.y + 5;
     let word = mark.entry.word.unwrap_or(0);
-    put!(text, "<text x='" x "' y='" y "' text-anchor='end' " RIM ">")?;
-    match mark.entry.addr {
-        Some(addr) => {
-            let addr = addr.0;
-            put!(text, "word " addr " = " word "</text>\n")
-        }
-        None => put!(text, word "</text>\n"),
+    put!(text; "<text x='", x, "' y='", y, "' text-anchor='end' ", RIM, ">");
+    if let Some(addr) = mark.entry.addr {
+        put!(text; "word ", addr.0, " = ");
     }
+    put!(text; word, "</text>\n");
+    Ok(())
 }
 
 // Writes what a commit's line stands for, at its top.
@@ -148,7 +164,8 @@ fn write_committed(frame: &Frame, mark: &Mark, text: &mut Vec<u8>) -> Result<(),
     let x = frame.x(mark.place) - 6;
     let y = TOP + 18;
     let number = mark.entry.word.unwrap_or(0);
-    put!(text, "<text x='" x "' y='" y "' text-anchor='end' " RIM ">task " number " is committed</text>\n")
+    put!(text; "<text x='", x, "' y='", y, "' text-anchor='end' ", RIM, ">task ", number, " is committed</text>\n");
+    Ok(())
 }
 
 /// Writes what a mark stands for.

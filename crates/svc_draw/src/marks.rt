@@ -1,19 +1,17 @@
 // The marks of a picture: what each entry shown did.
 
-ghost use Rattle.std.specs.Prelude.{◌≡◌, ◌+◌, ◌≤◌, ◌++◌, None, Some, OnOk, IfOk, IfErr, length};
+ghost use Rattle.std.specs.Prelude.{◌≡◌, ◌+◌, ◌≤◌, ◌++◌, None, Some, OnOk, IfOk, length};
 ghost use Rattle.svc_base.specs.declared.config.TheConstants.{MAX_EVENTS};
-ghost use Rattle.svc_report.specs.declared.error.ReportError.TheVariants.{Memory};
-ghost use Rattle.svc_view.specs.Runs.{is_number};
+ghost use Rattle.svc_task_runs.specs.Runs.{is_number};
 ghost use Rattle.svc_draw.specs.Marks.{arrow, between, first_bar, first_where, handed_by, is_given, is_over, is_same_word, is_taken, is_victim, kind_of, left_at, marks_by, marks_of, shape, squashed, takes, taken, task_at};
 ghost use Rattle.svc_draw.specs.Stores.{last_store};
 
 use crate::bars::{Bar, Window};
 use crate::stores::LastStores;
-use std::alloc::Global;
+use std::alloc::{AllocError, Global};
 use svc_base::{UnitId, WordAddr};
 use svc_history_laws::{CutKind, Entry, ReplyKind, ServedKind};
-use svc_report::ReportError;
-use svc_view::TaskRun;
+use svc_task_runs::TaskRun;
 
 /// What a mark tells.
 #[derive(Clone, Copy)]
@@ -228,15 +226,9 @@ fn squashed_at(entries: &[Entry], bars: &[Bar], at: u64, entry: &Entry) -> Optio
 }
 
 // Adds the mark of a reply, if it has one.
-fn push_shape(
-    bars: &[Bar],
-    at: u64,
-    entry: &Entry,
-    marks: &mut Vec<Mark>,
-) -> Result<(), ReportError>
-    ensures list { OnOk result (marks.new.items ≡ marks.old.items
+fn push_shape(bars: &[Bar], at: u64, entry: &Entry, marks: &mut Vec<Mark>) -> Result<(), AllocError>
+    ensures { OnOk result (marks.new.items ≡ marks.old.items
         ++ shape bars.now at entry.now (kind_of entry.now.reply)) }
-    ensures err { IfErr result (λ e. e ≡ Memory) }
 {
     if let Some(kind) = kind_of(entry.reply) {
         marks.push(Mark {
@@ -258,9 +250,8 @@ fn push_arrow(
     entry: &Entry,
     other: Option<Spot>,
     marks: &mut Vec<Mark>,
-) -> Result<(), ReportError>
-    ensures list { OnOk result (marks.new.items ≡ marks.old.items ++ arrow kind bars.now at entry.now other) }
-    ensures err { IfErr result (λ e. e ≡ Memory) }
+) -> Result<(), AllocError>
+    ensures { OnOk result (marks.new.items ≡ marks.old.items ++ arrow kind bars.now at entry.now other) }
 {
     if let Some(spot) = other {
         marks.push(Mark {
@@ -282,12 +273,11 @@ fn push_marks(
     at: u64,
     entry: &Entry,
     marks: &mut Vec<Mark>,
-) -> Result<(), ReportError>
+) -> Result<(), AllocError>
     requires few { length entries.now ≤ MAX_EVENTS }
     requires inside { at ≤ length entries.now }
-    ensures list { OnOk result (marks.new.items ≡ marks.old.items
+    ensures { OnOk result (marks.new.items ≡ marks.old.items
         ++ marks_by (last_store stores.now) entries.now bars.now at entry.now) }
-    ensures err { IfErr result (λ e. e ≡ Memory) }
 {
     push_shape(bars, at, entry, marks)?;
     push_arrow(
@@ -333,17 +323,16 @@ fn left_at(bars: &[Bar], at: u64) -> &[Bar]
 
 /// The marks of the entries shown, in their order.
 ///
-/// Errors: [`ReportError::Memory`].
+/// Errors: [`AllocError`], if memory runs out.
 pub fn marks_of(
     alloc: Global,
     entries: &[Entry],
     window: &Window,
     bars: &[Bar],
-) -> Result<Vec<Mark>, ReportError>
+) -> Result<Vec<Mark>, AllocError>
     requires few { length entries.now ≤ MAX_EVENTS }
     requires inside { window.now.to ≤ length entries.now }
-    ensures marks { IfOk result (λ marks. marks.items ≡ marks_of entries.now window.now bars.now) }
-    ensures err { IfErr result (λ e. e ≡ Memory) }
+    ensures { IfOk result (λ marks. marks.items ≡ marks_of entries.now window.now bars.now) }
 {
     let mut marks = Vec::new(alloc);
     let mut stores = LastStores::none(alloc);

@@ -1,8 +1,8 @@
 // The picture of a history.
 
-ghost use Rattle.std.specs.Prelude.{◌≡◌, ◌≤◌, IfErr, length};
+ghost use Rattle.std.specs.Prelude.{◌≤◌, IfErr, length};
 ghost use Rattle.svc_base.specs.declared.config.TheConstants.{MAX_EVENTS, MAX_UNITS};
-ghost use Rattle.svc_report.specs.declared.error.ReportError.TheVariants.{Memory};
+ghost use Rattle.svc_report.specs.Faults.{IsMemoryFault};
 
 use crate::bars::{Bar, Window, bars_of};
 use crate::defs::HEAD;
@@ -11,10 +11,10 @@ use crate::frame::Frame;
 use crate::legend::{write_axis, write_heads, write_lanes, write_legend};
 use crate::marks::{Mark, MarkKind, marks_of};
 use crate::rows::Rows;
-use crate::shapes::{Piece, put};
 use std::alloc::{AllocError, Global};
 use svc_history_laws::Entry;
 use svc_report::ReportError;
+use svc_text::put;
 
 // Which marks stand below which: lines of commits, then arrows, then shapes.
 fn layer(kind: MarkKind) -> u8 {
@@ -78,7 +78,7 @@ fn text_of(
     marks: &[Mark],
 ) -> Result<Vec<u8>, AllocError> {
     let mut text = Vec::new(alloc);
-    put!(&mut text, HEAD)?;
+    put!(&mut text; HEAD);
     write_heads(frame.radius(), &mut text)?;
     write_legend(frame, total as u64, &mut text)?;
     write_lanes(frame, &mut text)?;
@@ -89,7 +89,7 @@ fn text_of(
     write_values(frame, marks, &mut text)?;
     write_names(frame, bars, &mut text)?;
     write_axis(frame, &mut text)?;
-    put!(&mut text, "</svg>\n")?;
+    put!(&mut text; "</svg>\n");
     Ok(text)
 }
 
@@ -106,7 +106,7 @@ pub fn draw(
     requires few { length entries.now ≤ MAX_EVENTS }
     requires some_units { 1 ≤ units }
     requires few_units { units ≤ MAX_UNITS }
-    ensures err { IfErr result (λ e. e ≡ Memory) }
+    ensures err { IfErr result IsMemoryFault }
 {
     let window = Window::of(entries, from, count);
     let bars = bars_of(alloc, entries, &window)?;

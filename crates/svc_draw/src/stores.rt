@@ -1,18 +1,16 @@
 // Where each unit last stored each word.
 
-ghost use Rattle.std.specs.Prelude.{◌≡◌, None, Option, Some, OnOk, IfErr, cond};
+ghost use Rattle.std.specs.Prelude.{◌≡◌, None, Option, Some, OnOk, cond};
 ghost use Rattle.svc_base.specs.declared.ids.UnitId.{UnitId};
 ghost use Rattle.svc_base.specs.declared.ids.WordAddr.{WordAddr};
-ghost use Rattle.svc_report.specs.declared.error.ReportError.TheVariants.{Memory};
 ghost use Rattle.svc_draw.specs.Marks.{stores};
 ghost use Rattle.svc_draw.specs.Stores.{last_store};
 
-use std::alloc::Global;
+use std::alloc::{AllocError, Global};
 use std::collections::HashMap;
 use svc_base::{UnitId, WordAddr};
 use svc_history_laws::Entry;
-use svc_report::ReportError;
-use svc_view::task_run::stores_in;
+use svc_task_runs::stores_in;
 
 /// Where each unit last stored each word: the index of an entry.
 #[derive(Drop)]
@@ -41,10 +39,9 @@ impl LastStores {
     }
 
     /// The entry at an index, which may be a store.
-    pub(crate) fn note(&mut self, at: u64, entry: &Entry) -> Result<(), ReportError>
-        ensures places { OnOk result ((unit : UnitId) (word : Option WordAddr) → last_store self.new unit word
+    pub(crate) fn note(&mut self, at: u64, entry: &Entry) -> Result<(), AllocError>
+        ensures { OnOk result ((unit : UnitId) (word : Option WordAddr) → last_store self.new unit word
             ≡ cond (stores unit word entry.now) (Some at) (last_store self.old unit word)) }
-        ensures err { IfErr result (λ e. e ≡ Memory) }
     {
         let Some(word) = entry.addr else {
             return Ok(());

@@ -5,11 +5,11 @@ use Rattle.svc_base.specs.declared.config.Config.{Config}
 use Rattle.svc_image.specs.Image.{Image}
 use Rattle.svc_history_laws.specs.declared.entry.Entry.{Entry}
 use Rattle.svc_history_laws.specs.Legal.{LegalHistory}
-use Rattle.svc_view.specs.Profile.{profile_of}
-use Rattle.svc_view.specs.ProfileRow.{profile_row}
-use Rattle.svc_view.specs.Tasks.{task_table}
-use Rattle.svc_view.specs.Units.{unit_table}
-use Rattle.svc_words.specs.Words.{word_table}
+use Rattle.svc_profile.specs.Profile.{profile_of}
+use Rattle.svc_profile.specs.ProfileRow.{profile_row}
+use Rattle.svc_profile.specs.Tasks.{task_table}
+use Rattle.svc_profile.specs.Units.{unit_table}
+use Rattle.svc_profile.specs.Words.{word_table}
 use Rattle.svc_request.specs.declared.request.Table.{Table}
 use Rattle.svc_request.specs.declared.request.Table.TheVariants as table
 

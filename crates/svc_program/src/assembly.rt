@@ -6,15 +6,14 @@ ghost use Rattle.svc_request.specs.Faults.{IsReportFault};
 ghost use Rattle.svc_program.specs.Assembly.{Lists};
 ghost use Rattle.svc_program.specs.Requests.{IsAnswered};
 
-use crate::flush::flush;
 use crate::front::front_of;
 use crate::load::load_image;
+use crate::output::print_text;
 use std::alloc::Global;
 use std::io::Write;
 use svc_asm::AssembleError;
 use svc_image::Image;
 use svc_request::{Assembly, Fault, Files, Source};
-use svc_view::text::write_text;
 
 /// Assembles the text of one file, and makes its image the whole content of another. Nothing is printed.
 ///
@@ -88,7 +87,6 @@ fn list_image<O: Write>(alloc: Global, image: &Image, out: &mut O) -> Result<u8,
     ensures fault { IfErr result (λ fault. IsReportFault fault ⊎ (out.new ≡ out.old)) }
 {
     let text = svc_list::list(alloc, image)?;
-    write_text(&text, out)?;
-    flush(out)?;
+    print_text(&text, out)?;
     Ok(0)
 }

@@ -10,17 +10,16 @@ ghost use Rattle.svc_program.specs.Requests.{IsAnswered};
 ghost use Rattle.svc_request.specs.Faults.{IsReportFault, TellsOfTrace};
 
 use crate::check::replay;
-use crate::flush::flush;
 use crate::load::load_traced;
+use crate::output::flush;
 use std::alloc::Global;
 use std::io::Write;
 use svc_base::Config;
 use svc_history::Entry;
 use svc_image::Image;
+use svc_profile::{write_profile, write_profile_row, write_tasks, write_units, write_words};
 use svc_report::ReportError;
 use svc_request::{Fault, Files, Table, Traced};
-use svc_view::{write_profile, write_profile_row, write_tasks, write_units};
-use svc_words::write_words;
 
 /// Replays a trace, and prints what its speculation cost, in all or by a table.
 pub fn profile<F: Files, O: Write>(

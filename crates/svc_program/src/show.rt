@@ -9,8 +9,8 @@ ghost use Rattle.svc_request.specs.Faults.{IsReportFault, TellsOfTrace};
 ghost use Rattle.svc_program.specs.Requests.{IsAnswered};
 ghost use Rattle.svc_program.specs.Shown.{IsPastTheEnd, TellsMachine, shown_entries};
 
-use crate::flush::flush;
 use crate::load::load_traced;
+use crate::output::print_text;
 use std::alloc::Global;
 use std::io::Write;
 use svc_base::Config;
@@ -18,7 +18,6 @@ use svc_history::{Entry, Recorder, check_on, open_trace};
 use svc_image::Image;
 use svc_request::{Fault, Files, Traced};
 use svc_show::show_text;
-use svc_view::text::write_text;
 
 /// Replays a trace, and prints the machine after the first `at` of its entries, or after all.
 pub fn show<F: Files, O: Write>(
@@ -50,8 +49,7 @@ fn show_entries<O: Write>(
         × (out.new ≡ out.old))) }
 {
     let text = text_at(alloc, image, config, entries, at)?;
-    write_text(&text, out)?;
-    flush(out)?;
+    print_text(&text, out)?;
     Ok(0)
 }
 

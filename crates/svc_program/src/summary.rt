@@ -6,7 +6,7 @@ ghost use Rattle.svc_report.specs.Summary.{summary_of};
 ghost use Rattle.svc_request.specs.Faults.{IsReportFault};
 ghost use Rattle.svc_program.specs.Runs.{ReportsOn, ReportsRow, ReportsRun, status_of};
 
-use crate::flush::flush;
+use crate::output::flush;
 use std::alloc::Global;
 use std::io::Write;
 use svc_core::Ending;

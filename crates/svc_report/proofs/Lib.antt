@@ -10,3 +10,4 @@ pub mod RoundTrip
 pub mod Steps
 pub mod Tracks
 pub mod Numerals
+pub mod LegalRows

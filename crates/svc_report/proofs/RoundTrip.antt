@@ -11,7 +11,7 @@ use Rattle.svc_history_laws.specs.declared.entry.Entry.{Entry}
 use Rattle.svc_base.specs.declared.ids.UnitId.{UnitId}
 use Rattle.svc_report.specs.Faults.{IsStreamFault}
 use Rattle.svc_report.specs.Fields.{kind_word, unit_text}
-use Rattle.svc_limited.specs.Limit.{readable, readable_from}
+use Rattle.svc_record_limit.specs.Limit.{readable, readable_from}
 use Rattle.svc_report.specs.Lines.{joined, line}
 use Rattle.svc_report.specs.Records.{FirstOther, IsBadHeader, IsText}
 use Rattle.svc_report.specs.Trace.{FirstBad, HasRow, IsBadEntry, IsReadFault, columns, header, row_of, text_of, trace_records}

@@ -17,7 +17,7 @@ use Rattle.svc_history_laws.specs.declared.entry.ReplyKind.TheVariants as reply
 use Rattle.svc_history_laws.specs.declared.entry.ServedKind.{ServedKind}
 use Rattle.svc_history_laws.specs.declared.entry.ServedKind.TheVariants as served
 use Rattle.svc_report.specs.Fields.{address_text, ask_word, cause_word, kind_word, optional, reply_word, served_word, unit_text}
-use Rattle.svc_limited.specs.Limit.{most_bytes}
+use Rattle.svc_record_limit.specs.Limit.{most_bytes}
 use Rattle.svc_report.specs.Records.{IsRead, IsText}
 use Rattle.svc_report.specs.Script.{HasStepRow, arg_of, script_header, script_records, step_columns, word_of, word_text}
 use Rattle.svc_report.specs.Trace.{HasRow, columns, header, trace_records}

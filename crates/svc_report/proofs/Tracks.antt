@@ -7,7 +7,7 @@ use Rattle.csv.specs.Reading.{ReadRecord, Reached, default_config, reader_config
 use Rattle.csv.specs.declared.parser.State.TheVariants as st
 use Rattle.csv.specs.declared.reader.Reader.{Reader}
 use Rattle.csv.proofs.ReadFacts.{rows-end, rows-more}
-use Rattle.svc_limited.specs.Limit.{readable}
+use Rattle.svc_record_limit.specs.Limit.{readable}
 use Rattle.svc_report.specs.Records.{BeginsWith, FirstOther, IsRead}
 use Rattle.svc_report.specs.Rows.{IsRowsFault, records_of}
 use Rattle.svc_report.specs.declared.error.ReportError.TheVariants as fault

@@ -11,9 +11,9 @@ use Rattle.csv.specs.declared.parser.Action.{Action}
 use Rattle.csv.specs.declared.parser.Action.TheVariants as act
 use Rattle.csv.specs.declared.parser.State.{State}
 use Rattle.csv.specs.declared.parser.State.TheVariants as st
-use Rattle.svc_limited.specs.Limit.{is_between, most_bytes, readable_from}
+use Rattle.svc_record_limit.specs.Limit.{is_between, most_bytes, readable_from}
 use Rattle.svc_report.specs.Records.{IsRead, IsText}
-use Rattle.svc_limited.proofs.Limits.{IsUsual, leads, plain_step, quote_step, quoted_step, start_step}
+use Rattle.svc_record_limit.proofs.Limits.{IsUsual, leads, plain_step, quote_step, quoted_step, start_step}
 
 -- no record of these fields takes more bytes: each field may have two for each of its own, two quotes and a comma
 abbrev pub weight : List (List ℕ) → ℕ

@@ -1,5 +1,5 @@
 -- Why a text was not written or read.
-use Rattle.std.specs.Prelude.{ℕ}
+use Rattle.std.specs.Prelude.{ℕ, ◌≡◌}
 use Rattle.svc_report.specs.declared.error.ReportError.{ReportError}
 use Rattle.svc_report.specs.declared.error.ReportError.TheVariants as fault
 
@@ -23,3 +23,7 @@ IsStreamFault fault.Memory = Unit {0}
 IsStreamFault fault.Write = ⊥
 IsStreamFault fault.Read = Unit {0}
 IsStreamFault (fault.Row row column) = ⊥
+
+-- memory ran out
+abbrev pub IsMemoryFault : ReportError → Type 0
+IsMemoryFault e = e ≡ fault.Memory

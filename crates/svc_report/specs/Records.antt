@@ -5,7 +5,7 @@ use Rattle.csv.specs.declared.parser.State.{State}
 use Rattle.csv.specs.declared.parser.State.TheVariants as st
 use Rattle.csv.specs.declared.reader.Reader.{Reader}
 use Rattle.csv.specs.declared.reader.Trim.TheVariants as trim
-use Rattle.svc_limited.specs.Limit.{readable}
+use Rattle.svc_record_limit.specs.Limit.{readable}
 
 -- what is read of a text begins with these records, as `csv` reads it with its usual settings
 abbrev pub BeginsWith : List ℕ → List (List (List ℕ)) → Type 0

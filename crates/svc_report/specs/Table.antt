@@ -6,9 +6,13 @@ use Rattle.svc_report.specs.declared.counts.Counts.{Counts}
 use Rattle.svc_report.specs.declared.table.TableRow.{TableRow}
 use Rattle.svc_report.specs.Summary.{count_names, count_numbers, ending_number, ending_word}
 
--- the line of a table's fields, as `csv` writes it, after that of its columns' names where there is to be a header
+-- the line of a table's names, as `csv` writes it, where there is to be a header
+abbrev pub header_text : Bool → List (List ℕ) → List ℕ
+header_text header names = cond header (row_text default_writer names) []
+
+-- the line of a row's fields, after that of the names where there is to be a header
 abbrev pub table_text : Bool → List (List ℕ) → List (List ℕ) → List ℕ
-table_text header names fields = cond header (row_text default_writer names) [] ++ row_text default_writer fields
+table_text header names fields = header_text header names ++ row_text default_writer fields
 
 abbrev pub summary_names : List (List ℕ)
 summary_names = codes "label" ∷ codes "tasks" ∷ codes "ending" ∷ codes "number" ∷ count_names

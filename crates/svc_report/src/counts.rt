@@ -40,6 +40,24 @@ pub struct Counts {
     pub cancelled: u64,
 }
 
+/// The names of the counts, in the order in which they are shown.
+pub const COUNT_NAMES: [&str; 14] = [
+    "kind-assign",
+    "kind-submit",
+    "kind-replace",
+    "kind-cancel",
+    "kind-commit",
+    "served-hit",
+    "served-reuse",
+    "served-version",
+    "served-spill",
+    "served-committed",
+    "served-memory",
+    "cut-violation",
+    "cut-guess",
+    "cut-cancel",
+];
+
 impl Counts {
     /// The counts of a history.
     pub fn of(entries: &[Entry]) -> Counts

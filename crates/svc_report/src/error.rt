@@ -2,9 +2,10 @@
 
 ghost use Rattle.std.specs.Prelude.{◌≡◌};
 ghost use Rattle.svc_report.specs.Faults.{fault_number};
-ghost use Rattle.svc_report.specs.declared.error.ReportError.TheVariants.{Memory};
+ghost use Rattle.svc_report.specs.declared.error.ReportError.TheVariants.{Memory, Write};
 
 use std::alloc::{AllocError, AllocFailed};
+use std::io;
 use thiserror::Error;
 
 /// Why a text was not written or read. What was written until then is to be thrown away.
@@ -58,5 +59,13 @@ impl<T: Drop> From<AllocFailed<T>> for ReportError {
 
     fn from(_error: AllocFailed<T>) -> ReportError {
         ReportError::Memory
+    }
+}
+
+impl From<io::Error> for ReportError {
+    ghost from_gives = { λ _ e. e ≡ Write };
+
+    fn from(_error: io::Error) -> ReportError {
+        ReportError::Write
     }
 }

@@ -3,6 +3,7 @@
 
 mod counts;
 mod error;
+mod legal_rows;
 mod lines;
 mod numbers;
 mod reading;
@@ -14,10 +15,12 @@ mod table;
 mod trace;
 mod words;
 
-pub use counts::Counts;
+pub use counts::{COUNT_NAMES, Counts};
 pub use error::ReportError;
+pub use legal_rows::legal_history_has_rows;
 pub use script::{Step, StepKind, read_script};
 pub use summary::write_summary;
 pub use summary_row::write_summary_row;
 pub use table::{Fields, TableRow, write_row};
 pub use trace::{read_trace, write_entry, write_trace};
+pub use words::Word;

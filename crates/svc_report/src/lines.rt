@@ -12,12 +12,9 @@ use std::alloc::{AllocError, Global};
 use std::io::Write;
 use std::marker::Model;
 use std::mem;
+use svc_text::{ENOUGH, write_text};
 
-// This many bytes are gathered before they are written: a call of the writer costs more than a
-// line, and so does a new writer of `csv`, which has a buffer of its own.
-const ENOUGH: usize = 4096;
-
-/// Lines that are still to be written.
+/// Lines that are still to be written. They are gathered, as a new writer of `csv` for each would cost more than the line.
 #[derive(Drop)]
 pub(crate) struct Pending {
     alloc: Global,
@@ -111,9 +108,7 @@ impl Pending {
         let Ok(text) = lines.into_inner() else {
             return Err(ReportError::Memory);
         };
-        match w.write_all(text.as_slice()) {
-            Ok(()) => Ok(()),
-            Err(_) => Err(ReportError::Write),
-        }
+        write_text(&text, w)?;
+        Ok(())
     }
 }

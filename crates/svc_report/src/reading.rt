@@ -5,8 +5,8 @@ ghost use Rattle.std.specs.List.{AllByRecursion};
 ghost use Rattle.csv.specs.Reading.{reader_state, source_of};
 ghost use Rattle.csv.specs.Records.{fields_of};
 ghost use Rattle.csv.specs.declared.parser.State.TheVariants as st;
-ghost use Rattle.svc_limited.specs.Limit.{readable};
-ghost use Rattle.svc_limited.specs.Places.{known_through};
+ghost use Rattle.svc_record_limit.specs.Limit.{readable};
+ghost use Rattle.svc_record_limit.specs.Places.{known_through};
 ghost use Rattle.svc_report.specs.Records.{IsOpen, IsRead};
 ghost use Rattle.svc_report.specs.Rows.{IsRowsFault, records_of};
 
@@ -15,7 +15,7 @@ use crate::records::{check_names, next_row, open};
 use csv::{ByteRecord, Reader};
 use std::alloc::Global;
 use std::io::Read;
-use svc_limited::Limited;
+use svc_record_limit::Limited;
 
 /// An item that has a row in a text.
 pub(crate) trait Row: Drop {

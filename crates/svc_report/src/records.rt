@@ -5,15 +5,15 @@ ghost use Rattle.csv.specs.Reading.{ReadRecord, source_of, reader_state};
 ghost use Rattle.csv.specs.Records.{fields_of};
 ghost use Rattle.csv.specs.declared.parser.State.TheVariants as st;
 ghost use Rattle.svc_report.specs.Faults.{IsStreamFault};
-ghost use Rattle.svc_limited.specs.Limit.{readable};
-ghost use Rattle.svc_limited.specs.Places.{known_through};
+ghost use Rattle.svc_record_limit.specs.Limit.{readable};
+ghost use Rattle.svc_record_limit.specs.Places.{known_through};
 ghost use Rattle.svc_report.specs.Records.{FirstOther, IsOpen};
 
 use crate::error::ReportError;
 use csv::{ByteRecord, ErrorKind, Reader, ReaderBuilder};
 use std::alloc::Global;
 use std::io::Read;
-use svc_limited::Limited;
+use svc_record_limit::Limited;
 
 /// A reader of records with the usual settings, which reads no record further than the most bytes
 /// that one may have. A record may have any number of fields, since it is up to the caller to

@@ -6,7 +6,7 @@ ghost use Rattle.svc_report.specs.Faults.{IsWriteFault};
 ghost use Rattle.svc_report.specs.Lines.{IsPlain};
 ghost use Rattle.svc_report.specs.Summary.{number_row, output_rows, ending_number, ending_row, ending_word, number_rows, summary_of};
 
-use crate::counts::Counts;
+use crate::counts::{COUNT_NAMES, Counts};
 use crate::error::ReportError;
 use crate::lines::Pending;
 use itoa::Buffer;
@@ -84,24 +84,6 @@ fn write_ending<W: Write>(
     write_number(pending, ending_word(ending), ending_number(ending), w)
 }
 
-// The names of the counts, in the order in which they are shown.
-const NAMES: [&str; 14] = [
-    "kind-assign",
-    "kind-submit",
-    "kind-replace",
-    "kind-cancel",
-    "kind-commit",
-    "served-hit",
-    "served-reuse",
-    "served-version",
-    "served-spill",
-    "served-committed",
-    "served-memory",
-    "cut-violation",
-    "cut-guess",
-    "cut-cancel",
-];
-
 // Writes a row for each name and its number.
 fn write_numbers<W: Write>(
     pending: &mut Pending,
@@ -139,7 +121,7 @@ fn write_rows<W: Write>(
     write_ending(pending, ending, w)?;
     match counts {
         None => Ok(()),
-        Some(counts) => write_numbers(pending, &NAMES, &counts.numbers(), w),
+        Some(counts) => write_numbers(pending, &COUNT_NAMES, &counts.numbers(), w),
     }
 }
 

@@ -1,11 +1,11 @@
 // The summary of a run as a row of a table.
 
-ghost use Rattle.std.specs.Prelude.{◌≡◌, ◌++◌, [], OnOk, IfErr, decimal, map};
+ghost use Rattle.std.specs.Prelude.{◌≡◌, ◌++◌, [], OnOk, IfOk, IfErr, decimal, map};
 ghost use Rattle.std.specs.Io.KnownBytes.{Appends};
 ghost use Rattle.svc_report.specs.Faults.{IsWriteFault};
-ghost use Rattle.svc_report.specs.Table.{summary_fields, summary_row};
+ghost use Rattle.svc_report.specs.Table.{header_text, summary_fields, summary_names, summary_row};
 
-use crate::counts::Counts;
+use crate::counts::{COUNT_NAMES, Counts};
 use crate::error::ReportError;
 use crate::summary::{ending_number, ending_word};
 use crate::table::{Fields, TableRow, write_row};
@@ -13,27 +13,29 @@ use std::alloc::{AllocError, Global};
 use std::io::Write;
 use svc_core_laws::Ending;
 
+// The names of the columns before those of the counts.
+const FIRST_NAMES: [&str; 4] = ["label", "tasks", "ending", "number"];
+
 // The names of the columns.
-const COLUMNS: [&[u8]; 18] = [
-    b"label",
-    b"tasks",
-    b"ending",
-    b"number",
-    b"kind-assign",
-    b"kind-submit",
-    b"kind-replace",
-    b"kind-cancel",
-    b"kind-commit",
-    b"served-hit",
-    b"served-reuse",
-    b"served-version",
-    b"served-spill",
-    b"served-committed",
-    b"served-memory",
-    b"cut-violation",
-    b"cut-guess",
-    b"cut-cancel",
-];
+fn names(alloc: Global) -> Result<Fields, AllocError>
+    ensures { IfOk result (λ names. names ≡ summary_names) }
+{
+    let mut names = Fields::new(alloc);
+    names.push_all(&FIRST_NAMES)?;
+    names.push_all(&COUNT_NAMES)?;
+    Ok(names)
+}
+
+// Writes the names of the columns, where they are asked for.
+fn write_names<W: Write>(alloc: Global, header: bool, w: &mut W) -> Result<(), ReportError>
+    ensures ok { OnOk result (Appends (W.contents w.old) (W.contents w.new) (header_text header summary_names)) }
+    ensures err { IfErr result IsWriteFault }
+{
+    if header {
+        return write_row(alloc, &names(alloc)?, w);
+    }
+    Ok(())
+}
 
 // Adds a field for each number.
 fn push_numbers(fields: &mut Fields, numbers: &[u64]) -> Result<(), AllocError>
@@ -81,5 +83,6 @@ pub fn write_summary_row<W: Write>(
 {
     let mut fields = Fields::new(alloc);
     push_fields(&mut fields, row.label, tasks, ending, counts)?;
-    write_row(alloc, row.header, &COLUMNS, &fields, w)
+    write_names(alloc, row.header, w)?;
+    write_row(alloc, &fields, w)
 }

@@ -2,8 +2,8 @@
 
 ghost use Rattle.std.specs.Prelude.{◌≡◌, ◌++◌, ◌∷◌, [], OnOk, IfErr, decimal, map};
 ghost use Rattle.std.specs.Io.KnownBytes.{Appends};
+ghost use Rattle.csv.specs.Writing.{default_writer, row_text};
 ghost use Rattle.svc_report.specs.Faults.{IsWriteFault};
-ghost use Rattle.svc_report.specs.Table.{table_text};
 
 use crate::error::ReportError;
 use crate::lines::Pending;
@@ -62,6 +62,18 @@ impl Fields {
         pushed
     }
 
+    /// Adds texts.
+    ///
+    /// Errors: memory ran out; then no field is left.
+    pub fn push_all(&mut self, texts: &[&str]) -> Result<(), AllocError>
+        ensures { OnOk result (self.new ≡ self.old ++ map (λ t. t.now) texts.now) }
+    {
+        for text in texts {
+            self.push(*text)?;
+        }
+        Ok(())
+    }
+
     /// Adds a number.
     ///
     /// Errors: memory ran out; then no field is left.
@@ -73,24 +85,14 @@ impl Fields {
     }
 }
 
-/// Writes a row of a table, after the names of its columns where there is to be a header.
+/// Writes a row of a table.
 ///
 /// Errors: [`ReportError::Memory`], [`ReportError::Write`].
-pub fn write_row<W: Write>(
-    alloc: Global,
-    header: bool,
-    names: &[&[u8]],
-    fields: &Fields,
-    w: &mut W,
-) -> Result<(), ReportError>
-    ensures ok { OnOk result (Appends (W.contents w.old) (W.contents w.new)
-        (table_text header (map (λ n. n.now) names.now) fields.now)) }
+pub fn write_row<W: Write>(alloc: Global, fields: &Fields, w: &mut W) -> Result<(), ReportError>
+    ensures ok { OnOk result (Appends (W.contents w.old) (W.contents w.new) (row_text default_writer fields.now)) }
     ensures err { IfErr result IsWriteFault }
 {
     let mut lines = Pending::new(alloc);
-    if header {
-        lines.push(names)?;
-    }
     lines.push_record(&fields.record)?;
     lines.write_all(w)
 }

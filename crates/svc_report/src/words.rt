@@ -6,7 +6,7 @@ ghost use Rattle.svc_report.specs.Fields.{IsAny, Reads, kind_word, reply_word, s
 use svc_history_laws::{CutKind, Kind, ReplyKind, ServedKind};
 
 /// What a column holds as one of a few words.
-pub(crate) trait Word: Copy + 'static {
+pub trait Word: Copy + 'static {
     // The word of each.
     ghost word: { Self → List ℕ };
 

@@ -1,4 +1,3 @@
-pub mod Told
 pub mod Ranges
 pub mod Marks
 pub mod Held

@@ -1,18 +1,11 @@
 -- The rows by which a machine is shown.
-use Rattle.std.specs.Prelude.{ℕ, Bool, cond, List, [], ◌∷◌, ◌++◌, Option, Some, None, codes, decimal, flat_map}
+use Rattle.std.specs.Prelude.{ℕ, Bool, cond, List, [], ◌∷◌, ◌++◌, Option, Some, None, codes, decimal}
 use Rattle.svc_core_laws.specs.declared.end.End.{End}
 use Rattle.svc_core_laws.specs.declared.end.End.TheVariants as end
 use Rattle.svc_bus_laws.specs.BusLine.{BusLine}
 use Rattle.svc_machine.specs.declared.shown.ActiveTask.{ActiveTask}
 use Rattle.svc_report.specs.Fields.{optional}
-
--- a number after a comma
-abbrev pub field : ℕ → List ℕ
-field n = codes "," ++ decimal n
-
--- a name, and numbers after it
-abbrev pub named_fields : (name numbers : List ℕ) → List ℕ
-named_fields name numbers = name ++ flat_map field numbers
+use Rattle.svc_text.specs.Rows.{fields, row}
 
 -- a row of a name and a text
 abbrev pub told_row : (name text : List ℕ) → List ℕ
@@ -36,7 +29,7 @@ state_end state = codes "," ++ (state ++ codes "\n")
 -- the row of the active task of this number
 abbrev pub task_row : (number : ℕ) → ActiveTask → List ℕ
 task_row number task =
-    named_fields (codes "task") (number ∷ task.unit.0 ∷ task.entry ∷ task.turns ∷ []) ++ state_end (state_word task.done)
+    fields (codes "task") (number ∷ task.unit.0 ∷ task.entry ∷ task.turns ∷ []) ++ state_end (state_word task.done)
 
 -- the letter of a bit that is set, or a dash
 abbrev pub letter : Bool → List ℕ → List ℕ
@@ -50,12 +43,12 @@ line_bits l =
 
 -- the row of a unit's line of a word
 abbrev pub line_row : (unit word : ℕ) → BusLine → List ℕ
-line_row unit word l = named_fields (codes "line") (unit ∷ word ∷ l.value ∷ []) ++ line_bits l
+line_row unit word l = fields (codes "line") (unit ∷ word ∷ l.value ∷ []) ++ line_bits l
 
 -- the row of the head's version of a word whose line was replaced
 abbrev pub spill_row : (word value : ℕ) → List ℕ
-spill_row word value = named_fields (codes "spill") (word ∷ value ∷ []) ++ codes "\n"
+spill_row word value = row (codes "spill") (word ∷ value ∷ [])
 
 -- the row of a word's committed and backing values
 abbrev pub memory_row : (word committed backing : ℕ) → List ℕ
-memory_row word committed backing = named_fields (codes "memory") (word ∷ committed ∷ backing ∷ []) ++ codes "\n"
+memory_row word committed backing = row (codes "memory") (word ∷ committed ∷ backing ∷ [])

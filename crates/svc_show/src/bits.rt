@@ -1,15 +1,14 @@
 // The bits of a line.
 
-ghost use Rattle.std.specs.Prelude.{◌∷◌, [], ◌++◌, ◌≡◌, ◌&&◌, OnOk, IfErr};
+ghost use Rattle.std.specs.Prelude.{◌∷◌, [], ◌++◌, ◌≡◌, ◌&&◌, OnOk};
 ghost use Rattle.svc_bus.specs.Calls.{line_shown};
 ghost use Rattle.svc_line.specs.Bits.{bits_of};
-ghost use Rattle.svc_report.specs.declared.error.ReportError.TheVariants.{Memory};
 ghost use Rattle.svc_show.specs.Rows.{letter, line_bits};
 
-use crate::text::write_text;
 use bitflags::Flags;
+use std::alloc::AllocError;
 use svc_line::LineBits;
-use svc_report::ReportError;
+use svc_text::Piece;
 
 // S is set.
 #[tactic(auto, unfolding(svc_line::specs::Bits::bits_of))]
@@ -58,9 +57,8 @@ fn letter(is_set: bool, name: u8) -> u8
 }
 
 /// Writes the last column of a valid line, the letters of its bits, and ends its row.
-pub(crate) fn write_bits(line: (LineBits, u32), rows: &mut Vec<u8>) -> Result<(), ReportError>
-    ensures ok { OnOk result (rows.new.items ≡ rows.old.items ++ line_bits (line_shown line)) }
-    ensures err { IfErr result (λ e. e ≡ Memory) }
+pub(crate) fn write_bits(line: (LineBits, u32), rows: &mut Vec<u8>) -> Result<(), AllocError>
+    ensures { OnOk result (rows.new.items ≡ rows.old.items ++ line_bits (line_shown line)) }
 {
     let bits = line.0;
     let letters = [
@@ -72,5 +70,5 @@ pub(crate) fn write_bits(line: (LineBits, u32), rows: &mut Vec<u8>) -> Result<()
         letter(is_stale(bits), b'T'),
         b'\n',
     ];
-    write_text(&letters, rows)
+    letters.as_slice().put(rows)
 }

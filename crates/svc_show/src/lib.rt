@@ -11,6 +11,6 @@ mod named;
 mod progress;
 mod show;
 mod tasks;
-mod text;
+mod told;
 
 pub use show::show_text;

@@ -1,20 +1,19 @@
 // The valid lines of the caches.
 
-ghost use Rattle.std.specs.Prelude.{◌++◌, ◌≡◌, ◌≤◌, OnOk, IfErr, flat_map};
+ghost use Rattle.std.specs.Prelude.{◌++◌, ◌≡◌, ◌≤◌, OnOk, flat_map};
 ghost use Rattle.svc_bus.specs.Calls.{line_shown};
 ghost use Rattle.svc_bus.specs.Observed.{observed};
-ghost use Rattle.svc_report.specs.declared.error.ReportError.TheVariants.{Memory};
 ghost use Rattle.svc_show.specs.Rows.{line_row};
 ghost use Rattle.svc_show.specs.Named.{named_line, named_lines};
 
 use crate::bits::write_bits;
 use crate::holds::line_of_named;
 use crate::named::Named;
-use crate::text::write_fields;
+use std::alloc::AllocError;
 use svc_base::{UnitId, WordAddr};
 use svc_line::LineBits;
 use svc_machine::Machine;
-use svc_report::ReportError;
+use svc_text::put_fields;
 
 // Writes the row of a unit's line of a word.
 fn write_line(
@@ -22,12 +21,11 @@ fn write_line(
     word: WordAddr,
     line: (LineBits, u32),
     rows: &mut Vec<u8>,
-) -> Result<(), ReportError>
-    ensures ok { OnOk result (rows.new.items ≡ rows.old.items ++ line_row unit.0 word.0 (line_shown line)) }
-    ensures err { IfErr result (λ e. e ≡ Memory) }
+) -> Result<(), AllocError>
+    ensures { OnOk result (rows.new.items ≡ rows.old.items ++ line_row unit.0 word.0 (line_shown line)) }
 {
     let numbers = [u64::from(unit.0), u64::from(word.0), u64::from(line.1)];
-    write_fields(b"line", &numbers, rows)?;
+    put_fields(rows, "line", &numbers)?;
     write_bits(line, rows)
 }
 
@@ -37,9 +35,8 @@ fn write_named(
     unit: UnitId,
     named: Named,
     rows: &mut Vec<u8>,
-) -> Result<(), ReportError>
-    ensures ok { OnOk result (rows.new.items ≡ rows.old.items ++ named_line (observed machine.now.bus) unit.0 named) }
-    ensures err { IfErr result (λ e. e ≡ Memory) }
+) -> Result<(), AllocError>
+    ensures { OnOk result (rows.new.items ≡ rows.old.items ++ named_line (observed machine.now.bus) unit.0 named) }
 {
     match line_of_named(machine, unit, named) {
         Some(line) => write_line(unit, named.word, line, rows),
@@ -53,10 +50,9 @@ fn write_unit(
     unit: UnitId,
     named: &[Named],
     rows: &mut Vec<u8>,
-) -> Result<(), ReportError>
-    ensures ok { OnOk result
+) -> Result<(), AllocError>
+    ensures { OnOk result
         (rows.new.items ≡ rows.old.items ++ flat_map (named_line (observed machine.now.bus) unit.0) named.now) }
-    ensures err { IfErr result (λ e. e ≡ Memory) }
 {
     for one in named {
         write_named(machine, unit, *one, rows)?;
@@ -70,11 +66,10 @@ pub(crate) fn write_lines(
     units: u32,
     named: &[Named],
     rows: &mut Vec<u8>,
-) -> Result<(), ReportError>
+) -> Result<(), AllocError>
     requires few { units ≤ 16 }
-    ensures ok { OnOk result
+    ensures { OnOk result
         (rows.new.items ≡ rows.old.items ++ named_lines units (observed machine.now.bus) named.now) }
-    ensures err { IfErr result (λ e. e ≡ Memory) }
 {
     for unit in 0..units {
         write_unit(machine, UnitId(unit as u8), named, rows)?;

@@ -1,10 +1,9 @@
 // The spilled words, and the memory of the words that are held.
 
-ghost use Rattle.std.specs.Prelude.{◌++◌, ◌≡◌, ◌<◌, OnOk, IfErr, flat_map};
+ghost use Rattle.std.specs.Prelude.{◌++◌, ◌≡◌, ◌<◌, OnOk, flat_map};
 ghost use Rattle.std.specs.List.{AllByRecursion};
 ghost use Rattle.svc_core_laws.specs.Turns.{data_words};
 ghost use Rattle.svc_bus.specs.Observed.{observed};
-ghost use Rattle.svc_report.specs.declared.error.ReportError.TheVariants.{Memory};
 ghost use Rattle.svc_report.specs.Fields.{optional};
 ghost use Rattle.svc_show.specs.Named.{HasItsLines, named_memory, named_spill};
 ghost use Rattle.svc_show.specs.Rows.{memory_row, spill_row};
@@ -12,26 +11,23 @@ ghost use Rattle.svc_show.specs.Rows.{memory_row, spill_row};
 use crate::cached::{Cached, committed_of};
 use crate::holds::{backing_of, has_spill, spill_of};
 use crate::named::Named;
-use crate::text::{write_fields, write_text};
+use std::alloc::AllocError;
 use svc_base::WordAddr;
 use svc_machine::Machine;
-use svc_report::ReportError;
+use svc_text::put_row;
 
 // Writes the row of a spilled word.
-fn write_spill(word: WordAddr, value: u32, rows: &mut Vec<u8>) -> Result<(), ReportError>
-    ensures ok { OnOk result (rows.new.items ≡ rows.old.items ++ spill_row word.0 value) }
-    ensures err { IfErr result (λ e. e ≡ Memory) }
+fn write_spill(word: WordAddr, value: u32, rows: &mut Vec<u8>) -> Result<(), AllocError>
+    ensures { OnOk result (rows.new.items ≡ rows.old.items ++ spill_row word.0 value) }
 {
-    write_fields(b"spill", &[u64::from(word.0), u64::from(value)], rows)?;
-    write_text(b"\n", rows)
+    put_row(rows, "spill", &[u64::from(word.0), u64::from(value)])
 }
 
 // Writes the row of the word, where it is spilled.
-fn write_spill_of(machine: &Machine, word: WordAddr, rows: &mut Vec<u8>) -> Result<(), ReportError>
+fn write_spill_of(machine: &Machine, word: WordAddr, rows: &mut Vec<u8>) -> Result<(), AllocError>
     requires in_data { word.0 < data_words machine.now.image }
-    ensures ok { OnOk result
+    ensures { OnOk result
         (rows.new.items ≡ rows.old.items ++ optional (spill_row word.0) ((observed machine.now.bus).spill word.0)) }
-    ensures err { IfErr result (λ e. e ≡ Memory) }
 {
     match spill_of(machine, word) {
         Some(value) => write_spill(word, value, rows),
@@ -44,11 +40,10 @@ pub(crate) fn write_spills(
     machine: &Machine,
     named: &[Named],
     rows: &mut Vec<u8>,
-) -> Result<(), ReportError>
+) -> Result<(), AllocError>
     requires in_data { AllByRecursion (λ n. n.word.0 < data_words machine.now.image) named.now }
-    ensures ok { OnOk result
+    ensures { OnOk result
         (rows.new.items ≡ rows.old.items ++ flat_map (named_spill (observed machine.now.bus)) named.now) }
-    ensures err { IfErr result (λ e. e ≡ Memory) }
 {
     for one in named {
         write_spill_of(machine, one.word, rows)?;
@@ -62,22 +57,19 @@ fn write_memory(
     committed: u32,
     backing: u32,
     rows: &mut Vec<u8>,
-) -> Result<(), ReportError>
-    ensures ok { OnOk result
+) -> Result<(), AllocError>
+    ensures { OnOk result
         (rows.new.items ≡ rows.old.items ++ memory_row word.0 committed backing) }
-    ensures err { IfErr result (λ e. e ≡ Memory) }
 {
     let numbers = [u64::from(word.0), u64::from(committed), u64::from(backing)];
-    write_fields(b"memory", &numbers, rows)?;
-    write_text(b"\n", rows)
+    put_row(rows, "memory", &numbers)
 }
 
 // Writes the row of the named word, where it has a valid line or is spilled.
-fn write_word(machine: &Machine, named: Named, rows: &mut Vec<u8>) -> Result<(), ReportError>
+fn write_word(machine: &Machine, named: Named, rows: &mut Vec<u8>) -> Result<(), AllocError>
     requires own { HasItsLines (observed machine.now.bus) (data_words machine.now.image) named }
-    ensures ok { let m = machine.now in
+    ensures { let m = machine.now in
         OnOk result (rows.new.items ≡ rows.old.items ++ named_memory m.image m.config m.plain (observed m.bus) named) }
-    ensures err { IfErr result (λ e. e ≡ Memory) }
 {
     let word = named.word;
     let cached = Cached::of(machine, machine.config().units, named);
@@ -94,12 +86,11 @@ pub(crate) fn write_words(
     machine: &Machine,
     named: &[Named],
     rows: &mut Vec<u8>,
-) -> Result<(), ReportError>
+) -> Result<(), AllocError>
     requires own { AllByRecursion (HasItsLines (observed machine.now.bus) (data_words machine.now.image)) named.now }
-    ensures ok { let m = machine.now in
+    ensures { let m = machine.now in
         OnOk result (rows.new.items ≡ rows.old.items
         ++ flat_map (named_memory m.image m.config m.plain (observed m.bus)) named.now) }
-    ensures err { IfErr result (λ e. e ≡ Memory) }
 {
     for one in named {
         write_word(machine, *one, rows)?;

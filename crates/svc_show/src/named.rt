@@ -1,15 +1,13 @@
 // The words that a history's entries name: no other word has a line or is spilled.
 
-ghost use Rattle.std.specs.Prelude.{◌≡◌, ◌<◌, ◌^◌, ◌++◌, OnOk, IfOk, IfErr, All, flat_map, length, replicate};
+ghost use Rattle.std.specs.Prelude.{◌≡◌, ◌<◌, ◌^◌, ◌++◌, OnOk, IfOk, All, flat_map, length, replicate};
 ghost use Rattle.std.specs.List.{range_with_len};
-ghost use Rattle.svc_report.specs.declared.error.ReportError.TheVariants.{Memory};
 ghost use Rattle.svc_show.specs.declared.named.Namers.TheVariants.{Nobody};
 ghost use Rattle.svc_show.specs.Named.{AreNamed, IsMarked, and_unit, are_some, marked, marked_at, may_have, named_at, named_by};
 
-use std::alloc::Global;
+use std::alloc::{AllocError, Global};
 use svc_base::{UnitId, WordAddr};
 use svc_history::Entry;
-use svc_report::ReportError;
 
 /// The units whose entries name a word.
 #[derive(Clone, Copy)]
@@ -102,9 +100,8 @@ fn mark_entries(entries: &[Entry], marks: &mut [Namers])
 }
 
 // Adds a word to a list, if it is named.
-fn push_named(word: WordAddr, by: Namers, named: &mut Vec<Named>) -> Result<(), ReportError>
-    ensures list { OnOk result (named.new.items ≡ named.old.items ++ named_by word.0 by) }
-    ensures err { IfErr result (λ e. e ≡ Memory) }
+fn push_named(word: WordAddr, by: Namers, named: &mut Vec<Named>) -> Result<(), AllocError>
+    ensures { OnOk result (named.new.items ≡ named.old.items ++ named_by word.0 by) }
 {
     if by.are_some() {
         named.push(Named { word, by })?;
@@ -113,11 +110,10 @@ fn push_named(word: WordAddr, by: Namers, named: &mut Vec<Named>) -> Result<(), 
 }
 
 // The words that are marked, in their order.
-fn list_marked(alloc: Global, marks: &[Namers]) -> Result<Vec<Named>, ReportError>
+fn list_marked(alloc: Global, marks: &[Namers]) -> Result<Vec<Named>, AllocError>
     requires few { length marks.now < 2 ^ 32 }
-    ensures named { IfOk result
+    ensures { IfOk result
         (λ named. named.items ≡ flat_map (named_at marks.now) (range_with_len 0 (length marks.now))) }
-    ensures err { IfErr result (λ e. e ≡ Memory) }
 {
     let mut named = Vec::new(alloc);
     for word in 0..marks.len() {
@@ -128,14 +124,13 @@ fn list_marked(alloc: Global, marks: &[Namers]) -> Result<Vec<Named>, ReportErro
 
 /// The words below this one that the entries name, in their order.
 ///
-/// Errors: [`ReportError::Memory`].
+/// Errors: [`AllocError`], if memory runs out.
 pub(crate) fn named_words(
     alloc: Global,
     entries: &[Entry],
     words: u32,
-) -> Result<Vec<Named>, ReportError>
-    ensures named { IfOk result (λ named. AreNamed entries.now words named.items) }
-    ensures err { IfErr result (λ e. e ≡ Memory) }
+) -> Result<Vec<Named>, AllocError>
+    ensures { IfOk result (λ named. AreNamed entries.now words named.items) }
 {
     let mut marks = vec![in alloc; Namers::Nobody; words as usize]?;
     mark_entries(entries, &mut marks);

@@ -1,20 +1,19 @@
 // How far a run has come.
 
-ghost use Rattle.std.specs.Prelude.{◌≡◌, ◌++◌, [], OnOk, IfErr};
-ghost use Rattle.svc_report.specs.declared.error.ReportError.TheVariants.{Memory};
+ghost use Rattle.std.specs.Prelude.{◌≡◌, ◌++◌, [], OnOk};
 ghost use Rattle.svc_report.specs.Summary.{ending_row};
 ghost use Rattle.svc_show.specs.Rows.{entry_row, told_row};
 ghost use Rattle.svc_show.specs.Show.{progress_rows};
 
-use crate::text::{write_number, write_text, write_told};
+use crate::told::{write_number, write_told};
+use std::alloc::AllocError;
 use svc_core_laws::Ending;
 use svc_machine::Machine;
-use svc_report::ReportError;
+use svc_text::put;
 
 // Writes a row of a name and an entry, which is empty where there is none.
-fn write_entry(name: &str, entry: Option<u32>, rows: &mut Vec<u8>) -> Result<(), ReportError>
-    ensures ok { OnOk result (rows.new.items ≡ rows.old.items ++ entry_row name.now entry) }
-    ensures err { IfErr result (λ e. e ≡ Memory) }
+fn write_entry(name: &str, entry: Option<u32>, rows: &mut Vec<u8>) -> Result<(), AllocError>
+    ensures { OnOk result (rows.new.items ≡ rows.old.items ++ entry_row name.now entry) }
 {
     match entry {
         Some(entry) => write_told(name, u64::from(entry), rows),
@@ -23,18 +22,16 @@ fn write_entry(name: &str, entry: Option<u32>, rows: &mut Vec<u8>) -> Result<(),
 }
 
 // Writes a row of a name alone.
-fn write_empty(name: &str, rows: &mut Vec<u8>) -> Result<(), ReportError>
-    ensures ok { OnOk result (rows.new.items ≡ rows.old.items ++ told_row name.now []) }
-    ensures err { IfErr result (λ e. e ≡ Memory) }
+fn write_empty(name: &str, rows: &mut Vec<u8>) -> Result<(), AllocError>
+    ensures { OnOk result (rows.new.items ≡ rows.old.items ++ told_row name.now []) }
 {
-    write_text(name.as_bytes(), rows)?;
-    write_text(b",\n", rows)
+    put!(rows; name, ",\n");
+    Ok(())
 }
 
 // Writes the row of an ending.
-fn write_ending(ending: Ending, rows: &mut Vec<u8>) -> Result<(), ReportError>
-    ensures ok { OnOk result (rows.new.items ≡ rows.old.items ++ ending_row ending) }
-    ensures err { IfErr result (λ e. e ≡ Memory) }
+fn write_ending(ending: Ending, rows: &mut Vec<u8>) -> Result<(), AllocError>
+    ensures { OnOk result (rows.new.items ≡ rows.old.items ++ ending_row ending) }
 {
     match ending {
         Ending::Exit(code) => write_number("exit", u64::from(code), rows),
@@ -45,10 +42,9 @@ fn write_ending(ending: Ending, rows: &mut Vec<u8>) -> Result<(), ReportError>
 }
 
 /// Writes how many tasks were committed, which entry is due, which one to guess, and how the run has ended.
-pub(crate) fn write_progress(machine: &Machine, rows: &mut Vec<u8>) -> Result<(), ReportError>
-    ensures ok { let m = machine.now in
+pub(crate) fn write_progress(machine: &Machine, rows: &mut Vec<u8>) -> Result<(), AllocError>
+    ensures { let m = machine.now in
         OnOk result (rows.new.items ≡ rows.old.items ++ progress_rows m.image m.config m.plain) }
-    ensures err { IfErr result (λ e. e ≡ Memory) }
 {
     write_number("tasks", machine.committed_tasks(), rows)?;
     write_entry("due", machine.due(), rows)?;

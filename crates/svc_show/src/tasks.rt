@@ -1,18 +1,17 @@
 // The active tasks.
 
-ghost use Rattle.std.specs.Prelude.{◌++◌, ◌≡◌, ◌+◌, ◌<◌, OnOk, IfErr, length};
+ghost use Rattle.std.specs.Prelude.{◌++◌, ◌≡◌, ◌+◌, ◌<◌, OnOk, length};
 ghost use Rattle.svc_core_laws.specs.Words.{program};
 ghost use Rattle.svc_machine.specs.Reads.{task_of};
 ghost use Rattle.svc_machine_laws.specs.PlainMachine.{running};
-ghost use Rattle.svc_report.specs.declared.error.ReportError.TheVariants.{Memory};
 ghost use Rattle.svc_report.specs.Fields.{optional};
 ghost use Rattle.svc_show.specs.Rows.{state_end, state_word, task_row};
 ghost use Rattle.svc_show.specs.Show.{task_rows};
 
-use crate::text::{write_fields, write_text};
+use std::alloc::AllocError;
 use svc_core_laws::End;
 use svc_machine::{ActiveTask, Machine};
-use svc_report::ReportError;
+use svc_text::{put, put_fields};
 
 // The word of how a task stands.
 fn state_word(done: Option<End>) -> &'static str
@@ -27,19 +26,16 @@ fn state_word(done: Option<End>) -> &'static str
 }
 
 // Writes the last column of a task, and ends its row.
-fn write_state(state: &str, rows: &mut Vec<u8>) -> Result<(), ReportError>
-    ensures ok { OnOk result (rows.new.items ≡ rows.old.items ++ state_end state.now) }
-    ensures err { IfErr result (λ e. e ≡ Memory) }
+fn write_state(state: &str, rows: &mut Vec<u8>) -> Result<(), AllocError>
+    ensures { OnOk result (rows.new.items ≡ rows.old.items ++ state_end state.now) }
 {
-    write_text(b",", rows)?;
-    write_text(state.as_bytes(), rows)?;
-    write_text(b"\n", rows)
+    put!(rows; ",", state, "\n");
+    Ok(())
 }
 
 // Writes the row of the active task of this number.
-fn write_task(number: u64, task: ActiveTask, rows: &mut Vec<u8>) -> Result<(), ReportError>
-    ensures ok { OnOk result (rows.new.items ≡ rows.old.items ++ task_row number task) }
-    ensures err { IfErr result (λ e. e ≡ Memory) }
+fn write_task(number: u64, task: ActiveTask, rows: &mut Vec<u8>) -> Result<(), AllocError>
+    ensures { OnOk result (rows.new.items ≡ rows.old.items ++ task_row number task) }
 {
     let numbers = [
         number,
@@ -47,7 +43,7 @@ fn write_task(number: u64, task: ActiveTask, rows: &mut Vec<u8>) -> Result<(), R
         u64::from(task.entry),
         u64::from(task.turns),
     ];
-    write_fields(b"task", &numbers, rows)?;
+    put_fields(rows, "task", &numbers)?;
     write_state(state_word(task.done), rows)
 }
 
@@ -63,12 +59,11 @@ fn number_at(machine: &Machine, place: usize) -> u64
 }
 
 // Writes the row of the active task at a place.
-fn write_task_at(machine: &Machine, place: usize, rows: &mut Vec<u8>) -> Result<(), ReportError>
+fn write_task_at(machine: &Machine, place: usize, rows: &mut Vec<u8>) -> Result<(), AllocError>
     requires active { place < length machine.now.plain.tasks }
-    ensures ok { let m = machine.now in
+    ensures { let m = machine.now in
         OnOk result (rows.new.items ≡ rows.old.items
         ++ optional (task_row (m.plain.commits + place)) (task_of m place)) }
-    ensures err { IfErr result (λ e. e ≡ Memory) }
 {
     match machine.task_at(place) {
         Some(task) => write_task(number_at(machine, place), task, rows),
@@ -77,10 +72,9 @@ fn write_task_at(machine: &Machine, place: usize, rows: &mut Vec<u8>) -> Result<
 }
 
 /// Writes a row for each active task, oldest first.
-pub(crate) fn write_tasks(machine: &Machine, rows: &mut Vec<u8>) -> Result<(), ReportError>
-    ensures ok { let m = machine.now in
+pub(crate) fn write_tasks(machine: &Machine, rows: &mut Vec<u8>) -> Result<(), AllocError>
+    ensures { let m = machine.now in
         OnOk result (rows.new.items ≡ rows.old.items ++ task_rows m.plain.commits (running (program m.image) m.plain)) }
-    ensures err { IfErr result (λ e. e ≡ Memory) }
 {
     for place in 0..machine.active_tasks() {
         write_task_at(machine, place, rows)?;

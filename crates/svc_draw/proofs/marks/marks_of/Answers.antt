@@ -20,7 +20,7 @@ loop-at-preserved c =
       noted es w at _ c.loop-at.stores c.note.new.self from inside known (c.in_ok-note.ensures {u = tt}).places,
     )
 
-pub returns-clause-marks : goal.returns-clause-marks
-returns-clause-marks c =
+pub returns : goal.returns
+returns c =
     let w = c.args.window.now in
     all_marks c.args.entries.now w c.loop-at.left.now c.loop-at.at w.to c.loop-at.marks.items _ c.loop-at-test.false c.loop-at.invariant.0

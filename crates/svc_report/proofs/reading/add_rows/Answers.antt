@@ -1,7 +1,7 @@
 use Rattle.std.proofs.Common.{◌≡◌, [], refl, true, rules, arith, Bor, List, ℕ, map}
 use Rattle.std.specs.Result.{is_ok}
 use Rattle.std.proofs.lemmas.List.{length-append}
-use Rattle.svc_limited.specs.Places.{known_through}
+use Rattle.svc_record_limit.specs.Places.{known_through}
 use Rattle.svc_report.proofs.Tracks.{all_more, bad_row, begun, ended, no_header, other_header, rows_more, went_on}
 use Rattle.svc_report.proofs.reading.add_rows.Goals as goal
 

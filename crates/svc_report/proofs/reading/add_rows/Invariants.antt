@@ -1,10 +1,10 @@
 use Rattle.std.proofs.Common.{◌≡◌, ◌+◌, ℕ, List, Option, length, map}
 use Rattle.std.specs.Prelude.{option_map}
 use Rattle.csv.specs.Reading.{source_of}
-use Rattle.svc_limited.specs.Limit.{readable}
+use Rattle.svc_record_limit.specs.Limit.{readable}
 use Rattle.std.specs.List.{AllByRecursion}
 use Rattle.svc_report.specs.Records.{IsOpen}
-use Rattle.svc_limited.specs.Places.{known_through}
+use Rattle.svc_record_limit.specs.Places.{known_through}
 use Rattle.svc_report.specs.Rows.{records_of}
 use Rattle.svc_report.proofs.Tracks.{Tracks}
 use Rattle.svc_report.proofs.reading.add_rows.Given as goal

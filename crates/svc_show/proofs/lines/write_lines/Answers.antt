@@ -11,4 +11,4 @@ loop-unit-preserved c =
     let a = Some c.args.rows.now.items in
     let b = Some c.loop-unit.rows.items in
     let d = Some c.write_unit.new.rows.items in
-    row_more (λ unit. flat_map (named_line (observed m.bus) unit) c.args.named.now) c.loop-unit.unit a b d c.loop-unit.invariant c.in_ok-write_unit.ensures.ok
+    row_more (λ unit. flat_map (named_line (observed m.bus) unit) c.args.named.now) c.loop-unit.unit a b d c.loop-unit.invariant c.in_ok-write_unit.ensures

@@ -13,5 +13,5 @@ loop-word-preserved c =
     let at = c.loop-word.word in
     let marks = c.args.marks.now in
     let same = get_or_from_slice_get marks at (get_or marks at Nobody) _ (slice_get-get_or marks at Nobody c.loop-word-test.true) in
-    c.in_ok-push_named.ensures.list ∙ ap (λ (n : Namers). c.loop-word.named.items ++ named_by at n) same
+    c.in_ok-push_named.ensures ∙ ap (λ (n : Namers). c.loop-word.named.items ++ named_by at n) same
     ∙ ap (λ (l : List Named). l ++ f at) c.loop-word.invariant ∙ sym (lists_more f at)

@@ -11,9 +11,9 @@ write_spills-requires c =
     let m = c.args.machine.now in
     record { in_data = inside_held (observed m.bus) (data_words m.image) c.args.named.now c.requires.held }
 
-pub returns-clause-ok : goal.returns-clause-ok
-returns-clause-ok c =
+pub returns : goal.returns
+returns c =
     let m = c.args.machine.now in
     let words = data_words m.image in
     let same = spills_held (observed m.bus) words c.args.named.now c.requires.held in
-    on_ok c.write_spills.result (subst (Appends (Some c.args.rows.now.items) (Some c.write_spills.new.rows.items)) same) c.write_spills.ensures.ok
+    on_ok c.write_spills.result (subst (Appends (Some c.args.rows.now.items) (Some c.write_spills.new.rows.items)) same) c.write_spills.ensures

@@ -11,9 +11,9 @@ write_words-requires c =
     let m = c.args.machine.now in
     record { own = own_held (observed m.bus) (data_words m.image) c.args.named.now c.requires.held }
 
-pub returns-clause-ok : goal.returns-clause-ok
-returns-clause-ok c =
+pub returns : goal.returns
+returns c =
     let m = c.args.machine.now in
     let words = data_words m.image in
     let same = memory_held (observed m.bus) words c.args.named.now c.requires.held m.image m.config m.plain in
-    on_ok c.write_words.result (subst (Appends (Some c.args.rows.now.items) (Some c.write_words.new.rows.items)) same) c.write_words.ensures.ok
+    on_ok c.write_words.result (subst (Appends (Some c.args.rows.now.items) (Some c.write_words.new.rows.items)) same) c.write_words.ensures

@@ -7,8 +7,8 @@ use Rattle.svc_report.proofs.PlainLines.{on_ok, then_appends}
 use Rattle.svc_show.specs.Show.{line_rows, memory_rows, progress_rows, spill_rows, task_rows}
 use Rattle.svc_show.proofs.show.write_machine.Goals as goal
 
-pub returns-clause-ok : goal.returns-clause-ok
-returns-clause-ok c =
+pub returns : goal.returns
+returns c =
     let m = c.args.machine.now in
     let bus = observed m.bus in
     let units = m.config.units in
@@ -25,7 +25,7 @@ returns-clause-ok c =
     let spills = spill_rows words bus in
     let memory = memory_rows m.image m.config m.plain bus words in
     on_ok c.write_all_words.result (λ k.
-    then_appends a b h progress (tasks ++ (lines ++ (spills ++ memory))) c.in_ok-write_progress.ensures.ok (
-    then_appends b d h tasks (lines ++ (spills ++ memory)) c.in_ok-write_tasks.ensures.ok (
-    then_appends d e h lines (spills ++ memory) c.in_ok-write_all_lines.ensures.ok (
-    then_appends e f h spills memory c.in_ok-write_all_spills.ensures.ok k)))) c.write_all_words.ensures.ok
+    then_appends a b h progress (tasks ++ (lines ++ (spills ++ memory))) c.in_ok-write_progress.ensures (
+    then_appends b d h tasks (lines ++ (spills ++ memory)) c.in_ok-write_tasks.ensures (
+    then_appends d e h lines (spills ++ memory) c.in_ok-write_all_lines.ensures (
+    then_appends e f h spills memory c.in_ok-write_all_spills.ensures k)))) c.write_all_words.ensures

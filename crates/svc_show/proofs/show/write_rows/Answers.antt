@@ -14,8 +14,8 @@ use Rattle.svc_show.specs.Show.{machine_rows, standing_rows}
 use Rattle.svc_show.proofs.Standings.{shown_at}
 use Rattle.svc_show.proofs.show.write_rows.Goals as goal
 
-pub returns-clause-ok : goal.returns-clause-ok
-returns-clause-ok c =
+pub returns : goal.returns
+returns c =
     let r = c.args.recorder.now in
     let a = Some c.args.rows.now.items in
     let b = Some c.write_number.new.rows.items in
@@ -25,9 +25,9 @@ returns-clause-ok c =
     let same : rows c.machine-machine.result.now ≡ standing_rows r.machine.image r.machine.config (standing_of r) =
     ap rows c.machine-machine.ensures.machine ∙ shown_at r.machine (standing_of r) c.machine-machine.ensures.legal.here in
     let first : Appends a b told =
-    subst (λ (es : List Entry). Appends a b (number_row (codes "at") (length es))) c.entries-count.ensures.entries c.in_ok-write_number.ensures.ok in
+    subst (λ (es : List Entry). Appends a b (number_row (codes "at") (length es))) c.entries-count.ensures.entries c.in_ok-write_number.ensures in
     on_ok c.write_machine.result (λ h. then_appends a b d told (standing_rows r.machine.image r.machine.config (standing_of r)) first
-    (subst (λ (text : List ℕ). Appends b d text) same h)) c.write_machine.ensures.ok
+    (subst (λ (text : List ℕ). Appends b d text) same h)) c.write_machine.ensures
 
 pub write_machine-requires : goal.write_machine-requires
 write_machine-requires c =

@@ -13,10 +13,10 @@ loop-place-preserved c =
     let a = Some c.args.rows.now.items in
     let b = Some c.loop-place.rows.items in
     let d = Some c.write_task_at.new.rows.items in
-    task_more m.plain.commits (running (program m.image) m.plain) c.loop-place.place a b d c.loop-place.invariant c.in_ok-write_task_at.ensures.ok
+    task_more m.plain.commits (running (program m.image) m.plain) c.loop-place.place a b d c.loop-place.invariant c.in_ok-write_task_at.ensures
 
-pub returns-clause-ok : goal.returns-clause-ok
-returns-clause-ok c =
+pub returns : goal.returns
+returns c =
     let m = c.args.machine.now in
     let a = Some c.args.rows.now.items in
     let b = Some c.loop-place.rows.items in

@@ -1,0 +1,17 @@
+pub mod Fits
+pub mod Buckets
+pub mod Ordering
+pub mod Placed
+pub mod UnitRows
+pub mod FieldRows
+pub mod Adding
+pub mod InColumns
+pub mod Inside
+pub mod Unnamed
+pub mod Tallies
+pub mod Ordered
+pub mod WordRows
+pub mod Blamed
+pub mod AddingWords
+pub mod Done
+pub mod Naming

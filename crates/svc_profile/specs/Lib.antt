@@ -1,0 +1,9 @@
+pub mod Profile
+pub mod ProfileRow
+pub mod Tasks
+pub mod Units
+pub mod Column
+pub mod Words
+pub mod Counts
+pub mod Named
+pub mod OneTask

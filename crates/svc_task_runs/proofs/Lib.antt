@@ -1,0 +1,4 @@
+pub mod Sorting
+pub mod Fewness
+pub mod Nobody
+pub mod Begun

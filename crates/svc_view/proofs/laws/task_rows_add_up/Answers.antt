@@ -1,5 +1,0 @@
-use Rattle.svc_view.proofs.Adding.{tasks_add}
-use Rattle.svc_view.proofs.laws.task_rows_add_up.Goals as goal
-
-pub returns : goal.returns
-returns c = tasks_add c.args.entries.now

@@ -1,6 +1,0 @@
--- The tasks of a history, as contracts see them.
-use Rattle.svc_view.specs.declared.runs.TaskRuns.{TaskRuns}
-use Rattle.svc_view.specs.Runs.{Runs}
-
-abbrev pub seen : TaskRuns → Runs
-seen t = record { commits = t.commits; settled = t.settled.items; active = t.active.items }

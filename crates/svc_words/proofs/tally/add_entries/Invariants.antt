@@ -1,7 +1,0 @@
-use Rattle.std.proofs.Common.{take}
-use Rattle.std.specs.Prelude.{flat_map}
-use Rattle.svc_words.specs.Counts.{IsTally, entry_counted}
-use Rattle.svc_words.proofs.tally.add_entries.Given as goal
-
-abbrev pub invariant-loop-entry : goal.invariant-loop-entry
-invariant-loop-entry l = IsTally (flat_map entry_counted (take l.entry-index l.entries)) l.words
