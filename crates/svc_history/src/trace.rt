@@ -104,25 +104,21 @@ fn compared(recorder: &mut Recorder, entry: &Entry, event: Event<'_>) -> Result<
     }
 }
 
-/// A recorder before any event, of an image that is copied.
+/// A recorder before any event.
 ///
 /// Errors: [`TraceFaultKind::Memory`], at the index 0.
-pub fn open_trace(alloc: Global, image: &Image, config: Config) -> Result<Recorder, TraceFault>
-    ensures image { IfOk result (λ r. r.machine.image ≡ image.now) }
+pub fn open_trace(alloc: Global, image: Image, config: Config) -> Result<Recorder, TraceFault>
+    ensures image { IfOk result (λ r. r.machine.image ≡ image) }
     ensures config { IfOk result (λ r. r.machine.config ≡ config) }
     ensures entries { IfOk result (λ r. r.entries ≡ []) }
     ensures fault { IfErr result (λ fault. (fault.index ≡ 0) × (fault.kind ≡ TraceFaultKind.Memory)) }
 {
-    let no_memory = TraceFault {
-        index: 0,
-        kind: TraceFaultKind::Memory,
-    };
-    let Ok(image) = image.copy(alloc) else {
-        return Err(no_memory);
-    };
     match Recorder::open(alloc, image, config) {
         Ok(recorder) => Ok(recorder),
-        Err(_) => Err(no_memory),
+        Err(_) => Err(TraceFault {
+            index: 0,
+            kind: TraceFaultKind::Memory,
+        }),
     }
 }
 
@@ -156,15 +152,15 @@ pub fn check_on(recorder: &mut Recorder, entries: &[Entry], count: usize) -> Res
 /// Errors: the first faulty entry, with what is wrong with it.
 pub fn check_trace(
     alloc: Global,
-    image: &Image,
+    image: Image,
     config: Config,
     entries: &[Entry],
 ) -> Result<Recorder, TraceFault>
-    ensures image { IfOk result (λ r. r.machine.image ≡ image.now) }
+    ensures image { IfOk result (λ r. r.machine.image ≡ image) }
     ensures config { IfOk result (λ r. r.machine.config ≡ config) }
     ensures entries { IfOk result (λ r. r.entries ≡ entries.now) }
     ensures legal { IfOk result IsLegal }
-    ensures fault { IfErr result (IsFault image.now config entries.now) }
+    ensures fault { IfErr result (IsFault image config entries.now) }
 {
     let mut recorder = open_trace(alloc, image, config)?;
     check_on(&mut recorder, entries, entries.len())?;

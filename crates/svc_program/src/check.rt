@@ -28,20 +28,20 @@ pub fn check<F: Files, O: Write>(
     ensures { IsAnswered O.contents (request.Check traced.entry) (F.held files.old) (F.held files.new) out.old out.new result }
 {
     let (image, entries) = load_traced(alloc, traced, files)?;
-    check_entries(alloc, &image, traced.config, &entries, out)
+    check_entries(alloc, image, traced.config, &entries, out)
 }
 
 // Replays the entries, and prints that they are sound.
 fn check_entries<O: Write>(
     alloc: Global,
-    image: &Image,
+    image: Image,
     config: Config,
     entries: &[Entry],
     out: &mut O,
 ) -> Result<u8, Fault>
-    ensures sound { IfOk result (FindsSound image.now config entries.now (O.contents out.old) (O.contents out.new)) }
+    ensures sound { IfOk result (FindsSound image config entries.now (O.contents out.old) (O.contents out.new)) }
     ensures fault { IfErr result (λ fault. IsOutputFault fault
-        ⊎ (TellsOfTrace image.now config entries.now fault × (out.new ≡ out.old))) }
+        ⊎ (TellsOfTrace image config entries.now fault × (out.new ≡ out.old))) }
 {
     replay(alloc, image, config, entries)?;
     writeln!(out, "sound,{}", entries.len())?;
@@ -52,14 +52,14 @@ fn check_entries<O: Write>(
 /// Replays the entries from before any event.
 ///
 /// Errors: the trace's first fault.
-pub fn replay(alloc: Global, image: &Image, config: Config, entries: &[Entry]) -> Result<(), Fault>
-    ensures legal { IfOk result (λ _. LegalHistory image.now config entries.now) }
+pub fn replay(alloc: Global, image: Image, config: Config, entries: &[Entry]) -> Result<(), Fault>
+    ensures legal { IfOk result (λ _. LegalHistory image config entries.now) }
     ensures few { IfOk result (λ _. length entries.now ≤ MAX_EVENTS) }
-    ensures fault { IfErr result (TellsOfTrace image.now config entries.now) }
+    ensures fault { IfErr result (TellsOfTrace image config entries.now) }
 {
-    let _recorder = check_trace(alloc, image, config, entries)?;
     // a legal history has no more entries than the configuration allows
     let _start = image.start();
+    let _recorder = check_trace(alloc, image, config, entries)?;
     history_leads_on();
     Ok(())
 }

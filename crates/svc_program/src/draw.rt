@@ -28,7 +28,7 @@ pub fn draw<F: Files, O: Write>(
 {
     let _nothing_is_printed = out;
     let (image, entries) = load_traced(alloc, traced, files)?;
-    let text = draw_entries(alloc, &image, traced.config, &entries, picture)?;
+    let text = draw_entries(alloc, image, traced.config, &entries, picture)?;
     files.save(picture.file, &text)?;
     Ok(0)
 }
@@ -39,14 +39,14 @@ pub fn draw<F: Files, O: Write>(
 // memory.
 fn draw_entries(
     alloc: Global,
-    image: &Image,
+    image: Image,
     config: Config,
     entries: &[Entry],
     picture: Picture<'_>,
 ) -> Result<Vec<u8>, Fault>
-    ensures drawn { IfOk result (λ _. IsDrawn image.now config entries.now picture.entry.from) }
+    ensures drawn { IfOk result (λ _. IsDrawn image config entries.now picture.entry.from) }
     ensures fault { IfErr result (λ fault. (fault ≡ File) ⊎ IsReportFault fault
-        ⊎ TellsOfTrace image.now config entries.now fault) }
+        ⊎ TellsOfTrace image config entries.now fault) }
 {
     replay(alloc, image, config, entries)?;
     if picture.from as usize > entries.len() {

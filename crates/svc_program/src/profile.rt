@@ -32,22 +32,22 @@ pub fn profile<F: Files, O: Write>(
     ensures { IsAnswered O.contents (request.Profile traced.entry by.entry) (F.held files.old) (F.held files.new) out.old out.new result }
 {
     let (image, entries) = load_traced(alloc, traced, files)?;
-    profile_entries(alloc, &image, traced.config, &entries, by, out)
+    profile_entries(alloc, image, traced.config, &entries, by, out)
 }
 
 // Replays the entries, and prints what their speculation cost.
 fn profile_entries<O: Write>(
     alloc: Global,
-    image: &Image,
+    image: Image,
     config: Config,
     entries: &[Entry],
     by: Option<Table<'_>>,
     out: &mut O,
 ) -> Result<u8, Fault>
-    ensures profile { IfOk result (TellsCost by.entry image.now config entries.now (O.contents out.old)
+    ensures profile { IfOk result (TellsCost by.entry image config entries.now (O.contents out.old)
         (O.contents out.new)) }
     ensures fault { IfErr result (λ fault.
-        IsReportFault fault ⊎ (TellsOfTrace image.now config entries.now fault × (out.new ≡ out.old))) }
+        IsReportFault fault ⊎ (TellsOfTrace image config entries.now fault × (out.new ≡ out.old))) }
 {
     replay(alloc, image, config, entries)?;
     write_cost(alloc, config, entries, by, out)?;

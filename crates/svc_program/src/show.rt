@@ -30,22 +30,22 @@ pub fn show<F: Files, O: Write>(
     ensures { IsAnswered O.contents (request.Show traced.entry at) (F.held files.old) (F.held files.new) out.old out.new result }
 {
     let (image, entries) = load_traced(alloc, traced, files)?;
-    show_entries(alloc, &image, traced.config, &entries, at, out)
+    show_entries(alloc, image, traced.config, &entries, at, out)
 }
 
 // Replays the entries, and prints the machine after the first `at` of them, or after all.
 fn show_entries<O: Write>(
     alloc: Global,
-    image: &Image,
+    image: Image,
     config: Config,
     entries: &[Entry],
     at: Option<u64>,
     out: &mut O,
 ) -> Result<u8, Fault>
     ensures shown { IfOk result
-        (TellsMachine at image.now config entries.now (O.contents out.old) (O.contents out.new)) }
+        (TellsMachine at image config entries.now (O.contents out.old) (O.contents out.new)) }
     ensures fault { IfErr result (λ fault. IsReportFault fault
-        ⊎ ((TellsOfTrace image.now config entries.now fault ⊎ IsPastTheEnd at image.now config entries.now fault)
+        ⊎ ((TellsOfTrace image config entries.now fault ⊎ IsPastTheEnd at image config entries.now fault)
         × (out.new ≡ out.old))) }
 {
     let text = text_at(alloc, image, config, entries, at)?;
@@ -57,16 +57,16 @@ fn show_entries<O: Write>(
 // way, and the entries past it are checked before a word of it is printed.
 fn text_at(
     alloc: Global,
-    image: &Image,
+    image: Image,
     config: Config,
     entries: &[Entry],
     at: Option<u64>,
 ) -> Result<Vec<u8>, Fault>
-    ensures text { IfOk result (λ text. text.items ≡ show_of image.now config (shown_entries at entries.now)) }
-    ensures legal { IfOk result (λ text. LegalHistory image.now config entries.now) }
+    ensures text { IfOk result (λ text. text.items ≡ show_of image config (shown_entries at entries.now)) }
+    ensures legal { IfOk result (λ text. LegalHistory image config entries.now) }
     ensures within { IfOk result (λ text. IfSome at (λ n. n ≤ length entries.now)) }
     ensures fault { IfErr result (λ fault. IsReportFault fault
-        ⊎ TellsOfTrace image.now config entries.now fault ⊎ IsPastTheEnd at image.now config entries.now fault) }
+        ⊎ TellsOfTrace image config entries.now fault ⊎ IsPastTheEnd at image config entries.now fault) }
 {
     let mut recorder = open_trace(alloc, image, config)?;
     text_on(alloc, &mut recorder, entries, at)

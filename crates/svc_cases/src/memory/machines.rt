@@ -172,7 +172,7 @@ fn scheduled(alloc: Global) -> Attempt {
 fn check(alloc: Global) -> Attempt {
     let config = four_units()?;
     let image = sample(alloc)?;
-    match check_trace(alloc, &image, config, &ten_entries()) {
+    match check_trace(alloc, image, config, &ten_entries()) {
         Ok(replayed) => Ok(is_done(replayed.machine())),
         Err(fault) if fault.kind == TraceFaultKind::Memory && fault.index == 0 => {
             Err(Refused::Told)

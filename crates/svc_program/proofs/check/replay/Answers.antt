@@ -10,7 +10,7 @@ pub returns-clause-few : goal.returns-clause-few
 returns-clause-few c =
     let r = c.in_ok-_recorder._recorder in
     let told = c.in_ok-_recorder.ensures in
-    let img = c.args.image.now in
+    let img = c.args.image in
     let legal : LegalHistory img r.machine.config r.entries = subst (λ (i : Image). LegalHistory i r.machine.config r.entries) told.image told.legal.legal in
     let leads : LeadsOn img r.machine.config r.entries = c.history_leads_on.ensures img c.start-start.ensures.sound r.machine.config r.entries legal in
     let count = leads.accepted in
