@@ -49,7 +49,7 @@ and 1 at a fault, which standard error names in one line:
   run fault 2     a thread could not be started
   run fault 3, 4  a mistake of svcsim itself: please tell us
   report fault 1  memory was refused for a text or its entries
-  report fault 2  standard output could not be written
+  report fault 2  standard output takes no more of a summary, a row, a table or a listing
   report fault 3  a script or trace could not be read to its end
   report fault 4 row R column C
                   a trace's first bad row and its first bad column, counted from 1 with the header;
@@ -62,8 +62,8 @@ and 1 at a fault, which standard error names in one line:
                   the event of this entry, counted from 0, is refused there, or the entry lacks a number
   trace fault 3 at entry I
                   the event of this entry is answered otherwise there
-  file fault      a file could not be read or written, a trace has fewer entries than --at or --from says, or
-                  memory was refused elsewhere";
+  file fault      a file could not be read or written, another line could not be printed, a trace has fewer
+                  entries than --at or --from says, or memory was refused elsewhere";
 
 /// The help of `run`.
 pub(crate) const RUN: &str = "Runs an image on the simulated machine, and prints the summary.
