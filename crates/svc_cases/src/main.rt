@@ -17,8 +17,8 @@ use std::rt::Files;
 use std::sync::Wait;
 use std::thread::Threads;
 use std::{fs, str};
-use svc_command::execute;
 use svc_case_outcome::{Outcome, Part};
+use svc_command::execute;
 
 fn main(rt: HostRuntime) -> Result<(), CaseError> {
     for line in rt.lines(rt.alloc()) {

@@ -25,7 +25,8 @@ pub fn assemble<F: Files, O: Write>(
     files: &mut F,
     out: &O,
 ) -> Result<u8, Fault>
-    ensures { IsAnswered O.contents (request.Assemble assembly.entry) (F.held files.old) (F.held files.new) out.now out.now result }
+    ensures { IsAnswered O.contents (request.Assemble assembly.entry)
+        (F.held files.old) (F.held files.new) out.now out.now result }
 {
     let _nothing_is_printed = out;
     let text = load_text(alloc, assembly.text, files)?;
@@ -75,7 +76,8 @@ pub fn list<F: Files, O: Write>(
     files: &mut F,
     out: &mut O,
 ) -> Result<u8, Fault>
-    ensures { IsAnswered O.contents (request.List image.entry) (F.held files.old) (F.held files.new) out.old out.new result }
+    ensures { IsAnswered O.contents (request.List image.entry)
+        (F.held files.old) (F.held files.new) out.old out.new result }
 {
     let image = load_image(alloc, image, files)?;
     list_image(alloc, &image, out)

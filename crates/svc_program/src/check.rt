@@ -25,7 +25,8 @@ pub fn check<F: Files, O: Write>(
     files: &mut F,
     out: &mut O,
 ) -> Result<u8, Fault>
-    ensures { IsAnswered O.contents (request.Check traced.entry) (F.held files.old) (F.held files.new) out.old out.new result }
+    ensures { IsAnswered O.contents (request.Check traced.entry)
+        (F.held files.old) (F.held files.new) out.old out.new result }
 {
     let (image, entries) = load_traced(alloc, traced, files)?;
     check_entries(alloc, image, traced.config, &entries, out)

@@ -24,7 +24,8 @@ pub fn draw<F: Files, O: Write>(
     files: &mut F,
     out: &O,
 ) -> Result<u8, Fault>
-    ensures { IsAnswered O.contents (request.Draw traced.entry picture.entry) (F.held files.old) (F.held files.new) out.now out.now result }
+    ensures { IsAnswered O.contents (request.Draw traced.entry picture.entry)
+        (F.held files.old) (F.held files.new) out.now out.now result }
 {
     let _nothing_is_printed = out;
     let (image, entries) = load_traced(alloc, traced, files)?;
@@ -35,8 +36,8 @@ pub fn draw<F: Files, O: Write>(
 
 // Replays the entries, and draws those that the picture shows.
 //
-// Errors: the trace's first fault; [`Fault::File`] if it has fewer entries than stand before the picture's first; lack of
-// memory.
+// Errors: the trace's first fault; [`Fault::File`] if it has fewer entries than stand before the picture's first; lack
+// of memory.
 fn draw_entries(
     alloc: Global,
     image: Image,

@@ -29,7 +29,8 @@ pub fn profile<F: Files, O: Write>(
     files: &mut F,
     out: &mut O,
 ) -> Result<u8, Fault>
-    ensures { IsAnswered O.contents (request.Profile traced.entry by.entry) (F.held files.old) (F.held files.new) out.old out.new result }
+    ensures { IsAnswered O.contents (request.Profile traced.entry by.entry)
+        (F.held files.old) (F.held files.new) out.old out.new result }
 {
     let (image, entries) = load_traced(alloc, traced, files)?;
     profile_entries(alloc, image, traced.config, &entries, by, out)

@@ -38,7 +38,8 @@ pub fn run<R: Threads + Wait + Sync, F: Files, O: Write>(
     files: &mut F,
     out: &mut O,
 ) -> Result<u8, Fault>
-    ensures { IsAnswered O.contents (request.Run run.entry) (F.held files.old) (F.held files.new) out.old out.new result }
+    ensures { IsAnswered O.contents (request.Run run.entry)
+        (F.held files.old) (F.held files.new) out.old out.new result }
 {
     let image = load_image(alloc, run.image, files)?;
     let recorder = run_image(rt, alloc, &image, run.config, run.schedule)?;

@@ -46,7 +46,8 @@ pub fn script<F: Files, O: Write>(
     files: &mut F,
     out: &mut O,
 ) -> Result<u8, Fault>
-    ensures { IsAnswered O.contents (request.Script scripted.entry) (F.held files.old) (F.held files.new) out.old out.new result }
+    ensures { IsAnswered O.contents (request.Script scripted.entry)
+        (F.held files.old) (F.held files.new) out.old out.new result }
 {
     let image = load_image(alloc, scripted.image, files)?;
     let steps = load_script(alloc, scripted.events, files)?;

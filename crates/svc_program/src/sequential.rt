@@ -22,19 +22,15 @@ pub fn sequential<F: Files, O: Write>(
     files: &mut F,
     out: &mut O,
 ) -> Result<u8, Fault>
-    ensures { IsAnswered O.contents (request.Sequential tasks.entry) (F.held files.old) (F.held files.new) out.old out.new result }
+    ensures { IsAnswered O.contents (request.Sequential tasks.entry)
+        (F.held files.old) (F.held files.new) out.old out.new result }
 {
     let image = load_image(alloc, tasks.image, files)?;
     run_in_order(alloc, &image, tasks.most, out)
 }
 
 // Runs at most this many tasks of an image, and prints the summary.
-fn run_in_order<O: Write>(
-    alloc: Global,
-    image: &Image,
-    most: u32,
-    out: &mut O,
-) -> Result<u8, Fault>
+fn run_in_order<O: Write>(alloc: Global, image: &Image, most: u32, out: &mut O) -> Result<u8, Fault>
     ensures report { IfOk result (Reports image.now most (tasks_run image.now most) false None (O.contents out.old)
         (O.contents out.new)) }
     ensures silent { IfErr result (λ fault. IsReportFault fault ⊎ (out.new ≡ out.old)) }

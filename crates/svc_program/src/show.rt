@@ -27,7 +27,8 @@ pub fn show<F: Files, O: Write>(
     files: &mut F,
     out: &mut O,
 ) -> Result<u8, Fault>
-    ensures { IsAnswered O.contents (request.Show traced.entry at) (F.held files.old) (F.held files.new) out.old out.new result }
+    ensures { IsAnswered O.contents (request.Show traced.entry at)
+        (F.held files.old) (F.held files.new) out.old out.new result }
 {
     let (image, entries) = load_traced(alloc, traced, files)?;
     show_entries(alloc, image, traced.config, &entries, at, out)
@@ -53,8 +54,8 @@ fn show_entries<O: Write>(
     Ok(0)
 }
 
-// The text of the machine after the first so many of the entries, or after all. One replay does: the text is gathered on the
-// way, and the entries past it are checked before a word of it is printed.
+// The text of the machine after the first so many of the entries, or after all. One replay does: the text is gathered on
+// the way, and the entries past it are checked before a word of it is printed.
 fn text_at(
     alloc: Global,
     image: Image,

@@ -114,8 +114,7 @@ const FAULTS: [&str; 8] = [
 ];
 
 // The last of them.
-const FILE_FAULT: &[u8] =
-    b"entries than --at or --from says, or memory was refused elsewhere\n";
+const FILE_FAULT: &[u8] = b"entries than --at or --from says, or memory was refused elsewhere\n";
 
 /// The program's help ends with the faults.
 fn ends_with_the_faults<R: Threads + Wait + Sync + AllocGlobal>(rt: &R) -> Attempt {

@@ -177,7 +177,15 @@ fn script<R: Threads + Wait + Sync + AllocGlobal>(rt: &R) -> Attempt {
 
 /// The ten events are done, as the words of a command line say.
 fn script_line<R: Threads + Wait + Sync + AllocGlobal>(rt: &R) -> Attempt {
-    let words = ["svcsim", "script", "p", "events", "--events", "10", "--turns=1"];
+    let words = [
+        "svcsim",
+        "script",
+        "p",
+        "events",
+        "--events",
+        "10",
+        "--turns=1",
+    ];
     told_by(rt, &words, SCRIPT)
 }
 

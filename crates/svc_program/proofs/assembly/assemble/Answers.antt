@@ -22,7 +22,9 @@ returns g c =
           program = program_of (held text) bytes image c.in_ok-text.ensures.text (rw c.deref.ensures.value at c.in-Ok.ensures.program);
           saved = subst (λ (file : List ℕ). IfSome (saved name) (λ known. known ≡ file)) (c.deref-2.ensures.value ∙ c.in_ok-file.ensures.ok) c.in_ok-save.ensures.saved;
           status = refl;
-        }, refl);
+        },
+        refl,
+      );
       silent = tt;
       order = tt;
       kept = subst (λ (h : Held). KeepsOthers h saved name) c.load_text.ensures.kept c.in_ok-save.ensures.others;

@@ -20,5 +20,5 @@ returns g c =
     answered_reading g.O.Write.contents (request.Show traced c.args.at) held saved old new c.show_entries.result
     (img, c.in_ok-image.ensures.image) c.load_traced.ensures.kept
     (of_loaded c.show_entries.result held traced img es Tells c.in_ok-image.ensures.image c.in_ok-image.ensures.trace
-        (subst (λ (xs : List Entry). IfOk c.show_entries.result (Tells img xs)) c.deref.ensures.value c.show_entries.ensures.shown))
+    (subst (λ (xs : List Entry). IfOk c.show_entries.result (Tells img xs)) c.deref.ensures.value c.show_entries.ensures.shown))
     (silent_before old new c.show_entries.result _ c.show_entries.ensures.fault)
