@@ -16,8 +16,8 @@ loop-at-preserved c =
     let inside : at < length es = omega (arith, below, to) in
     let known = c.loop-at.invariant.1 in (
       one_more_known es w c.loop-at.left.now _ at w.to _ c.loop-at.stores c.loop-at.marks.items c.push_marks.new.marks.items _ below to c.left_at-left.ensures known
-          (c.in_ok-push_marks.ensures {u = tt}).list c.loop-at.invariant.0,
-      noted es w at _ c.loop-at.stores c.note.new.self from inside known (c.in_ok-note.ensures {u = tt}).places,
+          c.in_ok-push_marks.ensures c.loop-at.invariant.0,
+      noted es w at _ c.loop-at.stores c.note.new.self from inside known c.in_ok-note.ensures,
     )
 
 pub returns : goal.returns
