@@ -22,3 +22,5 @@ mod machine;
 mod schedule;
 #[cfg(test)]
 mod script;
+#[cfg(test)]
+mod words;
