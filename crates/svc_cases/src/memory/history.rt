@@ -1,4 +1,5 @@
-//! The history of ten events, in which the second task loads too early, is squashed, and runs again.
+//! The history of ten events, in which the second task loads too early, is squashed, and runs again; and that of a unit
+//! which runs the same program as one task.
 
 use svc_base::{UnitId, WordAddr};
 use svc_history::{CutKind, Entry, Kind, ReplyKind, ServedKind};
@@ -36,8 +37,8 @@ fn submit(unit: u8, local: u8, ask: bool, reply: ReplyKind) -> Entry {
     submitted
 }
 
-fn load(value: u32, served: ServedKind) -> Entry {
-    let mut loaded = submit(1, 1, true, ReplyKind::Loaded);
+fn load(unit: u8, value: u32, served: ServedKind) -> Entry {
+    let mut loaded = submit(unit, 1, true, ReplyKind::Loaded);
     loaded.addr = Some(WordAddr(0));
     loaded.word = Some(value);
     loaded.served = Some(served);
@@ -48,10 +49,22 @@ fn store() -> Entry {
     let mut stored = submit(0, 2, true, ReplyKind::Stored);
     stored.addr = Some(WordAddr(0));
     stored.word = Some(5);
+    stored
+}
+
+// The same store, which squashes the second task.
+fn store_over_load() -> Entry {
+    let mut stored = store();
     stored.cause = Some(CutKind::Violation);
     stored.first = Some(1);
     stored.squashed = Some(1);
     stored
+}
+
+fn emit(unit: u8) -> Entry {
+    let mut emitted = submit(unit, 1, true, ReplyKind::Emitted);
+    emitted.word = Some(5);
+    emitted
 }
 
 fn commit(unit: u8, task: u32) -> Entry {
@@ -62,20 +75,30 @@ fn commit(unit: u8, task: u32) -> Entry {
 
 /// The entries of the ten events.
 pub fn ten_entries() -> [Entry; 10] {
-    let mut load_again = load(5, ServedKind::Committed);
+    let mut load_again = load(1, 5, ServedKind::Committed);
     load_again.from = Some(UnitId(0));
-    let mut emitted = submit(1, 1, true, ReplyKind::Emitted);
-    emitted.word = Some(5);
     [
         assign(0, 0, 0),
         assign(1, 12, 12),
-        load(0, ServedKind::Memory),
-        store(),
+        load(1, 0, ServedKind::Memory),
+        store_over_load(),
         commit(0, 0),
         assign(1, 0, 12),
         load_again,
-        emitted,
+        emit(1),
         submit(1, 2, false, ReplyKind::Ran),
         commit(1, 1),
+    ]
+}
+
+/// The entries of unit 0, which runs the program as one task: its load is of what it has stored.
+pub fn six_entries() -> [Entry; 6] {
+    [
+        assign(0, 0, 0),
+        store(),
+        load(0, 5, ServedKind::Hit),
+        emit(0),
+        submit(0, 2, false, ReplyKind::Ran),
+        commit(0, 0),
     ]
 }

@@ -3,11 +3,13 @@
 ghost use Rattle.std.specs.Prelude.{◌≡◌};
 
 use super::attempt::{Attempt, Refused, ready};
+use super::history::six_entries;
 use std::alloc::Global;
 use std::sync::Wait;
 use svc_base::{Config, OpenError, UnitId};
 use svc_core_laws::Ending;
-use svc_history::{Entry, Recorder, ReplyKind};
+use svc_history::same::is_same;
+use svc_history::{Entry, Recorder};
 use svc_image::Image;
 use svc_image::samples::P1;
 use svc_threads::{BoardPass, Gate, Phase, RunError, SharedBus, run_unit};
@@ -43,23 +45,14 @@ fn one_unit(alloc: Global) -> Result<Recorder, Refused> {
     ready(Recorder::open(alloc, one_task(alloc)?, config))
 }
 
-// The replies to the unit's six events.
-const REPLIES: [ReplyKind; 6] = [
-    ReplyKind::Assigned,
-    ReplyKind::Stored,
-    ReplyKind::Loaded,
-    ReplyKind::Emitted,
-    ReplyKind::Ran,
-    ReplyKind::Committed,
-];
-
-// The entries are the first of the unit's events.
+// The entries are the first of the unit's, field by field.
 fn are_first(entries: &[Entry]) -> bool {
-    if entries.len() > REPLIES.len() {
+    let wanted = six_entries();
+    if entries.len() > wanted.len() {
         return false;
     }
-    for (entry, reply) in entries.iter().zip(REPLIES) {
-        if entry.reply != reply {
+    for (entry, one) in entries.iter().zip(&wanted) {
+        if !is_same(entry, one) {
             return false;
         }
     }
@@ -85,7 +78,7 @@ fn judged(slips: Result<usize, RunError>, recorder: &Recorder) -> Attempt {
     match slips {
         Ok(slips) => Ok(
             begins_rightly
-                && slips == REPLIES.len()
+                && slips == six_entries().len()
                 && recorder.machine().ending() == Ending::Exit(5),
         ),
         Err(RunError::Memory) if begins_rightly => Err(Refused::Told),
