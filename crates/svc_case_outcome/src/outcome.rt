@@ -3,8 +3,8 @@
 ghost use Rattle.std.specs.Prelude.{◌≡◌, None, Decides, IfSome};
 ghost use Rattle.svc_case_outcome.specs.Wanted.{Fits, IsAsWanted, IsFirstOther};
 
-/// What a run of the program leaves: its status, what it wrote on standard output and standard error, and the file that it
-/// saved, shown by its name as a line and its text.
+/// What a run of the program leaves: its status, what it wrote on standard output and standard error, and the file
+/// that it saved, shown by its name as a line and its text.
 #[derive(Drop)]
 pub struct Outcome {
     pub status: u8,

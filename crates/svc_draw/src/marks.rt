@@ -308,8 +308,8 @@ fn is_over(bar: &Bar, at: u64) -> bool
     }
 }
 
-// The bars without the first ones that are over. Tasks stand in the order in which they were decided, so few are left before
-// those that run.
+// The bars without the first ones that are over. Tasks stand in the order in which they were decided, so few are left
+// before those that run.
 fn left_at(bars: &[Bar], at: u64) -> &[Bar]
     ensures { result.now ≡ left_at at bars.now }
 {

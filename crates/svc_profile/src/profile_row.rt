@@ -108,7 +108,8 @@ fn push_fields(
     fields.push_number(counts.replace)
 }
 
-/// Writes what a history's speculation cost as a row of a table: its label, and the counts of the profile in their order.
+/// Writes what a history's speculation cost as a row of a table: its label, and the counts of the profile in their
+/// order.
 ///
 /// Errors: [`ReportError::Memory`], [`ReportError::Write`].
 pub fn write_profile_row<W: Write>(

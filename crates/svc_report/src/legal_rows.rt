@@ -15,8 +15,8 @@ fn legal_entry_has_row(entry: Entry)
     ensures { (img : Image) → (config : Config) → (s : Standing) → LegalEntry img config s entry → HasRow entry }
 {}
 
-/// Each entry of a legal history has a row: its numbers are in the ranges of their columns. So what `write_trace` makes of
-/// the history is read back by `read_trace`.
+/// Each entry of a legal history has a row: its numbers are in the ranges of their columns. So what `write_trace`
+/// makes of the history is read back by `read_trace`.
 pub fn legal_history_has_rows(entries: &[Entry])
     ensures { (img : Image) → (config : Config) → LegalHistory img config entries.now
         → AllByRecursion HasRow entries.now }

@@ -14,7 +14,8 @@ use std::marker::Model;
 use std::mem;
 use svc_text::{ENOUGH, write_text};
 
-/// Lines that are still to be written. They are gathered, as a new writer of `csv` for each would cost more than the line.
+/// Lines that are still to be written. They are gathered, as a new writer of `csv` for each would cost more than the
+/// line.
 #[derive(Drop)]
 pub(crate) struct Pending {
     alloc: Global,

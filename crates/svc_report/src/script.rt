@@ -135,8 +135,8 @@ impl Row for Step {
 
 /// Reads a script.
 ///
-/// Errors: [`ReportError::Memory`], [`ReportError::Read`], or [`ReportError::Row`] with the first bad record and its first
-/// bad column.
+/// Errors: [`ReportError::Memory`], [`ReportError::Read`], or [`ReportError::Row`] with the first bad record and its
+/// first bad column.
 pub fn read_script<R: Read + Drop>(alloc: Global, reader: R) -> Result<Vec<Step>, ReportError>
     // The text is the names of the columns and the rows of these steps, and no other record.
     ensures ok { IfOk result (λ v. AllByRecursion HasStepRow v.items

@@ -65,8 +65,8 @@ fn push_fields(
     push_numbers(fields, &counts.numbers())
 }
 
-/// Writes the summary of a run as a row of a table: its label, how many tasks were committed, the word and the number of
-/// the ending, and the counts. The words put out aren't in it.
+/// Writes the summary of a run as a row of a table: its label, how many tasks were committed, the word and the number
+/// of the ending, and the counts. The words put out aren't in it.
 ///
 /// Errors: [`ReportError::Memory`], [`ReportError::Write`].
 pub fn write_summary_row<W: Write>(

@@ -156,8 +156,8 @@ impl Row for Entry {
 
 /// Reads the text of a history.
 ///
-/// Errors: [`ReportError::Memory`], [`ReportError::Read`], or [`ReportError::Row`] with the first bad record and its first
-/// bad column.
+/// Errors: [`ReportError::Memory`], [`ReportError::Read`], or [`ReportError::Row`] with the first bad record and its
+/// first bad column.
 pub fn read_trace<R: Read + Drop>(alloc: Global, reader: R) -> Result<Vec<Entry>, ReportError>
     // The text is the names of the columns and the rows of these entries, and no other record.
     ensures ok { IfOk result (λ v. AllByRecursion HasRow v.items

@@ -85,8 +85,8 @@ impl Cached {
     }
 }
 
-/// The value that the committed tasks have left of a named word. Only where several caches have a version of theirs is the
-/// newest one looked for.
+/// The value that the committed tasks have left of a named word. Only where several caches have a version of theirs
+/// is the newest one looked for.
 pub(crate) fn committed_of(machine: &Machine, named: Named, versions: Versions) -> u32
     requires own { HasItsLines (observed machine.now.bus) (data_words machine.now.image) named }
     requires versions { AreVersions (observed machine.now.bus) named machine.now.config.units versions }

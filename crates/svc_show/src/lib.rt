@@ -1,5 +1,5 @@
-//! The machine where a history leads, as rows: its active tasks, the lines of its caches with their bits, its spilled words,
-//! and the memory of the words that these hold.
+//! The machine where a history leads, as rows: its active tasks, the lines of its caches with their bits, its spilled
+//! words, and the memory of the words that these hold.
 #![tactic(auto)]
 
 mod bits;

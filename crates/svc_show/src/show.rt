@@ -80,9 +80,9 @@ fn write_rows(recorder: &Recorder, named: &[Named], rows: &mut Vec<u8>) -> Resul
     write_machine(machine, named, rows)
 }
 
-/// The text of the machine where a history leads: how many entries it has, the tasks committed, the entries that are due and
-/// to be guessed, the ending, and a row for each active task, oldest first, for each valid line, by unit and then word, for
-/// each spilled word, and for each word that has a valid line or is spilled.
+/// The text of the machine where a history leads: how many entries it has, the tasks committed, the entries that are
+/// due and to be guessed, the ending, and a row for each active task, oldest first, for each valid line, by unit and
+/// then word, for each spilled word, and for each word that has a valid line or is spilled.
 ///
 /// Only words that an entry names can be in a line or spilled, so no other word is looked up.
 ///
