@@ -7,13 +7,11 @@ use Rattle.svc_draft.specs.declared.statement.Statement.{Statement}
 use Rattle.svc_draft.specs.declared.statement.Statement.TheVariants as say
 use Rattle.svc_draft.specs.Options.{◌>>=◌}
 use Rattle.svc_operands.specs.Characters.{is_from_to, opens, past_spaces, past, found, name_at, past_name, behind, value_of}
-use Rattle.svc_instructions.specs.Instructions.{instruction_at}
+use Rattle.svc_instructions.specs.Statements.{instruction_at}
 use Rattle.svc_draft.specs.Layouts.{Layout}
 use Rattle.svc_asm.specs.declared.passed.Passed.{Passed}
 use Rattle.svc_asm.specs.declared.passed.Passed.TheVariants as passed
 use Rattle.svc_asm.specs.Sections.{begins_data, section_named, is_passed}
-use Rattle.svc_instructions.specs.Couples.{couple_named, couple_at}
-use Rattle.svc_instructions.specs.Relative.{relative_named}
 use Rattle.svc_asm.specs.Blanks.{blank_named, blank_at}
 use Rattle.svc_operands.specs.Operands.{Read, first_register_at, number_at}
 use Rattle.svc_operands.specs.Values.{value_at}
@@ -115,23 +113,10 @@ directive_at d name text =
     if bytes_eq name (codes ".svc_register") then setting_at d text else
     other_at name text
 
-unfoldable pub alone_at : Layout → List ℕ → List ℕ → Read Statement
-alone_at d name text = do
-  instr ← instruction_at d name text
-  Some (say.Instruction instr.0, instr.1)
-
--- an auipc with %pcrel_hi, or another instruction
-unfoldable pub single_at : Layout → List ℕ → List ℕ → Read Statement
-single_at d name text = found (relative_named d name text) (λ s. Some s) (alone_at d name text)
-
--- a name that stands for two instructions, or one instruction
-unfoldable pub as_statement : Layout → List ℕ → List ℕ → Read Statement
-as_statement d name text = found (couple_named name) (λ c. couple_at d c text) (single_at d name text)
-
 -- what a name and what follows it say: a directive's name begins with a dot
 abbrev pub named : Layout → List ℕ → List ℕ → Read Statement
 named d [] text = Some (say.Nothing, text)
-named d (c ∷ name) text = if c == 46 then directive_at d (c ∷ name) text else as_statement d (c ∷ name) text
+named d (c ∷ name) text = if c == 46 then directive_at d (c ∷ name) text else instruction_at d (c ∷ name) text
 
 unfoldable pub statement_at : Layout → List ℕ → Read Statement
 statement_at d text = named d (name_at text) (past_name text)

@@ -4,14 +4,14 @@ ghost use Rattle.std.specs.Prelude.{◌≡◌, option_map};
 ghost use Rattle.svc_operands.specs.Characters.{past};
 ghost use Rattle.svc_draft.specs.Layouts.{layout_of};
 ghost use Rattle.svc_operands.specs.Reading.{Gives};
-ghost use Rattle.svc_asm.specs.Statements.{word_at, start_at, limit_at, known_version, version_at, limited_entry_at, entry_at, setting_at, section_at, other_at, directive_at, alone_at, single_at, as_statement, statement_at, is_inside, end_at, ended_at, is_label, local_with, label_with, line_at};
+ghost use Rattle.svc_asm.specs.Statements.{word_at, start_at, limit_at, known_version, version_at, limited_entry_at, entry_at, setting_at, section_at, other_at, directive_at, statement_at, is_inside, end_at, ended_at, is_label, local_with, label_with, line_at};
 
 use crate::blanks::{blank_named, read_blank};
 use crate::passed::skip_rest;
 use crate::sections::{begins_data, is_passed, section_named};
 use svc_draft::{Draft, Statement};
 use svc_image::Version;
-use svc_instructions::{couple_named, read_couple, read_instruction, split_relative};
+use svc_instructions::read_instruction;
 use svc_operands::{
     Unread, Wanted, decimal_of, is_word, read_first_register, read_number, read_value, skip_spaces,
     split_name, stopped_at, stopped_at_name,
@@ -174,48 +174,6 @@ fn read_directive<'a>(
     read_other(name, text)
 }
 
-#[tactic(auto, unfolding(crate::specs::Statements::alone_at))]
-fn read_alone<'a>(
-    draft: &Draft,
-    name: &[u8],
-    text: &'a [u8],
-) -> Result<(Statement, &'a [u8]), Unread>
-    ensures { Gives (λ x. (x.0, x.1.now)) result (alone_at (layout_of draft.now) name.now text.now) }
-{
-    let (instr, rest) = read_instruction(draft, name, text)?;
-    Ok((Statement::Instruction(instr), rest))
-}
-
-// `auipc` with `%pcrel_hi`, or another instruction.
-#[tactic(auto, unfolding(crate::specs::Statements::single_at))]
-fn read_single<'a>(
-    draft: &Draft,
-    name: &[u8],
-    text: &'a [u8],
-) -> Result<(Statement, &'a [u8]), Unread>
-    ensures { Gives (λ x. (x.0, x.1.now)) result (single_at (layout_of draft.now) name.now text.now) }
-{
-    match split_relative(draft, name, text) {
-        Some(read) => Ok(read),
-        None => read_alone(draft, name, text),
-    }
-}
-
-// A name that stands for two instructions, or one instruction.
-#[tactic(auto, unfolding(crate::specs::Statements::as_statement))]
-fn read_as_statement<'a>(
-    draft: &Draft,
-    name: &[u8],
-    text: &'a [u8],
-) -> Result<(Statement, &'a [u8]), Unread>
-    ensures { Gives (λ x. (x.0, x.1.now)) result (as_statement (layout_of draft.now) name.now text.now) }
-{
-    if let Some(couple) = couple_named(name) {
-        return read_couple(draft, couple, text);
-    }
-    read_single(draft, name, text)
-}
-
 #[tactic(auto, unfolding(crate::specs::Statements::statement_at))]
 fn read_statement<'a>(draft: &Draft, text: &'a [u8]) -> Result<(Statement, &'a [u8]), Unread>
     ensures { Gives (λ x. (x.0, x.1.now)) result (statement_at (layout_of draft.now) text.now) }
@@ -224,7 +182,7 @@ fn read_statement<'a>(draft: &Draft, text: &'a [u8]) -> Result<(Statement, &'a [
     match name {
         [] => Ok((Statement::Nothing, rest)),
         [b'.', ..] => read_directive(draft, name, rest),
-        _ => read_as_statement(draft, name, rest),
+        _ => read_instruction(draft, name, rest),
     }
 }
 

@@ -2,7 +2,7 @@
 
 use crate::section::{Section, Spot};
 use svc_image::Version;
-use svc_rv32i::{Instr, Register};
+use svc_rv32i::Register;
 
 /// How many bytes a number takes.
 #[derive(Clone, Copy)]
@@ -47,8 +47,8 @@ pub enum Statement {
     Nothing,
     /// A name and a colon: what follows stands at the name's address.
     Label,
-    /// An instruction.
-    Instruction(Instr),
+    /// An instruction, as its word.
+    Instruction(u32),
     /// `.word N`: a word of the section.
     Word(u32),
     /// `.text`: what follows is text.
@@ -82,10 +82,10 @@ pub enum Statement {
     /// A name, and the size and the alignment of the zeros in `.bss` that it names: the end of
     /// `.comm NAME, SIZE, ALIGNMENT`.
     Common(u32, u32),
-    /// Two instructions that one name stands for, as `call`.
-    Pair(Instr, Instr),
+    /// Two instructions that one name stands for, as `call`, by their words.
+    Pair(u32, u32),
     /// A number and a colon: the next local label of this number.
     Local(u32),
     /// `auipc` with `%pcrel_hi(VALUE)`, and how far it is to the value, whose low part `%pcrel_lo` names by its label.
-    Relative(Instr, u32),
+    Relative(u32, u32),
 }

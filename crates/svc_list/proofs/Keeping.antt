@@ -106,7 +106,7 @@ register_keeps n r v d h = unless_keeps n (r.number == 0) (Some (record d { regi
 pub line_keeps : (n : Next) (s : Statement) (d : Layout) → HasText s → d.next ≡ n → Keeps n (after [] s d)
 line_keeps n say.Nothing d h k = k
 line_keeps n say.Label d h k = absurd h
-line_keeps n (say.Instruction instr) d h k = code_keeps n d.section (word_of instr) d k
+line_keeps n (say.Instruction w) d h k = absurd h
 line_keeps n (say.Word w) d h k = value_keeps n w d k
 line_keeps n say.Text d h k = k
 line_keeps n say.Data d h k = k

@@ -27,6 +27,14 @@ first_register_at text = do
   rest ← mark_at 44 r.1
   Some (r.0, rest)
 
+-- a register in parentheses
+unfoldable pub base_at : List ℕ → Read Register
+base_at text = do
+  inside ← mark_at 40 text
+  r ← register_at inside
+  rest ← mark_at 41 r.1
+  Some (r.0, rest)
+
 -- a number, or a character as one
 unfoldable pub number_at : List ℕ → Read ℕ
 number_at text = found (number_of (name_at text)) (λ n. Some (n, past_name text)) (character_at text)
