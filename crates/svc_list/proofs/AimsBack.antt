@@ -1,13 +1,12 @@
 -- A branch or a jump is read back from its target's label, in the second pass; in the first one it leads nowhere yet.
-use Rattle.std.proofs.Common.{◌≡◌, ℕ, suc, ◌+◌, ◌*◌, ◌-◌, ◌<◌, ◌≤◌, Bool, true, false, if◌then◌else◌, nat_lt, nat_le, List, ◌∷◌, ◌++◌, Option, Some, None, inl, inr, refl, ap, sym, ◌∙◌, arith, codes}
+use Rattle.std.proofs.Common.{◌≡◌, ℕ, suc, ◌+◌, ◌*◌, ◌-◌, ◌<◌, ◌≤◌, Bool, true, false, if◌then◌else◌, nat_lt, nat_le, List, ◌∷◌, ◌++◌, Option, Some, None, inl, inr, refl, ap, sym, ◌∙◌, arith}
 use Rattle.std.proofs.lemmas.Bool.{le-leb, lt-leb, cases_lt}
-use Rattle.std.proofs.lemmas.List.{append_assoc}
 use Rattle.svc_rv32i.specs.declared.instr.Short.{Short}
 use Rattle.svc_rv32i.specs.declared.instr.Long.{Long}
 use Rattle.svc_rv32i.specs.Meaning.{short, long}
 use Rattle.svc_operands.specs.declared.operands.Signed.{Signed}
 use Rattle.svc_draft.specs.Layouts.{Layout, here, address_of}
-use Rattle.svc_operands.specs.Characters.{is_name, past_blanks, past, name_at, number_of, value_on, push_digit, digit, character_at}
+use Rattle.svc_operands.specs.Characters.{past_blanks, past, name_at, number_of, value_on, push_digit, digit, character_at}
 use Rattle.svc_operands.specs.References.{reference_named}
 use Rattle.svc_operands.specs.Operands.{number_at, distance, branch_of, short_of, jump_of}
 use Rattle.svc_operands.specs.Values.{place_of, place_at, plain_term_at, term_at, value_at}

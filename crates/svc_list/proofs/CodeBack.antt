@@ -1,5 +1,5 @@
 -- The lines of the text make its words, its entries and its labels, in both passes.
-use Rattle.std.proofs.Common.{◌≡◌, ℕ, suc, ◌+◌, ◌*◌, ◌/◌, ◌%◌, ◌^◌, ◌<◌, ◌≤◌, ◌⊎◌, inl, inr, Bool, true, false, ◌==◌, ◌&&◌, nat_lt, List, [], ◌∷◌, ◌++◌, length, Option, Some, None, refl, ap, sym, ◌∙◌, subst, arith, if◌then◌else◌, codes}
+use Rattle.std.proofs.Common.{◌≡◌, ℕ, suc, ◌+◌, ◌*◌, ◌/◌, ◌%◌, ◌^◌, ◌<◌, ◌≤◌, ◌⊎◌, inl, inr, Bool, true, false, ◌==◌, ◌&&◌, nat_lt, List, [], ◌∷◌, ◌++◌, length, Option, Some, None, refl, ap, sym, ◌∙◌, subst, arith, if◌then◌else◌}
 use Rattle.std.specs.List.{AllByRecursion}
 use Rattle.std.specs.Str.{bytes_eq}
 use Rattle.std.specs.Map.{update}
@@ -10,13 +10,13 @@ use Rattle.svc_draft.specs.declared.section.Section.TheVariants as section
 use Rattle.svc_draft.specs.declared.statement.Next.TheVariants as go
 use Rattle.svc_draft.specs.declared.statement.Statement.TheVariants as say
 use Rattle.svc_draft.specs.Layouts.{Layout, Names, place, here, address_of, spot_here, with_symbol, with_word, after}
-use Rattle.svc_operands.specs.Characters.{name_at, past_name, behind, found}
+use Rattle.svc_operands.specs.Characters.{name_at, found}
 use Rattle.svc_instructions.specs.declared.table.Part.{Part}
 use Rattle.svc_instructions.specs.declared.table.Row.{Row}
 use Rattle.svc_instructions.specs.Instructions.{row_of}
 use Rattle.svc_asm.specs.Statements.{statement_at, line_at}
 use Rattle.svc_list.specs.Listings.{HasText, statement_text, label_text, row_text, code_text, word_note, Line, Says, Labels, Codes, bare, line_of, text_of, led_along, placed, target_by, target_of, coded, labels, code}
-use Rattle.svc_list.proofs.NamesBack.{stops, Ends}
+use Rattle.svc_list.proofs.NamesBack.{Ends}
 use Rattle.svc_list.proofs.LinesBack.{Trails, three, unlabelled, next_back, ended_back}
 use Rattle.svc_list.proofs.NotesBack.{bare_ends, word_ends}
 use Rattle.svc_list.proofs.LabelsBack.{label_apart, label_same, colon_name, label_back, empty_back, text_spot, spot_is, label_found, label_again}

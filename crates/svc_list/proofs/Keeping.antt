@@ -1,7 +1,6 @@
 -- A line of a listing leaves what is read next: a line.
 use Rattle.std.proofs.Common.{◌≡◌, ℕ, ◌*◌, ◌-◌, ◌%◌, Bool, true, false, ◌==◌, nat_lt, nat_le, List, [], ◌∷◌, ◌++◌, length, Option, Some, None, subst, if◌then◌else◌, slice_set}
 use Rattle.svc_rv32i.specs.declared.instr.Register.{Register}
-use Rattle.svc_rv32i.specs.Words.{word_of}
 use Rattle.svc_image.specs.declared.version.Version.{Version}
 use Rattle.svc_image.specs.declared.version.Version.TheVariants as version
 use Rattle.svc_draft.specs.declared.section.Section.{Section}

@@ -1,7 +1,7 @@
 -- Each instruction but FENCE is of a row.
 use Rattle.std.proofs.Common.{◌≡◌, ℕ, zero, suc, ◌+◌, ◌*◌, ◌/◌, ◌%◌, ◌^◌, ◌<◌, Bool, true, false, ◌==◌, List, [], ◌∷◌, Some, None, slice_get, refl, ap, sym, ◌∙◌, arith, inl, inr}
 use Rattle.std.specs.List.{find}
-use Rattle.std.proofs.lemmas.Bool.{eq-eqb, ne_eqb, cases_Bool}
+use Rattle.std.proofs.lemmas.Bool.{eq-eqb, cases_Bool}
 use Rattle.svc_rv32i.specs.declared.instr.Register.{Register}
 use Rattle.svc_rv32i.specs.declared.instr.Operation.{Operation}
 use Rattle.svc_rv32i.specs.declared.instr.Operation.TheVariants as op
@@ -23,7 +23,7 @@ use Rattle.svc_rv32i.specs.declared.instr.Instr.TheVariants as i
 use Rattle.svc_rv32i.specs.Words.{r_type, i_type, s_type, b_type, u_type, j_type, word_of}
 use Rattle.svc_instructions.specs.declared.table.Row.{Row}
 use Rattle.svc_instructions.specs.declared.table.TheConstants.{ROWS}
-use Rattle.svc_instructions.specs.Instructions.{with_funct3, with_funct7, fixed_by, fixed, is_of, row_of}
+use Rattle.svc_instructions.specs.Instructions.{with_funct3, fixed_by, fixed, is_of, row_of}
 use Rattle.svc_list.specs.Listings.{IsShown}
 
 -- what passes a test isn't missed

@@ -1,24 +1,23 @@
 -- What is written of a word by its row is read back, by its numbers or by the label that it leads to.
-use Rattle.std.proofs.Common.{◌≡◌, ℕ, suc, ◌%◌, ◌^◌, ◌<◌, ◌⊎◌, Bool, true, false, not, ◌&&◌, ◌==◌, nat_lt, List, [], ◌∷◌, ◌++◌, Option, Some, None, refl, ap, sym, ◌∙◌, arith, decimal, inl, inr, subst, if◌then◌else◌, codes}
+use Rattle.std.proofs.Common.{◌≡◌, ℕ, suc, ◌%◌, ◌^◌, ◌<◌, ◌⊎◌, Bool, true, false, List, [], ◌∷◌, ◌++◌, Option, Some, None, refl, ap, sym, ◌∙◌, arith, decimal, inl, inr, subst, if◌then◌else◌, codes}
 use Rattle.std.specs.Prelude.{option_map}
 use Rattle.std.specs.List.{AllByRecursion, find}
 use Rattle.std.specs.Str.{bytes_eq}
-use Rattle.std.proofs.lemmas.Bool.{eqb-true, cases_lt, cases_Bool, and_parts, le-leb, lt-leb}
+use Rattle.std.proofs.lemmas.Bool.{eqb-true, cases_lt, cases_Bool, le-leb, lt-leb}
 use Rattle.std.proofs.lemmas.List.{append_assoc, append-nil}
 use Rattle.svc_rv32i.specs.Meaning.{register, short, long}
-use Rattle.svc_draft.specs.declared.statement.Statement.{Statement}
 use Rattle.svc_draft.specs.declared.statement.Statement.TheVariants as say
 use Rattle.svc_draft.specs.Options.{◌>>=◌}
 use Rattle.svc_draft.specs.Layouts.{Layout, here, address_of}
-use Rattle.svc_operands.specs.Characters.{is_name, past_blanks, is_over, name_at, past_name, mark_at, behind, found}
+use Rattle.svc_operands.specs.Characters.{is_name, past_blanks, name_at, past_name, behind, found}
 use Rattle.svc_operands.specs.Names.{padded}
-use Rattle.svc_operands.specs.Operands.{register_at, first_register_at, base_at, amount_at, amount}
+use Rattle.svc_operands.specs.Operands.{first_register_at, base_at, amount_at, amount}
 use Rattle.svc_operands.specs.Targets.{reach, branch_at, jump_at}
 use Rattle.svc_instructions.specs.declared.table.Part.{Part}
 use Rattle.svc_instructions.specs.declared.table.Part.TheVariants as part
 use Rattle.svc_instructions.specs.declared.table.Row.{Row}
 use Rattle.svc_instructions.specs.declared.table.TheConstants.{ROWS, ALIASES, COUPLES}
-use Rattle.svc_instructions.specs.Instructions.{taken, part_at, joined, parts_at, over, row_at, rows_at, either_at, alone_at, fixed, is_of, row_of}
+use Rattle.svc_instructions.specs.Instructions.{taken, part_at, joined, parts_at, over, row_at, rows_at, alone_at, fixed, is_of, row_of}
 use Rattle.svc_instructions.specs.Couples.{has_name, couple_at, set_at, relative_upper_at}
 use Rattle.svc_instructions.specs.Statements.{relative_named, single_at, lettered_at, instruction_at}
 use Rattle.svc_asm.specs.Statements.{statement_at}
