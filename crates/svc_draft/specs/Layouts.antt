@@ -310,8 +310,6 @@ after name say.Nothing d = Some d
 after name say.Label d = with_symbol name (spot_here d) d
 after name (say.Instruction w) d = with_instruction w d
 after name (say.Word n) d = with_value wide.Word n d
-after name say.Text d = Some (record d { section = section.Text })
-after name say.Data d = Some (record d { section = section.Data })
 after name (say.Version v) d = with_version v d
 after name say.ReadOnly d = with_read_only d
 after name (say.Entry limit) d = with_entry limit d

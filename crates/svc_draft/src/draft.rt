@@ -270,8 +270,6 @@ impl<'a> Draft<'a> {
             Statement::Label => return self.set_symbol(name, self.spot_here()),
             Statement::Instruction(word) => return self.push_instruction(word),
             Statement::Word(word) => return self.push_value(Width::Word, word),
-            Statement::Text => self.section = Section::Text,
-            Statement::Data => self.section = Section::Data,
             Statement::Version(version) => return self.set_version(version),
             Statement::ReadOnly => return self.set_read_only(),
             Statement::Entry(limit) => return self.push_entry(limit),

@@ -51,10 +51,6 @@ pub enum Statement {
     Instruction(u32),
     /// `.word N`: a word of the section.
     Word(u32),
-    /// `.text`: what follows is text.
-    Text,
-    /// `.data`: what follows is data.
-    Data,
     /// `.svc_version 1` or `.svc_version 2`: the version of the image's file.
     Version(Version),
     /// `.svc_readonly`: the data up to here is read-only.
@@ -67,7 +63,7 @@ pub enum Statement {
     Limit(u32),
     /// `.svc_register xN, VALUE`: the value with which every task finds the register.
     Register(Register, u32),
-    /// `.rodata` and its like: what follows stands in this section.
+    /// `.text`, `.data` and their like: what follows stands in this section.
     Section(Section),
     /// `.zero N`: N zero bytes of the section.
     Zeros(u32),

@@ -6,6 +6,7 @@ use Rattle.svc_rv32i.specs.declared.instr.Register.{Register}
 use Rattle.svc_image.specs.declared.version.Version.{Version}
 use Rattle.svc_image.specs.declared.version.Version.TheVariants as version
 use Rattle.svc_image.specs.Version.{version_number}
+use Rattle.svc_draft.specs.declared.section.Section.TheVariants as section
 use Rattle.svc_draft.specs.declared.statement.Next.{Next}
 use Rattle.svc_draft.specs.declared.statement.Next.TheVariants as go
 use Rattle.svc_draft.specs.declared.statement.Statement.{Statement}
@@ -13,7 +14,9 @@ use Rattle.svc_draft.specs.declared.statement.Statement.TheVariants as say
 use Rattle.svc_operands.specs.Characters.{is_name, past, past_name, behind}
 use Rattle.svc_draft.specs.Layouts.{Layout}
 use Rattle.svc_instructions.specs.Statements.{instruction_at}
-use Rattle.svc_asm.specs.Statements.{word_at, start_at, limit_at, version_at, limited_entry_at, entry_before, entry_at, setting_at, directive_at, statement_at, ended_at, line_at}
+use Rattle.svc_operands.specs.Names.{padded}
+use Rattle.svc_asm.specs.Directives.{said_by}
+use Rattle.svc_asm.specs.Statements.{said_at, word_at, start_at, limit_at, version_at, limited_entry_at, entry_before, entry_at, setting_at, directive_at, statement_at, ended_at, line_at}
 use Rattle.svc_asm.specs.DataLines.{first_at, part_at, next_at}
 use Rattle.svc_list.specs.Listings.{first_text, statement_text, HasText, Line, Says, Labels, Codes, Starts, line_of}
 use Rattle.svc_list.proofs.NamesBack.{all_dense, stops, Ends, at_name, at_rest, no_colon}
@@ -87,13 +90,11 @@ setting_back d r n rest tail h e =
     ∙ rw (first_back r (32 ∷ (decimal n ++ rest)), spaced_value_back d n rest tail h e) refl
 
 pub statement_back : (d : Layout) (s : Statement) (rest tail : List ℕ) → HasText s → Ends rest tail → statement_at d (statement_text s ++ rest) ≡ Some (s, rest)
-unfolding statement_text is_name directive_at
+unfolding statement_text is_name directive_at said_by padded said_at
 statement_back d say.Nothing rest tail h e = absurd h
 statement_back d say.Label rest tail h e = absurd h
 statement_back d (say.Instruction w) rest tail h e = absurd h
 statement_back d (say.Word n) rest tail h e = by_directive d (codes "word") (32 ∷ (decimal n ++ rest)) refl refl ∙ word_back d n rest tail h e
-statement_back d say.Text rest tail h e = by_directive d (codes "text") rest refl e.stop
-statement_back d say.Data rest tail h e = by_directive d (codes "data") rest refl e.stop
 statement_back d (say.Version v) rest tail h e = by_directive d (codes "svc_version") (32 ∷ (decimal (version_number v) ++ rest)) refl refl ∙ version_back v rest e.stop
 statement_back d say.ReadOnly rest tail h e = by_directive d (codes "svc_readonly") rest refl e.stop
 statement_back d (say.Entry None) rest tail h e = by_directive d (codes "svc_entry") rest refl e.stop ∙ bare_entry_back rest tail e
@@ -102,7 +103,10 @@ statement_back d (say.Start n) rest tail h e = by_directive d (codes "svc_start"
 statement_back d (say.Limit n) rest tail h e = by_directive d (codes "svc_limit") (32 ∷ (decimal n ++ rest)) refl refl ∙ limit_back n rest h e.stop
 statement_back d (say.Register r n) rest tail h e = by_directive d (codes "svc_register") ((first_text r ++ (32 ∷ decimal n)) ++ rest) refl refl ∙ setting_back d r n rest tail h e
 statement_back d (say.Pair i j) rest tail h e = absurd h
-statement_back d (say.Section s) rest tail h e = absurd h
+statement_back d (say.Section section.Text) rest tail h e = by_directive d (codes "text") rest refl e.stop
+statement_back d (say.Section section.Rodata) rest tail h e = by_directive d (codes "rodata") rest refl e.stop
+statement_back d (say.Section section.Data) rest tail h e = by_directive d (codes "data") rest refl e.stop
+statement_back d (say.Section section.Bss) rest tail h e = by_directive d (codes "bss") rest refl e.stop
 statement_back d (say.Zeros n) rest tail h e = absurd h
 statement_back d (say.Align step) rest tail h e = absurd h
 statement_back d (say.Open n) rest tail h e = absurd h
@@ -136,8 +140,6 @@ statement_stops say.Nothing rest h k = absurd h
 statement_stops say.Label rest h k = absurd h
 statement_stops (say.Instruction w) rest h k = absurd h
 statement_stops (say.Word n) rest h k = directive_stops (codes "word") (32 ∷ (decimal n ++ rest)) refl refl
-statement_stops say.Text rest h k = directive_stops (codes "text") rest refl k
-statement_stops say.Data rest h k = directive_stops (codes "data") rest refl k
 statement_stops (say.Version v) rest h k = directive_stops (codes "svc_version") (32 ∷ (decimal (version_number v) ++ rest)) refl refl
 statement_stops say.ReadOnly rest h k = directive_stops (codes "svc_readonly") rest refl k
 statement_stops (say.Entry None) rest h k = directive_stops (codes "svc_entry") rest refl k
@@ -146,7 +148,10 @@ statement_stops (say.Start n) rest h k = directive_stops (codes "svc_start") (32
 statement_stops (say.Limit n) rest h k = directive_stops (codes "svc_limit") (32 ∷ (decimal n ++ rest)) refl refl
 statement_stops (say.Register r n) rest h k = directive_stops (codes "svc_register") ((first_text r ++ (32 ∷ decimal n)) ++ rest) refl refl
 statement_stops (say.Pair i j) rest h k = absurd h
-statement_stops (say.Section s) rest h k = absurd h
+statement_stops (say.Section section.Text) rest h k = directive_stops (codes "text") rest refl k
+statement_stops (say.Section section.Rodata) rest h k = directive_stops (codes "rodata") rest refl k
+statement_stops (say.Section section.Data) rest h k = directive_stops (codes "data") rest refl k
+statement_stops (say.Section section.Bss) rest h k = directive_stops (codes "bss") rest refl k
 statement_stops (say.Zeros n) rest h k = absurd h
 statement_stops (say.Align step) rest h k = absurd h
 statement_stops (say.Open n) rest h k = absurd h

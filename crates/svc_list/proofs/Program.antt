@@ -23,7 +23,9 @@ use Rattle.svc_draft.specs.Layouts.{Layout, Names, no_names, zeros, address_of, 
 use Rattle.svc_draft.proofs.Wordwise.{length-bytes_of_words}
 use Rattle.svc_operands.specs.Characters.{is_name, past_name, behind}
 use Rattle.svc_operands.specs.Values.{value_at}
-use Rattle.svc_asm.specs.Statements.{start_at, directive_at, statement_at, line_at}
+use Rattle.svc_operands.specs.Names.{padded}
+use Rattle.svc_asm.specs.Directives.{said_by}
+use Rattle.svc_asm.specs.Statements.{said_at, start_at, directive_at, statement_at, line_at}
 use Rattle.svc_asm.specs.Programs.{IsProgramOf}
 use Rattle.svc_list.specs.Listings.{label_text, HasText, Line, Starts, bare, line_of, text_of, led_along, target_by, target_of, is_at, is_target, is_labelled, setting, settings, own_limit, marks, code, data_lines, all_data, head_lines, listing_of}
 use Rattle.svc_list.proofs.LinesBack.{IsRead, by_directive, directive_stops, unlabelled, next_back, ended_back}
@@ -155,7 +157,7 @@ start_value : (d : Layout) (a x : ℕ) (tail : List ℕ) → address_of d (label
 start_value d a x tail e = label_value d a x (10 ∷ tail) tail (bare_ends tail) e
 
 start_said : (d : Layout) (a x : ℕ) (tail : List ℕ) → address_of d (label_text a) ≡ Some x → statement_at d (codes ".svc_start " ++ (label_text a ++ (10 ∷ tail))) ≡ Some (say.Start x, 10 ∷ tail)
-unfolding is_name directive_at start_at
+unfolding is_name directive_at said_by padded said_at start_at
 start_said d a x tail e = by_directive d (codes "svc_start") (32 ∷ (label_text a ++ (10 ∷ tail))) refl refl ∙ rw (start_value d a x tail e) refl
 
 start_stops : (a : ℕ) (tail : List ℕ) → behind 58 (past_name (codes ".svc_start " ++ (label_text a ++ (10 ∷ tail)))) ≡ None
@@ -261,12 +263,12 @@ pass_leads names known from img sound begins good =
     let first = head_leads v limit img.start names known from (first_limit img.limits sound.limits_fit (omega (arith, sound.limits_each, sound.entries_some))) begins in
     let second = lines_lead (settings 1 img.registers) d₁ d₂ refl (settings_text 1 img.registers (fits img.registers sound.registers_fit)) (settings_laid d₁ [] img.registers zeros 1 refl (sym sound.registers_all) (are_zeros zeros refl) (omega (arith, sound.registers_all))) in
     let third = code_leads known count labelled sound.text_few ms img.text 0 d₂ (omega arith) (fits img.text sound.text_fits) (marks_text v img.entries img.limits limits) placed (record { text = refl; words = refl; pass = refl; line = refl }) (omega (arith, marks_few v img.entries img.limits, sound.entries_few)) (λ k above. refl) good (image_labels img) in
-    let fourth = line_leads say.Data [] d₃ d₄ refl tt bare_ends refl in
+    let fourth = line_leads (say.Section section.Data) [] d₃ d₄ refl tt bare_ends refl in
     let fifth = lines_lead (all_data v img.read_only img.words) d₄ d₅ refl (all_data_text v img.read_only img.words (fits img.words sound.words_fit)) (all_data_laid v img.read_only img.words d₄ refl refl (refl, refl) refl refl refl sound.read_only_few sound.words_few) in
     let body = text_of (all_data v img.read_only img.words) in
     let words = text_of (code count labelled 0 ms img.text) in
     let sets = text_of (settings 1 img.registers) in
-    let mark = line_of (bare say.Data) in
+    let mark = line_of (bare (say.Section section.Data)) in
     let whole = leads_both (text_of (head_lines v limit img.start)) (sets ++ (words ++ (mark ++ body))) d₀ d₁ d₅ first
     (leads_both sets (words ++ (mark ++ body)) d₁ d₂ d₅ second (leads_both words (mark ++ body) d₂ d₃ d₅ third (leads_both mark body d₃ d₄ d₅ fourth fifth))) in
     leads_at (listing_of img) d₀ d₅ (passed names known from img)

@@ -11,6 +11,8 @@ use Rattle.svc_image.specs.declared.version.Version.{Version}
 use Rattle.svc_image.specs.declared.version.Version.TheVariants as version
 use Rattle.svc_image.specs.Version.{version_number}
 use Rattle.svc_image.specs.Image.{Image}
+use Rattle.svc_draft.specs.declared.section.Section.{Section}
+use Rattle.svc_draft.specs.declared.section.Section.TheVariants as section
 use Rattle.svc_draft.specs.declared.statement.Statement.{Statement}
 use Rattle.svc_draft.specs.declared.statement.Statement.TheVariants as say
 use Rattle.svc_operands.specs.Characters.{found, name_at}
@@ -99,14 +101,19 @@ abbrev pub own_text : Option ℕ → List ℕ
 own_text None = []
 own_text (Some n) = 32 ∷ decimal n
 
+-- a section, by its own name
+abbrev pub section_text : Section → List ℕ
+section_text section.Text = codes ".text"
+section_text section.Rodata = codes ".rodata"
+section_text section.Data = codes ".data"
+section_text section.Bss = codes ".bss"
+
 -- what a line says, as text
 unfoldable pub statement_text : Statement → List ℕ
 statement_text say.Nothing = []
 statement_text say.Label = []
 statement_text (say.Instruction w) = []
 statement_text (say.Word n) = codes ".word " ++ decimal n
-statement_text say.Text = codes ".text"
-statement_text say.Data = codes ".data"
 statement_text (say.Version v) = codes ".svc_version " ++ decimal (version_number v)
 statement_text say.ReadOnly = codes ".svc_readonly"
 statement_text (say.Entry limit) = codes ".svc_entry" ++ own_text limit
@@ -114,7 +121,7 @@ statement_text (say.Start n) = codes ".svc_start " ++ decimal n
 statement_text (say.Limit n) = codes ".svc_limit " ++ decimal n
 statement_text (say.Register r n) = codes ".svc_register" ++ (first_text r ++ (32 ∷ decimal n))
 statement_text (say.Pair i j) = []
-statement_text (say.Section s) = []
+statement_text (say.Section s) = section_text s
 statement_text (say.Zeros n) = []
 statement_text (say.Align step) = []
 statement_text (say.Open n) = []
@@ -135,7 +142,6 @@ HasText (say.Start n) = n < 2 ^ 32
 HasText (say.Limit n) = n < 2 ^ 32
 HasText (say.Register r n) = n < 2 ^ 32
 HasText (say.Pair i j) = ⊥
-HasText (say.Section s) = ⊥
 HasText (say.Zeros n) = ⊥
 HasText (say.Align step) = ⊥
 HasText (say.Open n) = ⊥
@@ -269,7 +275,7 @@ head_lines version.Two limit start = bare (say.Version version.Two) ∷ Starts s
 unfoldable pub lines_of : Image → List Line
 lines_of img =
     head_lines img.version (slice_index img.limits 0) img.start ++ (settings 1 img.registers
-    ++ (code (length img.text) (is_labelled img.entries img.text) 0 (marks img.version img.entries img.limits) img.text ++ (bare say.Data ∷ all_data img.version img.read_only img.words)))
+    ++ (code (length img.text) (is_labelled img.entries img.text) 0 (marks img.version img.entries img.limits) img.text ++ (bare (say.Section section.Data) ∷ all_data img.version img.read_only img.words)))
 
 -- the listing of an image
 unfoldable pub listing_of : Image → List ℕ

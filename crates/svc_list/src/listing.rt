@@ -2,12 +2,12 @@
 
 ghost use Rattle.std.specs.Prelude.{Bool, false, slice_index_or, [], ◌≡◌, ℕ, suc, ◌++◌, ◌∷◌, List, codes, ◌<◌, ◌≤◌, ◌*◌, ◌^◌, length, slice_index, decimal, IfOk, IfSome, IfNone, OnOk};
 ghost use Rattle.svc_asm.specs.Programs.{IsProgramOf};
-ghost use Rattle.svc_list.specs.Listings.{first_text, own_text, statement_text, address_note, word_note, Starts, bare, line_of, text_of, coded, datum, labels, setting, settings, own_limit, marks, code, data_lines, all_data, head_lines, listing_of};
+ghost use Rattle.svc_list.specs.Listings.{first_text, own_text, section_text, statement_text, address_note, word_note, Starts, bare, line_of, text_of, coded, datum, labels, setting, settings, own_limit, marks, code, data_lines, all_data, head_lines, listing_of};
 
 use crate::labels::{labels_of, target_by};
 use crate::text::{put_hex, put_label, put_number, put_register, put_row, put_text};
 use std::alloc::{AllocError, Global};
-use svc_draft::Statement;
+use svc_draft::{Section, Statement};
 use svc_image::{Image, Version};
 use svc_instructions::row_of;
 use svc_operands::register;
@@ -51,6 +51,17 @@ fn put_setting(
     put_number(out, value)
 }
 
+fn put_section(out: &mut Vec<u8>, section: Section) -> Result<(), AllocError>
+    ensures { OnOk result (out.new.items ≡ out.old.items ++ section_text section) }
+{
+    match section {
+        Section::Text => put_text(out, ".text"),
+        Section::Rodata => put_text(out, ".rodata"),
+        Section::Data => put_text(out, ".data"),
+        Section::Bss => put_text(out, ".bss"),
+    }
+}
+
 #[tactic(auto, unfolding(crate::specs::Listings::statement_text))]
 fn put_statement(out: &mut Vec<u8>, statement: Statement) -> Result<(), AllocError>
     ensures { OnOk result (out.new.items ≡ out.old.items ++ statement_text statement) }
@@ -59,13 +70,12 @@ fn put_statement(out: &mut Vec<u8>, statement: Statement) -> Result<(), AllocErr
         // These stand in no listing, or stand there as words of the text.
         Statement::Nothing | Statement::Label => Ok(()),
         Statement::Instruction(_) | Statement::Pair(..) => Ok(()),
-        Statement::Section(_) | Statement::Zeros(_) | Statement::Align(_) => Ok(()),
+        Statement::Section(section) => put_section(out, section),
+        Statement::Zeros(_) | Statement::Align(_) => Ok(()),
         Statement::Open(_) | Statement::Value(..) => Ok(()),
         Statement::Symbol(_) | Statement::Common(..) | Statement::Local(_) => Ok(()),
         Statement::Relative(..) => Ok(()),
         Statement::Word(word) => put_numbered(out, ".word ", word),
-        Statement::Text => put_text(out, ".text"),
-        Statement::Data => put_text(out, ".data"),
         Statement::Version(version) => put_numbered(out, ".svc_version ", version.number() as u32),
         Statement::ReadOnly => put_text(out, ".svc_readonly"),
         Statement::Entry(limit) => put_entry(out, limit),
@@ -350,7 +360,7 @@ pub fn list(alloc: Global, image: &Image) -> Result<Vec<u8>, AllocError>
         &labelled,
         text,
     )?;
-    put_line(&mut out, Statement::Data)?;
+    put_line(&mut out, Statement::Section(Section::Data))?;
     put_all_data(
         &mut out,
         image.version(),
