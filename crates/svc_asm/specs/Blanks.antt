@@ -1,23 +1,11 @@
 -- Zeros, so many of them or up to an alignment.
-use Rattle.std.specs.Prelude.{ℕ, ◌^◌, nat_le, List, Option, Some, None, if◌then◌else◌, codes}
-use Rattle.std.specs.Str.{bytes_eq}
+use Rattle.std.specs.Prelude.{ℕ, ◌^◌, nat_le, List, Option, Some, None, if◌then◌else◌}
 use Rattle.svc_draft.specs.declared.statement.Statement.{Statement}
 use Rattle.svc_draft.specs.declared.statement.Statement.TheVariants as say
 use Rattle.svc_draft.specs.Options.{◌>>=◌}
 use Rattle.svc_operands.specs.Operands.{Read, number_at}
 use Rattle.svc_asm.specs.declared.blanks.Blank.{Blank}
 use Rattle.svc_asm.specs.declared.blanks.Blank.TheVariants as blank
-
--- the directives of zeros, by their names
-unfoldable pub blank_named : List ℕ → Option Blank
-blank_named name =
-    if bytes_eq name (codes ".zero") then Some blank.Zeros else
-    if bytes_eq name (codes ".space") then Some blank.Zeros else
-    if bytes_eq name (codes ".skip") then Some blank.Zeros else
-    if bytes_eq name (codes ".align") then Some blank.Power else
-    if bytes_eq name (codes ".p2align") then Some blank.Power else
-    if bytes_eq name (codes ".balign") then Some blank.Step else
-    None
 
 -- what such a directive says by its number; 2 ^ 16 is the greatest alignment by a power
 abbrev pub blank_of : Blank → ℕ → Option Statement

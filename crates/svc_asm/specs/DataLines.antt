@@ -17,29 +17,8 @@ use Rattle.svc_operands.specs.declared.operands.Signed.{Signed}
 use Rattle.svc_operands.specs.Characters.{is_from_to, past_spaces, found, name_at, past_name, mark_at, escaped}
 use Rattle.svc_operands.specs.Operands.{Read, number_at, behind_sign}
 use Rattle.svc_operands.specs.Values.{value_at}
+use Rattle.svc_asm.specs.Directives.{opened_by}
 use Rattle.svc_asm.specs.Statements.{end_at, is_label, line_at}
-
--- the directives that are read part by part
-unfoldable pub opened_by : List ℕ → Option Next
-opened_by name =
-    if bytes_eq name (codes ".word") then Some (go.Value wide.Word) else
-    if bytes_eq name (codes ".4byte") then Some (go.Value wide.Word) else
-    if bytes_eq name (codes ".half") then Some (go.Value wide.Half) else
-    if bytes_eq name (codes ".2byte") then Some (go.Value wide.Half) else
-    if bytes_eq name (codes ".short") then Some (go.Value wide.Half) else
-    if bytes_eq name (codes ".byte") then Some (go.Value wide.Byte) else
-    if bytes_eq name (codes ".set") then Some go.Symbol else
-    if bytes_eq name (codes ".equ") then Some go.Symbol else
-    if bytes_eq name (codes ".comm") then Some go.Common else
-    if bytes_eq name (codes ".lcomm") then Some go.Common else
-    None
-
-unfoldable pub string_named : List ℕ → Option Ending
-string_named name =
-    if bytes_eq name (codes ".ascii") then Some ending.Bare else
-    if bytes_eq name (codes ".asciz") then Some ending.Zero else
-    if bytes_eq name (codes ".string") then Some ending.Zero else
-    None
 
 -- what is left, of which there is some: no text ends within a list
 abbrev pub some_left : List ℕ → Option (List ℕ)
@@ -52,17 +31,18 @@ open_at n text = do
   rest ← some_left text
   Some (say.Open n, rest)
 
--- a string's opening quote
-unfoldable pub quote_at : Ending → List ℕ → Read Statement
-quote_at e text = do
-  inside ← mark_at 34 text
-  open_at (go.Character e) inside
+-- a string begins with a quote
+unfoldable pub behind_name : Next → List ℕ → Option (List ℕ)
+behind_name (go.Character e) text = mark_at 34 text
+behind_name _ text = Some text
+
+unfoldable pub begun_at : Next → List ℕ → Read Statement
+begun_at n text = do
+  rest ← behind_name n text
+  open_at n rest
 
 unfoldable pub opened_at : List ℕ → Read Statement
-opened_at text =
-    found (string_named (name_at text)) (λ e. quote_at e (past_name text)) (
-    found (opened_by (name_at text)) (λ n. open_at n (past_name text))
-    None)
+opened_at text = opened_by (name_at text) >>= (λ n. begun_at n (past_name text))
 
 -- a number that may have a minus sign, or a label's address
 unfoldable pub positive_at : Layout → List ℕ → Read Signed

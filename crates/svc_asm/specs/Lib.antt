@@ -1,4 +1,4 @@
-pub mod Sections
+pub mod Directives
 pub mod Blanks
 pub mod Statements
 pub mod DataLines

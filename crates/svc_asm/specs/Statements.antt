@@ -1,20 +1,20 @@
 -- What a line says: directives and instructions, read from their text.
-use Rattle.std.specs.Prelude.{ℕ, Bool, false, not, ◌==◌, List, [], ◌∷◌, drop, Option, Some, None, if◌then◌else◌, codes}
-use Rattle.std.specs.Str.{bytes_eq}
+use Rattle.std.specs.Prelude.{ℕ, nat_eq, Bool, false, not, ◌==◌, List, [], ◌∷◌, drop, Option, Some, None, if◌then◌else◌, codes}
+use Rattle.std.specs.List.{starts_with}
 use Rattle.svc_image.specs.declared.version.Version.{Version}
 use Rattle.svc_image.specs.declared.version.Version.TheVariants as version
 use Rattle.svc_draft.specs.declared.statement.Statement.{Statement}
 use Rattle.svc_draft.specs.declared.statement.Statement.TheVariants as say
 use Rattle.svc_draft.specs.Options.{◌>>=◌}
 use Rattle.svc_operands.specs.Characters.{is_from_to, opens, past_spaces, past, found, name_at, past_name, behind, value_of}
-use Rattle.svc_instructions.specs.Instructions.{instruction_at}
+use Rattle.svc_instructions.specs.Statements.{instruction_at}
 use Rattle.svc_draft.specs.Layouts.{Layout}
 use Rattle.svc_asm.specs.declared.passed.Passed.{Passed}
 use Rattle.svc_asm.specs.declared.passed.Passed.TheVariants as passed
-use Rattle.svc_asm.specs.Sections.{begins_data, section_named, is_passed}
-use Rattle.svc_instructions.specs.Couples.{couple_named, couple_at}
-use Rattle.svc_instructions.specs.Relative.{relative_named}
-use Rattle.svc_asm.specs.Blanks.{blank_named, blank_at}
+use Rattle.svc_asm.specs.declared.directives.Says.{Says}
+use Rattle.svc_asm.specs.declared.directives.Says.TheVariants as says
+use Rattle.svc_asm.specs.Directives.{said_by, section_by}
+use Rattle.svc_asm.specs.Blanks.{blank_at}
 use Rattle.svc_operands.specs.Operands.{Read, first_register_at, number_at}
 use Rattle.svc_operands.specs.Values.{value_at}
 
@@ -87,51 +87,35 @@ unfoldable pub past_rest : Passed → List ℕ → List ℕ
 past_rest p [] = []
 past_rest p (c ∷ rest) = found (rest_behind p c rest) (λ next. past_rest next rest) (c ∷ rest)
 
--- a section, whose name says whether it is text; flags and the like follow the name
+-- a section by its name; flags and the like follow it
 unfoldable pub section_at : List ℕ → Read Statement
 section_at text = do
-  s ← section_named (name_at text)
-  Some (s, past_rest passed.Plain (past_name text))
+  s ← section_by (name_at text)
+  Some (say.Section s, past_rest passed.Plain (past_name text))
 
--- the directives that other assemblers have
-unfoldable pub other_at : List ℕ → List ℕ → Read Statement
-other_at name text =
-    if bytes_eq name (codes ".section") then section_at text else
-    if is_passed name then Some (say.Nothing, past_rest passed.Plain text) else
-    found (begins_data name) (λ s. Some (s, text)) (
-    found (blank_named name) (λ b. blank_at b text)
-    None)
+-- what a directive says, by what it reads
+unfoldable pub said_at : Layout → Says → List ℕ → Read Statement
+said_at d (says.Section s) text = Some (say.Section s, text)
+said_at d says.NamedSection text = section_at text
+said_at d says.Word text = word_at d text
+said_at d (says.Blank b) text = blank_at b text
+said_at d says.Version text = version_at text
+said_at d says.ReadOnly text = Some (say.ReadOnly, text)
+said_at d says.Entry text = entry_at text
+said_at d says.Start text = start_at d text
+said_at d says.Limit text = limit_at text
+said_at d says.Register text = setting_at d text
+said_at d says.Passed text = Some (say.Nothing, past_rest passed.Plain text)
 
 unfoldable pub directive_at : Layout → List ℕ → List ℕ → Read Statement
 directive_at d name text =
-    if bytes_eq name (codes ".word") then word_at d text else
-    if bytes_eq name (codes ".text") then Some (say.Text, text) else
-    if bytes_eq name (codes ".data") then Some (say.Data, text) else
-    if bytes_eq name (codes ".svc_version") then version_at text else
-    if bytes_eq name (codes ".svc_readonly") then Some (say.ReadOnly, text) else
-    if bytes_eq name (codes ".svc_entry") then entry_at text else
-    if bytes_eq name (codes ".svc_start") then start_at d text else
-    if bytes_eq name (codes ".svc_limit") then limit_at text else
-    if bytes_eq name (codes ".svc_register") then setting_at d text else
-    other_at name text
-
-unfoldable pub alone_at : Layout → List ℕ → List ℕ → Read Statement
-alone_at d name text = do
-  instr ← instruction_at d name text
-  Some (say.Instruction instr.0, instr.1)
-
--- an auipc with %pcrel_hi, or another instruction
-unfoldable pub single_at : Layout → List ℕ → List ℕ → Read Statement
-single_at d name text = found (relative_named d name text) (λ s. Some s) (alone_at d name text)
-
--- a name that stands for two instructions, or one instruction
-unfoldable pub as_statement : Layout → List ℕ → List ℕ → Read Statement
-as_statement d name text = found (couple_named name) (λ c. couple_at d c text) (single_at d name text)
+    found (said_by name) (λ s. said_at d s text) (
+    if starts_with nat_eq name (codes ".cfi_") then Some (say.Nothing, past_rest passed.Plain text) else None)
 
 -- what a name and what follows it say: a directive's name begins with a dot
 abbrev pub named : Layout → List ℕ → List ℕ → Read Statement
 named d [] text = Some (say.Nothing, text)
-named d (c ∷ name) text = if c == 46 then directive_at d (c ∷ name) text else as_statement d (c ∷ name) text
+named d (c ∷ name) text = if c == 46 then directive_at d (c ∷ name) text else instruction_at d (c ∷ name) text
 
 unfoldable pub statement_at : Layout → List ℕ → Read Statement
 statement_at d text = named d (name_at text) (past_name text)

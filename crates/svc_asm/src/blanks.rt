@@ -2,10 +2,10 @@
 
 ghost use Rattle.std.specs.Prelude.{◌≡◌, ◌^◌, ◌≤◌};
 ghost use Rattle.svc_operands.specs.Reading.{Gives};
-ghost use Rattle.svc_asm.specs.Blanks.{blank_named, blank_of, blank_at};
+ghost use Rattle.svc_asm.specs.Blanks.{blank_of, blank_at};
 
 use svc_draft::Statement;
-use svc_operands::{Unread, Wanted, is_word, read_number, stopped_at};
+use svc_operands::{Unread, Wanted, read_number, stopped_at};
 
 /// How a directive tells its zeros.
 #[derive(Clone, Copy)]
@@ -16,32 +16,6 @@ pub enum Blank {
     Power,
     /// By the number that is to divide the next address.
     Step,
-}
-
-/// The directives of zeros, by their names.
-#[tactic(auto, unfolding(crate::specs::Blanks::blank_named))]
-pub fn blank_named(name: &[u8]) -> Option<Blank>
-    ensures { result ≡ blank_named name.now }
-{
-    if is_word(name, ".zero") {
-        return Some(Blank::Zeros);
-    }
-    if is_word(name, ".space") {
-        return Some(Blank::Zeros);
-    }
-    if is_word(name, ".skip") {
-        return Some(Blank::Zeros);
-    }
-    if is_word(name, ".align") {
-        return Some(Blank::Power);
-    }
-    if is_word(name, ".p2align") {
-        return Some(Blank::Power);
-    }
-    if is_word(name, ".balign") {
-        return Some(Blank::Step);
-    }
-    None
 }
 
 fn power(exponent: u32) -> u32

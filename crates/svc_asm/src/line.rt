@@ -4,16 +4,16 @@ ghost use Rattle.std.specs.Prelude.{◌≡◌, option_map};
 ghost use Rattle.svc_operands.specs.Characters.{past};
 ghost use Rattle.svc_draft.specs.Layouts.{layout_of};
 ghost use Rattle.svc_operands.specs.Reading.{Gives};
-ghost use Rattle.svc_asm.specs.Statements.{word_at, start_at, limit_at, known_version, version_at, limited_entry_at, entry_at, setting_at, section_at, other_at, directive_at, alone_at, single_at, as_statement, statement_at, is_inside, end_at, ended_at, is_label, local_with, label_with, line_at};
+ghost use Rattle.svc_asm.specs.Statements.{word_at, start_at, limit_at, known_version, version_at, limited_entry_at, entry_at, setting_at, section_at, said_at, directive_at, statement_at, is_inside, end_at, ended_at, is_label, local_with, label_with, line_at};
 
-use crate::blanks::{blank_named, read_blank};
+use crate::blanks::read_blank;
+use crate::directives::{Says, said_by, section_by};
 use crate::passed::skip_rest;
-use crate::sections::{begins_data, is_passed, section_named};
 use svc_draft::{Draft, Statement};
 use svc_image::Version;
-use svc_instructions::{couple_named, read_couple, read_instruction, split_relative};
+use svc_instructions::read_instruction;
 use svc_operands::{
-    Unread, Wanted, decimal_of, is_word, read_first_register, read_number, read_value, skip_spaces,
+    Unread, Wanted, decimal_of, read_first_register, read_number, read_value, skip_spaces,
     split_name, stopped_at, stopped_at_name,
 };
 
@@ -110,30 +110,30 @@ fn read_section(text: &[u8]) -> Result<(Statement, &[u8]), Unread>
     ensures { Gives (λ x. (x.0, x.1.now)) result (section_at text.now) }
 {
     let (name, rest) = split_name(text);
-    match section_named(name) {
-        Some(statement) => Ok((statement, skip_rest(rest))),
+    match section_by(name) {
+        Some(section) => Ok((Statement::Section(section), skip_rest(rest))),
         None => Err(stopped_at(text, Wanted::Section)),
     }
 }
 
-// The directives that other assemblers have.
-#[tactic(auto, unfolding(crate::specs::Statements::other_at))]
-fn read_other<'a>(name: &[u8], text: &'a [u8]) -> Result<(Statement, &'a [u8]), Unread>
-    ensures { Gives (λ x. (x.0, x.1.now)) result (other_at name.now text.now) }
+// What a directive says, by what it reads.
+#[tactic(auto, unfolding(crate::specs::Statements::said_at))]
+fn read_said<'a>(draft: &Draft, says: Says, text: &'a [u8]) -> Result<(Statement, &'a [u8]), Unread>
+    ensures { Gives (λ x. (x.0, x.1.now)) result (said_at (layout_of draft.now) says text.now) }
 {
-    if is_word(name, ".section") {
-        return read_section(text);
+    match says {
+        Says::Section(section) => Ok((Statement::Section(section), text)),
+        Says::NamedSection => read_section(text),
+        Says::Word => read_word(draft, text),
+        Says::Blank(blank) => read_blank(blank, text),
+        Says::Version => read_version(text),
+        Says::ReadOnly => Ok((Statement::ReadOnly, text)),
+        Says::Entry => read_entry(text),
+        Says::Start => read_start(draft, text),
+        Says::Limit => read_limit(text),
+        Says::Register => read_setting(draft, text),
+        Says::Passed => Ok((Statement::Nothing, skip_rest(text))),
     }
-    if is_passed(name) {
-        return Ok((Statement::Nothing, skip_rest(text)));
-    }
-    if let Some(section) = begins_data(name) {
-        return Ok((section, text));
-    }
-    if let Some(blank) = blank_named(name) {
-        return read_blank(blank, text);
-    }
-    Err(stopped_at_name(name, text, Wanted::Statement))
 }
 
 #[tactic(auto, unfolding(crate::specs::Statements::directive_at))]
@@ -144,76 +144,13 @@ fn read_directive<'a>(
 ) -> Result<(Statement, &'a [u8]), Unread>
     ensures { Gives (λ x. (x.0, x.1.now)) result (directive_at (layout_of draft.now) name.now text.now) }
 {
-    if is_word(name, ".word") {
-        return read_word(draft, text);
+    if let Some(says) = said_by(name) {
+        return read_said(draft, says, text);
     }
-    if is_word(name, ".text") {
-        return Ok((Statement::Text, text));
+    if name.starts_with(".cfi_".as_bytes()) {
+        return Ok((Statement::Nothing, skip_rest(text)));
     }
-    if is_word(name, ".data") {
-        return Ok((Statement::Data, text));
-    }
-    if is_word(name, ".svc_version") {
-        return read_version(text);
-    }
-    if is_word(name, ".svc_readonly") {
-        return Ok((Statement::ReadOnly, text));
-    }
-    if is_word(name, ".svc_entry") {
-        return read_entry(text);
-    }
-    if is_word(name, ".svc_start") {
-        return read_start(draft, text);
-    }
-    if is_word(name, ".svc_limit") {
-        return read_limit(text);
-    }
-    if is_word(name, ".svc_register") {
-        return read_setting(draft, text);
-    }
-    read_other(name, text)
-}
-
-#[tactic(auto, unfolding(crate::specs::Statements::alone_at))]
-fn read_alone<'a>(
-    draft: &Draft,
-    name: &[u8],
-    text: &'a [u8],
-) -> Result<(Statement, &'a [u8]), Unread>
-    ensures { Gives (λ x. (x.0, x.1.now)) result (alone_at (layout_of draft.now) name.now text.now) }
-{
-    let (instr, rest) = read_instruction(draft, name, text)?;
-    Ok((Statement::Instruction(instr), rest))
-}
-
-// `auipc` with `%pcrel_hi`, or another instruction.
-#[tactic(auto, unfolding(crate::specs::Statements::single_at))]
-fn read_single<'a>(
-    draft: &Draft,
-    name: &[u8],
-    text: &'a [u8],
-) -> Result<(Statement, &'a [u8]), Unread>
-    ensures { Gives (λ x. (x.0, x.1.now)) result (single_at (layout_of draft.now) name.now text.now) }
-{
-    match split_relative(draft, name, text) {
-        Some(read) => Ok(read),
-        None => read_alone(draft, name, text),
-    }
-}
-
-// A name that stands for two instructions, or one instruction.
-#[tactic(auto, unfolding(crate::specs::Statements::as_statement))]
-fn read_as_statement<'a>(
-    draft: &Draft,
-    name: &[u8],
-    text: &'a [u8],
-) -> Result<(Statement, &'a [u8]), Unread>
-    ensures { Gives (λ x. (x.0, x.1.now)) result (as_statement (layout_of draft.now) name.now text.now) }
-{
-    if let Some(couple) = couple_named(name) {
-        return read_couple(draft, couple, text);
-    }
-    read_single(draft, name, text)
+    Err(stopped_at_name(name, text, Wanted::Statement))
 }
 
 #[tactic(auto, unfolding(crate::specs::Statements::statement_at))]
@@ -224,7 +161,7 @@ fn read_statement<'a>(draft: &Draft, text: &'a [u8]) -> Result<(Statement, &'a [
     match name {
         [] => Ok((Statement::Nothing, rest)),
         [b'.', ..] => read_directive(draft, name, rest),
-        _ => read_as_statement(draft, name, rest),
+        _ => read_instruction(draft, name, rest),
     }
 }
 

@@ -3,69 +3,17 @@
 ghost use Rattle.std.specs.Prelude.{◌≡◌};
 ghost use Rattle.svc_draft.specs.Layouts.{layout_of};
 ghost use Rattle.svc_operands.specs.Reading.{Gives};
-ghost use Rattle.svc_asm.specs.DataLines.{opened_by, string_named, some_left, open_at, quote_at, opened_at, positive_at, datum_at, least, greatest, fitted, over_at, more_at, going_at, item_at, first_at, next_at};
+ghost use Rattle.svc_asm.specs.DataLines.{some_left, open_at, behind_name, begun_at, opened_at, positive_at, datum_at, least, greatest, fitted, over_at, more_at, going_at, item_at, first_at, next_at};
 
+use crate::directives::opened_by;
 use crate::line::{read_end, read_line};
 use crate::strings::read_character;
 use crate::symbols::{read_common, read_symbol};
-use svc_draft::{Draft, Ending, Next, Statement, Width};
+use svc_draft::{Draft, Next, Statement, Width};
 use svc_operands::{
-    Signed, Unread, Wanted, is_word, read_behind_sign, read_mark, read_value, skip_mark,
-    skip_spaces, split_name, stopped_at, stopped_at_name,
+    Signed, Unread, Wanted, read_behind_sign, read_mark, read_value, skip_mark, skip_spaces,
+    split_name, stopped_at, stopped_at_name,
 };
-
-#[tactic(auto, unfolding(crate::specs::DataLines::opened_by))]
-fn opened_by(name: &[u8]) -> Option<Next>
-    ensures { result ≡ opened_by name.now }
-{
-    if is_word(name, ".word") {
-        return Some(Next::Value(Width::Word));
-    }
-    if is_word(name, ".4byte") {
-        return Some(Next::Value(Width::Word));
-    }
-    if is_word(name, ".half") {
-        return Some(Next::Value(Width::Half));
-    }
-    if is_word(name, ".2byte") {
-        return Some(Next::Value(Width::Half));
-    }
-    if is_word(name, ".short") {
-        return Some(Next::Value(Width::Half));
-    }
-    if is_word(name, ".byte") {
-        return Some(Next::Value(Width::Byte));
-    }
-    if is_word(name, ".set") {
-        return Some(Next::Symbol);
-    }
-    if is_word(name, ".equ") {
-        return Some(Next::Symbol);
-    }
-    if is_word(name, ".comm") {
-        return Some(Next::Common);
-    }
-    if is_word(name, ".lcomm") {
-        return Some(Next::Common);
-    }
-    None
-}
-
-#[tactic(auto, unfolding(crate::specs::DataLines::string_named))]
-fn string_named(name: &[u8]) -> Option<Ending>
-    ensures { result ≡ string_named name.now }
-{
-    if is_word(name, ".ascii") {
-        return Some(Ending::Bare);
-    }
-    if is_word(name, ".asciz") {
-        return Some(Ending::Zero);
-    }
-    if is_word(name, ".string") {
-        return Some(Ending::Zero);
-    }
-    None
-}
 
 // What may stand where this is read next.
 fn wanted_by(next: Next) -> Wanted {
@@ -95,12 +43,23 @@ fn read_open(next: Next, text: &[u8]) -> Result<(Statement, &[u8]), Unread>
     Ok((Statement::Open(next), rest))
 }
 
-#[tactic(auto, unfolding(crate::specs::DataLines::quote_at))]
-fn read_quote(ending: Ending, text: &[u8]) -> Result<(Statement, &[u8]), Unread>
-    ensures { Gives (λ x. (x.0, x.1.now)) result (quote_at ending text.now) }
+// What is left behind a directive's name: a string begins with a quote.
+#[tactic(auto, unfolding(crate::specs::DataLines::behind_name))]
+fn behind_name(next: Next, text: &[u8]) -> Result<&[u8], Unread>
+    ensures { Gives (λ x. x.now) result (behind_name next text.now) }
 {
-    let inside = read_mark(b'"', Wanted::Quote, text)?;
-    read_open(Next::Character(ending), inside)
+    match next {
+        Next::Character(_) => read_mark(b'"', Wanted::Quote, text),
+        _ => Ok(text),
+    }
+}
+
+#[tactic(auto, unfolding(crate::specs::DataLines::begun_at))]
+fn read_begun(next: Next, text: &[u8]) -> Result<(Statement, &[u8]), Unread>
+    ensures { Gives (λ x. (x.0, x.1.now)) result (begun_at next text.now) }
+{
+    let rest = behind_name(next, text)?;
+    read_open(next, rest)
 }
 
 // The directive that begins a list, a string or a name with its value, up to what follows its own name.
@@ -109,13 +68,10 @@ fn read_opened(text: &[u8]) -> Result<(Statement, &[u8]), Unread>
     ensures { Gives (λ x. (x.0, x.1.now)) result (opened_at text.now) }
 {
     let (name, rest) = split_name(text);
-    if let Some(ending) = string_named(name) {
-        return read_quote(ending, rest);
+    match opened_by(name) {
+        Some(next) => read_begun(next, rest),
+        None => Err(stopped_at_name(name, rest, Wanted::Statement)),
     }
-    if let Some(next) = opened_by(name) {
-        return read_open(next, rest);
-    }
-    Err(stopped_at_name(name, rest, Wanted::Statement))
 }
 
 #[tactic(auto, unfolding(crate::specs::DataLines::positive_at))]

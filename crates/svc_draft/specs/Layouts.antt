@@ -5,7 +5,6 @@ use Rattle.std.specs.Str.{bytes_eq}
 use Rattle.std.specs.Map.{update}
 use Rattle.std.specs.HashMap.{get, get_by}
 use Rattle.svc_rv32i.specs.declared.instr.Register.{Register}
-use Rattle.svc_rv32i.specs.Words.{word_of}
 use Rattle.svc_image.specs.declared.version.Version.{Version}
 use Rattle.svc_image.specs.declared.version.Version.TheVariants as version
 use Rattle.svc_image.specs.Version.{version_number, own_number, listed}
@@ -309,10 +308,8 @@ with_common name count step d = do
 abbrev pub after : List ℕ → Statement → Layout → Option Layout
 after name say.Nothing d = Some d
 after name say.Label d = with_symbol name (spot_here d) d
-after name (say.Instruction i) d = with_instruction (word_of i) d
+after name (say.Instruction w) d = with_instruction w d
 after name (say.Word n) d = with_value wide.Word n d
-after name say.Text d = Some (record d { section = section.Text })
-after name say.Data d = Some (record d { section = section.Data })
 after name (say.Version v) d = with_version v d
 after name say.ReadOnly d = with_read_only d
 after name (say.Entry limit) d = with_entry limit d
@@ -326,9 +323,9 @@ after name (say.Open n) d = going_on n d
 after name (say.Value width n next) d = with_value width n d >>= going_on next
 after name (say.Symbol s) d = with_symbol name s d >>= going_on go.Line
 after name (say.Common count step) d = with_common name count step d
-after name (say.Pair i j) d = with_pair (word_of i) (word_of j) d
+after name (say.Pair v w) d = with_pair v w d
 after name (say.Local n) d = with_local n d
-after name (say.Relative i n) d = with_relative (word_of i) n d
+after name (say.Relative w n) d = with_relative w n d
 
 -- where the first task begins: where it is said, and else at the first entry
 abbrev pub first_entry : List ℕ → ℕ

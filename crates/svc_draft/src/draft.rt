@@ -16,7 +16,7 @@ use crate::statement::{Next, Statement, Width};
 use std::alloc::Global;
 use std::collections::HashMap;
 use svc_image::{Image, ImageError, Version};
-use svc_rv32i::{Register, encode};
+use svc_rv32i::Register;
 
 /// The most words of a text.
 const MOST_WORDS: usize = 65_536;
@@ -268,10 +268,8 @@ impl<'a> Draft<'a> {
         match statement {
             Statement::Nothing => {}
             Statement::Label => return self.set_symbol(name, self.spot_here()),
-            Statement::Instruction(instr) => return self.push_instruction(encode(&instr)),
+            Statement::Instruction(word) => return self.push_instruction(word),
             Statement::Word(word) => return self.push_value(Width::Word, word),
-            Statement::Text => self.section = Section::Text,
-            Statement::Data => self.section = Section::Data,
             Statement::Version(version) => return self.set_version(version),
             Statement::ReadOnly => return self.set_read_only(),
             Statement::Entry(limit) => return self.push_entry(limit),
@@ -291,15 +289,9 @@ impl<'a> Draft<'a> {
                 self.next = Next::Line;
             }
             Statement::Common(count, step) => return self.push_common(name, count, step),
-            Statement::Pair(first, second) => return self.push_pair(
-                encode(&first),
-                encode(&second),
-            ),
+            Statement::Pair(first, second) => return self.push_pair(first, second),
             Statement::Local(number) => return self.take_local(number),
-            Statement::Relative(instr, distance) => return self.push_relative(
-                encode(&instr),
-                distance,
-            ),
+            Statement::Relative(word, distance) => return self.push_relative(word, distance),
         }
         Ok(())
     }

@@ -2,7 +2,7 @@
 
 use crate::section::{Section, Spot};
 use svc_image::Version;
-use svc_rv32i::{Instr, Register};
+use svc_rv32i::Register;
 
 /// How many bytes a number takes.
 #[derive(Clone, Copy)]
@@ -47,14 +47,10 @@ pub enum Statement {
     Nothing,
     /// A name and a colon: what follows stands at the name's address.
     Label,
-    /// An instruction.
-    Instruction(Instr),
+    /// An instruction, as its word.
+    Instruction(u32),
     /// `.word N`: a word of the section.
     Word(u32),
-    /// `.text`: what follows is text.
-    Text,
-    /// `.data`: what follows is data.
-    Data,
     /// `.svc_version 1` or `.svc_version 2`: the version of the image's file.
     Version(Version),
     /// `.svc_readonly`: the data up to here is read-only.
@@ -67,7 +63,7 @@ pub enum Statement {
     Limit(u32),
     /// `.svc_register xN, VALUE`: the value with which every task finds the register.
     Register(Register, u32),
-    /// `.rodata` and its like: what follows stands in this section.
+    /// `.text`, `.data` and their like: what follows stands in this section.
     Section(Section),
     /// `.zero N`: N zero bytes of the section.
     Zeros(u32),
@@ -82,10 +78,10 @@ pub enum Statement {
     /// A name, and the size and the alignment of the zeros in `.bss` that it names: the end of
     /// `.comm NAME, SIZE, ALIGNMENT`.
     Common(u32, u32),
-    /// Two instructions that one name stands for, as `call`.
-    Pair(Instr, Instr),
+    /// Two instructions that one name stands for, as `call`, by their words.
+    Pair(u32, u32),
     /// A number and a colon: the next local label of this number.
     Local(u32),
     /// `auipc` with `%pcrel_hi(VALUE)`, and how far it is to the value, whose low part `%pcrel_lo` names by its label.
-    Relative(Instr, u32),
+    Relative(u32, u32),
 }

@@ -1,122 +1,119 @@
--- Instructions and their operands, read from their text.
-use Rattle.std.specs.Prelude.{ℕ, ◌+◌, ◌*◌, ◌-◌, ◌^◌, Bool, true, false, not, ◌&&◌, ◌==◌, nat_le, nat_lt, List, [], ◌∷◌, drop, Option, Some, None, if◌then◌else◌, codes, option_map}
+-- What the rows of the table say, read from a text.
+use Rattle.std.specs.Prelude.{ℕ, ◌+◌, ◌*◌, ◌/◌, ◌%◌, ◌^◌, ◌==◌, Bool, ◌&&◌, ◌||◌, List, [], ◌∷◌, Option, Some, None, if◌then◌else◌, option_map}
+use Rattle.std.specs.List.{find}
 use Rattle.std.specs.Str.{bytes_eq}
-use Rattle.svc_rv32i.specs.declared.instr.Register.{Register}
-use Rattle.svc_rv32i.specs.declared.instr.Operation.{Operation}
-use Rattle.svc_rv32i.specs.declared.instr.ImmediateOperation.{ImmediateOperation}
-use Rattle.svc_rv32i.specs.declared.instr.ImmediateShift.{ImmediateShift}
-use Rattle.svc_rv32i.specs.declared.instr.Comparison.{Comparison}
-use Rattle.svc_rv32i.specs.declared.instr.LoadKind.{LoadKind}
-use Rattle.svc_rv32i.specs.declared.instr.StoreKind.{StoreKind}
-use Rattle.svc_rv32i.specs.declared.instr.Instr.{Instr}
-use Rattle.svc_rv32i.specs.declared.instr.Instr.TheVariants as i
-use Rattle.svc_operands.specs.declared.names.Form.{Form}
-use Rattle.svc_operands.specs.declared.names.Form.TheVariants as form
+use Rattle.svc_draft.specs.declared.statement.Statement.{Statement}
+use Rattle.svc_draft.specs.declared.statement.Statement.TheVariants as say
 use Rattle.svc_draft.specs.Options.{◌>>=◌}
-use Rattle.svc_operands.specs.Characters.{found}
-use Rattle.svc_instructions.specs.Fences.{fence_at, total_store_order}
-use Rattle.svc_instructions.specs.Pseudo.{pseudo_at}
-use Rattle.svc_rv32i.specs.Meaning.{register, short}
-use Rattle.svc_operands.specs.Names.{operation_named, immediate_named, shift_named, comparison_named, load_named, store_named, form_named}
 use Rattle.svc_draft.specs.Layouts.{Layout}
-use Rattle.svc_operands.specs.Operands.{Read, register_at, first_register_at, number_at, amount_at}
+use Rattle.svc_operands.specs.Characters.{found, is_over, mark_at}
+use Rattle.svc_operands.specs.Operands.{Read, register_at, base_at, amount_at}
 use Rattle.svc_operands.specs.Targets.{branch_at, jump_at}
-use Rattle.svc_operands.specs.Values.{value_at, short_at, upper_at, address_at}
+use Rattle.svc_operands.specs.Values.{short_at, upper_at}
+use Rattle.svc_instructions.specs.Fences.{fence_at}
+use Rattle.svc_instructions.specs.declared.table.Part.{Part}
+use Rattle.svc_instructions.specs.declared.table.Part.TheVariants as part
+use Rattle.svc_instructions.specs.declared.table.Row.{Row}
+use Rattle.svc_instructions.specs.declared.table.TheConstants.{ROWS, ALIASES}
 
-unfoldable pub operation_at : Operation → List ℕ → Read Instr
-operation_at op text = do
-  rd ← first_register_at text
-  rs1 ← first_register_at rd.1
-  rs2 ← register_at rs1.1
-  Some (i.Op op rd.0 rs1.0 rs2.0, rs2.1)
+-- a number's bits at the places that an operand has in a word (RV32I, section 2.3 Immediate Encoding Variants)
+unfoldable pub placed : Part → ℕ → ℕ
+placed part.Rd n = n % 2 ^ 5 * 2 ^ 7
+placed part.Rs1 n = n % 2 ^ 5 * 2 ^ 15
+placed part.Base n = n % 2 ^ 5 * 2 ^ 15
+placed part.Rs2 n = n % 2 ^ 5 * 2 ^ 20
+placed part.Amount n = n % 2 ^ 5 * 2 ^ 20
+placed part.Immediate n = n % 2 ^ 12 * 2 ^ 20
+placed part.Order n = n % 2 ^ 12 * 2 ^ 20
+placed part.StoreOffset n = n % 2 ^ 5 * 2 ^ 7 + n / 2 ^ 5 % 2 ^ 7 * 2 ^ 25
+placed part.Branch n = n % 2 ^ 4 * 2 ^ 8 + n / 2 ^ 4 % 2 ^ 6 * 2 ^ 25 + n / 2 ^ 10 % 2 * 2 ^ 7 + n / 2 ^ 11 % 2 * 2 ^ 31
+placed part.Upper n = n % 2 ^ 20 * 2 ^ 12
+placed part.Jump n = n % 2 ^ 10 * 2 ^ 21 + n / 2 ^ 10 % 2 * 2 ^ 20 + n / 2 ^ 11 % 2 ^ 8 * 2 ^ 12 + n / 2 ^ 19 % 2 * 2 ^ 31
+placed part.Comma n = 0
+placed part.End n = 0
 
-unfoldable pub immediate_at : Layout → ImmediateOperation → List ℕ → Read Instr
-immediate_at d op text = do
-  rd ← first_register_at text
-  rs1 ← first_register_at rd.1
-  imm ← short_at d rs1.1
-  Some (i.OpImm op rd.0 rs1.0 imm.0, imm.1)
+-- the number whose bits stand there
+unfoldable pub taken : Part → ℕ → ℕ
+taken part.Rd w = w / 2 ^ 7 % 2 ^ 5
+taken part.Rs1 w = w / 2 ^ 15 % 2 ^ 5
+taken part.Base w = w / 2 ^ 15 % 2 ^ 5
+taken part.Rs2 w = w / 2 ^ 20 % 2 ^ 5
+taken part.Amount w = w / 2 ^ 20 % 2 ^ 5
+taken part.Immediate w = w / 2 ^ 20 % 2 ^ 12
+taken part.Order w = w / 2 ^ 20 % 2 ^ 12
+taken part.StoreOffset w = w / 2 ^ 7 % 2 ^ 5 + w / 2 ^ 25 % 2 ^ 7 * 2 ^ 5
+taken part.Branch w = w / 2 ^ 8 % 2 ^ 4 + w / 2 ^ 25 % 2 ^ 6 * 2 ^ 4 + w / 2 ^ 7 % 2 * 2 ^ 10 + w / 2 ^ 31 % 2 * 2 ^ 11
+taken part.Upper w = w / 2 ^ 12 % 2 ^ 20
+taken part.Jump w = w / 2 ^ 21 % 2 ^ 10 + w / 2 ^ 20 % 2 * 2 ^ 10 + w / 2 ^ 12 % 2 ^ 8 * 2 ^ 11 + w / 2 ^ 31 % 2 * 2 ^ 19
+taken part.Comma w = 0
+taken part.End w = 0
 
-unfoldable pub shift_at : ImmediateShift → List ℕ → Read Instr
-shift_at op text = do
-  rd ← first_register_at text
-  rs1 ← first_register_at rd.1
-  amount ← amount_at rs1.1
-  Some (i.ShiftImm op rd.0 rs1.0 amount.0, amount.1)
+-- how an operand is read
+unfoldable pub part_at : Layout → Part → List ℕ → Read ℕ
+part_at d part.End text = Some (0, text)
+part_at d part.Comma text = option_map (λ rest. (0, rest)) (mark_at 44 text)
+part_at d part.Rd text = option_map (λ r. (r.0.number, r.1)) (register_at text)
+part_at d part.Rs1 text = option_map (λ r. (r.0.number, r.1)) (register_at text)
+part_at d part.Rs2 text = option_map (λ r. (r.0.number, r.1)) (register_at text)
+part_at d part.Base text = option_map (λ r. (r.0.number, r.1)) (base_at text)
+part_at d part.Immediate text = option_map (λ r. (r.0.bits, r.1)) (short_at d text)
+part_at d part.StoreOffset text = option_map (λ r. (r.0.bits, r.1)) (short_at d text)
+part_at d part.Amount text = option_map (λ r. (r.0.bits, r.1)) (amount_at text)
+part_at d part.Upper text = option_map (λ r. (r.0.bits, r.1)) (upper_at d text)
+part_at d part.Order text = fence_at text
+part_at d part.Branch text = option_map (λ r. (r.0.bits, r.1)) (branch_at d text)
+part_at d part.Jump text = option_map (λ r. (r.0.bits, r.1)) (jump_at d text)
 
-unfoldable pub comparison_at : Layout → Comparison → List ℕ → Read Instr
-comparison_at d test text = do
-  rs1 ← first_register_at text
-  rs2 ← first_register_at rs1.1
-  imm ← branch_at d rs2.1
-  Some (i.Branch test rs1.0 rs2.0 imm.0, imm.1)
+-- a word and an operand's number in it
+abbrev pub joined : ℕ → Part → ℕ → ℕ
+joined word p n = (word + placed p n) % 2 ^ 32
 
-unfoldable pub load_at : Layout → LoadKind → List ℕ → Read Instr
-load_at d kind text = do
-  rd ← first_register_at text
-  address ← address_at d rd.1
-  Some (i.Load kind rd.0 address.0.1 address.0.0, address.1)
+-- a word and the operands that a text has for it
+abbrev pub parts_at : Layout → List Part → List ℕ → ℕ → Read ℕ
+parts_at d [] text word = Some (word, text)
+parts_at d (p ∷ more) text word = part_at d p text >>= (λ n. parts_at d more n.1 (joined word p n.0))
 
-unfoldable pub store_at : Layout → StoreKind → List ℕ → Read Instr
-store_at d kind text = do
-  rs2 ← first_register_at text
-  address ← address_at d rs2.1
-  Some (i.Store kind address.0.1 rs2.0 address.0.0, address.1)
+-- a row's word and operands, behind which the line ends
+abbrev pub over : ℕ × List ℕ → Read ℕ
+over read = if is_over read.1 then Some read else None
 
-unfoldable pub lui_at : Layout → List ℕ → Read Instr
-lui_at d text = do
-  rd ← first_register_at text
-  imm ← upper_at d rd.1
-  Some (i.Lui rd.0 imm.0, imm.1)
+unfoldable pub row_at : Layout → Row → List ℕ → Read ℕ
+row_at d r text = parts_at d r.2 text r.1 >>= over
 
-unfoldable pub auipc_at : Layout → List ℕ → Read Instr
-auipc_at d text = do
-  rd ← first_register_at text
-  imm ← upper_at d rd.1
-  Some (i.Auipc rd.0 imm.0, imm.1)
+-- the first of these rows that has this name and is read
+abbrev pub rows_at : Layout → List Row → List ℕ → List ℕ → Read ℕ
+rows_at d [] name text = None
+rows_at d (r ∷ more) name text =
+    if bytes_eq name r.0 then found (row_at d r text) (λ read. Some read) (rows_at d more name text) else rows_at d more name text
 
-unfoldable pub jal_to : Layout → Register → List ℕ → Read Instr
-jal_to d rd text = do
-  imm ← jump_at d text
-  Some (i.Jal rd imm.0, imm.1)
-
--- where no register stands first, it is x1
-unfoldable pub jal_at : Layout → List ℕ → Read Instr
-jal_at d text = found (first_register_at text) (λ rd. jal_to d rd.0 rd.1) (jal_to d (register 1) text)
-
-unfoldable pub jalr_to : Layout → Register → List ℕ → Read Instr
-jalr_to d rd text = do
-  address ← address_at d text
-  Some (i.Jalr rd address.0.1 address.0.0, address.1)
-
--- jalr rs is jalr x1, 0(rs)
-unfoldable pub jalr_by : List ℕ → Read Instr
-jalr_by text = do
-  rs ← register_at text
-  Some (i.Jalr (register 1) rs.0 (short 0), rs.1)
-
-unfoldable pub jalr_at : Layout → List ℕ → Read Instr
-jalr_at d text = found (first_register_at text) (λ rd. jalr_to d rd.0 rd.1) (jalr_by text)
-
--- the operands of the instructions that have operands like no other's
-unfoldable pub form_at : Layout → Form → List ℕ → Read Instr
-form_at d form.Lui text = lui_at d text
-form_at d form.Auipc text = auipc_at d text
-form_at d form.Jal text = jal_at d text
-form_at d form.Jalr text = jalr_at d text
-form_at d form.Ecall text = Some (i.Ecall, text)
-form_at d form.Ebreak text = Some (i.Ebreak, text)
-form_at d form.Fence text = fence_at text
-form_at d form.FenceTso text = Some (total_store_order, text)
+abbrev pub either_at : Layout → List Row → List Row → List ℕ → List ℕ → Read ℕ
+either_at d rows more name text = found (rows_at d rows name text) (λ read. Some read) (rows_at d more name text)
 
 -- the instruction of a name and its operands
-unfoldable pub instruction_at : Layout → List ℕ → List ℕ → Read Instr
-instruction_at d name text =
-    found (operation_named name) (λ op. operation_at op text) (
-    found (immediate_named name) (λ op. immediate_at d op text) (
-    found (load_named name) (λ kind. load_at d kind text) (
-    found (store_named name) (λ kind. store_at d kind text) (
-    found (comparison_named name) (λ test. comparison_at d test text) (
-    found (shift_named name) (λ op. shift_at op text) (
-    found (form_named name) (λ f. form_at d f text)
-    (pseudo_at d name text)))))))
+unfoldable pub alone_at : Layout → List ℕ → List ℕ → Read Statement
+alone_at d letters text = option_map (λ read. (say.Instruction read.0, read.1)) (either_at d ROWS ALIASES letters text)
+
+-- the bits of a word that no operand has, by its opcode (RV32I, section 2.2 Base Instruction Formats): funct3 stands beside it but in formats U and J, funct7 in format R and in shifts, and system calls have no operands
+abbrev pub with_funct3 : ℕ → ℕ
+with_funct3 w = w % 2 ^ 7 + w / 2 ^ 12 % 2 ^ 3 * 2 ^ 12
+
+abbrev pub with_funct7 : ℕ → ℕ
+with_funct7 w = with_funct3 w + w / 2 ^ 25 * 2 ^ 25
+
+unfoldable pub fixed_by : (opcode w : ℕ) → ℕ
+fixed_by opcode w =
+    if opcode == 55 || opcode == 23 || opcode == 111 then w % 2 ^ 7 else
+    if opcode == 51 then with_funct7 w else
+    if opcode == 19 && w / 2 ^ 12 % 2 ^ 2 == 1 then with_funct7 w else
+    if opcode == 115 then w else
+    with_funct3 w
+
+abbrev pub fixed : ℕ → ℕ
+fixed w = fixed_by (w % 2 ^ 7) w
+
+-- the row that a word is of: the one whose fixed bits it has
+abbrev pub is_of : ℕ → Row → Bool
+is_of bits r = bits == r.1
+
+unfoldable pub row_of : ℕ → Option Row
+row_of w = find (is_of (fixed w)) ROWS

@@ -1,5 +1,4 @@
 pub mod Fences
-pub mod Pseudo
 pub mod Instructions
 pub mod Couples
-pub mod Relative
+pub mod Statements

@@ -1,36 +1,36 @@
-// FENCE, and what it orders.
+// What FENCE orders.
 
 ghost use Rattle.std.specs.Prelude.{◌≡◌, ◌<◌, IfSome, IfOk};
+ghost use Rattle.svc_operands.specs.Names.{number_named};
 ghost use Rattle.svc_operands.specs.Reading.{Gives};
-ghost use Rattle.svc_instructions.specs.Fences.{order_named, order_at, fence, orders_at, fence_at, total_store_order};
+ghost use Rattle.svc_instructions.specs.Fences.{order_at, orders_at, fence_at};
 
-use svc_operands::{Unread, Wanted, read_mark, register, short, split_name, stopped_at};
-use svc_rv32i::Instr;
+use svc_operands::{Named, Unread, Wanted, number_named, read_mark, split_name, stopped_at};
 
-// A set of accesses by its letters, as four bits: input, output, reads and writes.
-#[tactic(auto, unfolding(crate::specs::Fences::order_named))]
+/// Sets of accesses by their letters, as four bits: input, output, reads and writes.
+pub const ORDERS: [Named; 15] = [
+    Named(*b"w               ", 1),
+    Named(*b"r               ", 2),
+    Named(*b"rw              ", 3),
+    Named(*b"o               ", 4),
+    Named(*b"ow              ", 5),
+    Named(*b"or              ", 6),
+    Named(*b"orw             ", 7),
+    Named(*b"i               ", 8),
+    Named(*b"iw              ", 9),
+    Named(*b"ir              ", 10),
+    Named(*b"irw             ", 11),
+    Named(*b"io              ", 12),
+    Named(*b"iow             ", 13),
+    Named(*b"ior             ", 14),
+    Named(*b"iorw            ", 15),
+];
+
 fn order_named(name: &[u8]) -> Option<u32>
-    ensures value { result ≡ order_named name.now }
+    ensures value { result ≡ number_named ORDERS name.now }
     ensures small { IfSome result (λ n. n < 16) }
 {
-    match name {
-        b"w" => Some(1),
-        b"r" => Some(2),
-        b"rw" => Some(3),
-        b"o" => Some(4),
-        b"ow" => Some(5),
-        b"or" => Some(6),
-        b"orw" => Some(7),
-        b"i" => Some(8),
-        b"iw" => Some(9),
-        b"ir" => Some(10),
-        b"irw" => Some(11),
-        b"io" => Some(12),
-        b"iow" => Some(13),
-        b"ior" => Some(14),
-        b"iorw" => Some(15),
-        _ => None,
-    }
+    number_named(&ORDERS, name)
 }
 
 #[tactic(auto, unfolding(crate::specs::Fences::order_at))]
@@ -45,42 +45,25 @@ fn read_order(text: &[u8]) -> Result<(u32, &[u8]), Unread>
     }
 }
 
-fn fence(bits: u32) -> Instr
-    ensures { result ≡ fence bits }
-{
-    Instr::Fence {
-        rd: register(0),
-        rs1: register(0),
-        imm: short(bits),
-    }
-}
-
 // What comes before a fence, and what behind it.
 #[tactic(auto, unfolding(crate::specs::Fences::orders_at))]
-fn read_orders(text: &[u8]) -> Result<(Instr, &[u8]), Unread>
+fn read_orders(text: &[u8]) -> Result<(u32, &[u8]), Unread>
     ensures { Gives (λ x. (x.0, x.1.now)) result (orders_at text.now) }
 {
     let (before, rest) = read_order(text)?;
     let rest = read_mark(b',', Wanted::Comma, rest)?;
     let (behind, rest) = read_order(rest)?;
-    Ok((fence(16 * before + behind), rest))
+    Ok((16 * before + behind, rest))
 }
 
-/// A fence, which orders all accesses where none are named.
+/// What a fence orders: all accesses where none are named.
 #[tactic(auto, unfolding(crate::specs::Fences::fence_at))]
-pub fn read_fence(text: &[u8]) -> Result<(Instr, &[u8]), Unread>
+pub fn read_fence(text: &[u8]) -> Result<(u32, &[u8]), Unread>
     ensures { Gives (λ x. (x.0, x.1.now)) result (fence_at text.now) }
 {
     let (name, _) = split_name(text);
     match name {
-        [] => Ok((fence(0xff), text)),
+        [] => Ok((0xff, text)),
         _ => read_orders(text),
     }
-}
-
-/// `fence.tso`.
-pub fn total_store_order() -> Instr
-    ensures { result ≡ total_store_order }
-{
-    fence(0x833)
 }

@@ -1,30 +1,19 @@
 -- A branch or a jump is read back from its target's label, in the second pass; in the first one it leads nowhere yet.
-use Rattle.std.proofs.Common.{◌≡◌, ℕ, suc, ◌+◌, ◌*◌, ◌-◌, ◌<◌, ◌≤◌, Bool, true, false, if◌then◌else◌, nat_lt, nat_le, List, ◌∷◌, ◌++◌, Option, Some, None, inl, inr, refl, ap, sym, ◌∙◌, arith, codes}
+use Rattle.std.proofs.Common.{◌≡◌, ℕ, suc, ◌+◌, ◌*◌, ◌-◌, ◌<◌, ◌≤◌, Bool, true, false, if◌then◌else◌, nat_lt, nat_le, List, ◌∷◌, ◌++◌, Option, Some, None, inl, inr, refl, ap, sym, ◌∙◌, arith}
 use Rattle.std.proofs.lemmas.Bool.{le-leb, lt-leb, cases_lt}
-use Rattle.std.proofs.lemmas.List.{append_assoc}
-use Rattle.svc_rv32i.specs.declared.instr.Register.{Register}
 use Rattle.svc_rv32i.specs.declared.instr.Short.{Short}
 use Rattle.svc_rv32i.specs.declared.instr.Long.{Long}
-use Rattle.svc_rv32i.specs.declared.instr.Comparison.{Comparison}
-use Rattle.svc_rv32i.specs.declared.instr.Instr.TheVariants as i
 use Rattle.svc_rv32i.specs.Meaning.{short, long}
 use Rattle.svc_operands.specs.declared.operands.Signed.{Signed}
-use Rattle.svc_draft.specs.declared.statement.Statement.TheVariants as say
 use Rattle.svc_draft.specs.Layouts.{Layout, here, address_of}
-use Rattle.svc_operands.specs.Characters.{is_name, past_blanks, past, name_at, number_of, value_on, push_digit, digit, character_at}
+use Rattle.svc_operands.specs.Characters.{past_blanks, past, name_at, number_of, value_on, push_digit, digit, character_at}
 use Rattle.svc_operands.specs.References.{reference_named}
 use Rattle.svc_operands.specs.Operands.{number_at, distance, branch_of, short_of, jump_of}
 use Rattle.svc_operands.specs.Values.{place_of, place_at, plain_term_at, term_at, value_at}
 use Rattle.svc_operands.specs.Targets.{reach, reach_at, offset_at, branch_at, jump_at}
-use Rattle.svc_instructions.specs.Instructions.{instruction_at, form_at, comparison_at, jal_at, jal_to}
-use Rattle.svc_operands.specs.Names.{form_named, operation_named, immediate_named, load_named, store_named, comparison_named, shift_named}
-use Rattle.svc_instructions.specs.Couples.{couple_named}
-use Rattle.svc_asm.specs.Statements.{statement_at}
-use Rattle.svc_list.specs.InstructionNames.{comparison_name}
-use Rattle.svc_list.specs.Listings.{first_text, hex_text, label_text, aimed_text, led}
+use Rattle.svc_list.specs.Listings.{hex_text, label_text, led}
 use Rattle.svc_list.proofs.NamesBack.{stops, Ends, at_name, at_rest}
-use Rattle.svc_list.proofs.OperandsBack.{sign, first_back, halved_double, wrapped_low, wrapped_high, short_is, long_is}
-use Rattle.svc_list.proofs.LinesBack.{three, whole, comparison_names, comparison_found}
+use Rattle.svc_list.proofs.OperandsBack.{sign, halved_double, wrapped_low, wrapped_high, short_is, long_is}
 use Rattle.svc_list.proofs.LabelsBack.{label_dense}
 
 -- a label is no number, no character and no local label
@@ -59,15 +48,15 @@ unfolding past_blanks
 label_name a rest s = at_name 97 (116 ∷ 95 ∷ hex_text a) rest (label_dense a) s
 
 -- how far it is to a label
-label_offset : (d : Layout) (target to : ℕ) (rest tail : List ℕ) → Ends rest tail → address_of d (label_text target) ≡ Some to → offset_at d (32 ∷ (label_text target ++ rest)) ≡ Some (reach d to, rest)
+pub label_offset : (d : Layout) (target to : ℕ) (rest tail : List ℕ) → Ends rest tail → address_of d (label_text target) ≡ Some to → offset_at d (32 ∷ (label_text target ++ rest)) ≡ Some (reach d to, rest)
 unfolding offset_at reach_at
 label_offset d target to rest tail ends e = rw (label_name target rest ends.stop, label_value d target to rest tail ends e) refl
 
-branch_by : (d : Layout) (text rest : List ℕ) (s : Signed) (imm : Short) → offset_at d text ≡ Some (s, rest) → branch_of s ≡ Some imm → branch_at d text ≡ Some (imm, rest)
+pub branch_by : (d : Layout) (text rest : List ℕ) (s : Signed) (imm : Short) → offset_at d text ≡ Some (s, rest) → branch_of s ≡ Some imm → branch_at d text ≡ Some (imm, rest)
 unfolding branch_at
 branch_by d text rest s imm e k = rw (e, k) refl
 
-jump_by : (d : Layout) (text rest : List ℕ) (s : Signed) (imm : Long) → offset_at d text ≡ Some (s, rest) → jump_of s ≡ Some imm → jump_at d text ≡ Some (imm, rest)
+pub jump_by : (d : Layout) (text rest : List ℕ) (s : Signed) (imm : Long) → offset_at d text ≡ Some (s, rest) → jump_of s ≡ Some imm → jump_at d text ≡ Some (imm, rest)
 unfolding jump_at
 jump_by d text rest s imm e k = rw (e, k) refl
 
@@ -161,31 +150,3 @@ branch_unknown d n h = ap branch_of (reach_unknown d n h) ∙ branch_nowhere
 
 pub jump_unknown : (d : Layout) (n : ℕ) → d.known ≡ false → jump_of (reach d n) ≡ Some (long 0)
 jump_unknown d n h = ap jump_of (reach_unknown d n h) ∙ jump_nowhere
-
--- the instructions that have labels for operands
-pub branch_named : (d : Layout) (test : Comparison) (rs1 rs2 : Register) (imm read : Short) (target to : ℕ) (rest tail : List ℕ) → Ends rest tail → address_of d (label_text target) ≡ Some to → branch_of (reach d to) ≡ Some read
-    → statement_at d (aimed_text (i.Branch test rs1 rs2 imm) target ++ rest) ≡ Some (say.Instruction (i.Branch test rs1 rs2 read), rest)
-unfolding comparison_at is_name
-branch_named d test rs1 rs2 imm read target to rest tail ends e k =
-    let operand = 32 ∷ label_text target in
-    let text = first_text rs1 ++ (first_text rs2 ++ operand) in
-    let at : branch_at d (operand ++ rest) ≡ Some (read, rest) = branch_by d (operand ++ rest) rest (reach d to) read (label_offset d target to rest tail ends e) k in
-    let operands : comparison_at d test (text ++ rest) ≡ Some (i.Branch test rs1 rs2 read, rest) =
-    ap (comparison_at d test) (three (first_text rs1) (first_text rs2) operand rest)
-    ∙ rw (first_back rs1 (first_text rs2 ++ (operand ++ rest)), first_back rs2 (operand ++ rest), at) refl in
-    whole d (comparison_name test) text rest (i.Branch test rs1 rs2 read) (comparison_names test) refl (comparison_found d test (text ++ rest) ∙ operands)
-
-jal_found : (d : Layout) (text : List ℕ) → instruction_at d (codes "jal") text ≡ jal_at d text
-unfolding instruction_at form_at form_named operation_named immediate_named load_named store_named comparison_named shift_named
-jal_found d text = refl
-
-pub jump_named : (d : Layout) (rd : Register) (imm read : Long) (target to : ℕ) (rest tail : List ℕ) → Ends rest tail → address_of d (label_text target) ≡ Some to → jump_of (reach d to) ≡ Some read
-    → statement_at d (aimed_text (i.Jal rd imm) target ++ rest) ≡ Some (say.Instruction (i.Jal rd read), rest)
-unfolding jal_at jal_to is_name couple_named
-jump_named d rd imm read target to rest tail ends e k =
-    let operand = 32 ∷ label_text target in
-    let text = first_text rd ++ operand in
-    let at : jump_at d (operand ++ rest) ≡ Some (read, rest) = jump_by d (operand ++ rest) rest (reach d to) read (label_offset d target to rest tail ends e) k in
-    let operands : jal_at d (text ++ rest) ≡ Some (i.Jal rd read, rest) =
-    ap (jal_at d) (append_assoc (first_text rd) operand rest) ∙ rw (first_back rd (operand ++ rest), at) refl in
-    whole d (codes "jal") text rest (i.Jal rd read) refl refl (jal_found d (text ++ rest) ∙ operands)

@@ -1,34 +1,27 @@
 -- The lines of the text make its words, its entries and its labels, in both passes.
-use Rattle.std.proofs.Common.{◌≡◌, ℕ, suc, ◌+◌, ◌*◌, ◌/◌, ◌%◌, ◌^◌, ◌<◌, ◌≤◌, ◌⊎◌, inl, inr, Bool, true, false, ◌==◌, ◌&&◌, nat_lt, List, [], ◌∷◌, ◌++◌, length, Option, Some, None, refl, ap, sym, ◌∙◌, subst, arith, if◌then◌else◌, codes}
+use Rattle.std.proofs.Common.{◌≡◌, ℕ, suc, ◌+◌, ◌*◌, ◌/◌, ◌%◌, ◌^◌, ◌<◌, ◌≤◌, ◌⊎◌, inl, inr, Bool, true, false, ◌==◌, ◌&&◌, nat_lt, List, [], ◌∷◌, ◌++◌, length, Option, Some, None, refl, ap, sym, ◌∙◌, subst, arith, if◌then◌else◌}
 use Rattle.std.specs.List.{AllByRecursion}
 use Rattle.std.specs.Str.{bytes_eq}
 use Rattle.std.specs.Map.{update}
 use Rattle.std.proofs.lemmas.Map.{update_same, update_other}
 use Rattle.std.proofs.lemmas.Bool.{eq-eqb, ne_eqb, eqb-true, leb-true, and_parts, cases_eq}
 use Rattle.std.proofs.lemmas.List.{length-append, append-nil, append_assoc}
-use Rattle.svc_rv32i.specs.declared.instr.Register.{Register}
-use Rattle.svc_rv32i.specs.declared.instr.Short.{Short}
-use Rattle.svc_rv32i.specs.declared.instr.Long.{Long}
-use Rattle.svc_rv32i.specs.declared.instr.Comparison.{Comparison}
-use Rattle.svc_rv32i.specs.declared.instr.Instr.{Instr}
-use Rattle.svc_rv32i.specs.declared.instr.Instr.TheVariants as i
-use Rattle.svc_rv32i.specs.Words.{word_of}
-use Rattle.svc_rv32i.specs.Meaning.{short, long, meaning}
 use Rattle.svc_draft.specs.declared.section.Section.TheVariants as section
 use Rattle.svc_draft.specs.declared.statement.Next.TheVariants as go
 use Rattle.svc_draft.specs.declared.statement.Statement.TheVariants as say
 use Rattle.svc_draft.specs.Layouts.{Layout, Names, place, here, address_of, spot_here, with_symbol, with_word, after}
-use Rattle.svc_operands.specs.Characters.{is_name, name_at, past_name, behind}
-use Rattle.svc_instructions.specs.Couples.{couple_named}
+use Rattle.svc_operands.specs.Characters.{name_at, found}
+use Rattle.svc_instructions.specs.declared.table.Part.{Part}
+use Rattle.svc_instructions.specs.declared.table.Row.{Row}
+use Rattle.svc_instructions.specs.Instructions.{row_of}
 use Rattle.svc_asm.specs.Statements.{statement_at, line_at}
-use Rattle.svc_list.specs.InstructionNames.{comparison_name}
-use Rattle.svc_list.specs.Listings.{HasText, first_text, label_text, aimed_text, word_note, Line, Labels, Aims, bare, line_of, text_of, led, placed, target_of, shown, coded_as, coded, labels, code}
-use Rattle.svc_list.proofs.NamesBack.{stops, Ends}
-use Rattle.svc_list.proofs.LinesBack.{Trails, three, unlabelled, names_stop, comparison_names, next_back, ended_back}
+use Rattle.svc_list.specs.Listings.{HasText, statement_text, label_text, row_text, code_text, word_note, Line, Says, Labels, Codes, bare, line_of, text_of, led_along, placed, target_by, target_of, coded, labels, code}
+use Rattle.svc_list.proofs.NamesBack.{Ends}
+use Rattle.svc_list.proofs.LinesBack.{Trails, three, unlabelled, next_back, ended_back}
 use Rattle.svc_list.proofs.NotesBack.{bare_ends, word_ends}
 use Rattle.svc_list.proofs.LabelsBack.{label_apart, label_same, colon_name, label_back, empty_back, text_spot, spot_is, label_found, label_again}
-use Rattle.svc_list.proofs.AimsBack.{branch_named, jump_named, branch_aims, jump_aims, branch_known, jump_known, branch_unknown, jump_unknown}
-use Rattle.svc_list.proofs.LayoutsBack.{MeansOne, AreMarks, next_marks, top_marks, marked, worded, Free, free_later, free_behind, one_entry, one_word, shown_laid, entries_of, limits_of}
+use Rattle.svc_list.proofs.RowsBack.{refilled, Reaches, row_back, row_stops, known_same}
+use Rattle.svc_list.proofs.LayoutsBack.{AreMarks, next_marks, top_marks, marked, worded, Free, free_later, free_behind, one_entry, one_word, value_in_text, entries_of, limits_of}
 use Rattle.svc_list.proofs.Leading.{Leads, one_leads, leads_none, leads_both, leads_at, line_leads}
 use Rattle.svc_list.proofs.Printing.{text_both}
 
@@ -36,20 +29,13 @@ pub two : (b : Bool) → (b ≡ true) ⊎ (b ≡ false)
 two true = inl refl
 two false = inr refl
 
--- what the first pass reads of an instruction with a label
-abbrev pub unaimed : Instr → Instr
-unaimed (i.Jal rd imm) = i.Jal rd (long 0)
-unaimed (i.Branch test rs1 rs2 imm) = i.Branch test rs1 rs2 (short 0)
-unaimed instr = instr
-
 -- the word that a pass lays
-abbrev pub laid_as : Option Instr → Option ℕ → Bool → ℕ → ℕ
-laid_as (Some instr) (Some target) known w = if known then w else word_of (unaimed instr)
-laid_as (Some instr) None known w = w
-laid_as None target known w = w
+abbrev pub laid_as : Option Row → Option ℕ → Bool → ℕ → ℕ
+laid_as None to known w = w
+laid_as (Some r) to known w = refilled known to r.2 w r.1
 
 abbrev pub laid_word : Bool → (count address w : ℕ) → ℕ
-laid_word known count address w = laid_as (meaning w) (target_of count address (meaning w)) known w
+laid_word known count address w = laid_as (row_of w) (target_of count address w) known w
 
 abbrev pub words_in : Bool → (count n : ℕ) → List ℕ → List ℕ
 words_in known count n [] = []
@@ -128,25 +114,24 @@ labels_lead known count labelled n d low at good =
       | inr fails ↦ rw fails (leads_none d)
     ]
 
--- an aimed line
-aim_read : (d : Layout) (instr read : Instr) (target : ℕ) (note tail : List ℕ) → Trails note → behind 58 (past_name (aimed_text instr target ++ (note ++ (10 ∷ tail)))) ≡ None
-    → statement_at d (aimed_text instr target ++ (note ++ (10 ∷ tail))) ≡ Some (say.Instruction read, note ++ (10 ∷ tail))
-    → line_at d (line_of (Aims instr target note) ++ tail) ≡ Some (say.Instruction read, tail)
-aim_read d instr read target note tail trails stop said =
+-- the line of a word that is of a row
+row_read : (d : Layout) (to : Option ℕ) (w read : ℕ) (r : Row) (note tail : List ℕ) → row_of w ≡ Some r → Trails note → statement_at d (row_text to r w ++ (note ++ (10 ∷ tail))) ≡ Some (say.Instruction read, note ++ (10 ∷ tail))
+    → line_at d (line_of (Codes w to note) ++ tail) ≡ Some (say.Instruction read, tail)
+row_read d to w read r note tail row trails said =
     let rest = note ++ (10 ∷ tail) in
-    ap (line_at d) (three (aimed_text instr target) note (10 ∷ []) tail)
-    ∙ unlabelled d (aimed_text instr target ++ rest) stop
-    ∙ ended_back d (say.Instruction read) (aimed_text instr target ++ rest) rest tail (trails tail) said
+    let text : line_of (Codes w to note) ≡ row_text to r w ++ (note ++ (10 ∷ [])) = rw row refl in
+    ap (λ (x : List ℕ). line_at d (x ++ tail)) text
+    ∙ ap (line_at d) (three (row_text to r w) note (10 ∷ []) tail)
+    ∙ unlabelled d (row_text to r w ++ rest) (row_stops to w r rest row (trails tail).stop)
+    ∙ ended_back d (say.Instruction read) (row_text to r w ++ rest) rest tail (trails tail) said
 
-aim_leads : (d e : Layout) (instr read : Instr) (target : ℕ) (note : List ℕ) → d.next ≡ go.Line → Trails note
-    → ((rest : List ℕ) → stops rest ≡ true → behind 58 (past_name (aimed_text instr target ++ rest)) ≡ None)
-    → ((rest tail : List ℕ) → Ends rest tail → statement_at d (aimed_text instr target ++ rest) ≡ Some (say.Instruction read, rest))
+row_leads : (d e : Layout) (to : Option ℕ) (w read : ℕ) (r : Row) (note : List ℕ) → d.next ≡ go.Line → row_of w ≡ Some r → Trails note
+    → ((rest tail : List ℕ) → Ends rest tail → statement_at d (row_text to r w ++ rest) ≡ Some (say.Instruction read, rest))
     → after [] (say.Instruction read) d ≡ Some e
-    → Leads (line_of (Aims instr target note)) d e
-aim_leads d e instr read target note line trails stop said laid =
-    one_leads (line_of (Aims instr target note)) (say.Instruction read) d e (omega (arith, length-append (aimed_text instr target) (note ++ (10 ∷ [])), length-append note (10 ∷ [])))
-    (λ tail. next_back d (line_of (Aims instr target note) ++ tail) (say.Instruction read, tail) line
-    (aim_read d instr read target note tail trails (stop (note ++ (10 ∷ tail)) (trails tail).stop) (said (note ++ (10 ∷ tail)) tail (trails tail))))
+    → Leads (line_of (Codes w to note)) d e
+row_leads d e to w read r note line row trails said laid =
+    one_leads (line_of (Codes w to note)) (say.Instruction read) d e (omega (arith, length-append (code_text to w) (note ++ (10 ∷ [])), length-append note (10 ∷ [])))
+    (λ tail. next_back d (line_of (Codes w to note) ++ tail) (say.Instruction read, tail) line (row_read d to w read r note tail row trails (said (note ++ (10 ∷ tail)) tail (trails tail))))
     (λ tail. laid)
 
 -- addresses of the text
@@ -184,39 +169,11 @@ abbrev Aimable : Bool → Layout → ℕ → Type 0
 Aimable true d t = (d.known ≡ true) × (address_of d (label_text t) ≡ Some t)
 Aimable false d t = (d.known ≡ false) × (address_of d (label_text t) ≡ Some (here d))
 
--- an instruction and its word
-instr_laid : (d : Layout) (instr : Instr) → d.section ≡ section.Text → length d.text < 65536 → after [] (say.Instruction instr) d ≡ Some (worded d (word_of instr))
-instr_laid d instr text room =
-    let in_text : after [] (say.Instruction instr) d ≡ with_word (word_of instr) d = rw text refl in
-    in_text ∙ one_word d (word_of instr) room
-
-jump_leads : (known : Bool) (d : Layout) (w t address : ℕ) (rd : Register) (imm : Long) → word_of (i.Jal rd imm) ≡ w → d.section ≡ section.Text → length d.text < 65536 → d.next ≡ go.Line → here d ≡ address → led 524288 address imm.bits ≡ Some t → Aimable known d t
-    → Leads (line_of (Aims (i.Jal rd imm) t (word_note address w))) d (worded d (if known then w else word_of (unaimed (i.Jal rd imm))))
-unfolding is_name couple_named
-jump_leads true d w t address rd imm law text room line here aims known =
-    let stop = λ (rest : List ℕ) (s : stops rest ≡ true). names_stop (codes "jal") (first_text rd ++ (32 ∷ label_text t)) rest refl refl in
-    aim_leads d (worded d w) (i.Jal rd imm) (i.Jal rd imm) t (word_note address w) line (word_ends address w) stop
-    (λ rest tail ends. jump_named d rd imm imm t t rest tail ends known.1 (jump_known d t imm known.0 (rw here (jump_aims address t imm aims))))
-    (instr_laid d (i.Jal rd imm) text room ∙ ap (λ (x : ℕ). Some (worded d x)) law)
-jump_leads false d w t address rd imm law text room line here_at aims unknown =
-    let stop = λ (rest : List ℕ) (s : stops rest ≡ true). names_stop (codes "jal") (first_text rd ++ (32 ∷ label_text t)) rest refl refl in
-    aim_leads d (worded d (word_of (i.Jal rd (long 0)))) (i.Jal rd imm) (i.Jal rd (long 0)) t (word_note address w) line (word_ends address w) stop
-    (λ rest tail ends. jump_named d rd imm (long 0) t (here d) rest tail ends unknown.1 (jump_unknown d (here d) unknown.0))
-    (instr_laid d (i.Jal rd (long 0)) text room)
-
-branch_leads : (known : Bool) (d : Layout) (w t address : ℕ) (test : Comparison) (rs1 rs2 : Register) (imm : Short) → word_of (i.Branch test rs1 rs2 imm) ≡ w → d.section ≡ section.Text → length d.text < 65536 → d.next ≡ go.Line → here d ≡ address → led 2048 address imm.bits ≡ Some t → Aimable known d t
-    → Leads (line_of (Aims (i.Branch test rs1 rs2 imm) t (word_note address w))) d (worded d (if known then w else word_of (unaimed (i.Branch test rs1 rs2 imm))))
-unfolding is_name
-branch_leads true d w t address test rs1 rs2 imm law text room line here aims known =
-    let stop = λ (rest : List ℕ) (s : stops rest ≡ true). names_stop (comparison_name test) (first_text rs1 ++ (first_text rs2 ++ (32 ∷ label_text t))) rest (comparison_names test) refl in
-    aim_leads d (worded d w) (i.Branch test rs1 rs2 imm) (i.Branch test rs1 rs2 imm) t (word_note address w) line (word_ends address w) stop
-    (λ rest tail ends. branch_named d test rs1 rs2 imm imm t t rest tail ends known.1 (branch_known d t imm known.0 (rw here (branch_aims address t imm aims))))
-    (instr_laid d (i.Branch test rs1 rs2 imm) text room ∙ ap (λ (x : ℕ). Some (worded d x)) law)
-branch_leads false d w t address test rs1 rs2 imm law text room line here_at aims unknown =
-    let stop = λ (rest : List ℕ) (s : stops rest ≡ true). names_stop (comparison_name test) (first_text rs1 ++ (first_text rs2 ++ (32 ∷ label_text t))) rest (comparison_names test) refl in
-    aim_leads d (worded d (word_of (i.Branch test rs1 rs2 (short 0)))) (i.Branch test rs1 rs2 imm) (i.Branch test rs1 rs2 (short 0)) t (word_note address w) line (word_ends address w) stop
-    (λ rest tail ends. branch_named d test rs1 rs2 imm (short 0) t (here d) rest tail ends unknown.1 (branch_unknown d (here d) unknown.0))
-    (instr_laid d (i.Branch test rs1 rs2 (short 0)) text room)
+-- an instruction's word
+instruction_laid : (d : Layout) (w : ℕ) → d.section ≡ section.Text → length d.text < 65536 → after [] (say.Instruction w) d ≡ Some (worded d w)
+instruction_laid d w text room =
+    let in_text : after [] (say.Instruction w) d ≡ with_word w d = rw text refl in
+    in_text ∙ one_word d w room
 
 aimable : (known : Bool) (count : ℕ) (labelled : ℕ → Bool) (n : ℕ) (d : Layout) (t : ℕ) → d.known ≡ known → count ≤ 65536 → t % 4 ≡ 0 → t < 4 * count → labelled (t / 4) ≡ true → Good known count labelled n d.names → Aimable known d t
 aimable true count labelled n d t pass few whole low marked good =
@@ -224,37 +181,42 @@ aimable true count labelled n d t pass few whole low marked good =
     (pass, known_address d t pass (omega (arith, low, few)) (subst (λ (x : ℕ). d.names (label_text x) ≡ Some (text_spot x)) four (good (t / 4) (omega (arith, low)) marked)))
 aimable false count labelled n d t pass few whole low marked good = (pass, unknown_address d t pass)
 
-pub shown_text : (w : ℕ) (meant : Option Instr) → w < 2 ^ 32 → HasText (shown w meant)
-shown_text w None h = h
-shown_text w (Some (i.Fence rd rs1 imm)) h = h
-shown_text w (Some instr) h = tt
+reaches : (known : Bool) (count : ℕ) (d : Layout) (ps : List Part) (w address : ℕ) (to : Option ℕ) → placed count (led_along address w ps) ≡ to → here d ≡ address → ((t : ℕ) → to ≡ Some t → Aimable known d t) → Reaches known d to ps w
+reaches known count d ps w address None leads at aims = tt
+reaches true count d ps w address (Some t) leads at aims =
+    let aim = aims t refl in
+    (aim.0, aim.1, ap (λ (a : ℕ). led_along a w ps) at ∙ (placed_is count (led_along address w ps) t leads).0)
+reaches false count d ps w address (Some t) leads at aims = aims t refl
 
 -- the line of a word of the text
-coded_leads : MeansOne → (known : Bool) (count : ℕ) (labelled : ℕ → Bool) (n : ℕ) (d : Layout) (w : ℕ) (meant : Option Instr) (target : Option ℕ) → meaning w ≡ meant → target_of count (4 * n) meant ≡ target → w < 2 ^ 32 → n < count → count ≤ 65536
-    → IsAt known n d → Good known count labelled (suc n) d.names → ((t : ℕ) → target ≡ Some t → labelled (t / 4) ≡ true)
-    → Leads (line_of (coded_as (4 * n) w meant target)) d (worded d (laid_as meant target known w))
-coded_leads law known count labelled n d w None None means aims fit low few at good marked =
-    line_leads (say.Word w) (word_note (4 * n) w) d (worded d w) at.line fit (word_ends (4 * n) w) (shown_laid law w None d fit means at.text ∙ one_word d w (omega (arith, at.words, low, few)))
-coded_leads law known count labelled n d w None (Some t) means aims fit low few at good marked = absurd (cc)
-coded_leads law known count labelled n d w (Some instr) None means aims fit low few at good marked =
-    line_leads (shown w (Some instr)) (word_note (4 * n) w) d (worded d w) at.line (shown_text w (Some instr) fit) (word_ends (4 * n) w)
-    (shown_laid law w (Some instr) d fit means at.text ∙ one_word d w (omega (arith, at.words, low, few)))
-coded_leads law known count labelled n d w (Some (i.Jal rd imm)) (Some t) means aims fit low few at good marked =
-    let place = placed_is count (led 524288 (4 * n) imm.bits) t aims in
+coded_row : (known : Bool) (count : ℕ) (labelled : ℕ → Bool) (n : ℕ) (d : Layout) (w : ℕ) (row : Option Row) (to : Option ℕ) → row_of w ≡ row → found row (λ r. target_by count (4 * n) w r) None ≡ to → w < 2 ^ 32 → n < count → count ≤ 65536
+    → IsAt known n d → Good known count labelled (suc n) d.names → ((t : ℕ) → to ≡ Some t → labelled (t / 4) ≡ true)
+    → Leads (line_of (Codes w to (word_note (4 * n) w))) d (worded d (laid_as row to known w))
+unfolding statement_text
+coded_row known count labelled n d w None to row leads fit low few at good marked =
+    let text : line_of (Codes w to (word_note (4 * n) w)) ≡ line_of (Says (say.Word w) (word_note (4 * n) w)) = rw row refl in
+    subst (λ (x : List ℕ). Leads x d (worded d w)) (sym text)
+    (line_leads (say.Word w) (word_note (4 * n) w) d (worded d w) at.line fit (word_ends (4 * n) w) (value_in_text d w at.text ∙ one_word d w (omega (arith, at.words, low, few))))
+coded_row known count labelled n d w (Some r) to row leads fit low few at good marked =
     let four : 4 * length d.text ≡ 4 * n = ap (λ (x : ℕ). 4 * x) at.words in
-    jump_leads known d w t (4 * n) rd imm ((law w (i.Jal rd imm) fit).0 means) at.text (omega (arith, at.words, low, few)) at.line (here_is d (4 * n) at.text four (omega (arith, low, few))) place.0
-    (aimable known count labelled (suc n) d t at.pass few place.1 place.2 (marked t refl) good)
-coded_leads law known count labelled n d w (Some (i.Branch test rs1 rs2 imm)) (Some t) means aims fit low few at good marked =
-    let place = placed_is count (led 2048 (4 * n) imm.bits) t aims in
-    let four : 4 * length d.text ≡ 4 * n = ap (λ (x : ℕ). 4 * x) at.words in
-    branch_leads known d w t (4 * n) test rs1 rs2 imm ((law w (i.Branch test rs1 rs2 imm) fit).0 means) at.text (omega (arith, at.words, low, few)) at.line (here_is d (4 * n) at.text four (omega (arith, low, few))) place.0
-    (aimable known count labelled (suc n) d t at.pass few place.1 place.2 (marked t refl) good)
-coded_leads law known count labelled n d w (Some instr) (Some t) means aims fit low few at good marked = absurd (cc)
+    let place = here_is d (4 * n) at.text four (omega (arith, low, few)) in
+    let aims = λ (t : ℕ) (e : to ≡ Some t). let it = placed_is count (led_along (4 * n) w r.2) t (leads ∙ e) in aimable known count labelled (suc n) d t at.pass few it.1 it.2 (marked t e) good in
+    let reached = reaches known count d r.2 w (4 * n) to leads place aims in
+    let read = refilled known to r.2 w r.1 in
+    row_leads d (worded d read) to w read r (word_note (4 * n) w) at.line row (word_ends (4 * n) w)
+    (λ rest tail ends. row_back known d to w r rest tail row ends reached)
+    (instruction_laid d read at.text (omega (arith, at.words, low, few)))
+
+coded_leads : (known : Bool) (count : ℕ) (labelled : ℕ → Bool) (n : ℕ) (d : Layout) (w : ℕ) → w < 2 ^ 32 → n < count → count ≤ 65536
+    → IsAt known n d → Good known count labelled (suc n) d.names → ((t : ℕ) → target_of count (4 * n) w ≡ Some t → labelled (t / 4) ≡ true)
+    → Leads (line_of (coded count (4 * n) w)) d (worded d (laid_word known count (4 * n) w))
+coded_leads known count labelled n d w fit low few at good marked =
+    coded_row known count labelled n d w (row_of w) (target_of count (4 * n) w) refl refl fit low few at good marked
 
 -- each target of these words has a label
 abbrev pub HaveLabels : ℕ → (ℕ → Bool) → ℕ → List ℕ → Type 0
 HaveLabels count labelled n [] = Unit {0}
-HaveLabels count labelled n (w ∷ ws) = ((t : ℕ) → target_of count (4 * n) (meaning w) ≡ Some t → labelled (t / 4) ≡ true) × HaveLabels count labelled (suc n) ws
+HaveLabels count labelled n (w ∷ ws) = ((t : ℕ) → target_of count (4 * n) w ≡ Some t → labelled (t / 4) ≡ true) × HaveLabels count labelled (suc n) ws
 
 -- the layout behind the text
 abbrev pub with_code : Bool → ℕ → (ℕ → Bool) → ℕ → List (ℕ × Option ℕ) → List ℕ → Layout → Layout
@@ -265,12 +227,12 @@ next_at_word : (known : Bool) (n : ℕ) (d : Layout) (w : ℕ) → IsAt known n 
 next_at_word known n d w at = record { text = at.text; words = omega (arith, at.words, length-append d.text (w ∷ [])); pass = at.pass; line = at.line }
 
 -- a word, and what stands behind it
-word_and_more : MeansOne → (known : Bool) (count : ℕ) (labelled : ℕ → Bool) (n : ℕ) (d : Layout) (w : ℕ) → n < count → count ≤ 65536 → w < 2 ^ 32 → IsAt known n d
-    → Good known count labelled (suc n) d.names → ((t : ℕ) → target_of count (4 * n) (meaning w) ≡ Some t → labelled (t / 4) ≡ true)
+word_and_more : (known : Bool) (count : ℕ) (labelled : ℕ → Bool) (n : ℕ) (d : Layout) (w : ℕ) → n < count → count ≤ 65536 → w < 2 ^ 32 → IsAt known n d
+    → Good known count labelled (suc n) d.names → ((t : ℕ) → target_of count (4 * n) w ≡ Some t → labelled (t / 4) ≡ true)
     → (rest : List Line) (e : Layout) → Leads (text_of rest) (worded d (laid_word known count (4 * n) w)) e → Leads (line_of (coded count (4 * n) w) ++ text_of rest) d e
-word_and_more law known count labelled n d w low few fit at good marked rest e h =
+word_and_more known count labelled n d w low few fit at good marked rest e h =
     leads_both (line_of (coded count (4 * n) w)) (text_of rest) d (worded d (laid_word known count (4 * n) w)) e
-    (coded_leads law known count labelled n d w (meaning w) (target_of count (4 * n) (meaning w)) refl refl fit low few at good marked) h
+    (coded_leads known count labelled n d w fit low few at good marked) h
 
 -- a label, if there is one, and what stands behind it
 label_and_more : (known : Bool) (count : ℕ) (labelled : ℕ → Bool) (n : ℕ) (d : Layout) → n < count → IsAt known n d → Good known count labelled n d.names
@@ -279,14 +241,14 @@ label_and_more known count labelled n d low at good rest e h =
     subst (λ (text : List ℕ). Leads text d e) (sym (text_both (labels labelled n) rest))
     (leads_both (text_of (labels labelled n)) (text_of rest) d (record d { names = labelled_in known labelled n d.names }) e (labels_lead known count labelled n d low at good) h)
 
-pub code_leads : MeansOne → (known : Bool) (count : ℕ) (labelled : ℕ → Bool) → count ≤ 65536 → (ms : List (ℕ × Option ℕ)) (ws : List ℕ) (n : ℕ) (d : Layout) → n + length ws ≡ count → AllByRecursion (λ w. w < 2 ^ 32) ws → AllByRecursion (λ (m : ℕ × Option ℕ). HasText (say.Entry m.1)) ms
+pub code_leads : (known : Bool) (count : ℕ) (labelled : ℕ → Bool) → count ≤ 65536 → (ms : List (ℕ × Option ℕ)) (ws : List ℕ) (n : ℕ) (d : Layout) → n + length ws ≡ count → AllByRecursion (λ w. w < 2 ^ 32) ws → AllByRecursion (λ (m : ℕ × Option ℕ). HasText (say.Entry m.1)) ms
     → AreMarks d.version (4 * n) (4 * (n + length ws)) ms → IsAt known n d → length d.entries + length ms ≤ 1024 → Free n d.entries → Good known count labelled n d.names → HaveLabels count labelled n ws
     → Leads (text_of (code count labelled n ms ws)) d (with_code known count labelled n ms ws d)
 unfolding text_of code
-code_leads law known count labelled few [] [] n d all fit texts placed at room free good named =
+code_leads known count labelled few [] [] n d all fit texts placed at room free good named =
     rw (append-nil d.entries, append-nil d.limits, append-nil d.text) (leads_none d)
-code_leads law known count labelled few (m ∷ ms) [] n d all fit texts placed at room free good named = absurd (omega (arith, placed.0, placed.2))
-code_leads law known count labelled few [] (w ∷ ws) n d all fit texts placed at room free good named =
+code_leads known count labelled few (m ∷ ms) [] n d all fit texts placed at room free good named = absurd (omega (arith, placed.0, placed.2))
+code_leads known count labelled few [] (w ∷ ws) n d all fit texts placed at room free good named =
     let low : n < count = omega (arith, all) in
     let e₁ = record d { names = labelled_in known labelled n d.names } in
     let at₁ : IsAt known n e₁ = record { text = at.text; words = at.words; pass = at.pass; line = at.line } in
@@ -295,12 +257,12 @@ code_leads law known count labelled few [] (w ∷ ws) n d all fit texts placed a
     let e₂ = worded e₁ v in
     let rest = code count labelled (suc n) [] ws in
     let end = with_code known count labelled (suc n) [] ws e₂ in
-    let more = code_leads law known count labelled few [] ws (suc n) e₂ (omega (arith, all)) fit.1 tt tt (next_at_word known n e₁ v at₁) room (free_later n d.entries free) good₁ named.1 in
-    let behind = word_and_more law known count labelled n e₁ w low few fit.0 at₁ good₁ named.0 rest end more in
+    let more = code_leads known count labelled few [] ws (suc n) e₂ (omega (arith, all)) fit.1 tt tt (next_at_word known n e₁ v at₁) room (free_later n d.entries free) good₁ named.1 in
+    let behind = word_and_more known count labelled n e₁ w low few fit.0 at₁ good₁ named.0 rest end more in
     let whole = label_and_more known count labelled n d low at good (coded count (4 * n) w ∷ rest) end behind in
     leads_at (text_of (code count labelled n [] (w ∷ ws))) d end (with_code known count labelled n [] (w ∷ ws) d)
     (ap (λ (xs : List ℕ). record end { text = xs }) (append_assoc d.text (v ∷ []) (words_in known count (suc n) ws))) whole
-code_leads law known count labelled few (m ∷ ms) (w ∷ ws) n d all fit texts placed at room free good named =
+code_leads known count labelled few (m ∷ ms) (w ∷ ws) n d all fit texts placed at room free good named =
     let low : n < count = omega (arith, all) in
     let e₁ = record d { names = labelled_in known labelled n d.names } in
     let at₁ : IsAt known n e₁ = record { text = at.text; words = at.words; pass = at.pass; line = at.line } in
@@ -316,8 +278,8 @@ code_leads law known count labelled few (m ∷ ms) (w ∷ ws) n d all fit texts 
           let rest = code count labelled (suc n) ms ws in
           let end = with_code known count labelled (suc n) ms ws e₃ in
           let next = top_marks d.version (4 * suc n) n (length ws) ms (next_marks d.version n m.0 (4 * (n + suc (length ws))) ms same placed.4) in
-          let more = code_leads law known count labelled few ms ws (suc n) e₃ (omega (arith, all)) fit.1 texts.1 next (next_at_word known n e₂ v at₂) (omega (arith, room, length-append d.entries (m.0 ∷ []))) (free_behind n m.0 d.entries same free) good₁ named.1 in
-          let behind = word_and_more law known count labelled n e₂ w low few fit.0 at₂ good₁ named.0 rest end more in
+          let more = code_leads known count labelled few ms ws (suc n) e₃ (omega (arith, all)) fit.1 texts.1 next (next_at_word known n e₂ v at₂) (omega (arith, room, length-append d.entries (m.0 ∷ []))) (free_behind n m.0 d.entries same free) good₁ named.1 in
+          let behind = word_and_more known count labelled n e₂ w low few fit.0 at₂ good₁ named.0 rest end more in
           let entry = line_leads (say.Entry m.1) [] e₁ e₂ at.line texts.0 bare_ends (one_entry e₁ m (omega (arith, at.words, low, few)) (omega (arith, room)) (λ k above. free k (omega (arith, above, at.words))) (omega (arith, same, at.words)) placed.3) in
           let both = leads_both (line_of (bare (say.Entry m.1))) (line_of (coded count (4 * n) w) ++ text_of rest) e₁ e₂ end entry behind in
           let whole = label_and_more known count labelled n d low at good (bare (say.Entry m.1) ∷ coded count (4 * n) w ∷ rest) end both in
@@ -332,22 +294,21 @@ code_leads law known count labelled few (m ∷ ms) (w ∷ ws) n d all fit texts 
           let rest = code count labelled (suc n) (m ∷ ms) ws in
           let end = with_code known count labelled (suc n) (m ∷ ms) ws e₂ in
           let next = top_marks d.version (4 * suc n) n (length ws) (m ∷ ms) (above, placed.1, placed.2, placed.3, placed.4) in
-          let more = code_leads law known count labelled few (m ∷ ms) ws (suc n) e₂ (omega (arith, all)) fit.1 texts next (next_at_word known n e₁ v at₁) room (free_later n d.entries free) good₁ named.1 in
-          let behind = word_and_more law known count labelled n e₁ w low few fit.0 at₁ good₁ named.0 rest end more in
+          let more = code_leads known count labelled few (m ∷ ms) ws (suc n) e₂ (omega (arith, all)) fit.1 texts next (next_at_word known n e₁ v at₁) room (free_later n d.entries free) good₁ named.1 in
+          let behind = word_and_more known count labelled n e₁ w low few fit.0 at₁ good₁ named.0 rest end more in
           let whole = label_and_more known count labelled n d low at good (coded count (4 * n) w ∷ rest) end behind in
           rw here (leads_at (text_of (labels labelled n ++ (coded count (4 * n) w ∷ rest))) d end (with_code known count labelled n (m ∷ ms) (w ∷ ws) d)
           (ap (λ (xs : List ℕ). record end { text = xs }) (append_assoc d.text (v ∷ []) words)) whole)
     ]
 
 -- what the passes lay and name
-known_word : (meant : Option Instr) (target : Option ℕ) (w : ℕ) → laid_as meant target true w ≡ w
-known_word None target w = refl
-known_word (Some instr) None w = refl
-known_word (Some instr) (Some t) w = refl
+known_word : (row : Option Row) (to : Option ℕ) (w : ℕ) → w < 2 ^ 32 → row_of w ≡ row → laid_as row to true w ≡ w
+known_word None to w fit e = refl
+known_word (Some r) to w fit e = known_same to w r fit e
 
-pub words_known : (count n : ℕ) (ws : List ℕ) → words_in true count n ws ≡ ws
-words_known count n [] = refl
-words_known count n (w ∷ ws) = ap (λ (v : ℕ). v ∷ words_in true count (suc n) ws) (known_word (meaning w) (target_of count (4 * n) (meaning w)) w) ∙ ap (λ (xs : List ℕ). w ∷ xs) (words_known count (suc n) ws)
+pub words_known : (count n : ℕ) (ws : List ℕ) → AllByRecursion (λ w. w < 2 ^ 32) ws → words_in true count n ws ≡ ws
+words_known count n [] fits = refl
+words_known count n (w ∷ ws) fits = ap (λ (v : ℕ). v ∷ words_in true count (suc n) ws) (known_word (row_of w) (target_of count (4 * n) w) w fits.0 refl) ∙ ap (λ (xs : List ℕ). w ∷ xs) (words_known count (suc n) ws fits.1)
 
 pub words_length : (known : Bool) (count n : ℕ) (ws : List ℕ) → length (words_in known count n ws) ≡ length ws
 words_length known count n [] = refl

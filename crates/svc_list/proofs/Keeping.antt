@@ -1,7 +1,6 @@
 -- A line of a listing leaves what is read next: a line.
 use Rattle.std.proofs.Common.{◌≡◌, ℕ, ◌*◌, ◌-◌, ◌%◌, Bool, true, false, ◌==◌, nat_lt, nat_le, List, [], ◌∷◌, ◌++◌, length, Option, Some, None, subst, if◌then◌else◌, slice_set}
 use Rattle.svc_rv32i.specs.declared.instr.Register.{Register}
-use Rattle.svc_rv32i.specs.Words.{word_of}
 use Rattle.svc_image.specs.declared.version.Version.{Version}
 use Rattle.svc_image.specs.declared.version.Version.TheVariants as version
 use Rattle.svc_draft.specs.declared.section.Section.{Section}
@@ -106,17 +105,15 @@ register_keeps n r v d h = unless_keeps n (r.number == 0) (Some (record d { regi
 pub line_keeps : (n : Next) (s : Statement) (d : Layout) → HasText s → d.next ≡ n → Keeps n (after [] s d)
 line_keeps n say.Nothing d h k = k
 line_keeps n say.Label d h k = absurd h
-line_keeps n (say.Instruction instr) d h k = code_keeps n d.section (word_of instr) d k
+line_keeps n (say.Instruction w) d h k = absurd h
 line_keeps n (say.Word w) d h k = value_keeps n w d k
-line_keeps n say.Text d h k = k
-line_keeps n say.Data d h k = k
 line_keeps n (say.Version v) d h k = version_keeps n v d k
 line_keeps n say.ReadOnly d h k = read_only_keeps n d k
 line_keeps n (say.Entry limit) d h k = entry_keeps n limit d k
 line_keeps n (say.Start m) d h k = k
 line_keeps n (say.Limit m) d h k = limit_keeps n m d k
 line_keeps n (say.Register r m) d h k = register_keeps n r m d k
-line_keeps n (say.Section s) d h k = absurd h
+line_keeps n (say.Section s) d h k = k
 line_keeps n (say.Zeros m) d h k = absurd h
 line_keeps n (say.Align step) d h k = absurd h
 line_keeps n (say.Open m) d h k = absurd h

@@ -1,15 +1,12 @@
 -- The lines of an image make its layout.
-use Rattle.std.proofs.Common.{◌≡◌, ℕ, suc, ◌+◌, ◌-◌, ◌*◌, ◌/◌, ◌%◌, ◌^◌, ◌<◌, ◌≤◌, ◌↔◌, inl, inr, Bool, true, false, ◌==◌, ◌&&◌, nat_le, nat_lt, List, [], ◌∷◌, ◌++◌, length, map, slice_index, take, drop, Option, Some, None, refl, ap, sym, ◌∙◌, subst, arith}
+use Rattle.std.proofs.Common.{◌≡◌, ℕ, suc, ◌+◌, ◌-◌, ◌*◌, ◌/◌, ◌%◌, ◌^◌, ◌<◌, ◌≤◌, inl, inr, Bool, true, false, ◌==◌, ◌&&◌, nat_le, nat_lt, List, [], ◌∷◌, ◌++◌, length, map, slice_index, take, drop, Option, Some, None, refl, ap, sym, ◌∙◌, subst, arith}
 use Rattle.std.proofs.Math.Seq.{set-append_seam}
 use Rattle.std.proofs.lemmas.Bool.{eq-eqb, eqb-true, ne_eqb, le-leb, cases_eq, and_parts}
 use Rattle.std.proofs.lemmas.List.{append_assoc, append-nil, length-append, length-take-le, take-append-drop}
 use Rattle.std.proofs.lemmas.List.Folds.{list_any-append}
 use Rattle.std.proofs.lemmas.Grind.{flat_map-append}
 use Rattle.std.specs.List.{AllByRecursion, list_any}
-use Rattle.svc_rv32i.specs.declared.instr.Instr.{Instr}
-use Rattle.svc_rv32i.specs.declared.instr.Instr.TheVariants as i
-use Rattle.svc_rv32i.specs.Words.{word_of}
-use Rattle.svc_rv32i.specs.Meaning.{register, meaning}
+use Rattle.svc_rv32i.specs.Meaning.{register}
 use Rattle.svc_image.specs.declared.version.Version.{Version}
 use Rattle.svc_image.specs.declared.version.Version.TheVariants as version
 use Rattle.svc_image.specs.Version.{read_only_by, own_number, listed}
@@ -24,18 +21,14 @@ use Rattle.svc_draft.specs.Areas.{with_more}
 use Rattle.svc_draft.specs.Limits.{is_limit}
 use Rattle.svc_draft.specs.Layouts.{Layout, Names, no_distances, with_word, with_bytes, with_value, with_version, with_read_only, with_own, with_place, with_entry, with_limit, with_register, data_size, after, limits_in, file_in}
 use Rattle.svc_draft.proofs.Wordwise.{length-bytes_of_word, length-bytes_of_words}
-use Rattle.svc_list.specs.Listings.{Line, Says, Labels, Aims, Starts, bare, shown, setting, settings, own_limit, marks, data_lines, all_data}
-
--- an instruction has the word that means it, which a law says
-abbrev pub MeansOne : Type 0
-MeansOne = (word : ℕ) (instr : Instr) → word < 2 ^ 32 → (meaning word ≡ Some instr) ↔ (word_of instr ≡ word)
+use Rattle.svc_list.specs.Listings.{Line, Says, Labels, Codes, Starts, bare, setting, settings, own_limit, marks, data_lines, all_data}
 
 -- the layout after all of these lines, of which none is a label
 abbrev pub after_all : List Line → Layout → Option Layout
 after_all [] d = Some d
 after_all (Says s note ∷ ls) d = after [] s d >>= after_all ls
 after_all (Labels a ∷ ls) d = None
-after_all (Aims instr target note ∷ ls) d = None
+after_all (Codes w to note ∷ ls) d = None
 after_all (Starts a ∷ ls) d = None
 
 -- the limit that the lines of an image set for all its entries
@@ -77,7 +70,7 @@ after_both : (ss ts : List Line) (d e : Layout) → after_all ss d ≡ Some e �
 after_both [] ts d e h = ap (λ o. o >>= after_all ts) h
 after_both (Says s note ∷ ss) ts d e h = after_step (after [] s d) (after_all ss) (after_all (ss ++ ts)) e (after_all ts e) (λ x k. after_both ss ts x e k) h
 after_both (Labels a ∷ ss) ts d e h = absurd (cc)
-after_both (Aims instr target note ∷ ss) ts d e h = absurd (cc)
+after_both (Codes w to note ∷ ss) ts d e h = absurd (cc)
 after_both (Starts a ∷ ss) ts d e h = absurd (cc)
 
 -- a layout with these registers
@@ -122,15 +115,9 @@ settings_laid d done (v ∷ vs) (z ∷ zs) n e same none h =
     ∙ ap (λ xs. after_all (settings (suc n) vs) (registers_in d xs)) (sym from)
     ∙ rest ∙ ap (λ xs. Some (registers_in d xs)) to
 
-value_in_text : (d : Layout) (w : ℕ) → d.section ≡ section.Text → with_value wide.Word w d ≡ with_word w d
+pub value_in_text : (d : Layout) (w : ℕ) → d.section ≡ section.Text → with_value wide.Word w d ≡ with_word w d
 unfolding with_value
 value_in_text d w text = rw text refl
-
--- a word is laid as what it is shown as
-pub shown_laid : MeansOne → (w : ℕ) (meant : Option Instr) (d : Layout) → w < 2 ^ 32 → meaning w ≡ meant → d.section ≡ section.Text → after [] (shown w meant) d ≡ with_word w d
-shown_laid law w None d h e text = value_in_text d w text
-shown_laid law w (Some (i.Fence rd rs1 imm)) d h e text = value_in_text d w text
-shown_laid law w (Some instr) d h e text = rw (text, (law w instr h).0 e) refl
 
 -- the version that a layout has is said again
 version_again : (v : Version) (d : Layout) → d.version ≡ Some v → with_version v d ≡ Some d

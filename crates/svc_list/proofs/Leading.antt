@@ -11,7 +11,7 @@ use Rattle.svc_operands.specs.Characters.{name_at}
 use Rattle.svc_asm.specs.DataLines.{next_at}
 use Rattle.svc_asm.specs.Programs.{Makes}
 use Rattle.svc_asm.proofs.Program.{same_laid}
-use Rattle.svc_list.specs.Listings.{HasText, statement_text, Line, Says, Labels, Aims, Starts, line_of, text_of}
+use Rattle.svc_list.specs.Listings.{HasText, statement_text, Line, Says, Labels, Codes, Starts, line_of, text_of}
 use Rattle.svc_list.proofs.LinesBack.{Trails, IsRead, line_back, next_back}
 use Rattle.svc_list.proofs.Keeping.{line_keeps, kept}
 use Rattle.svc_list.proofs.LayoutsBack.{after_all}
@@ -53,10 +53,8 @@ next_of ls d made (Some next) h = (next, refl, h)
 no_label : (name : List ℕ) (s : Statement) (d : Layout) → HasText s → after name s d ≡ after [] s d
 no_label name say.Nothing d h = refl
 no_label name say.Label d h = absurd h
-no_label name (say.Instruction instr) d h = refl
+no_label name (say.Instruction w) d h = absurd h
 no_label name (say.Word n) d h = refl
-no_label name say.Text d h = refl
-no_label name say.Data d h = refl
 no_label name (say.Version v) d h = refl
 no_label name say.ReadOnly d h = refl
 no_label name (say.Entry limit) d h = refl
@@ -64,7 +62,7 @@ no_label name (say.Start n) d h = refl
 no_label name (say.Limit n) d h = refl
 no_label name (say.Register r n) d h = refl
 no_label name (say.Pair i j) d h = absurd h
-no_label name (say.Section s) d h = absurd h
+no_label name (say.Section s) d h = refl
 no_label name (say.Zeros n) d h = absurd h
 no_label name (say.Align step) d h = absurd h
 no_label name (say.Open n) d h = absurd h
@@ -87,5 +85,5 @@ lines_lead (Says s note ∷ ls) d e line h k =
     let same = kept go.Line (after [] s d) step.0 (line_keeps go.Line s d h.0.0 line) step.1 in
     leads_both (line_of (Says s note)) (text_of ls) d step.0 e (line_leads s note d step.0 line h.0.0 h.0.1 step.1) (lines_lead ls step.0 e same h.1 step.2)
 lines_lead (Labels a ∷ ls) d e line h k = absurd h.0
-lines_lead (Aims instr target note ∷ ls) d e line h k = absurd h.0
+lines_lead (Codes w to note ∷ ls) d e line h k = absurd h.0
 lines_lead (Starts a ∷ ls) d e line h k = absurd h.0

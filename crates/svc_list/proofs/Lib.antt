@@ -5,6 +5,10 @@ pub mod NotesBack
 pub mod LayoutsBack
 pub mod LabelsBack
 pub mod AimsBack
+pub mod Parts
+pub mod FilledBack
+pub mod Listed
+pub mod RowsBack
 pub mod Leading
 pub mod CodeBack
 pub mod Keeping

@@ -1,13 +1,13 @@
 -- A name or a number is read back from its text.
-use Rattle.std.proofs.Common.{◌≡◌, ℕ, zero, suc, ◌+◌, ◌*◌, ◌/◌, ◌%◌, ◌^◌, ◌<◌, Bool, true, false, not, ◌&&◌, ◌||◌, ◌==◌, nat_lt, List, [], ◌∷◌, ◌++◌, length, Some, None, refl, ap, ◌∙◌, arith, decimal, take_while, slice_index}
+use Rattle.std.proofs.Common.{◌≡◌, inl, inr, sym, ℕ, zero, suc, ◌+◌, ◌*◌, ◌/◌, ◌%◌, ◌^◌, ◌<◌, Bool, true, false, not, ◌&&◌, ◌||◌, ◌==◌, nat_lt, List, [], ◌∷◌, ◌++◌, length, Some, None, refl, ap, ◌∙◌, arith, decimal, take_while, slice_index}
 use Rattle.std.proofs.lemmas.List.Sums.{take_while-cons}
-use Rattle.std.proofs.lemmas.Bool.{and_parts, and_from, not-true, le-leb, ne_eqb, agree_below_at}
+use Rattle.std.proofs.lemmas.Bool.{and_parts, and_from, not-true, le-leb, ne_eqb, agree_below_at, cases_Bool}
 use Rattle.std.proofs.lemmas.Fmt.{decimal_by_steps}
 use Rattle.std.proofs.lemmas.List.{length-append}
 use Rattle.svc_draft.specs.Options.{◌>>=◌}
-use Rattle.svc_operands.specs.Characters.{is_space, opens, is_name, past_blanks, past_spaces, past, name_at, past_name, behind, digit, push_digit, value_on, behind_zero, number_of}
+use Rattle.svc_operands.specs.Characters.{is_space, opens, is_name, past_blanks, past_spaces, begins_over, is_over, past, name_at, past_name, behind, digit, push_digit, value_on, behind_zero, number_of}
 use Rattle.svc_operands.specs.Values.{sum_from}
-use Rattle.svc_asm.specs.Statements.{end_at}
+use Rattle.svc_asm.specs.Statements.{behind_end, end_at}
 
 -- a space, or the slash that opens a comment
 abbrev pub is_blank : ℕ → Bool
@@ -72,6 +72,22 @@ pub record Ends (rest tail : List ℕ) : Type 0 where
   pub no_name : name_at rest ≡ []
   pub no_sign : (n : ℕ) → sum_from n rest (past_spaces rest) ≡ Some (n, rest)
   pub over : end_at rest ≡ Some tail
+
+over_behind : (text tail : List ℕ) → behind_end text ≡ Some tail → begins_over text ≡ true
+over_behind [] tail h = refl
+over_behind (c ∷ rest) tail h =
+    elim (cases_Bool (c == 10)) [
+      | inl feed ↦ rw feed refl
+      | inr other ↦
+          elim (cases_Bool (c == 35)) [
+            | inl hash ↦ rw (other, hash) refl
+            | inr none ↦ absurd (let gone : None ≡ Some tail = sym (rw (other, none) refl) ∙ h in cc)
+          ]
+    ]
+
+pub ends_over : (rest tail : List ℕ) → Ends rest tail → is_over rest ≡ true
+unfolding end_at
+ends_over rest tail e = over_behind (past_spaces rest) tail e.over
 
 pub no_colon : (rest : List ℕ) → stops rest ≡ true → behind 58 rest ≡ None
 no_colon [] k = refl

@@ -13,8 +13,8 @@ use Rattle.svc_draft.specs.Layouts.{Layout}
 use Rattle.svc_operands.specs.Names.{numbered, register_named}
 use Rattle.svc_operands.specs.Operands.{register_at, first_register_at, number_at, behind_sign, signed_from, signed_at, wrapped, short_of, halved, branch_of, jump_of, upper_of, amount, amount_of, number_short_at, number_upper_at, amount_at}
 use Rattle.svc_operands.specs.Targets.{offset_at, branch_at, jump_at}
-use Rattle.svc_operands.specs.Values.{plain_term_at, term_from, term_at, value_at, short_at, upper_at, address_at}
-use Rattle.svc_list.specs.Listings.{register_text, first_text, short_text, offset_text, address_text, upper_text}
+use Rattle.svc_operands.specs.Values.{plain_term_at, term_from, term_at, value_at, short_at, upper_at}
+use Rattle.svc_list.specs.Listings.{register_text, first_text, short_text, offset_text, upper_text}
 use Rattle.svc_rv32i.proofs.Same.{same_register, same_short, same_long, same_amount}
 use Rattle.svc_list.proofs.NamesBack.{all_dense, stops, Ends, at_name, at_rest, no_slash, no_space, is_digit, digit_no_minus, all_digits, first_digit, digits_dense, numerals}
 
@@ -267,10 +267,3 @@ unfolding amount_at amount_of
 amount_back a rest s =
     let fits : nat_lt a.bits 32 ≡ true = le-leb (suc a.bits) 32 (omega (arith, a.in_range)) in
     rw (spaced_number_back a.bits rest (omega (arith, a.in_range)) s, fits) (ap (λ x. Some (x, rest)) (amount_is a))
-
-pub address_back : (d : Layout) (imm : Short) (base : Register) (rest : List ℕ) → address_at d (address_text imm base ++ rest) ≡ Some ((imm, base), rest)
-unfolding address_at past past_blanks is_name
-address_back d imm base rest =
-    let inside = register_text base ++ (41 ∷ []) in
-    ap (address_at d) (append_assoc (short_text imm) (40 ∷ inside) rest ∙ ap (λ x. short_text imm ++ (40 ∷ x)) (append_assoc (register_text base) (41 ∷ []) rest))
-    ∙ rw (short_back d imm (40 ∷ (register_text base ++ (41 ∷ rest))) refl, register_back base (41 ∷ rest) refl, no_slash 41 rest refl) refl

@@ -6,6 +6,7 @@ use Rattle.svc_rv32i.specs.Meaning.{register}
 use Rattle.svc_image.specs.declared.version.Version.{Version}
 use Rattle.svc_image.specs.declared.version.Version.TheVariants as version
 use Rattle.svc_image.specs.Image.{Image}
+use Rattle.svc_draft.specs.declared.section.Section.TheVariants as section
 use Rattle.svc_draft.specs.declared.statement.Statement.TheVariants as say
 use Rattle.svc_list.specs.Listings.{label_text, Labels, Line, bare, line_of, text_of, coded, Starts, labels, is_labelled, datum, setting, settings, own_limit, marks, code, data_lines, all_data, head_lines, lines_of, listing_of}
 
@@ -84,12 +85,12 @@ unfolding text_of
 fixed_data n front back = text_both (data_lines 1048576 front) (bare say.ReadOnly ∷ data_lines (1048576 + 4 * n) back)
 
 -- the listing, part by part
-pub listing_parts : (img : Image) → listing_of img ≡ text_of (head_lines img.version (slice_index img.limits 0) img.start) ++ (text_of (settings 1 img.registers) ++ (text_of (code (length img.text) (is_labelled img.entries img.text) 0 (marks img.version img.entries img.limits) img.text) ++ (line_of (bare say.Data) ++ text_of (all_data img.version img.read_only img.words))))
+pub listing_parts : (img : Image) → listing_of img ≡ text_of (head_lines img.version (slice_index img.limits 0) img.start) ++ (text_of (settings 1 img.registers) ++ (text_of (code (length img.text) (is_labelled img.entries img.text) 0 (marks img.version img.entries img.limits) img.text) ++ (line_of (bare (say.Section section.Data)) ++ text_of (all_data img.version img.read_only img.words))))
 unfolding listing_of lines_of text_of
 listing_parts img =
     let head = head_lines img.version (slice_index img.limits 0) img.start in
     let words = code (length img.text) (is_labelled img.entries img.text) 0 (marks img.version img.entries img.limits) img.text in
-    let body = bare say.Data ∷ all_data img.version img.read_only img.words in
+    let body = bare (say.Section section.Data) ∷ all_data img.version img.read_only img.words in
     text_both head (settings 1 img.registers ++ (words ++ body))
     ∙ ap (λ (xs : List ℕ). text_of head ++ xs) (text_both (settings 1 img.registers) (words ++ body)
     ∙ ap (λ (xs : List ℕ). text_of (settings 1 img.registers) ++ xs) (text_both words body))

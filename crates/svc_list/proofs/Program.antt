@@ -6,9 +6,10 @@ use Rattle.std.specs.List.Sorted.{IsStrictlyIncreasing}
 use Rattle.std.proofs.lemmas.Bool.{eqb-true, or_cases, or_left, or_right, eq-eqb}
 use Rattle.std.proofs.lemmas.List.{append-nil, append_assoc}
 use Rattle.std.proofs.lemmas.List.Elements.{All-head, All-tail, recursion_from_All}
-use Rattle.svc_rv32i.specs.declared.instr.Instr.{Instr}
-use Rattle.svc_rv32i.specs.declared.instr.Instr.TheVariants as i
-use Rattle.svc_rv32i.specs.Meaning.{register, meaning}
+use Rattle.svc_rv32i.specs.Meaning.{register}
+use Rattle.svc_operands.specs.Characters.{found}
+use Rattle.svc_instructions.specs.declared.table.Row.{Row}
+use Rattle.svc_instructions.specs.Instructions.{row_of}
 use Rattle.svc_image.specs.declared.version.Version.{Version}
 use Rattle.svc_image.specs.declared.version.Version.TheVariants as version
 use Rattle.svc_image.specs.Version.{read_only_by}
@@ -22,14 +23,16 @@ use Rattle.svc_draft.specs.Layouts.{Layout, Names, no_names, zeros, address_of, 
 use Rattle.svc_draft.proofs.Wordwise.{length-bytes_of_words}
 use Rattle.svc_operands.specs.Characters.{is_name, past_name, behind}
 use Rattle.svc_operands.specs.Values.{value_at}
-use Rattle.svc_asm.specs.Statements.{start_at, directive_at, statement_at, line_at}
+use Rattle.svc_operands.specs.Names.{padded}
+use Rattle.svc_asm.specs.Directives.{said_by}
+use Rattle.svc_asm.specs.Statements.{said_at, start_at, directive_at, statement_at, line_at}
 use Rattle.svc_asm.specs.Programs.{IsProgramOf}
-use Rattle.svc_list.specs.Listings.{label_text, HasText, Line, Starts, bare, line_of, text_of, led, target_of, is_at, is_target, is_labelled, setting, settings, own_limit, marks, code, data_lines, all_data, head_lines, listing_of}
+use Rattle.svc_list.specs.Listings.{label_text, HasText, Line, Starts, bare, line_of, text_of, led_along, target_by, target_of, is_at, is_target, is_labelled, setting, settings, own_limit, marks, code, data_lines, all_data, head_lines, listing_of}
 use Rattle.svc_list.proofs.LinesBack.{IsRead, by_directive, directive_stops, unlabelled, next_back, ended_back}
 use Rattle.svc_list.proofs.NotesBack.{bare_ends, address_ends}
 use Rattle.svc_list.proofs.LabelsBack.{text_spot}
 use Rattle.svc_list.proofs.AimsBack.{label_value}
-use Rattle.svc_list.proofs.LayoutsBack.{MeansOne, Above, common_limit, layout_for, registers_in, settings_laid, are_zeros, marks_are, marks_few, limit_laid, marks_entries, marks_limits, limits_of, all_data_laid, image_file}
+use Rattle.svc_list.proofs.LayoutsBack.{Above, common_limit, layout_for, registers_in, settings_laid, are_zeros, marks_are, marks_few, limit_laid, marks_entries, marks_limits, limits_of, all_data_laid, image_file}
 use Rattle.svc_list.proofs.Leading.{Leads, one_leads, leads_none, leads_both, leads_at, leads_whole, line_leads, lines_lead}
 use Rattle.svc_list.proofs.CodeBack.{Good, HaveLabels, with_code, words_in, names_in, known_address, unknown_address, here_is, placed_is, code_leads, words_known, names_known, names_found}
 use Rattle.svc_list.proofs.Printing.{listing_parts}
@@ -154,7 +157,7 @@ start_value : (d : Layout) (a x : ℕ) (tail : List ℕ) → address_of d (label
 start_value d a x tail e = label_value d a x (10 ∷ tail) tail (bare_ends tail) e
 
 start_said : (d : Layout) (a x : ℕ) (tail : List ℕ) → address_of d (label_text a) ≡ Some x → statement_at d (codes ".svc_start " ++ (label_text a ++ (10 ∷ tail))) ≡ Some (say.Start x, 10 ∷ tail)
-unfolding is_name directive_at start_at
+unfolding is_name directive_at said_by padded said_at start_at
 start_said d a x tail e = by_directive d (codes "svc_start") (32 ∷ (label_text a ++ (10 ∷ tail))) refl refl ∙ rw (start_value d a x tail e) refl
 
 start_stops : (a : ℕ) (tail : List ℕ) → behind 58 (past_name (codes ".svc_start " ++ (label_text a ++ (10 ∷ tail)))) ≡ None
@@ -208,18 +211,19 @@ head_leads version.Two limit start names known from fit begins =
     leads_both (line_of (bare (say.Version version.Two))) (line_of (Starts start) ++ []) d₀ d₁ d₃ (line_leads (say.Version version.Two) [] d₀ d₁ refl tt bare_ends refl) last
 
 -- each target has a label
-target_whole : (count address : ℕ) (meant : Option Instr) (t : ℕ) → target_of count address meant ≡ Some t → t % 4 ≡ 0
-target_whole count address None t e = absurd (cc)
-target_whole count address (Some (i.Jal rd imm)) t e = (placed_is count (led 524288 address imm.bits) t e).1
-target_whole count address (Some (i.Branch test rs1 rs2 imm)) t e = (placed_is count (led 2048 address imm.bits) t e).1
-target_whole count address (Some instr) t e = absurd (cc)
+found_whole : (count address w : ℕ) (row : Option Row) (t : ℕ) → found row (λ r. target_by count address w r) None ≡ Some t → t % 4 ≡ 0
+found_whole count address w None t e = absurd (cc)
+found_whole count address w (Some r) t e = (placed_is count (led_along address w r.2) t e).1
+
+target_whole : (count address w : ℕ) (t : ℕ) → target_of count address w ≡ Some t → t % 4 ≡ 0
+target_whole count address w t e = found_whole count address w (row_of w) t e
 
 have_labels : (count : ℕ) (labelled : ℕ → Bool) (n : ℕ) (ws : List ℕ) → ((k : ℕ) → is_target count (4 * k) n ws ≡ true → labelled k ≡ true) → HaveLabels count labelled n ws
 have_labels count labelled n [] h = tt
 have_labels count labelled n (w ∷ ws) h = (
-  λ t e. h (t / 4) (or_left (is_at (4 * (t / 4)) (target_of count (4 * n) (meaning w))) (is_target count (4 * (t / 4)) (suc n) ws)
-      (ap (is_at (4 * (t / 4))) e ∙ eq-eqb t (4 * (t / 4)) (omega (arith, target_whole count (4 * n) (meaning w) t e)))),
-  have_labels count labelled (suc n) ws (λ k g. h k (or_right (is_at (4 * k) (target_of count (4 * n) (meaning w))) (is_target count (4 * k) (suc n) ws) g)),
+  λ t e. h (t / 4) (or_left (is_at (4 * (t / 4)) (target_of count (4 * n) w)) (is_target count (4 * (t / 4)) (suc n) ws)
+      (ap (is_at (4 * (t / 4))) e ∙ eq-eqb t (4 * (t / 4)) (omega (arith, target_whole count (4 * n) w t e)))),
+  have_labels count labelled (suc n) ws (λ k g. h k (or_right (is_at (4 * k) (target_of count (4 * n) w)) (is_target count (4 * k) (suc n) ws) g)),
 )
 
 image_labels : (img : Image) → HaveLabels (length img.text) (is_labelled img.entries img.text) 0 img.text
@@ -237,9 +241,9 @@ abbrev passed : Names → Bool → ℕ → Image → Layout
 passed names known from img =
     record (layout_for (names_in known (is_labelled img.entries img.text) 0 img.text names) known from img) { start = Some (begun known img.start); text = words_in known (length img.text) 0 img.text }
 
-pass_leads : MeansOne → (names : Names) (known : Bool) (from : ℕ) (img : Image) → IsImage img → Begins known names img.start → Good known (length img.text) (is_labelled img.entries img.text) 0 names
+pass_leads : (names : Names) (known : Bool) (from : ℕ) (img : Image) → IsImage img → Begins known names img.start → Good known (length img.text) (is_labelled img.entries img.text) 0 names
     → Leads (listing_of img) (empty names known 0 from) (passed names known from img)
-pass_leads law names known from img sound begins good =
+pass_leads names known from img sound begins good =
     let v = img.version in
     let limit = slice_index img.limits 0 in
     let count = length img.text in
@@ -258,13 +262,13 @@ pass_leads law names known from img sound begins good =
     let placed = marks_are v 0 (4 * (0 + count)) img.entries img.limits (recursion_from_All IsLimit img.limits sound.limits_fit) (subst (λ (t : ℕ). Above 0 t img.entries) top above) in
     let first = head_leads v limit img.start names known from (first_limit img.limits sound.limits_fit (omega (arith, sound.limits_each, sound.entries_some))) begins in
     let second = lines_lead (settings 1 img.registers) d₁ d₂ refl (settings_text 1 img.registers (fits img.registers sound.registers_fit)) (settings_laid d₁ [] img.registers zeros 1 refl (sym sound.registers_all) (are_zeros zeros refl) (omega (arith, sound.registers_all))) in
-    let third = code_leads law known count labelled sound.text_few ms img.text 0 d₂ (omega arith) (fits img.text sound.text_fits) (marks_text v img.entries img.limits limits) placed (record { text = refl; words = refl; pass = refl; line = refl }) (omega (arith, marks_few v img.entries img.limits, sound.entries_few)) (λ k above. refl) good (image_labels img) in
-    let fourth = line_leads say.Data [] d₃ d₄ refl tt bare_ends refl in
+    let third = code_leads known count labelled sound.text_few ms img.text 0 d₂ (omega arith) (fits img.text sound.text_fits) (marks_text v img.entries img.limits limits) placed (record { text = refl; words = refl; pass = refl; line = refl }) (omega (arith, marks_few v img.entries img.limits, sound.entries_few)) (λ k above. refl) good (image_labels img) in
+    let fourth = line_leads (say.Section section.Data) [] d₃ d₄ refl tt bare_ends refl in
     let fifth = lines_lead (all_data v img.read_only img.words) d₄ d₅ refl (all_data_text v img.read_only img.words (fits img.words sound.words_fit)) (all_data_laid v img.read_only img.words d₄ refl refl (refl, refl) refl refl refl sound.read_only_few sound.words_few) in
     let body = text_of (all_data v img.read_only img.words) in
     let words = text_of (code count labelled 0 ms img.text) in
     let sets = text_of (settings 1 img.registers) in
-    let mark = line_of (bare say.Data) in
+    let mark = line_of (bare (say.Section section.Data)) in
     let whole = leads_both (text_of (head_lines v limit img.start)) (sets ++ (words ++ (mark ++ body))) d₀ d₁ d₅ first
     (leads_both sets (words ++ (mark ++ body)) d₁ d₂ d₅ second (leads_both words (mark ++ body) d₂ d₃ d₅ third (leads_both mark body d₃ d₄ d₅ fourth fifth))) in
     leads_at (listing_of img) d₀ d₅ (passed names known from img)
@@ -289,20 +293,20 @@ start_found img sound =
     )
 
 -- the second pass lays the image itself
-second_laid : (names : Names) (from : ℕ) (img : Image) → passed names true from img ≡ layout_for names true from img
-second_laid names from img =
-    ap (λ (ws : List ℕ). record (passed names true from img) { text = ws }) (words_known (length img.text) 0 img.text)
+second_laid : (names : Names) (from : ℕ) (img : Image) → IsImage img → passed names true from img ≡ layout_for names true from img
+second_laid names from img sound =
+    ap (λ (ws : List ℕ). record (passed names true from img) { text = ws }) (words_known (length img.text) 0 img.text (recursion_from_All (λ w. w < 2 ^ 32) img.text sound.text_fits))
     ∙ ap (λ (found : Names). layout_for found true from img) (names_known (is_labelled img.entries img.text) 0 img.text names)
 
 -- the listing of an image is a program of it
-pub listing_is_program : MeansOne → (img : Image) → IsImage img → IsProgramOf (listing_of img) img
-listing_is_program law img sound =
+pub listing_is_program : (img : Image) → IsImage img → IsProgramOf (listing_of img) img
+listing_is_program img sound =
     let names = found_names img in
     let from = bss_behind img in
-    let first = leads_whole (listing_of img) (empty no_names false 0 0) (passed no_names false 0 img) (pass_leads law no_names false 0 img sound tt (λ k above low. refl)) in
+    let first = leads_whole (listing_of img) (empty no_names false 0 0) (passed no_names false 0 img) (pass_leads no_names false 0 img sound tt (λ k above low. refl)) in
     let second = leads_whole (listing_of img) (empty names true 0 from) (layout_for names true from img)
-    (leads_at (listing_of img) (empty names true 0 from) (passed names true from img) (layout_for names true from img) (second_laid names from img)
-    (pass_leads law names true from img sound (start_found img sound) (found_all img sound))) in
+    (leads_at (listing_of img) (empty names true 0 from) (passed names true from img) (layout_for names true from img) (second_laid names from img sound)
+    (pass_leads names true from img sound (start_found img sound) (found_all img sound))) in
     record {
       layout = layout_for names true from img;
       laid = record { first_lines = first.0; first = passed no_names false 0 img; finds = first.1; lines = second.0; makes = second.1 };

@@ -2,6 +2,7 @@
 use Rattle.std.proofs.Common.{length, ◌≡◌, ℕ, List, [], ◌++◌, ap, sym, ◌∙◌, slice_index}
 use Rattle.svc_image.specs.declared.version.Version.{Version}
 use Rattle.svc_image.specs.Image.{Image}
+use Rattle.svc_draft.specs.declared.section.Section.TheVariants as section
 use Rattle.svc_draft.specs.declared.statement.Statement.TheVariants as say
 use Rattle.svc_list.specs.Listings.{is_labelled, bare, line_of, text_of, settings, marks, code, all_data, head_lines, listing_of}
 use Rattle.svc_list.proofs.Printing.{five, listing_parts}
@@ -9,7 +10,7 @@ use Rattle.svc_list.proofs.Printing.{five, listing_parts}
 -- the listing of what has these fields
 abbrev parts : Version → (limit start : ℕ) → (registers entries limits text : List ℕ) → ℕ → List ℕ → List ℕ
 parts v limit start registers entries limits text n words =
-    text_of (head_lines v limit start) ++ (text_of (settings 1 registers) ++ (text_of (code (length text) (is_labelled entries text) 0 (marks v entries limits) text) ++ (line_of (bare say.Data) ++ text_of (all_data v n words))))
+    text_of (head_lines v limit start) ++ (text_of (settings 1 registers) ++ (text_of (code (length text) (is_labelled entries text) 0 (marks v entries limits) text) ++ (line_of (bare (say.Section section.Data)) ++ text_of (all_data v n words))))
 
 -- what is read of an image
 pub record AreFields (img : Image) (v : Version) (limit start : ℕ) (registers entries limits text : List ℕ) (n : ℕ) (words : List ℕ) : Type 0 where
@@ -38,8 +39,8 @@ all_parts img v limit start registers entries limits text n words f =
 
 pub listed_whole : (img : Image) (v : Version) (limit start : ℕ) (registers entries limits text : List ℕ) (n : ℕ) (words o₀ o₁ o₂ o₃ o₄ o₅ : List ℕ) → AreFields img v limit start registers entries limits text n words
     → o₀ ≡ [] → o₁ ≡ o₀ ++ text_of (head_lines v limit start) → o₂ ≡ o₁ ++ text_of (settings 1 registers) → o₃ ≡ o₂ ++ text_of (code (length text) (is_labelled entries text) 0 (marks v entries limits) text)
-    → o₄ ≡ o₃ ++ line_of (bare say.Data) → o₅ ≡ o₄ ++ text_of (all_data v n words) → o₅ ≡ listing_of img
+    → o₄ ≡ o₃ ++ line_of (bare (say.Section section.Data)) → o₅ ≡ o₄ ++ text_of (all_data v n words) → o₅ ≡ listing_of img
 listed_whole img v limit start registers entries limits text n words o₀ o₁ o₂ o₃ o₄ o₅ f none e₁ e₂ e₃ e₄ e₅ =
-    five o₁ o₂ o₃ o₄ o₅ (text_of (head_lines v limit start)) (text_of (settings 1 registers)) (text_of (code (length text) (is_labelled entries text) 0 (marks v entries limits) text)) (line_of (bare say.Data)) (text_of (all_data v n words))
+    five o₁ o₂ o₃ o₄ o₅ (text_of (head_lines v limit start)) (text_of (settings 1 registers)) (text_of (code (length text) (is_labelled entries text) 0 (marks v entries limits) text)) (line_of (bare (say.Section section.Data))) (text_of (all_data v n words))
     (e₁ ∙ ap (λ (xs : List ℕ). xs ++ text_of (head_lines v limit start)) none) e₂ e₃ e₄ e₅
     ∙ all_parts img v limit start registers entries limits text n words f

@@ -1,2 +1,1 @@
-pub mod InstructionNames
 pub mod Listings

@@ -6,14 +6,20 @@ use Rattle.svc_rv32i.specs.declared.instr.Short.{Short}
 use Rattle.svc_rv32i.specs.declared.instr.Long.{Long}
 use Rattle.svc_rv32i.specs.declared.instr.Instr.{Instr}
 use Rattle.svc_rv32i.specs.declared.instr.Instr.TheVariants as i
-use Rattle.svc_rv32i.specs.Meaning.{register, meaning}
+use Rattle.svc_rv32i.specs.Meaning.{register, short, long}
 use Rattle.svc_image.specs.declared.version.Version.{Version}
 use Rattle.svc_image.specs.declared.version.Version.TheVariants as version
 use Rattle.svc_image.specs.Version.{version_number}
 use Rattle.svc_image.specs.Image.{Image}
+use Rattle.svc_draft.specs.declared.section.Section.{Section}
+use Rattle.svc_draft.specs.declared.section.Section.TheVariants as section
 use Rattle.svc_draft.specs.declared.statement.Statement.{Statement}
 use Rattle.svc_draft.specs.declared.statement.Statement.TheVariants as say
-use Rattle.svc_list.specs.InstructionNames.{operation_name, immediate_name, shift_name, comparison_name, load_name, store_name}
+use Rattle.svc_operands.specs.Characters.{found, name_at}
+use Rattle.svc_instructions.specs.declared.table.Part.{Part}
+use Rattle.svc_instructions.specs.declared.table.Part.TheVariants as part
+use Rattle.svc_instructions.specs.declared.table.Row.{Row}
+use Rattle.svc_instructions.specs.Instructions.{taken, row_of}
 
 -- an operand behind its space, and the comma behind it
 abbrev pub register_text : Register → List ℕ
@@ -36,85 +42,8 @@ short_text imm = 32 ∷ signed_text 2048 imm.bits
 abbrev pub offset_text : ℕ → ℕ → List ℕ
 offset_text half n = if nat_lt n half then codes " . + " ++ decimal (2 * n) else codes " . - " ++ decimal (2 * (2 * half - n))
 
--- an address: an immediate and a register in parentheses
-abbrev pub address_text : Short → Register → List ℕ
-address_text imm base = short_text imm ++ (40 ∷ (register_text base ++ (41 ∷ [])))
-
 abbrev pub upper_text : Long → List ℕ
 upper_text imm = 32 ∷ decimal imm.bits
-
--- an instruction: its name and its operands
-unfoldable pub instruction_text : Instr → List ℕ
-instruction_text (i.Lui rd imm) = codes "lui" ++ (first_text rd ++ upper_text imm)
-instruction_text (i.Auipc rd imm) = codes "auipc" ++ (first_text rd ++ upper_text imm)
-instruction_text (i.Jal rd imm) = codes "jal" ++ (first_text rd ++ offset_text 524288 imm.bits)
-instruction_text (i.Jalr rd rs1 imm) = codes "jalr" ++ (first_text rd ++ address_text imm rs1)
-instruction_text (i.Branch test rs1 rs2 imm) = comparison_name test ++ (first_text rs1 ++ (first_text rs2 ++ offset_text 2048 imm.bits))
-instruction_text (i.Load kind rd rs1 imm) = load_name kind ++ (first_text rd ++ address_text imm rs1)
-instruction_text (i.Store kind rs1 rs2 imm) = store_name kind ++ (first_text rs2 ++ address_text imm rs1)
-instruction_text (i.OpImm op rd rs1 imm) = immediate_name op ++ (first_text rd ++ (first_text rs1 ++ short_text imm))
-instruction_text (i.ShiftImm op rd rs1 amount) = shift_name op ++ (first_text rd ++ (first_text rs1 ++ (32 ∷ decimal amount.bits)))
-instruction_text (i.Op op rd rs1 rs2) = operation_name op ++ (first_text rd ++ (first_text rs1 ++ last_text rs2))
-instruction_text (i.Fence rd rs1 imm) = []
-instruction_text i.Ecall = codes "ecall"
-instruction_text i.Ebreak = codes "ebreak"
-
--- the instructions that are shown as such
-abbrev pub IsShown : Instr → Type 0
-IsShown (i.Fence rd rs1 imm) = ⊥
-IsShown instr = Unit {0}
-
--- the limit that an entry has of its own
-abbrev pub own_text : Option ℕ → List ℕ
-own_text None = []
-own_text (Some n) = 32 ∷ decimal n
-
--- what a line says, as text
-unfoldable pub statement_text : Statement → List ℕ
-statement_text say.Nothing = []
-statement_text say.Label = []
-statement_text (say.Instruction instr) = instruction_text instr
-statement_text (say.Word n) = codes ".word " ++ decimal n
-statement_text say.Text = codes ".text"
-statement_text say.Data = codes ".data"
-statement_text (say.Version v) = codes ".svc_version " ++ decimal (version_number v)
-statement_text say.ReadOnly = codes ".svc_readonly"
-statement_text (say.Entry limit) = codes ".svc_entry" ++ own_text limit
-statement_text (say.Start n) = codes ".svc_start " ++ decimal n
-statement_text (say.Limit n) = codes ".svc_limit " ++ decimal n
-statement_text (say.Register r n) = codes ".svc_register" ++ (first_text r ++ (32 ∷ decimal n))
-statement_text (say.Pair i j) = []
-statement_text (say.Section s) = []
-statement_text (say.Zeros n) = []
-statement_text (say.Align step) = []
-statement_text (say.Open n) = []
-statement_text (say.Value w n next) = []
-statement_text (say.Symbol s) = []
-statement_text (say.Common n step) = []
-statement_text (say.Local n) = []
-statement_text (say.Relative i n) = []
-
--- what has a text that is read back
-abbrev pub HasText : Statement → Type 0
-HasText say.Nothing = ⊥
-HasText say.Label = ⊥
-HasText (say.Instruction instr) = IsShown instr
-HasText (say.Word n) = n < 2 ^ 32
-HasText (say.Entry (Some n)) = n < 2 ^ 32
-HasText (say.Start n) = n < 2 ^ 32
-HasText (say.Limit n) = n < 2 ^ 32
-HasText (say.Register r n) = n < 2 ^ 32
-HasText (say.Pair i j) = ⊥
-HasText (say.Section s) = ⊥
-HasText (say.Zeros n) = ⊥
-HasText (say.Align step) = ⊥
-HasText (say.Open n) = ⊥
-HasText (say.Value w n next) = ⊥
-HasText (say.Symbol s) = ⊥
-HasText (say.Common n step) = ⊥
-HasText (say.Local n) = ⊥
-HasText (say.Relative i n) = ⊥
-HasText _ = Unit {0}
 
 -- a word in eight hexadecimal digits
 abbrev pub hex_digit : ℕ → ℕ
@@ -129,11 +58,99 @@ hex_text n =
 abbrev pub label_text : ℕ → List ℕ
 label_text address = codes "at_" ++ hex_text address
 
--- a branch or a jump, by the label of its target
-abbrev pub aimed_text : Instr → ℕ → List ℕ
-aimed_text (i.Jal rd imm) target = codes "jal" ++ (first_text rd ++ (32 ∷ label_text target))
-aimed_text (i.Branch test rs1 rs2 imm) target = comparison_name test ++ (first_text rs1 ++ (first_text rs2 ++ (32 ∷ label_text target)))
-aimed_text _ target = []
+-- how far a branch or a jump goes: to a label, where one is given
+abbrev pub reach_text : Option ℕ → (half steps : ℕ) → List ℕ
+reach_text None half steps = offset_text half steps
+reach_text (Some target) half steps = 32 ∷ label_text target
+
+-- an operand by its number; none of a fence is shown
+unfoldable pub part_text : Option ℕ → Part → ℕ → List ℕ
+part_text to part.End n = []
+part_text to part.Comma n = 44 ∷ []
+part_text to part.Rd n = last_text (register (n % 2 ^ 5))
+part_text to part.Rs1 n = last_text (register (n % 2 ^ 5))
+part_text to part.Rs2 n = last_text (register (n % 2 ^ 5))
+part_text to part.Base n = 40 ∷ (register_text (register (n % 2 ^ 5)) ++ (41 ∷ []))
+part_text to part.Immediate n = short_text (short n)
+part_text to part.StoreOffset n = short_text (short n)
+part_text to part.Amount n = 32 ∷ decimal (n % 2 ^ 5)
+part_text to part.Upper n = upper_text (long n)
+part_text to part.Order n = []
+part_text to part.Branch n = reach_text to 2048 (n % 2 ^ 12)
+part_text to part.Jump n = reach_text to 524288 (n % 2 ^ 20)
+
+-- the operands of a word, and its instruction: the name of its row and its operands
+abbrev pub parts_text : Option ℕ → List Part → ℕ → List ℕ
+parts_text to [] w = []
+parts_text to (p ∷ more) w = part_text to p (taken p w) ++ parts_text to more w
+
+abbrev pub row_text : Option ℕ → Row → ℕ → List ℕ
+row_text to r w = name_at r.0 ++ parts_text to r.2 w
+
+-- a word of the text: its instruction, or, where it has none that is shown, its number
+abbrev pub code_text : Option ℕ → ℕ → List ℕ
+code_text to w = found (row_of w) (λ r. row_text to r w) (codes ".word " ++ decimal w)
+
+-- the instructions that are shown as such: a fence may have fields that no text names
+abbrev pub IsShown : Instr → Type 0
+IsShown (i.Fence rd rs1 imm) = ⊥
+IsShown instr = Unit {0}
+
+-- the limit that an entry has of its own
+abbrev pub own_text : Option ℕ → List ℕ
+own_text None = []
+own_text (Some n) = 32 ∷ decimal n
+
+-- a section, by its own name
+abbrev pub section_text : Section → List ℕ
+section_text section.Text = codes ".text"
+section_text section.Rodata = codes ".rodata"
+section_text section.Data = codes ".data"
+section_text section.Bss = codes ".bss"
+
+-- what a line says, as text
+unfoldable pub statement_text : Statement → List ℕ
+statement_text say.Nothing = []
+statement_text say.Label = []
+statement_text (say.Instruction w) = []
+statement_text (say.Word n) = codes ".word " ++ decimal n
+statement_text (say.Version v) = codes ".svc_version " ++ decimal (version_number v)
+statement_text say.ReadOnly = codes ".svc_readonly"
+statement_text (say.Entry limit) = codes ".svc_entry" ++ own_text limit
+statement_text (say.Start n) = codes ".svc_start " ++ decimal n
+statement_text (say.Limit n) = codes ".svc_limit " ++ decimal n
+statement_text (say.Register r n) = codes ".svc_register" ++ (first_text r ++ (32 ∷ decimal n))
+statement_text (say.Pair i j) = []
+statement_text (say.Section s) = section_text s
+statement_text (say.Zeros n) = []
+statement_text (say.Align step) = []
+statement_text (say.Open n) = []
+statement_text (say.Value w n next) = []
+statement_text (say.Symbol s) = []
+statement_text (say.Common n step) = []
+statement_text (say.Local n) = []
+statement_text (say.Relative i n) = []
+
+-- what has a text that is read back
+abbrev pub HasText : Statement → Type 0
+HasText say.Nothing = ⊥
+HasText say.Label = ⊥
+HasText (say.Instruction w) = ⊥
+HasText (say.Word n) = n < 2 ^ 32
+HasText (say.Entry (Some n)) = n < 2 ^ 32
+HasText (say.Start n) = n < 2 ^ 32
+HasText (say.Limit n) = n < 2 ^ 32
+HasText (say.Register r n) = n < 2 ^ 32
+HasText (say.Pair i j) = ⊥
+HasText (say.Zeros n) = ⊥
+HasText (say.Align step) = ⊥
+HasText (say.Open n) = ⊥
+HasText (say.Value w n next) = ⊥
+HasText (say.Symbol s) = ⊥
+HasText (say.Common n step) = ⊥
+HasText (say.Local n) = ⊥
+HasText (say.Relative i n) = ⊥
+HasText _ = Unit {0}
 
 -- the comments behind a word of the text, by its address and its bits, and behind a word of the data, by its address
 abbrev pub address_note : ℕ → List ℕ
@@ -142,11 +159,11 @@ address_note address = 9 ∷ (codes "# 0x" ++ hex_text address)
 abbrev pub word_note : (address word : ℕ) → List ℕ
 word_note address word = address_note address ++ (32 ∷ hex_text word)
 
--- a line: a statement and the comment behind it, if any; a label; a branch or a jump by its target's label, and the comment behind it; or the start, by its label
+-- a line: a statement and the comment behind it, if any; a label; a word of the text, the address that it leads to, if any, and the comment behind it; or the start, by its label
 pub data Line : Type 0 where
   Says : Statement → List ℕ → Line
   Labels : ℕ → Line
-  Aims : Instr → ℕ → List ℕ → Line
+  Codes : ℕ → Option ℕ → List ℕ → Line
   Starts : ℕ → Line
 
 abbrev pub bare : Statement → Line
@@ -155,7 +172,7 @@ bare s = Says s []
 abbrev pub line_of : Line → List ℕ
 line_of (Says s note) = statement_text s ++ (note ++ (10 ∷ []))
 line_of (Labels address) = label_text address ++ (58 ∷ 10 ∷ [])
-line_of (Aims instr target note) = aimed_text instr target ++ (note ++ (10 ∷ []))
+line_of (Codes w to note) = code_text to w ++ (note ++ (10 ∷ []))
 line_of (Starts address) = codes ".svc_start " ++ (label_text address ++ (10 ∷ []))
 
 unfoldable pub text_of : List Line → List ℕ
@@ -172,11 +189,22 @@ abbrev pub placed : ℕ → Option ℕ → Option ℕ
 placed count None = None
 placed count (Some address) = if address % 4 == 0 && nat_lt address (4 * count) then Some address else None
 
--- where in the text the branch or the jump at an address leads
-abbrev pub target_of : (count address : ℕ) → Option Instr → Option ℕ
-target_of count address (Some (i.Jal rd imm)) = placed count (led 524288 address imm.bits)
-target_of count address (Some (i.Branch test rs1 rs2 imm)) = placed count (led 2048 address imm.bits)
-target_of count address _ = None
+-- where an operand of the word at an address leads, and the first of its operands that leads anywhere
+abbrev pub led_by : (address w : ℕ) → Part → Option ℕ
+led_by address w part.Branch = led 2048 address (taken part.Branch w)
+led_by address w part.Jump = led 524288 address (taken part.Jump w)
+led_by address w _ = None
+
+abbrev pub led_along : (address w : ℕ) → List Part → Option ℕ
+led_along address w [] = None
+led_along address w (p ∷ more) = found (led_by address w p) (λ target. Some target) (led_along address w more)
+
+-- where in the text the word at an address leads
+abbrev pub target_by : (count address w : ℕ) → Row → Option ℕ
+target_by count address w r = placed count (led_along address w r.2)
+
+abbrev pub target_of : (count address w : ℕ) → Option ℕ
+target_of count address w = found (row_of w) (λ r. target_by count address w r) None
 
 abbrev pub is_at : ℕ → Option ℕ → Bool
 is_at address None = false
@@ -185,17 +213,11 @@ is_at address (Some target) = target == address
 -- whether one of these words, of which the first is the n-th, leads to an address
 abbrev pub is_target : (count address n : ℕ) → List ℕ → Bool
 is_target count address n [] = false
-is_target count address n (w ∷ ws) = is_at address (target_of count (4 * n) (meaning w)) || is_target count address (suc n) ws
+is_target count address n (w ∷ ws) = is_at address (target_of count (4 * n) w) || is_target count address (suc n) ws
 
 -- the n-th word of a text has a label where it is an entry or a target
 unfoldable pub is_labelled : (entries text : List ℕ) → ℕ → Bool
 is_labelled entries text n = list_any (λ e. e == 4 * n) entries || is_target (length text) (4 * n) 0 text
-
--- a word of the text is shown as its instruction; a fence, which may have fields that no text names, and a word without meaning are shown as words
-abbrev pub shown : ℕ → Option Instr → Statement
-shown w (Some (i.Fence rd rs1 imm)) = say.Word w
-shown w (Some instr) = say.Instruction instr
-shown w None = say.Word w
 
 -- the lines that set registers, from the n-th register on: those that aren't 0
 unfoldable pub setting : ℕ → ℕ → List Line
@@ -216,13 +238,8 @@ marks v [] ls = []
 marks v (e ∷ es) [] = []
 
 -- the line of a word of a text of so many words, and that of a word of the data, at this address
-abbrev pub coded_as : (address word : ℕ) → Option Instr → Option ℕ → Line
-coded_as address word (Some instr) (Some target) = Aims instr target (word_note address word)
-coded_as address word None (Some target) = Says (say.Word word) (word_note address word)
-coded_as address word meant None = Says (shown word meant) (word_note address word)
-
 abbrev pub coded : (count address word : ℕ) → Line
-coded count address word = coded_as address word (meaning word) (target_of count address (meaning word))
+coded count address word = Codes word (target_of count address word) (word_note address word)
 
 abbrev pub datum : (address word : ℕ) → Line
 datum address word = Says (say.Word word) (address_note address)
@@ -258,7 +275,7 @@ head_lines version.Two limit start = bare (say.Version version.Two) ∷ Starts s
 unfoldable pub lines_of : Image → List Line
 lines_of img =
     head_lines img.version (slice_index img.limits 0) img.start ++ (settings 1 img.registers
-    ++ (code (length img.text) (is_labelled img.entries img.text) 0 (marks img.version img.entries img.limits) img.text ++ (bare say.Data ∷ all_data img.version img.read_only img.words)))
+    ++ (code (length img.text) (is_labelled img.entries img.text) 0 (marks img.version img.entries img.limits) img.text ++ (bare (say.Section section.Data) ∷ all_data img.version img.read_only img.words)))
 
 -- the listing of an image
 unfoldable pub listing_of : Image → List ℕ

@@ -2,12 +2,11 @@
 
 ghost use Rattle.std.specs.Prelude.{◌≡◌, ℕ, ◌+◌, ◌*◌, ◌-◌, ◌<◌, ◌≤◌, ◌%◌, ◌||◌, ◌==◌, false, length, slice_index_or, All, IfOk, IfSome};
 ghost use Rattle.std.specs.List.{list_any};
-ghost use Rattle.svc_rv32i.specs.Meaning.{meaning};
 ghost use Rattle.svc_image.specs.Image.{StartsWord};
-ghost use Rattle.svc_list.specs.Listings.{led, placed, target_of, is_at, is_target, is_labelled};
+ghost use Rattle.svc_list.specs.Listings.{led, placed, led_by, led_along, target_by, target_of, is_at, is_target, is_labelled};
 
 use std::alloc::{AllocError, Global};
-use svc_rv32i::{Instr, decode};
+use svc_instructions::{Part, Row, row_of, taken};
 
 // The address that so many steps of two bytes lead to: `half` of the numbers of their bits are forward.
 fn led(half: u32, address: u32, steps: u32) -> Option<u32>
@@ -38,17 +37,51 @@ fn placed(count: u32, target: Option<u32>) -> Option<u32>
     }
 }
 
-/// Where in the text, which has `count` words, the branch or the jump at an address leads.
-pub fn target_of(count: u32, address: u32, instr: Option<Instr>) -> Option<u32>
+// Where an operand of the word at an address leads.
+#[tactic(auto, using(crate::proofs::Parts::branch_fits, crate::proofs::Parts::jump_fits))]
+fn led_by(part: Part, address: u32, word: u32) -> Option<u32>
+    requires { address < 262144 }
+    ensures { result ≡ led_by address word part }
+{
+    match part {
+        Part::Branch => led(2048, address, taken(Part::Branch, word)),
+        Part::Jump => led(524288, address, taken(Part::Jump, word)),
+        _ => None,
+    }
+}
+
+fn led_along(row: Row, address: u32, word: u32) -> Option<u32>
+    requires { address < 262144 }
+    ensures { result ≡ led_along address word row.2 }
+{
+    for part in row.2.iter() {
+        if let Some(target) = led_by(*part, address, word) {
+            return Some(target);
+        }
+    }
+    None
+}
+
+/// Where in the text, which has `count` words, the word at an address leads that is of this row.
+pub fn target_by(count: u32, address: u32, word: u32, row: Row) -> Option<u32>
     requires count { count ≤ 65536 }
     requires address { address < 262144 }
-    ensures value { result ≡ target_of count address instr }
+    ensures value { result ≡ target_by count address word row }
     ensures place { IfSome result (λ t. (t % 4 ≡ 0) × (t < 4 * count)) }
 {
-    match instr {
-        Some(Instr::Jal { imm, .. }) => placed(count, led(524288, address, imm.bits)),
-        Some(Instr::Branch { imm, .. }) => placed(count, led(2048, address, imm.bits as u32)),
-        _ => None,
+    placed(count, led_along(row, address, word))
+}
+
+// Where in the text the word at an address leads.
+fn target_of(count: u32, address: u32, word: u32) -> Option<u32>
+    requires count { count ≤ 65536 }
+    requires address { address < 262144 }
+    ensures value { result ≡ target_of count address word }
+    ensures place { IfSome result (λ t. (t % 4 ≡ 0) × (t < 4 * count)) }
+{
+    match row_of(word) {
+        Some(row) => target_by(count, address, word, row),
+        None => None,
     }
 }
 
@@ -87,7 +120,7 @@ fn mark_targets(table: &mut [bool], text: &[u32])
     let count = text.len() as u32;
     let mut address = 0;
     for &word in text {
-        mark(table, target_of(count, address, decode(word)));
+        mark(table, target_of(count, address, word));
         address += 4;
     }
 }

@@ -1,180 +1,20 @@
 // The text of an image.
 
 ghost use Rattle.std.specs.Prelude.{Bool, false, slice_index_or, [], ◌≡◌, ℕ, suc, ◌++◌, ◌∷◌, List, codes, ◌<◌, ◌≤◌, ◌*◌, ◌^◌, length, slice_index, decimal, IfOk, IfSome, IfNone, OnOk};
-ghost use Rattle.svc_rv32i.specs.Meaning.{meaning};
 ghost use Rattle.svc_asm.specs.Programs.{IsProgramOf};
-ghost use Rattle.svc_list.specs.Listings.{register_text, first_text, last_text, short_text, offset_text, address_text, upper_text, instruction_text, own_text, statement_text, hex_digit, hex_text, label_text, aimed_text, address_note, word_note, Starts, bare, line_of, text_of, shown, coded, datum, labels, setting, settings, own_limit, marks, code, data_lines, all_data, head_lines, listing_of};
+ghost use Rattle.svc_list.specs.Listings.{first_text, own_text, section_text, statement_text, address_note, word_note, Starts, bare, line_of, text_of, coded, datum, labels, setting, settings, own_limit, marks, code, data_lines, all_data, head_lines, listing_of};
 
-use crate::instruction_names::{
-    comparison_name, immediate_name, load_name, operation_name, shift_name, store_name,
-};
-use crate::labels::{labels_of, target_of};
-use itoa::Buffer;
+use crate::labels::{labels_of, target_by};
+use crate::text::{put_hex, put_label, put_number, put_register, put_row, put_text};
 use std::alloc::{AllocError, Global};
-use svc_draft::Statement;
+use svc_draft::{Section, Statement};
 use svc_image::{Image, Version};
+use svc_instructions::row_of;
 use svc_operands::register;
-use svc_rv32i::{Instr, Long, Register, Short, decode, one_meaning};
+use svc_rv32i::Register;
 
 // Where the data begins.
 const DATA_BASE: u32 = 0x0010_0000;
-
-fn put_text(out: &mut Vec<u8>, text: &str) -> Result<(), AllocError>
-    ensures { OnOk result (out.new.items ≡ out.old.items ++ text.now) }
-{
-    out.extend_from_slice(text.as_bytes())
-}
-
-fn put_number(out: &mut Vec<u8>, number: u32) -> Result<(), AllocError>
-    ensures { OnOk result (out.new.items ≡ out.old.items ++ decimal number) }
-{
-    let mut buffer = Buffer::new();
-    put_text(out, buffer.format(number))
-}
-
-fn put_register(out: &mut Vec<u8>, register: Register) -> Result<(), AllocError>
-    ensures { OnOk result (out.new.items ≡ out.old.items ++ register_text register) }
-{
-    put_text(out, "x")?;
-    put_number(out, register.number as u32)
-}
-
-// A register and the comma behind it.
-fn put_first(out: &mut Vec<u8>, register: Register) -> Result<(), AllocError>
-    ensures { OnOk result (out.new.items ≡ out.old.items ++ first_text register) }
-{
-    put_text(out, " ")?;
-    put_register(out, register)?;
-    put_text(out, ",")
-}
-
-fn put_short(out: &mut Vec<u8>, imm: Short) -> Result<(), AllocError>
-    ensures { OnOk result (out.new.items ≡ out.old.items ++ short_text imm) }
-{
-    if imm.bits < 2048 {
-        put_text(out, " ")?;
-        return put_number(out, imm.bits as u32);
-    }
-    put_text(out, " -")?;
-    put_number(out, 4096 - imm.bits as u32)
-}
-
-// How far from here, in steps of two bytes: `half` of the numbers of its bits are forward.
-fn put_offset(out: &mut Vec<u8>, half: u32, steps: u32) -> Result<(), AllocError>
-    requires half { half ≤ 524288 }
-    requires steps { steps < 2 * half }
-    ensures { OnOk result (out.new.items ≡ out.old.items ++ offset_text half steps) }
-{
-    if steps < half {
-        put_text(out, " . + ")?;
-        return put_number(out, 2 * steps);
-    }
-    put_text(out, " . - ")?;
-    put_number(out, 2 * (2 * half - steps))
-}
-
-// An immediate, and a register in parentheses.
-fn put_address(out: &mut Vec<u8>, imm: Short, base: Register) -> Result<(), AllocError>
-    ensures { OnOk result (out.new.items ≡ out.old.items ++ address_text imm base) }
-{
-    put_short(out, imm)?;
-    put_text(out, "(")?;
-    put_register(out, base)?;
-    put_text(out, ")")
-}
-
-fn put_upper(out: &mut Vec<u8>, name: &str, rd: Register, imm: Long) -> Result<(), AllocError>
-    ensures { OnOk result (out.new.items ≡ out.old.items ++ (name.now ++ (first_text rd ++ upper_text imm))) }
-{
-    put_text(out, name)?;
-    put_first(out, rd)?;
-    put_text(out, " ")?;
-    put_number(out, imm.bits)
-}
-
-// An instruction whose last operand is an address.
-fn put_access(
-    out: &mut Vec<u8>,
-    name: &str,
-    register: Register,
-    imm: Short,
-    base: Register,
-) -> Result<(), AllocError>
-    ensures { OnOk result (out.new.items
-        ≡ out.old.items ++ (name.now ++ (first_text register ++ address_text imm base))) }
-{
-    put_text(out, name)?;
-    put_first(out, register)?;
-    put_address(out, imm, base)
-}
-
-// The name of an instruction and its first two registers, each with its comma.
-fn put_two(
-    out: &mut Vec<u8>,
-    name: &str,
-    first: Register,
-    second: Register,
-) -> Result<(), AllocError>
-    ensures { OnOk result (out.new.items ≡ out.old.items ++ (name.now ++ (first_text first ++ first_text second))) }
-{
-    put_text(out, name)?;
-    put_first(out, first)?;
-    put_first(out, second)
-}
-
-#[tactic(auto, unfolding(crate::specs::Listings::instruction_text))]
-fn put_instruction(out: &mut Vec<u8>, instr: Instr) -> Result<(), AllocError>
-    ensures { OnOk result (out.new.items ≡ out.old.items ++ instruction_text instr) }
-{
-    match instr {
-        Instr::Lui { rd, imm } => put_upper(out, "lui", rd, imm),
-        Instr::Auipc { rd, imm } => put_upper(out, "auipc", rd, imm),
-        Instr::Jal { rd, imm } => {
-            put_text(out, "jal")?;
-            put_first(out, rd)?;
-            put_offset(out, 524288, imm.bits)
-        }
-        Instr::Jalr { rd, rs1, imm } => put_access(out, "jalr", rd, imm, rs1),
-        Instr::Branch {
-            test,
-            rs1,
-            rs2,
-            imm,
-        } => {
-            put_two(out, comparison_name(test), rs1, rs2)?;
-            put_offset(out, 2048, imm.bits as u32)
-        }
-        Instr::Load { kind, rd, rs1, imm } => put_access(out, load_name(kind), rd, imm, rs1),
-        Instr::Store {
-            kind,
-            rs1,
-            rs2,
-            imm,
-        } => put_access(out, store_name(kind), rs2, imm, rs1),
-        Instr::OpImm { op, rd, rs1, imm } => {
-            put_two(out, immediate_name(op), rd, rs1)?;
-            put_short(out, imm)
-        }
-        Instr::ShiftImm {
-            op,
-            rd,
-            rs1,
-            amount,
-        } => {
-            put_two(out, shift_name(op), rd, rs1)?;
-            put_text(out, " ")?;
-            put_number(out, amount.bits as u32)
-        }
-        Instr::Op { op, rd, rs1, rs2 } => {
-            put_two(out, operation_name(op), rd, rs1)?;
-            put_text(out, " ")?;
-            put_register(out, rs2)
-        }
-        Instr::Fence { .. } => Ok(()),
-        Instr::Ecall => put_text(out, "ecall"),
-        Instr::Ebreak => put_text(out, "ebreak"),
-    }
-}
 
 // A directive and its number.
 fn put_numbered(out: &mut Vec<u8>, name: &str, number: u32) -> Result<(), AllocError>
@@ -205,9 +45,21 @@ fn put_setting(
         ≡ out.old.items ++ (name.now ++ (first_text register ++ (32 ∷ decimal value)))) }
 {
     put_text(out, name)?;
-    put_first(out, register)?;
     put_text(out, " ")?;
+    put_register(out, register)?;
+    put_text(out, ", ")?;
     put_number(out, value)
+}
+
+fn put_section(out: &mut Vec<u8>, section: Section) -> Result<(), AllocError>
+    ensures { OnOk result (out.new.items ≡ out.old.items ++ section_text section) }
+{
+    match section {
+        Section::Text => put_text(out, ".text"),
+        Section::Rodata => put_text(out, ".rodata"),
+        Section::Data => put_text(out, ".data"),
+        Section::Bss => put_text(out, ".bss"),
+    }
 }
 
 #[tactic(auto, unfolding(crate::specs::Listings::statement_text))]
@@ -215,16 +67,15 @@ fn put_statement(out: &mut Vec<u8>, statement: Statement) -> Result<(), AllocErr
     ensures { OnOk result (out.new.items ≡ out.old.items ++ statement_text statement) }
 {
     match statement {
-        // These stand in no listing.
-        Statement::Nothing | Statement::Label | Statement::Pair(..) => Ok(()),
-        Statement::Section(_) | Statement::Zeros(_) | Statement::Align(_) => Ok(()),
+        // These stand in no listing, or stand there as words of the text.
+        Statement::Nothing | Statement::Label => Ok(()),
+        Statement::Instruction(_) | Statement::Pair(..) => Ok(()),
+        Statement::Section(section) => put_section(out, section),
+        Statement::Zeros(_) | Statement::Align(_) => Ok(()),
         Statement::Open(_) | Statement::Value(..) => Ok(()),
         Statement::Symbol(_) | Statement::Common(..) | Statement::Local(_) => Ok(()),
         Statement::Relative(..) => Ok(()),
-        Statement::Instruction(instr) => put_instruction(out, instr),
         Statement::Word(word) => put_numbered(out, ".word ", word),
-        Statement::Text => put_text(out, ".text"),
-        Statement::Data => put_text(out, ".data"),
         Statement::Version(version) => put_numbered(out, ".svc_version ", version.number() as u32),
         Statement::ReadOnly => put_text(out, ".svc_readonly"),
         Statement::Entry(limit) => put_entry(out, limit),
@@ -239,39 +90,6 @@ fn put_line(out: &mut Vec<u8>, statement: Statement) -> Result<(), AllocError>
 {
     put_statement(out, statement)?;
     put_text(out, "\n")
-}
-
-// The digit that is worth so much.
-fn hex_digit(value: u32) -> u8
-    requires { value < 16 }
-    ensures { result ≡ hex_digit value }
-{
-    if value < 10 {
-        return 48 + value as u8;
-    }
-    87 + value as u8
-}
-
-#[tactic(auto, unfolding(crate::specs::Listings::hex_text))]
-fn hex_digits(word: u32) -> [u8; 8]
-    ensures { result ≡ hex_text word }
-{
-    [
-        hex_digit(word / 0x1000_0000 % 16),
-        hex_digit(word / 0x0100_0000 % 16),
-        hex_digit(word / 0x0010_0000 % 16),
-        hex_digit(word / 0x0001_0000 % 16),
-        hex_digit(word / 0x0000_1000 % 16),
-        hex_digit(word / 0x0000_0100 % 16),
-        hex_digit(word / 0x0000_0010 % 16),
-        hex_digit(word % 16),
-    ]
-}
-
-fn put_hex(out: &mut Vec<u8>, word: u32) -> Result<(), AllocError>
-    ensures { OnOk result (out.new.items ≡ out.old.items ++ hex_text word) }
-{
-    out.extend_from_slice(&hex_digits(word))
 }
 
 // A comment that tells an address.
@@ -292,39 +110,15 @@ fn end_coded(out: &mut Vec<u8>, address: u32, word: u32) -> Result<(), AllocErro
     put_text(out, "\n")
 }
 
-fn put_label(out: &mut Vec<u8>, address: u32) -> Result<(), AllocError>
-    ensures { OnOk result (out.new.items ≡ out.old.items ++ label_text address) }
-{
-    put_text(out, "at_")?;
-    put_hex(out, address)
-}
-
-// A branch or a jump, by its target's label.
-fn put_aimed(out: &mut Vec<u8>, instr: Instr, target: u32) -> Result<(), AllocError>
-    ensures { OnOk result (out.new.items ≡ out.old.items ++ aimed_text instr target) }
-{
-    match instr {
-        Instr::Jal { rd, .. } => {
-            put_text(out, "jal")?;
-            put_first(out, rd)?;
-        }
-        Instr::Branch { test, rs1, rs2, .. } => put_two(out, comparison_name(test), rs1, rs2)?,
-        _ => return Ok(()),
-    }
-    put_text(out, " ")?;
-    put_label(out, target)
-}
-
 // A word of a text of so many words, with its address and its bits behind it.
 fn put_coded(out: &mut Vec<u8>, count: u32, address: u32, word: u32) -> Result<(), AllocError>
     requires count { count ≤ 65536 }
     requires address { address < 262144 }
     ensures { OnOk result (out.new.items ≡ out.old.items ++ line_of (coded count address word)) }
 {
-    let meant = decode(word);
-    match (meant, target_of(count, address, meant)) {
-        (Some(instr), Some(target)) => put_aimed(out, instr, target)?,
-        _ => put_statement(out, shown(word))?,
+    match row_of(word) {
+        Some(row) => put_row(out, target_by(count, address, word, row), row, word)?,
+        None => put_numbered(out, ".word ", word)?,
     }
     end_coded(out, address, word)
 }
@@ -356,16 +150,6 @@ fn put_datum(out: &mut Vec<u8>, address: u32, word: u32) -> Result<(), AllocErro
     put_statement(out, Statement::Word(word))?;
     put_address_note(out, address)?;
     put_text(out, "\n")
-}
-
-// How a word of the text is shown.
-fn shown(word: u32) -> Statement
-    ensures { result ≡ shown word (meaning word) }
-{
-    match decode(word) {
-        None | Some(Instr::Fence { .. }) => Statement::Word(word),
-        Some(instr) => Statement::Instruction(instr),
-    }
 }
 
 // A register's line, where its value isn't 0.
@@ -557,7 +341,6 @@ pub fn list(alloc: Global, image: &Image) -> Result<Vec<u8>, AllocError>
     // It is a program of the image, and a program of an image is assembled to that image.
     ensures program { IfOk result (λ text. IsProgramOf text.items image.now) }
 {
-    one_meaning();
     let entries = image.entries();
     let text = image.text_words();
     let labelled = labels_of(alloc, entries, text)?;
@@ -577,7 +360,7 @@ pub fn list(alloc: Global, image: &Image) -> Result<Vec<u8>, AllocError>
         &labelled,
         text,
     )?;
-    put_line(&mut out, Statement::Data)?;
+    put_line(&mut out, Statement::Section(Section::Data))?;
     put_all_data(
         &mut out,
         image.version(),

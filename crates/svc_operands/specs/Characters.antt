@@ -37,6 +37,14 @@ past_blanks b (c ∷ rest) = found (blank_behind b c rest) (λ next. past_blanks
 abbrev pub past_spaces : List ℕ → List ℕ
 past_spaces text = past_blanks blank.Outside text
 
+-- the line ends here, maybe behind a comment
+abbrev pub begins_over : List ℕ → Bool
+begins_over [] = true
+begins_over (c ∷ rest) = c == 10 || c == 35
+
+abbrev pub is_over : List ℕ → Bool
+is_over text = begins_over (past_spaces text)
+
 -- a letter, a digit, a dot, an underscore or a dollar sign: what names and numbers are made of
 unfoldable pub is_name : ℕ → Bool
 is_name c = is_from_to 97 122 c || is_from_to 65 90 c || is_from_to 48 57 c || c == 46 || c == 95 || c == 36

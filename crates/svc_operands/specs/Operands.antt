@@ -1,11 +1,10 @@
 -- The operands of instructions and directives.
-use Rattle.std.specs.Prelude.{ℕ, ◌+◌, ◌*◌, ◌-◌, ◌/◌, ◌%◌, ◌^◌, Bool, true, false, ◌&&◌, ◌==◌, nat_le, nat_lt, List, [], ◌∷◌, Option, Some, None, if◌then◌else◌, codes, option_map}
-use Rattle.std.specs.Str.{bytes_eq}
+use Rattle.std.specs.Prelude.{ℕ, ◌*◌, ◌-◌, ◌/◌, ◌%◌, ◌^◌, Bool, true, false, ◌==◌, nat_le, nat_lt, List, [], ◌∷◌, Option, Some, None, if◌then◌else◌, option_map}
 use Rattle.svc_rv32i.specs.declared.instr.Register.{Register}
 use Rattle.svc_rv32i.specs.declared.instr.Short.{Short}
 use Rattle.svc_rv32i.specs.declared.instr.Long.{Long}
 use Rattle.svc_rv32i.specs.declared.instr.ShiftAmount.{ShiftAmount}
-use Rattle.svc_rv32i.specs.Meaning.{register, short, long, mod5}
+use Rattle.svc_rv32i.specs.Meaning.{short, long, mod5}
 use Rattle.svc_operands.specs.declared.operands.Signed.{Signed}
 use Rattle.svc_draft.specs.Options.{◌>>=◌}
 use Rattle.svc_operands.specs.Characters.{found, past_spaces, name_at, past_name, mark_at, number_of, character_at}
@@ -25,6 +24,14 @@ unfoldable pub first_register_at : List ℕ → Read Register
 first_register_at text = do
   r ← register_at text
   rest ← mark_at 44 r.1
+  Some (r.0, rest)
+
+-- a register in parentheses
+unfoldable pub base_at : List ℕ → Read Register
+base_at text = do
+  inside ← mark_at 40 text
+  r ← register_at inside
+  rest ← mark_at 41 r.1
   Some (r.0, rest)
 
 -- a number, or a character as one

@@ -1,7 +1,6 @@
 -- Values, which may name labels, and the immediates that are made of them.
-use Rattle.std.specs.Prelude.{ℕ, ◌+◌, ◌*◌, ◌-◌, ◌/◌, ◌%◌, ◌^◌, Bool, true, false, ◌==◌, List, [], ◌∷◌, Option, Some, None, if◌then◌else◌, codes, option_map}
+use Rattle.std.specs.Prelude.{ℕ, ◌+◌, ◌-◌, ◌/◌, ◌%◌, ◌^◌, Bool, true, false, ◌==◌, List, [], ◌∷◌, Option, Some, None, if◌then◌else◌, codes, option_map}
 use Rattle.std.specs.Str.{bytes_eq}
-use Rattle.svc_rv32i.specs.declared.instr.Register.{Register}
 use Rattle.svc_rv32i.specs.declared.instr.Short.{Short}
 use Rattle.svc_rv32i.specs.declared.instr.Long.{Long}
 use Rattle.svc_rv32i.specs.Meaning.{short, long}
@@ -10,7 +9,7 @@ use Rattle.svc_draft.specs.Options.{◌>>=◌}
 use Rattle.svc_operands.specs.Characters.{past_spaces, found, name_at, past_name, mark_at}
 use Rattle.svc_operands.specs.References.{reference_named, referred}
 use Rattle.svc_draft.specs.Layouts.{Layout, here, address_of, distance_from}
-use Rattle.svc_operands.specs.Operands.{Read, register_at, number_at, behind_sign, distance, number_short_at, number_upper_at}
+use Rattle.svc_operands.specs.Operands.{Read, number_at, behind_sign, distance, number_short_at, number_upper_at}
 
 -- what a name stands for: a dot for the address of what comes next, and a label for its own
 unfoldable pub place_of : Layout → List ℕ → Option ℕ
@@ -122,12 +121,3 @@ short_at d text = found (mark_at 37 text) (λ part. low_at d part) (number_short
 
 unfoldable pub upper_at : Layout → List ℕ → Read Long
 upper_at d text = found (mark_at 37 text) (λ part. high_at d part) (number_upper_at text)
-
--- an immediate and a register in parentheses
-unfoldable pub address_at : Layout → List ℕ → Read (Short × Register)
-address_at d text = do
-  n ← short_at d text
-  inside ← mark_at 40 n.1
-  r ← register_at inside
-  rest ← mark_at 41 r.1
-  Some ((n.0, r.0), rest)

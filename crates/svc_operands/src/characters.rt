@@ -1,7 +1,7 @@
 // The characters of a program's text: spaces, names, marks and numbers.
 
 ghost use Rattle.std.specs.Prelude.{◌≡◌, ◌<◌, ◌≤◌, ◌^◌, length, Some, IfSome, option_map};
-ghost use Rattle.svc_operands.specs.Characters.{is_space, opens, blank_behind, past_spaces, is_name, past, name_at, past_name, mark_at, digit, push_digit, value_of, behind_zero, number_of};
+ghost use Rattle.svc_operands.specs.Characters.{is_space, opens, blank_behind, past_spaces, is_over, is_name, past, name_at, past_name, mark_at, digit, push_digit, value_of, behind_zero, number_of};
 
 fn is_space(c: u8) -> bool
     ensures { result ≡ is_space c }
@@ -77,6 +77,16 @@ pub fn skip_spaces(text: &[u8]) -> &[u8]
         rest = after;
     }
     rest
+}
+
+/// Whether the line ends here, maybe behind a comment.
+pub fn is_over(text: &[u8]) -> bool
+    ensures { result ≡ is_over text.now }
+{
+    match skip_spaces(text) {
+        [] | [b'\n' | b'#', ..] => true,
+        _ => false,
+    }
 }
 
 #[tactic(auto, unfolding(crate::specs::Characters::past))]

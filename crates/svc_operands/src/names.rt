@@ -1,120 +1,56 @@
-// The names of registers and of instructions.
+// Names as the rows of tables have them, and the names of registers.
 
 ghost use Rattle.std.specs.Prelude.{◌≡◌, ◌<◌, IfSome};
 ghost use Rattle.std.specs.Str.{bytes_eq};
 ghost use Rattle.svc_rv32i.specs.Meaning.{register};
-ghost use Rattle.svc_operands.specs.Names.{operation_named, immediate_named, shift_named, comparison_named, load_named, store_named, form_named, abi_named, numbered, register_named};
+ghost use Rattle.svc_operands.specs.Names.{padded, named_in, number_named, numbered, register_named};
 
 use crate::characters::value_of;
-use svc_rv32i::{
-    Comparison, ImmediateOperation, ImmediateShift, LoadKind, Operation, Register, StoreKind,
-};
+use svc_rv32i::Register;
 
-/// An operation on two registers of this name.
-#[tactic(auto, unfolding(crate::specs::Names::operation_named))]
-pub fn operation_named(name: &[u8]) -> Option<Operation>
-    ensures { result ≡ operation_named name.now }
-{
-    match name {
-        b"add" => Some(Operation::Add),
-        b"sub" => Some(Operation::Sub),
-        b"sll" => Some(Operation::ShiftLeft),
-        b"slt" => Some(Operation::SetLess),
-        b"sltu" => Some(Operation::SetLessUnsigned),
-        b"xor" => Some(Operation::Xor),
-        b"srl" => Some(Operation::ShiftRight),
-        b"sra" => Some(Operation::ShiftRightArithmetic),
-        b"or" => Some(Operation::Or),
-        b"and" => Some(Operation::And),
-        _ => None,
-    }
-}
+/// A name as a table has it, with spaces behind it.
+pub type Name = [u8; 16];
 
-/// An operation on a register and an immediate of this name.
-#[tactic(auto, unfolding(crate::specs::Names::immediate_named))]
-pub fn immediate_named(name: &[u8]) -> Option<ImmediateOperation>
-    ensures { result ≡ immediate_named name.now }
-{
-    match name {
-        b"addi" => Some(ImmediateOperation::Add),
-        b"slti" => Some(ImmediateOperation::SetLess),
-        b"sltiu" => Some(ImmediateOperation::SetLessUnsigned),
-        b"xori" => Some(ImmediateOperation::Xor),
-        b"ori" => Some(ImmediateOperation::Or),
-        b"andi" => Some(ImmediateOperation::And),
-        _ => None,
-    }
-}
-
-/// A shift by an immediate of this name.
-#[tactic(auto, unfolding(crate::specs::Names::shift_named))]
-pub fn shift_named(name: &[u8]) -> Option<ImmediateShift>
-    ensures { result ≡ shift_named name.now }
-{
-    match name {
-        b"slli" => Some(ImmediateShift::Left),
-        b"srli" => Some(ImmediateShift::Right),
-        b"srai" => Some(ImmediateShift::RightArithmetic),
-        _ => None,
-    }
-}
-
-/// A branch of this name.
-#[tactic(auto, unfolding(crate::specs::Names::comparison_named))]
-pub fn comparison_named(name: &[u8]) -> Option<Comparison>
-    ensures { result ≡ comparison_named name.now }
-{
-    match name {
-        b"beq" => Some(Comparison::Equal),
-        b"bne" => Some(Comparison::NotEqual),
-        b"blt" => Some(Comparison::Less),
-        b"bge" => Some(Comparison::GreaterEqual),
-        b"bltu" => Some(Comparison::LessUnsigned),
-        b"bgeu" => Some(Comparison::GreaterEqualUnsigned),
-        _ => None,
-    }
-}
-
-/// A load of this name.
-#[tactic(auto, unfolding(crate::specs::Names::load_named))]
-pub fn load_named(name: &[u8]) -> Option<LoadKind>
-    ensures { result ≡ load_named name.now }
-{
-    match name {
-        b"lb" => Some(LoadKind::Byte),
-        b"lh" => Some(LoadKind::Half),
-        b"lw" => Some(LoadKind::Word),
-        b"lbu" => Some(LoadKind::ByteUnsigned),
-        b"lhu" => Some(LoadKind::HalfUnsigned),
-        _ => None,
-    }
-}
-
-/// A store of this name.
-#[tactic(auto, unfolding(crate::specs::Names::store_named))]
-pub fn store_named(name: &[u8]) -> Option<StoreKind>
-    ensures { result ≡ store_named name.now }
-{
-    match name {
-        b"sb" => Some(StoreKind::Byte),
-        b"sh" => Some(StoreKind::Half),
-        b"sw" => Some(StoreKind::Word),
-        _ => None,
-    }
-}
-
-/// An instruction with operands like no other's.
+/// A name, and the number that it has.
 #[derive(Clone, Copy)]
-pub enum Form {
-    Lui,
-    Auipc,
-    Jal,
-    Jalr,
-    Ecall,
-    Ebreak,
-    Fence,
-    FenceTso,
-}
+pub struct Named(pub Name, pub u32);
+
+/// The registers by the names of the calling convention.
+pub const REGISTERS: [Named; 33] = [
+    Named(*b"zero            ", 0),
+    Named(*b"ra              ", 1),
+    Named(*b"sp              ", 2),
+    Named(*b"gp              ", 3),
+    Named(*b"tp              ", 4),
+    Named(*b"t0              ", 5),
+    Named(*b"t1              ", 6),
+    Named(*b"t2              ", 7),
+    Named(*b"s0              ", 8),
+    Named(*b"fp              ", 8),
+    Named(*b"s1              ", 9),
+    Named(*b"a0              ", 10),
+    Named(*b"a1              ", 11),
+    Named(*b"a2              ", 12),
+    Named(*b"a3              ", 13),
+    Named(*b"a4              ", 14),
+    Named(*b"a5              ", 15),
+    Named(*b"a6              ", 16),
+    Named(*b"a7              ", 17),
+    Named(*b"s2              ", 18),
+    Named(*b"s3              ", 19),
+    Named(*b"s4              ", 20),
+    Named(*b"s5              ", 21),
+    Named(*b"s6              ", 22),
+    Named(*b"s7              ", 23),
+    Named(*b"s8              ", 24),
+    Named(*b"s9              ", 25),
+    Named(*b"s10             ", 26),
+    Named(*b"s11             ", 27),
+    Named(*b"t3              ", 28),
+    Named(*b"t4              ", 29),
+    Named(*b"t5              ", 30),
+    Named(*b"t6              ", 31),
+];
 
 /// Whether a name is this word.
 pub fn is_word(name: &[u8], word: &str) -> bool
@@ -123,80 +59,45 @@ pub fn is_word(name: &[u8], word: &str) -> bool
     name == word.as_bytes()
 }
 
-/// The instruction of this name, of those with operands like no other's.
-#[tactic(auto, unfolding(crate::specs::Names::form_named))]
-pub fn form_named(name: &[u8]) -> Option<Form>
-    ensures { result ≡ form_named name.now }
+/// A name with spaces behind it, where it isn't longer than a table's.
+#[tactic(auto, unfolding(crate::specs::Names::padded))]
+pub fn padded(name: &[u8]) -> Option<Name>
+    ensures { result ≡ padded name.now }
 {
-    if is_word(name, "lui") {
-        return Some(Form::Lui);
+    if name.len() > 16 {
+        return None;
     }
-    if is_word(name, "auipc") {
-        return Some(Form::Auipc);
-    }
-    if is_word(name, "jal") {
-        return Some(Form::Jal);
-    }
-    if is_word(name, "jalr") {
-        return Some(Form::Jalr);
-    }
-    if is_word(name, "ecall") {
-        return Some(Form::Ecall);
-    }
-    if is_word(name, "ebreak") {
-        return Some(Form::Ebreak);
-    }
-    if is_word(name, "fence") {
-        return Some(Form::Fence);
-    }
-    if is_word(name, "fence.tso") {
-        return Some(Form::FenceTso);
+    let mut letters = [b' '; 16];
+    letters[..name.len()].copy_from_slice(name);
+    Some(letters)
+}
+
+// The number beside a name.
+fn find_number(rows: &[Named], name: Name) -> Option<u32>
+    ensures { result ≡ named_in rows.now name }
+{
+    for row in rows {
+        if name == row.0 {
+            return Some(row.1);
+        }
     }
     None
 }
 
-/// The number of the register that has this name in the calling convention.
-#[tactic(auto, unfolding(crate::specs::Names::abi_named))]
+/// The number of the first of these rows that has this name.
+#[tactic(auto, unfolding(crate::specs::Names::number_named))]
+pub fn number_named(rows: &[Named], name: &[u8]) -> Option<u32>
+    ensures { result ≡ number_named rows.now name.now }
+{
+    find_number(rows, padded(name)?)
+}
+
+// The number of the register that has this name in the calling convention.
 fn abi_named(name: &[u8]) -> Option<u32>
-    ensures value { result ≡ abi_named name.now }
+    ensures value { result ≡ number_named REGISTERS name.now }
     ensures small { IfSome result (λ n. n < 32) }
 {
-    match name {
-        b"zero" => Some(0),
-        b"ra" => Some(1),
-        b"sp" => Some(2),
-        b"gp" => Some(3),
-        b"tp" => Some(4),
-        b"t0" => Some(5),
-        b"t1" => Some(6),
-        b"t2" => Some(7),
-        b"s0" => Some(8),
-        b"fp" => Some(8),
-        b"s1" => Some(9),
-        b"a0" => Some(10),
-        b"a1" => Some(11),
-        b"a2" => Some(12),
-        b"a3" => Some(13),
-        b"a4" => Some(14),
-        b"a5" => Some(15),
-        b"a6" => Some(16),
-        b"a7" => Some(17),
-        b"s2" => Some(18),
-        b"s3" => Some(19),
-        b"s4" => Some(20),
-        b"s5" => Some(21),
-        b"s6" => Some(22),
-        b"s7" => Some(23),
-        b"s8" => Some(24),
-        b"s9" => Some(25),
-        b"s10" => Some(26),
-        b"s11" => Some(27),
-        b"t3" => Some(28),
-        b"t4" => Some(29),
-        b"t5" => Some(30),
-        b"t6" => Some(31),
-        _ => None,
-    }
+    number_named(&REGISTERS, name)
 }
 
 /// The number of the register of this name, x0 to x31.

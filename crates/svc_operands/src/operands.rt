@@ -4,7 +4,7 @@ ghost use Rattle.std.specs.Prelude.{◌≡◌, ◌<◌, ◌≤◌, ◌*◌, ◌-
 ghost use Rattle.svc_rv32i.specs.Meaning.{short, long};
 ghost use Rattle.svc_operands.specs.Characters.{mark_at};
 ghost use Rattle.svc_operands.specs.Reading.{Gives};
-ghost use Rattle.svc_operands.specs.Operands.{register_at, first_register_at, number_at, behind_sign, signed_at, distance, wrapped, short_of, halved, branch_of, jump_of, upper_of, amount, amount_of, number_short_at, number_upper_at, amount_at};
+ghost use Rattle.svc_operands.specs.Operands.{register_at, first_register_at, base_at, number_at, behind_sign, signed_at, distance, wrapped, short_of, halved, branch_of, jump_of, upper_of, amount, amount_of, number_short_at, number_upper_at, amount_at};
 
 use crate::characters::{number_of, skip_mark, skip_spaces, split_name};
 use crate::names::register_named;
@@ -55,6 +55,19 @@ pub fn read_first_register(text: &[u8]) -> Result<(Register, &[u8]), Unread>
     let (register, rest) = read_register(text)?;
     let rest = read_mark(b',', Wanted::Comma, rest)?;
     Ok((register, rest))
+}
+
+/// A register in parentheses.
+///
+/// Errors: what stands where none can be read, and what may stand there.
+#[tactic(auto, unfolding(crate::specs::Operands::base_at))]
+pub fn read_base(text: &[u8]) -> Result<(Register, &[u8]), Unread>
+    ensures { Gives (λ x. (x.0, x.1.now)) result (base_at text.now) }
+{
+    let inside = read_mark(b'(', Wanted::Open, text)?;
+    let (base, rest) = read_register(inside)?;
+    let rest = read_mark(b')', Wanted::Close, rest)?;
+    Ok((base, rest))
 }
 
 /// A number, or a character as one.

@@ -3,18 +3,18 @@
 ghost use Rattle.std.specs.Prelude.{◌≡◌};
 ghost use Rattle.svc_draft.specs.Layouts.{layout_of};
 ghost use Rattle.svc_operands.specs.Reading.{Gives};
-ghost use Rattle.svc_operands.specs.Values.{place_of, place_at, plain_term_at, bits_of, opposite_at, term_at, sum, sum_with, value_at, high_part, low_part, from_here, enclosed_at, relative_at, high_at, distance_named, distance_at, completed_at, low_at, short_at, upper_at, address_at};
+ghost use Rattle.svc_operands.specs.Values.{place_of, place_at, plain_term_at, bits_of, opposite_at, term_at, sum, sum_with, value_at, high_part, low_part, from_here, enclosed_at, relative_at, high_at, distance_named, distance_at, completed_at, low_at, short_at, upper_at};
 
 use crate::characters::{skip_mark, skip_spaces, split_name};
 use crate::names::is_word;
 use crate::operands::{
     Signed, distance, long, read_behind_sign, read_mark, read_number, read_number_short,
-    read_number_upper, read_register, short,
+    read_number_upper, short,
 };
 use crate::references::{reference_named, referred};
 use crate::unread::{Unread, Wanted, stopped_at};
 use svc_draft::Draft;
-use svc_rv32i::{Long, Register, Short};
+use svc_rv32i::{Long, Short};
 
 // What a name stands for: `.` for the address of what comes next, and a label for its own.
 #[tactic(auto, unfolding(crate::specs::Values::place_of))]
@@ -243,21 +243,4 @@ pub fn read_upper<'a>(draft: &Draft, text: &'a [u8]) -> Result<(Long, &'a [u8]),
         Some(part) => read_high(draft, part),
         None => read_number_upper(text),
     }
-}
-
-/// An immediate and a register in parentheses.
-///
-/// Errors: what stands where none can be read, and what may stand there.
-#[tactic(auto, unfolding(crate::specs::Values::address_at))]
-pub fn read_address<'a>(
-    draft: &Draft,
-    text: &'a [u8],
-) -> Result<((Short, Register), &'a [u8]), Unread>
-    ensures { Gives (λ x. ((x.0.0, x.0.1), x.1.now)) result (address_at (layout_of draft.now) text.now) }
-{
-    let (offset, rest) = read_short(draft, text)?;
-    let rest = read_mark(b'(', Wanted::Open, rest)?;
-    let (base, rest) = read_register(rest)?;
-    let rest = read_mark(b')', Wanted::Close, rest)?;
-    Ok(((offset, base), rest))
 }

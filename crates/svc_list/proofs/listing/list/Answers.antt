@@ -37,4 +37,4 @@ pub returns-clause-program : goal.returns-clause-program
 returns-clause-program c =
     let img = c.args.image.now in
     let same : c.put_all_data.new.out.items ≡ listing_of img = returns-clause-listing c in
-    subst (λ (text : List ℕ). IsProgramOf text img) (sym same) (listing_is_program c.one_meaning.ensures img c.start.ensures.sound)
+    subst (λ (text : List ℕ). IsProgramOf text img) (sym same) (listing_is_program img c.start.ensures.sound)

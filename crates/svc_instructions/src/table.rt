@@ -1,0 +1,160 @@
+// The table of instructions: what each name and its operands make, and how each word is written.
+
+use Part::{
+    Amount, Base, Branch, Comma, End, Immediate, Jump, Order, Rd, Rs1, Rs2, StoreOffset, Upper,
+};
+use svc_operands::Name;
+
+/// A part of an instruction's operands, in the order of the text.
+#[derive(Clone, Copy)]
+pub enum Part {
+    /// Nothing more.
+    End,
+    /// A comma.
+    Comma,
+    /// The register that receives the result.
+    Rd,
+    /// The first register that is read.
+    Rs1,
+    /// The second register that is read.
+    Rs2,
+    /// The first register that is read, in parentheses.
+    Base,
+    /// A number of 12 bits with its sign.
+    Immediate,
+    /// Such a number, where a store has it.
+    StoreOffset,
+    /// By how much a shift shifts.
+    Amount,
+    /// The upper 20 bits of a number.
+    Upper,
+    /// What a fence orders.
+    Order,
+    /// How far a branch goes.
+    Branch,
+    /// How far a jump goes.
+    Jump,
+}
+
+/// An instruction: its name, its word where each of these operands is 0, and its operands.
+#[derive(Clone, Copy)]
+pub struct Row(pub Name, pub u32, pub [Part; 5]);
+
+const NONE: [Part; 5] = [End, End, End, End, End];
+
+const THREE: [Part; 5] = [Rd, Comma, Rs1, Comma, Rs2];
+
+const SHORT: [Part; 5] = [Rd, Comma, Rs1, Comma, Immediate];
+
+const SHIFT: [Part; 5] = [Rd, Comma, Rs1, Comma, Amount];
+
+const LOAD: [Part; 5] = [Rd, Comma, Immediate, Base, End];
+
+const STORE: [Part; 5] = [Rs2, Comma, StoreOffset, Base, End];
+
+const BRANCH: [Part; 5] = [Rs1, Comma, Rs2, Comma, Branch];
+
+const SWAPPED: [Part; 5] = [Rs2, Comma, Rs1, Comma, Branch];
+
+const UPPER: [Part; 5] = [Rd, Comma, Upper, End, End];
+
+const JUMP: [Part; 5] = [Rd, Comma, Jump, End, End];
+
+const MOVE: [Part; 5] = [Rd, Comma, Rs1, End, End];
+
+const MOVE_SECOND: [Part; 5] = [Rd, Comma, Rs2, End, End];
+
+const TEST: [Part; 5] = [Rs1, Comma, Branch, End, End];
+
+const TEST_SECOND: [Part; 5] = [Rs2, Comma, Branch, End, End];
+
+const TARGET: [Part; 5] = [Jump, End, End, End, End];
+
+const SOURCE: [Part; 5] = [Rs1, End, End, End, End];
+
+const FENCE: [Part; 5] = [Order, End, End, End, End];
+
+/// The instructions that a listing shows: those of RV32I (RV32/64G Instruction Set Listings) but for FENCE.
+pub const ROWS: [Row; 39] = [
+    Row(*b"lui             ", 0x0000_0037, UPPER),
+    Row(*b"auipc           ", 0x0000_0017, UPPER),
+    Row(*b"jal             ", 0x0000_006f, JUMP),
+    Row(*b"jalr            ", 0x0000_0067, LOAD),
+    Row(*b"beq             ", 0x0000_0063, BRANCH),
+    Row(*b"bne             ", 0x0000_1063, BRANCH),
+    Row(*b"blt             ", 0x0000_4063, BRANCH),
+    Row(*b"bge             ", 0x0000_5063, BRANCH),
+    Row(*b"bltu            ", 0x0000_6063, BRANCH),
+    Row(*b"bgeu            ", 0x0000_7063, BRANCH),
+    Row(*b"lb              ", 0x0000_0003, LOAD),
+    Row(*b"lh              ", 0x0000_1003, LOAD),
+    Row(*b"lw              ", 0x0000_2003, LOAD),
+    Row(*b"lbu             ", 0x0000_4003, LOAD),
+    Row(*b"lhu             ", 0x0000_5003, LOAD),
+    Row(*b"sb              ", 0x0000_0023, STORE),
+    Row(*b"sh              ", 0x0000_1023, STORE),
+    Row(*b"sw              ", 0x0000_2023, STORE),
+    Row(*b"addi            ", 0x0000_0013, SHORT),
+    Row(*b"slti            ", 0x0000_2013, SHORT),
+    Row(*b"sltiu           ", 0x0000_3013, SHORT),
+    Row(*b"xori            ", 0x0000_4013, SHORT),
+    Row(*b"ori             ", 0x0000_6013, SHORT),
+    Row(*b"andi            ", 0x0000_7013, SHORT),
+    Row(*b"slli            ", 0x0000_1013, SHIFT),
+    Row(*b"srli            ", 0x0000_5013, SHIFT),
+    Row(*b"srai            ", 0x4000_5013, SHIFT),
+    Row(*b"add             ", 0x0000_0033, THREE),
+    Row(*b"sub             ", 0x4000_0033, THREE),
+    Row(*b"sll             ", 0x0000_1033, THREE),
+    Row(*b"slt             ", 0x0000_2033, THREE),
+    Row(*b"sltu            ", 0x0000_3033, THREE),
+    Row(*b"xor             ", 0x0000_4033, THREE),
+    Row(*b"srl             ", 0x0000_5033, THREE),
+    Row(*b"sra             ", 0x4000_5033, THREE),
+    Row(*b"or              ", 0x0000_6033, THREE),
+    Row(*b"and             ", 0x0000_7033, THREE),
+    Row(*b"ecall           ", 0x0000_0073, NONE),
+    Row(*b"ebreak          ", 0x0010_0073, NONE),
+];
+
+/// FENCE, other names of instructions, and names with fewer operands.
+pub const ALIASES: [Row; 25] = [
+    Row(*b"mv              ", 0x0000_0013, MOVE),
+    Row(*b"not             ", 0xfff0_4013, MOVE),
+    Row(*b"neg             ", 0x4000_0033, MOVE_SECOND),
+    Row(*b"seqz            ", 0x0010_3013, MOVE),
+    Row(*b"snez            ", 0x0000_3033, MOVE_SECOND),
+    Row(*b"sltz            ", 0x0000_2033, MOVE),
+    Row(*b"sgtz            ", 0x0000_2033, MOVE_SECOND),
+    Row(*b"beqz            ", 0x0000_0063, TEST),
+    Row(*b"bnez            ", 0x0000_1063, TEST),
+    Row(*b"blez            ", 0x0000_5063, TEST_SECOND),
+    Row(*b"bgez            ", 0x0000_5063, TEST),
+    Row(*b"bltz            ", 0x0000_4063, TEST),
+    Row(*b"bgtz            ", 0x0000_4063, TEST_SECOND),
+    Row(*b"bgt             ", 0x0000_4063, SWAPPED),
+    Row(*b"ble             ", 0x0000_5063, SWAPPED),
+    Row(*b"bgtu            ", 0x0000_6063, SWAPPED),
+    Row(*b"bleu            ", 0x0000_7063, SWAPPED),
+    Row(*b"j               ", 0x0000_006f, TARGET),
+    Row(*b"jr              ", 0x0000_0067, SOURCE),
+    Row(*b"ret             ", 0x0000_8067, NONE),
+    Row(*b"nop             ", 0x0000_0013, NONE),
+    Row(*b"jal             ", 0x0000_00ef, TARGET),
+    Row(*b"jalr            ", 0x0000_00e7, SOURCE),
+    Row(*b"fence           ", 0x0000_000f, FENCE),
+    Row(*b"fence.tso       ", 0x8330_000f, NONE),
+];
+
+/// Two instructions that one name stands for, and that reach any distance from here: the name, the words of both where
+/// each of their operands is 0, and whether a register is named before the value.
+#[derive(Clone, Copy)]
+pub struct Couple(pub Name, pub u32, pub u32, pub bool);
+
+/// The names that stand for two instructions, but for `li`.
+pub const COUPLES: [Couple; 4] = [
+    Couple(*b"call            ", 0x0000_0097, 0x0000_80e7, false),
+    Couple(*b"tail            ", 0x0000_0317, 0x0003_0067, false),
+    Couple(*b"la              ", 0x0000_0017, 0x0000_0013, true),
+    Couple(*b"lla             ", 0x0000_0017, 0x0000_0013, true),
+];

@@ -1,0 +1,399 @@
+-- What is written of a word by its row is read back, by its numbers or by the label that it leads to.
+use Rattle.std.proofs.Common.{◌≡◌, ℕ, suc, ◌%◌, ◌^◌, ◌<◌, ◌⊎◌, Bool, true, false, List, [], ◌∷◌, ◌++◌, Option, Some, None, refl, ap, sym, ◌∙◌, arith, decimal, inl, inr, subst, if◌then◌else◌, codes}
+use Rattle.std.specs.Prelude.{option_map}
+use Rattle.std.specs.List.{AllByRecursion, find}
+use Rattle.std.specs.Str.{bytes_eq}
+use Rattle.std.proofs.lemmas.Bool.{eqb-true, cases_lt, cases_Bool, le-leb, lt-leb}
+use Rattle.std.proofs.lemmas.List.{append_assoc, append-nil}
+use Rattle.svc_rv32i.specs.Meaning.{register, short, long}
+use Rattle.svc_draft.specs.declared.statement.Statement.TheVariants as say
+use Rattle.svc_draft.specs.Options.{◌>>=◌}
+use Rattle.svc_draft.specs.Layouts.{Layout, here, address_of}
+use Rattle.svc_operands.specs.Characters.{is_name, past_blanks, name_at, past_name, behind, found}
+use Rattle.svc_operands.specs.Names.{padded}
+use Rattle.svc_operands.specs.Operands.{first_register_at, base_at, amount_at, amount}
+use Rattle.svc_operands.specs.Targets.{reach, branch_at, jump_at}
+use Rattle.svc_instructions.specs.declared.table.Part.{Part}
+use Rattle.svc_instructions.specs.declared.table.Part.TheVariants as part
+use Rattle.svc_instructions.specs.declared.table.Row.{Row}
+use Rattle.svc_instructions.specs.declared.table.TheConstants.{ROWS, ALIASES, COUPLES}
+use Rattle.svc_instructions.specs.Instructions.{taken, part_at, joined, parts_at, over, row_at, rows_at, alone_at, fixed, is_of, row_of}
+use Rattle.svc_instructions.specs.Couples.{has_name, couple_at, set_at, relative_upper_at}
+use Rattle.svc_instructions.specs.Statements.{relative_named, single_at, lettered_at, instruction_at}
+use Rattle.svc_asm.specs.Statements.{statement_at}
+use Rattle.svc_list.specs.Listings.{register_text, last_text, offset_text, upper_text, label_text, reach_text, part_text, parts_text, row_text, led, led_along}
+use Rattle.svc_list.proofs.NamesBack.{stops, Ends, ends_over, no_slash}
+use Rattle.svc_list.proofs.OperandsBack.{register_back, spaced_register_back, short_back, branch_back, jump_back, upper_back, upper_no_mark, amount_back}
+use Rattle.svc_list.proofs.LinesBack.{names, by_name, names_stop}
+use Rattle.svc_list.proofs.AimsBack.{label_offset, branch_by, jump_by, branch_aims, jump_aims, branch_known, jump_known, branch_unknown, jump_unknown}
+use Rattle.svc_list.proofs.FilledBack.{filled, upper_fills, jump_fills, register_fills, shift_fills, immediate_fills, load_fills, store_fills, branch_fills, system_fills, lui_fixed, auipc_fixed, load_fixed, jalr_fixed}
+use Rattle.svc_list.proofs.Parts.{limit, taken_fits, branch_fits, jump_fits}
+
+-- the number that a pass reads of an operand: how far a label is, the first one doesn't know
+abbrev pub passed : Bool → Option ℕ → ℕ → ℕ
+passed known None n = n
+passed known (Some t) n = if known then n else 0
+
+abbrev pub seen : Bool → Option ℕ → Part → ℕ → ℕ
+seen known to part.Branch n = passed known to n
+seen known to part.Jump n = passed known to n
+seen known to part.End n = n
+seen known to part.Comma n = n
+seen known to part.Rd n = n
+seen known to part.Rs1 n = n
+seen known to part.Rs2 n = n
+seen known to part.Base n = n
+seen known to part.Immediate n = n
+seen known to part.StoreOffset n = n
+seen known to part.Amount n = n
+seen known to part.Upper n = n
+seen known to part.Order n = n
+
+-- the word that it makes of a row's operands
+abbrev pub refilled : Bool → Option ℕ → List Part → ℕ → ℕ → ℕ
+refilled known to [] w word = word
+refilled known to (p ∷ more) w word = refilled known to more w (joined word p (seen known to p (taken p w)))
+
+-- where labels are known, a word leads to its own; where they aren't, each stands for here
+abbrev pub Reached : Bool → Layout → ℕ → List Part → ℕ → Type 0
+Reached true d t ps w = (d.known ≡ true) × (address_of d (label_text t) ≡ Some t) × (led_along (here d) w ps ≡ Some t)
+Reached false d t ps w = (d.known ≡ false) × (address_of d (label_text t) ≡ Some (here d))
+
+abbrev pub Reaches : Bool → Layout → Option ℕ → List Part → ℕ → Type 0
+Reaches known d None ps w = Unit {0}
+Reaches known d (Some t) ps w = Reached known d t ps w
+
+-- nothing follows a target, and nothing is of a fence
+abbrev pub is_last : List Part → Bool
+is_last [] = true
+is_last (part.End ∷ more) = is_last more
+is_last (p ∷ more) = false
+
+abbrev pub is_shown : List Part → Bool
+is_shown [] = true
+is_shown (part.Branch ∷ more) = is_last more
+is_shown (part.Jump ∷ more) = is_last more
+is_shown (part.Order ∷ more) = false
+is_shown (p ∷ more) = is_shown more
+
+small5 : (n : ℕ) → n < 2 ^ 5 → n % 2 ^ 5 ≡ n
+small5 n h = omega arith
+
+small12 : (n : ℕ) → n < 2 ^ 12 → n % 2 ^ 12 ≡ n
+small12 n h = omega arith
+
+small20 : (n : ℕ) → n < 2 ^ 20 → n % 2 ^ 20 ≡ n
+small20 n h = omega arith
+
+register_reads : (n : ℕ) → n < 2 ^ 5 → (register (n % 2 ^ 5)).number ≡ n
+unfolding register
+register_reads n h = omega arith
+
+short_reads : (n : ℕ) → n < 2 ^ 12 → (short n).bits ≡ n
+unfolding short
+short_reads n h = omega arith
+
+long_reads : (n : ℕ) → n < 2 ^ 20 → (long n).bits ≡ n
+unfolding long
+long_reads n h = omega arith
+
+amount_reads : (n : ℕ) → n < 2 ^ 5 → (amount n).bits ≡ n
+unfolding amount
+amount_reads n h = omega arith
+
+-- nothing is written behind a target, and nothing leads further
+last_text_none : (to : Option ℕ) (ps : List Part) (w : ℕ) → is_last ps ≡ true → parts_text to ps w ≡ []
+unfolding part_text
+last_text_none to [] w h = refl
+last_text_none to (part.End ∷ more) w h = last_text_none to more w h
+last_text_none to (p ∷ more) w h = absurd (cc)
+
+last_leads_none : (address w : ℕ) (ps : List Part) → is_last ps ≡ true → led_along address w ps ≡ None
+last_leads_none address w [] h = refl
+last_leads_none address w (part.End ∷ more) h = last_leads_none address w more h
+last_leads_none address w (p ∷ more) h = absurd (cc)
+
+last_led : (o : Option ℕ) (t : ℕ) → found o (λ target. Some target) None ≡ Some t → o ≡ Some t
+last_led None t e = e
+last_led (Some x) t e = e
+
+branch_reads : (known : Bool) (d : Layout) (to : Option ℕ) (more : List Part) (w : ℕ) (rest tail : List ℕ) → is_last more ≡ true → Ends rest tail → Reaches known d to (part.Branch ∷ more) w
+    → branch_at d (reach_text to 2048 (taken part.Branch w % 2 ^ 12) ++ rest) ≡ Some (short (passed known to (taken part.Branch w)), rest)
+branch_reads known d None more w rest tail last ends reaches =
+    let n = taken part.Branch w in
+    ap (λ k. branch_at d (offset_text 2048 k ++ rest)) (small12 n (branch_fits w) ∙ sym (short_reads n (branch_fits w))) ∙ branch_back d (short n) rest ends.stop
+branch_reads true d (Some t) more w rest tail last ends reaches =
+    let n = taken part.Branch w in
+    let leads : led 2048 (here d) n ≡ Some t =
+    last_led (led 2048 (here d) n) t (ap (λ o. found (led 2048 (here d) n) (λ target. Some target) o) (sym (last_leads_none (here d) w more last)) ∙ reaches.2) in
+    let its : led 2048 (here d) (short n).bits ≡ Some t = ap (led 2048 (here d)) (short_reads n (branch_fits w)) ∙ leads in
+    branch_by d (32 ∷ (label_text t ++ rest)) rest (reach d t) (short n) (label_offset d t t rest tail ends reaches.1) (branch_known d t (short n) reaches.0 (branch_aims (here d) t (short n) its))
+branch_reads false d (Some t) more w rest tail last ends reaches =
+    branch_by d (32 ∷ (label_text t ++ rest)) rest (reach d (here d)) (short 0) (label_offset d t (here d) rest tail ends reaches.1) (branch_unknown d (here d) reaches.0)
+
+jump_reads : (known : Bool) (d : Layout) (to : Option ℕ) (more : List Part) (w : ℕ) (rest tail : List ℕ) → is_last more ≡ true → Ends rest tail → Reaches known d to (part.Jump ∷ more) w
+    → jump_at d (reach_text to 524288 (taken part.Jump w % 2 ^ 20) ++ rest) ≡ Some (long (passed known to (taken part.Jump w)), rest)
+jump_reads known d None more w rest tail last ends reaches =
+    let n = taken part.Jump w in
+    ap (λ k. jump_at d (offset_text 524288 k ++ rest)) (small20 n (jump_fits w) ∙ sym (long_reads n (jump_fits w))) ∙ jump_back d (long n) rest ends.stop
+jump_reads true d (Some t) more w rest tail last ends reaches =
+    let n = taken part.Jump w in
+    let leads : led 524288 (here d) n ≡ Some t =
+    last_led (led 524288 (here d) n) t (ap (λ o. found (led 524288 (here d) n) (λ target. Some target) o) (sym (last_leads_none (here d) w more last)) ∙ reaches.2) in
+    let its : led 524288 (here d) (long n).bits ≡ Some t = ap (led 524288 (here d)) (long_reads n (jump_fits w)) ∙ leads in
+    jump_by d (32 ∷ (label_text t ++ rest)) rest (reach d t) (long n) (label_offset d t t rest tail ends reaches.1) (jump_known d t (long n) reaches.0 (jump_aims (here d) t (long n) its))
+jump_reads false d (Some t) more w rest tail last ends reaches =
+    jump_by d (32 ∷ (label_text t ++ rest)) rest (reach d (here d)) (long 0) (label_offset d t (here d) rest tail ends reaches.1) (jump_unknown d (here d) reaches.0)
+
+passed_fits : (known : Bool) (to : Option ℕ) (n most : ℕ) → n < most → passed known to n < most
+passed_fits known None n most h = h
+passed_fits true (Some t) n most h = h
+passed_fits false (Some t) n most h = omega (arith, h)
+
+-- an operand that is no target is read back from its text
+part_back : (d : Layout) (to : Option ℕ) (p : Part) (n : ℕ) (rest : List ℕ) → is_shown (p ∷ part.Rd ∷ []) ≡ true → n < limit p → stops rest ≡ true → part_at d p (part_text to p n ++ rest) ≡ Some (n, rest)
+unfolding part_at part_text base_at past_blanks is_name
+part_back d to part.End n rest k h s = let none : 0 ≡ n = omega (arith, h) in ap (λ x. Some (x, rest)) none
+part_back d to part.Comma n rest k h s = let none : 0 ≡ n = omega (arith, h) in rw (no_slash 44 rest refl) (ap (λ x. Some (x, rest)) none)
+part_back d to part.Rd n rest k h s = rw (spaced_register_back (register (n % 2 ^ 5)) rest s) (ap (λ x. Some (x, rest)) (register_reads n h))
+part_back d to part.Rs1 n rest k h s = rw (spaced_register_back (register (n % 2 ^ 5)) rest s) (ap (λ x. Some (x, rest)) (register_reads n h))
+part_back d to part.Rs2 n rest k h s = rw (spaced_register_back (register (n % 2 ^ 5)) rest s) (ap (λ x. Some (x, rest)) (register_reads n h))
+part_back d to part.Base n rest k h s =
+    let r = register (n % 2 ^ 5) in
+    rw (append_assoc (register_text r) (41 ∷ []) rest, no_slash 40 (register_text r ++ (41 ∷ rest)) refl, register_back r (41 ∷ rest) refl, no_slash 41 rest refl)
+    (ap (λ x. Some (x, rest)) (register_reads n h))
+part_back d to part.Immediate n rest k h s = rw (short_back d (short n) rest s) (ap (λ x. Some (x, rest)) (short_reads n h))
+part_back d to part.StoreOffset n rest k h s = rw (short_back d (short n) rest s) (ap (λ x. Some (x, rest)) (short_reads n h))
+part_back d to part.Amount n rest k h s =
+    rw (ap (λ k. amount_at (32 ∷ (decimal k ++ rest))) (small5 n h ∙ sym (amount_reads n h)), amount_back (amount n) rest s) (ap (λ x. Some (x, rest)) (amount_reads n h))
+part_back d to part.Upper n rest k h s = rw (upper_back d (long n) rest s) (ap (λ x. Some (x, rest)) (long_reads n h))
+part_back d to part.Order n rest k h s = absurd (cc)
+part_back d to part.Branch n rest k h s = absurd (cc)
+part_back d to part.Jump n rest k h s = absurd (cc)
+
+-- what stands behind an operand ends its name
+offset_stops : (to : Option ℕ) (half n : ℕ) (rest : List ℕ) → stops (reach_text to half n ++ rest) ≡ true
+unfolding is_name
+offset_stops (Some t) half n rest = refl
+offset_stops None half n rest = elim (cases_lt n half) [ inl h ↦ rw (le-leb (suc n) half (omega (arith, h))) refl | inr h ↦ rw (lt-leb (suc n) half (omega (arith, h))) refl ]
+
+part_stops : (to : Option ℕ) (p : Part) (n : ℕ) (rest : List ℕ) → stops rest ≡ true → stops (part_text to p n ++ rest) ≡ true
+unfolding part_text is_name
+part_stops to part.End n rest s = s
+part_stops to part.Order n rest s = s
+part_stops to part.Branch n rest s = offset_stops to 2048 (n % 2 ^ 12) rest
+part_stops to part.Jump n rest s = offset_stops to 524288 (n % 2 ^ 20) rest
+part_stops to _ n rest s = refl
+
+parts_stop : (to : Option ℕ) (ps : List Part) (w : ℕ) (rest : List ℕ) → stops rest ≡ true → stops (parts_text to ps w ++ rest) ≡ true
+parts_stop to [] w rest s = s
+parts_stop to (p ∷ more) w rest s =
+    ap stops (append_assoc (part_text to p (taken p w)) (parts_text to more w) rest) ∙ part_stops to p (taken p w) (parts_text to more w ++ rest) (parts_stop to more w rest s)
+
+-- an operand, and what is read behind it
+step : (known : Bool) (d : Layout) (to : Option ℕ) (p : Part) (more : List Part) (w word : ℕ) (rest : List ℕ)
+    → part_at d p (part_text to p (taken p w) ++ (parts_text to more w ++ rest)) ≡ Some (seen known to p (taken p w), parts_text to more w ++ rest)
+    → parts_at d more (parts_text to more w ++ rest) (joined word p (seen known to p (taken p w))) ≡ Some (refilled known to (p ∷ more) w word, rest)
+    → parts_at d (p ∷ more) (parts_text to (p ∷ more) w ++ rest) word ≡ Some (refilled known to (p ∷ more) w word, rest)
+step known d to p more w word rest read next =
+    ap (λ text. part_at d p text >>= (λ n. parts_at d more n.1 (joined word p n.0))) (append_assoc (part_text to p (taken p w)) (parts_text to more w) rest)
+    ∙ ap (λ o. o >>= (λ n. parts_at d more n.1 (joined word p n.0))) read ∙ next
+
+-- a target, behind which the line ends
+branch_part : (known : Bool) (d : Layout) (to : Option ℕ) (more : List Part) (w : ℕ) (rest tail : List ℕ) → is_last more ≡ true → Ends rest tail → Reaches known d to (part.Branch ∷ more) w
+    → part_at d part.Branch (part_text to part.Branch (taken part.Branch w) ++ (parts_text to more w ++ rest)) ≡ Some (passed known to (taken part.Branch w), parts_text to more w ++ rest)
+unfolding part_at part_text
+branch_part known d to more w rest tail last ends reaches =
+    rw (last_text_none to more w last, branch_reads known d to more w rest tail last ends reaches)
+    (ap (λ x. Some (x, rest)) (short_reads (passed known to (taken part.Branch w)) (passed_fits known to (taken part.Branch w) 4096 (branch_fits w))))
+
+jump_part : (known : Bool) (d : Layout) (to : Option ℕ) (more : List Part) (w : ℕ) (rest tail : List ℕ) → is_last more ≡ true → Ends rest tail → Reaches known d to (part.Jump ∷ more) w
+    → part_at d part.Jump (part_text to part.Jump (taken part.Jump w) ++ (parts_text to more w ++ rest)) ≡ Some (passed known to (taken part.Jump w), parts_text to more w ++ rest)
+unfolding part_at part_text
+jump_part known d to more w rest tail last ends reaches =
+    rw (last_text_none to more w last, jump_reads known d to more w rest tail last ends reaches)
+    (ap (λ x. Some (x, rest)) (long_reads (passed known to (taken part.Jump w)) (passed_fits known to (taken part.Jump w) 1048576 (jump_fits w))))
+
+-- operands behind which no target stands reach any
+none_reached : (known : Bool) (d : Layout) (to : Option ℕ) (ps : List Part) (w : ℕ) → is_last ps ≡ true → (word : ℕ) (rest tail : List ℕ) → Ends rest tail → parts_at d ps (parts_text to ps w ++ rest) word ≡ Some (refilled known to ps w word, rest)
+none_reached known d to [] w h word rest tail ends = refl
+none_reached known d to (part.End ∷ more) w h word rest tail ends =
+    step known d to part.End more w word rest (part_back d to part.End (taken part.End w) (parts_text to more w ++ rest) refl (taken_fits part.End w) (parts_stop to more w rest ends.stop))
+    (none_reached known d to more w h (joined word part.End (taken part.End w)) rest tail ends)
+none_reached known d to (p ∷ more) w h word rest tail ends = absurd (cc)
+
+same_reach : (known : Bool) (d : Layout) (to : Option ℕ) (ps qs : List Part) (w : ℕ) → led_along (here d) w ps ≡ led_along (here d) w qs → Reaches known d to ps w → Reaches known d to qs w
+same_reach known d None ps qs w e h = h
+same_reach true d (Some t) ps qs w e h = (h.0, h.1, sym e ∙ h.2)
+same_reach false d (Some t) ps qs w e h = h
+
+-- the operands of a word are read back from their text, whatever row they are of
+parts_back : (known : Bool) (d : Layout) (to : Option ℕ) (ps : List Part) (w word : ℕ) (rest tail : List ℕ) → is_shown ps ≡ true → Ends rest tail → Reaches known d to ps w
+    → parts_at d ps (parts_text to ps w ++ rest) word ≡ Some (refilled known to ps w word, rest)
+parts_back known d to [] w word rest tail k ends reaches = refl
+parts_back known d to (part.Branch ∷ more) w word rest tail k ends reaches =
+    step known d to part.Branch more w word rest (branch_part known d to more w rest tail k ends reaches) (none_reached known d to more w k (joined word part.Branch (passed known to (taken part.Branch w))) rest tail ends)
+parts_back known d to (part.Jump ∷ more) w word rest tail k ends reaches =
+    step known d to part.Jump more w word rest (jump_part known d to more w rest tail k ends reaches) (none_reached known d to more w k (joined word part.Jump (passed known to (taken part.Jump w))) rest tail ends)
+parts_back known d to (part.Order ∷ more) w word rest tail k ends reaches = absurd (cc)
+parts_back known d to (part.End ∷ more) w word rest tail k ends reaches =
+    step known d to part.End more w word rest (part_back d to part.End (taken part.End w) (parts_text to more w ++ rest) refl (taken_fits part.End w) (parts_stop to more w rest ends.stop))
+    (parts_back known d to more w (joined word part.End (taken part.End w)) rest tail k ends (same_reach known d to (part.End ∷ more) more w refl reaches))
+parts_back known d to (part.Comma ∷ more) w word rest tail k ends reaches =
+    step known d to part.Comma more w word rest (part_back d to part.Comma (taken part.Comma w) (parts_text to more w ++ rest) refl (taken_fits part.Comma w) (parts_stop to more w rest ends.stop))
+    (parts_back known d to more w (joined word part.Comma (taken part.Comma w)) rest tail k ends (same_reach known d to (part.Comma ∷ more) more w refl reaches))
+parts_back known d to (part.Rd ∷ more) w word rest tail k ends reaches =
+    step known d to part.Rd more w word rest (part_back d to part.Rd (taken part.Rd w) (parts_text to more w ++ rest) refl (taken_fits part.Rd w) (parts_stop to more w rest ends.stop))
+    (parts_back known d to more w (joined word part.Rd (taken part.Rd w)) rest tail k ends (same_reach known d to (part.Rd ∷ more) more w refl reaches))
+parts_back known d to (part.Rs1 ∷ more) w word rest tail k ends reaches =
+    step known d to part.Rs1 more w word rest (part_back d to part.Rs1 (taken part.Rs1 w) (parts_text to more w ++ rest) refl (taken_fits part.Rs1 w) (parts_stop to more w rest ends.stop))
+    (parts_back known d to more w (joined word part.Rs1 (taken part.Rs1 w)) rest tail k ends (same_reach known d to (part.Rs1 ∷ more) more w refl reaches))
+parts_back known d to (part.Rs2 ∷ more) w word rest tail k ends reaches =
+    step known d to part.Rs2 more w word rest (part_back d to part.Rs2 (taken part.Rs2 w) (parts_text to more w ++ rest) refl (taken_fits part.Rs2 w) (parts_stop to more w rest ends.stop))
+    (parts_back known d to more w (joined word part.Rs2 (taken part.Rs2 w)) rest tail k ends (same_reach known d to (part.Rs2 ∷ more) more w refl reaches))
+parts_back known d to (part.Base ∷ more) w word rest tail k ends reaches =
+    step known d to part.Base more w word rest (part_back d to part.Base (taken part.Base w) (parts_text to more w ++ rest) refl (taken_fits part.Base w) (parts_stop to more w rest ends.stop))
+    (parts_back known d to more w (joined word part.Base (taken part.Base w)) rest tail k ends (same_reach known d to (part.Base ∷ more) more w refl reaches))
+parts_back known d to (part.Immediate ∷ more) w word rest tail k ends reaches =
+    step known d to part.Immediate more w word rest (part_back d to part.Immediate (taken part.Immediate w) (parts_text to more w ++ rest) refl (taken_fits part.Immediate w) (parts_stop to more w rest ends.stop))
+    (parts_back known d to more w (joined word part.Immediate (taken part.Immediate w)) rest tail k ends (same_reach known d to (part.Immediate ∷ more) more w refl reaches))
+parts_back known d to (part.StoreOffset ∷ more) w word rest tail k ends reaches =
+    step known d to part.StoreOffset more w word rest (part_back d to part.StoreOffset (taken part.StoreOffset w) (parts_text to more w ++ rest) refl (taken_fits part.StoreOffset w) (parts_stop to more w rest ends.stop))
+    (parts_back known d to more w (joined word part.StoreOffset (taken part.StoreOffset w)) rest tail k ends (same_reach known d to (part.StoreOffset ∷ more) more w refl reaches))
+parts_back known d to (part.Amount ∷ more) w word rest tail k ends reaches =
+    step known d to part.Amount more w word rest (part_back d to part.Amount (taken part.Amount w) (parts_text to more w ++ rest) refl (taken_fits part.Amount w) (parts_stop to more w rest ends.stop))
+    (parts_back known d to more w (joined word part.Amount (taken part.Amount w)) rest tail k ends (same_reach known d to (part.Amount ∷ more) more w refl reaches))
+parts_back known d to (part.Upper ∷ more) w word rest tail k ends reaches =
+    step known d to part.Upper more w word rest (part_back d to part.Upper (taken part.Upper w) (parts_text to more w ++ rest) refl (taken_fits part.Upper w) (parts_stop to more w rest ends.stop))
+    (parts_back known d to more w (joined word part.Upper (taken part.Upper w)) rest tail k ends (same_reach known d to (part.Upper ∷ more) more w refl reaches))
+
+-- the first row of a name
+abbrev pub named : List ℕ → List Row → Option Row
+named name rows = find (λ r. bytes_eq name r.0) rows
+
+-- auipc alone may have %pcrel_hi behind it
+abbrev pub IsApart : Row → Type 0
+IsApart r = (bytes_eq (name_at r.0) (codes "auipc") ≡ false) ⊎ (r.2 ≡ part.Rd ∷ part.Comma ∷ part.Upper ∷ part.End ∷ part.End ∷ [])
+
+-- a word that has the bits of a row is its word with operands
+abbrev pub Fills : Row → Type 0
+Fills r = (w : ℕ) → w < 2 ^ 32 → fixed w ≡ r.1 → filled r.2 w r.1 ≡ w
+
+-- what is to hold of each row: its name can be read, finds it, and stands for no other thing; and its operands can be read
+abbrev pub Good : Row → Type 0
+Good r =
+    (names (name_at r.0) ≡ true) × (padded (name_at r.0) ≡ Some r.0) × (bytes_eq (name_at r.0) (codes "li") ≡ false) × (find (has_name r.0) COUPLES ≡ None)
+    × (named r.0 ROWS ≡ Some r) × (is_shown r.2 ≡ true) × IsApart r × Fills r
+
+each_good : AllByRecursion Good ROWS
+unfolding is_name past_blanks padded
+each_good = ((refl, refl, refl, refl, refl, refl, inl refl, λ w fit e. upper_fills 55 _ w fit refl (lui_fixed w) e), ((refl, refl, refl, refl, refl, refl, inr refl, λ w fit e. upper_fills 23 _ w fit refl (auipc_fixed w) e), ((refl, refl, refl, refl, refl, refl, inl refl, λ w fit e. jump_fills _ w fit refl e), ((refl, refl, refl, refl, refl, refl, inl refl, λ w fit e. load_fills 103 _ w fit refl (jalr_fixed w) e), ((refl, refl, refl, refl, refl, refl, inl refl, λ w fit e. branch_fills _ w fit refl e), ((refl, refl, refl, refl, refl, refl, inl refl, λ w fit e. branch_fills _ w fit refl e), ((refl, refl, refl, refl, refl, refl, inl refl, λ w fit e. branch_fills _ w fit refl e), ((refl, refl, refl, refl, refl, refl, inl refl, λ w fit e. branch_fills _ w fit refl e), ((refl, refl, refl, refl, refl, refl, inl refl, λ w fit e. branch_fills _ w fit refl e), ((refl, refl, refl, refl, refl, refl, inl refl, λ w fit e. branch_fills _ w fit refl e), ((refl, refl, refl, refl, refl, refl, inl refl, λ w fit e. load_fills 3 _ w fit refl (load_fixed w) e), ((refl, refl, refl, refl, refl, refl, inl refl, λ w fit e. load_fills 3 _ w fit refl (load_fixed w) e), ((refl, refl, refl, refl, refl, refl, inl refl, λ w fit e. load_fills 3 _ w fit refl (load_fixed w) e), ((refl, refl, refl, refl, refl, refl, inl refl, λ w fit e. load_fills 3 _ w fit refl (load_fixed w) e), ((refl, refl, refl, refl, refl, refl, inl refl, λ w fit e. load_fills 3 _ w fit refl (load_fixed w) e), ((refl, refl, refl, refl, refl, refl, inl refl, λ w fit e. store_fills _ w fit refl e), ((refl, refl, refl, refl, refl, refl, inl refl, λ w fit e. store_fills _ w fit refl e), ((refl, refl, refl, refl, refl, refl, inl refl, λ w fit e. store_fills _ w fit refl e), ((refl, refl, refl, refl, refl, refl, inl refl, λ w fit e. immediate_fills _ w fit refl refl e), ((refl, refl, refl, refl, refl, refl, inl refl, λ w fit e. immediate_fills _ w fit refl refl e), ((refl, refl, refl, refl, refl, refl, inl refl, λ w fit e. immediate_fills _ w fit refl refl e), ((refl, refl, refl, refl, refl, refl, inl refl, λ w fit e. immediate_fills _ w fit refl refl e), ((refl, refl, refl, refl, refl, refl, inl refl, λ w fit e. immediate_fills _ w fit refl refl e), ((refl, refl, refl, refl, refl, refl, inl refl, λ w fit e. immediate_fills _ w fit refl refl e), ((refl, refl, refl, refl, refl, refl, inl refl, λ w fit e. shift_fills _ w fit refl refl e), ((refl, refl, refl, refl, refl, refl, inl refl, λ w fit e. shift_fills _ w fit refl refl e), ((refl, refl, refl, refl, refl, refl, inl refl, λ w fit e. shift_fills _ w fit refl refl e), ((refl, refl, refl, refl, refl, refl, inl refl, λ w fit e. register_fills _ w fit refl e), ((refl, refl, refl, refl, refl, refl, inl refl, λ w fit e. register_fills _ w fit refl e), ((refl, refl, refl, refl, refl, refl, inl refl, λ w fit e. register_fills _ w fit refl e), ((refl, refl, refl, refl, refl, refl, inl refl, λ w fit e. register_fills _ w fit refl e), ((refl, refl, refl, refl, refl, refl, inl refl, λ w fit e. register_fills _ w fit refl e), ((refl, refl, refl, refl, refl, refl, inl refl, λ w fit e. register_fills _ w fit refl e), ((refl, refl, refl, refl, refl, refl, inl refl, λ w fit e. register_fills _ w fit refl e), ((refl, refl, refl, refl, refl, refl, inl refl, λ w fit e. register_fills _ w fit refl e), ((refl, refl, refl, refl, refl, refl, inl refl, λ w fit e. register_fills _ w fit refl e), ((refl, refl, refl, refl, refl, refl, inl refl, λ w fit e. register_fills _ w fit refl e), ((refl, refl, refl, refl, refl, refl, inl refl, λ w fit e. system_fills _ w fit refl e), ((refl, refl, refl, refl, refl, refl, inl refl, λ w fit e. system_fills _ w fit refl e), tt)))))))))))))))))))))))))))))))))))))))
+
+found_good : (P : Row → Type 0) (test : Row → Bool) (rows : List Row) (r : Row) → AllByRecursion P rows → find test rows ≡ Some r → P r × (test r ≡ true)
+found_good P test [] r h e = absurd (cc)
+found_good P test (x ∷ more) r h e =
+    elim (cases_Bool (test x)) [
+      | inl holds ↦
+          let same : Some x ≡ Some r = sym (rw holds refl) ∙ e in
+          let is : x ≡ r = cc in
+          (subst P is h.0, ap test (sym is) ∙ holds)
+      | inr fails ↦ found_good P test more r h.1 (sym (rw fails refl) ∙ e)
+    ]
+
+-- the row that a name finds reads its operands
+named_reads : (d : Layout) (name text : List ℕ) (rows : List Row) (r : Row) (x : ℕ × List ℕ) → named name rows ≡ Some r → row_at d r text ≡ Some x → rows_at d rows name text ≡ Some x
+named_reads d name text [] r x e h = absurd (cc)
+named_reads d name text (y ∷ more) r x e h =
+    elim (cases_Bool (bytes_eq name y.0)) [
+      | inl holds ↦
+          let same : Some y ≡ Some r = sym (rw holds refl) ∙ e in
+          let is : y ≡ r = cc in
+          rw (holds, ap (λ (z : Row). row_at d z text) is, h) refl
+      | inr fails ↦ rw fails (named_reads d name text more r x (sym (rw fails refl) ∙ e) h)
+    ]
+
+-- the operands of auipc have no part of a value
+upper_plain : (d : Layout) (to : Option ℕ) (ps : List Part) (w : ℕ) (rest : List ℕ) → ps ≡ part.Rd ∷ part.Comma ∷ part.Upper ∷ part.End ∷ part.End ∷ [] → relative_upper_at d (parts_text to ps w ++ rest) ≡ None
+unfolding relative_upper_at first_register_at part_text past_blanks is_name
+upper_plain d to ps w rest e =
+    let r = register (taken part.Rd w % 2 ^ 5) in
+    let u = upper_text (long (taken part.Upper w)) in
+    let text : parts_text to ps w ++ rest ≡ last_text r ++ (44 ∷ (u ++ rest)) =
+    ap (λ qs. parts_text to qs w ++ rest) e ∙ append_assoc (last_text r) (44 ∷ (u ++ [])) rest ∙ ap (λ x. last_text r ++ (44 ∷ (x ++ rest))) (append-nil u) in
+    ap (relative_upper_at d) text ∙ rw (spaced_register_back r (44 ∷ (u ++ rest)) refl, no_slash 44 (u ++ rest) refl, upper_no_mark (long (taken part.Upper w)) rest) refl
+
+plain : (d : Layout) (to : Option ℕ) (r : Row) (w : ℕ) (rest : List ℕ) → IsApart r → relative_named d (name_at r.0) (parts_text to r.2 w ++ rest) ≡ None
+plain d to r w rest (inl other) = rw other refl
+plain d to r w rest (inr upper) =
+    elim (cases_Bool (bytes_eq (name_at r.0) (codes "auipc"))) [ inl is ↦ rw is (upper_plain d to r.2 w rest upper) | inr other ↦ rw other refl ]
+
+over_is : (w : ℕ) (rest tail : List ℕ) → Ends rest tail → over (w, rest) ≡ Some (w, rest)
+over_is w rest tail ends = rw (ends_over rest tail ends) refl
+
+-- what is written of a word of any row is read back as the word that the pass sees
+pub row_back : (known : Bool) (d : Layout) (to : Option ℕ) (w : ℕ) (r : Row) (rest tail : List ℕ) → row_of w ≡ Some r → Ends rest tail → Reaches known d to r.2 w
+    → statement_at d (row_text to r w ++ rest) ≡ Some (say.Instruction (refilled known to r.2 w r.1), rest)
+unfolding row_of row_at alone_at single_at instruction_at
+row_back known d to w r rest tail e ends reaches =
+    let good = (found_good Good (is_of (fixed w)) ROWS r each_good e).0 in
+    let operands = parts_text to r.2 w ++ rest in
+    let name = name_at r.0 in
+    let word = refilled known to r.2 w r.1 in
+    let read : row_at d r operands ≡ Some (word, rest) = ap (λ o. o >>= over) (parts_back known d to r.2 w r.1 rest tail good.5 ends reaches) ∙ over_is word rest tail ends in
+    let rows : rows_at d ROWS r.0 operands ≡ Some (word, rest) = named_reads d r.0 operands ROWS r (word, rest) good.4 read in
+    let alone : alone_at d r.0 operands ≡ Some (say.Instruction word, rest) =
+    ap (λ o. option_map (λ x. (say.Instruction x.0, x.1)) (found o (λ x. Some x) (rows_at d ALIASES r.0 operands))) rows in
+    let single : single_at d name r.0 operands ≡ Some (say.Instruction word, rest) = ap (λ o. found o (λ x. Some x) (alone_at d r.0 operands)) (plain d to r w rest good.6) ∙ alone in
+    let whole : instruction_at d name operands ≡ Some (say.Instruction word, rest) =
+    ap (λ (b : Bool). if b then set_at operands else padded name >>= (λ letters. lettered_at d name letters operands)) good.2
+    ∙ ap (λ o. o >>= (λ letters. lettered_at d name letters operands)) good.1
+    ∙ ap (λ o. found o (λ c. couple_at d c operands) (single_at d name r.0 operands)) good.3 ∙ single in
+    ap (statement_at d) (append_assoc name (parts_text to r.2 w) rest) ∙ by_name d name operands good.0 (parts_stop to r.2 w rest ends.stop) ∙ whole
+
+pub row_stops : (to : Option ℕ) (w : ℕ) (r : Row) (rest : List ℕ) → row_of w ≡ Some r → stops rest ≡ true → behind 58 (past_name (row_text to r w ++ rest)) ≡ None
+unfolding row_of
+row_stops to w r rest e s = names_stop (name_at r.0) (parts_text to r.2 w) rest (found_good Good (is_of (fixed w)) ROWS r each_good e).0.0 (parts_stop to r.2 w rest s)
+
+-- where labels are known, or none is meant, that is the word itself
+seen_none : (known : Bool) (p : Part) (n : ℕ) → seen known None p n ≡ n
+seen_none known part.Branch n = refl
+seen_none known part.Jump n = refl
+seen_none known part.End n = refl
+seen_none known part.Comma n = refl
+seen_none known part.Rd n = refl
+seen_none known part.Rs1 n = refl
+seen_none known part.Rs2 n = refl
+seen_none known part.Base n = refl
+seen_none known part.Immediate n = refl
+seen_none known part.StoreOffset n = refl
+seen_none known part.Amount n = refl
+seen_none known part.Upper n = refl
+seen_none known part.Order n = refl
+
+seen_true : (to : Option ℕ) (p : Part) (n : ℕ) → seen true to p n ≡ n
+seen_true None part.Branch n = refl
+seen_true (Some t) part.Branch n = refl
+seen_true None part.Jump n = refl
+seen_true (Some t) part.Jump n = refl
+seen_true to part.End n = refl
+seen_true to part.Comma n = refl
+seen_true to part.Rd n = refl
+seen_true to part.Rs1 n = refl
+seen_true to part.Rs2 n = refl
+seen_true to part.Base n = refl
+seen_true to part.Immediate n = refl
+seen_true to part.StoreOffset n = refl
+seen_true to part.Amount n = refl
+seen_true to part.Upper n = refl
+seen_true to part.Order n = refl
+
+refilled_known : (to : Option ℕ) (ps : List Part) (w word : ℕ) → refilled true to ps w word ≡ filled ps w word
+refilled_known to [] w word = refl
+refilled_known to (p ∷ more) w word = ap (λ n. refilled true to more w (joined word p n)) (seen_true to p (taken p w)) ∙ refilled_known to more w (joined word p (taken p w))
+
+row_fills : (w : ℕ) (r : Row) → w < 2 ^ 32 → row_of w ≡ Some r → filled r.2 w r.1 ≡ w
+unfolding row_of
+row_fills w r fit e = let it = found_good Good (is_of (fixed w)) ROWS r each_good e in it.0.7 w fit (eqb-true (fixed w) r.1 it.1)
+
+pub known_same : (to : Option ℕ) (w : ℕ) (r : Row) → w < 2 ^ 32 → row_of w ≡ Some r → refilled true to r.2 w r.1 ≡ w
+known_same to w r fit e = refilled_known to r.2 w r.1 ∙ row_fills w r fit e

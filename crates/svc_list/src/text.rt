@@ -1,0 +1,164 @@
+// Numbers, registers, labels and instructions as text.
+
+ghost use Rattle.std.specs.Prelude.{◌≡◌, ◌++◌, ◌∷◌, ◌*◌, ◌<◌, ◌≤◌, decimal, OnOk};
+ghost use Rattle.svc_list.specs.Listings.{register_text, short_text, offset_text, hex_digit, hex_text, label_text, reach_text, part_text, parts_text, row_text};
+
+use itoa::Buffer;
+use std::alloc::AllocError;
+use svc_instructions::{Part, Row, taken};
+use svc_operands::{long, register, short, split_name};
+use svc_rv32i::{Register, Short};
+
+/// Puts a text behind another.
+pub fn put_text(out: &mut Vec<u8>, text: &str) -> Result<(), AllocError>
+    ensures { OnOk result (out.new.items ≡ out.old.items ++ text.now) }
+{
+    out.extend_from_slice(text.as_bytes())
+}
+
+/// A number in decimal.
+pub fn put_number(out: &mut Vec<u8>, number: u32) -> Result<(), AllocError>
+    ensures { OnOk result (out.new.items ≡ out.old.items ++ decimal number) }
+{
+    let mut buffer = Buffer::new();
+    put_text(out, buffer.format(number))
+}
+
+/// A register, by its number.
+pub fn put_register(out: &mut Vec<u8>, register: Register) -> Result<(), AllocError>
+    ensures { OnOk result (out.new.items ≡ out.old.items ++ register_text register) }
+{
+    put_text(out, "x")?;
+    put_number(out, register.number as u32)
+}
+
+fn put_short(out: &mut Vec<u8>, imm: Short) -> Result<(), AllocError>
+    ensures { OnOk result (out.new.items ≡ out.old.items ++ short_text imm) }
+{
+    if imm.bits < 2048 {
+        put_text(out, " ")?;
+        return put_number(out, imm.bits as u32);
+    }
+    put_text(out, " -")?;
+    put_number(out, 4096 - imm.bits as u32)
+}
+
+// How far from here, in steps of two bytes: `half` of the numbers of its bits are forward.
+fn put_offset(out: &mut Vec<u8>, half: u32, steps: u32) -> Result<(), AllocError>
+    requires half { half ≤ 524288 }
+    requires steps { steps < 2 * half }
+    ensures { OnOk result (out.new.items ≡ out.old.items ++ offset_text half steps) }
+{
+    if steps < half {
+        put_text(out, " . + ")?;
+        return put_number(out, 2 * steps);
+    }
+    put_text(out, " . - ")?;
+    put_number(out, 2 * (2 * half - steps))
+}
+
+// The digit that is worth so much.
+fn hex_digit(value: u32) -> u8
+    requires { value < 16 }
+    ensures { result ≡ hex_digit value }
+{
+    if value < 10 {
+        return 48 + value as u8;
+    }
+    87 + value as u8
+}
+
+#[tactic(auto, unfolding(crate::specs::Listings::hex_text))]
+fn hex_digits(word: u32) -> [u8; 8]
+    ensures { result ≡ hex_text word }
+{
+    [
+        hex_digit(word / 0x1000_0000 % 16),
+        hex_digit(word / 0x0100_0000 % 16),
+        hex_digit(word / 0x0010_0000 % 16),
+        hex_digit(word / 0x0001_0000 % 16),
+        hex_digit(word / 0x0000_1000 % 16),
+        hex_digit(word / 0x0000_0100 % 16),
+        hex_digit(word / 0x0000_0010 % 16),
+        hex_digit(word % 16),
+    ]
+}
+
+/// A word in eight hexadecimal digits.
+pub fn put_hex(out: &mut Vec<u8>, word: u32) -> Result<(), AllocError>
+    ensures { OnOk result (out.new.items ≡ out.old.items ++ hex_text word) }
+{
+    out.extend_from_slice(&hex_digits(word))
+}
+
+/// The label of an address.
+pub fn put_label(out: &mut Vec<u8>, address: u32) -> Result<(), AllocError>
+    ensures { OnOk result (out.new.items ≡ out.old.items ++ label_text address) }
+{
+    put_text(out, "at_")?;
+    put_hex(out, address)
+}
+
+// How far a branch or a jump goes: to a label, where one is given.
+fn put_reach(out: &mut Vec<u8>, to: Option<u32>, half: u32, steps: u32) -> Result<(), AllocError>
+    requires half { half ≤ 524288 }
+    requires steps { steps < 2 * half }
+    ensures { OnOk result (out.new.items ≡ out.old.items ++ reach_text to half steps) }
+{
+    match to {
+        Some(target) => {
+            put_text(out, " ")?;
+            put_label(out, target)
+        }
+        None => put_offset(out, half, steps),
+    }
+}
+
+#[tactic(auto, unfolding(crate::specs::Listings::part_text))]
+fn put_part(out: &mut Vec<u8>, to: Option<u32>, part: Part, n: u32) -> Result<(), AllocError>
+    ensures { OnOk result (out.new.items ≡ out.old.items ++ part_text to part n) }
+{
+    match part {
+        // A fence stands in no listing.
+        Part::End | Part::Order => Ok(()),
+        Part::Comma => put_text(out, ","),
+        Part::Rd | Part::Rs1 | Part::Rs2 => {
+            put_text(out, " ")?;
+            put_register(out, register(n % 32))
+        }
+        Part::Base => {
+            put_text(out, "(")?;
+            put_register(out, register(n % 32))?;
+            put_text(out, ")")
+        }
+        Part::Immediate | Part::StoreOffset => put_short(out, short(n)),
+        Part::Amount => {
+            put_text(out, " ")?;
+            put_number(out, n % 32)
+        }
+        Part::Upper => {
+            put_text(out, " ")?;
+            put_number(out, long(n).bits)
+        }
+        Part::Branch => put_reach(out, to, 2048, n % 4096),
+        Part::Jump => put_reach(out, to, 524288, n % 1048576),
+    }
+}
+
+fn put_parts(out: &mut Vec<u8>, to: Option<u32>, row: Row, word: u32) -> Result<(), AllocError>
+    ensures { OnOk result (out.new.items ≡ out.old.items ++ parts_text to row.2 word) }
+{
+    for part in row.2.iter() {
+        put_part(out, to, *part, taken(*part, word))?;
+    }
+    Ok(())
+}
+
+/// The instruction of a word that is of this row, to a label, where one is given.
+pub fn put_row(out: &mut Vec<u8>, to: Option<u32>, row: Row, word: u32) -> Result<(), AllocError>
+    ensures { OnOk result (out.new.items ≡ out.old.items ++ row_text to row word) }
+{
+    let (name, _) = split_name(&row.0);
+    out.extend_from_slice(name)?;
+    put_parts(out, to, row, word)
+}
