@@ -1,11 +1,11 @@
 #!/usr/bin/env bash
 # Makes what the cases of the example programs want: their images and listings by GNU's assembler and disassembler, what a run
-# by a schedule prints and saves by the twin in unproved Rust, and their lines in the lists of svc_cases.
+# by a schedule prints and saves by the twin in unproved Rust, and their list. How many they are also stands in
+# crates/svc_cases/stdout.
 #
 #   bench/example_cases.sh
 #
-# Needs rustc, gcc, Python and Debian's binutils-riscv64-unknown-elf. Cases whose names begin with `example_` are this script's; all
-# others stay as they are.
+# Needs rustc, gcc, Python and Debian's binutils-riscv64-unknown-elf. Their pictures are cases of another list.
 set -euo pipefail
 
 root=$(cd "$(dirname "${BASH_SOURCE[0]}")/.." && pwd)
@@ -13,14 +13,14 @@ data=$root/crates/svc_cases/data
 folder=$(mktemp -d)
 trap 'rm -rf "$folder"' EXIT
 rustc -O --edition 2024 -o "$folder/schedule_twin" "$root/bench/schedule_twin.rs"
-: > "$folder/cases"
+echo name,status,out,err,saved,words > "$data/cases/examples.csv"
 
 # A program: name, units, sets, ways, schedule, and the status of its run where that isn't 0.
 example() {
     local name=$1 units=$2 sets=$3 ways=$4 order=$5 status=${6:-0} at=examples/$1
     "$root/bench/example_image.py" "$data/$at.s" "$data/$at.svci" "$data/$at.listing.s"
     "$folder/schedule_twin" "$data/$at.svci" "$units" "$sets" "$ways" 100000 1000000 "$order" 0 63 "$data/$at.csv" > "$data/$at.txt"
-    cat >> "$folder/cases" <<END
+    cat >> "$data/cases/examples.csv" <<END
 example_${name}_is_assembled,0,,,made.svci=$at.svci,assemble $at.s made.svci
 example_${name}_is_listed,0,$at.listing.s,,,list $at.svci
 example_${name}_is_assembled_again,0,,,made.svci=$at.svci,assemble $at.listing.s made.svci
@@ -36,7 +36,7 @@ from_c() {
     "$folder/schedule_twin" "$data/$at.svci" 4 16 2 100000 1000000 rotate 0 63 - > "$data/$at.txt"
     gcc -O2 -DHOST -o "$folder/host" "$root/examples/c/tasks.c"
     "$folder/host" > "$data/$at.host.txt"
-    cat >> "$folder/cases" <<END
+    cat >> "$data/cases/examples.csv" <<END
 example_from_c_is_assembled,0,,,made.svci=$at.svci,assemble $at.s made.svci
 example_from_c_is_listed,0,$at.listing.s,,,list $at.svci
 example_from_c_is_assembled_again,0,,,made.svci=$at.svci,assemble $at.listing.s made.svci
@@ -51,9 +51,3 @@ example wrong_guess 2 16 2 rotate
 example full_set 2 1 1 rotate
 example lost_stack 2 16 2 rotate 2
 from_c
-
-for list in "$data/cases.csv" "$root/crates/svc_cases/stdout"; do
-    grep -v '^example_' "$list" > "$folder/list"
-    if [ "$list" = "$data/cases.csv" ]; then cat "$folder/cases"; else sed 's/,.*/ ok/' "$folder/cases"; fi >> "$folder/list"
-    cp "$folder/list" "$list"
-done

@@ -1,10 +1,10 @@
 #!/usr/bin/env bash
-# Makes the cases of schedules anew: their image, what they want by the twin in unproved Rust, and their lines in the lists
-# of svc_cases.
+# Makes the cases of schedules anew: their image, what they want by the twin in unproved Rust, and their list. How many they are
+# also stands in crates/svc_cases/stdout.
 #
 #   bench/schedule_cases.sh
 #
-# Needs rustc. Cases whose names begin with `schedule_` are this script's; all others stay as they are.
+# Needs rustc.
 set -euo pipefail
 
 root=$(cd "$(dirname "${BASH_SOURCE[0]}")/.." && pwd)
@@ -17,7 +17,7 @@ done
 rm -rf "$data/schedules"
 mkdir -p "$data/schedules"
 "$folder/images" chain "$data/chain.svci"
-: > "$folder/cases"
+echo name,status,out,err,saved,words > "$data/cases/schedules.csv"
 
 # A case: name, image, units, sets, ways, events, order, seed, burst, and `saved` where its trace is wanted too.
 case_of() {
@@ -33,7 +33,7 @@ case_of() {
         kept=trace.csv=schedules/$name.csv
         words="$words --trace trace.csv"
     fi
-    echo "$name,$status,schedules/$name.txt,,$kept,$words" >> "$folder/cases"
+    echo "$name,$status,schedules/$name.txt,,$kept,$words" >> "$data/cases/schedules.csv"
 }
 
 # The sample images under each order.
@@ -64,10 +64,4 @@ for seed in 0 1 4294967295; do
 done
 for ((events = 1; events <= 40; events++)); do
     case_of "of_p_with_room_for_$events" p.svci 4 16 2 "$events" rotate 0 1
-done
-
-for list in "$data/cases.csv" "$root/crates/svc_cases/stdout"; do
-    grep -v '^schedule_' "$list" > "$folder/list"
-    if [ "$list" = "$data/cases.csv" ]; then cat "$folder/cases"; else sed 's/,.*/ ok/' "$folder/cases"; fi >> "$folder/list"
-    cp "$folder/list" "$list"
 done

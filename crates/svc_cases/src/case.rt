@@ -1,12 +1,13 @@
-//! A line of the list of cases.
+//! A row of a list of cases.
 
 use crate::error::CaseError;
+use csv::StringRecord;
 use std::alloc::{AllocError, Global};
 use std::fs;
 use std::rt::Files;
 use svc_case_outcome::Outcome;
 
-/// One run of the program, and what is wanted of it: the fields of a line of the list.
+/// One run of the program, and what is wanted of it: the fields of a row.
 #[derive(Clone, Copy)]
 pub struct Case<'a> {
     /// What the case is called.
@@ -22,20 +23,15 @@ pub struct Case<'a> {
 }
 
 impl<'a> Case<'a> {
-    /// The case of a line, which has six fields. Only the wanted standard error may have commas of its own.
-    pub fn of(line: &'a str) -> Option<Case<'a>> {
-        let (name, rest) = line.split_once(',')?;
-        let (status, rest) = rest.split_once(',')?;
-        let (out, rest) = rest.split_once(',')?;
-        let (rest, words) = rest.rsplit_once(',')?;
-        let (err, saved) = rest.rsplit_once(',')?;
+    /// The case of a row of six fields.
+    pub fn of(row: &'a StringRecord) -> Option<Case<'a>> {
         Some(Case {
-            name,
-            status,
-            out,
-            err,
-            saved,
-            words,
+            name: row.get(0)?,
+            status: row.get(1)?,
+            out: row.get(2)?,
+            err: row.get(3)?,
+            saved: row.get(4)?,
+            words: row.get(5)?,
         })
     }
 

@@ -1,5 +1,6 @@
 //! Why the cases can't be run.
 
+use csv::ErrorKind;
 use std::alloc::{AllocError, AllocFailed};
 use std::io;
 
@@ -17,6 +18,15 @@ pub enum CaseError {
 impl From<io::Error> for CaseError {
     fn from(_error: io::Error) -> CaseError {
         CaseError::File
+    }
+}
+
+impl From<csv::Error> for CaseError {
+    fn from(error: csv::Error) -> CaseError {
+        match error.into_kind() {
+            ErrorKind::OutOfMemory => CaseError::Memory,
+            _ => CaseError::List,
+        }
     }
 }
 

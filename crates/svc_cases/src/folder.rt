@@ -1,6 +1,7 @@
 //! The files of a case: those of the folder, which are only read, and what the run saves, which stays in memory.
 
 use crate::images::image;
+use csv::StringRecord;
 use std::io::Cursor;
 use std::rt;
 use svc_program::{FileFault, Files};
@@ -9,13 +10,13 @@ use svc_program::{FileFault, Files};
 #[derive(Drop)]
 pub struct Folder<'a, R> {
     rt: &'a R,
-    images: &'a str,
+    images: &'a [StringRecord],
     saved: Vec<u8>,
 }
 
 impl<'a, R: AllocGlobal> Folder<'a, R> {
     /// The files of the folder and the images of this list, before anything is saved.
-    pub fn new(rt: &'a R, images: &'a str) -> Folder<'a, R> {
+    pub fn new(rt: &'a R, images: &'a [StringRecord]) -> Folder<'a, R> {
         Folder {
             rt,
             images,

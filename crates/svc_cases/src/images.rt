@@ -1,9 +1,11 @@
-//! Images that a list makes of other ones, by changing their length or one of their words.
+//! Images that are made: of a program's text, or by a list of other ones, of which it changes the length or a word.
 
 use crate::error::CaseError;
+use csv::StringRecord;
 use std::alloc::AllocError;
 use std::fs;
 use std::rt::Files;
+use svc_asm::assemble;
 
 // What is changed of an image.
 #[derive(Clone, Copy)]
@@ -41,46 +43,43 @@ impl Change {
     }
 }
 
-/// The bytes of an image: as the list makes it, by all its lines of this name, and else the file of the name.
+/// The bytes of an image: below `programs/` as its text makes it, and else as the rows of its name do, or those of the file of
+/// the name.
 ///
-/// Errors: a line that isn't one of the list's form, a file that isn't read, want of memory.
-pub fn image<R: Files + AllocGlobal>(rt: &R, list: &str, name: &str) -> Result<Vec<u8>, CaseError> {
-    let mut bytes = fs::read(rt, source(list, name))?;
-    for line in list.lines() {
-        let Some((made, _, change)) = fields(line) else {
-            return Err(CaseError::List);
-        };
-        if made == name {
-            apply(change, &mut bytes)?;
+/// Errors: a row that isn't one of the list's form, a text that makes no image, a file that isn't read, want of memory.
+pub fn image<R: Files + AllocGlobal>(
+    rt: &R,
+    rows: &[StringRecord],
+    name: &str,
+) -> Result<Vec<u8>, CaseError> {
+    if let Some(program) = name.strip_suffix(".svci")
+        && program.starts_with("programs/")
+    {
+        return assembled(rt, program);
+    }
+    let mut bytes = fs::read(rt, source(rows, name))?;
+    for row in rows {
+        if row.get(0) == Some(name) {
+            let change = row.get(2).and_then(Change::of).ok_or(CaseError::List)?;
+            change.apply(&mut bytes)?;
         }
     }
     Ok(bytes)
 }
 
-// The fields of a line: the image that it makes, the one that this is made of, and the change.
-fn fields<'a>(line: &'a str) -> Option<(&'a str, &'a str, &'a str)> {
-    let (made, rest) = line.split_once(',')?;
-    let (of, change) = rest.split_once(',')?;
-    Some((made, of, change))
+// The image that a program's text makes.
+fn assembled<R: Files + AllocGlobal>(rt: &R, program: &str) -> Result<Vec<u8>, CaseError> {
+    let text = fs::read(rt, &format!(in rt.alloc(); "{program}.s")?)?;
+    let image = assemble(rt.alloc(), &text).map_err(|_| CaseError::List)?;
+    image.write(rt.alloc()).map_err(|_| CaseError::Memory)
 }
 
-// The file that an image is made of: what the first line of its name says, and else the one of the name.
-fn source<'a>(list: &'a str, name: &'a str) -> &'a str {
-    for line in list.lines() {
-        if let Some((made, of, _)) = fields(line)
-            && made == name
-        {
-            return of;
+// The file that an image is made of: what the first row of its name says, and else the one of the name.
+fn source<'a>(rows: &'a [StringRecord], name: &'a str) -> &'a str {
+    for row in rows {
+        if row.get(0) == Some(name) {
+            return row.get(1).unwrap_or(name);
         }
     }
     name
-}
-
-// Changes these bytes as a field says.
-fn apply(field: &str, bytes: &mut Vec<u8>) -> Result<(), CaseError> {
-    let Some(change) = Change::of(field) else {
-        return Err(CaseError::List);
-    };
-    change.apply(bytes)?;
-    Ok(())
 }

@@ -1,17 +1,20 @@
-//! What the gate runs, as standard input says line by line. `cases` runs each case of a list through the program, over files
-//! in memory, and says of each that it is as wanted, or where it first differs. Any other line names a call, of which is
-//! said whether it answers rightly, also where memory is refused.
+//! What the gate runs, as standard input says line by line. `cases SUBJECT` runs each case of a list through the program,
+//! over files in memory, and says how many are as wanted, and of each other one where it first differs. Any other line names
+//! a call, of which is said whether it answers rightly, also where memory is refused.
 #![tactic(auto)]
 
 mod case;
 mod error;
 mod folder;
 mod images;
+mod list;
 mod memory;
 
 use case::Case;
+use csv::StringRecord;
 use error::CaseError;
 use folder::Folder;
+use list::rows;
 use memory::answer;
 use std::rt::Files;
 use std::sync::Wait;
@@ -22,44 +25,54 @@ use svc_command::execute;
 
 fn main(rt: HostRuntime) -> Result<(), CaseError> {
     for line in rt.lines(rt.alloc()) {
-        match line?.as_str() {
-            "cases" => run_all(&rt)?,
-            line => println!(rt; "{}", answer(&rt, line))?,
+        let line = line?;
+        match line.strip_prefix("cases ") {
+            Some(subject) => run_all(&rt, subject)?,
+            None => println!(rt; "{}", answer(&rt, &line))?,
         }
     }
     Ok(())
 }
 
-// Runs each case, and says how it ends.
+// Runs each case of a subject, and says how many are as wanted.
 fn run_all<R: Files + Print + Threads + Wait + Sync + AllocGlobal>(
     rt: &R,
+    subject: &str,
 ) -> Result<(), CaseError> {
-    let list = fs::read_to_string(rt, "cases.csv")?;
-    let images = fs::read_to_string(rt, "images.csv")?;
-    run_each(rt, &list, &images)
-}
-
-// Runs each case of a list.
-fn run_each<R: Files + Print + Threads + Wait + Sync + AllocGlobal>(
-    rt: &R,
-    list: &str,
-    images: &str,
-) -> Result<(), CaseError> {
-    for line in list.lines().skip(1) {
-        let Some(case) = Case::of(line) else {
-            return Err(CaseError::List);
-        };
-        run_one(rt, &case, images)?;
+    let cases = rows(rt, &format!(in rt.alloc(); "cases/{subject}.csv")?)?;
+    let images = rows(rt, "images.csv")?;
+    let right = count_right(rt, &cases, &images)?;
+    let all = cases.len();
+    if right == all {
+        println!(rt; "{subject}: {all} cases ok")?;
+    } else {
+        println!(rt; "{subject}: {right} of {all} cases ok")?;
     }
     Ok(())
 }
 
-// Runs a case, and says how it ends.
+// Runs each of these cases. How many of them are as wanted.
+fn count_right<R: Files + Print + Threads + Wait + Sync + AllocGlobal>(
+    rt: &R,
+    cases: &[StringRecord],
+    images: &[StringRecord],
+) -> Result<usize, CaseError> {
+    let mut right = 0;
+    for row in cases {
+        let case = Case::of(row).ok_or(CaseError::List)?;
+        if run_one(rt, &case, images)? {
+            right += 1;
+        }
+    }
+    Ok(right)
+}
+
+// Runs a case, and says whether it is as wanted.
 fn run_one<R: Files + Print + Threads + Wait + Sync + AllocGlobal>(
     rt: &R,
     case: &Case<'_>,
-    images: &str,
-) -> Result<(), CaseError> {
+    images: &[StringRecord],
+) -> Result<bool, CaseError> {
     let wanted = case.wanted(rt)?;
     let found = run(rt, case, images)?;
     tell(rt, case.name, &found, &wanted)
@@ -69,7 +82,7 @@ fn run_one<R: Files + Print + Threads + Wait + Sync + AllocGlobal>(
 fn run<R: Files + Threads + Wait + Sync + AllocGlobal>(
     rt: &R,
     case: &Case<'_>,
-    images: &str,
+    images: &[StringRecord],
 ) -> Result<Outcome, CaseError> {
     let alloc = rt.alloc();
     let words = case.line(alloc)?;
@@ -85,23 +98,23 @@ fn run<R: Files + Threads + Wait + Sync + AllocGlobal>(
     })
 }
 
-// Says that a case is as wanted, or the first part and line in which it isn't.
-fn tell<R: Print>(rt: &R, name: &str, found: &Outcome, wanted: &Outcome) -> Result<(), CaseError> {
-    match found.first_other_part(wanted) {
-        None => println!(rt; "{name} ok")?,
-        Some(Part::Status) => println!(rt;
-            "{name}: status {} and not {}",
-            found.status, wanted.status
-        )?,
-        Some(Part::Out) => {
-            return tell_line(rt, name, "standard output", &found.out, &wanted.out);
-        }
-        Some(Part::Err) => return tell_line(rt, name, "standard error", &found.err, &wanted.err),
-        Some(Part::Saved) => {
-            return tell_line(rt, name, "the saved file", &found.saved, &wanted.saved);
-        }
+// Whether a case is as wanted. Else the first part and line are told in which it isn't.
+fn tell<R: Print>(
+    rt: &R,
+    name: &str,
+    found: &Outcome,
+    wanted: &Outcome,
+) -> Result<bool, CaseError> {
+    let Some(part) = found.first_other_part(wanted) else {
+        return Ok(true);
+    };
+    match part {
+        Part::Status => println!(rt; "{name}: status {} and not {}", found.status, wanted.status)?,
+        Part::Out => tell_line(rt, name, "standard output", &found.out, &wanted.out)?,
+        Part::Err => tell_line(rt, name, "standard error", &found.err, &wanted.err)?,
+        Part::Saved => tell_line(rt, name, "the saved file", &found.saved, &wanted.saved)?,
     }
-    Ok(())
+    Ok(false)
 }
 
 // Tells the first line in which two texts differ.

@@ -5,7 +5,6 @@
 mod attempt;
 mod call;
 mod help;
-mod history;
 mod images;
 mod machines;
 mod program;

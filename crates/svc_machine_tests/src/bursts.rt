@@ -5,8 +5,9 @@ use std::alloc::Global;
 use std::process::Abort;
 use svc_base::UnitId;
 use svc_core::{Ask, Burst, Core, End, Lease};
-use svc_image::{Image, samples};
+use svc_image::Image;
 use svc_rv32i::StoreKind;
+use svc_samples::P;
 
 // Changes of the sample's text: none; in place of the store JAL x0, 0 or ADDI x0, x0, 0; EBREAK in place of the second
 // word.
@@ -28,7 +29,7 @@ fn shape(burst: &Burst) -> Shape {
 
 // The sample of two tasks, whose first one begins here, with these changes of its text.
 fn sample(rt: &impl Abort, alloc: Global, start: u32, changes: &[(usize, u32)]) -> Image {
-    let mut bytes = samples::P;
+    let mut bytes = P;
     LittleEndian::write_u32(&mut bytes[20..], start);
     for (at, word) in changes {
         if *at < 9 {

@@ -1,13 +1,13 @@
 // What no text shows: what a unit's thread sees. Scripts and traces, with what is printed of them, are cases of the
 // program. What is expected follows from the sample's text by hand.
 
-use crate::script::{Line, first, four_units, taken};
+use crate::script::{first, four_units, taken};
 use std::alloc::Global;
 use std::process::Abort;
 use svc_base::{Refusal, UnitId};
 use svc_history::{Event, Recorder, Slip};
 use svc_image::Image;
-use svc_image::samples::P;
+use svc_samples::{Line, P};
 
 mod glances;
 

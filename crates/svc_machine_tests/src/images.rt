@@ -2,8 +2,9 @@
 
 use std::alloc::Global;
 use std::process::Abort;
-use svc_image::samples::{P, P1, R};
+use svc_image::samples::P1;
 use svc_image::{Fetched, Image};
+use svc_samples::{P, R};
 
 mod second_version;
 

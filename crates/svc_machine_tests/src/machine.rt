@@ -1,12 +1,13 @@
 // What no script shows: what the reads tell, bursts of other images and machines, and the last epochs. Scripts with what
 // they print are cases of the program. What is expected follows from the sample's text by hand.
 
-use crate::script::{Line, four_units, taken};
+use crate::script::{four_units, taken};
 use std::alloc::Global;
 use std::process::Abort;
 use svc_base::{Refusal, UnitId};
 use svc_image::Image;
 use svc_machine::{Event, Machine, Reply};
+use svc_samples::Line;
 
 mod driven;
 mod limits;

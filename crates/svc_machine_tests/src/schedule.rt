@@ -9,7 +9,7 @@ use svc_base::{Config, UnitId};
 use svc_core::Ending;
 use svc_history::Recorder;
 use svc_image::Image;
-use svc_image::samples::P;
+use svc_samples::P;
 use svc_schedule::{Policy, Rotate, run_schedule};
 
 // Names one unit, whether it can move or not.

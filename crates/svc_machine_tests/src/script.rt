@@ -8,34 +8,13 @@ use std::process::Abort;
 use svc_base::{Config, UnitId};
 use svc_core::Burst;
 use svc_machine::Machine;
+use svc_samples::{Line, TEN};
 
-/// A line of a script: an event. A submission is of the unit's lease, advanced by 63 turns.
-#[derive(Clone, Copy)]
-pub enum Line {
-    Assign(u8, u32),
-    Submit(u8),
-    Cancel(u8),
-    Commit(u8),
-}
+static LINES: [Line; 10] = TEN;
 
-/// The ten events after which both tasks of the sample are committed: the second one loads too early, is squashed, and
-/// begins anew.
-pub static TEN: [Line; 10] = [
-    Line::Assign(0, 0),
-    Line::Assign(1, 12),
-    Line::Submit(1),
-    Line::Submit(0),
-    Line::Commit(0),
-    Line::Assign(1, 0),
-    Line::Submit(1),
-    Line::Submit(1),
-    Line::Submit(1),
-    Line::Commit(1),
-];
-
-/// The first ones of the ten.
+/// The first ones of the ten events.
 pub fn first(count: usize) -> &'static [Line] {
-    &TEN[..count.min(10)]
+    &LINES[..count.min(10)]
 }
 
 /// The unit's lease, advanced by 63 turns; none without a lease.

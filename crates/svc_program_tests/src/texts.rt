@@ -2,7 +2,6 @@
 
 mod assembly;
 mod failing;
-mod history;
 mod no_files;
 mod program;
 mod report;

@@ -3,9 +3,9 @@
 use super::attempt::{Attempt, Refused, ready};
 use std::alloc::Global;
 use svc_core_laws::Ending;
-use svc_image::samples::{P, P2};
 use svc_image::{Image, ImageError, Version};
 use svc_plain::{PlainError, run_tasks};
+use svc_samples::{P, P2};
 
 /// Makes the call of this name, where it is one of these.
 pub fn attempt(alloc: Global, name: &str) -> Option<Attempt> {

@@ -1,7 +1,6 @@
 //! Calls that open machines and recorders. What is opened then takes ten events, for which no memory is left to ask.
 
 use super::attempt::{Attempt, Refused, ready};
-use super::history::ten_entries;
 use super::images::sample;
 use std::alloc::Global;
 use svc_base::{Config, OpenError, UnitId};
@@ -9,6 +8,7 @@ use svc_core::{Burst, Core, Lease};
 use svc_core_laws::Ending;
 use svc_history::{Event, Machine, Recorder, TraceFaultKind, check_trace};
 use svc_machine::drive;
+use svc_samples::{Line, TEN, TEN_ENTRIES};
 use svc_schedule::{Youngest, run_schedule};
 
 /// Makes the call of this name, where it is one of these.
@@ -24,28 +24,6 @@ pub fn attempt(alloc: Global, name: &str) -> Option<Attempt> {
     }
 }
 
-// An event: a burst is made of what its unit's task is then.
-#[derive(Clone, Copy)]
-enum Line {
-    Assign(u8, u32),
-    Submit(u8),
-    Commit(u8),
-}
-
-// The second task loads too early, is squashed, and runs again; both are committed.
-const TEN: [Line; 10] = [
-    Line::Assign(0, 0),
-    Line::Assign(1, 12),
-    Line::Submit(1),
-    Line::Submit(0),
-    Line::Commit(0),
-    Line::Assign(1, 0),
-    Line::Submit(1),
-    Line::Submit(1),
-    Line::Submit(1),
-    Line::Commit(1),
-];
-
 // Four units, and room for the ten events alone.
 fn four_units() -> Result<Config, Refused> {
     ready(Config::new(4, 16, 2, 10, 1))
@@ -58,7 +36,7 @@ fn burst(machine: &Machine, line: Line) -> Option<Burst> {
             let lease = machine.lease(UnitId(unit))?;
             Some(lease.advance(machine.image(), 63))
         }
-        Line::Assign(..) | Line::Commit(_) => None,
+        Line::Assign(..) | Line::Cancel(_) | Line::Commit(_) => None,
     }
 }
 
@@ -70,6 +48,7 @@ fn event(line: Line, burst: &Option<Burst>) -> Option<Event<'_>> {
             guess,
         }),
         Line::Submit(_) => burst.as_ref().map(|burst| Event::Submit { burst }),
+        Line::Cancel(unit) => Some(Event::Cancel { unit: UnitId(unit) }),
         Line::Commit(by) => Some(Event::Commit { by: UnitId(by) }),
     }
 }
@@ -176,7 +155,7 @@ fn scheduled(alloc: Global) -> Attempt {
 fn check(alloc: Global) -> Attempt {
     let config = four_units()?;
     let image = sample(alloc)?;
-    match check_trace(alloc, image, config, &ten_entries()) {
+    match check_trace(alloc, image, config, &TEN_ENTRIES) {
         Ok(replayed) => Ok(is_done(replayed.machine())),
         Err(fault) if fault.kind == TraceFaultKind::Memory && fault.index == 0 => {
             Err(Refused::Told)

@@ -4,7 +4,7 @@ ghost use Rattle.std.specs.Prelude.{◌≡◌, nat_eq, true, Ok, IfErr};
 ghost use Rattle.std.specs.List.{starts_with};
 
 use super::attempt::{Attempt, Refused, ready};
-use super::texts::{EVENTS, TEXT, TRACE};
+use super::texts::TEXT;
 use super::wanted::{
     CHECK, LIST, PROFILE, PROFILE_BY_TASK, PROFILE_BY_UNIT, PROFILE_BY_WORD, PROFILE_ROW, RUN,
     RUN_ROW, SCHEDULE, SCRIPT, SEQ, SHOW, SHOW_AT,
@@ -14,11 +14,11 @@ use std::sync::Wait;
 use std::thread::Threads;
 use svc_base::Config;
 use svc_command::execute;
-use svc_image::samples::P;
 use svc_program::{
     Assembly, FileFault, Files, Order, Picture, Request, Run, Schedule, Scripted, Source, Table,
     TableRow, Traced, perform, tell,
 };
+use svc_samples::{P, TRACE};
 
 /// Makes the call of this name, where it is one of these.
 pub fn attempt<R: Threads + Wait + Sync + AllocGlobal>(rt: &R, name: &str) -> Option<Attempt> {
@@ -69,7 +69,7 @@ impl Files for Samples {
     fn open(&mut self, name: &str) -> Result<&'static [u8], FileFault> {
         match name {
             "p" => Ok(IMAGE.as_slice()),
-            "events" => Ok(EVENTS.as_bytes()),
+            "events" => Ok(svc_samples::SCRIPT.as_bytes()),
             "trace" => Ok(TRACE.as_bytes()),
             "text" => Ok(TEXT.as_bytes()),
             _ => Err(FileFault),
@@ -85,8 +85,9 @@ impl Files for Samples {
     }
 }
 
-// What the program tells where memory was refused, the last by the parser of its words.
-const TOLD: [&str; 8] = [
+// What the program tells where memory was refused: the last by the parser of its words, and the one before it where it
+// was refused to the vector that stands for standard output.
+const TOLD: [&str; 9] = [
     "svcsim: file fault\n",
     "svcsim: image fault 9\n",
     "svcsim: plain fault 1\n",
@@ -94,6 +95,7 @@ const TOLD: [&str; 8] = [
     "svcsim: run fault 1\n",
     "svcsim: report fault 1\n",
     "svcsim: trace fault 1 at entry 0\n",
+    "svcsim: report fault 2\n",
     "error: out of memory\n",
 ];
 

@@ -1,12 +1,12 @@
 //! Calls that write and read texts. What is written goes to a room that is made before.
 
 use super::attempt::{Attempt, Refused, ready};
-use super::history::ten_entries;
 use std::alloc::Global;
 use svc_core_laws::Ending;
 use svc_report::{
     Counts, ReportError, read_script, read_trace, write_entry, write_summary, write_trace,
 };
+use svc_samples::{SCRIPT, SUMMARY, TEN_ENTRIES, TRACE};
 
 /// Makes the call of this name, where it is one of these.
 pub fn attempt(alloc: Global, name: &str) -> Option<Attempt> {
@@ -19,54 +19,6 @@ pub fn attempt(alloc: Global, name: &str) -> Option<Attempt> {
         _ => None,
     }
 }
-
-/// The trace of ten events, in which the second task loads too early.
-pub const TRACE: &str = "kind,unit,arg,local,ask,reply,addr,word,served,from,cause,first,squashed
-assign,0,0,,,assigned,,0,,,,,
-assign,1,12,,,assigned,,12,,,,,
-submit,1,,1,1,loaded,0,0,memory,,,,
-submit,0,,2,1,stored,0,5,,,violation,1,1
-commit,0,,,,committed,,0,,,,,
-assign,1,0,,,assigned,,12,,,,,
-submit,1,,1,1,loaded,0,5,committed,0,,,
-submit,1,,1,1,emitted,,5,,,,,
-submit,1,,2,0,ran,,,,,,,
-commit,1,,,,committed,,1,,,,,
-";
-
-/// The script of these events.
-pub const EVENTS: &str = "kind,unit,arg
-assign,0,0
-assign,1,12
-submit,1,63
-submit,0,63
-commit,0,
-assign,1,0
-submit,1,63
-submit,1,63
-submit,1,63
-commit,1,
-";
-
-/// Their summary.
-pub const SUMMARY: &str = "out,5
-tasks,2
-exit,5
-kind-assign,3
-kind-submit,5
-kind-replace,0
-kind-cancel,0
-kind-commit,2
-served-hit,0
-served-reuse,0
-served-version,0
-served-spill,0
-served-committed,1
-served-memory,1
-cut-violation,1
-cut-guess,0
-cut-cancel,0
-";
 
 /// A program with each section, and with names and local labels of its own.
 pub const TEXT: &str = ".svc_register x2, 256
@@ -101,14 +53,14 @@ fn written(answer: Result<(), ReportError>, text: &[u8], wanted: &str) -> Attemp
 /// The ten entries are written.
 fn write_history(alloc: Global) -> Attempt {
     let mut room = ready(Vec::with_capacity(alloc, ROOM))?;
-    let answer = write_trace(alloc, &ten_entries(), &mut room);
+    let answer = write_trace(alloc, &TEN_ENTRIES, &mut room);
     written(answer, &room, TRACE)
 }
 
 /// The fourth of them is written.
 fn write_row(alloc: Global) -> Attempt {
     let mut room = ready(Vec::with_capacity(alloc, ROOM))?;
-    let [_, _, _, store, ..] = ten_entries();
+    let [_, _, _, store, ..] = TEN_ENTRIES;
     let answer = write_entry(alloc, &store, &mut room);
     let row = "submit,0,,2,1,stored,0,5,,,violation,1,1\n";
     written(answer, &room, row)
@@ -116,7 +68,7 @@ fn write_row(alloc: Global) -> Attempt {
 
 /// The summary is written.
 fn write_end(alloc: Global) -> Attempt {
-    let counts = Counts::of(&ten_entries());
+    let counts = Counts::of(&TEN_ENTRIES);
     let mut room = ready(Vec::with_capacity(alloc, ROOM))?;
     let answer = write_summary(alloc, &[5], 2, Ending::Exit(5), Some(counts), &mut room);
     written(answer, &room, SUMMARY)
@@ -125,7 +77,7 @@ fn write_end(alloc: Global) -> Attempt {
 /// The trace is read.
 fn read_history(alloc: Global) -> Attempt {
     match read_trace(alloc, TRACE.as_bytes()) {
-        Ok(entries) => Ok(entries.as_slice() == ten_entries().as_slice()),
+        Ok(entries) => Ok(entries.as_slice() == TEN_ENTRIES.as_slice()),
         Err(ReportError::Memory) => Err(Refused::Told),
         Err(_) => Ok(false),
     }
@@ -133,7 +85,7 @@ fn read_history(alloc: Global) -> Attempt {
 
 /// The script is read.
 fn read_events(alloc: Global) -> Attempt {
-    match read_script(alloc, EVENTS.as_bytes()) {
+    match read_script(alloc, SCRIPT.as_bytes()) {
         Ok(steps) => Ok(steps.len() == 10),
         Err(ReportError::Memory) => Err(Refused::Told),
         Err(_) => Ok(false),

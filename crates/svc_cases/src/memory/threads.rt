@@ -3,7 +3,6 @@
 ghost use Rattle.std.specs.Prelude.{◌≡◌};
 
 use super::attempt::{Attempt, Refused, ready};
-use super::history::six_entries;
 use std::alloc::Global;
 use std::sync::Wait;
 use svc_base::{Config, OpenError, UnitId};
@@ -12,6 +11,7 @@ use svc_history::same::is_same;
 use svc_history::{Entry, Recorder};
 use svc_image::Image;
 use svc_image::samples::P1;
+use svc_samples::SIX_ENTRIES;
 use svc_threads::{BoardPass, Gate, Phase, RunError, SharedBus, run_unit};
 
 /// Makes the call of this name, where it is one of these.
@@ -47,11 +47,10 @@ fn one_unit(alloc: Global) -> Result<Recorder, Refused> {
 
 // The entries are the first of the unit's, field by field.
 fn are_first(entries: &[Entry]) -> bool {
-    let wanted = six_entries();
-    if entries.len() > wanted.len() {
+    if entries.len() > SIX_ENTRIES.len() {
         return false;
     }
-    for (entry, one) in entries.iter().zip(&wanted) {
+    for (entry, one) in entries.iter().zip(&SIX_ENTRIES) {
         if !is_same(entry, one) {
             return false;
         }
@@ -78,7 +77,7 @@ fn judged(slips: Result<usize, RunError>, recorder: &Recorder) -> Attempt {
     match slips {
         Ok(slips) => Ok(
             begins_rightly
-                && slips == six_entries().len()
+                && slips == SIX_ENTRIES.len()
                 && recorder.machine().ending() == Ending::Exit(5),
         ),
         Err(RunError::Memory) if begins_rightly => Err(Refused::Told),

@@ -4,7 +4,7 @@ use super::{end_not_short, image_of, is_file, is_written_again};
 use byteorder::{ByteOrder, LittleEndian};
 use std::alloc::Global;
 use std::process::Abort;
-use svc_image::samples::{P, P2};
+use svc_samples::{P, P2};
 
 // What the readers tell of an image: its version, its read-only words, and the limits at 0, 4 and 12.
 fn shown(rt: &impl Abort, alloc: Global, file: &[u8]) -> (u16, u32, [Option<u32>; 3]) {

@@ -9,8 +9,8 @@ use std::process::Abort;
 use svc_base::UnitId;
 use svc_core::Burst;
 use svc_image::Image;
-use svc_image::samples::P;
 use svc_machine::{Event, drive};
+use svc_samples::P;
 
 // A machine that is driven over an assignment, a commit too early, a submission and a commit.
 #[test]

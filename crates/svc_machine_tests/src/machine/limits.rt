@@ -2,14 +2,13 @@
 
 use super::reads::changed;
 use super::{Answer, opened_from, play, step};
-use crate::script::Line;
 use std::alloc::Global;
 use std::process::Abort;
 use svc_base::{Refusal, UnitId, WordAddr};
 use svc_core::Burst;
 use svc_image::Image;
-use svc_image::samples::P;
 use svc_machine::{Event, Reply, What};
+use svc_samples::{Line, P};
 
 const BEGIN: Line = Line::Assign(0, 0);
 

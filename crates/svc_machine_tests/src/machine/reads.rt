@@ -3,12 +3,12 @@
 ghost use Rattle.std.specs.Prelude.{◌<◌};
 
 use super::{opened_from, play};
-use crate::script::{Line, agrees, first};
+use crate::script::{agrees, first};
 use std::alloc::{AllocError, Global};
 use std::process::Abort;
 use svc_base::{UnitId, WordAddr};
-use svc_image::samples::P;
 use svc_machine::Machine;
+use svc_samples::{Line, P};
 
 const BEGUN: &[Line] = &[Line::Assign(0, 0)];
 

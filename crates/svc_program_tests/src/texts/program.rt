@@ -6,12 +6,12 @@ use std::io::{self, ErrorKind, Write};
 use std::sync::Wait;
 use std::thread::Threads;
 use svc_base::Config;
-use svc_image::samples::P;
 use svc_program::{
     Assembly, Fault, FileFault, Files, Request, Run, Scripted, Source, Table, Tasks, Traced,
     perform, tell,
 };
 use svc_report::ReportError;
+use svc_samples::P;
 
 // A writer that takes some bytes, and then fails.
 #[derive(Drop)]

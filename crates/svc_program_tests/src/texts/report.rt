@@ -4,9 +4,9 @@ mod round_trips;
 mod streams;
 
 use self::round_trips::text_in_memory;
-use crate::texts::history::{HEADER, TRACE, entries};
 use std::alloc::{AllocError, Global};
 use svc_history_laws::Entry;
+use svc_samples::{TEN_ENTRIES, TRACE};
 
 // Whether the text of a history is this.
 fn is_written(alloc: Global, history: &[Entry], wanted: &str) -> bool {
@@ -18,11 +18,12 @@ fn is_written(alloc: Global, history: &[Entry], wanted: &str) -> bool {
 
 // The entries of the history a hundred times over.
 fn long_history(alloc: Global) -> Result<Vec<Entry>, AllocError> {
-    entries().repeat(alloc, 100)
+    TEN_ENTRIES.repeat(alloc, 100)
 }
 
 // The trace of that.
 fn long_trace(alloc: Global) -> Result<String, AllocError> {
-    let rows = TRACE.strip_prefix(HEADER).unwrap_or("").repeat(alloc, 99)?;
+    let (_, rows) = TRACE.split_once('\n').unwrap_or((TRACE, ""));
+    let rows = rows.repeat(alloc, 99)?;
     format!(in alloc; "{TRACE}{rows}")
 }

@@ -2,7 +2,7 @@
 
 ghost use Rattle.std.specs.Prelude.{◌≡◌};
 
-use crate::threads::given::{Step, VIOLATION, WRONG_GUESS, config, opened, play, two_tasks};
+use crate::threads::given::{WRONG_GUESS, config, opened, play, two_tasks};
 use std::alloc::Global;
 use std::process::Abort;
 use std::sync::Wait;
@@ -11,6 +11,7 @@ use std::thread;
 use std::thread::Threads;
 use svc_base::UnitId;
 use svc_history::Recorder;
+use svc_samples::{Line, TEN};
 use svc_threads::{BoardPass, BoardRow, SharedBus};
 
 fn row(events: u64, assigned: u64, committed: u64, squashed: u64) -> BoardRow {
@@ -30,7 +31,7 @@ fn bus_of_two<R: Wait + Abort>(rt: &R, alloc: Global) -> (SharedBus, BoardPass)
     opened(rt, alloc, two_tasks(rt, alloc), config)
 }
 
-// What is seen of some steps.
+// What is seen of some events.
 #[derive(Clone, Copy)]
 struct Seen {
     // what the board shows before them
@@ -58,10 +59,10 @@ fn shown<R: Wait + Abort>(rt: &R, alloc: Global, recorder: Recorder) -> BoardRow
     bus.board().read(rt, &mut pass)
 }
 
-fn see<R: Wait + Abort>(rt: &R, alloc: Global, steps: &[Step]) -> Seen {
+fn see<R: Wait + Abort>(rt: &R, alloc: Global, lines: &[Line]) -> Seen {
     let (bus, mut pass) = bus_of_two(rt, alloc);
     let before = bus.board().read(rt, &mut pass);
-    let accepted = play(rt, alloc, &bus, steps);
+    let accepted = play(rt, alloc, &bus, lines);
     let after = bus.board().read(rt, &mut pass);
     let epoch = epoch_of(rt, &bus, UnitId(0));
     let stranger = bus.lease(rt, UnitId(4)).is_ok();
@@ -77,7 +78,7 @@ fn see<R: Wait + Abort>(rt: &R, alloc: Global, steps: &[Step]) -> Seen {
 
 #[test]
 fn a_thread_reads_what_it_did(rt: HostRuntime) {
-    let seen = see(&rt, rt.alloc(), &[Step::Assign(0, 0)]);
+    let seen = see(&rt, rt.alloc(), &[Line::Assign(0, 0)]);
     assert_eq!(rt; seen.before, row(0, 0, 0, 0));
     assert_eq!(rt; seen.accepted, 1);
     assert_eq!(rt; seen.after, row(1, 1, 0, 0));
@@ -87,15 +88,15 @@ fn a_thread_reads_what_it_did(rt: HostRuntime) {
 
 #[test]
 fn a_refused_event_leaves_the_board(rt: HostRuntime) {
-    let steps = [Step::Assign(0, 0), Step::Commit(0)];
-    let seen = see(&rt, rt.alloc(), &steps);
+    let lines = [Line::Assign(0, 0), Line::Commit(0)];
+    let seen = see(&rt, rt.alloc(), &lines);
     assert_eq!(rt; seen.accepted, 1);
     assert_eq!(rt; seen.after, row(1, 1, 0, 0));
 }
 
 #[test]
 fn a_board_counts_a_violation(rt: HostRuntime) {
-    let seen = see(&rt, rt.alloc(), &VIOLATION);
+    let seen = see(&rt, rt.alloc(), &TEN);
     assert_eq!(rt; seen.accepted, 10);
     assert_eq!(rt; seen.after, row(10, 3, 2, 1));
     assert_eq!(rt; seen.again, row(10, 3, 2, 1));
@@ -132,11 +133,11 @@ fn reads_are_sound<R: Wait>(rt: &R, bus: &SharedBus, mut pass: BoardPass) -> boo
     sound
 }
 
-// Whether the reads of one thread are sound while another does the steps, and how many of these are accepted.
+// Whether the reads of one thread are sound while another does the events, and how many of these are accepted.
 fn read_beside<R: Threads + Wait + Abort + Sync>(
     rt: &R,
     alloc: Global,
-    steps: &[Step],
+    lines: &[Line],
 ) -> (bool, usize) {
     let (bus, pass) = bus_of_two(rt, alloc);
     let shared = &bus;
@@ -145,11 +146,11 @@ fn read_beside<R: Threads + Wait + Abort + Sync>(
         move || -> bool
             requires { pass.board ≡ shared.now }
         { reads_are_sound(rt, shared, pass) },
-        || -> usize { play(rt, alloc, shared, steps) },
+        || -> usize { play(rt, alloc, shared, lines) },
     )
 }
 
 #[test]
 fn another_thread_reads_whole_rows(rt: HostRuntime) {
-    assert_eq!(rt; read_beside(&rt, rt.alloc(), &VIOLATION), (true, 10));
+    assert_eq!(rt; read_beside(&rt, rt.alloc(), &TEN), (true, 10));
 }

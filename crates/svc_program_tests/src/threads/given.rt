@@ -1,4 +1,4 @@
-// What the tests play on, and how they play: images, configurations, buses, and steps. What isn't expected ends the
+// What the tests play on, and how they play: images, configurations, buses, and events. What isn't expected ends the
 // process: a function that may end early has to let all that it holds go at each such end, which is dear to prove.
 
 ghost use Rattle.std.specs.Prelude.{◌≡◌};
@@ -11,39 +11,19 @@ use svc_base::{Config, UnitId};
 use svc_core::MAX_BURST_TURNS;
 use svc_core_laws::Ending;
 use svc_history::{Event, Kind, Recorder, Slip};
-use svc_image::{Image, samples};
+use svc_image::Image;
+use svc_image::samples::P1;
+use svc_samples::{Line, P};
 use svc_threads::{BoardPass, Gate, Outcome, RunError, SharedBus, run_units};
 
-/// One step of a script: a unit assigns at a guess, submits a burst of its task, or asks for a commit.
-#[derive(Clone, Copy)]
-pub(crate) enum Step {
-    Assign(u8, u32),
-    Submit(u8),
-    Commit(u8),
-}
-
-/// Unit 1 loads too early, is squashed by unit 0's store, and runs again.
-pub(crate) const VIOLATION: [Step; 10] = [
-    Step::Assign(0, 0),
-    Step::Assign(1, 12),
-    Step::Submit(1),
-    Step::Submit(0),
-    Step::Commit(0),
-    Step::Assign(1, 0),
-    Step::Submit(1),
-    Step::Submit(1),
-    Step::Submit(1),
-    Step::Commit(1),
-];
-
 /// Unit 1 begins at a wrong entry, and is squashed with unit 2 by unit 0's commit.
-pub(crate) const WRONG_GUESS: [Step; 6] = [
-    Step::Assign(0, 0),
-    Step::Assign(1, 0),
-    Step::Assign(2, 12),
-    Step::Submit(0),
-    Step::Commit(0),
-    Step::Assign(1, 0),
+pub(crate) const WRONG_GUESS: [Line; 6] = [
+    Line::Assign(0, 0),
+    Line::Assign(1, 0),
+    Line::Assign(2, 12),
+    Line::Submit(0),
+    Line::Commit(0),
+    Line::Assign(1, 0),
 ];
 
 /// The image of a file.
@@ -53,12 +33,12 @@ pub(crate) fn image_of(rt: &impl Abort, alloc: Global, file: &[u8]) -> Image {
 
 /// The sample of two tasks.
 pub(crate) fn two_tasks(rt: &impl Abort, alloc: Global) -> Image {
-    image_of(rt, alloc, &samples::P)
+    image_of(rt, alloc, &P)
 }
 
 /// The sample of one task.
 pub(crate) fn one_task(rt: &impl Abort, alloc: Global) -> Image {
-    image_of(rt, alloc, &samples::P1)
+    image_of(rt, alloc, &P1)
 }
 
 /// Puts a word at a place of a file's bytes.
@@ -70,7 +50,7 @@ pub(crate) fn put(bytes: &mut [u8], place: usize, word: u32) {
 
 /// The sample of two tasks, with another limit of turns and another word in place of its store.
 pub(crate) fn changed(rt: &impl Abort, alloc: Global, limit: u32, word: u32) -> Image {
-    let mut bytes = samples::P;
+    let mut bytes = P;
     put(&mut bytes, 16, limit);
     put(&mut bytes, 164, word);
     image_of(rt, alloc, &bytes)
@@ -94,15 +74,16 @@ pub(crate) fn opened<R: Wait + Abort>(
     SharedBus::open(rt, alloc, recorder).expect(rt, "a bus")
 }
 
-/// Does a step on the sample of two tasks, where it is accepted.
-pub(crate) fn take<R: Wait>(rt: &R, bus: &SharedBus, image: &Image, step: Step) -> Option<Slip> {
-    match step {
-        Step::Assign(unit, guess) => {
+/// Does an event of the sample of two tasks, where it is accepted.
+pub(crate) fn take<R: Wait>(rt: &R, bus: &SharedBus, image: &Image, line: Line) -> Option<Slip> {
+    match line {
+        Line::Assign(unit, guess) => {
             let unit = UnitId(unit);
             bus.apply(rt, Event::Assign { unit, guess }).ok()
         }
-        Step::Submit(unit) => submit(rt, bus, image, UnitId(unit)),
-        Step::Commit(unit) => bus.apply(rt, Event::Commit { by: UnitId(unit) }).ok(),
+        Line::Submit(unit) => submit(rt, bus, image, UnitId(unit)),
+        Line::Cancel(unit) => bus.apply(rt, Event::Cancel { unit: UnitId(unit) }).ok(),
+        Line::Commit(unit) => bus.apply(rt, Event::Commit { by: UnitId(unit) }).ok(),
     }
 }
 
@@ -113,17 +94,17 @@ fn submit<R: Wait>(rt: &R, bus: &SharedBus, image: &Image, unit: UnitId) -> Opti
     bus.apply(rt, Event::Submit { burst: &burst }).ok()
 }
 
-/// Does steps on the sample of two tasks until one is refused, and tells how many were accepted.
+/// Does events of the sample of two tasks until one is refused, and tells how many were accepted.
 pub(crate) fn play<R: Wait + Abort>(
     rt: &R,
     alloc: Global,
     bus: &SharedBus,
-    steps: &[Step],
+    lines: &[Line],
 ) -> usize {
     let image = two_tasks(rt, alloc);
     let mut accepted = 0_usize;
-    for step in steps {
-        if take(rt, bus, &image, *step).is_none() {
+    for line in lines {
+        if take(rt, bus, &image, *line).is_none() {
             break;
         }
         accepted = accepted.saturating_add(1);

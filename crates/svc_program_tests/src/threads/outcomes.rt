@@ -1,6 +1,6 @@
 // Outcomes, and lists of slips that are not the units'.
 
-use crate::threads::given::{VIOLATION, config, one_task, opened, take, two_tasks};
+use crate::threads::given::{config, one_task, opened, take, two_tasks};
 use std::alloc::Global;
 use std::process::Abort;
 use std::sync::Wait;
@@ -8,12 +8,13 @@ use std::test::*;
 use svc_base::Config;
 use svc_history::{Recorder, Slip};
 use svc_image::Image;
+use svc_samples::TEN;
 use svc_threads::{RunError, SharedBus, reconcile};
 
 // The slips of the script with the violation, each of whose steps is accepted.
 fn slips_of<R: Wait + Abort>(rt: &R, alloc: Global, bus: &SharedBus) -> [Slip; 10] {
     let image = two_tasks(rt, alloc);
-    VIOLATION.map(|step| take(rt, bus, &image, step).expect(rt, "an accepted step"))
+    TEN.map(|line| take(rt, bus, &image, line).expect(rt, "an accepted event"))
 }
 
 // The recorder that the script leaves, and its slips.

@@ -4,10 +4,10 @@ ghost use Rattle.std.specs.Prelude.{◌≡◌, IfOk};
 ghost use Rattle.std.specs.List.{AllByRecursion};
 ghost use Rattle.svc_report.specs.Trace.{HasRow, text_of};
 
-use crate::texts::history::entries;
 use std::alloc::Global;
 use svc_history_laws::Entry;
 use svc_report::{ReportError, read_trace, write_trace};
+use svc_samples::TEN_ENTRIES;
 
 /// The text of a history, in memory.
 pub fn text_in_memory(alloc: Global, entries: &[Entry]) -> Result<Vec<u8>, ReportError>
@@ -36,5 +36,5 @@ fn is_read_again(alloc: Global, history: &[Entry]) -> bool {
 
 #[test]
 fn a_history_is_read_again(rt: HostRuntime) {
-    assert!(rt; is_read_again(rt.alloc(), &entries()));
+    assert!(rt; is_read_again(rt.alloc(), &TEN_ENTRIES));
 }

@@ -2,30 +2,11 @@
 
 use super::{is_written, long_history, long_trace};
 use crate::texts::failing::{FailingReader, FailingWriter};
-use crate::texts::history::{TRACE, entries};
 use std::alloc::{AllocError, Global};
 use svc_core_laws::Ending;
 use svc_history_laws::Entry;
 use svc_report::{Counts, ReportError, read_script, read_trace, write_summary, write_trace};
-
-const SUMMARY: &str = "out,5
-tasks,2
-exit,5
-kind-assign,3
-kind-submit,5
-kind-replace,0
-kind-cancel,0
-kind-commit,2
-served-hit,0
-served-reuse,0
-served-version,0
-served-spill,0
-served-committed,1
-served-memory,1
-cut-violation,1
-cut-guess,0
-cut-cancel,0
-";
+use svc_samples::{SUMMARY, TEN_ENTRIES, TRACE};
 
 // Whether writing a trace fails where the writer does, after so many bytes of its text.
 fn trace_breaks(alloc: Global, history: &[Entry], text: &str, left: usize) -> bool {
@@ -36,12 +17,11 @@ fn trace_breaks(alloc: Global, history: &[Entry], text: &str, left: usize) -> bo
 
 #[test]
 fn a_trace_over_a_writer_that_fails(rt: HostRuntime) {
-    let history = entries();
     for left in 0..TRACE.len() {
-        assert!(rt; trace_breaks(rt.alloc(), &history, TRACE, left));
+        assert!(rt; trace_breaks(rt.alloc(), &TEN_ENTRIES, TRACE, left));
     }
     // The entries are as they were.
-    assert!(rt; is_written(rt.alloc(), &history, TRACE));
+    assert!(rt; is_written(rt.alloc(), &TEN_ENTRIES, TRACE));
 }
 
 // Whether writing the long trace fails where the writer does: after each of these numbers of bytes, and before the last
@@ -88,7 +68,7 @@ fn is_summarized(alloc: Global, counts: Counts) -> bool {
 
 #[test]
 fn a_summary_over_a_writer_that_fails(rt: HostRuntime) {
-    let counts = Counts::of(&entries());
+    let counts = Counts::of(&TEN_ENTRIES);
     for left in 0..SUMMARY.len() {
         assert!(rt; summary_breaks(rt.alloc(), counts, left));
     }

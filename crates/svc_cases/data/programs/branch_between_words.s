@@ -1,0 +1,7 @@
+# A branch between two words.
+.svc_limit 100
+.svc_entry
+    lui x5, 0x100
+    beq x0, x0, . + 2
+.data
+    .word 0, 0

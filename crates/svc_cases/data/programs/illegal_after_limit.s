@@ -1,0 +1,7 @@
+# An illegal word in the turn after the last that the task may take.
+.svc_limit 1
+.svc_entry
+    lui x5, 0x100
+    .word 0
+.data
+    .word 0, 0
