@@ -1,1 +1,4 @@
 pub mod Touched
+pub mod Overs
+pub mod OneWord
+pub mod Followed

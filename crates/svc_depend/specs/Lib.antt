@@ -1,1 +1,3 @@
 pub mod Touch
+pub mod Words
+pub mod Tracking

@@ -1,6 +1,6 @@
 // One turn of a task, and the words that it touches.
 
-ghost use Rattle.std.specs.Prelude.{◌≡◌, ◌≤◌, ℕ, None, length, slice_index};
+ghost use Rattle.std.specs.Prelude.{◌≡◌, ◌≤◌, ◌<◌, ℕ, None, IfSome, length, slice_index};
 ghost use Rattle.svc_core_laws.specs.Program.{over, wrote};
 ghost use Rattle.svc_core_laws.specs.Numbers.{load_bytes, store_bytes};
 ghost use Rattle.svc_core_laws.specs.Steps.{step_of};
@@ -30,6 +30,8 @@ pub(crate) fn take_turn(image: &Image, core: &mut Core, memory: &mut [u32]) -> T
     ensures core { core.new ≡ (step_of image.now core.old memory.old).core }
     ensures memory { (a : ℕ) → slice_index memory.new a
         ≡ over (wrote (step_of image.now core.old memory.old).log) (slice_index memory.old) a }
+    ensures read_inside { IfSome result.reads (λ w. w < length memory.old) }
+    ensures write_inside { IfSome result.writes (λ w. w < length memory.old) }
     ensures reads { result.reads ≡ word_read (wants image.now core.old) }
     ensures writes { result.writes ≡ word_written (wants image.now core.old) }
 {
@@ -45,6 +47,8 @@ pub(crate) fn take_turn(image: &Image, core: &mut Core, memory: &mut [u32]) -> T
 // The words that a turn touches which asks this of data of so many words, of which the first ones are read-only.
 fn touch_of(ask: Ask, words: u32, read_only: u32) -> Touch
     requires { words ≤ 65536 }
+    ensures read_inside { IfSome result.reads (λ w. w < words) }
+    ensures write_inside { IfSome result.writes (λ w. w < words) }
     ensures reads { result.reads ≡ asked_read words read_only ask }
     ensures writes { result.writes ≡ asked_written words read_only ask }
 {
@@ -74,7 +78,8 @@ fn touch_of(ask: Ask, words: u32, read_only: u32) -> Touch
 // The word of a load, unless it traps.
 fn load_word(kind: LoadKind, addr: u32, words: u32) -> Option<u32>
     requires { words ≤ 65536 }
-    ensures { result ≡ unless_trap (access_trap words (load_bytes kind) addr) (word_address addr) }
+    ensures word { result ≡ unless_trap (access_trap words (load_bytes kind) addr) (word_address addr) }
+    ensures inside { IfSome result (λ w. w < words) }
 {
     match load_place(kind, addr, words) {
         Ok(place) => Some(place.word),
@@ -85,7 +90,8 @@ fn load_word(kind: LoadKind, addr: u32, words: u32) -> Option<u32>
 // The word of a store, unless it traps.
 fn store_word(kind: StoreKind, addr: u32, words: u32, read_only: u32) -> Option<u32>
     requires { words ≤ 65536 }
-    ensures { result ≡ unless_trap (store_trap words read_only (store_bytes kind) addr) (word_address addr) }
+    ensures word { result ≡ unless_trap (store_trap words read_only (store_bytes kind) addr) (word_address addr) }
+    ensures inside { IfSome result (λ w. w < words) }
 {
     match store_place(kind, addr, words, read_only) {
         Ok(place) => Some(place.word),
