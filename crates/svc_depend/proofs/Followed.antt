@@ -113,7 +113,7 @@ module _ {C : Type 0} (p : Program C) (exposes : ℕ → Bool) (writes : Words) 
         memory = has.memory ∙ sym read_memory ∙ ap₂ (λ k n. count_over (is_from_memory p k shown) n) (sym task) (sym size);
         stores = has.stores ∙ h.stores ∙ ap (count_over (is_written writes)) (sym size);
         nearest = has.nearest ∙ sym read_nearest ∙ ap₂ (λ k n. least_over (distance_in p k shown) n) (sym task) (sym size);
-        now = has.same.now ∙ h.now;
+        time_is = has.same.time ∙ h.time_is;
       }
 
   pub waits : (ready_at : ℕ) → HasRead word s t ready_at → ready_at ≡ ready exposes writes times (Some word)
@@ -129,17 +129,17 @@ module _ {C : Type 0} (p : Program C) (exposes : ℕ → Bool) (writes : Words) 
     then_times = stored_at (Some word) time times
 
     abbrev u : Write
-    u = written_by s.task s.now x
+    u = written_by s.task s.time x
 
-    done : WriteIs p s.task word (exposes word) (is_written writes word) s.now u
-    done = write_is p s.task word (exposes word) (is_written writes word) (times word) s.now x (h.words word inside)
+    done : WriteIs p s.task word (exposes word) (is_written writes word) s.time u
+    done = write_is p s.task word (exposes word) (is_written writes word) (times word) s.time x (h.words word inside)
 
     write_words : (a : ℕ) → a < length s.words.items → IsWord p s.task a (exposes a) (is_written stored a) (then_times a) (get_or (slice_set s.words.items word u.word) a untouched)
     write_words =
         word_by p s.task word s.words.items u.word exposes exposes (is_written writes) (is_written stored) times then_times h.words
         (λ a ne. (refl, write_there word v writes a ne, time_there word time times a ne)) inside
         (subst (λ (b : Bool). IsWord p s.task word (exposes word) b (then_times word) u.word) (sym (write_here word v writes))
-        (subst (λ (n : ℕ). IsWord p s.task word (exposes word) true n u.word) (h.now ∙ sym (time_here word time times)) done.word_is))
+        (subst (λ (n : ℕ). IsWord p s.task word (exposes word) true n u.word) (h.time_is ∙ sym (time_here word time times)) done.word_is))
 
     write_stores : count_over (is_written stored) (length s.words.items) ≡ s.stores + u.stores
     write_stores =
@@ -160,7 +160,7 @@ module _ {C : Type 0} (p : Program C) (exposes : ℕ → Bool) (writes : Words) 
           memory = has.memory ∙ h.memory ∙ ap₂ (λ k n. count_over (is_from_memory p k exposes) n) (sym task) (sym size);
           stores = has.stores ∙ sym write_stores ∙ ap (count_over (is_written stored)) (sym size);
           nearest = has.nearest ∙ h.nearest ∙ ap₂ (λ k n. least_over (distance_in p k exposes) n) (sym task) (sym size);
-          now = has.same.now ∙ h.now;
+          time_is = has.same.time ∙ h.time_is;
         }
 
 -- ---- the same, of a word that there may be
@@ -192,7 +192,7 @@ after_tick p exposes writes times time at s h = record {
   memory = h.memory;
   stores = h.stores;
   nearest = h.nearest;
-  now = ap (λ n. max n at + 1) h.now ∙ add-one (max time at);
+  time_is = ap (λ n. max n at + 1) h.time_is ∙ add-one (max time at);
 }
 
 -- the value that a turn stores

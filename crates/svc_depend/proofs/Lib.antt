@@ -2,3 +2,7 @@ pub mod Touched
 pub mod Overs
 pub mod OneWord
 pub mod Followed
+pub mod Walked
+pub mod Between
+pub mod Nearness
+pub mod Told

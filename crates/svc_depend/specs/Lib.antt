@@ -1,3 +1,5 @@
 pub mod Touch
 pub mod Words
 pub mod Tracking
+pub mod Walks
+pub mod Told

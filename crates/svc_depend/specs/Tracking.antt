@@ -1,5 +1,5 @@
 -- What a tracker of needs stands for.
-use Rattle.std.specs.Prelude.{◌≡◌, ℕ, suc, ◌+◌, ◌==◌, ◌<◌, ◌≤◌, Bool, cond, max, length, get_or, slice_set, Option, Some, None, is_some}
+use Rattle.std.specs.Prelude.{◌≡◌, ℕ, suc, ◌+◌, ◌-◌, ◌==◌, ◌<◌, ◌≤◌, Bool, cond, max, length, get_or, slice_set, Option, Some, None, is_some}
 use Rattle.svc_core_laws.specs.Program.{Program, Words}
 use Rattle.svc_depend_laws.specs.Needs.{comes_from}
 use Rattle.svc_depend_laws.specs.Over.{lesser, count_over, least_over}
@@ -8,6 +8,7 @@ use Rattle.svc_depend_laws.specs.Counts as counts
 use Rattle.svc_depend_laws.specs.Chain.{Times}
 use Rattle.svc_depend.specs.declared.word.Word.{Word}
 use Rattle.svc_depend.specs.declared.tracker.Tracker.{Tracker}
+use Rattle.svc_depend.specs.declared.needs.TaskNeeds.{TaskNeeds}
 use Rattle.svc_depend.specs.Words.{untouched, read_by, written_by}
 
 -- a task as the number after it, and no task as 0
@@ -32,7 +33,7 @@ pub record IsTracked {C : Type 0} (p : Program C) (exposes : ℕ → Bool) (writ
   pub memory : t.memory ≡ count_over (is_from_memory p t.task exposes) (length t.words.items)
   pub stores : t.stores ≡ count_over (is_written writes) (length t.words.items)
   pub nearest : t.nearest ≡ least_over (distance_in p t.task exposes) (length t.words.items)
-  pub now : t.now ≡ time
+  pub time_is : t.time ≡ time
 
 -- none of what is kept of a word is above this
 pub record IsWordBelow (most : ℕ) (x : Word) : Type 0 where
@@ -46,13 +47,13 @@ pub record IsBelow (most : ℕ) (t : Tracker) : Type 0 where
   pub needs : t.needs ≤ most
   pub memory : t.memory ≤ most
   pub stores : t.stores ≤ most
-  pub now : t.now ≤ most
+  pub time : t.time ≤ most
 
 -- it follows the same task, and has counted as many turns
 pub record IsSameTask (s t : Tracker) : Type 0 where
   pub task : t.task ≡ s.task
   pub turns : t.turns ≡ s.turns
-  pub now : t.now ≡ s.now
+  pub time : t.time ≡ s.time
   pub size : length t.words.items ≡ length s.words.items
 
 -- a word was read
@@ -68,10 +69,10 @@ pub record HasRead (word : ℕ) (s t : Tracker) (ready : ℕ) : Type 0 where
 -- a word was written
 pub record HasWritten (word : ℕ) (s t : Tracker) : Type 0 where
   pub same : IsSameTask s t
-  pub words : t.words.items ≡ slice_set s.words.items word (written_by s.task s.now (get_or s.words.items word untouched)).word
+  pub words : t.words.items ≡ slice_set s.words.items word (written_by s.task s.time (get_or s.words.items word untouched)).word
   pub needs : t.needs ≡ s.needs
   pub memory : t.memory ≡ s.memory
-  pub stores : t.stores ≡ s.stores + (written_by s.task s.now (get_or s.words.items word untouched)).stores
+  pub stores : t.stores ≡ s.stores + (written_by s.task s.time (get_or s.words.items word untouched)).stores
   pub nearest : t.nearest ≡ s.nearest
 
 -- a word was read, if there is one
@@ -86,10 +87,22 @@ HasWrittenIf (Some word) s t = HasWritten word s t
 
 -- one turn more, which waited for this time
 abbrev pub ticked : (ready : ℕ) → Tracker → Tracker
-ticked ready s = record s { turns = s.turns + 1; now = max s.now ready + 1 }
+ticked ready s = record s { turns = s.turns + 1; time = max s.time ready + 1 }
 
 -- the turns that follow one another, told of a tracker
 pub record HasFollowed (s t : Tracker) : Type 0 where
   pub task : t.task ≡ s.task
   pub turns : t.turns ≡ s.turns + 1
   pub size : length t.words.items ≡ length s.words.items
+
+-- the numbers of the task that it follows
+abbrev pub told_of : (entry before : ℕ) → Tracker → TaskNeeds
+told_of entry before t = record {
+  entry = entry;
+  turns = t.turns - before;
+  needs = t.needs;
+  memory = t.memory;
+  nearest = t.nearest;
+  stores = t.stores;
+  chain = t.time;
+}

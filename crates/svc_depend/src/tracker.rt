@@ -1,13 +1,15 @@
 // What the tasks need, as a walk over the turns of the sequential run finds it.
 
-ghost use Rattle.std.specs.Prelude.{◌≡◌, ◌≤◌, ◌<◌, ◌^◌, ◌+◌, ◌*◌, ◌-◌, List, IfSome, length};
+ghost use Rattle.std.specs.Prelude.{◌≡◌, ◌≤◌, ◌<◌, ◌^◌, ◌+◌, ◌*◌, ◌-◌, ℕ, List, IfOk, IfSome, length};
 ghost use Rattle.svc_core_laws.specs.State.{State};
-ghost use Rattle.svc_core_laws.specs.Program.{Action, Memory, Program, Want, act, exposed, wrote};
-ghost use Rattle.svc_depend_laws.specs.Chain.{Clock, tick, word_read, word_written};
-ghost use Rattle.svc_depend.specs.Tracking.{HasFollowed, HasRead, HasReadIf, HasWritten, HasWrittenIf, IsBelow, IsTracked, ticked};
+ghost use Rattle.svc_core_laws.specs.Program.{Action, Memory, Program, Want, act, exposed, no_reads, no_words, said, wrote};
+ghost use Rattle.svc_depend_laws.specs.Chain.{Clock, Times, tick, times_before, word_read, word_written};
+ghost use Rattle.svc_depend.specs.Tracking.{HasFollowed, HasRead, HasReadIf, HasWritten, HasWrittenIf, IsBelow, IsTracked, ticked, told_of};
 
+use crate::needs::TaskNeeds;
 use crate::turn::Touch;
 use crate::word::{Word, lesser};
+use std::alloc::{AllocError, Global};
 
 /// What the tasks so far need, and the one that runs.
 #[derive(Drop)]
@@ -27,10 +29,67 @@ pub(crate) struct Tracker {
     /// The least distance to a task from which it needs a word.
     pub(crate) nearest: Option<u32>,
     /// The time of its last turn.
-    pub(crate) now: u64,
+    pub(crate) time: u64,
 }
 
 impl Tracker {
+    /// Of so many words, before the first task.
+    pub(crate) fn new(alloc: Global, words: usize) -> Result<Tracker, AllocError>
+        ensures task { IfOk result (λ t. t.task ≡ 0) }
+        ensures turns { IfOk result (λ t. t.turns ≡ 0) }
+        ensures size { IfOk result (λ t. length t.words.items ≡ words) }
+        ensures below { IfOk result (IsBelow 0) }
+        ensures tracked { IfOk result (λ t. (p : Program State) → IsTracked p no_reads no_words (times_before p 0) 0 t) }
+    {
+        let words = vec![in alloc; Word::untouched(); words]?;
+        Ok(Tracker {
+            words,
+            task: 0,
+            turns: 0,
+            needs: 0,
+            memory: 0,
+            stores: 0,
+            nearest: None,
+            time: 0,
+        })
+    }
+
+    /// What the task that runs needs, which began at this entry after so many turns of all tasks.
+    pub(crate) fn task_needs(&self, entry: u32, before: u64) -> TaskNeeds
+        requires { before ≤ self.now.turns }
+        ensures { result ≡ told_of entry before self.now }
+    {
+        TaskNeeds {
+            entry,
+            turns: self.turns - before,
+            needs: self.needs,
+            memory: self.memory,
+            nearest: self.nearest,
+            stores: self.stores,
+            chain: self.time,
+        }
+    }
+
+    /// The task that runs has ended, and the next one begins.
+    pub(crate) fn next_task(&mut self)
+        requires early { self.old.task < 2 ^ 31 }
+        requires below { IsBelow (3 * self.old.turns) self.old }
+        ensures task { self.new.task ≡ self.old.task + 1 }
+        ensures turns { self.new.turns ≡ self.old.turns }
+        ensures size { length self.new.words.items ≡ length self.old.words.items }
+        ensures below { IsBelow (3 * self.new.turns) self.new }
+        ensures tracked { (p : Program State) → (times : Times) → (now : ℕ)
+            → IsTracked p (exposed (said p self.old.task)) (wrote (said p self.old.task)) times now self.old
+            → IsTracked p no_reads no_words times 0 self.new }
+    {
+        self.task += 1;
+        self.needs = 0;
+        self.memory = 0;
+        self.stores = 0;
+        self.nearest = None;
+        self.time = 0;
+    }
+
     // The task that runs reads this word: the time of the store that the read waits for.
     fn read(&mut self, word: u32) -> u64
         requires inside { word < length self.old.words.items }
@@ -61,7 +120,7 @@ impl Tracker {
         ensures below { IsBelow (3 * self.old.turns) self.new }
     {
         let at = word as usize;
-        let written = self.words[at].written_by(self.task, self.now);
+        let written = self.words[at].written_by(self.task, self.time);
         self.words[at] = written.word;
         self.stores += written.stores;
     }
@@ -106,7 +165,7 @@ impl Tracker {
         ensures below { IsBelow (3 * self.old.turns + 2) self.new }
     {
         self.turns += 1;
-        self.now = self.now.max(ready) + 1;
+        self.time = self.time.max(ready) + 1;
     }
 
     /// The task that runs takes a turn that touches these words.

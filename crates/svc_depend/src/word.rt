@@ -6,19 +6,19 @@ ghost use Rattle.svc_depend.specs.Words.{distance_back, is_touched, read_by, unt
 
 /// What the tasks so far have done with a word.
 #[derive(Clone, Copy)]
-pub(crate) struct Word {
+pub struct Word {
     /// The number after that of the last task that needs it, or 0.
-    pub(crate) reader: u32,
+    pub reader: u32,
     /// The number after that of the last task that wrote it, or 0.
-    pub(crate) writer: u32,
+    pub writer: u32,
     /// The time of its last store, or 0.
-    pub(crate) stored: u64,
+    pub stored: u64,
     /// How many tasks need it.
-    pub(crate) readers: u64,
+    pub readers: u64,
     /// How many tasks wrote it.
-    pub(crate) writers: u64,
+    pub writers: u64,
     /// The least distance from a task that needs it to the one from which it comes.
-    pub(crate) nearest: Option<u32>,
+    pub nearest: Option<u32>,
 }
 
 /// What a read of a word comes to.

@@ -2,6 +2,7 @@ pub mod Over
 pub mod Needs
 pub mod Counts
 pub mod Rightly
+pub mod Turns
 pub mod Chain
 pub mod SoFar
 pub mod NeedLaws

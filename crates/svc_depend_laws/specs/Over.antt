@@ -1,5 +1,5 @@
 -- Numbers of the first so many tasks, or words, together.
-use Rattle.std.specs.Prelude.{ℕ, zero, suc, ◌+◌, Bool, cond, min, max, Option, Some, None}
+use Rattle.std.specs.Prelude.{ℕ, zero, suc, ◌+◌, ◌++◌, Bool, cond, min, max, List, [], ◌∷◌, Option, Some, None}
 
 -- their sum
 abbrev pub sum_over : (ℕ → ℕ) → (n : ℕ) → ℕ
@@ -25,3 +25,8 @@ lesser (Some d) (Some e) = Some (min d e)
 abbrev pub least_over : (ℕ → Option ℕ) → (n : ℕ) → Option ℕ
 least_over number zero = None
 least_over number (suc n) = lesser (number n) (least_over number n)
+
+-- one by one
+abbrev pub listed : {A : Type 0} → (ℕ → A) → (n : ℕ) → List A
+listed item zero = []
+listed item (suc n) = listed item n ++ item n ∷ []
