@@ -4,5 +4,5 @@ pub mod OneWord
 pub mod Followed
 pub mod Walked
 pub mod Between
-pub mod Nearness
 pub mod Told
+pub mod Texts

@@ -16,7 +16,7 @@ use Rattle.svc_depend_laws.specs.Counts.{distance_in, is_from_memory, is_written
 use Rattle.svc_depend_laws.specs.Over.{count_over, least_over, listed, lesser}
 use Rattle.svc_depend_laws.specs.Turns.{turns, turns_due, turns_taken}
 use Rattle.svc_depend_laws.proofs.Grows.{said_is}
-use Rattle.svc_depend_laws.proofs.SoFars.{ends_for_good}
+use Rattle.svc_depend_laws.proofs.Stopped.{ends_for_good}
 use Rattle.svc_depend.specs.declared.needs.TaskNeeds.{TaskNeeds}
 use Rattle.svc_depend.specs.declared.needs.Totals.{Totals}
 use Rattle.svc_depend.specs.declared.tracker.Tracker.{Tracker}
@@ -25,7 +25,7 @@ use Rattle.svc_depend.specs.Words.{untouched}
 use Rattle.svc_depend.specs.Tracking.{IsBelow, IsTracked, told_of}
 use Rattle.svc_depend.specs.Told.{AreFew, AreOf, AreWords, IsFew, added, nothing_yet, task_needs, totals}
 use Rattle.svc_depend.specs.Walks.{IsFollowed, IsWalked}
-use Rattle.svc_depend.proofs.Nearness.{nearest_of_all}
+use Rattle.svc_depend_laws.proofs.Nearness.{nearest_of_all}
 
 -- before the first task
 pub none_followed : (img : Image) (m : List ℕ) (t : Tracker) → m ≡ img.words → t.task ≡ 0 → t.turns ≡ 0 → length t.words.items ≡ length m → IsBelow 0 t → IsTracked (program img) no_reads no_words (times_before (program img) 0) 0 t
@@ -95,7 +95,7 @@ module _ (img : Image) (sound : IsImage img) (j : ℕ) (m : List ℕ) (entry : �
       let e5 : u.nearest ≡ nearest p (data_words img) j = t.nearest ∙ ap₂ (λ k n. least_over (distance_in p k (exposed (said p j))) n) task_is size_is in
       let e6 : u.stores ≡ stores p (data_words img) j = t.stores ∙ ap (count_over (is_written (wrote (said p j)))) size_is in
       let e7 : u.time ≡ chain p j = t.time_is ∙ ap (λ (c : Clock). c.now) clock_is in
-      λ i. record { entry = e1 i; turns = same i; needs = e3 i; memory = e4 i; nearest = e5 i; stores = e6 i; chain = e7 i }
+      λ i. record { task = task_is i; entry = e1 i; turns = same i; needs = e3 i; memory = e4 i; nearest = e5 i; stores = e6 i; chain = e7 i }
 
   pub row_few : j < 1000000 → u.turns ≤ s.turns + 65537 → IsBelow (3 * u.turns) u → IsFew (told_of entry s.turns u)
   row_few early more below =

@@ -37,8 +37,8 @@ pub goes_on : (img : Image) (entry n : ℕ) (before : List ℕ) (begun : Tracker
     → touch.reads ≡ word_read (wants img core) → touch.writes ≡ word_written (wants img core)
     → HasFollowed s t → IsBelow (3 * t.turns) t
     → ((p : Program State) → (w : Want State) → (m : Memory) → (log : List Action) → (clock : Clock) → touch.reads ≡ word_read w → touch.writes ≡ word_written w
-        → IsTracked p (exposed log) (wrote log) clock.stores clock.now s
-        → IsTracked p (exposed (act w m log).log) (wrote (act w m log).log) (tick w log clock).stores (tick w log clock).now t)
+    → IsTracked p (exposed log) (wrote log) clock.stores clock.now s
+    → IsTracked p (exposed (act w m log).log) (wrote (act w m log).log) (tick w log clock).stores (tick w log clock).now t)
     → IsWalked img entry (n + 1) before begun then after t
 goes_on img entry n before begun core then memory after s t touch h running core_is memory_is reads writes followed below tracks =
     let p : Program State = program img in

@@ -3,3 +3,5 @@ pub mod Words
 pub mod Tracking
 pub mod Walks
 pub mod Told
+pub mod Tables
+pub mod WordRows

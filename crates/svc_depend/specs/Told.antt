@@ -16,6 +16,7 @@ use Rattle.svc_depend.specs.Words.{untouched}
 -- what the task of this number needs
 abbrev pub task_needs : Image → (task : ℕ) → TaskNeeds
 task_needs img task = record {
+  task = task;
   entry = unwrap_or (seq (program img) task).due 0;
   turns = turns (program img) task;
   needs = needs (program img) (data_words img) task;

@@ -98,6 +98,7 @@ pub record HasFollowed (s t : Tracker) : Type 0 where
 -- the numbers of the task that it follows
 abbrev pub told_of : (entry before : ℕ) → Tracker → TaskNeeds
 told_of entry before t = record {
+  task = t.task;
   entry = entry;
   turns = t.turns - before;
   needs = t.needs;

@@ -25,8 +25,8 @@ pub record IsWalked (img : Image) (entry n : ℕ) (before : List ℕ) (begun : T
   pub turns : t.turns ≡ begun.turns + turns_taken (program img) entry n (slice_index before)
   pub few : t.turns ≤ begun.turns + n
   pub tracked : (times : Times) → IsTracked (program img) no_reads no_words times 0 begun
-    → IsTracked (program img) (exposed (part (program img) entry n (slice_index before)).log) (wrote (part (program img) entry n (slice_index before)).log)
-    (clock_of (program img) entry n (slice_index before) times).stores (clock_of (program img) entry n (slice_index before) times).now t
+      → IsTracked (program img) (exposed (part (program img) entry n (slice_index before)).log) (wrote (part (program img) entry n (slice_index before)).log)
+      (clock_of (program img) entry n (slice_index before) times).stores (clock_of (program img) entry n (slice_index before) times).now t
 
 -- the first so many tasks have been followed, each of which there was; they have led to these words of memory, this entry for the next task and this end, if any, and this has been told of them
 pub record IsFollowed (img : Image) (tasks : ℕ) (memory : List ℕ) (due : Option ℕ) (stopped : Option End) (t : Tracker) (told : List TaskNeeds) (all : Totals) : Type 0 where

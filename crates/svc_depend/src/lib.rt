@@ -4,10 +4,12 @@
 mod needs;
 mod run;
 mod task;
+mod text;
 mod tracker;
 mod turn;
 mod word;
 
 pub use needs::{TaskNeeds, Totals};
 pub use run::{MAX_TASKS, Needs, find_needs};
+pub use text::{write_task_needs, write_totals, write_word_needs};
 pub use word::Word;

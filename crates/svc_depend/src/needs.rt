@@ -8,6 +8,8 @@ use crate::word::lesser;
 /// What a task needs.
 #[derive(Clone, Copy)]
 pub struct TaskNeeds {
+    /// Its number.
+    pub task: u32,
     /// The byte address where it begins.
     pub entry: u32,
     /// Its turns.

@@ -37,7 +37,7 @@ pub struct Needs {
 ///
 /// Errors: [`PlainError::Memory`], before the first task or between two.
 pub fn find_needs(alloc: Global, image: &Image, k: u64) -> Result<Needs, PlainError>
-    requires { k ≤ 1000000 }
+    requires { k ≤ MAX_TASKS }
     ensures tasks { IfOk result (λ n. n.tasks.items ≡ listed (task_needs image.now) (tasks_run image.now k)) }
     ensures totals { IfOk result (λ n. n.totals ≡ totals image.now (tasks_run image.now k)) }
     ensures words { IfOk result (λ n. AreWords image.now (tasks_run image.now k) n.words.items) }

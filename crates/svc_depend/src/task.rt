@@ -12,12 +12,7 @@ use svc_core::{Core, End};
 use svc_image::Image;
 
 /// Runs the task that begins at an entry on the words of the memory, in place, to its end.
-pub(crate) fn run_task(
-    image: &Image,
-    entry: u32,
-    memory: &mut [u32],
-    tracker: &mut Tracker,
-) -> End
+pub(crate) fn run_task(image: &Image, entry: u32, memory: &mut [u32], tracker: &mut Tracker) -> End
     requires entry { is_entry image.now entry ≡ true }
     requires words { length memory.old ≡ length image.now.words }
     requires few { length memory.old ≤ 65536 }

@@ -60,6 +60,7 @@ impl Tracker {
         ensures { result ≡ told_of entry before self.now }
     {
         TaskNeeds {
+            task: self.task,
             entry,
             turns: self.turns - before,
             needs: self.needs,

@@ -4,7 +4,6 @@ pub mod Counts
 pub mod Rightly
 pub mod Turns
 pub mod Chain
-pub mod SoFar
 pub mod NeedLaws
 pub mod DependLaws
 pub mod Rows

@@ -33,6 +33,8 @@ returns-clause-walked c =
     let ended : c.loop-turn.core.done ≡ Some c.in-Some.end = sym c.done.ensures ∙ c.in-Some.is in
     let limit : c.limit-turn-end.result ≡ limit_of c.args.image.now c.args.entry = c.limit-turn-end.ensures.value ∙ ap (λ (s : State). s.limit) c.start-core.ensures in
     let last : c.loop-turn._turn ≤ c.limit-turn-end.result + 1 = c.loop-turn.auto._turn-end in
-    let few : c.loop-turn._turn ≤ suc (limit_of c.args.image.now c.args.entry) = omega (arith, last, limit) in
-    (c.loop-turn.core, ended,
-    whole c.args.image.now c.args.entry c.loop-turn._turn c.args.memory.now c.args.tracker.now c.loop-turn.core c.loop-turn.memory c.loop-turn.tracker c.in-Some.end few ended c.loop-turn.invariant)
+    let few : c.loop-turn._turn ≤ suc (limit_of c.args.image.now c.args.entry) = omega (arith, last, limit) in (
+      c.loop-turn.core,
+      ended,
+      whole c.args.image.now c.args.entry c.loop-turn._turn c.args.memory.now c.args.tracker.now c.loop-turn.core c.loop-turn.memory c.loop-turn.tracker c.in-Some.end few ended c.loop-turn.invariant,
+    )
