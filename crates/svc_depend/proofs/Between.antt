@@ -1,15 +1,14 @@
 -- A tracker before the first task, and between two.
-use Rattle.std.proofs.Common.{ℕ, zero, suc, ◌≡◌, ◌==◌, ◌+◌, ◌<◌, ◌≤◌, Bool, true, false, cond, List, [], length, get_or, Option, Some, None, refl, sym, ap, ◌∙◌, subst, arith, is_some}
+use Rattle.std.proofs.Common.{ℕ, zero, suc, ◌≡◌, ◌+◌, ◌<◌, ◌≤◌, false, List, length, get_or, None, refl, sym, ◌∙◌, subst, arith}
 use Rattle.std.proofs.lemmas.Bool.{ne_eqb}
-use Rattle.svc_core_laws.specs.Program.{Program, Words, exposed, no_reads, no_words, said, wrote}
-use Rattle.svc_depend_laws.specs.Needs.{comes_from}
+use Rattle.svc_core_laws.specs.Program.{Program, exposed, no_reads, no_words, said, wrote}
 use Rattle.svc_depend_laws.specs.Chain.{Times}
-use Rattle.svc_depend_laws.specs.Counts.{is_written, readers, writers, nearest_of_word}
+use Rattle.svc_depend_laws.specs.Counts.{is_written, readers, writers}
 use Rattle.svc_depend_laws.specs.Over.{count_over, least_over}
 use Rattle.svc_depend.specs.declared.word.Word.{Word}
 use Rattle.svc_depend.specs.declared.tracker.Tracker.{Tracker}
 use Rattle.svc_depend.specs.Words.{untouched}
-use Rattle.svc_depend.specs.Tracking.{IsWord, IsTracked, place_of}
+use Rattle.svc_depend.specs.Tracking.{IsWord, IsTracked}
 
 pub none_counted : (n : ℕ) → count_over (λ i. false) n ≡ 0
 none_counted zero = refl

@@ -1,11 +1,11 @@
 -- What a read and a store make of a word.
-use Rattle.std.proofs.Common.{ℕ, suc, ◌≡◌, ◌==◌, ◌+◌, ◌-◌, ◌<◌, ◌≤◌, nat_lt, not, Bool, true, false, cond, ◌&&◌, ◌||◌, Option, Some, None, refl, sym, ap, ap₂, ◌∙◌, subst, arith, is_some, is_none}
+use Rattle.std.proofs.Common.{ℕ, ◌≡◌, ◌==◌, ◌+◌, ◌-◌, ◌<◌, nat_lt, not, Bool, true, false, cond, ◌&&◌, ◌||◌, Option, Some, None, refl, sym, ap, ap₂, ◌∙◌, subst, arith, is_some, is_none}
 use Rattle.std.specs.Prelude.{if◌then◌else◌}
 use Rattle.std.proofs.lemmas.Bool.{eq-eqb, ne_eqb, le-ltb}
 use Rattle.svc_core_laws.specs.Program.{Program}
 use Rattle.svc_depend_laws.specs.Needs.{comes_from}
 use Rattle.svc_depend_laws.specs.Over.{lesser}
-use Rattle.svc_depend_laws.specs.Counts.{back_to, nearest_of_word}
+use Rattle.svc_depend_laws.specs.Counts.{back_to}
 use Rattle.svc_depend_laws.proofs.Nearests.{origin_is}
 use Rattle.svc_depend.specs.declared.word.Word.{Word}
 use Rattle.svc_depend.specs.declared.word.Read.{Read}

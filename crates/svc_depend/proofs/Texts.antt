@@ -1,10 +1,9 @@
 -- The rows of words by what is kept of them are those of the words.
-use Rattle.std.proofs.Common.{ℕ, zero, suc, ◌≡◌, ◌+◌, ◌<◌, ◌≤◌, ◌++◌, List, length, get_or, refl, sym, ap, ap₂, ◌∙◌, subst, arith}
+use Rattle.std.proofs.Common.{ℕ, zero, suc, ◌≡◌, ◌<◌, ◌++◌, List, length, get_or, refl, ap, ap₂, ◌∙◌, arith}
 use Rattle.std.specs.Prelude.{Result, Ok, Err, OnOk, unwrap_or}
 use Rattle.svc_image.specs.Image.{Image}
-use Rattle.svc_core_laws.specs.Turns.{data_words}
 use Rattle.svc_core_laws.specs.Words.{program}
-use Rattle.svc_depend_laws.specs.Counts.{readers, writers, nearest_of_word}
+use Rattle.svc_depend_laws.specs.Counts.{readers, writers}
 use Rattle.svc_depend.specs.declared.word.Word.{Word}
 use Rattle.svc_depend.specs.Tables.{text_over, word_header, word_row, word_row_of, word_table}
 use Rattle.svc_depend.specs.Told.{AreWords}

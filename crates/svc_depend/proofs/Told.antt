@@ -1,27 +1,25 @@
 -- What is told of the tasks that were followed.
-use Rattle.std.proofs.Common.{ℕ, zero, suc, ◌≡◌, ◌+◌, ◌-◌, ◌*◌, ◌^◌, ◌<◌, ◌≤◌, ◌⊎◌, ◌++◌, ◌∷◌, List, [], length, get_or, Option, Some, None, false, refl, sym, ap, ap₂, ◌∙◌, subst, arith, add-one, inl, inr, unwrap_or}
+use Rattle.std.proofs.Common.{ℕ, suc, ◌≡◌, ◌+◌, ◌-◌, ◌*◌, ◌<◌, ◌≤◌, ◌⊎◌, ◌++◌, ◌∷◌, List, [], length, Option, Some, None, false, refl, sym, ap, ap₂, ◌∙◌, subst, arith, add-one, inl, inr, unwrap_or}
 use Rattle.std.specs.Prelude.{slice_index}
 use Rattle.svc_image.specs.Image.{Image, IsImage}
 use Rattle.svc_core_laws.specs.declared.end.End.{End}
 use Rattle.svc_core_laws.specs.State.{State, limit_of}
 use Rattle.svc_core_laws.specs.Turns.{data_words}
-use Rattle.svc_core_laws.specs.Program.{Memory, Program, Run, Action, Seq, due_after, stopped_after, exposed, no_reads, no_words, output, over, said, seq, task, wrote}
+use Rattle.svc_core_laws.specs.Program.{Memory, Program, Run, Action, Seq, due_after, stopped_after, exposed, no_reads, no_words, output, said, seq, task, wrote}
 use Rattle.svc_core_laws.specs.Words.{program}
 use Rattle.svc_core_laws.specs.Sequence.{ending_of, plain_seq}
 use Rattle.svc_plain.specs.Tasks.{IsRun, tasks_run}
 use Rattle.svc_plain.proofs.Runs.{next_run, idle_until, ends_so, no_tasks}
 use Rattle.svc_depend_laws.specs.Needs.{IsNearestOf}
 use Rattle.svc_depend_laws.specs.Chain.{Clock, Times, chain, clock_due, clock_of, times_before}
-use Rattle.svc_depend_laws.specs.Counts.{distance_in, is_from_memory, is_written, needs, memory_needs, nearest, stores, readers, writers, nearest_of_word}
-use Rattle.svc_depend_laws.specs.Over.{count_over, least_over, listed, lesser}
+use Rattle.svc_depend_laws.specs.Counts.{distance_in, is_from_memory, is_written, needs, memory_needs, nearest, stores}
+use Rattle.svc_depend_laws.specs.Over.{count_over, least_over, listed}
 use Rattle.svc_depend_laws.specs.Turns.{turns, turns_due, turns_taken}
 use Rattle.svc_depend_laws.proofs.Grows.{said_is}
 use Rattle.svc_depend_laws.proofs.Stopped.{ends_for_good}
 use Rattle.svc_depend.specs.declared.needs.TaskNeeds.{TaskNeeds}
 use Rattle.svc_depend.specs.declared.needs.Totals.{Totals}
 use Rattle.svc_depend.specs.declared.tracker.Tracker.{Tracker}
-use Rattle.svc_depend.specs.declared.word.Word.{Word}
-use Rattle.svc_depend.specs.Words.{untouched}
 use Rattle.svc_depend.specs.Tracking.{IsBelow, IsTracked, told_of}
 use Rattle.svc_depend.specs.Told.{AreFew, AreOf, AreWords, IsFew, added, nothing_yet, task_needs, totals}
 use Rattle.svc_depend.specs.Walks.{IsFollowed, IsWalked}

@@ -1,5 +1,5 @@
 -- The words that an asked turn touches are those that its turn wants.
-use Rattle.std.proofs.Common.{◌≡◌, ℕ, Bool, false, List, Option, Some, None, refl, sym, ◌∙◌, ap, ap₂, length}
+use Rattle.std.proofs.Common.{◌≡◌, ℕ, false, List, Option, Some, None, refl, sym, ◌∙◌, ap, ap₂}
 use Rattle.std.specs.Prelude.{slice_index}
 use Rattle.svc_rv32i.specs.declared.instr.Register.{Register}
 use Rattle.svc_rv32i.specs.declared.instr.LoadKind.{LoadKind}
@@ -12,10 +12,9 @@ use Rattle.svc_core_laws.specs.declared.ask.Ask.{Ask}
 use Rattle.svc_core_laws.specs.declared.ask.Ask.TheVariants as ask
 use Rattle.svc_core_laws.specs.Numbers.{load_bytes, store_bytes}
 use Rattle.svc_core_laws.specs.State.{State}
-use Rattle.svc_core_laws.specs.Local.{Outcome, outcome_at}
+use Rattle.svc_core_laws.specs.Local.{outcome_at}
 use Rattle.svc_core_laws.specs.Turns.{data_words, word_address, access_trap, store_trap}
 use Rattle.svc_core_laws.specs.Words.{wants, wanted, wants_load, wants_store}
-use Rattle.svc_core_laws.specs.Program.{Run}
 use Rattle.svc_core_laws.specs.Bursts.{is_nothing, shown}
 use Rattle.svc_core_laws.specs.Steps.{step_of, answered}
 use Rattle.svc_core_laws.proofs.Ends.{next_running}

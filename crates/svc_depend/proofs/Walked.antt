@@ -1,16 +1,16 @@
 -- A task is followed to its end.
-use Rattle.std.proofs.Common.{ℕ, zero, suc, ◌≡◌, ◌+◌, ◌-◌, ◌*◌, ◌<◌, ◌≤◌, ◌++◌, Bool, true, false, cond, List, [], length, Option, Some, None, refl, sym, ap, ◌∙◌, subst, arith, add-one, is_some, is_none}
+use Rattle.std.proofs.Common.{ℕ, zero, suc, ◌≡◌, ◌+◌, ◌-◌, ◌*◌, ◌≤◌, ◌++◌, true, false, cond, List, [], Option, Some, None, refl, sym, ap, ◌∙◌, subst, arith, add-one, is_some, is_none}
 use Rattle.std.specs.Prelude.{slice_index}
 use Rattle.svc_image.specs.Image.{Image}
 use Rattle.svc_core_laws.specs.declared.end.End.{End}
 use Rattle.svc_core_laws.specs.State.{State, limit_of}
-use Rattle.svc_core_laws.specs.Program.{Memory, Program, IsProgram, Run, Want, Action, act, exposed, no_reads, no_words, over, output, part, task, wrote}
+use Rattle.svc_core_laws.specs.Program.{Memory, Program, IsProgram, Run, Want, Action, act, exposed, over, output, part, task, wrote}
 use Rattle.svc_core_laws.specs.Words.{program, wants}
 use Rattle.svc_core_laws.specs.Steps.{step_of, HasRun}
 use Rattle.svc_core_laws.proofs.Going.{has_stepped}
 use Rattle.svc_core_laws.proofs.Ends.{is_program}
 use Rattle.svc_machine_laws.proofs.Parts.{part_stays}
-use Rattle.svc_depend_laws.specs.Chain.{Clock, Times, clock_of, tick, tick_if, word_read, word_written}
+use Rattle.svc_depend_laws.specs.Chain.{Clock, Times, clock_of, tick, word_read, word_written}
 use Rattle.svc_depend_laws.specs.Turns.{turns_taken}
 use Rattle.svc_depend.specs.declared.tracker.Tracker.{Tracker}
 use Rattle.svc_depend.specs.declared.turn.Touch.{Touch}

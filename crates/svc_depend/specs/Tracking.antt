@@ -1,5 +1,5 @@
 -- What a tracker of needs stands for.
-use Rattle.std.specs.Prelude.{◌≡◌, ℕ, suc, ◌+◌, ◌-◌, ◌==◌, ◌<◌, ◌≤◌, Bool, cond, max, length, get_or, slice_set, Option, Some, None, is_some}
+use Rattle.std.specs.Prelude.{◌≡◌, ℕ, ◌+◌, ◌-◌, ◌==◌, ◌<◌, ◌≤◌, Bool, cond, max, length, get_or, slice_set, Option, Some, None}
 use Rattle.svc_core_laws.specs.Program.{Program, Words}
 use Rattle.svc_depend_laws.specs.Needs.{comes_from}
 use Rattle.svc_depend_laws.specs.Over.{lesser, count_over, least_over}

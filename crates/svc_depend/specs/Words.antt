@@ -1,5 +1,5 @@
 -- What is kept of a word, as reads and stores change it.
-use Rattle.std.specs.Prelude.{ℕ, ◌+◌, ◌-◌, ◌==◌, ◌&&◌, ◌||◌, not, nat_lt, cond, if◌then◌else◌, Bool, Option, Some, None}
+use Rattle.std.specs.Prelude.{ℕ, ◌+◌, ◌-◌, ◌==◌, ◌||◌, not, nat_lt, cond, if◌then◌else◌, Bool, Option, Some, None}
 use Rattle.svc_depend_laws.specs.Over.{lesser}
 use Rattle.svc_depend.specs.declared.word.Word.{Word}
 use Rattle.svc_depend.specs.declared.word.Read.{Read}

@@ -1,5 +1,5 @@
 -- The least distance, word by word and task by task, is the nearest of all.
-use Rattle.std.proofs.Common.{ℕ, zero, suc, ◌≡◌, ◌+◌, ◌-◌, ◌<◌, ◌≤◌, min, Bool, true, false, cond, Option, Some, None, refl, sym, ap, ◌∙◌, subst, arith, inl, inr}
+use Rattle.std.proofs.Common.{ℕ, zero, suc, ◌≡◌, ◌+◌, ◌-◌, ◌<◌, ◌≤◌, min, Bool, true, false, cond, Option, Some, None, refl, sym, ap, ◌∙◌, arith, inl, inr}
 use Rattle.std.proofs.lemmas.Option.{none-some, same_Some}
 use Rattle.std.proofs.lemmas.Bool.{cases_eq, cases_lt}
 use Rattle.svc_image.specs.Image.{Image}
@@ -7,7 +7,7 @@ use Rattle.svc_core_laws.specs.State.{State}
 use Rattle.svc_core_laws.specs.Turns.{data_words}
 use Rattle.svc_core_laws.specs.Program.{Program, exposed, said}
 use Rattle.svc_core_laws.specs.Words.{program}
-use Rattle.svc_depend_laws.specs.Needs.{comes_from, HasNeed, IsNearest, IsNearestOf}
+use Rattle.svc_depend_laws.specs.Needs.{comes_from, HasNeed, IsNearestOf}
 use Rattle.svc_depend_laws.specs.Over.{least_over, lesser}
 use Rattle.svc_depend_laws.specs.Counts.{back_to, distance, nearest}
 use Rattle.svc_depend_laws.proofs.Nearests.{origin_is}

@@ -1,5 +1,5 @@
 -- Where a run has stopped, no task needs anything any more.
-use Rattle.std.proofs.Common.{ℕ, zero, suc, ◌≡◌, ◌≤◌, true, false, List, [], Option, Some, None, refl, sym, ap, ◌∙◌, subst, arith, inl, inr}
+use Rattle.std.proofs.Common.{ℕ, zero, suc, ◌≡◌, ◌≤◌, true, false, List, [], Option, Some, None, refl, ap, ◌∙◌, subst, arith, inl, inr}
 use Rattle.std.proofs.lemmas.Bool.{cases_eq, cases_lt}
 use borrow.Author.Tests.{both_ways}
 use Rattle.svc_core_laws.specs.Program.{Program, Action, exposed, seq, said, next_task, due_run, log_of_run}

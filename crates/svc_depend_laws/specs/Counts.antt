@@ -1,5 +1,5 @@
 -- How much the tasks of a program need of one another, in numbers.
-use Rattle.std.specs.Prelude.{◌≡◌, ℕ, ◌-◌, ◌==◌, ◌&&◌, Bool, false, cond, Option, Some, None, is_none, is_some}
+use Rattle.std.specs.Prelude.{ℕ, ◌-◌, ◌&&◌, Bool, cond, Option, Some, None, is_none, is_some}
 use Rattle.svc_core_laws.specs.Program.{Program, Words, wrote, exposed, said}
 use Rattle.svc_depend_laws.specs.Needs.{comes_from}
 use Rattle.svc_depend_laws.specs.Over.{count_over, least_over}

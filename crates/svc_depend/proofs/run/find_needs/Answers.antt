@@ -1,15 +1,13 @@
-use Rattle.std.proofs.Common.{◌≡◌, ◌+◌, ◌-◌, ◌<◌, ◌≤◌, ◌⊎◌, ◌++◌, ◌∷◌, [], ℕ, suc, List, Option, Some, None, length, inl, inr, sym, ◌∙◌, ap, subst, arith}
-use Rattle.svc_core_laws.specs.declared.end.End.{End}
+use Rattle.std.proofs.Common.{◌≡◌, ◌<◌, ◌≤◌, ◌⊎◌, [], ℕ, suc, List, Option, Some, None, length, inl, inr, sym, ◌∙◌, ap, subst, arith}
 use Rattle.svc_core_laws.specs.State.{limit_of}
 use Rattle.svc_core_laws.proofs.Sequential.{due_enters}
 use Rattle.svc_plain.proofs.Runs.{written_back}
 use Rattle.svc_plain.proofs.Turns.{none_of}
 use Rattle.svc_depend.specs.declared.needs.TaskNeeds.{TaskNeeds}
 use Rattle.svc_depend.specs.declared.needs.Totals.{Totals}
-use Rattle.svc_depend.specs.Tracking.{IsBelow}
-use Rattle.svc_depend.specs.Told.{AreFew, IsFew, added}
+use Rattle.svc_depend.specs.Told.{IsFew}
 use Rattle.svc_depend.specs.Walks.{IsFollowed, IsWalked}
-use Rattle.svc_depend.proofs.Told.{none_followed, row_few, all_are_few, one_more, all_told, all_summed, all_words, all_nearest, all_ends}
+use Rattle.svc_depend.proofs.Told.{none_followed, row_few, one_more, all_told, all_summed, all_words, all_nearest, all_ends}
 use Rattle.svc_depend.proofs.run.find_needs.Goals as goal
 use Rattle.svc_depend.proofs.run.find_needs.Goals.{else-loop-task-test, then-loop-task-test+in_default}
 

@@ -1,6 +1,5 @@
-use Rattle.std.proofs.Common.{◌≡◌, ◌∙◌, ◌<◌, ◌≤◌, ◌+◌, ℕ, suc, Some, None, sym, ap, subst, arith, length}
+use Rattle.std.proofs.Common.{◌≡◌, ◌∙◌, ◌≤◌, ◌+◌, suc, Some, None, sym, ap, arith}
 use Rattle.svc_core_laws.specs.State.{State, limit_of}
-use Rattle.svc_depend.specs.Walks.{IsWalked}
 use Rattle.svc_depend.proofs.Walked.{begun, goes_on, whole, runs_still, none_left, not_both}
 use Rattle.svc_depend.proofs.task.run_task.Goals as goal
 use Rattle.svc_depend.proofs.task.run_task.Goals.{else-loop-turn-test, then-loop-turn-test+then-not-is_running}

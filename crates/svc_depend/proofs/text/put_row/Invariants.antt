@@ -1,5 +1,5 @@
 use Rattle.std.proofs.Common.{◌≡◌, ◌++◌, take}
-use Rattle.std.specs.Prelude.{decimal, flat_map}
+use Rattle.std.specs.Prelude.{flat_map}
 use Rattle.svc_depend.specs.Tables.{column}
 use Rattle.svc_depend.proofs.text.put_row.Given as goal
 

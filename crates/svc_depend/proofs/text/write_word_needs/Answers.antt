@@ -1,4 +1,4 @@
-use Rattle.std.proofs.Common.{List, ℕ, ◌∙◌, sym, subst}
+use Rattle.std.proofs.Common.{List, ℕ, ◌∙◌, subst}
 use Rattle.std.specs.Io.KnownBytes.{Appends}
 use Rattle.svc_depend.proofs.Texts.{on_ok, table_same}
 use Rattle.svc_depend.proofs.text.write_word_needs.Goals as goal

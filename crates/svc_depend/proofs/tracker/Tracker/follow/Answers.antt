@@ -1,6 +1,3 @@
-use Rattle.std.proofs.Common.{◌≡◌, ◌<◌, Option, subst, sym, ap, length}
-use Rattle.std.specs.Prelude.{IfSome}
-use Rattle.svc_depend.specs.declared.tracker.Tracker.{Tracker}
 use Rattle.svc_depend.proofs.Followed.{after_turn}
 use Rattle.svc_depend.proofs.tracker.Tracker.follow.Goals as goal
 

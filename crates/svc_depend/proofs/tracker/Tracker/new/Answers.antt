@@ -1,4 +1,4 @@
-use Rattle.std.proofs.Common.{◌≡◌, ◌<◌, ◌∙◌, ℕ, List, length, get_or, replicate, refl, ap, subst, sym, rules, arith}
+use Rattle.std.proofs.Common.{◌≡◌, ◌<◌, ◌∙◌, ℕ, List, length, get_or, replicate, refl, ap, subst, sym, rules}
 use Rattle.std.proofs.lemmas.List.{get_or-replicate}
 use Rattle.svc_depend.specs.declared.word.Word.{Word}
 use Rattle.svc_depend.specs.Words.{untouched}
