@@ -1,6 +1,6 @@
 -- The rows of words by what is kept of them are those of the words.
 use Rattle.std.proofs.Common.{ℕ, zero, suc, ◌≡◌, ◌<◌, ◌++◌, List, length, get_or, refl, ap, ap₂, ◌∙◌, arith}
-use Rattle.std.specs.Prelude.{Result, Ok, Err, OnOk, unwrap_or}
+use Rattle.std.specs.Prelude.{unwrap_or}
 use Rattle.svc_image.specs.Image.{Image}
 use Rattle.svc_core_laws.specs.Words.{program}
 use Rattle.svc_depend_laws.specs.Counts.{readers, writers}
@@ -24,8 +24,3 @@ table_same img tasks words are =
     ap (λ l. word_header ++ l)
     (text_same (kept_row words) (word_row img tasks) (length words) (λ i b. row_same img tasks words i are b)
     ∙ ap (text_over (word_row img tasks)) are.size)
-
--- what follows from a success
-pub on_ok : {A E P Q : Type 0} (r : Result A E) → (P → Q) → OnOk r P → OnOk r Q
-on_ok (Ok x) f h = f h
-on_ok (Err e) f h = tt

@@ -4,24 +4,17 @@ use Rattle.svc_image.specs.Image.{Image}
 use Rattle.svc_core_laws.specs.declared.end.Ending.{Ending}
 use Rattle.svc_core_laws.specs.Turns.{data_words}
 use Rattle.svc_core_laws.specs.Words.{program}
+use Rattle.svc_text.specs.Rows.{row}
 use Rattle.svc_report.specs.Summary.{summary_of}
 use Rattle.svc_depend_laws.specs.Needs.{units_of}
 use Rattle.svc_depend_laws.specs.Counts.{readers, writers, nearest_of_word}
 use Rattle.svc_depend.specs.declared.needs.TaskNeeds.{TaskNeeds}
 use Rattle.svc_depend.specs.declared.needs.Totals.{Totals}
 
--- a further column
-abbrev pub column : ℕ → List ℕ
-column number = codes "," ++ decimal number
-
--- numbers with commas between them
-abbrev pub row : (first : ℕ) → List ℕ → List ℕ
-row first others = decimal first ++ (flat_map column others ++ codes "\n")
-
 -- ---- of all tasks
 
 abbrev pub named_row : List ℕ → ℕ → List ℕ
-named_row name number = name ++ (column number ++ codes "\n")
+named_row name number = row name (number ∷ [])
 
 -- the units of a machine, of which there are at most 16, that no task that began rightly can make violate
 abbrev pub totals_rows : Totals → List ℕ
@@ -39,7 +32,7 @@ abbrev pub told_of_task : TaskNeeds → List ℕ
 told_of_task x = x.entry ∷ x.turns ∷ x.needs ∷ x.memory ∷ unwrap_or x.nearest 0 ∷ x.stores ∷ x.chain ∷ []
 
 abbrev pub task_row : TaskNeeds → List ℕ
-task_row x = row x.task (told_of_task x)
+task_row x = row (decimal x.task) (told_of_task x)
 
 abbrev pub task_header : List ℕ
 task_header = codes "task,entry,turns,needs,memory,nearest,stores,chain\n"
@@ -56,7 +49,7 @@ text_over text (suc n) = text_over text n ++ text n
 
 -- the row of a word that tasks need or write
 abbrev pub word_row_of : (word readers writers nearest : ℕ) → List ℕ
-word_row_of word readers writers nearest = cond (nat_lt 0 readers || nat_lt 0 writers) (row word (readers ∷ writers ∷ nearest ∷ [])) []
+word_row_of word readers writers nearest = cond (nat_lt 0 readers || nat_lt 0 writers) (row (decimal word) (readers ∷ writers ∷ nearest ∷ [])) []
 
 -- that of a word, for the first so many tasks
 abbrev pub word_row : Image → (tasks word : ℕ) → List ℕ

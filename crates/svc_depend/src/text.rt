@@ -1,11 +1,11 @@
 // The texts of what tasks need: together, task by task, and word by word.
 
-ghost use Rattle.std.specs.Prelude.{◌≡◌, ◌++◌, ◌<◌, ℕ, OnOk, IfErr, IfOk, codes, decimal, length, unwrap_or};
+ghost use Rattle.std.specs.Prelude.{◌≡◌, ◌++◌, ◌<◌, ℕ, OnOk, IfErr, IfOk, length, unwrap_or};
 ghost use Rattle.std.specs.Io.KnownBytes.{Appends};
 ghost use Rattle.svc_image.specs.Image.{Image};
 ghost use Rattle.svc_report.specs.Faults.{IsWriteFault};
 ghost use Rattle.svc_depend_laws.specs.Needs.{units_of};
-ghost use Rattle.svc_depend.specs.Tables.{named_row, row, task_row, task_table, told_of_task, totals_rows, totals_text, word_row_of, word_table};
+ghost use Rattle.svc_depend.specs.Tables.{named_row, task_row, task_table, told_of_task, totals_rows, totals_text, word_row_of, word_table};
 ghost use Rattle.svc_depend.specs.Told.{AreWords};
 ghost use Rattle.svc_depend.specs.WordRows.{kept_table};
 
@@ -15,31 +15,16 @@ use std::alloc::{AllocError, Global};
 use std::io::Write;
 use svc_core::Ending;
 use svc_report::{ReportError, write_summary};
-use svc_view::text::{put_number, put_text, write_text};
+use svc_text::{put_row, write_text};
 
 // The most units that a machine has.
 const MAX_UNITS: u32 = 16;
-
-// Adds a row of numbers.
-fn put_row(text: &mut Vec<u8>, first: u64, others: &[u64]) -> Result<(), AllocError>
-    ensures { OnOk result (text.new.items ≡ text.old.items ++ row first others.now) }
-{
-    put_number(text, first)?;
-    for number in others {
-        put_text(text, ",")?;
-        put_number(text, *number)?;
-    }
-    put_text(text, "\n")
-}
 
 // Adds a row of a name and a number.
 fn put_named(text: &mut Vec<u8>, name: &str, number: u64) -> Result<(), AllocError>
     ensures { OnOk result (text.new.items ≡ text.old.items ++ named_row name.now number) }
 {
-    put_text(text, name)?;
-    put_text(text, ",")?;
-    put_number(text, number)?;
-    put_text(text, "\n")
+    put_row(text, name, &[number])
 }
 
 // A distance, or 0 where there is none.
@@ -91,7 +76,8 @@ pub fn write_totals<W: Write>(
 {
     let text = totals_rows(alloc, totals)?;
     write_summary(alloc, &[], tasks, ending, None, w)?;
-    write_text(&text, w)
+    write_text(&text, w)?;
+    Ok(())
 }
 
 // What is told of a task after its number.
@@ -112,7 +98,7 @@ fn told_of_task(task: &TaskNeeds) -> [u64; 7]
 fn put_task(text: &mut Vec<u8>, task: &TaskNeeds) -> Result<(), AllocError>
     ensures { OnOk result (text.new.items ≡ text.old.items ++ task_row task.now) }
 {
-    put_row(text, u64::from(task.task), &told_of_task(task))
+    put_row(text, task.task, &told_of_task(task))
 }
 
 fn task_table(alloc: Global, tasks: &[TaskNeeds]) -> Result<Vec<u8>, AllocError>
@@ -140,7 +126,8 @@ pub fn write_task_needs<W: Write>(
     ensures err { IfErr result IsWriteFault }
 {
     let text = task_table(alloc, tasks)?;
-    write_text(&text, w)
+    write_text(&text, w)?;
+    Ok(())
 }
 
 // Adds the row of a word, if a task needs or writes it.
@@ -180,5 +167,6 @@ pub fn write_word_needs<W: Write>(
     ensures err { IfErr result IsWriteFault }
 {
     let text = word_table(alloc, words)?;
-    write_text(&text, w)
+    write_text(&text, w)?;
+    Ok(())
 }
