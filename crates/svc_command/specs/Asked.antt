@@ -44,6 +44,7 @@ Names words (request.Help text) = Has IsHelpWord words
 Names words request.Version = Has IsVersionWord words
 Names words (request.Run run) = IsNamed (codes "run") words
 Names words (request.Sequential tasks) = IsNamed (codes "seq") words
+Names words (request.Depend depended) = IsNamed (codes "depend") words
 Names words (request.Script scripted) = IsNamed (codes "script") words
 Names words (request.Check traced) = IsNamed (codes "check") words
 Names words (request.Profile traced by) = IsNamed (codes "profile") words

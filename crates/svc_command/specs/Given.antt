@@ -2,6 +2,9 @@
 use Rattle.std.specs.Prelude.{◌≡◌, ⊤, ℕ, true, List, Option, None, Some, IfSome, codes}
 use Rattle.svc_base.specs.declared.config.Config.{Config}
 use Rattle.svc_report.specs.declared.table.TableRow.{TableRow}
+use Rattle.svc_request.specs.declared.request.Depended.{Depended}
+use Rattle.svc_request.specs.declared.request.NeedsTable.{NeedsTable}
+use Rattle.svc_request.specs.declared.request.NeedsTable.TheVariants as needs
 use Rattle.svc_request.specs.declared.request.Order.{Order}
 use Rattle.svc_request.specs.declared.request.Order.TheVariants as order
 use Rattle.svc_request.specs.declared.request.Run.{Run}
@@ -53,6 +56,16 @@ GivesTable words table.Units = IsValueOf (codes "by") (codes "unit") words
 GivesTable words table.Words = IsValueOf (codes "by") (codes "word") words
 GivesTable words (table.Row row) = GivesRow words row
 
+-- the table of needs is the one that the line names
+abbrev pub GivesNeedsTable : List (List ℕ) → NeedsTable → Type 0
+GivesNeedsTable words needs.Tasks = IsValueOf (codes "by") (codes "task") words
+GivesNeedsTable words needs.Words = IsValueOf (codes "by") (codes "word") words
+
+pub record GivesDepended (words : List (List ℕ)) (depended : Depended) : Type 0 where
+  pub image : GivesImage words depended.image
+  pub most : IsNumberOf (codes "tasks") 1000000 depended.most words
+  pub by : IfSome depended.by (GivesNeedsTable words)
+
 pub record GivesRun (words : List (List ℕ)) (run : Run) : Type 0 where
   pub image : GivesImage words run.image
   pub config_is : GivesConfig words run.config
@@ -72,6 +85,7 @@ Gives words (request.Help text) = ⊤
 Gives words request.Version = ⊤
 Gives words (request.Run run) = GivesRun words run
 Gives words (request.Sequential tasks) = GivesImage words tasks.image × IsGivenNumber (codes "tasks") tasks.most words
+Gives words (request.Depend depended) = GivesDepended words depended
 Gives words (request.Script scripted) =
     GivesImage words scripted.image × GivesConfig words scripted.config × HasWord scripted.events.now words
 Gives words (request.Check traced) = GivesTraced words traced

@@ -166,6 +166,21 @@ pub(crate) const TASKS: Argument = Argument {
     ..OPTION
 };
 
+// That number for tasks that are followed.
+pub(crate) const TASKS_FOLLOWED: Argument = Argument {
+    default: Some("1000000"),
+    is_required: false,
+    help: "How many tasks are followed at most, from the first on: 0 to 1000000",
+    ..TASKS
+};
+
+// The tables of needs.
+pub(crate) const BY_OF_NEEDS: Argument = Argument {
+    takes: Takes::Name(&["task", "word"]),
+    help: "Prints a table instead, with a row for each task, or for each word that a task needs or writes",
+    ..BY
+};
+
 pub(crate) const SCHEDULE: Argument = Argument {
     name: "schedule",
     takes: Takes::Name(&["rotate", "oldest", "youngest", "random"]),

@@ -1,12 +1,12 @@
 //! The command line, as `clap` reads it: its subcommands and their arguments.
 
 use crate::arguments::{
-    AT, Argument, BURST, BY, COUNT, EVENTS, EVENTS_FILE, FROM, HEADER, IMAGE, MADE_IMAGE, PICTURE,
-    ROW, ROW_OF_PROFILE, SCHEDULE, SEED, SETS, TASKS, TEXT, TRACE, TRACE_FILE, TURNS, Takes, UNITS,
-    WAYS,
+    AT, Argument, BURST, BY, BY_OF_NEEDS, COUNT, EVENTS, EVENTS_FILE, FROM, HEADER, IMAGE,
+    MADE_IMAGE, PICTURE, ROW, ROW_OF_PROFILE, SCHEDULE, SEED, SETS, TASKS, TASKS_FOLLOWED, TEXT,
+    TRACE, TRACE_FILE, TURNS, Takes, UNITS, WAYS,
 };
 use crate::helps::{
-    ABOUT, ASSEMBLE, CHECK, DRAW, FAULTS, LIST, PROFILE, RUN, SCRIPT, SEQ, SHOW, STATUSES,
+    ABOUT, ASSEMBLE, CHECK, DEPEND, DRAW, FAULTS, LIST, PROFILE, RUN, SCRIPT, SEQ, SHOW, STATUSES,
 };
 use clap::{Arg, ArgAction, Command};
 use std::alloc::{AllocError, Global};
@@ -23,7 +23,7 @@ struct Subcommand {
     arguments: &'static [Argument],
 }
 
-const SUBCOMMANDS: [Subcommand; 9] = [
+const SUBCOMMANDS: [Subcommand; 10] = [
     Subcommand {
         name: "run",
         about: "Runs an image on the simulated machine, and prints the summary",
@@ -37,6 +37,12 @@ const SUBCOMMANDS: [Subcommand; 9] = [
         about: "Runs an image's tasks one after another on plain memory, and prints the summary",
         help: SEQ,
         arguments: &[IMAGE, TASKS],
+    },
+    Subcommand {
+        name: "depend",
+        about: "Runs an image's tasks one after another, and prints what they need of one another",
+        help: DEPEND,
+        arguments: &[IMAGE, TASKS_FOLLOWED, BY_OF_NEEDS],
     },
     Subcommand {
         name: "script",

@@ -90,6 +90,31 @@ There are no units, caches or events. This is what any run of the same image has
 
 Example: svcsim seq sum.svci --tasks 1000000";
 
+/// The help of `depend`.
+pub(crate) const DEPEND: &str =
+    "Runs an image's tasks one after another as seq does, and prints what they need of one another.
+
+A task needs a word that it loads before it has stored to it. A store of a byte or a half loads the word. The
+word comes from the last earlier task that wrote it, or from none. The rows, in this order:
+
+  tasks,K                how many tasks were run, from the first on
+  exit,C or another      how the run stands, as in a summary
+  turns,T                their turns
+  needs,N                pairs of a task and a word that it needs
+  memory,M               of these, those whose word comes from no task
+  nearest,D              how many tasks back the nearest task is from which a needed word comes; 0 where none
+                         does
+  units,U                D, and 16 at most; 16 where D is 0
+  chain,C                the turns of the longest chain, in which each turn needs the one before: the turn before
+                         it in its task, or the last store of a word that it loads first
+
+On U units or fewer no violation ever squashes one of these tasks that began at its entry in this order, as all
+active tasks before it did, whatever the schedule.
+
+With --by it prints a table instead, with a row for each task, or for each word that a task needs or writes.
+
+Example: svcsim depend sum.svci --by task";
+
 /// The help of `script`.
 pub(crate) const SCRIPT: &str =
     "Applies the events of a script to a machine in their order, and prints a line for each, and then the

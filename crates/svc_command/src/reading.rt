@@ -2,7 +2,7 @@
 
 ghost use Rattle.std.specs.Prelude.{◌≡◌, ◌<◌, ◌⊎◌, length, IfOk, IfSome, IsTrue, codes};
 ghost use Rattle.svc_command.specs.Asked.{IsBuiltInRun, IsHelpWord, IsVersionWord, MayAsk, Names};
-ghost use Rattle.svc_command.specs.Given.{Gives, GivesConfig, GivesImage, GivesOrder, GivesRow, GivesRun, GivesSchedule, GivesTable, GivesTraced};
+ghost use Rattle.svc_command.specs.Given.{Gives, GivesConfig, GivesDepended, GivesImage, GivesNeedsTable, GivesOrder, GivesRow, GivesRun, GivesSchedule, GivesTable, GivesTraced};
 ghost use Rattle.svc_command.specs.Line.{Has, HasWord, IsGivenNumber, IsNamed, IsNumberOf, IsValueOf, texts};
 
 use crate::command::command;
@@ -13,8 +13,8 @@ use std::alloc::Global;
 use svc_base::Config;
 use svc_core::MAX_BURST_TURNS;
 use svc_program::{
-    Assembly, Fault, Order, Picture, Request, Run, Schedule, Scripted, Source, Table, TableRow,
-    Tasks, Traced,
+    Assembly, Depended, Fault, NeedsTable, Order, Picture, Request, Run, Schedule, Scripted, Source,
+    Table, TableRow, Tasks, Traced,
 };
 
 const SEED_ALONE: &str = "error: the argument '--seed <N>' is of '--schedule random' alone
@@ -124,6 +124,7 @@ fn asked_by<'a>(alloc: Global, name: &str, line: Line<'_, 'a>) -> Result<Request
     match name {
         "run" => Ok(Request::Run(run(alloc, line)?)),
         "seq" => Ok(Request::Sequential(tasks(line)?)),
+        "depend" => Ok(Request::Depend(depended(line)?)),
         "script" => Ok(Request::Script(scripted(line)?)),
         "check" => Ok(Request::Check(traced(line)?)),
         "profile" => Ok(Request::Profile(traced(line)?, table(line)?)),
@@ -160,6 +161,18 @@ fn tasks<'a>(line: Line<'_, 'a>) -> Result<Tasks<'a>, Fault>
         image: image(line)?,
         most: line.given_number("tasks")?,
     })
+}
+
+// What `depend` asks for.
+fn depended<'a>(line: Line<'_, 'a>) -> Result<Depended<'a>, Fault>
+    ensures { IfOk result (GivesDepended (texts line.entry.words.now)) }
+{
+    let image = image(line)?;
+    let most = line.number("tasks", 1_000_000)?;
+    let by = needs_table(line)?;
+    // The parser reads no greater number.
+    let depended = Depended::new(image, most, by).ok_or(Fault::File)?;
+    Ok(depended)
 }
 
 // The script that `script` asks for.
@@ -240,6 +253,19 @@ fn table<'a>(line: Line<'_, 'a>) -> Result<Option<Table<'a>>, Fault>
         Some("task") => Ok(Some(Table::Tasks)),
         Some("unit") => Ok(Some(Table::Units)),
         Some("word") => Ok(Some(Table::Words)),
+        // The parser reads no other name.
+        Some(_) => Err(Fault::File),
+    }
+}
+
+// The table of needs that the options name, if any.
+fn needs_table(line: Line<'_, '_>) -> Result<Option<NeedsTable>, Fault>
+    ensures { IfOk result (λ table. IfSome table (GivesNeedsTable (texts line.entry.words.now))) }
+{
+    match line.option("by")? {
+        None => Ok(None),
+        Some("task") => Ok(Some(NeedsTable::Tasks)),
+        Some("word") => Ok(Some(NeedsTable::Words)),
         // The parser reads no other name.
         Some(_) => Err(Fault::File),
     }

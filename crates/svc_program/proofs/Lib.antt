@@ -5,3 +5,4 @@ pub mod Reading
 pub mod Reported
 pub mod WholeScript
 pub mod Showing
+pub mod Needed

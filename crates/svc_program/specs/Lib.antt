@@ -5,3 +5,4 @@ pub mod Shown
 pub mod Scripts
 pub mod Assembly
 pub mod Drawings
+pub mod Needs

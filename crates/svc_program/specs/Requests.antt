@@ -26,6 +26,7 @@ use Rattle.svc_program.specs.Assembly.{Assembles, Lists, MakesImage}
 use Rattle.svc_program.specs.Costs.{TellsCost}
 use Rattle.svc_program.specs.Drawings.{IsDrawn}
 use Rattle.svc_request.specs.Faults.{IsEarly, IsOutputFault, IsReportFault}
+use Rattle.svc_program.specs.Needs.{TellsNeeds}
 use Rattle.svc_program.specs.Runs.{FindsSound, GoesBy, IsRunOf, Reports, ReportsRun}
 use Rattle.svc_program.specs.Scripts.{PlaysScript}
 use Rattle.svc_program.specs.Shown.{TellsMachine}
@@ -81,6 +82,8 @@ Does (request.Run run) held saved old new exit =
     × IfSome run.trace (λ name. SavesTrace saved name.now r.entries) × ReportsRun run.row r old new exit
 Does (request.Sequential tasks) held saved old new exit =
     (img : Image) × IsOfSource held tasks.image img × Reports img tasks.most (tasks_run img tasks.most) false None old new exit
+Does (request.Depend depended) held saved old new exit =
+    (img : Image) × IsOfSource held depended.image img × TellsNeeds depended.by img depended.most old new exit
 Does (request.Script scripted) held saved old new exit =
     (img : Image) × IsOfSource held scripted.image img
     × (steps : List Step) × IsScriptIn held scripted.events.now steps × PlaysScript img scripted.config steps old new exit

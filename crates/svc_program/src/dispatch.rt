@@ -7,6 +7,7 @@ ghost use Rattle.svc_program.specs.Requests.{IsAnswered, Shows, version_row};
 
 use crate::assembly::{assemble, list};
 use crate::check::check;
+use crate::depend::depend;
 use crate::draw::draw;
 use crate::profile::profile;
 use crate::run::run;
@@ -61,6 +62,7 @@ fn dispatch<R: Threads + Wait + Sync, F: Files, O: Write>(
         Request::Version => show_version(out),
         Request::Run(asked) => run(rt, alloc, asked, files, out),
         Request::Sequential(tasks) => sequential(alloc, tasks, files, out),
+        Request::Depend(depended) => depend(alloc, depended, files, out),
         Request::Script(scripted) => script(alloc, scripted, files, out),
         Request::Check(traced) => check(alloc, traced, files, out),
         Request::Profile(traced, by) => profile(alloc, traced, by, files, out),

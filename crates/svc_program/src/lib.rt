@@ -3,6 +3,7 @@
 
 mod assembly;
 mod check;
+mod depend;
 mod dispatch;
 mod draw;
 mod front;
@@ -18,6 +19,6 @@ mod summary;
 pub use dispatch::perform;
 pub use svc_report::TableRow;
 pub use svc_request::{
-    Assembly, Fault, FileFault, Files, Order, Picture, Request, Run, Schedule, Scripted, Source,
-    Table, Tasks, Traced, VERSION, tell,
+    Assembly, Depended, Fault, FileFault, Files, NeedsTable, Order, Picture, Request, Run,
+    Schedule, Scripted, Source, Table, Tasks, Traced, VERSION, tell,
 };

@@ -89,8 +89,8 @@ pub fn print_run<O: Write>(
     }
 }
 
-// The exit status of a run with this ending: 0 if the program exited, otherwise 2.
-fn exit_status(ending: Ending) -> u8
+/// The exit status of a run with this ending: 0 if the program exited, otherwise 2.
+pub fn exit_status(ending: Ending) -> u8
     ensures { result ≡ status_of ending }
 {
     match ending {

@@ -14,6 +14,7 @@ IsNameOf name (source.File file) = file.now ≡ name
 abbrev pub source_of : Request → Option Source
 source_of (request.Run run) = Some run.image
 source_of (request.Sequential tasks) = Some tasks.image
+source_of (request.Depend depended) = Some depended.image
 source_of (request.Script scripted) = Some scripted.image
 source_of (request.Check traced) = Some traced.image
 source_of (request.Profile traced by) = Some traced.image

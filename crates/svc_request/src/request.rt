@@ -4,6 +4,7 @@ ghost use Rattle.std.specs.Prelude.{◌≡◌, ◌<◌, ◌≤◌, ◌↔◌, If
 
 use svc_base::Config;
 use svc_core::MAX_BURST_TURNS;
+use svc_depend::MAX_TASKS;
 use svc_report::TableRow;
 
 /// The program's version.
@@ -90,6 +91,41 @@ pub struct Tasks<'a> {
     pub most: u32,
 }
 
+/// A table of what tasks need of one another.
+#[derive(Clone, Copy)]
+pub enum NeedsTable {
+    /// A row for each task.
+    Tasks,
+    /// A row for each word that a task needs or writes.
+    Words,
+}
+
+/// What the first tasks of an image need of one another.
+#[derive(Clone, Copy)]
+pub struct Depended<'a> {
+    pub image: Source<'a>,
+    /// How many tasks are followed at most, 0 to [`MAX_TASKS`].
+    pub most: u32,
+    /// The table that is printed in place of the totals.
+    pub by: Option<NeedsTable>,
+    pub ghost few: { most ≤ 1000000 },
+}
+
+impl<'a> Depended<'a> {
+    /// Of an image's first tasks by this table; none where more than [`MAX_TASKS`] are asked for.
+    pub fn new(image: Source<'a>, most: u32, by: Option<NeedsTable>) -> Option<Depended<'a>>
+        ensures given { IsSome result ↔ (most ≤ 1000000) }
+        ensures image { IfSome result (λ it. it.image ≡ image.entry) }
+        ensures most { IfSome result (λ it. it.most ≡ most) }
+        ensures by { IfSome result (λ it. it.by ≡ by) }
+    {
+        if u64::from(most) > MAX_TASKS {
+            return None;
+        }
+        Some(Depended { image, most, by })
+    }
+}
+
 /// The events of a script, on a machine of a configuration.
 #[derive(Clone, Copy)]
 pub struct Scripted<'a> {
@@ -139,6 +175,8 @@ pub enum Request<'a> {
     Run(Run<'a>),
     /// To run tasks in order, and to print the summary.
     Sequential(Tasks<'a>),
+    /// To run tasks in order, and to print what they need of one another, in all or by a table.
+    Depend(Depended<'a>),
     /// To do the events of a script, and to print a line for each, and the summary.
     Script(Scripted<'a>),
     /// To replay a trace, and to print whether it is sound.

@@ -80,9 +80,10 @@ fn explains_each_option<R: Threads + Wait + Sync + AllocGlobal>(rt: &R) -> Attem
     Ok(true)
 }
 
-const EXAMPLES: [(&str, &str); 9] = [
+const EXAMPLES: [(&str, &str); 10] = [
     ("run", "Example: svcsim run "),
     ("seq", "Example: svcsim seq "),
+    ("depend", "Example: svcsim depend "),
     ("script", "Example: svcsim script "),
     ("check", "Example: svcsim check "),
     ("profile", "Example: svcsim profile "),

@@ -6,7 +6,7 @@ ghost use Rattle.std.specs.List.{starts_with};
 use super::attempt::{Attempt, Refused, ready};
 use super::texts::TEXT;
 use super::wanted::{
-    CHECK, LIST, PROFILE, PROFILE_BY_TASK, PROFILE_BY_UNIT, PROFILE_BY_WORD, PROFILE_ROW, RUN,
+    CHECK, DEPEND, DEPEND_BY_TASK, DEPEND_BY_WORD, LIST, PROFILE, PROFILE_BY_TASK, PROFILE_BY_UNIT, PROFILE_BY_WORD, PROFILE_ROW, RUN,
     RUN_ROW, SCHEDULE, SCRIPT, SEQ, SHOW, SHOW_AT,
 };
 use std::alloc::{AllocError, Global};
@@ -15,8 +15,8 @@ use std::thread::Threads;
 use svc_base::Config;
 use svc_command::execute;
 use svc_program::{
-    Assembly, FileFault, Files, Order, Picture, Request, Run, Schedule, Scripted, Source, Table,
-    TableRow, Traced, perform, tell,
+    Assembly, Depended, FileFault, Files, NeedsTable, Order, Picture, Request, Run, Schedule, Scripted,
+    Source, Table, TableRow, Traced, perform, tell,
 };
 use svc_samples::{P, TRACE};
 
@@ -29,6 +29,9 @@ pub fn attempt<R: Threads + Wait + Sync + AllocGlobal>(rt: &R, name: &str) -> Op
 fn attempt_image<R: Threads + Wait + Sync + AllocGlobal>(rt: &R, name: &str) -> Option<Attempt> {
     match name {
         "seq" => Some(seq(rt)),
+        "depend" => Some(depend(rt, None, DEPEND)),
+        "depend_by_task" => Some(depend(rt, Some(NeedsTable::Tasks), DEPEND_BY_TASK)),
+        "depend_by_word" => Some(depend(rt, Some(NeedsTable::Words), DEPEND_BY_WORD)),
         "script" => Some(script(rt)),
         "script_line" => Some(script_line(rt)),
         "run" => Some(run(rt)),
@@ -165,6 +168,18 @@ fn asked<R: Threads + Wait + Sync + AllocGlobal>(
         Err(fault) => tell(&fault, &mut err),
     };
     judged(status, &out, &err, wanted)
+}
+
+/// What both tasks need of one another is told, by this table or in all.
+fn depend<R: Threads + Wait + Sync + AllocGlobal>(
+    rt: &R,
+    by: Option<NeedsTable>,
+    wanted: &str,
+) -> Attempt {
+    match Depended::new(Source::File("p"), 2, by) {
+        Some(depended) => asked(rt, Request::Depend(depended), wanted),
+        None => Ok(false),
+    }
 }
 
 /// Ten events are done.

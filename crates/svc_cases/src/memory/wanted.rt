@@ -79,6 +79,28 @@ a,2,exit,5,16,36,0,0,2,0,0,7,0,0,3,5,3,0
 /// By both tasks in order.
 pub const SEQ: &str = "out,5\ntasks,2\nexit,5\n";
 
+/// By what both tasks need of one another.
+pub const DEPEND: &str = "tasks,2
+exit,5
+turns,9
+needs,1
+memory,0
+nearest,1
+units,1
+chain,8
+";
+
+/// The same, by task.
+pub const DEPEND_BY_TASK: &str = "task,entry,turns,needs,memory,nearest,stores,chain
+0,0,3,0,0,0,1,3
+1,12,6,1,0,1,0,8
+";
+
+/// The same, by word.
+pub const DEPEND_BY_WORD: &str = "word,readers,writers,nearest
+0,1,1,1
+";
+
 /// By the check of the trace of ten events.
 pub const CHECK: &str = "sound,10\n";
 

@@ -1,0 +1,9 @@
+pub mod Over
+pub mod Needs
+pub mod Counts
+pub mod Rightly
+pub mod Turns
+pub mod Chain
+pub mod NeedLaws
+pub mod DependLaws
+pub mod Rows
