@@ -1,6 +1,6 @@
 //! A line of words, and what its parser made of it.
 
-ghost use Rattle.std.specs.Prelude.{◌≡◌, ◌++◌, Ok, IfOk, IfSome, IsTrue};
+ghost use Rattle.std.specs.Prelude.{◌≡◌, ◌++◌, Ok, IfOk, IfSome, IsTrue, codes};
 ghost use Rattle.svc_command.specs.Line.{Has, HasWord, IsGivenNumber, IsJoined, IsNext, IsNumberOf, IsValueOf, option_word, texts};
 
 use clap::ArgMatches;
@@ -165,8 +165,18 @@ fn is_joined(word: &str, name: &str, value: &str) -> bool
     ensures { IsTrue result → IsJoined name.now value.now word.now }
 {
     match behind_option(word, name) {
-        Some([b'=', rest @ ..]) => rest == value.as_bytes(),
-        _ => false,
+        Some(rest) => is_assigned(rest, value.as_bytes()),
+        None => false,
+    }
+}
+
+// These bytes are `=` and the value.
+fn is_assigned(rest: &[u8], value: &[u8]) -> bool
+    ensures { IsTrue result → rest.now ≡ codes "=" ++ value.now }
+{
+    match rest.strip_prefix(b"=".as_slice()) {
+        Some(given) => given == value,
+        None => false,
     }
 }
 

@@ -3,7 +3,8 @@
 ghost use Rattle.std.specs.Prelude.{◌≡◌, ◌≢◌, ◌⊎◌, ◌≤◌, IfOk, IfErr};
 ghost use Rattle.svc_request.specs.Faults.{IsOutputFault};
 ghost use Rattle.svc_program.specs.Requests.{Does};
-ghost use Rattle.svc_command.specs.Asked.{KeepsAsked, MayAsk, texts};
+ghost use Rattle.svc_command.specs.Asked.{KeepsAsked, MayAsk};
+ghost use Rattle.svc_command.specs.Line.{texts};
 
 use crate::reading::request_of;
 use std::alloc::Global;

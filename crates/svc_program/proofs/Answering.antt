@@ -1,7 +1,8 @@
 -- What a request comes to, put together of what its parts say.
 use Rattle.std.specs.Prelude.{IfOk, IfErr, IfSome}
-use Rattle.std.proofs.Common.{◌≡◌, ◌∙◌, ◌⊎◌, ℕ, List, Option, Some, None, Result, Ok, Err, inl, inr, ap, subst}
+use Rattle.std.proofs.Common.{◌≡◌, ◌∙◌, ◌⊎◌, ℕ, List, false, Option, Some, None, Result, Ok, Err, inl, inr, ap, subst}
 use Rattle.svc_image.specs.Image.{Image}
+use Rattle.svc_plain.specs.Tasks.{tasks_run}
 use Rattle.svc_history_laws.specs.declared.entry.Entry.{Entry}
 use Rattle.svc_history.specs.Recorded.{Recorded}
 use Rattle.svc_request.specs.declared.faults.Fault.{Fault}
@@ -9,12 +10,13 @@ use Rattle.svc_request.specs.declared.faults.Fault.TheVariants as fault
 use Rattle.svc_request.specs.declared.request.Request.{Request}
 use Rattle.svc_request.specs.declared.request.Request.TheVariants as request
 use Rattle.svc_request.specs.declared.request.Run.{Run}
+use Rattle.svc_request.specs.declared.request.Tasks.{Tasks}
 use Rattle.svc_request.specs.declared.request.Traced.{Traced}
 use Rattle.svc_request.specs.Faults.{IsEarly, IsOutputFault, IsReportFault}
 use Rattle.svc_request.specs.Held.{Held, KeepsAllBut}
 use Rattle.svc_request.specs.Names.{written_by}
 use Rattle.svc_program.specs.Requests.{Does, HasImage, IsAnswered, IsLate, IsOfSource, IsReady, IsTracedIn, IsTraceIn, KeepsFiles, SavesTrace, Spares}
-use Rattle.svc_program.specs.Runs.{GoesBy, IsRunOf, ReportsRun}
+use Rattle.svc_program.specs.Runs.{GoesBy, IsRunOf, Reports, ReportsRun}
 
 -- where no file is changed, none is but the one that is to be written
 pub all_kept : (name : Option (List ℕ)) (held saved : Held) → saved ≡ held → KeepsAllBut name held saved
@@ -45,7 +47,14 @@ output_fault : (f : Fault) → IsReportFault f → IsOutputFault f
 output_fault (fault.Report e) is = tt
 output_fault _ is = absurd is
 
--- a fault of a text is one of the output, and before another one nothing is printed
+-- before a fault that isn't one of the output nothing is printed
+pub silent_else : {O : Type 0} (old new : O) (r : Result ℕ Fault) (Other : Fault → Type 0)
+    → IfErr r (λ f. IsOutputFault f ⊎ (Other f × (new ≡ old))) → IfErr r (λ f. IsOutputFault f ⊎ (new ≡ old))
+silent_else old new (Ok exit) Other said = tt
+silent_else old new (Err f) Other (inl output) = inl output
+silent_else old new (Err f) Other (inr other) = inr (other.1)
+
+-- the same, where a fault of a text is one of the output
 pub silent_before : {O : Type 0} (old new : O) (r : Result ℕ Fault) (Other : Fault → Type 0)
     → IfErr r (λ f. IsReportFault f ⊎ (Other f × (new ≡ old))) → IfErr r (λ f. IsOutputFault f ⊎ (new ≡ old))
 silent_before old new (Ok exit) Other said = tt
@@ -96,3 +105,18 @@ run_answered contents run held loaded saved old new (Err f) img recorded same im
   kept = subst (λ (h : Held). KeepsAllBut (written_by (request.Run run)) h saved) same kept;
   spared = elim spared [ inl late ↦ inr (late, (img, image)) | inr keeps ↦ inl (keeps ∙ same) ];
 }
+
+-- tasks in order: their summary is printed
+pub run_in_order : {O : Type 0} (contents : O → Option (List ℕ)) (tasks : Tasks) (held saved : Held) (old new : O) (r : Result ℕ Fault) (img : Image)
+    → saved ≡ held → IsOfSource held tasks.image img → IfOk r (Reports img tasks.most (tasks_run img tasks.most) false None (contents old) (contents new))
+    → IfErr r (λ f. IsReportFault f ⊎ (new ≡ old)) → IsAnswered contents (request.Sequential tasks) held saved old new r
+run_in_order contents tasks held saved old new (Ok exit) img same image report silent =
+    record { done = (img, image, report); silent = tt; order = tt; kept = same; spared = tt }
+run_in_order contents tasks held saved old new (Err f) img same image report silent =
+    record {
+      done = tt;
+      silent = elim silent [ inl text ↦ inl (output_fault f text) | inr quiet ↦ inr quiet ];
+      order = inr (img, image);
+      kept = same;
+      spared = inl same;
+    }

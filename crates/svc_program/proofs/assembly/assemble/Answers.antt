@@ -1,5 +1,5 @@
 use Rattle.std.specs.Prelude.{IfSome}
-use Rattle.std.proofs.Common.{◌≡◌, ◌∙◌, ℕ, List, refl, rules, subst}
+use Rattle.std.proofs.Common.{◌≡◌, ◌∙◌, ℕ, List, ap, inl, inr, refl, rules, subst}
 use Rattle.svc_request.specs.declared.request.Request.TheVariants as request
 use Rattle.svc_request.specs.Held.{Held, KeepsOthers}
 use Rattle.svc_program.proofs.Answering.{failed_save}
@@ -45,3 +45,8 @@ returns-in_err-save g c =
       kept = subst (λ (h : Held). KeepsOthers h saved c.args.assembly.image.now) c.load_text.ensures.kept c.save.ensures.others;
       spared = failed_save (request.Assemble c.args.assembly) held saved c.from_residual-in_err-save.result (search rules) (image, c.start-start.ensures.sound, program);
     }
+
+-- nothing is saved before the image's own file is
+pub returns-in-Err : goal.returns-in-Err
+returns-in-Err g c =
+    record { done = tt; silent = inr refl; order = inr tt; kept = λ other differs. ap (λ (h : Held). h other) c.load_text.ensures.kept; spared = inl c.load_text.ensures.kept }
