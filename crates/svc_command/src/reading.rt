@@ -13,8 +13,8 @@ use std::alloc::Global;
 use svc_base::Config;
 use svc_core::MAX_BURST_TURNS;
 use svc_program::{
-    Assembly, Depended, Fault, NeedsTable, Order, Picture, Request, Run, Schedule, Scripted, Source,
-    Table, TableRow, Tasks, Traced,
+    Assembly, Depended, Fault, NeedsTable, Order, Picture, Request, Run, Schedule, Scripted,
+    Source, Table, TableRow, Tasks, Traced,
 };
 
 const SEED_ALONE: &str = "error: the argument '--seed <N>' is of '--schedule random' alone
