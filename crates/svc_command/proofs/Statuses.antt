@@ -28,6 +28,7 @@ two_at_most (request.Help text) held saved old new exit done = of_nothing exit d
 two_at_most request.Version held saved old new exit done = of_nothing exit done.status
 two_at_most (request.Run run) held saved old new exit (img, image, r, is_run, goes, trace, report) = of_run run.row r old new exit report
 two_at_most (request.Sequential tasks) held saved old new exit (img, image, report) = of_ending _ exit report.status
+two_at_most (request.Depend depended) held saved old new exit (img, image, tells) = of_ending _ exit tells.status
 two_at_most (request.Script scripted) held saved old new exit (img, image, steps, script, plays) = of_ending _ exit plays.report.status
 two_at_most (request.Check traced) held saved old new exit (img, image, es, trace, sound) = of_nothing exit sound.status
 two_at_most (request.Profile traced by) held saved old new exit (img, image, es, trace, told) = of_nothing exit told.status
