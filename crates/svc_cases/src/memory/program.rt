@@ -6,8 +6,8 @@ ghost use Rattle.std.specs.List.{starts_with};
 use super::attempt::{Attempt, Refused, ready};
 use super::texts::TEXT;
 use super::wanted::{
-    CHECK, DEPEND, DEPEND_BY_TASK, DEPEND_BY_WORD, LIST, PROFILE, PROFILE_BY_TASK, PROFILE_BY_UNIT, PROFILE_BY_WORD, PROFILE_ROW, RUN,
-    RUN_ROW, SCHEDULE, SCRIPT, SEQ, SHOW, SHOW_AT,
+    CHECK, DEPEND, DEPEND_BY_TASK, DEPEND_BY_WORD, LIST, PROFILE, PROFILE_BY_TASK, PROFILE_BY_UNIT,
+    PROFILE_BY_WORD, PROFILE_ROW, RUN, RUN_ROW, SCHEDULE, SCRIPT, SEQ, SHOW, SHOW_AT,
 };
 use std::alloc::{AllocError, Global};
 use std::sync::Wait;
@@ -15,8 +15,8 @@ use std::thread::Threads;
 use svc_base::Config;
 use svc_command::execute;
 use svc_program::{
-    Assembly, Depended, FileFault, Files, NeedsTable, Order, Picture, Request, Run, Schedule, Scripted,
-    Source, Table, TableRow, Traced, perform, tell,
+    Assembly, Depended, FileFault, Files, NeedsTable, Order, Picture, Request, Run, Schedule,
+    Scripted, Source, Table, TableRow, Traced, perform, tell,
 };
 use svc_samples::{P, TRACE};
 

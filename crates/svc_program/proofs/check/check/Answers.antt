@@ -20,5 +20,5 @@ returns g c =
     answered_reading g.O.Write.contents (request.Check traced) held saved old new c.check_entries.result
     (img, c.in_ok-image.ensures.image) c.load_traced.ensures.kept
     (of_loaded c.check_entries.result held traced img es Sound c.in_ok-image.ensures.image c.in_ok-image.ensures.trace
-        (subst (λ (xs : List Entry). IfOk c.check_entries.result (Sound img xs)) c.deref.ensures.value c.check_entries.ensures.sound))
+    (subst (λ (xs : List Entry). IfOk c.check_entries.result (Sound img xs)) c.deref.ensures.value c.check_entries.ensures.sound))
     (silent_else old new c.check_entries.result _ c.check_entries.ensures.fault)

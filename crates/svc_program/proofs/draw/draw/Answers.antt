@@ -21,8 +21,17 @@ returns-in_err-save g c =
 pub returns : goal.returns
 returns g c =
     record {
-      done = ((c.in_ok-image.image, c.in_ok-image.ensures.image, c.in_ok-image.entries.items, c.in_ok-image.ensures.trace,
-          subst (λ (es : List Entry). IsDrawn c.in_ok-image.image c.args.traced.config es c.args.picture.from) c.deref.ensures.value c.in_ok-text.ensures.drawn), refl, refl);
+      done = (
+        (
+          c.in_ok-image.image,
+          c.in_ok-image.ensures.image,
+          c.in_ok-image.entries.items,
+          c.in_ok-image.ensures.trace,
+          subst (λ (es : List Entry). IsDrawn c.in_ok-image.image c.args.traced.config es c.args.picture.from) c.deref.ensures.value c.in_ok-text.ensures.drawn,
+        ),
+        refl,
+        refl,
+      );
       silent = tt;
       order = tt;
       kept = subst (λ (h : Held). KeepsOthers h (g.F.Files.held c.save.new.self) c.args.picture.file.now) c.load_traced.ensures.kept c.in_ok-save.ensures.others;
