@@ -57,11 +57,11 @@ fn count_right<R: Files + Print + Threads + Wait + Sync + AllocGlobal>(
     cases: &[StringRecord],
     images: &[StringRecord],
 ) -> Result<usize, CaseError> {
-    let mut right = 0;
+    let mut right: usize = 0;
     for row in cases {
         let case = Case::of(row).ok_or(CaseError::List)?;
         if run_one(rt, &case, images)? {
-            right += 1;
+            right = right.saturating_add(1);
         }
     }
     Ok(right)
