@@ -1,7 +1,7 @@
 //! What the tasks of an image need of one another, in Rust without proofs: the measure that `svc_depend` is held against.
 //! Each task's turns are logged first, and what it needs is found in the whole log afterwards.
 //!
-//! `depend_twin IMAGE TASKS BY` prints the totals, or the table by `task`, `pair` or `word`.
+//! `depend_twin IMAGE TASKS BY` prints the totals, the table by `task`, `pair` or `word`, or the graph for `dot`.
 
 #[allow(dead_code, reason = "what other twins need")]
 mod interpreter;
@@ -60,8 +60,8 @@ struct Row {
     turns: usize,
     needed: BTreeSet<usize>,
     written: BTreeSet<usize>,
-    /// For each task that it needs, how many words come from there.
-    from: BTreeMap<usize, usize>,
+    /// For each task that it needs, the words that come from there.
+    from: BTreeMap<usize, Vec<usize>>,
     chain: u64,
 }
 
@@ -99,7 +99,7 @@ fn main() {
         let mut from = BTreeMap::new();
         for word in &needed {
             if let Some(last) = rows.iter().rposition(|row| row.written.contains(word)) {
-                *from.entry(last).or_insert(0) += 1;
+                from.entry(last).or_insert(Vec::new()).push(*word);
             }
         }
         rows.push(Row { entry, turns: log.len(), needed, written, from, chain });
@@ -109,7 +109,7 @@ fn main() {
         "task" => {
             println!("task,entry,turns,needs,memory,nearest,stores,chain");
             for (task, row) in rows.iter().enumerate() {
-                let memory = row.needed.len() - row.from.values().sum::<usize>();
+                let memory = row.needed.len() - row.from.values().map(Vec::len).sum::<usize>();
                 let near = nearest(task, row).unwrap_or(0);
                 println!("{task},{},{},{},{memory},{near},{},{}", row.entry, row.turns, row.needed.len(), row.written.len(), row.chain);
             }
@@ -118,9 +118,22 @@ fn main() {
             println!("task,on,distance,words");
             for (task, row) in rows.iter().enumerate() {
                 for (on, words) in &row.from {
-                    println!("{task},{on},{},{words}", task - on);
+                    println!("{task},{on},{},{}", task - on, words.len());
                 }
             }
+        }
+        "dot" => {
+            println!("digraph depend {{");
+            for (task, row) in rows.iter().enumerate() {
+                for (on, words) in &row.from {
+                    let mut label = words.iter().take(3).map(ToString::to_string).collect::<Vec<_>>().join(" ");
+                    if words.len() > 3 {
+                        label += &format!(" +{}", words.len() - 3);
+                    }
+                    println!("  {task} -> {on} [label=\"{label}\"];");
+                }
+            }
+            println!("}}");
         }
         "word" => {
             println!("word,readers,writers,nearest");
@@ -141,7 +154,7 @@ fn main() {
                 End::Trap(number) => println!("trap,{number}"),
             }
             let needs: usize = rows.iter().map(|row| row.needed.len()).sum();
-            let from: usize = rows.iter().flat_map(|row| row.from.values()).sum();
+            let from: usize = rows.iter().flat_map(|row| row.from.values()).map(Vec::len).sum();
             let near = rows.iter().enumerate().filter_map(|(task, row)| nearest(task, row)).min();
             println!("turns,{}", rows.iter().map(|row| row.turns).sum::<usize>());
             println!("needs,{needs}\nmemory,{}", needs - from);

@@ -28,20 +28,20 @@ example_${name}_is_run,$status,$at.txt,,trace.csv=$at.csv,run $at.svci --units $
 END
 }
 
-# The program from C, whose text examples/c/build.sh makes: what it prints on the host, and by a schedule its summary alone, as its
-# trace is long.
+# A program from C, whose text examples/c/build.sh makes, and its C file: what it prints on the host, and by a schedule its summary
+# alone, as its trace is long.
 from_c() {
-    local at=examples/from_c
+    local name=$1 at=examples/$1
     "$root/bench/example_image.py" "$data/$at.s" "$data/$at.svci" "$data/$at.listing.s"
     "$folder/schedule_twin" "$data/$at.svci" 4 16 2 100000 1000000 rotate 0 63 - > "$data/$at.txt"
-    gcc -O2 -DHOST -o "$folder/host" "$root/examples/c/tasks.c"
+    gcc -O2 -DHOST -o "$folder/host" "$root/examples/c/$2.c"
     "$folder/host" > "$data/$at.host.txt"
     cat >> "$data/cases/examples.csv" <<END
-example_from_c_is_assembled,0,,,made.svci=$at.svci,assemble $at.s made.svci
-example_from_c_is_listed,0,$at.listing.s,,,list $at.svci
-example_from_c_is_assembled_again,0,,,made.svci=$at.svci,assemble $at.listing.s made.svci
-example_from_c_is_as_on_the_host,0,$at.host.txt,,,seq $at.svci --tasks 100
-example_from_c_is_run,0,$at.txt,,,run $at.svci --units 4 --sets 16 --ways 2 --schedule rotate
+example_${name}_is_assembled,0,,,made.svci=$at.svci,assemble $at.s made.svci
+example_${name}_is_listed,0,$at.listing.s,,,list $at.svci
+example_${name}_is_assembled_again,0,,,made.svci=$at.svci,assemble $at.listing.s made.svci
+example_${name}_is_as_on_the_host,0,$at.host.txt,,,seq $at.svci --tasks 100
+example_${name}_is_run,0,$at.txt,,,run $at.svci --units 4 --sets 16 --ways 2 --schedule rotate
 END
 }
 
@@ -50,4 +50,5 @@ example handed_on 2 16 2 rotate
 example wrong_guess 2 16 2 rotate
 example full_set 2 1 1 rotate
 example lost_stack 2 16 2 rotate 2
-from_c
+from_c from_c tasks
+from_c apart apart

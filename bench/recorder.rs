@@ -172,6 +172,7 @@ pub struct Entry {
 }
 
 /// The task of a unit, the place of its entry in the table, and the words that wait for its commit.
+#[derive(Clone)]
 struct Seat {
     unit: usize,
     epoch: u64,
@@ -189,6 +190,7 @@ pub struct Glance {
 }
 
 /// The machine and its history.
+#[derive(Clone)]
 pub struct Recorder<'a> {
     image: &'a Image,
     config: Config,
@@ -220,6 +222,19 @@ impl<'a> Recorder<'a> {
             output: Vec::new(),
             entries: Vec::with_capacity(config.events),
         }
+    }
+
+    /// The unit, the entry and the turns of each active task, the oldest first.
+    pub fn tasks(&self) -> impl Iterator<Item = (usize, usize, u32)> {
+        self.seats.iter().map(|seat| (seat.unit, seat.entry, seat.core.task.count))
+    }
+
+    /// What tells where a machine stands apart from another: the commits, the tasks, and what shows of the bus.
+    pub fn key(&self) -> Vec<u64> {
+        let mut key = vec![self.commits, self.seats.len() as u64];
+        key.extend(self.tasks().flat_map(|(unit, entry, turns)| [unit as u64, entry as u64, u64::from(turns)]));
+        self.bus.add_key(&mut key);
+        key
     }
 
     fn place(&self, unit: usize) -> Option<usize> {

@@ -31,7 +31,17 @@ impl Line {
     }
 }
 
+impl Line {
+    fn code(&self) -> u64 {
+        [self.is_valid, self.is_dirty, self.is_loaded, self.is_committed, self.is_stale]
+            .into_iter()
+            .rev()
+            .fold(0, |code, bit| 2 * code + u64::from(bit))
+    }
+}
+
 /// A cache of one unit: rows of as many lines as there are ways, one row a set.
+#[derive(Clone)]
 struct Cache {
     mask: u32,
     ways: usize,
@@ -81,6 +91,7 @@ impl Cache {
 }
 
 /// The bus. It serves one call at a time.
+#[derive(Clone)]
 pub struct Bus {
     caches: Vec<Cache>,
     /// The head's versions that were replaced, by word, and the words that may have one.
@@ -102,6 +113,30 @@ impl Bus {
             queue: Vec::with_capacity(units),
             commits: 0,
         }
+    }
+
+    /// Adds which words have lines, with their bits, whose committed version is the newest, and which words are spilled.
+    pub fn add_key(&self, key: &mut Vec<u64>) {
+        for (unit, cache) in self.caches.iter().enumerate() {
+            let mut lines: Vec<&Line> = cache.lines.iter().filter(|line| line.is_valid).collect();
+            lines.sort_by_key(|line| line.word);
+            key.push(lines.len() as u64);
+            for line in lines {
+                let is_newest = line.is_committed && line.is_dirty && self.newest(line.word) == Some(unit);
+                key.extend([line.word.into(), line.code(), is_newest.into()]);
+            }
+        }
+        let mut spilled: Vec<u64> =
+            self.spilled.iter().filter(|word| self.spill[**word as usize].is_some()).map(|word| (*word).into()).collect();
+        spilled.sort_unstable();
+        spilled.dedup();
+        key.extend(spilled);
+    }
+
+    /// The unit of the newest committed dirty line of the word.
+    fn newest(&self, word: u32) -> Option<usize> {
+        let dirty = |cache: &Cache| cache.find(word).filter(|line| line.is_committed && line.is_dirty).map(|line| line.task);
+        self.caches.iter().enumerate().filter_map(|(unit, cache)| Some((dirty(cache)?, unit))).max().map(|(_, unit)| unit)
     }
 
     fn place(&self, unit: usize) -> usize {

@@ -3,6 +3,8 @@ use Rattle.std.specs.Prelude.{ℕ, nat_eq, Bool, false, not, ◌==◌, List, [],
 use Rattle.std.specs.List.{starts_with}
 use Rattle.svc_image.specs.declared.version.Version.{Version}
 use Rattle.svc_image.specs.declared.version.Version.TheVariants as version
+use Rattle.svc_draft.specs.declared.statement.Width.TheVariants as wide
+use Rattle.svc_draft.specs.declared.statement.Next.TheVariants as go
 use Rattle.svc_draft.specs.declared.statement.Statement.{Statement}
 use Rattle.svc_draft.specs.declared.statement.Statement.TheVariants as say
 use Rattle.svc_draft.specs.Options.{◌>>=◌}
@@ -22,7 +24,7 @@ use Rattle.svc_operands.specs.Values.{value_at}
 unfoldable pub word_at : Layout → List ℕ → Read Statement
 word_at d text = do
   n ← value_at d text
-  Some (say.Word n.0, n.1)
+  Some (say.Value wide.Word n.0 go.Line, n.1)
 
 unfoldable pub start_at : Layout → List ℕ → Read Statement
 start_at d text = do

@@ -9,7 +9,7 @@ ghost use Rattle.svc_asm.specs.Statements.{word_at, start_at, limit_at, known_ve
 use crate::blanks::read_blank;
 use crate::directives::{Says, said_by, section_by};
 use crate::passed::skip_rest;
-use svc_draft::{Draft, Statement};
+use svc_draft::{Draft, Next, Statement, Width};
 use svc_image::Version;
 use svc_instructions::read_instruction;
 use svc_operands::{
@@ -22,7 +22,7 @@ fn read_word<'a>(draft: &Draft, text: &'a [u8]) -> Result<(Statement, &'a [u8]),
     ensures { Gives (λ x. (x.0, x.1.now)) result (word_at (layout_of draft.now) text.now) }
 {
     let (number, rest) = read_value(draft, text)?;
-    Ok((Statement::Word(number), rest))
+    Ok((Statement::Value(Width::Word, number, Next::Line), rest))
 }
 
 #[tactic(auto, unfolding(crate::specs::Statements::start_at))]

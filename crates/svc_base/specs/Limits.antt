@@ -1,5 +1,5 @@
--- The ranges of a configuration's numbers, and the first that is out of its range. The bounds are numbers here, not the
--- constants of the code, so that no constant can be another one.
+-- The ranges of a configuration's numbers, and the first number out of its range. The bounds are literals, not the
+-- code's constants, so that no constant can differ from them.
 use Rattle.std.specs.Prelude.{ℕ, Bool, ◌&&◌, nat_le, Option, Some, None, if◌then◌else◌}
 use Rattle.std.specs.Int.{is_power_of_two}
 use Rattle.svc_base.specs.declared.config.ConfigError.{ConfigError}
@@ -13,7 +13,7 @@ is_within most n = nat_le 1 n && nat_le n most
 abbrev pub is_set_count : ℕ → Bool
 is_set_count n = is_power_of_two n && is_within 256 n
 
--- the first number that is out of its range, where there is one
+-- the first number that is out of its range, if any
 unfoldable pub config_fault : (units sets ways events turns : ℕ) → Option ConfigError
 config_fault units sets ways events turns =
     if is_within 16 units then

@@ -3,8 +3,9 @@
 use crate::ids::UnitId;
 
 /// Who supplies the value that a task reads: the first of these that exists. The bus plans a read by it, and a reply
-/// reports it. (Terms: Gopal, Vijaykumar, Smith, Sohi, "Speculative Versioning Cache", HPCA 1998: the version control
-/// logic supplies a load with the nearest version before it. The order of the suppliers is this simulator's own.)
+/// reports it. (Terms: Gopal, Vijaykumar, Smith, Sohi, "Speculative Versioning Cache", HPCA 1998, where the version
+/// control logic supplies a load with the nearest version before it. The order of the suppliers is this simulator's
+/// own.)
 #[derive(Clone, Copy, Debug, PartialEq, Eq)]
 pub enum Served {
     /// The active line of the task's own unit.

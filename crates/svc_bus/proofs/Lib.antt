@@ -7,6 +7,7 @@ pub mod Places
 pub mod Keeping
 pub mod Beginning
 pub mod Committed
+pub mod Newest
 pub mod Squashing
 pub mod Committing
 pub mod Opening

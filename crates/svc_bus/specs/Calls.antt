@@ -26,7 +26,7 @@ pub record RunsAt (b : BusState) (unit : ℕ) (t : LineTable) (place : ℕ) : Ty
   pub within : place < length t.units
   pub unit_is : unit_at t place ≡ unit
 
--- a full set refuses a read or a write with the word to be replaced first
+-- a full set refuses a read or a write, and names the word to replace first
 abbrev pub full_refusal : BusState → (unit word : ℕ) → Option Refusal
 full_refusal b unit word = option_map (λ named. refusal.SetFull (record { 0 = named })) (set_full (bus_cache b unit) word)
 

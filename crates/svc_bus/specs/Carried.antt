@@ -16,7 +16,8 @@ is_hit Spill = false
 is_hit (Committed unit) = false
 is_hit Memory = false
 
--- a hit changes no line, a reuse the unit's own; else there was a bus request, and the word's other lines are purged
+-- a hit changes no line, and a reuse the unit's own; otherwise there was a bus request, which purged the word's other
+-- lines
 abbrev pub lines_after : Served → Held → (unit word : ℕ) → Option SeenLine → Held
 lines_after Hit lines unit word line = lines
 lines_after Reuse lines unit word line = with_line lines unit word line (λ other. other)

@@ -18,6 +18,6 @@ line_in caches u a = bus_line_of (held_line caches u a)
 abbrev pub link_in : List CacheValue → ℕ → ℕ → Option ℕ
 link_in caches u a = link_of (held_line caches u a)
 
--- one line of a word changed, and the word's other lines by a rule
+-- one line of a word changes, and the word's other lines by a rule
 abbrev pub with_line : Held → ℕ → ℕ → Option SeenLine → (Option SeenLine → Option SeenLine) → Held
 with_line lines u a line others v b = cond (b == a) (cond (v == u) line (others (lines v b))) (lines v b)

@@ -10,17 +10,18 @@ pub record IsOne (probes : Probes) : Type 0 where
   pub searches : probes.searches ≡ 1
   pub places : probes.places ≤ MAX_WAYS
 
--- searches were added, at most so many, and what was counted before stays counted
+-- at most this many searches were added, and the earlier count is kept
 pub record CountsUpTo (before after : Probes) (most : ℕ) : Type 0 where
   pub kept : before.searches ≤ after.searches
   pub few : after.searches ≤ before.searches + most
 
--- at least so many look-ups, and at most two into each cache
+-- at least this many look-ups, and at most two in each cache
 pub record LookUpsFrom (least probes caches : ℕ) : Type 0 where
   pub some : least ≤ probes
   pub few : probes ≤ 2 * caches
 
--- the look-ups of an accepted read that was served so: a hit makes one, a reuse makes some, and any other looks into each cache
+-- the look-ups of an accepted read with this supplier: a hit makes one, a reuse one to two for each cache, and any
+-- other at least one for each
 abbrev pub LookUps : Served → (probes caches : ℕ) → Type 0
 LookUps Hit probes caches = probes ≡ 1
 LookUps Reuse probes caches = LookUpsFrom 1 probes caches

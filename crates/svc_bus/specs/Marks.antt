@@ -1,4 +1,4 @@
--- The lines of a word that a store has overtaken, and the one before it, which it links to the writer's.
+-- The lines of a word that a store overtakes, and the version before it, which it links to the writer.
 use Rattle.std.specs.Prelude.{◌≡◌, ℕ, ◌<◌, ◌≤◌, Bool, true, cond, Option, Some, None, List, length}
 use Rattle.svc_line.specs.Bits.{bits_of, overtaken_now}
 use Rattle.svc_line.specs.Line.{SeenLine, seen}
@@ -9,16 +9,16 @@ use Rattle.svc_vol.specs.Versions.{version_at}
 use Rattle.svc_vcl.specs.Planned.{AreApart}
 use Rattle.svc_retire.specs.Caches.{held_line}
 
--- the line links to the writer's where its unit is the one before
+-- the line links to the writer if its unit is the one before
 abbrev pub link_after : (previous : Option ℕ) → (writer unit : ℕ) → Option ℕ → Option ℕ
 link_after previous writer unit link = cond (is_unit previous unit) (Some writer) link
 
--- T is set on the line, and it is linked where its unit is the one before
+-- T is set on the line, and it links to the writer if its unit is the one before
 abbrev pub overtaken_line : (previous : Option ℕ) → (writer unit : ℕ) → Option SeenLine → Option SeenLine
 overtaken_line previous writer unit None = None
 overtaken_line previous writer unit (Some l) = Some (record { value = l.value; bits = overtaken_now l.bits; next = link_after previous writer unit l.next })
 
--- that is done where the flag says so
+-- the same, if the flag says so
 abbrev pub overtaken_where : (previous : Option ℕ) → (writer unit : ℕ) → Bool → Option SeenLine → Option SeenLine
 overtaken_where previous writer unit flag line = cond flag (overtaken_line previous writer unit line) line
 
@@ -32,7 +32,7 @@ pub record IsHeld (caches : List CacheValue) (word : ℕ) (version : Version) : 
   pub held : held_line caches version.unit.0 word ≡ Some (seen version.line)
   pub valid : (bits_of version.line.bits).valid ≡ true
 
--- so is each of the versions, and no two of them are in one cache
+-- so is each of the versions, and no two are in one cache
 pub record AreHeld (caches : List CacheValue) (word : ℕ) (versions : List Version) : Type 0 where
   pub each : (k : ℕ) → k < length versions → IsHeld caches word (version_at versions k)
   pub apart : AreApart versions

@@ -2,6 +2,6 @@
 use Rattle.svc_bus_laws.specs.BusState.{BusState}
 use Rattle.svc_bus.specs.Value.{BusValue, state_in}
 
--- the lines, their order, and all else but their links
+-- the lines, their order, and all else except their links
 unfoldable pub observed : BusValue → BusState
 observed b = state_in b

@@ -1,4 +1,4 @@
--- What a store makes of the lines of the caches.
+-- How a store changes the lines of the caches.
 use Rattle.std.specs.Prelude.{◌≡◌, ℕ, ◌==◌, true, false, cond, ◌&&◌, Option, List}
 use Rattle.svc_line.specs.Line.{SeenLine}
 use Rattle.svc_cache.specs.Lines.{squash_line}
@@ -12,15 +12,16 @@ use Rattle.svc_retire.specs.Purges.{purged_line}
 use Rattle.svc_bus.specs.Lines.{Held, with_line}
 use Rattle.svc_bus.specs.Marks.{overtaken_where}
 
--- the unit's line of the word is the stored one, the word's other lines are purged, and T is set on those of the named units, and the link on the one before
+-- the unit's line of the word is the stored one, the word's other lines are purged, the lines of the named units get T,
+-- and the one before links to the writer
 abbrev pub stored_line : (lines : Held) → (unit word : ℕ) → Option SeenLine → (previous : Option ℕ) → List Version → Held
 stored_line lines unit word line previous changed u a = overtaken_where previous unit u ((a == word) && is_named changed u) (with_line lines unit word line purged_line u a)
 
--- and so many tasks are left: the active lines of the others' units are invalid
+-- and only the first n tasks are left: active lines of the other tasks' units are invalid
 abbrev pub left_line : (units : List ℕ) → (left u : ℕ) → Option SeenLine → Option SeenLine
 left_line units left u line = cond (is_cut units left u) (squash_line line) line
 
--- no more than one line changes in each other cache: a changed line is not purged, and neither is in the unit's own cache
+-- at most one line changes in each other cache: a marked line is not purged, and neither is in the unit's own cache
 pub record ChangeOnce (caches : List CacheValue) (unit word : ℕ) (changed : List Version) : Type 0 where
   pub others : is_named changed unit ≡ false
   pub apart : (u : ℕ) → is_named changed u ≡ true → is_committed_version (held_line caches u word) ≡ false

@@ -9,7 +9,8 @@ use Rattle.svc_links_laws.specs.LinkedBus.{IsLinkedBus}
 use Rattle.svc_retire.specs.Caches.{cache_at}
 use Rattle.svc_bus.specs.Lines.{line_in, link_in}
 
--- the units' caches, the spilled value and the backing word of each word, the units of the active tasks, oldest first, how many tasks were committed, and the look-ups of the last accepted read or write: callers look into none of it
+-- the units' caches, the spilled value and the backing word of each word, the units of the active tasks, oldest first,
+-- how many tasks were committed, and the look-ups of the last accepted read or write. Callers see none of it directly.
 pub record BusValue : Type 0 where
   pub caches : List CacheValue
   pub spill : List (Option ℕ)
@@ -18,7 +19,7 @@ pub record BusValue : Type 0 where
   pub commits : ℕ
   pub probes : ℕ
 
--- what callers may know of it: the order of a word's dirty lines is that of their links
+-- what callers may know of it; a word's dirty lines are in the order of their links
 abbrev pub state_in : BusValue → BusState
 state_in b = record {
   caches = length b.caches;
@@ -34,7 +35,8 @@ state_in b = record {
   probes = b.probes;
 }
 
--- what the type of a bus keeps: some line table agrees with it, its links follow that table's numbers, and its parts have their sizes
+-- what the type of a bus guarantees: some line table agrees with it, its links follow that table's numbers, and its
+-- parts have their sizes
 pub record IsSoundBus (b : BusValue) : Type 0 where
   pub linked : IsLinkedBus (state_in b) (link_in b.caches)
   pub some_caches : 0 < length b.caches

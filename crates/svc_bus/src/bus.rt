@@ -35,8 +35,8 @@ pub struct Bus {
     pub(crate) commits: u64,
     // the look-ups of the last accepted read or write
     pub(crate) probes: u32,
-    // The last request's version list, and the lines that the last write changed. They are kept for their room alone: each
-    // request fills them anew, so they say nothing of the bus.
+    // The last request's version list, and the lines that the last write changed. They are kept only for their room:
+    // each request fills them again, so they say nothing of the bus.
     pub(crate) list: VersionList,
     pub(crate) changed: ArrayVec<Version, STALE_CAPACITY>,
 }
@@ -87,8 +87,8 @@ fn open_caches(alloc: Global, units: u32, sets: u32, ways: u32) -> Result<Vec<Ca
 }
 
 impl Bus {
-    /// A bus over `units` caches of `sets` times `ways` lines each, without lines or tasks, and
-    /// over this memory. It allocates all that it will ever need; no other call of it takes memory.
+    /// A bus over `units` caches of `sets` times `ways` lines each, without lines or tasks, over this memory. It
+    /// allocates all that it will ever need; no other call of it takes memory.
     ///
     /// Errors: [`OpenError::Memory`].
     #[tactic(auto, unfolding(crate::specs::Observed::observed))]

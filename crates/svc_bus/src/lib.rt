@@ -1,10 +1,10 @@
 //! The snooping bus: the units' private versioned caches, the table of spilled versions, the backing memory and the
 //! queue of active tasks, as one versioned map from task and word.
 //!
-//! A task reads the nearest earlier version of a word. A store of an earlier task squashes the first later task that read
-//! the word too early, and all after it. Commits are lazy: a committed version stays in its cache until the next bus
-//! request for its word (Gopal, Vijaykumar, Smith, Sohi, "Speculative Versioning Cache", HPCA 1998, the efficient commit
-//! design; the rules are this simulator's own).
+//! A task reads the nearest earlier version of a word. A store of an earlier task squashes the first later task that
+//! read the word too early, and all after it. Commits are lazy: a committed version stays in its cache until the next
+//! bus request for its word (Gopal, Vijaykumar, Smith, Sohi, "Speculative Versioning Cache", HPCA 1998, the efficient
+//! commit design; the rules are this simulator's own).
 #![tactic(auto)]
 
 pub mod bus;

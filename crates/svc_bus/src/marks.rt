@@ -39,7 +39,7 @@ fn is_same(unit: Option<UnitId>, other: UnitId) -> bool
     }
 }
 
-// The version's line with T, and linked to the writer's if it is the one before.
+// The version's line with T, linked to the writer if it is the one before.
 fn marked(version: &Version, mark: &Mark) -> Line
     ensures line { Some (seen result) ≡ overtaken_line (option_map (λ (u : UnitId). u.0) mark.now.previous)
         mark.now.writer.0 version.now.unit.0 (Some (seen version.now.line)) }
@@ -92,8 +92,8 @@ fn mark_version(caches: &mut [Cache], version: &Version, mark: &Mark, probes: &m
     );
 }
 
-/// The versions, which are their units' lines of the word, get the mark: T is set on each, and the one before the stored
-/// version links to the writer. Each takes one search.
+/// The versions, which are their units' lines of the word, get the mark: T is set on each, and the one before the
+/// stored version links to the writer. Each takes one search.
 pub(crate) fn mark_versions(
     caches: &mut [Cache],
     versions: &[Version],

@@ -37,7 +37,7 @@ struct Outcome {
     line: Line,
 }
 
-// The lines are changed as the read requires: by a hit none, by a reuse the unit's own.
+// The read changes lines: a hit none, a reuse the unit's own.
 fn carry_out(
     caches: &mut [Cache],
     backing: &mut [u32],
@@ -78,8 +78,8 @@ fn carry_out(
 }
 
 impl Bus {
-    /// The unit's task reads the word: the value of the nearest earlier version, and who supplied it. A hit makes one look-up,
-    /// and another read at most two for each unit.
+    /// The unit's task reads the word: the value of the nearest earlier version, and who supplied it. A hit makes one
+    /// look-up, and another read at most two for each unit.
     ///
     /// Errors: [`Refusal::SetFull`] if the unit's cache has no line of the word and no room for
     /// one. Then nothing changes.
@@ -120,7 +120,7 @@ impl Bus {
         self.caches[unit.0 as usize].lookup(word, probes)
     }
 
-    // A read for which the unit's line is known and isn't a hit: the other caches are searched.
+    // A read for which the unit's line is known and isn't a hit: it searches the other caches.
     #[tactic(auto, unfolding(crate::specs::Observed::observed))]
     fn read_beside(
         &mut self,

@@ -4,6 +4,7 @@ ghost use Rattle.std.specs.Prelude.{◌≡◌, ◌<◌, true, Option, option_map
 ghost use Rattle.svc_line.specs.Bits.{bits_of};
 ghost use Rattle.svc_bus_laws.specs.LineTable.{LineTable, committed_value};
 ghost use Rattle.svc_bus_laws.specs.BusState.{Agrees, unnumbered};
+ghost use Rattle.svc_bus_laws.specs.BusView.{bus_newest};
 ghost use Rattle.svc_bus_laws.specs.Refusals.{bus_cache, set_full};
 ghost use Rattle.svc_bus.specs.Observed.{observed};
 ghost use Rattle.svc_bus.specs.Calls.{line_shown};
@@ -49,8 +50,8 @@ impl Bus {
         self.queue.unit_at(position)
     }
 
-    /// The word that the committed tasks have left: that of the newest committed dirty line,
-    /// otherwise the backing word.
+    /// The word that the committed tasks have left: that of the newest committed dirty line, otherwise the backing
+    /// word.
     #[tactic(auto, unfolding(crate::specs::Observed::observed))]
     pub fn committed_memory(&self, word: WordAddr) -> u32
         requires in_memory { word.0 < (observed self.now).words }
@@ -60,6 +61,19 @@ impl Bus {
         match newest(list.committed()) {
             Some(value) => value,
             None => self.backing(word),
+        }
+    }
+
+    /// The unit whose line is the newest committed dirty one of the word, if there is one.
+    #[tactic(auto, unfolding(crate::specs::Observed::observed))]
+    pub fn newest_committed(&self, word: WordAddr) -> Option<UnitId>
+        requires in_memory { word.0 < (observed self.now).words }
+        ensures unit { option_map (λ unit. unit.0) result ≡ bus_newest (observed self.now) word.0 }
+    {
+        let list = VersionList::of(&self.caches, &self.queue, word, &mut Probes::new());
+        match svc_vcl::newest_version(list.committed()) {
+            Some(version) => Some(version.unit),
+            None => None,
         }
     }
 
@@ -81,8 +95,7 @@ impl Bus {
         self.spill.get(word)
     }
 
-    /// The bits and the value of the unit's valid line of the word. No bits are set but those of
-    /// the line that have names.
+    /// The bits and the value of the unit's valid line of the word; only named bits are set.
     #[tactic(auto, unfolding(crate::specs::Observed::observed))]
     pub fn line_at(&self, unit: UnitId, word: WordAddr) -> Option<(LineBits, u32)>
         requires known { unit.0 < (observed self.now).caches }
@@ -95,8 +108,8 @@ impl Bus {
         Some((line.bits.named(), line.value))
     }
 
-    /// The word that a read or a write of this word by the unit would name as the one to be
-    /// replaced first, if its set is full.
+    /// The word that a read or a write of this word by the unit would name as the one to replace first, if its set is
+    /// full.
     #[tactic(auto, unfolding(crate::specs::Observed::observed))]
     pub fn set_full(&self, unit: UnitId, word: WordAddr) -> Option<WordAddr>
         requires known { unit.0 < (observed self.now).caches }
@@ -106,8 +119,8 @@ impl Bus {
         self.caches[unit.0 as usize].full(word, &mut Probes::new())
     }
 
-    /// How many tasks were committed. The contract also says that some line table agrees with the
-    /// bus, so that a caller who is given one can use the clauses of its calls.
+    /// How many tasks were committed. The contract also says that some line table agrees with the bus, so that a caller
+    /// who is given a bus can use the clauses of its calls.
     #[tactic(auto, unfolding(crate::specs::Observed::observed))]
     pub fn committed_tasks(&self) -> u64
         ensures count { result ≡ (observed self.now).commits }
@@ -116,7 +129,8 @@ impl Bus {
         self.commits
     }
 
-    /// How many cache look-ups the last accepted read or write made, each the search of one cache's set; 0 before the first.
+    /// How many cache look-ups the last accepted read or write made, each the search of one cache's set; 0 before the
+    /// first.
     #[tactic(auto, unfolding(crate::specs::Observed::observed))]
     pub fn last_probes(&self) -> u32
         ensures count { result ≡ (observed self.now).probes }

@@ -87,11 +87,11 @@ fn has_line_of(versions: &[Version], unit: UnitId) -> bool
     versions.iter().any(|version| version.unit.0 == unit.0)
 }
 
-/// A bus request of the unit for the word: its line of the word becomes this one, and the word is
-/// purged in the other caches. If the unit's cache has no line of the word and no room for one,
-/// nothing changes.
+/// A bus request of the unit for the word: its line of the word becomes this one, and the word is purged in the other
+/// caches. If the unit's cache has no line of the word and no room for one, nothing changes.
 ///
-/// `list` is the version list of the word. There is one search for the line, and one for each line that becomes invalid.
+/// `list` is the version list of the word. There is one search for the line, and one for each line that becomes
+/// invalid.
 pub(crate) fn put_line(
     caches: &mut [Cache],
     backing: &mut [u32],

@@ -36,15 +36,15 @@ pub(crate) struct Store<'a> {
     pub line: Line,
     /// The unit of the version before the stored one.
     pub previous: Option<UnitId>,
-    /// The other lines of the word that change, and their units: those that it overtakes, and the version before.
+    /// The other lines of the word that change, with their units: those that it overtakes, and the version before.
     pub changed: &'a [Version],
     /// How many tasks it leaves.
     pub left: usize,
 }
 
-/// The unit's line of the word becomes the stored one, the word is purged in the other caches, T is set on the lines
-/// that were overtaken, the version before links to the unit, and only the tasks that are left keep their lines. If the
-/// unit's cache has no line of the word and no room for one, nothing changes.
+/// The unit's line of the word becomes the stored one, the word is purged in the other caches, the overtaken lines get
+/// T, the version before links to the unit, and only the tasks that are left keep their lines. If the unit's cache has
+/// no line of the word and no room for one, nothing changes.
 ///
 /// `list` is the version list of the word. There are at most as many searches as caches.
 pub(crate) fn store_line(
@@ -101,7 +101,7 @@ pub(crate) fn store_line(
     Ok(())
 }
 
-/// The head's version of the word is no longer the spilled one, once the head has stored the word.
+/// Once the head has stored the word, the spilled version is no longer its version.
 pub(crate) fn empty_spill(spill: &mut Spill, place: usize, word: WordAddr)
     requires { word.0 < length spill.old }
     ensures versions { (a : ℕ) → get_or spill.new a None ≡ with_at (λ x. get_or spill.old x None) word.0

@@ -7,6 +7,6 @@ use svc_base::TaskNo;
 pub struct Victim {
     /// The first of them.
     pub first: TaskNo,
-    /// How many they are: all that were active from the first on.
+    /// How many they are: all tasks that were active from the first on.
     pub tasks: u32,
 }

@@ -37,8 +37,8 @@ fn victim_of(commits: u64, victim: Option<usize>, tasks: usize) -> Option<Victim
 }
 
 impl Bus {
-    /// The unit's task stores the word. The first later task that read the word too early is squashed with all after it,
-    /// and named. It makes at most two look-ups for each unit.
+    /// The unit's task stores the word. The first later task that read the word too early is squashed with all after
+    /// it, and named. It makes at most two look-ups for each unit.
     ///
     /// Errors: [`Refusal::SetFull`] if the unit's cache has no line of the word and no room for
     /// one. Then nothing changes.

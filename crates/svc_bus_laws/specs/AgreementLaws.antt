@@ -19,15 +19,15 @@ OwnState = (probes : ℕ) (t : LineTable) → IsSound t → Agrees (state_of pro
 abbrev pub OpenedAgrees : Type 0
 OpenedAgrees = (caches sets ways : ℕ) (memory : List ℕ) → Agrees (bus_opened caches sets ways memory) (opened caches sets ways memory)
 
--- the look-ups aside, only what a state holds decides which tables it agrees with
+-- apart from the look-ups, what a state holds decides which tables it agrees with
 abbrev pub SameAgrees : Type 0
 SameAgrees = (b c : BusState) (t : LineTable) → SameBus b c → Agrees b t → Agrees c t
 
--- what a state satisfies
+-- what a state that agrees satisfies
 abbrev pub SoundSeen : Type 0
 SoundSeen = (b : BusState) (t : LineTable) → Agrees b t → IsSoundState b
 
--- callers see the committed values, the map and the supplier of every table that agrees
+-- the committed values, the map and the supplier that callers see are those of every table that agrees
 abbrev pub CommittedSeen : Type 0
 CommittedSeen = (b : BusState) (t : LineTable) (a : ℕ) → Agrees b t → bus_committed b a ≡ committed_value t a
 
@@ -71,7 +71,7 @@ CommitAgrees = (b : BusState) (t : LineTable) → Agrees b t → 0 < length t.un
 abbrev pub BeginAgrees : Type 0
 BeginAgrees = (b : BusState) (t : LineTable) (u : ℕ) → Agrees b t → u < t.caches → ((p : ℕ) → p < length t.units → unit_at t p ≢ u) → Agrees (bus_begin b u) (begin t u)
 
--- so the steps of tables that differ in numbers alone, with one order, differ in numbers alone, with one order
+-- the steps of tables that differ only in numbers, with one order, differ only in numbers, with one order
 abbrev pub AlikeReads : Type 0
 AlikeReads = (s t : LineTable) (p a : ℕ) → AreAlike s t → p < length t.units → a < t.words → AreAlike (read s p a) (read t p a)
 

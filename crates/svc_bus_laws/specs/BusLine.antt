@@ -39,7 +39,7 @@ abbrev pub is_exposed_line : Option BusLine → Bool
 is_exposed_line None = false
 is_exposed_line (Some l) = not l.commit && l.load
 
--- a line's value, 0 where there is none
+-- a line's value, 0 if there is none
 abbrev pub value_of_line : Option BusLine → ℕ
 value_of_line None = 0
 value_of_line (Some l) = l.value
@@ -64,7 +64,7 @@ abbrev pub purged_line : Option BusLine → Option BusLine
 purged_line None = None
 purged_line (Some l) = cond (l.commit && l.store) None (Some l)
 
--- T is set on a committed line, and on any where the flag says so
+-- T is set on a committed line and, if the flag says so, on any line
 abbrev pub marked_line : Bool → Option BusLine → Option BusLine
 marked_line below None = None
 marked_line below (Some l) = Some (record l { stale = l.stale || (l.commit || below) })

@@ -1,4 +1,5 @@
--- What contracts see of a bus: the line table with each word's order of dirty lines in place of numbers. It is the same whether lines are stored with numbers or with links.
+-- What contracts see of a bus: the line table with each word's order of dirty lines in place of numbers. It is the same
+-- whether lines carry numbers or links.
 use Rattle.std.specs.Prelude.{◌≡◌, ℕ, Bool, false, ◌&&◌, ltb, Option, Some, None, List}
 use Rattle.svc_bus_laws.specs.LineTable.{Line, LineTable, task_in}
 use Rattle.svc_bus_laws.specs.BusLine.{BusLine}
@@ -37,7 +38,8 @@ is_dirty (Some l) = l.store
 abbrev pub is_lower : LineTable → ℕ → ℕ → ℕ → Bool
 is_lower t a u v = (is_dirty (t.lines u a) && is_dirty (t.lines v a)) && ltb (task_in (t.lines u a)) (task_in (t.lines v a))
 
--- a bus agrees with a sound line table that differs from it in the lines' numbers at most, and whose numbers put each word's dirty lines in the bus's order
+-- a bus agrees with a sound line table if they differ at most in the lines' numbers, and the numbers put each word's
+-- dirty lines in the bus's order
 pub record Agrees (b : BusState) (t : LineTable) : Type 0 where
   pub sound : IsSound t
   pub caches : b.caches ≡ t.caches
@@ -51,7 +53,7 @@ pub record Agrees (b : BusState) (t : LineTable) : Type 0 where
   pub commits : b.commits ≡ t.commits
   pub units : b.units ≡ t.units
 
--- two states that differ in look-ups at most
+-- two states that differ at most in look-ups
 pub record SameBus (b c : BusState) : Type 0 where
   pub caches : b.caches ≡ c.caches
   pub sets : b.sets ≡ c.sets
@@ -80,7 +82,8 @@ state_of probes t = record {
   probes = probes;
 }
 
--- two line tables are alike where one bus agrees with both: they differ at most in numbers, and these order each word's dirty lines in the same way
+-- two line tables are alike if one bus agrees with both: they differ at most in numbers, and the numbers order each
+-- word's dirty lines the same way
 pub record AreAlike (s t : LineTable) : Type 0 where
   pub bus : BusState
   pub first : Agrees bus s

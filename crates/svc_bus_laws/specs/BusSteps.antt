@@ -1,4 +1,4 @@
--- The steps of a bus without numbers: what its lines, its order and its queue become. They are what a body has to show.
+-- The steps of a bus without numbers: what its lines, its order and its queue become. A body has to show these.
 use Rattle.std.specs.Prelude.{List, ℕ, suc, Bool, true, false, cond, not, ◌&&◌, ◌==◌, ltb, Option, Some, None, is_some, unwrap_or, [], ◌∷◌, ◌++◌, length, get_or, take, drop}
 use Rattle.std.specs.Option.{option_or}
 use Rattle.svc_bus_laws.specs.Search.{any_below}
@@ -24,7 +24,7 @@ bus_opened caches sets ways memory = record {
   probes = 0;
 }
 
--- the idle unit's new task goes last
+-- the idle unit's new task joins as the youngest
 abbrev pub bus_begin : BusState → ℕ → BusState
 bus_begin b u = record b { units = b.units ++ u ∷ [] }
 
@@ -50,14 +50,14 @@ bus_squash b n = record b {
   units = take n b.units;
 }
 
--- the unit runs a task below the place; above it, among the first n
+-- the unit runs a task below the place; and one above it, among the first n
 abbrev pub is_below : BusState → ℕ → ℕ → Bool
 is_below b p v = any_below p (λ q. get_or b.units q 0 == v)
 
 abbrev pub is_above : BusState → ℕ → ℕ → ℕ → Bool
 is_above b n p v = any_below n (λ q. ltb p q && (get_or b.units q 0 == v))
 
--- among the first n active tasks one above the place has an active dirty line of the word
+-- among the first n active tasks, one above the place has an active dirty line of the word
 abbrev pub is_overtaken_line : BusState → ℕ → ℕ → ℕ → Bool
 is_overtaken_line b n p a = any_below n (λ q. ltb p q && is_some (version_of_line (bus_line_at b q a)))
 
@@ -78,7 +78,7 @@ line_after_write b n p a w v x =
     (cond (v == get_or b.units p 0) (Some (written_bus_line b n p a w)) (marked_line (is_below b p v) (purged_line (line_after_cut b n v x))))
     (line_after_cut b n v x)
 
--- the order after it: the written line stands between those of the tasks below and those of the tasks above
+-- the order after the write: the written line stands between those of the tasks below and those of the tasks above
 abbrev pub order_after_write : BusState → ℕ → ℕ → ℕ → ℕ → ℕ → ℕ → ℕ → Bool
 order_after_write b n p a w x u v =
     (is_dirty_line (line_after_write b n p a w u x) && is_dirty_line (line_after_write b n p a w v x))
@@ -98,7 +98,8 @@ bus_write_leaving b n p a w = record b {
 abbrev pub bus_write : BusState → ℕ → ℕ → ℕ → BusState
 bus_write b p a w = bus_write_leaving b (survivors (bus_map b) p a) p a w
 
--- one unit's line of a word changed and the word's other lines purged: what a bus request and a replacement do to the lines
+-- one unit's line of a word changes, and the word's other lines are purged: what a bus request and a replacement do to
+-- the lines
 abbrev pub line_after_request : BusState → ℕ → ℕ → Option BusLine → ℕ → ℕ → Option BusLine
 line_after_request b u a line v x = cond (x == a) (cond (v == u) line (purged_line (b.lines v x))) (b.lines v x)
 

@@ -1,4 +1,5 @@
--- What the state that callers see says of committed values, of the versioned map and of the supplier of a read: all without numbers.
+-- What the state that callers see says, without numbers, of committed values, the versioned map and the supplier of a
+-- read.
 use Rattle.std.specs.Prelude.{suc, ◌-◌, ℕ, Bool, cond, not, ◌&&◌, ◌||◌, ◌==◌, Option, Some, None, is_some, length, get_or}
 use Rattle.std.specs.Option.{option_or}
 use Rattle.svc_bus_laws.specs.Search.{least, greatest, all_below, tabulate}
@@ -12,7 +13,7 @@ use Rattle.svc_bus_laws.specs.BusState.{BusState}
 abbrev pub bus_line_at : BusState → ℕ → ℕ → Option BusLine
 bus_line_at b p a = b.lines (get_or b.units p 0) a
 
--- the unit has a committed dirty line of the word, and it is older than none
+-- the unit has a committed dirty line of the word, and none is newer
 abbrev pub is_newest_line : BusState → ℕ → ℕ → Bool
 is_newest_line b a u = is_committed_dirty_line (b.lines u a) && all_below b.caches (λ v. not (is_committed_dirty_line (b.lines v a)) || not (b.is_older a u v))
 
@@ -20,7 +21,7 @@ is_newest_line b a u = is_committed_dirty_line (b.lines u a) && all_below b.cach
 abbrev pub bus_newest : BusState → ℕ → Option ℕ
 bus_newest b a = least b.caches (is_newest_line b a)
 
--- the value of the unit's line, else the backing word
+-- the value of the unit's line, otherwise the backing word
 abbrev pub value_of_unit : BusState → ℕ → Option ℕ → ℕ
 value_of_unit b a None = b.backing a
 value_of_unit b a (Some u) = value_of_line (b.lines u a)
@@ -51,7 +52,7 @@ bus_view b p a = view (bus_map b) p a
 abbrev pub bus_victim : BusState → ℕ → ℕ → Option Victim
 bus_victim b p a = victim_answer (bus_map b) p a
 
--- the version at a place that was found, else the spilled value, else what is committed
+-- the version found at a place, otherwise the spilled value, otherwise the committed value
 abbrev pub bus_by_version : BusState → ℕ → Option ℕ → Supplier
 bus_by_version b a (Some q) = Version (get_or b.units q 0)
 bus_by_version b a None = cond (is_some (b.spill a)) Spill (by_committed (bus_newest b a))

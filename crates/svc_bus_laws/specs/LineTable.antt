@@ -63,7 +63,7 @@ abbrev pub task_in : Option Line → ℕ
 task_in None = 0
 task_in (Some l) = l.task
 
--- a line's value, 0 where there is none
+-- a line's value, 0 if there is none
 abbrev pub value_in : Option Line → ℕ
 value_in None = 0
 value_in (Some l) = l.value
@@ -84,7 +84,7 @@ unit_at t p = get_or t.units p 0
 abbrev pub line_at : LineTable → ℕ → ℕ → Option Line
 line_at t p a = t.lines (unit_at t p) a
 
--- no committed dirty line of the word has a greater number than the unit's, which is one
+-- the unit has a committed dirty line of the word, and none has a greater number
 abbrev pub is_newest : LineTable → ℕ → ℕ → Bool
 is_newest t a u = is_committed_dirty (t.lines u a) && all_below t.caches (λ v. not (is_committed_dirty (t.lines v a)) || leb (task_in (t.lines v a)) (task_in (t.lines u a)))
 
@@ -92,16 +92,16 @@ is_newest t a u = is_committed_dirty (t.lines u a) && all_below t.caches (λ v. 
 abbrev pub newest : LineTable → ℕ → Option ℕ
 newest t a = least t.caches (is_newest t a)
 
--- the value of the unit's line, else the backing word
+-- the value of the unit's line, otherwise the backing word
 abbrev pub value_of : LineTable → ℕ → Option ℕ → ℕ
 value_of t a None = t.backing a
 value_of t a (Some u) = value_in (t.lines u a)
 
--- the committed value: of the committed dirty line with the greatest number, else the backing word
+-- the committed value: that of the committed dirty line with the greatest number, otherwise the backing word
 abbrev pub committed_value : LineTable → ℕ → ℕ
 committed_value t a = value_of t a (newest t a)
 
--- the version of the task at a place: the active dirty line, for the head else the spilled value
+-- the version of the task at a place: the active dirty line or, for the head without one, the spilled value
 abbrev pub own_version : LineTable → ℕ → ℕ → Option ℕ
 own_version t p a = option_or (version_in (line_at t p a)) (cond (p == 0) (t.spill a) None)
 

@@ -10,7 +10,7 @@ use Rattle.svc_bus_laws.specs.Walk.{walk}
 abbrev pub CommittedView : Type 0
 CommittedView = (m : Versioned) (p a : ℕ) → ((q : ℕ) → q ≤ p → version m q a ≡ None) → view m p a ≡ m.committed a
 
--- else it reads the version of the greatest place not above its own that has one
+-- otherwise it reads the version of the greatest place not above its own that has one
 abbrev pub NearestView : Type 0
 NearestView = (m : Versioned) (p q a x : ℕ) → q ≤ p → version m q a ≡ Some x → ((r : ℕ) → q < r → r ≤ p → version m r a ≡ None) → view m p a ≡ x
 
@@ -29,7 +29,7 @@ VictimIs = (m : Versioned) (p a v : ℕ) → victim m p a ≡ Some v → IsVicti
 abbrev pub IsTheVictim : Type 0
 IsTheVictim = (m : Versioned) (p a v : ℕ) → IsVictim m p a v → victim m p a ≡ Some v
 
--- where there is no victim, each later task that exposed the word did so behind a version above the writer's
+-- if there is no victim, each later task that exposed the word did so behind a version above the writer's
 abbrev pub NoVictim : Type 0
 NoVictim = (m : Versioned) (p a q : ℕ) → victim m p a ≡ None → p < q → q < length m.rows → is_exposed m q a ≡ true
     → (r : ℕ) × (p < r) × (r < q) × (is_some (version m r a) ≡ true)
@@ -39,15 +39,15 @@ pub record IsWalked (m : Versioned) (p a v : ℕ) : Type 0 where
   pub fresh : (k : ℕ) → p < k → k < v → is_exposed m k a ≡ false
   pub unversioned : (k : ℕ) → p < k → k < v → is_none (version m k a) ≡ true
 
--- a walk that comes to a task that exposed the word has found the victim
+-- a walk that reaches a task that exposed the word has found the victim
 abbrev pub WalkFinds : Type 0
 WalkFinds = (m : Versioned) (p a v : ℕ) → IsWalked m p a v → p < v → v < length m.rows → is_exposed m v a ≡ true → victim m p a ≡ Some v
 
--- a walk that comes to a version of a task that did not expose the word ends without a victim
+-- a walk that reaches a version of a task that did not expose the word ends without a victim
 abbrev pub WalkStops : Type 0
 WalkStops = (m : Versioned) (p a v : ℕ) → IsWalked m p a v → p < v → is_exposed m v a ≡ false → is_none (version m v a) ≡ false → victim m p a ≡ None
 
--- so does one that comes to the end
+-- so does one that reaches the end
 abbrev pub WalkEnds : Type 0
 WalkEnds = (m : Versioned) (p a : ℕ) → IsWalked m p a (length m.rows) → victim m p a ≡ None
 

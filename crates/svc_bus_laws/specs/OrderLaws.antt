@@ -1,4 +1,4 @@
--- The order of a word's dirty lines that callers see.
+-- The order of a word's dirty lines, as callers see it.
 use Rattle.std.specs.Prelude.{◌≡◌, ◌≢◌, ◌⊎◌, ℕ, ◌<◌, true, false, ltb, is_some, length, get_or}
 use Rattle.svc_bus_laws.specs.LineTable.{LineTable}
 use Rattle.svc_bus_laws.specs.BusLine.{is_dirty_line, is_committed_dirty_line, version_of_line}
@@ -13,6 +13,7 @@ OrderDirty = (b : BusState) (t : LineTable) (a u v : ℕ) → Agrees b t → b.i
 abbrev pub OrderStrict : Type 0
 OrderStrict = (b : BusState) (t : LineTable) (a u v : ℕ) → Agrees b t → b.is_older a u v ≡ true → b.is_older a v u ≡ false
 
+-- a line older than an older one is older
 abbrev pub OrderTransitive : Type 0
 OrderTransitive = (b : BusState) (t : LineTable) (a u v w : ℕ) → Agrees b t → b.is_older a u v ≡ true → b.is_older a v w ≡ true → b.is_older a u w ≡ true
 

@@ -4,7 +4,7 @@ use Rattle.svc_bus_laws.specs.LineTable.{LineTable, opened, unit_at}
 use Rattle.svc_bus_laws.specs.Steps.{read, write, replace, squash, commit, begin}
 use Rattle.svc_bus_laws.specs.Refusals.{table_cache, is_pinned}
 
--- an opened table, and at least each step of a reached one that is not refused
+-- an opened table, and each step of a reached one that is not refused
 pub data Reached : LineTable → Type 0 where
   Opened : (caches sets ways : ℕ) (memory : List ℕ) → Reached (opened caches sets ways memory)
   Begun : (t : LineTable) (u : ℕ) → Reached t → u < t.caches → ((p : ℕ) → p < length t.units → unit_at t p ≢ u) → Reached (begin t u)

@@ -4,14 +4,15 @@ use Rattle.svc_bus_laws.specs.LineTable.{LineTable, is_active, unit_at}
 use Rattle.svc_bus_laws.specs.BusState.{BusState, Agrees}
 use Rattle.svc_bus_laws.specs.Refusals.{CacheState, bus_cache, table_cache, is_set_full, set_full, is_not_resident, is_pinned, IsNamed}
 
--- a read or write is refused exactly where the word has no valid line and its set is full
+-- a read or write is refused exactly when the word has no valid line and its set is full
 abbrev pub FullRefuses : Type 0
 FullRefuses = (c : CacheState) (a : ℕ) → 0 < c.ways → is_set_full c a ≡ true → (b : ℕ) × (set_full c a ≡ Some b)
 
+-- a word whose set isn't full is not refused
 abbrev pub RoomAllows : Type 0
 RoomAllows = (c : CacheState) (a : ℕ) → is_set_full c a ≡ false → set_full c a ≡ None
 
--- the address that is named
+-- the address that the refusal names
 abbrev pub NamedAddress : Type 0
 NamedAddress = (c : CacheState) (a b : ℕ) → set_full c a ≡ Some b → IsNamed c a b
 

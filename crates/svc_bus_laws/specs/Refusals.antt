@@ -1,4 +1,5 @@
--- When a read, a write or a replacement is refused. All is said of one unit's cache as callers see it, so it is the same for a bus and for a line table.
+-- When a read, a write or a replacement is refused. This depends on one unit's cache as callers see it, so it is the
+-- same for a bus and for a line table.
 use Rattle.std.specs.Prelude.{◌≡◌, ℕ, ◌<◌, ◌%◌, Bool, true, false, cond, not, ◌&&◌, ◌==◌, ltb, leb, Option, None, is_some, is_none, List, length, get_or}
 use Rattle.std.specs.Option.{option_or}
 use Rattle.svc_bus_laws.specs.Search.{least, how_many}
@@ -32,15 +33,15 @@ is_committed_in_set c a w = is_in_set c a w && is_committed_line (c.lines w)
 abbrev pub is_set_full : CacheState → ℕ → Bool
 is_set_full c a = is_none (c.lines a) && leb c.ways (how_many c.words (is_in_set c a))
 
--- the lowest word of the set whose line is committed; where no line of the set is, the lowest with a line
+-- the lowest word of the set whose line is committed; if no line of the set is, the lowest with a line
 abbrev pub full_address : CacheState → ℕ → Option ℕ
 full_address c a = option_or (least c.words (is_committed_in_set c a)) (least c.words (is_in_set c a))
 
--- the address that a refused read or write of the word names, if they are refused
+-- the address that a refused read or write of the word names, if it is refused
 abbrev pub set_full : CacheState → ℕ → Option ℕ
 set_full c a = cond (is_set_full c a) (full_address c a) None
 
--- a replacement of the word is refused since there is no valid line of it
+-- a replacement of the word is refused because the unit has no valid line of it
 abbrev pub is_not_resident : CacheState → ℕ → Bool
 is_not_resident c a = is_none (c.lines a)
 
@@ -48,15 +49,15 @@ is_not_resident c a = is_none (c.lines a)
 abbrev pub is_head : List ℕ → ℕ → Bool
 is_head units u = ltb 0 (length units) && (get_or units 0 0 == u)
 
--- a replacement of the word by the unit is refused since the line is active and not the head's
+-- a replacement of the word by the unit is refused because the line is active and not the head's
 abbrev pub is_pinned : CacheState → List ℕ → ℕ → ℕ → Bool
 is_pinned c units u a = is_active_line (c.lines a) && not (is_head units u)
 
--- what holds of the address that is named: it has a line in the set, committed where any of the set is, and no lower one of that kind
+-- the address named has a line in the set, a committed one if any of the set is, and no lower one of that kind
 pub record IsNamed (c : CacheState) (a b : ℕ) : Type 0 where
   pub in_memory : b < c.words
   pub in_set : is_in_set c a b ≡ true
-  -- a lower line of the set is passed over only where it is uncommitted and the named one is committed
+  -- a lower line of the set is passed over only if it is uncommitted and the named one is committed
   pub least : (w : ℕ) → w < b → is_in_set c a w ≡ true → (is_committed_line (c.lines w) ≡ false) × (is_committed_line (c.lines b) ≡ true)
-  -- an uncommitted line is named only where none of the set is committed
+  -- an uncommitted line is named only if none of the set is committed
   pub preferred : (w : ℕ) → w < c.words → is_committed_in_set c a w ≡ true → is_committed_line (c.lines b) ≡ true

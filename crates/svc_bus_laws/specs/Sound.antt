@@ -9,7 +9,7 @@ pub record IsActiveLine (t : LineTable) (a : ℕ) (l : Line) (p : ℕ) : Type 0 
   pub task_is : l.task ≡ t.commits + p
   -- it holds what its task reads
   pub current : l.value ≡ view (versioned t) p a
-  -- if it is clean, it has L, unless its task is the head
+  -- if it is clean it has L, unless its task is the head
   pub loaded : l.store ≡ false → (p ≡ 0) ⊎ (l.load ≡ true)
 
 -- what holds of a committed line of the word
@@ -20,7 +20,7 @@ pub record IsCommittedLine (t : LineTable) (a : ℕ) (l : Line) : Type 0 where
 
 -- what holds of a valid line of the word in the unit's cache
 pub record IsSoundLine (t : LineTable) (u a : ℕ) (l : Line) : Type 0 where
-  -- it lies in a cache that there is, and not past the memory
+  -- it lies in one of the caches, and not past the memory
   pub cached : u < t.caches
   pub in_memory : a < t.words
   pub active : l.commit ≡ false → (p : ℕ) × (unit_at t p ≡ u) × IsActiveLine t a l p
@@ -28,15 +28,16 @@ pub record IsSoundLine (t : LineTable) (u a : ℕ) (l : Line) : Type 0 where
   -- without T, no task above the line's has a version
   pub unmarked : l.stale ≡ false → (q : ℕ) → q < length t.units → l.task < t.commits + q → own_version t q a ≡ None
 
--- what holds where a value of the word is spilled: it is the head's only version, and no committed dirty line is left
+-- what holds if a value of the word is spilled: it is the head's only version, and no committed dirty line is left
 pub record IsSpilled (t : LineTable) (a : ℕ) : Type 0 where
   pub in_memory : a < t.words
   pub has_head : 0 < length t.units
   pub replaced : version_in (line_at t 0 a) ≡ None
   pub purged : (u : ℕ) → is_committed_dirty (t.lines u a) ≡ false
 
+-- the invariant of every step
 pub record IsSound (t : LineTable) : Type 0 where
-  -- the active tasks are on units of their own, of which there are caches
+  -- the active tasks run on different units, each with a cache
   pub distinct_units : (p q : ℕ) → p < length t.units → q < length t.units → unit_at t p ≡ unit_at t q → p ≡ q
   pub known_units : (p : ℕ) → p < length t.units → unit_at t p < t.caches
   pub sound_lines : (u a : ℕ) (l : Line) → t.lines u a ≡ Some l → IsSoundLine t u a l

@@ -1,18 +1,19 @@
--- What every state that callers see satisfies, where it agrees with a line table.
+-- What every state that agrees with a line table satisfies.
 use Rattle.std.specs.Prelude.{◌≡◌, ℕ, ◌<◌, ◌≤◌, true, false, None, is_some, length, get_or}
 use Rattle.svc_bus_laws.specs.BusLine.{is_active_line, is_committed_dirty_line, version_of_line}
 use Rattle.svc_bus_laws.specs.BusState.{BusState}
 use Rattle.svc_bus_laws.specs.BusView.{bus_line_at}
 
--- what holds where a value of the word is spilled
+-- what holds if a value of the word is spilled
 pub record IsSpilledState (b : BusState) (a : ℕ) : Type 0 where
   pub in_memory : a < b.words
   pub has_head : 0 < length b.units
   pub replaced : version_of_line (bus_line_at b 0 a) ≡ None
   pub purged : (u : ℕ) → is_committed_dirty_line (b.lines u a) ≡ false
 
+-- what such a state satisfies
 pub record IsSoundState (b : BusState) : Type 0 where
-  -- the active tasks are on units of their own, each with a cache
+  -- the active tasks run on different units, each with a cache
   pub distinct_units : (p q : ℕ) → p < length b.units → q < length b.units → get_or b.units p 0 ≡ get_or b.units q 0 → p ≡ q
   pub known_units : (p : ℕ) → p < length b.units → get_or b.units p 0 < b.caches
   -- no line lies past the caches or past the memory

@@ -1,5 +1,5 @@
--- The steps of the bus on the line table, pointwise. What is not named stays.
--- A commit writes nothing back but spilled values: versions go to memory when their word is next purged (lazy commit).
+-- The steps of the bus on the line table, pointwise. What is not named stays. A commit writes back nothing but spilled
+-- values: versions go to memory when their word is next purged (lazy commit).
 use Rattle.std.specs.Prelude.{ℕ, suc, ◌+◌, Bool, true, false, cond, not, ◌&&◌, ◌||◌, ◌==◌, ltb, leb, Option, Some, None, is_some, unwrap_or, [], ◌∷◌, ◌++◌, length, take, drop}
 use Rattle.std.specs.Option.{option_or}
 use Rattle.svc_bus_laws.specs.Search.{any_below}
@@ -39,7 +39,7 @@ abbrev pub reused : ℕ → Option Line → Option Line
 reused n None = None
 reused n (Some l) = Some (record l { commit = false; load = true; task = n })
 
--- among the first n active tasks one above the place has an active dirty line of the word
+-- among the first n active tasks, one above the place has an active dirty line of the word
 abbrev pub is_overtaken : LineTable → ℕ → ℕ → ℕ → Bool
 is_overtaken t n p a = any_below n (λ q. ltb p q && is_some (version_in (line_at t q a)))
 
@@ -99,7 +99,7 @@ squash t n = record t {
 abbrev pub squash_from : LineTable → ℕ → LineTable
 squash_from t u = squash t (unwrap_or (place_of t.units u) (length t.units))
 
--- a write of the word by the task at a place, without the squash that follows from it
+-- a write of the word by the task at a place, without the squash that follows it
 abbrev pub store : LineTable → ℕ → ℕ → ℕ → LineTable
 store t p a w = record t {
   lines = with_line t.lines (unit_at t p) a (Some (written_line t p a w)) (λ line. marked (t.commits + p) (purged line));
@@ -111,7 +111,7 @@ store t p a w = record t {
 abbrev pub write : LineTable → ℕ → ℕ → ℕ → LineTable
 write t p a w = squash (store t p a w) (survivors t p a)
 
--- the unit's line of the word is taken out, and the head's version goes to the spill table
+-- the unit's line of the word becomes invalid, and the head's version goes to the spill table
 abbrev pub replace : LineTable → ℕ → ℕ → LineTable
 replace t u a = record t {
   lines = with_line t.lines u a None purged;
@@ -129,11 +129,11 @@ commit t = record t {
   units = drop 1 t.units;
 }
 
--- the idle unit's new task goes last
+-- the idle unit's new task joins as the youngest
 abbrev pub begin : LineTable → ℕ → LineTable
 begin t u = record t { units = t.units ++ u ∷ [] }
 
--- the word's newest committed dirty line goes to the backing memory, and all of them become invalid
+-- the word's newest committed dirty line goes to the backing memory, and all its committed dirty lines become invalid
 abbrev pub purge : LineTable → ℕ → LineTable
 purge t a = record t {
   lines = λ v b. cond (b == a) (purged (t.lines v b)) (t.lines v b);

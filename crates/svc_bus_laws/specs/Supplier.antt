@@ -3,7 +3,8 @@ use Rattle.std.specs.Prelude.{true, false, Bool, ℕ, cond, Option, Some, None, 
 use Rattle.svc_bus_laws.specs.Search.{greatest}
 use Rattle.svc_bus_laws.specs.LineTable.{LineTable, is_active, is_reusable, version_in, value_in, unit_at, line_at, newest}
 
--- the unit's own active line; its own reusable line; the active dirty line of a unit; the spilled value; the committed dirty line of a unit; the backing memory
+-- the unit's own active line; its own reusable line; the active dirty line of a unit; the spilled value; the committed
+-- dirty line of a unit; the backing memory
 pub data Supplier : Type 0 where
   Hit : Supplier
   Reuse : Supplier
@@ -12,17 +13,18 @@ pub data Supplier : Type 0 where
   Committed : ℕ → Supplier
   Memory : Supplier
 
--- the newest committed dirty line, else the memory
+-- the newest committed dirty line, otherwise the memory
 abbrev pub by_committed : Option ℕ → Supplier
 by_committed None = Memory
 by_committed (Some u) = Committed u
 
--- the version at a place that was found, else the spilled value, else what is committed
+-- the version found at a place, otherwise the spilled value, otherwise the committed value
 abbrev pub by_version : LineTable → ℕ → Option ℕ → Supplier
 by_version t a (Some q) = Version (unit_at t q)
 by_version t a None = cond (is_some (t.spill a)) Spill (by_committed (newest t a))
 
--- the first that applies: the unit's own active line, its reusable line, the active dirty line of the greatest task below, the spilled value, the newest committed dirty line, the memory
+-- the first that exists: the unit's own active line, its reusable line, the active dirty line of the greatest task
+-- below, the spilled value, the newest committed dirty line, the memory
 abbrev pub supplier : LineTable → ℕ → ℕ → Supplier
 supplier t p a =
     cond (is_active (line_at t p a)) Hit
@@ -38,6 +40,7 @@ supplied t p a Spill = t.spill a
 supplied t p a (Committed u) = Some (value_in (t.lines u a))
 supplied t p a Memory = Some (t.backing a)
 
+-- the supplier is the spilled value
 abbrev pub is_spill : Supplier → Bool
 is_spill Hit = false
 is_spill Reuse = false

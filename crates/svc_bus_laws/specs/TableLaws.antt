@@ -27,7 +27,7 @@ MemoryLaw = (t : LineTable) (u a : ℕ) → IsSound t → t.words ≤ a → t.li
 abbrev pub ReadLaw : Type 0
 ReadLaw = (t : LineTable) (p a : ℕ) → IsSound t → p < length t.units → a < t.words → IsSound (read t p a) × (versioned (read t p a) ≡ map.read (versioned t) p a)
 
--- a hit and a reuse answer from the line what the task reads
+-- at a hit and at a reuse the unit's own line holds what the task reads
 abbrev pub OwnLineLaw : Type 0
 OwnLineLaw = (t : LineTable) (p a : ℕ) → IsSound t → p < length t.units → (is_active (line_at t p a) ≡ true) ⊎ (is_reusable (line_at t p a) ≡ true)
     → value_in (line_at t p a) ≡ view (versioned t) p a
@@ -36,7 +36,7 @@ OwnLineLaw = (t : LineTable) (p a : ℕ) → IsSound t → p < length t.units �
 abbrev pub SupplierLaw : Type 0
 SupplierLaw = (t : LineTable) (p a : ℕ) → IsSound t → p < length t.units → supplied t p a (supplier t p a) ≡ Some (view (versioned t) p a)
 
--- the head's bus request is supplied by the spill exactly where the word has a spilled value (and then its line has no L)
+-- the spill supplies the head's bus request exactly when the word has a spilled value (and then its line has no L)
 abbrev pub SpillSupplies : Type 0
 SpillSupplies = (t : LineTable) (a : ℕ) → is_active (line_at t 0 a) ≡ false → is_reusable (line_at t 0 a) ≡ false → is_spill (supplier t 0 a) ≡ is_some (t.spill a)
 
@@ -56,7 +56,7 @@ ReplaceLaw = (t : LineTable) (u a : ℕ) → IsSound t → is_pinned (table_cach
 abbrev pub SquashLaw : Type 0
 SquashLaw = (t : LineTable) (n : ℕ) → IsSound t → 0 < n → n ≤ length t.units → IsSound (squash t n) × (versioned (squash t n) ≡ map.squash (versioned t) n)
 
--- the lines that a squash takes out are those of the cut tasks' numbers
+-- a squash takes out the lines with the cut tasks' numbers
 abbrev pub SquashNumbers : Type 0
 SquashNumbers = (t : LineTable) (n : ℕ) → IsSound t → (u a : ℕ) → (squash t n).lines u a ≡ squashed (t.commits + n) (t.lines u a)
 
@@ -68,7 +68,8 @@ SquashFrom = (t : LineTable) (n : ℕ) → IsSound t → n < length t.units → 
 abbrev pub CommitLaw : Type 0
 CommitLaw = (t : LineTable) → IsSound t → 0 < length t.units → IsSound (commit t) × (versioned (commit t) ≡ map.commit (versioned t))
 
--- a spilled value is what the head reads, is not committed before its commit, and is then the committed value and the backing word
+-- the head reads a spilled value; before its commit that value isn't committed, and after it, it is the committed value
+-- and the backing word
 pub record IsKeptSpill (t : LineTable) (a s : ℕ) : Type 0 where
   pub seen : view (versioned t) 0 a ≡ s
   pub before : committed_value t a ≡ t.backing a
@@ -78,7 +79,7 @@ pub record IsKeptSpill (t : LineTable) (a s : ℕ) : Type 0 where
 abbrev pub SpillLaw : Type 0
 SpillLaw = (t : LineTable) (a s : ℕ) → IsSound t → t.spill a ≡ Some s → IsKeptSpill t a s
 
--- a beginning of an idle unit's task
+-- an idle unit begins a task
 abbrev pub BeginLaw : Type 0
 BeginLaw = (t : LineTable) (u : ℕ) → IsSound t → u < t.caches → ((p : ℕ) → p < length t.units → unit_at t p ≢ u) → IsSound (begin t u) × (versioned (begin t u) ≡ map.begin (versioned t))
 

@@ -1,6 +1,6 @@
--- The versioned map: one committed value a word, and what each active task has written and read.
--- It is what the bus stands for, without caches. Tasks retire in order, the head first ("Multiscalar Processors", ISCA 1995).
--- A task is named by its place, which is its number less the number of commits: place 0 is the head, and above means later.
+-- The versioned map: one committed value for each word, and what each active task has written and read. The bus stands
+-- for it; it has no caches. Tasks retire in order, the head first ("Multiscalar Processors", ISCA 1995). A task is
+-- named by its place, which is its number less the number of commits: place 0 is the head, and above means later.
 use Rattle.std.specs.Prelude.{ℕ, zero, suc, ◌+◌, ◌-◌, Bool, false, cond, not, ◌&&◌, ◌||◌, ◌==◌, ltb, leb, Option, Some, None, is_none, unwrap_or, option_map, List, [], ◌∷◌, ◌++◌, length, get_or, take, drop, set}
 use Rattle.svc_bus_laws.specs.Search.{least, all_below}
 
@@ -9,7 +9,8 @@ pub record Row : Type 0 where
   pub versions : ℕ → Option ℕ
   pub exposed : ℕ → Bool
 
--- committed values by word address, and the active tasks, oldest first: the row at place p is the task numbered commits + p
+-- committed values by word address, and the active tasks, oldest first: the row at place p is the task numbered commits
+-- + p
 pub record Versioned : Type 0 where
   pub commits : ℕ
   pub committed : ℕ → ℕ
@@ -31,12 +32,13 @@ version m p a = (row_at m p).versions a
 abbrev pub is_exposed : Versioned → ℕ → ℕ → Bool
 is_exposed m p a = (row_at m p).exposed a
 
--- the version at the greatest place below the bound that has one, else the base
+-- the version at the greatest place below the bound that has one, otherwise the base
 abbrev pub latest : (ℕ → Option ℕ) → ℕ → ℕ → ℕ
 latest versions base zero = base
 latest versions base (suc n) = unwrap_or (versions n) (latest versions base n)
 
--- what the task at a place reads: the version at the greatest place not above it that has one, else the committed value
+-- what the task at a place reads: the version at the greatest place not above it that has one, otherwise the committed
+-- value
 abbrev pub view : Versioned → ℕ → ℕ → ℕ
 view m p a = latest (λ q. version m q a) (m.committed a) (suc p)
 
@@ -44,7 +46,7 @@ view m p a = latest (λ q. version m q a) (m.committed a) (suc p)
 abbrev pub none_between : Versioned → ℕ → ℕ → ℕ → Bool
 none_between m p v a = all_below v (λ r. leb r p || is_none (version m r a))
 
--- the least place above that exposed the word, with no version strictly between
+-- the least place above that exposed the word, if no task strictly between has a version
 abbrev pub victim : Versioned → ℕ → ℕ → Option ℕ
 victim m p a = least (length m.rows) (λ v. (ltb p v && is_exposed m v a) && none_between m p v a)
 
@@ -52,7 +54,7 @@ victim m p a = least (length m.rows) (λ v. (ltb p v && is_exposed m v a) && non
 abbrev pub survivors : Versioned → ℕ → ℕ → ℕ
 survivors m p a = unwrap_or (victim m p a) (length m.rows)
 
--- what a write answers where it has a victim: the number of the first task cut, and how many are cut
+-- what a write with a victim answers: the number of the first task cut, and how many are cut
 pub record Victim : Type 0 where
   pub first : ℕ
   pub tasks : ℕ
@@ -61,7 +63,7 @@ pub record Victim : Type 0 where
 abbrev pub victim_answer : Versioned → ℕ → ℕ → Option Victim
 victim_answer m p a = option_map (λ v. record { first = m.commits + v; tasks = length m.rows - v }) (victim m p a)
 
--- a task begins, the last
+-- a task begins, as the youngest
 abbrev pub begin : Versioned → Versioned
 begin m = record m { rows = m.rows ++ fresh_row ∷ [] }
 
@@ -81,7 +83,7 @@ written_row r a w = record r { versions = λ b. cond (a == b) (Some w) (r.versio
 abbrev pub write : Versioned → ℕ → ℕ → ℕ → Versioned
 write m p a w = record m { rows = take (survivors m p a) (set m.rows p (written_row (row_at m p) a w)) }
 
--- the rows where the first has just become the head's: its reads are no longer recorded
+-- the rows once the first is the head's: its reads are no longer recorded
 abbrev pub with_head : List Row → List Row
 with_head [] = []
 with_head (r ∷ rows) = record r { exposed = λ a. false } ∷ rows

@@ -3,8 +3,8 @@
 ghost use Rattle.svc_bus_laws.specs.AgreementLaws.{OpenedAgrees, OwnState, SameAgrees, SoundSeen, CommittedSeen, MapSeen, ViewSeen, VictimSeen, SupplierSeen, SuppliedSeen, WalkSeen, ReadAgrees, WriteAgrees, ReplaceAgrees, SquashAgrees, CommitAgrees, BeginAgrees, AlikeReads, AlikeWrites, AlikeReplacements, AlikeSquashes, AlikeCommits, AlikeBeginnings, AlikeMaps};
 ghost use Rattle.svc_bus_laws.specs.OrderLaws.{OrderDirty, OrderStrict, OrderTransitive, OrderTotal, CommittedFirst, TaskOrder};
 
-/// The opened bus agrees with the opened table, and a sound table's own state with it. A state that agrees satisfies what
-/// its table satisfies, and its look-ups decide nothing.
+/// The opened bus agrees with the opened table, and a sound table's own state with the table. A state that agrees
+/// satisfies what its table satisfies, and its look-ups decide nothing.
 pub fn state_law()
     ensures opened { OpenedAgrees }
     ensures own { OwnState }
@@ -12,7 +12,7 @@ pub fn state_law()
     ensures sound { SoundSeen }
 {}
 
-/// The committed values, the versioned map, with it each view and victim, and the supplier of a read are seen without
+/// The committed values, the versioned map (with it each view and victim) and the supplier of a read are seen without
 /// numbers, and are those of every table that agrees. The supplier that is seen holds the view, and the walk over the
 /// lines that are seen finds the victim.
 pub fn seen_law()
@@ -25,8 +25,8 @@ pub fn seen_law()
     ensures walk { WalkSeen }
 {}
 
-/// The order of a word's dirty lines that callers see is strict and total: committed ones first, then active ones in the
-/// order of their tasks.
+/// The order of a word's dirty lines that callers see is strict and total: committed ones first, then active ones in
+/// the order of their tasks.
 pub fn order_law()
     ensures dirty { OrderDirty }
     ensures strict { OrderStrict }
@@ -46,8 +46,8 @@ pub fn agreement_law()
     ensures begin { BeginAgrees }
 {}
 
-/// So the steps respect numbers' order alone: tables that are alike but for numbers with the same order are alike again
-/// after a step, and stand for one map.
+/// So the steps depend only on the order of the numbers: tables that are alike are alike again after a step, and stand
+/// for one map.
 pub fn alike_law()
     ensures read { AlikeReads }
     ensures write { AlikeWrites }

@@ -6,10 +6,10 @@
 //! satisfies (`Sound`); the state that callers see, in which lines have no numbers (`BusLine`, `BusState`, `BusView`,
 //! `BusSteps`); and when a request is refused (`Refusals`).
 //!
-//! There is no code here but functions with empty bodies, each of which has laws as its contract.
+//! The only code is functions with empty bodies, whose contracts are the laws.
 //!
 //! Terms: Gopal, Vijaykumar, Smith, Sohi, "Speculative Versioning Cache", HPCA 1998, the efficient commit design (EC).
-//! The rules themselves are this project's own, and docs/definitions.md states them in words.
+//! The rules themselves are this project's own, and docs/bus-rules.md states them in words.
 #![tactic(auto)]
 
 mod agreement;

@@ -2,7 +2,7 @@
 
 ghost use Rattle.svc_bus_laws.specs.MapLaws.{CommittedView, NearestView, VictimIs, IsTheVictim, NoVictim, WalkFinds, WalkStops, WalkEnds, WalkIs, ViewByRows, VictimByRows, ReadByRows, WriteByRows, CommitByRows};
 
-/// A task reads the version of the latest task not after it that has one, else the committed value.
+/// A task reads the version of the latest task not after it that has one, otherwise the committed value.
 pub fn view_law()
     ensures committed { CommittedView }
     ensures nearest { NearestView }
@@ -15,8 +15,8 @@ pub fn victim_law()
     ensures none { NoVictim }
 {}
 
-/// A walk over the later tasks, in order, finds the victim: it ends at the first that exposed the word, which is the
-/// victim, or at the first that only stored to it, and then there is none.
+/// A walk over the later tasks, in order, finds the victim. It ends at the first that exposed the word, which is the
+/// victim, or at the first that only stored to it; then there is none.
 pub fn walk_law()
     ensures finds { WalkFinds }
     ensures stops { WalkStops }
@@ -24,8 +24,8 @@ pub fn walk_law()
     ensures whole { WalkIs }
 {}
 
-/// The view, the victim and the steps by recursion on the rows are those of the map. (A beginning and a squash are the
-/// same in both forms as they stand.)
+/// The view, the victim and the steps by recursion on the rows are those of the map. (A beginning and a squash are
+/// stated the same way in both forms.)
 pub fn rows_law()
     ensures view { ViewByRows }
     ensures victim { VictimByRows }

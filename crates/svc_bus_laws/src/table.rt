@@ -18,8 +18,8 @@ pub fn read_law()
     ensures { ReadLaw }
 {}
 
-/// The supplier of a read holds what the task reads; so does the unit's own line at a hit and at a reuse. The head's bus
-/// request is supplied by the spill exactly where the word has a spilled value.
+/// The supplier of a read holds what the task reads; so does the unit's own line at a hit and at a reuse. The spill
+/// supplies the head's bus request exactly when the word has a spilled value.
 pub fn supplier_law()
     ensures value { SupplierLaw }
     ensures own { OwnLineLaw }
@@ -37,15 +37,15 @@ pub fn replace_law()
     ensures { ReplaceLaw }
 {}
 
-/// A squash keeps the table sound, and is the map's cut. The lines that it takes out are those of the cut tasks'
-/// numbers, and a squash from a unit on is one from its task's place on.
+/// A squash keeps the table sound, and is the map's cut. It takes out the lines with the cut tasks' numbers, and a
+/// squash from a unit on is one from its task's place on.
 pub fn squash_law()
     ensures squash { SquashLaw }
     ensures numbers { SquashNumbers }
     ensures from_unit { SquashFrom }
 {}
 
-/// A commit keeps the table sound, and is the map's commit. What was spilled is uncommitted before it, and in memory
+/// A commit keeps the table sound, and is the map's commit. A spilled value is uncommitted before it, and in memory
 /// after it.
 pub fn commit_law()
     ensures commit { CommitLaw }

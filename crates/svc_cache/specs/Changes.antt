@@ -4,14 +4,14 @@ use Rattle.svc_line.specs.Bits.{Bits, bits_of}
 use Rattle.svc_cache.specs.declared.place.Place.{Place}
 use Rattle.svc_cache.specs.Rows.{place_at}
 
--- a place keeps its word, its value and its link, and its bits change
+-- a place keeps its word, its value and its link; its bits change
 pub record HasChangedBits (change : Bits → Bits) (before after : Place) : Type 0 where
   pub word : after.word ≡ before.word
   pub value : after.line.value ≡ before.line.value
   pub next : after.line.next ≡ before.line.next
   pub bits : bits_of after.line.bits ≡ change (bits_of before.line.bits)
 
--- the bits of the first so many places have changed, and the other places are as they were
+-- the bits of the first n places have changed, and the other places are as they were
 pub record IsChangedBelow (change : Bits → Bits) (count : ℕ) (before after : List Place) : Type 0 where
   pub size : length after ≡ length before
   pub changed : (k : ℕ) → k < count → HasChangedBits change (place_at before k) (place_at after k)

@@ -5,6 +5,7 @@ use Rattle.svc_line.specs.Bits.{is_active, is_committed, committed}
 use Rattle.svc_line.specs.Line.{SeenLine}
 use Rattle.svc_cache.specs.Search.{least, how_many}
 
+-- the line of each word, if any
 abbrev pub LineMap : Type 0
 LineMap = ℕ → Option SeenLine
 
@@ -25,7 +26,7 @@ abbrev pub commit_line : Option SeenLine → Option SeenLine
 commit_line None = None
 commit_line (Some line) = Some (record line { bits = committed line.bits })
 
--- an active line is there no more
+-- an active line becomes invalid
 abbrev pub squash_line : Option SeenLine → Option SeenLine
 squash_line None = None
 squash_line (Some line) = if is_active line.bits then None else Some line
@@ -47,10 +48,10 @@ is_committed_in_set sets lines word other = is_in_set sets lines word other && i
 abbrev pub is_set_full : (sets ways bound : ℕ) → LineMap → ℕ → Bool
 is_set_full sets ways bound lines word = is_none (lines word) && nat_le ways (how_many bound (is_in_set sets lines word))
 
--- the lowest word of the set whose line is committed; where no line of the set is, the lowest with a line
+-- the lowest word of the set whose line is committed; if no line of the set is, the lowest with a line
 abbrev pub first_to_leave : (sets bound : ℕ) → LineMap → ℕ → Option ℕ
 first_to_leave sets bound lines word = option_or (least bound (is_committed_in_set sets lines word)) (least bound (is_in_set sets lines word))
 
--- the word to be replaced before the given one can have a line, where its set is full
+-- the word to replace before the given one can have a line, if its set is full
 abbrev pub full_address : (sets ways bound : ℕ) → LineMap → ℕ → Option ℕ
 full_address sets ways bound lines word = if is_set_full sets ways bound lines word then first_to_leave sets bound lines word else None

@@ -5,7 +5,7 @@ use Rattle.svc_line.specs.Line.{seen}
 use Rattle.svc_cache.specs.Lines.{LineMap}
 use Rattle.svc_cache.specs.declared.place.Place.{Place}
 
--- what a cache holds: its callers ask for sets, ways and `line_of` alone
+-- what a cache holds; its callers see only sets, ways and `line_of`
 pub record CacheValue : Type 0 where
   pub sets : ℕ
   pub ways : ℕ
@@ -36,7 +36,7 @@ line_of cache word = found (row_at cache (word % cache.sets)) word
 abbrev pub has_committed : Place → Bool
 has_committed place = is_committed (bits_of place.line.bits)
 
--- the place's line leaves before the other's: a committed line before an active one, and else the lower word
+-- this place's line leaves before the other's: a committed line before an active one, otherwise the lower word
 abbrev pub precedes : Place → Place → Bool
 precedes place other =
     if has_committed place then (not (has_committed other) || nat_lt place.word.0 other.word.0)

@@ -12,7 +12,7 @@ no_place = record { word = record { 0 = 0 }; line = record { value = 0; bits = r
 abbrev pub place_at : List Place → ℕ → Place
 place_at row place = get_or row place no_place
 
--- none of the first so many places holds the word
+-- none of the first n places holds the word
 pub record LacksBelow (row : List Place) (count word : ℕ) : Type 0 where
   pub lacks : (place : ℕ) → place < count → holds (place_at row place) word ≡ false
 
@@ -22,7 +22,7 @@ pub record IsFirstHolder (row : List Place) (word place : ℕ) : Type 0 where
   pub here : holds (place_at row place) word ≡ true
   pub first : LacksBelow row place word
 
--- the first place that holds the word, where one does
+-- the first place that holds the word, if any
 abbrev pub IsFoundAt : List Place → ℕ → Option ℕ → Type 0
 IsFoundAt row word None = LacksBelow row (length row) word
 IsFoundAt row word (Some place) = IsFirstHolder row word place
@@ -33,11 +33,11 @@ pub record IsEmptySeat (row : List Place) (word place : ℕ) : Type 0 where
   pub empty : is_held (place_at row place) ≡ false
   pub lacks : LacksBelow row (length row) word
 
--- each of the first so many places has a line
+-- each of the first n places has a line
 pub record AreHeld (row : List Place) (count : ℕ) : Type 0 where
   pub held : (place : ℕ) → place < count → is_held (place_at row place) ≡ true
 
--- none of the first so many places precedes this one
+-- none of the first n places precedes this one
 pub record IsFirstToLeave (row : List Place) (count victim : ℕ) : Type 0 where
   pub within : victim < length row
   pub unpreceded : (place : ℕ) → place < count → precedes (place_at row place) (place_at row victim) ≡ false
@@ -54,12 +54,12 @@ pub record IsFullRow (row : List Place) (word named : ℕ) : Type 0 where
 abbrev pub IsSeat : List Place → ℕ → ℕ → Type 0
 IsSeat row word place = IsFirstHolder row word place ⊎ IsEmptySeat row word place
 
--- an empty place among the first so many, or none where all of them have lines
+-- an empty place among the first n, or none if all of them have lines
 abbrev pub IsRoomBelow : List Place → ℕ → Option ℕ → Type 0
 IsRoomBelow row count None = AreHeld row count
 IsRoomBelow row count (Some place) = (place < count) × (is_held (place_at row place) ≡ false)
 
--- what a survey of the first so many places knows
+-- what a survey of the first n places knows
 pub record IsSurvey (row : List Place) (count : ℕ) (survey : Survey) : Type 0 where
   pub room : IsRoomBelow row count survey.empty
   pub leaves : IsFirstToLeave row count survey.victim

@@ -15,6 +15,7 @@ unfoldable pub IsSoundRow : (sets set : ℕ) → List Place → Type 0
 IsSoundRow sets set [] = ⊤
 IsSoundRow sets set (place ∷ places) = (is_held place ≡ true → (place.word.0 % sets ≡ set) × (found places place.word.0 ≡ None)) × IsSoundRow sets set places
 
+-- what the type of a cache guarantees
 pub record IsSound (cache : CacheValue) : Type 0 where
   pub power : IsTrue (is_power_of_two cache.sets)
   pub few_sets : cache.sets ≤ MAX_SETS

@@ -19,7 +19,7 @@ use svc_line::Line;
 
 /// A cache of one unit.
 ///
-/// Contracts see the map `line_of` from word address to line. A line without V isn't in it.
+/// Contracts see the map `line_of` from word address to line, which has no line without V.
 #[derive(Drop)]
 pub struct Cache {
     sets: u32,
@@ -101,8 +101,8 @@ impl Cache {
         Some(row[place].line)
     }
 
-    /// The word whose line has to be replaced before a line of `word` can be filled: there is one
-    /// exactly when `word` has no line and its set is full.
+    /// The word whose line has to be replaced before a line of `word` can be filled. There is one exactly when `word`
+    /// has no line and its set is full.
     pub fn full(&self, word: WordAddr, probes: &mut Probes) -> Option<WordAddr>
         requires room { HasRoom probes.old self.now.ways }
         ensures address { (bound : ℕ) → EndsBelow (line_of self.now) bound
@@ -116,10 +116,9 @@ impl Cache {
         }
     }
 
-    /// Puts the line of the word in its place, over the line that the word had, if any. If the set
-    /// is full, nothing changes.
+    /// Puts the line of the word in its place, over the word's old line, if any. If the set is full, nothing changes.
     ///
-    /// Errors: [`SetFull`], with the word whose line is to leave first.
+    /// Errors: [`SetFull`], with the word whose line should leave first.
     pub fn fill(&mut self, word: WordAddr, line: Line, probes: &mut Probes) -> Result<(), SetFull>
         requires valid { (bits_of line.bits).valid ≡ true }
         requires room { HasRoom probes.old self.old.ways }

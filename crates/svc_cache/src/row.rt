@@ -8,8 +8,8 @@ use crate::place::Place;
 use crate::probes::Probes;
 use svc_base::WordAddr;
 
-/// Why a line was not filled: its set is full, and the line of this word is to leave first. Of the
-/// words with lines in the set it is the lowest whose line is committed; if no line is, the lowest.
+/// Why a line was not filled: its set is full, and the line of this word should leave first. Of the words with lines in
+/// the set it is the lowest whose line is committed or, if no line is, the lowest.
 #[derive(Clone, Copy, Debug, PartialEq, Eq)]
 pub struct SetFull(pub WordAddr);
 
@@ -59,8 +59,8 @@ impl Survey {
     }
 }
 
-/// The place of a row where a line of the word may go: the one that holds the word, otherwise an
-/// empty one. If there is none, the word whose line is to leave first.
+/// The place of a row for a line of the word: the one that holds the word, otherwise an empty one. If there is none,
+/// the word whose line should leave first.
 pub(crate) fn seat_of(row: &[Place], word: WordAddr, probes: &mut Probes) -> Result<usize, SetFull>
     requires some { 0 < length row.now }
     requires room { HasRoom probes.old (length row.now) }

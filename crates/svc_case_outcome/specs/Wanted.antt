@@ -15,7 +15,7 @@ pub record IsAsWanted (found wanted : Outcome) : Type 0 where
   pub err : Fits found.err.items wanted.err.items
   pub saved : Fits found.saved.items wanted.saved.items
 
--- the part of a run isn't as wanted, and those before it are
+-- this part of a run isn't as wanted, and those before it are
 abbrev pub IsFirstOther : (found wanted : Outcome) → Part → Type 0
 IsFirstOther found wanted part.Status = found.status ≢ wanted.status
 IsFirstOther found wanted part.Out = (found.status ≡ wanted.status) × ¬ Fits found.out.items wanted.out.items

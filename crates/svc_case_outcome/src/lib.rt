@@ -1,5 +1,5 @@
-//! What a run of the program leaves, and whether that is what is wanted. It stands apart from the program that plays
-//! the cases, so that its proofs and edits load none of what the simulator stands on.
+//! What a run of the program leaves, and whether that is what is wanted. It is apart from the program that runs the
+//! cases, so that its proofs and edits load nothing of the simulator.
 #![tactic(auto)]
 
 mod outcome;

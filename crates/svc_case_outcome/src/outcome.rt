@@ -3,8 +3,8 @@
 ghost use Rattle.std.specs.Prelude.{◌≡◌, None, Decides, IfSome};
 ghost use Rattle.svc_case_outcome.specs.Wanted.{Fits, IsAsWanted, IsFirstOther};
 
-/// What a run of the program leaves: its status, what it wrote on standard output and standard error, and the file
-/// that it saved, shown by its name as a line and its text.
+/// What a run of the program leaves: its status, what it wrote on standard output and standard error, and the file that
+/// it saved, shown as its name on a line and its text.
 #[derive(Drop)]
 pub struct Outcome {
     pub status: u8,
@@ -44,10 +44,10 @@ impl Outcome {
     }
 }
 
-// The mark at the end of a wanted text of which only the front is wanted.
+// The last line of a wanted text of which only the beginning is wanted.
 const AND_SO_ON: &[u8] = b"...\n";
 
-// A text is the wanted one, or begins with what stands before the mark.
+// A text is the wanted one, or begins with what precedes the mark.
 fn fits(found: &[u8], wanted: &[u8]) -> bool
     ensures { Decides result (Fits found.now wanted.now) }
 {

@@ -13,7 +13,8 @@ pub struct Case<'a> {
     /// What the case is called.
     pub name: &'a str,
     // The wanted status, the file of the wanted standard output, the wanted standard error without its last line feed,
-    // and, as NAME=FILE, the name of the saved file and the file that has its wanted text. An empty field wants nothing.
+    // and, as NAME=FILE, the name of the saved file and the file that has its wanted text. An empty field wants
+    // nothing.
     status: &'a str,
     out: &'a str,
     err: &'a str,
@@ -47,7 +48,7 @@ impl<'a> Case<'a> {
 
     /// What is wanted of the run.
     ///
-    /// Errors: [`CaseError::List`], where the status is no number; else a file that isn't read, or want of memory.
+    /// Errors: [`CaseError::List`], if the status is no number; otherwise a file that can't be read, or lack of memory.
     pub fn wanted<R: Files + AllocGlobal>(&self, rt: &R) -> Result<Outcome, CaseError> {
         let Ok(status) = self.status.parse::<u8>() else {
             return Err(CaseError::List);
@@ -61,7 +62,7 @@ impl<'a> Case<'a> {
     }
 }
 
-// The bytes of a file, none of no name.
+// The bytes of a file; none without a name.
 fn text_of<R: Files + AllocGlobal>(rt: &R, name: &str) -> Result<Vec<u8>, CaseError> {
     if name.is_empty() {
         return Ok(Vec::new(rt.alloc()));
@@ -70,7 +71,7 @@ fn text_of<R: Files + AllocGlobal>(rt: &R, name: &str) -> Result<Vec<u8>, CaseEr
     Ok(bytes)
 }
 
-// A text as a line, no bytes of no text.
+// A text as a line; no bytes for an empty text.
 fn line_of(alloc: Global, text: &str) -> Result<Vec<u8>, AllocError> {
     let mut line = Vec::from_slice(alloc, text.as_bytes())?;
     if !text.is_empty() {
@@ -79,7 +80,7 @@ fn line_of(alloc: Global, text: &str) -> Result<Vec<u8>, AllocError> {
     Ok(line)
 }
 
-// What is to be saved, as a saved file is shown: its name as a line, and then its text.
+// The wanted saved file, as one is shown: its name as a line, and then its text.
 fn saved_of<R: Files + AllocGlobal>(rt: &R, saved: &str) -> Result<Vec<u8>, CaseError> {
     let Some((name, file)) = saved.split_once('=') else {
         return Ok(Vec::new(rt.alloc()));

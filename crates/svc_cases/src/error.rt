@@ -7,9 +7,9 @@ use std::io;
 /// Why the cases can't be run.
 #[derive(Debug, Drop)]
 pub enum CaseError {
-    /// A line of a list isn't one of its form.
+    /// A line of a list doesn't have the list's form.
     List,
-    /// A file of the folder isn't read, or standard output fails.
+    /// A file of the folder can't be read, or standard output failed.
     File,
     /// Memory ran out.
     Memory,

@@ -15,7 +15,7 @@ pub struct Folder<'a, R> {
 }
 
 impl<'a, R: AllocGlobal> Folder<'a, R> {
-    /// The files of the folder and the images of this list, before anything is saved.
+    /// The files of the folder and the images of this list, with nothing saved yet.
     pub fn new(rt: &'a R, images: &'a [StringRecord]) -> Folder<'a, R> {
         Folder {
             rt,
@@ -34,7 +34,7 @@ impl<'a, R: AllocGlobal> Folder<'a, R> {
 impl<R: rt::Files + AllocGlobal> Files for Folder<'_, R> {
     type Reader = Cursor<Vec<u8>>;
 
-    fn open(&mut self, name: &str) -> Result<Cursor<Vec<u8>>, FileFault> {
+    fn open(&self, name: &str) -> Result<Cursor<Vec<u8>>, FileFault> {
         match image(self.rt, self.images, name) {
             Ok(bytes) => Ok(Cursor::new(bytes)),
             Err(_) => Err(FileFault),
@@ -42,7 +42,7 @@ impl<R: rt::Files + AllocGlobal> Files for Folder<'_, R> {
     }
 
     fn save(&mut self, name: &str, bytes: &[u8]) -> Result<(), FileFault> {
-        // A folder that isn't there takes no file.
+        // A folder that doesn't exist holds no file.
         if name.contains('/') {
             return Err(FileFault);
         }

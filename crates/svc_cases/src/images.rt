@@ -1,4 +1,4 @@
-//! Images that are made: of a program's text, or by a list of other ones, of which it changes the length or a word.
+//! Images that are made: from a program's text, or from another image by a list that changes its length or a word.
 
 use crate::error::CaseError;
 use csv::StringRecord;
@@ -10,7 +10,7 @@ use svc_asm::assemble;
 // What is changed of an image.
 #[derive(Clone, Copy)]
 enum Change {
-    // It is cut, or made longer by zeros, to this length in bytes.
+    // It is cut, or lengthened by zeros, to this length in bytes.
     Length(usize),
     // The four bytes at this place become this word.
     Word(usize, u32),
@@ -43,10 +43,11 @@ impl Change {
     }
 }
 
-/// The bytes of an image: below `programs/` as its text makes it, and else as the rows of its name do, or those of the file of
-/// the name.
+/// The bytes of an image: below `programs/` as its text makes it, otherwise as the rows of its name make it, or those
+/// of the file of the name.
 ///
-/// Errors: a row that isn't one of the list's form, a text that makes no image, a file that isn't read, want of memory.
+/// Errors: a row that doesn't have the list's form, a text that makes no image, a file that can't be read, lack of
+/// memory.
 pub fn image<R: Files + AllocGlobal>(
     rt: &R,
     rows: &[StringRecord],
@@ -74,7 +75,7 @@ fn assembled<R: Files + AllocGlobal>(rt: &R, program: &str) -> Result<Vec<u8>, C
     image.write(rt.alloc()).map_err(|_| CaseError::Memory)
 }
 
-// The file that an image is made of: what the first row of its name says, and else the one of the name.
+// The file from which an image is made: what the first row of its name says, otherwise the one of the name.
 fn source<'a>(rows: &'a [StringRecord], name: &'a str) -> &'a str {
     for row in rows {
         if row.get(0) == Some(name) {

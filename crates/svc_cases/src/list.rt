@@ -7,7 +7,7 @@ use std::rt::Files;
 
 /// The rows of a list.
 ///
-/// Errors: a file that isn't read, text that isn't CSV, rows of different lengths, want of memory.
+/// Errors: a file that can't be read, text that isn't CSV, rows of different lengths, lack of memory.
 pub fn rows<R: Files + AllocGlobal>(rt: &R, file: &str) -> Result<Vec<StringRecord>, CaseError> {
     let text = fs::read(rt, file)?;
     let mut reader = Reader::from_reader(rt.alloc(), text.as_slice());

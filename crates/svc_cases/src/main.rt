@@ -1,6 +1,6 @@
-//! What the gate runs, as standard input says line by line. `cases SUBJECT` runs each case of a list through the program,
-//! over files in memory, and says how many are as wanted, and of each other one where it first differs. Any other line names
-//! a call, of which is said whether it answers rightly, also where memory is refused.
+//! What the gate runs, as standard input says line by line. `cases SUBJECT` runs each case of a list through the
+//! program, over files in memory; it prints how many are as wanted, and where each other one first differs. Any other
+//! line names a call; it prints whether the call answers correctly, even if memory is refused.
 #![tactic(auto)]
 
 mod case;
@@ -51,7 +51,7 @@ fn run_all<R: Files + Print + Threads + Wait + Sync + AllocGlobal>(
     Ok(())
 }
 
-// Runs each of these cases. How many of them are as wanted.
+// Runs each of these cases. Answers how many are as wanted.
 fn count_right<R: Files + Print + Threads + Wait + Sync + AllocGlobal>(
     rt: &R,
     cases: &[StringRecord],
@@ -98,7 +98,7 @@ fn run<R: Files + Threads + Wait + Sync + AllocGlobal>(
     })
 }
 
-// Whether a case is as wanted. Else the first part and line are told in which it isn't.
+// Whether a case is as wanted. If not, it reports the first part and line that aren't.
 fn tell<R: Print>(
     rt: &R,
     name: &str,
@@ -117,7 +117,7 @@ fn tell<R: Print>(
     Ok(false)
 }
 
-// Tells the first line in which two texts differ.
+// Reports the first line in which two texts differ.
 fn tell_line<R: Print>(
     rt: &R,
     name: &str,

@@ -1,5 +1,5 @@
-//! What calls answer, also where one of their requests for memory is refused. Which one is up to whoever runs this:
-//! `rt try --fail-alloc N` refuses the Nth of all requests, and a line of standard input names a call and how many requests
+//! What calls answer, even if one of their requests for memory is refused. Which one is up to whoever runs this: `rt
+//! try --fail-alloc N` refuses the Nth of all requests, and a line of standard input names a call and how many requests
 //! are made before it. After a name alone memory is taken to be ample.
 
 mod attempt;
@@ -24,7 +24,7 @@ use std::thread::Threads;
 /// More requests than are made before any call.
 const AFTER: u32 = 2_000;
 
-/// What is seen of the call that a line names.
+/// What the call that a line names does.
 pub fn answer<R: Files + Threads + Wait + Sync + AllocGlobal>(rt: &R, line: &str) -> &'static str {
     let (name, before) = match line.split_once(' ') {
         Some((name, before)) => (name, before.parse::<u32>().ok()),
@@ -36,7 +36,7 @@ pub fn answer<R: Files + Threads + Wait + Sync + AllocGlobal>(rt: &R, line: &str
     }
 }
 
-// What is seen of a call after so many other requests for memory, where one of all requests is refused.
+// What a call does after this many other requests for memory, if one of all requests is refused.
 fn seen_after<R: Files + Threads + Wait + Sync + AllocGlobal>(
     rt: &R,
     name: &str,

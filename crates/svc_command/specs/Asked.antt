@@ -26,7 +26,7 @@ pub record IsBuiltInConfig (c : Config) : Type 0 where
   pub events : c.events ≡ 100000
   pub turns : c.turns ≡ 1000000
 
--- to run the built-in image so, with a thread for the unit, to save nothing, and to print the summary
+-- to run the built-in image on that machine, with a thread for the unit, save nothing, and print the summary
 pub record IsBuiltIn (run : Run) : Type 0 where
   pub image : run.image ≡ source.BuiltIn
   pub config_is : IsBuiltInConfig run.config
@@ -34,11 +34,12 @@ pub record IsBuiltIn (run : Run) : Type 0 where
   pub trace : run.trace ≡ None
   pub row : run.row ≡ None
 
+-- the request is that run
 abbrev pub IsBuiltInRun : Request → Type 0
 IsBuiltInRun (request.Run run) = IsBuiltIn run
 IsBuiltInRun _ = ⊥
 
--- the words name what is asked for: help or the version by a word of its own, and else the subcommand
+-- the words name what is asked for: help or the version by a word of its own, otherwise the subcommand
 abbrev pub Names : List (List ℕ) → Request → Type 0
 Names words (request.Help text) = Has IsHelpWord words
 Names words request.Version = Has IsVersionWord words
@@ -53,11 +54,11 @@ Names words (request.Draw traced picture) = IsNamed (codes "draw") words
 Names words (request.Assemble assembly) = IsNamed (codes "assemble") words
 Names words (request.List image) = IsNamed (codes "list") words
 
--- what the words of a line may ask for: the built-in run where there is none but the program's name, and else what they name, with
--- what they give
+-- what the words of a line may ask for: the built-in run if there is only the program's name, otherwise what they name,
+-- with what they give
 abbrev pub MayAsk : List (List ℕ) → Request → Type 0
 MayAsk words asked = ((length words ≤ 1) × IsBuiltInRun asked) ⊎ ((1 < length words) × Names words asked × Gives words asked)
 
--- no file is changed, but where what the words may ask for may change one
+-- no file is changed, unless what the words may ask for may change one
 abbrev pub KeepsAsked : List (List ℕ) → (held saved : Held) → Type 0
 KeepsAsked words held saved = (saved ≡ held) ⊎ ((asked : Request) × MayAsk words asked × KeepsFiles asked held saved)

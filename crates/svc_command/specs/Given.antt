@@ -9,6 +9,7 @@ use Rattle.svc_request.specs.declared.request.Order.{Order}
 use Rattle.svc_request.specs.declared.request.Order.TheVariants as order
 use Rattle.svc_request.specs.declared.request.Run.{Run}
 use Rattle.svc_request.specs.declared.request.Schedule.{Schedule}
+use Rattle.svc_request.specs.declared.request.Scripted.{Scripted}
 use Rattle.svc_request.specs.declared.request.Source.{Source}
 use Rattle.svc_request.specs.declared.request.Source.TheVariants as source
 use Rattle.svc_request.specs.declared.request.Table.{Table}
@@ -44,7 +45,7 @@ pub record GivesSchedule (words : List (List ℕ)) (schedule : Schedule) : Type 
   pub order : GivesOrder words schedule.order
   pub burst : IsNumberOf (codes "burst") 63 schedule.burst words
 
--- the row of a table has the label that the line gives, and the names of the columns only where they are asked for
+-- the row of a table has the label that the line gives, and the names of the columns only if they are asked for
 pub record GivesRow (words : List (List ℕ)) (row : TableRow) : Type 0 where
   pub label : IsValueOf (codes "row") row.label.now words
   pub header : row.header ≡ true → HasWord (option_word (codes "header")) words
@@ -60,12 +61,16 @@ GivesTable words (table.Row row) = GivesRow words row
 abbrev pub GivesNeedsTable : List (List ℕ) → NeedsTable → Type 0
 GivesNeedsTable words needs.Tasks = IsValueOf (codes "by") (codes "task") words
 GivesNeedsTable words needs.Words = IsValueOf (codes "by") (codes "word") words
+GivesNeedsTable words needs.Pairs = IsValueOf (codes "by") (codes "pair") words
+GivesNeedsTable words needs.Graph = HasWord (option_word (codes "dot")) words
 
+-- the request for needs takes its image, its table and its number from the line
 pub record GivesDepended (words : List (List ℕ)) (depended : Depended) : Type 0 where
   pub image : GivesImage words depended.image
   pub most : IsNumberOf (codes "tasks") 1000000 depended.most words
   pub by : IfSome depended.by (GivesNeedsTable words)
 
+-- a run takes its image, its configuration, its schedule, its trace and its row from the line
 pub record GivesRun (words : List (List ℕ)) (run : Run) : Type 0 where
   pub image : GivesImage words run.image
   pub config_is : GivesConfig words run.config
@@ -73,21 +78,27 @@ pub record GivesRun (words : List (List ℕ)) (run : Run) : Type 0 where
   pub trace : IfSome run.trace (λ name. IsValueOf (codes "trace") name.now words)
   pub row : IfSome run.row (GivesRow words)
 
+-- a trace's request takes its image, its trace and its configuration from the line
 pub record GivesTraced (words : List (List ℕ)) (traced : Traced) : Type 0 where
   pub image : GivesImage words traced.image
   pub config_is : GivesConfig words traced.config
   pub trace : HasWord traced.trace.now words
 
--- each file's name is one of the words or the value of its option, each number what the value of its option reads as or its
--- default, and whatever else is asked for is named by the value of an option
+pub record GivesScripted (words : List (List ℕ)) (scripted : Scripted) : Type 0 where
+  pub image : GivesImage words scripted.image
+  pub config_is : GivesConfig words scripted.config
+  pub events : HasWord scripted.events.now words
+  pub trace : IfSome scripted.trace (λ name. IsValueOf (codes "trace") name.now words)
+
+-- each file's name is one of the words or the value of its option, each number is what the value of its option reads as
+-- or its default, and anything else asked for is named by the value of an option
 abbrev pub Gives : List (List ℕ) → Request → Type 0
 Gives words (request.Help text) = ⊤
 Gives words request.Version = ⊤
 Gives words (request.Run run) = GivesRun words run
 Gives words (request.Sequential tasks) = GivesImage words tasks.image × IsGivenNumber (codes "tasks") tasks.most words
 Gives words (request.Depend depended) = GivesDepended words depended
-Gives words (request.Script scripted) =
-    GivesImage words scripted.image × GivesConfig words scripted.config × HasWord scripted.events.now words
+Gives words (request.Script scripted) = GivesScripted words scripted
 Gives words (request.Check traced) = GivesTraced words traced
 Gives words (request.Profile traced by) = GivesTraced words traced × IfSome by (GivesTable words)
 Gives words (request.Show traced at) = GivesTraced words traced × IfSome at (λ n. IsGivenNumber (codes "at") n words)

@@ -1,4 +1,4 @@
--- The words of a command line, and the values that stand on it.
+-- The words of a command line, and the values on it.
 use Rattle.std.specs.Prelude.{◌≡◌, ◌+◌, ◌++◌, ◌⊎◌, ℕ, List, Some, map, codes, slice_get, string_bytes}
 use Rattle.std.specs.Str.Parse.{IsNumeral, digits_value, without_leading_plus}
 use Rattle.std.specs.declared.string.String.{String}
@@ -11,7 +11,7 @@ texts words = map string_bytes words
 abbrev pub Has : (List ℕ → Type 0) → List (List ℕ) → Type 0
 Has kind words = (k : ℕ) × (word : List ℕ) × (slice_get words k ≡ Some word) × kind word
 
--- one of the words is this one
+-- this is one of the words
 abbrev pub HasWord : List ℕ → List (List ℕ) → Type 0
 HasWord text words = Has (λ word. word ≡ text) words
 
@@ -19,7 +19,7 @@ HasWord text words = Has (λ word. word ≡ text) words
 abbrev pub IsNamed : List ℕ → List (List ℕ) → Type 0
 IsNamed name words = slice_get words 1 ≡ Some name
 
--- the word by which the option of this name is given
+-- the word that gives the option of this name
 abbrev pub option_word : List ℕ → List ℕ
 option_word name = codes "--" ++ name
 
@@ -31,11 +31,11 @@ IsNext name value words = (k : ℕ) × (slice_get words k ≡ Some (option_word 
 abbrev pub IsJoined : (name value : List ℕ) → List ℕ → Type 0
 IsJoined name value word = word ≡ option_word name ++ (codes "=" ++ value)
 
--- the value stands behind the option of this name, as the next word or in one word with it
+-- the value of the option of this name is on the line, as the next word or in one word with it
 abbrev pub IsValueOf : (name value : List ℕ) → List (List ℕ) → Type 0
 IsValueOf name value words = IsNext name value words ⊎ Has (IsJoined name value) words
 
--- a text reads as this number: decimal digits, behind a plus or not
+-- a text reads as this number: decimal digits, with or without a plus before them
 pub record ReadsAs (text : List ℕ) (n : ℕ) : Type 0 where
   pub numeral : IsNumeral 10 (without_leading_plus text)
   pub value : n ≡ digits_value 10 (without_leading_plus text)

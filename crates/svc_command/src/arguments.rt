@@ -25,13 +25,13 @@ pub(crate) enum Takes {
 /// An argument of a subcommand.
 #[derive(Clone, Copy)]
 pub(crate) struct Argument {
-    /// Its name: of an option the word after `--`, of a file what help calls it.
+    /// Its name: for an option the word after `--`, for a file what help calls it.
     pub(crate) name: &'static str,
     /// What it takes.
     pub(crate) takes: Takes,
     /// What help calls its value.
     pub(crate) value: &'static str,
-    /// Its value where none is given.
+    /// Its value if none is given.
     pub(crate) default: Option<&'static str>,
     /// Whether it has to be given.
     pub(crate) is_required: bool,
@@ -109,11 +109,11 @@ pub(crate) const ROW: Argument = Argument {
     name: "row",
     takes: Takes::Word,
     value: "LABEL",
-    help: "Prints one row of a table instead, which begins with this label",
+    help: "Prints one row of a table instead, beginning with this label",
     ..OPTION
 };
 
-// That row beside the tables of a profile.
+// The same row, beside the tables of a profile.
 pub(crate) const ROW_OF_PROFILE: Argument = Argument {
     excludes: Some("by"),
     ..ROW
@@ -138,14 +138,14 @@ pub(crate) const BY: Argument = Argument {
 pub(crate) const AT: Argument = Argument {
     name: "at",
     takes: Takes::Index,
-    help: "Shows the machine after so many of the trace's entries, and after all where none is given",
+    help: "Shows the machine after this many of the trace's entries; without it, after all",
     ..OPTION
 };
 
 pub(crate) const FROM: Argument = Argument {
     name: "from",
     default: Some("0"),
-    help: "The first entry that is shown, counted from 0",
+    help: "The first entry to show, counted from 0",
     ..OPTION
 };
 
@@ -153,7 +153,7 @@ pub(crate) const COUNT: Argument = Argument {
     name: "count",
     takes: Takes::Number(1, u32::MAX),
     default: Some("400"),
-    help: "How many entries are shown, as far as there are any: 1 to 4294967295",
+    help: "How many entries to show at most: 1 to 4294967295",
     ..OPTION
 };
 
@@ -162,23 +162,31 @@ pub(crate) const TASKS: Argument = Argument {
     takes: Takes::Number(0, MAX_TASKS),
     value: "K",
     is_required: true,
-    help: "How many tasks are run at most, from the first on: 0 to 1000000",
+    help: "How many tasks to run at most, from the first on: 0 to 1000000",
     ..OPTION
 };
 
-// That number for tasks that are followed.
+// The same number, for tasks that are followed.
 pub(crate) const TASKS_FOLLOWED: Argument = Argument {
     default: Some("1000000"),
     is_required: false,
-    help: "How many tasks are followed at most, from the first on: 0 to 1000000",
+    help: "How many tasks to follow at most, from the first on: 0 to 1000000",
     ..TASKS
 };
 
 // The tables of needs.
 pub(crate) const BY_OF_NEEDS: Argument = Argument {
-    takes: Takes::Name(&["task", "word"]),
-    help: "Prints a table instead, with a row for each task, or for each word that a task needs or writes",
+    takes: Takes::Name(&["task", "pair", "word"]),
+    help: "Prints a table instead, with a row for each task, for each task and one that it needs, or for each word that a task needs or writes",
     ..BY
+};
+
+pub(crate) const DOT: Argument = Argument {
+    name: "dot",
+    takes: Takes::Nothing,
+    excludes: Some("by"),
+    help: "Prints the graph of tasks instead, for Graphviz, with an edge for each task and one that it needs",
+    ..OPTION
 };
 
 pub(crate) const SCHEDULE: Argument = Argument {
@@ -192,7 +200,7 @@ pub(crate) const SCHEDULE: Argument = Argument {
 pub(crate) const SEED: Argument = Argument {
     name: "seed",
     needs: Some("schedule"),
-    help: "The seed of a random order: 0 to 4294967295, and 0 where none is given",
+    help: "The seed of a random order: 0 to 4294967295; without it, 0",
     ..OPTION
 };
 
@@ -200,7 +208,7 @@ pub(crate) const BURST: Argument = Argument {
     name: "burst",
     takes: Takes::Number(1, MAX_BURST_TURNS),
     needs: Some("schedule"),
-    help: "The most turns of a unit in a step of a schedule: 1 to 63, and 63 where none is given",
+    help: "The most turns of a unit in a step of a schedule: 1 to 63; without it, 63",
     ..OPTION
 };
 

@@ -1,7 +1,7 @@
 //! The command line, as `clap` reads it: its subcommands and their arguments.
 
 use crate::arguments::{
-    AT, Argument, BURST, BY, BY_OF_NEEDS, COUNT, EVENTS, EVENTS_FILE, FROM, HEADER, IMAGE,
+    AT, Argument, BURST, BY, BY_OF_NEEDS, COUNT, DOT, EVENTS, EVENTS_FILE, FROM, HEADER, IMAGE,
     MADE_IMAGE, PICTURE, ROW, ROW_OF_PROFILE, SCHEDULE, SEED, SETS, TASKS, TASKS_FOLLOWED, TEXT,
     TRACE, TRACE_FILE, TURNS, Takes, UNITS, WAYS,
 };
@@ -42,13 +42,13 @@ const SUBCOMMANDS: [Subcommand; 10] = [
         name: "depend",
         about: "Runs an image's tasks one after another, and prints what they need of one another",
         help: DEPEND,
-        arguments: &[IMAGE, TASKS_FOLLOWED, BY_OF_NEEDS],
+        arguments: &[IMAGE, TASKS_FOLLOWED, BY_OF_NEEDS, DOT],
     },
     Subcommand {
         name: "script",
         about: "Applies the events of a script, and prints a line for each, and the summary",
         help: SCRIPT,
-        arguments: &[IMAGE, EVENTS_FILE, UNITS, SETS, WAYS, EVENTS, TURNS],
+        arguments: &[IMAGE, EVENTS_FILE, UNITS, SETS, WAYS, EVENTS, TURNS, TRACE],
     },
     Subcommand {
         name: "check",

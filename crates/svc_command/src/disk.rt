@@ -13,7 +13,7 @@ pub struct Disk<'a, R> {
 impl<R: rt::Files + AllocGlobal> Files for Disk<'_, R> {
     type Reader = R::File;
 
-    fn open(&mut self, name: &str) -> Result<R::File, FileFault> {
+    fn open(&self, name: &str) -> Result<R::File, FileFault> {
         fs::open(self.rt, name).map_err(|_| FileFault)
     }
 
@@ -21,7 +21,7 @@ impl<R: rt::Files + AllocGlobal> Files for Disk<'_, R> {
         fs::write(self.rt, name, bytes).map_err(|_| FileFault)
     }
 
-    // Two names lead to one file where the disk's number and the file's number on it are the same.
+    // Two names lead to one file if the disk's number and the file's number on it are the same.
     fn is_same(&self, one: &str, other: &str) -> bool {
         if one == other {
             return true;

@@ -1,5 +1,5 @@
-//! The command line: what its words ask for, and the program over any words, files and streams; and the words and the files
-//! that the system gives.
+//! The command line: what its words ask for, and the program over any words, files and streams; and the words and the
+//! files that the system gives.
 #![tactic(auto)]
 
 mod arguments;
@@ -7,8 +7,10 @@ mod command;
 mod disk;
 mod helps;
 mod line;
+mod options;
 mod program;
 mod reading;
+mod requests;
 mod words;
 
 pub use disk::Disk;

@@ -7,7 +7,7 @@ use clap::ArgMatches;
 use std::str::FromStr;
 use svc_program::Fault;
 
-/// The words of a line, and what its parser made of them. What the parser gives is taken where it stands on the line.
+/// The words of a line, and what its parser made of them. A value from the parser is looked up on the line.
 #[derive(Clone, Copy)]
 pub(crate) struct Line<'w, 'a> {
     pub(crate) words: &'w [String],
@@ -39,7 +39,7 @@ impl<'a> Line<'_, 'a> {
         }
     }
 
-    /// The number of an option, or the default where none is given.
+    /// The number of an option, or the default if none is given.
     pub(crate) fn number(self, name: &str, default: u32) -> Result<u32, Fault>
         ensures { IfOk result (λ number. IsNumberOf name.now default number (texts self.entry.words.now)) }
     {
@@ -54,7 +54,7 @@ impl<'a> Line<'_, 'a> {
         Err(Fault::File)
     }
 
-    /// The number of an option that has to be given.
+    /// The number of an option that is required.
     pub(crate) fn given_number(self, name: &str) -> Result<u32, Fault>
         ensures { IfOk result (λ number. IsGivenNumber name.now number (texts self.entry.words.now)) }
     {
@@ -83,7 +83,7 @@ impl<'a> Line<'_, 'a> {
     }
 }
 
-// The number that a text reads as. The parser takes no other text for one.
+// The number that a text reads as. The parser accepts no other text as a number.
 fn number_of<N: FromStr>(text: &str) -> Result<N, Fault>
 where
     N::Err: Drop,
@@ -95,7 +95,7 @@ where
     }
 }
 
-// One of the words is this one.
+// This is one of the words.
 pub(crate) fn has_word(words: &[String], text: &str) -> bool
     ensures { IsTrue result → HasWord text.now (texts words.now) }
 {
@@ -107,7 +107,7 @@ pub(crate) fn has_word(words: &[String], text: &str) -> bool
     false
 }
 
-// One of the words is the option of this name.
+// The option of this name is one of the words.
 fn has_option(words: &[String], name: &str) -> bool
     ensures { IsTrue result → HasWord (option_word name.now) (texts words.now) }
 {
@@ -119,14 +119,14 @@ fn has_option(words: &[String], name: &str) -> bool
     false
 }
 
-// The value stands behind the option of this name, as the next word or in one word with it.
+// The value of the option of this name is on the line, as the next word or in one word with it.
 fn has_value(words: &[String], name: &str, value: &str) -> bool
     ensures { IsTrue result → IsValueOf name.now value.now (texts words.now) }
 {
     has_next(words, name, value) || has_joined(words, name, value)
 }
 
-// The value is the word behind the option of this name.
+// The value is the word after the option of this name.
 fn has_next(words: &[String], name: &str, value: &str) -> bool
     ensures { IsTrue result → IsNext name.now value.now (texts words.now) }
 {
@@ -138,7 +138,7 @@ fn has_next(words: &[String], name: &str, value: &str) -> bool
     false
 }
 
-// The value stands in one word with the option of this name.
+// The value is in one word with the option of this name.
 fn has_joined(words: &[String], name: &str, value: &str) -> bool
     ensures { IsTrue result → Has (IsJoined name.now value.now) (texts words.now) }
 {
@@ -160,7 +160,7 @@ fn is_option(word: &str, name: &str) -> bool
     }
 }
 
-// The word is the option of this name with the value behind `=`.
+// The word is the option of this name with the value after `=`.
 fn is_joined(word: &str, name: &str, value: &str) -> bool
     ensures { IsTrue result → IsJoined name.now value.now word.now }
 {
@@ -180,7 +180,7 @@ fn is_assigned(rest: &[u8], value: &[u8]) -> bool
     }
 }
 
-// What stands in the word behind the option of this name.
+// The rest of the word after the option of this name.
 fn behind_option<'w>(word: &'w str, name: &str) -> Option<&'w [u8]>
     ensures { IfSome result (λ rest. word.now ≡ option_word name.now ++ rest.now) }
 {

@@ -1,8 +1,7 @@
 //! The program over any words, files and streams.
 
 ghost use Rattle.std.specs.Prelude.{◌≡◌, ◌≢◌, ◌⊎◌, ◌≤◌, IfOk, IfErr};
-ghost use Rattle.svc_request.specs.Faults.{IsOutputFault};
-ghost use Rattle.svc_program.specs.Requests.{Does};
+ghost use Rattle.svc_program.specs.Requests.{Does, IsQuiet};
 ghost use Rattle.svc_command.specs.Asked.{KeepsAsked, MayAsk};
 ghost use Rattle.svc_command.specs.Line.{texts};
 
@@ -13,10 +12,10 @@ use std::sync::Wait;
 use std::thread::Threads;
 use svc_program::{Fault, Files, Request, perform, tell};
 
-/// Does what the words of a command line ask for, of which the first is the program's name, and answers
-/// the exit status: 0 where the run came to the program's exit, a trace was sound, or help or the version was asked for,
-/// 1 at a fault, which is printed on `err`, and 2 at any other ending. It is the first fault, looked for in this order:
-/// the words, the configuration, the image, the script or trace, the opening of the machine, the run, the output.
+/// Does what the words of a command line ask for; the first word is the program's name. It answers the exit status: 0
+/// if the run reached the program's exit, a trace was sound, or help or the version was asked for; 1 at a fault, which
+/// is printed on `err`; and 2 at any other ending. The fault is the first, looked for in this order: the words, the
+/// configuration, the image, the script or trace, the opening of the machine, the run, the output.
 pub fn execute<R: Threads + Wait + Sync, F: Files, O: Write, E: Write>(
     rt: &R,
     alloc: Global,
@@ -46,7 +45,7 @@ fn answer<R: Threads + Wait + Sync, F: Files, O: Write>(
 ) -> Result<u8, Fault>
     ensures done { IfOk result (λ status. (request : Request) × MayAsk (texts words.now) request
         × Does request (F.held files.old) (F.held files.new) (O.contents out.old) (O.contents out.new) status) }
-    ensures silent { IfErr result (λ fault. IsOutputFault fault ⊎ (out.new ≡ out.old)) }
+    ensures silent { IfErr result (IsQuiet out.old out.new) }
     ensures kept { KeepsAsked (texts words.now) (F.held files.old) (F.held files.new) }
 {
     let request = request_of(alloc, words)?;

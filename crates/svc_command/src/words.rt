@@ -9,7 +9,7 @@ use svc_program::Fault;
 
 /// The words of the command line, the program's name first.
 ///
-/// Errors: [`Fault::File`], where a word isn't UTF-8 or memory was refused.
+/// Errors: [`Fault::File`], if a word isn't UTF-8 or memory was refused.
 pub fn words_of<R: Env + AllocGlobal>(rt: &R) -> Result<Vec<String>, Fault>
     ensures { IfErr result (λ fault. fault ≡ File) }
 {

@@ -2,7 +2,7 @@
 use Rattle.std.specs.Prelude.{ℕ, Option, Some, None, Result, Ok, Err}
 use Rattle.svc_core.specs.declared.access.Place.{Place}
 
--- the number of the trap, if it is one
+-- the number of the trap, if it traps
 abbrev pub trap_of : Result Place ℕ → Option ℕ
 trap_of (Ok place) = None
 trap_of (Err trap) = Some trap

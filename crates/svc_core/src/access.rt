@@ -6,10 +6,8 @@ ghost use Rattle.svc_core_laws.specs.Turns.{access_trap, store_trap, word_addres
 ghost use Rattle.svc_core.specs.Places.{trap_of};
 ghost use Rattle.svc_core_laws.specs.Words.{loaded, stored};
 
+use svc_image::DATA_START;
 use svc_rv32i::{LoadKind, StoreKind};
-
-/// The byte address of the data.
-pub const DATA_START: u32 = 0x0010_0000;
 
 /// Where an access lies in the data.
 #[derive(Clone, Copy)]
@@ -22,8 +20,8 @@ pub struct Place {
 
 /// Where a store lies in data of `words` words, of which the first `read_only` are read-only.
 ///
-/// Errors: the number of its trap: 5 where it isn't aligned to its width, else 6 where it lies outside the data, else 10
-/// where its word is read-only.
+/// Errors: the number of its trap: 5 if it isn't aligned to its width, otherwise 6 if it lies outside the data,
+/// otherwise 10 if its word is read-only.
 #[inline(always)]
 pub fn store_place(kind: StoreKind, addr: u32, words: u32, read_only: u32) -> Result<Place, u8>
     requires { words ≤ 65536 }
@@ -42,7 +40,7 @@ pub fn store_place(kind: StoreKind, addr: u32, words: u32, read_only: u32) -> Re
 
 /// Where a load lies in data of `words` words.
 ///
-/// Errors: the number of its trap: 5 where it isn't aligned to its width, else 6 where it lies outside the data.
+/// Errors: the number of its trap: 5 if it isn't aligned to its width, otherwise 6 if it lies outside the data.
 #[inline(always)]
 pub fn load_place(kind: LoadKind, addr: u32, words: u32) -> Result<Place, u8>
     requires { words ≤ 65536 }
@@ -54,7 +52,7 @@ pub fn load_place(kind: LoadKind, addr: u32, words: u32) -> Result<Place, u8>
     data_place(width_of(kind), addr, words)
 }
 
-// Where an access of a store's width lies in data of so many words, or the number of its trap.
+// Where an access of a store's width lies in data of this many words, or the number of its trap.
 #[inline(always)]
 fn data_place(kind: StoreKind, addr: u32, words: u32) -> Result<Place, u8>
     requires { words ≤ 65536 }
@@ -107,7 +105,7 @@ fn is_aligned(kind: StoreKind, addr: u32) -> bool
     }
 }
 
-/// The value that a load gives from a byte of a word on.
+/// The value that a load takes from a word, from this byte on.
 #[inline(always)]
 pub fn loaded(kind: LoadKind, lane: u32, word: u32) -> u32
     requires { lane + load_bytes kind ≤ 4 }
@@ -120,7 +118,7 @@ pub fn loaded(kind: LoadKind, lane: u32, word: u32) -> u32
     }
 }
 
-/// The word with the lowest bytes of a value in place of its bytes from a lane on.
+/// The word with its bytes from a lane on replaced by the lowest bytes of a value.
 #[inline(always)]
 pub fn stored(kind: StoreKind, lane: u32, value: u32, word: u32) -> u32
     requires fits { lane + store_bytes kind ≤ 4 }
@@ -140,7 +138,7 @@ pub fn stored(kind: StoreKind, lane: u32, value: u32, word: u32) -> u32
     }
 }
 
-// The bytes of a word from a lane on.
+// The bytes of a word, from a lane on.
 fn from_lane(lane: u32, word: u32) -> u32
     requires { lane < 4 }
     ensures { result ≡ word / 256 ^ lane }
@@ -167,7 +165,7 @@ fn lowest(kind: LoadKind, bytes: u32) -> u32
     }
 }
 
-// What comes into the register, by the kind of the load.
+// The register's new value, by the kind of the load.
 #[tactic(auto, unfolding(svc_core_laws::specs::Numbers::extended))]
 fn extend(kind: LoadKind, number: u32) -> u32
     requires { number < 256 ^ load_bytes kind }

@@ -13,8 +13,8 @@ use svc_core_laws::Ask;
 use svc_rv32i::{LoadKind, Register, StoreKind};
 
 impl Core {
-    /// Does an asked turn on a memory of words, of which the first ones are read-only, up to the test for an entry;
-    /// the answer is the word put out, if any.
+    /// Does an asked turn on a memory of words, the first of which are read-only, up to the test for an entry; it
+    /// answers the output word, if any.
     #[inline(always)]
     pub fn answer(&mut self, ask: Ask, memory: &mut [u32], read_only: u32) -> Option<u32>
         requires ready { IsReady self.old ask }

@@ -1,4 +1,4 @@
-// What a burst tells of its turns.
+// What a burst says of its turns.
 
 ghost use Rattle.std.specs.Prelude.{◌≡◌, ◌≤◌, ◌+◌};
 ghost use Rattle.svc_core_laws.specs.Bursts.{Follows, ask_turns, IsReady};
@@ -31,7 +31,7 @@ impl Burst {
         &self.start
     }
 
-    /// What was looked at, the oldest first: at most one look a turn and one more.
+    /// What was looked at, the oldest first: at most one look more than turns.
     pub fn looks(&self) -> &[Fetched]
         ensures { result.now ≡ self.now.looks }
     {
@@ -53,8 +53,8 @@ impl Burst {
         self.ask
     }
 
-    /// Where the turns that are done lead: the end of the turns at the looks from the start. The ask is
-    /// the asked turn there.
+    /// Where the turns that are done lead: the end of the turns at the looks from the start. The ask is the asked turn
+    /// there.
     pub fn end(&self) -> &Core
         ensures end { result.now ≡ self.now.end }
         ensures follows { Follows self.now }

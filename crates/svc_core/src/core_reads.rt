@@ -1,4 +1,4 @@
-// What a core tells of its task.
+// What a core says of its task.
 
 ghost use Rattle.std.specs.Prelude.{◌≡◌, ◌≤◌, ◌+◌};
 ghost use Rattle.svc_core_laws.specs.State.{ended};
@@ -15,7 +15,7 @@ impl Core {
         self.pc
     }
 
-    /// The turns so far: at most the limit, and one more where the task has ended.
+    /// The turns so far: at most the limit, and one more once the task has ended.
     #[inline]
     pub fn count(&self) -> u32
         ensures value { result ≡ self.now.count }
@@ -24,7 +24,7 @@ impl Core {
         self.count
     }
 
-    /// The words put out so far, at most 64.
+    /// The words output so far, at most 64.
     #[inline]
     pub fn emitted(&self) -> u8
         ensures value { result ≡ self.now.emitted }
@@ -43,7 +43,7 @@ impl Core {
         self.limit
     }
 
-    /// How the task has ended, where it has.
+    /// How the task has ended, if it has.
     #[inline]
     pub fn done(&self) -> Option<End>
         ensures { result ≡ self.now.done }

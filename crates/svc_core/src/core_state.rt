@@ -11,7 +11,7 @@ use svc_core_laws::End;
 use svc_image::Image;
 use svc_rv32i::Register;
 
-/// Where a task stands: its place, registers, turns, words put out, limit of turns, and end.
+/// Where a task stands: its place, registers, turns, output words, limit of turns, and end.
 #[derive(Clone, Copy)]
 pub struct Core {
     pub(crate) pc: u32,
@@ -19,8 +19,8 @@ pub struct Core {
     pub(crate) emitted: u8,
     pub(crate) limit: u32,
     pub(crate) done: Option<End>,
-    // The registers come last: fields lie in the order of the source, so a write at a register's number
-    // can't touch what stands before them, and the compiler keeps that in machine registers.
+    // The registers come last: fields keep the order of the source, so a write at a register's number can't touch the
+    // fields before them, and the compiler keeps those in machine registers.
     pub(crate) regs: [u32; 32],
 }
 
@@ -92,7 +92,7 @@ impl Core {
         }
     }
 
-    /// What stands in a register.
+    /// The value of a register.
     #[inline(always)]
     pub fn value(&self, r: Register) -> u32
         ensures { result ≡ value_of self.now r.number }
@@ -101,7 +101,7 @@ impl Core {
         self.regs[r.number as usize]
     }
 
-    /// Whether the task has not ended.
+    /// Whether the task is still running.
     #[inline(always)]
     pub fn is_running(&self) -> bool
         ensures { result ≡ is_none self.now.done }
@@ -109,7 +109,7 @@ impl Core {
         self.done.is_none()
     }
 
-    /// Whether two cores are one.
+    /// Whether two cores are equal.
     pub fn is_same(&self, other: &Core) -> bool
         ensures test { result ≡ same_state self.now other.now }
         ensures same { IsTrue result ↔ (self.now ≡ other.now) }
@@ -145,7 +145,7 @@ fn is_same_end(a: Option<End>, b: Option<End>) -> bool
 fn are_same_words(a: &[u32; 32], b: &[u32; 32]) -> bool
     ensures { result ≡ same_words a.now b.now }
 {
-    // No branch for each word: cores that are compared are mostly one.
+    // No branch for each word: cores that are compared are mostly equal.
     let mut differing = 0;
     for place in 0..a.len() {
         differing |= a[place] ^ b[place];

@@ -1,4 +1,4 @@
-// How a turn that asked ends, once its answer is there.
+// How a turn that asked ends, once it has its answer.
 
 ghost use Rattle.std.specs.Prelude.{◌≡◌, ◌<◌, None};
 ghost use Rattle.svc_core_laws.specs.Local.{goes_on, sets};
@@ -9,7 +9,7 @@ use svc_image::Image;
 use svc_rv32i::Register;
 
 impl Core {
-    /// Does an asked load, with the value that comes into the register, and the test for an entry.
+    /// Completes a load, given the register's new value, and ends the task if it is now at an entry.
     pub fn finish_load(&mut self, image: &Image, rd: Register, value: u32)
         requires running { self.old.done ≡ None }
         requires in_time { self.old.count < self.old.limit }
@@ -19,7 +19,7 @@ impl Core {
         self.arrive_at(image);
     }
 
-    /// Ends an asked store whose word is written, with the test for an entry.
+    /// Completes a store whose word is written, and ends the task if it is now at an entry.
     pub fn finish_store(&mut self, image: &Image)
         requires running { self.old.done ≡ None }
         requires in_time { self.old.count < self.old.limit }
@@ -29,7 +29,7 @@ impl Core {
         self.arrive_at(image);
     }
 
-    /// Ends an asked putting out of a word, with the test for an entry.
+    /// Completes an output, and ends the task if it is now at an entry.
     pub fn finish_emit(&mut self, image: &Image)
         requires running { self.old.done ≡ None }
         requires in_time { self.old.count < self.old.limit }

@@ -5,7 +5,7 @@ ghost use Rattle.svc_core_laws.specs.Numbers.{operated, compared};
 
 use svc_rv32i::{Comparison, Operation};
 
-/// What an operation gives for its two numbers; a shift takes the lowest five bits of the second.
+/// The result of an operation on two numbers; a shift takes the lowest five bits of the second.
 #[inline(always)]
 #[tactic(auto, unfolding(svc_core_laws::specs::Numbers::operated))]
 pub fn operate(op: Operation, a: u32, b: u32) -> u32
@@ -25,7 +25,7 @@ pub fn operate(op: Operation, a: u32, b: u32) -> u32
     }
 }
 
-/// Whether a branch is taken that tests these two numbers.
+/// Whether a branch that compares these two numbers is taken.
 #[inline(always)]
 #[tactic(auto, unfolding(svc_core_laws::specs::Numbers::compared))]
 pub fn compare(test: Comparison, a: u32, b: u32) -> bool

@@ -33,7 +33,7 @@ unfoldable pub bytes_of : List ℕ → List ℕ
 bytes_of [] = []
 bytes_of (w ∷ ws) = low_bytes 4 w ++ bytes_of ws
 
--- a flat memory of so many words
+-- a flat memory of `words` words
 pub record IsMemory (words : ℕ) (m : List ℕ) : Type 0 where
   pub size : length m ≡ 4 * words
   pub bytes : (i : ℕ) → slice_index m i < 256

@@ -18,16 +18,19 @@ plain_part img e n m = plain_turns img n (record { core = start img e; memory = 
 abbrev pub plain_task : Image → ℕ → List ℕ → Turn
 plain_task img e m = plain_part img e (suc (limit_of img e)) m
 
--- what the first tasks leave: the flat memory, the output, the entry of the next task, and the exit or trap that has stopped the run
+-- what the first tasks leave: the flat memory, the output, the entry of the next task, and the exit or trap that
+-- stopped the run. A run that has stopped stays as it is.
 pub record PlainSeq : Type 0 where
   pub memory : List ℕ
   pub output : List ℕ
   pub due : Option ℕ
   pub stopped : Option End
 
+-- what is left once this task has run
 abbrev pub after_task : PlainSeq → Turn → PlainSeq
 after_task s t = record { memory = t.memory; output = s.output ++ t.output; due = due_after t.core.done; stopped = stopped_after t.core.done }
 
+-- the next task, if one is due
 abbrev pub next_plain : Image → PlainSeq → Option ℕ → PlainSeq
 next_plain img s None = s
 next_plain img s (Some e) = after_task s (plain_task img e s.memory)
@@ -37,11 +40,11 @@ abbrev pub plain_seq : Image → ℕ → PlainSeq
 plain_seq img zero = record { memory = bytes_of img.words; output = []; due = Some img.start; stopped = None }
 plain_seq img (suc k) = let s = plain_seq img k in next_plain img s s.due
 
--- a run that goes on at this entry: it is full where no further event is accepted, and else open
+-- the ending of a run that could go on at this entry: full if no further event is accepted, otherwise open
 abbrev pub goes_on_at : Bool → ℕ → Ending
 goes_on_at full e = if full then ending.Full e else ending.Open e
 
--- the ending of a run: the exit or trap that has stopped it, and else the entry of the next task
+-- the ending of a run: the exit or trap that stopped it, otherwise the entry of the next task
 abbrev pub ending_of : Bool → Option End → Option ℕ → Ending
 ending_of full None due = goes_on_at full (unwrap_or due 0)
 ending_of full (Some (end.Next e)) due = goes_on_at full e
@@ -63,7 +66,7 @@ pub record IsSameSeq (img : Image) (s : PlainSeq) (w : Seq) : Type 0 where
   pub stopped : w.stopped ≡ s.stopped
   pub is_memory : IsMemory (data_words img) s.memory
 
--- two parts did the same: they leave the same core and have put out the same words, and each word that was written has the same value
+-- two parts did the same: they leave the same core and the same output, and each written word has the same value
 pub record IsSamePart (written : Words) (t u : Turn) : Type 0 where
   pub core : t.core ≡ u.core
   pub output : t.output ≡ u.output

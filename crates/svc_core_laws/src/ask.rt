@@ -22,12 +22,12 @@ pub enum Ask {
         addr: u32,
         value: u32,
     },
-    /// To put out a word.
+    /// To output a word.
     Emit(u32),
 }
 
 impl Ask {
-    /// Whether nothing is asked.
+    /// Whether it asks for nothing.
     pub fn is_nothing(self) -> bool
         ensures { result ≡ is_nothing self }
     {

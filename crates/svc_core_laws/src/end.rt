@@ -7,18 +7,18 @@ ghost use Rattle.svc_core_laws.specs.Sequence.{ending_of, goes_on_at};
 /// How a task ended.
 #[derive(Clone, Copy, Debug, PartialEq, Eq)]
 pub enum End {
-    /// The task came to the entry at this byte address, where the next task begins.
+    /// The task reached the entry at this byte address, where the next task begins.
     Next(u32),
-    /// The program asked to exit with this code.
+    /// The program exited with this code.
     Exit(u32),
-    /// A turn trapped. The numbers are 1 to 10: the limit of turns, a fetch outside the text, an illegal
-    /// word, a target that isn't a multiple of 4, a load or store that isn't aligned, one outside the data,
-    /// an unknown environment call, a breakpoint, a 65th word put out.
+    /// A turn trapped. The numbers are 1 to 10: the limit of turns, a fetch outside the text, an illegal word, a target
+    /// that isn't a multiple of 4, a load or store that isn't aligned, one outside the data, an unknown environment
+    /// call, a breakpoint, a 65th output word, a store to a read-only word.
     Trap(u8),
 }
 
 impl End {
-    /// The entry of the task after one that ended so, where there is one.
+    /// The entry of the next task, if the task ended by handing on.
     pub fn next(self) -> Option<u32>
         ensures { result ≡ due_after (Some self) }
     {
@@ -29,7 +29,7 @@ impl End {
         }
     }
 
-    /// The end, where it stops the run.
+    /// The end, if it stops the run.
     pub fn stop(self) -> Option<End>
         ensures { result ≡ stopped_after (Some self) }
     {
@@ -41,7 +41,7 @@ impl End {
     }
 }
 
-/// How a run ended, or why it goes on no further.
+/// How a run ended, or why it goes no further.
 #[derive(Clone, Copy, Debug, PartialEq, Eq)]
 pub enum Ending {
     /// The program exited with this code.
@@ -55,7 +55,7 @@ pub enum Ending {
 }
 
 impl Ending {
-    /// The ending of a run by the end that has stopped it, if one has, and the entry that is due.
+    /// The ending of a run, given the end that stopped it, if any, and the entry that is due.
     pub fn of(full: bool, stopped: Option<End>, due: Option<u32>) -> Ending
         ensures { result ≡ ending_of full stopped due }
     {

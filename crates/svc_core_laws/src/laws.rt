@@ -13,16 +13,16 @@ ghost use Rattle.svc_core_laws.specs.Words.{program, wants};
 ghost use Rattle.svc_core_laws.specs.Sequence.{plain_part, plain_task, plain_seq, IsSame, IsSamePart, IsSameSeq};
 ghost use Rattle.svc_core_laws.specs.Bursts.{Advance, IsAdvance};
 
-/// Where two memories agree on a part's exposed words, the part does the same on both: it gives the same
-/// core and the same actions, so the same output, exposed words, and written words with their values.
+/// If two memories agree on a part's exposed words, the part does the same on both: it gives the same core and the same
+/// actions, so the same output, exposed words, and written words with their values.
 pub fn same_part<C>()
     ensures { (p : Program C) → (entry turns : ℕ) → (m other : Memory)
         → ((a : ℕ) → exposed (part p entry turns m).log a ≡ true → m a ≡ other a)
         → part p entry turns m ≡ part p entry turns other }
 {}
 
-/// The same on flat memories of bytes: where two of them agree on the words that a part reads before it
-/// writes them, the part leaves the same core, output and written words on both.
+/// The same on flat memories of bytes: if two of them agree on the words that a part reads before it writes them, the
+/// part leaves the same core, output and written words on both.
 pub fn same_plain_part()
     ensures { (img : Image) → (entry turns : ℕ) → (m other : List ℕ)
         → IsMemory (data_words img) m → IsMemory (data_words img) other
@@ -38,8 +38,8 @@ pub fn ended_task_stays()
     ensures words { (img : Image) → (s : State) → (end : End) → s.done ≡ Some end → wants img s ≡ want.Local s }
 {}
 
-/// Each task has ended after one turn more than its limit. What else is asked of a program holds too: its
-/// ended tasks stay as they are, and a task that hands on does so at an entry.
+/// Each task has ended after one turn more than its limit. The other properties of a program hold too: its ended tasks
+/// stay as they are, and a task hands on only at an entry.
 pub fn every_task_ends()
     ensures words { (img : Image) → IsProgram (program img) }
     ensures bytes { (img : Image) → (entry : ℕ) → (m : List ℕ) → IsMemory (data_words img) m
@@ -54,8 +54,8 @@ pub fn one_turn_more()
         → part (program img) entry (n + 1) m ≡ turn (program img) (part (program img) entry n m) m }
 {}
 
-/// A load of n bytes from byte o of word a is an extraction from that word; a store there replaces bytes of
-/// that word, and leaves every other word.
+/// A load of n bytes from byte o of word a is an extraction from that word; a store there replaces bytes of that word,
+/// and leaves every other word.
 pub fn bytes_of_a_word()
     ensures load { (o n r a : ℕ) → (m : List ℕ) → o + (n + r) ≡ 4 → ((i : ℕ) → slice_index m i < 256)
         → number_at n (4 * a + o) m ≡ extracted o n (word_at m a) }
@@ -87,14 +87,13 @@ pub fn due_is_entry()
         → (seq (program img) k).due ≡ Some entry → is_entry img entry ≡ true }
 {}
 
-/// Advancing has one answer: of two bursts that turn out by its rule from one core, with the same unit and
-/// epoch, both are the same.
+/// Advancing has one answer: two bursts that follow its rule from one core, with the same unit and epoch, are the same.
 pub fn one_burst()
     ensures { (img : Image) → (max : ℕ) → (a b : Advance) → IsAdvance img max a → IsAdvance img max b
         → a.unit ≡ b.unit → a.epoch ≡ b.epoch → a.start ≡ b.start → a ≡ b }
 {}
 
-/// A core counts the words that its task has put out.
+/// A core counts the words that its task has output.
 pub fn words_are_counted()
     ensures { (img : Image) → (entry n : ℕ) → (m : Memory)
         → (part (program img) entry n m).core.emitted ≡ length (output (part (program img) entry n m).log) }

@@ -21,10 +21,10 @@ or_false true = refl
 or_false false = refl
 
 -- the exposed words after a read: there, and elsewhere
-read_here : (word : ℕ) (writes : Words) (exposes : ℕ → Bool) → with_read word writes exposes word ≡ (exposes word || is_none (writes word))
+pub read_here : (word : ℕ) (writes : Words) (exposes : ℕ → Bool) → with_read word writes exposes word ≡ (exposes word || is_none (writes word))
 read_here word writes exposes = ap (λ b. exposes word || (b && is_none (writes word))) (eq-eqb word word refl)
 
-read_there : (word : ℕ) (writes : Words) (exposes : ℕ → Bool) (a : ℕ) → (a ≡ word → ⊥) → with_read word writes exposes a ≡ exposes a
+pub read_there : (word : ℕ) (writes : Words) (exposes : ℕ → Bool) (a : ℕ) → (a ≡ word → ⊥) → with_read word writes exposes a ≡ exposes a
 read_there word writes exposes a ne = ap (λ b. exposes a || (b && is_none (writes a))) (ne_eqb word a (λ e. ne (sym e))) ∙ or_false (exposes a)
 
 write_here : (word v : ℕ) (writes : Words) → is_written (with_word word v writes) word ≡ true
@@ -165,7 +165,7 @@ module _ {C : Type 0} (p : Program C) (exposes : ℕ → Bool) (writes : Words) 
 
 -- ---- the same, of a word that there may be
 
-abbrev read_if : Option ℕ → Words → (ℕ → Bool) → ℕ → Bool
+abbrev pub read_if : Option ℕ → Words → (ℕ → Bool) → ℕ → Bool
 read_if None writes exposes = exposes
 read_if (Some word) writes exposes = with_read word writes exposes
 

@@ -6,3 +6,9 @@ pub mod Walked
 pub mod Between
 pub mod Told
 pub mod Texts
+pub mod Linked
+pub mod Once
+pub mod InOrder
+pub mod Grouped
+pub mod PairsTold
+pub mod Spaced

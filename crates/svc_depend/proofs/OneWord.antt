@@ -50,7 +50,7 @@ memory_is : (c : Option ℕ) → one_if (place_of c == 0) ≡ one_if (is_none c)
 memory_is None = refl
 memory_is (Some from) = let z : (from + 1 == 0) ≡ false = ne_eqb (from + 1) 0 (λ e. omega (arith, e)) in ap one_if z
 
-touched_is : {C : Type 0} (p : Program C) (task word : ℕ) (e w : Bool) (time : ℕ) (x : Word) → IsWord p task word e w time x → is_touched task x ≡ (e || w)
+pub touched_is : {C : Type 0} (p : Program C) (task word : ℕ) (e w : Bool) (time : ℕ) (x : Word) → IsWord p task word e w time x → is_touched task x ≡ (e || w)
 touched_is p task word e w time x h =
     ap₂ (λ (a b : Bool). a || b) h.reader (ap (λ (n : ℕ). n == task + 1) h.writer ∙ own_place task w (comes_from p task word) (earlier p task word))
 

@@ -10,7 +10,7 @@ use Rattle.svc_depend.specs.Told.{AreWords}
 use Rattle.svc_depend.specs.Words.{untouched}
 use Rattle.svc_depend.specs.WordRows.{kept_row, kept_table}
 
-text_same : (f g : ℕ → List ℕ) (n : ℕ) → ((i : ℕ) → i < n → f i ≡ g i) → text_over f n ≡ text_over g n
+pub text_same : (f g : ℕ → List ℕ) (n : ℕ) → ((i : ℕ) → i < n → f i ≡ g i) → text_over f n ≡ text_over g n
 text_same f g zero h = refl
 text_same f g (suc n) h = ap₂ (λ x y. x ++ y) (text_same f g n (λ i b. h i (omega (arith, b)))) (h n (omega arith))
 

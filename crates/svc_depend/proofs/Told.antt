@@ -20,7 +20,10 @@ use Rattle.svc_depend_laws.proofs.Stopped.{ends_for_good}
 use Rattle.svc_depend.specs.declared.needs.TaskNeeds.{TaskNeeds}
 use Rattle.svc_depend.specs.declared.needs.Totals.{Totals}
 use Rattle.svc_depend.specs.declared.tracker.Tracker.{Tracker}
+use Rattle.svc_depend.specs.declared.links.Link.{Link}
+use Rattle.svc_depend.specs.Links.{AreLinks}
 use Rattle.svc_depend.specs.Tracking.{IsBelow, IsTracked, told_of}
+use Rattle.svc_depend.proofs.Linked.{AreLinked}
 use Rattle.svc_depend.specs.Told.{AreFew, AreOf, AreWords, IsFew, added, nothing_yet, task_needs, totals}
 use Rattle.svc_depend.specs.Walks.{IsFollowed, IsWalked}
 use Rattle.svc_depend_laws.proofs.Nearness.{nearest_of_all}
@@ -82,6 +85,12 @@ module _ (img : Image) (sound : IsImage img) (j : ℕ) (m : List ℕ) (entry : �
   pub followed : IsTracked p (exposed (said p j)) (wrote (said p j)) clock.stores clock.now u
   followed = subst (λ (l : List Action). IsTracked p (exposed l) (wrote l) clock.stores clock.now u) (sym log_is) (walked.tracked (times_before p j) h.tracked)
 
+  -- what the task was linked to is what its number's is
+  pub links_are : (links : List Link) → AreLinked img entry (suc (limit_of img entry)) m s links → AreLinks p j (exposed (said p j)) links
+  links_are links linked =
+      subst (λ (l : List Action). AreLinks p j (exposed l) links) (sym log_is)
+      (subst (λ (k : ℕ). AreLinks p k (exposed run_.log) links) h.task (linked (times_before p j) h.tracked))
+
   pub row_is : told_of entry s.turns u ≡ task_needs img j
   row_is =
       let t = followed in
@@ -142,6 +151,22 @@ module _ (img : Image) (sound : IsImage img) (j : ℕ) (m : List ℕ) (entry : �
             record { turns = omega (arith, a, x); needs = omega (arith, b, y); memory = omega (arith, c, z) });
       }
 
+-- the same, where nothing is kept of the tasks
+pub one_more_task : (img : Image) (sound : IsImage img) (j : ℕ) (m : List ℕ) (entry : ℕ) (last : Option End) (s : Tracker) → IsFollowed img j m (Some entry) last s (listed (task_needs img) j) (totals img j)
+    → (core : State) (after : List ℕ) (u : Tracker) → IsWalked img entry (suc (limit_of img entry)) m s core after u → j < 1000000
+    → (end : End) (next : Option ℕ) (stop : Option End) (t : Tracker) (then : List ℕ) → core.done ≡ Some end → next ≡ due_after (Some end) → stop ≡ stopped_after (Some end)
+    → then ≡ after → length after ≡ length m → u.turns ≤ s.turns + 65537 → t.task ≡ u.task + 1 → t.turns ≡ u.turns → length t.words.items ≡ length u.words.items → IsBelow (3 * t.turns) t
+    → ((p : Program State) → (times : Times) → (now : ℕ) → IsTracked p (exposed (said p u.task)) (wrote (said p u.task)) times now u → IsTracked p no_reads no_words times 0 t)
+    → IsFollowed img (j + 1) then next stop t (listed (task_needs img) (j + 1)) (totals img (j + 1))
+one_more_task img sound j m entry last s h core after u walked early end next stop t then done next_is stop_is then_is length_is few task_next turns_next size_next below tracks =
+    let rows : List TaskNeeds = listed (task_needs img) j in
+    let row : TaskNeeds = told_of entry s.turns u in
+    let next_task : IsFollowed img (j + 1) then next stop t (rows ++ row ∷ []) (added row (totals img j)) =
+    one_more img sound j m entry last s rows (totals img j) h core after u walked end next stop t then row (rows ++ row ∷ []) (added row (totals img j)) done next_is stop_is then_is length_is few task_next turns_next size_next below tracks
+    refl (row_few img sound j m entry last s rows (totals img j) h core after u walked early few walked.below) refl refl in
+    subst (λ (l : List TaskNeeds). IsFollowed img (j + 1) then next stop t l (totals img (j + 1))) next_task.told_is
+    (subst (λ (x : Totals). IsFollowed img (j + 1) then next stop t (rows ++ row ∷ []) x) next_task.all_is next_task)
+
 -- ---- at the end
 
 -- the first k tasks were followed, or as many as there are
@@ -152,7 +177,7 @@ module _ (img : Image) (sound : IsImage img) (k j : ℕ) (m : List ℕ) (due : O
     | inr none ↦ idle_until img j k j m (seq (program img) j).output due stopped sound few none h.run
   ]
 
-  count_is : j ≡ tasks_run img k
+  pub count_is : j ≡ tasks_run img k
   count_is = whole_run.tasks
 
   pub all_told : rows ≡ listed (task_needs img) (tasks_run img k)

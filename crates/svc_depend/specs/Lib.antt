@@ -4,4 +4,6 @@ pub mod Tracking
 pub mod Walks
 pub mod Told
 pub mod Tables
+pub mod Pairs
+pub mod Links
 pub mod WordRows

@@ -2,6 +2,7 @@
 
 ghost use Rattle.std.specs.Prelude.{◌≡◌, ◌<◌, ◌^◌, cond, ℕ};
 ghost use Rattle.svc_depend_laws.specs.Over.{lesser};
+ghost use Rattle.svc_depend.specs.Links.{origin_of};
 ghost use Rattle.svc_depend.specs.Words.{distance_back, is_touched, read_by, untouched, written_by};
 
 /// What the tasks so far have done with a word.
@@ -95,6 +96,18 @@ impl Word {
         ensures { result ≡ is_touched task self.now }
     {
         self.reader == task + 1 || self.writer == task + 1
+    }
+
+    /// The task from which it comes, where this one, which reads it, needs it here for the first time.
+    pub(crate) fn origin(&self, task: u32) -> Option<u32>
+        requires { task < 2 ^ 31 }
+        ensures { result ≡ origin_of task self.now }
+    {
+        if self.is_touched(task) || self.writer == 0 {
+            None
+        } else {
+            Some(self.writer - 1)
+        }
     }
 
     /// This task reads it.

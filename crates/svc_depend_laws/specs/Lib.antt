@@ -1,6 +1,7 @@
 pub mod Over
 pub mod Needs
 pub mod Counts
+pub mod Pairs
 pub mod Rightly
 pub mod Turns
 pub mod Chain

@@ -1,2 +1,1 @@
-pub mod Wordwise
-pub mod Putting
+pub mod Made

@@ -1,5 +1,5 @@
 -- Where the lines of a program put what they say, and the image that this makes.
-use Rattle.std.specs.Prelude.{◌≡◌, ℕ, ◌+◌, ◌*◌, ◌-◌, ◌/◌, ◌%◌, ◌^◌, ◌≤◌, Bool, true, false, nat_eq, nat_le, nat_lt, is_some, ◌==◌, List, [], ◌∷◌, ◌++◌, length, map, Option, Some, None, unwrap_or, if◌then◌else◌, slice_set, slice_get, option_map, take, drop, ◌&&◌, not}
+use Rattle.std.specs.Prelude.{◌≡◌, ℕ, ◌+◌, ◌*◌, ◌-◌, ◌/◌, ◌%◌, ◌^◌, Bool, true, false, nat_eq, nat_le, nat_lt, is_some, ◌==◌, List, [], ◌∷◌, ◌++◌, length, map, Option, Some, None, unwrap_or, if◌then◌else◌, slice_set, slice_get, option_map, take, drop, ◌&&◌, not}
 use Rattle.std.specs.List.{list_any}
 use Rattle.std.specs.Str.{bytes_eq}
 use Rattle.std.specs.Map.{update}
@@ -7,9 +7,12 @@ use Rattle.std.specs.HashMap.{get, get_by}
 use Rattle.svc_rv32i.specs.declared.instr.Register.{Register}
 use Rattle.svc_image.specs.declared.version.Version.{Version}
 use Rattle.svc_image.specs.declared.version.Version.TheVariants as version
-use Rattle.svc_image.specs.Version.{version_number, own_number, listed}
+use Rattle.svc_image.specs.declared.parts.Own.{Own}
+use Rattle.svc_image.specs.declared.parts.Own.TheVariants as own
+use Rattle.svc_image.specs.declared.layout.TheConstants.{DATA_START}
+use Rattle.svc_image.specs.Version.{read_only_by, limits_by}
 use Rattle.svc_image.specs.Image.{Image}
-use Rattle.svc_image.specs.Format.{magic, bytes_of_half, bytes_of_word, bytes_of_words, file_of}
+use Rattle.svc_image.specs.Format.{words_in}
 use Rattle.svc_draft.specs.declared.section.Section.{Section}
 use Rattle.svc_draft.specs.declared.section.Section.TheVariants as section
 use Rattle.svc_draft.specs.declared.section.Spot.{Spot}
@@ -71,8 +74,8 @@ layout_of d = record {
   read_only = d.read_only;
   start = d.start;
   registers = d.registers;
-  entries = d.entries.items;
-  limits = d.limits.items;
+  entries = map (λ m. m.place) d.entries.items;
+  limits = map (λ m. m.limit) d.entries.items;
   text = d.text.items;
   rodata_bytes = d.rodata_bytes.items;
   data_bytes = d.data_bytes.items;
@@ -137,12 +140,12 @@ size_in section.Bss d = length d.bss_bytes
 abbrev pub size : Layout → ℕ
 size d = size_in d.section d
 
--- where a section begins: the text at 0, the data at 0x00100000
+-- where a section begins: the text at 0
 abbrev pub base : Section → Layout → ℕ
 base section.Text d = 0
-base section.Rodata d = 1048576
-base section.Data d = 1048576 + d.data_from
-base section.Bss d = 1048576 + d.bss_from
+base section.Rodata d = DATA_START
+base section.Data d = DATA_START + d.data_from
+base section.Bss d = DATA_START + d.bss_from
 
 -- the byte address of a place, and of what comes next
 abbrev pub place : Layout → Spot → ℕ
@@ -309,7 +312,6 @@ abbrev pub after : List ℕ → Statement → Layout → Option Layout
 after name say.Nothing d = Some d
 after name say.Label d = with_symbol name (spot_here d) d
 after name (say.Instruction w) d = with_instruction w d
-after name (say.Word n) d = with_value wide.Word n d
 after name (say.Version v) d = with_version v d
 after name say.ReadOnly d = with_read_only d
 after name (say.Entry limit) d = with_entry limit d
@@ -340,25 +342,27 @@ start_in None entries = first_entry entries
 abbrev pub limits_in : ℕ → List (Option ℕ) → List ℕ
 limits_in limit own = map (λ o. unwrap_or o limit) own
 
--- the bytes of the image's file that has this data
-unfoldable pub file_in : Layout → List ℕ → List ℕ
-file_in d bytes =
-    magic ++ (bytes_of_half (version_number (version_in d.version)) ++ (bytes_of_half (length d.entries) ++ (bytes_of_word (length d.text)
-    ++ (bytes_of_word (length bytes / 4) ++ (bytes_of_word (own_number (version_in d.version) d.limit d.read_only) ++ (bytes_of_word (start_in d.start d.entries)
-    ++ (bytes_of_words d.registers ++ (bytes_of_words d.entries ++ (bytes_of_words (listed (version_in d.version) (limits_in d.limit d.limits))
-    ++ (bytes_of_words d.text ++ bytes))))))))))
-
--- a layout and its data have no more parts than an image may have
-pub record HasFewParts (d : Layout) (bytes : List ℕ) : Type 0 where
-  pub entries_few : length d.entries ≤ 1024
-  pub text_few : length d.text ≤ 65536
-  pub data_few : length bytes / 4 ≤ 65536
-
 -- the data of a layout: its sections, one behind the other
 abbrev pub data_in : Layout → List ℕ
 data_in d = data_of d.rodata_bytes d.data_bytes d.bss_bytes
 
+-- what the version of a layout has in its own way
+abbrev pub IsOwnOf : Own → Layout → Type 0
+IsOwnOf (own.One limit) d = (version_in d.version ≡ version.One) × (limit ≡ d.limit)
+IsOwnOf (own.Two read_only limits) d = (version_in d.version ≡ version.Two) × (read_only ≡ d.read_only) × (limits.items ≡ limits_in d.limit d.limits)
+
 -- the image that a layout makes
-pub record IsMadeOf (d : Layout) (img : Image) : Type 0 where
-  pub few : HasFewParts d (data_in d)
-  pub file : file_of img ≡ file_in d (data_in d)
+unfoldable pub image_laid : Layout → Image
+image_laid d = record {
+  version = version_in d.version;
+  read_only = read_only_by (version_in d.version) d.read_only;
+  start = start_in d.start d.entries;
+  registers = d.registers;
+  entries = d.entries;
+  limits = limits_by (version_in d.version) (length d.entries) d.limit (limits_in d.limit d.limits);
+  text = d.text;
+  words = words_in (length (data_in d) / 4) (data_in d);
+}
+
+abbrev pub IsMadeOf : Layout → Image → Type 0
+IsMadeOf d img = img ≡ image_laid d

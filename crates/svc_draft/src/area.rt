@@ -8,10 +8,10 @@ ghost use Rattle.svc_draft.specs.Refusals.{Refuses};
 
 use crate::refusal::Refusal;
 use std::alloc::Global;
-use svc_image::ImageError;
+use svc_image::{ImageError, MOST_WORDS};
 
-/// The most bytes of a section.
-const MOST_BYTES: usize = 262_144;
+// The most bytes of a section.
+const MOST_BYTES: usize = 4 * MOST_WORDS as usize;
 
 /// How many bytes it is to the next multiple of a step, and none where the step is 0.
 pub fn padding(step: u32, size: u32) -> u32
@@ -71,6 +71,7 @@ fn put_filled(all: &mut Vec<u8>, section: &[u8]) -> Result<(), ImageError>
     requires all { length all.old.items ≤ 524288 }
     ensures ok { OnOk result (all.new.items ≡ all.old.items ++ filled section.now) }
     ensures few { length all.new.items ≤ length all.old.items + 262144 }
+    ensures whole { OnOk result (length all.old.items % 4 ≡ 0 → length all.new.items % 4 ≡ 0) }
     ensures err { IfErr result (λ e. e ≡ image_error.Memory) }
 {
     all.extend_from_slice(section)?;
@@ -87,6 +88,7 @@ pub fn join(alloc: Global, rodata: &[u8], middle: &[u8], bss: &[u8]) -> Result<V
     requires middle { length middle.now ≤ 262144 }
     requires bss { length bss.now ≤ 262144 }
     ensures ok { IfOk result (λ all. all.items ≡ data_of rodata.now middle.now bss.now) }
+    ensures whole { IfOk result (λ all. length all.items % 4 ≡ 0) }
     ensures err { IfErr result (λ e. e ≡ image_error.Memory) }
 {
     let mut all = Vec::new(alloc);

@@ -3,13 +3,20 @@
 
 mod area;
 mod bytes;
+mod data;
 mod draft;
+mod labels;
 mod locals;
+mod making;
+mod marks;
 mod refusal;
 mod section;
+mod settings;
 mod statement;
+mod text;
 
 pub use draft::Draft;
+pub use marks::Mark;
 pub use refusal::Refusal;
 pub use section::{Local, Section, Spot};
 pub use statement::{Ending, Next, Statement, Width};

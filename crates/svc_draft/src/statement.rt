@@ -49,8 +49,6 @@ pub enum Statement {
     Label,
     /// An instruction, as its word.
     Instruction(u32),
-    /// `.word N`: a word of the section.
-    Word(u32),
     /// `.svc_version 1` or `.svc_version 2`: the version of the image's file.
     Version(Version),
     /// `.svc_readonly`: the data up to here is read-only.
@@ -71,7 +69,7 @@ pub enum Statement {
     Align(u32),
     /// The beginning of a list, a string or a name with its value, which this begins.
     Open(Next),
-    /// A number of a list, or a character of a string, and what is read next.
+    /// A number, as of `.word N` or of a list, or a character of a string, and what is read next.
     Value(Width, u32, Next),
     /// A name and what it stands for: the end of `.set NAME, VALUE`.
     Symbol(Spot),

@@ -8,18 +8,18 @@ use Rattle.svc_task_runs.specs.Runs.{tasks_of}
 use Rattle.svc_draw.specs.declared.bars.Bar.{Bar}
 use Rattle.svc_draw.specs.declared.bars.Window.{Window}
 
--- so many entries from an index on, as far as there are any
+-- n entries from an index on, as far as there are any
 abbrev pub window_of : List Entry → (first : ℕ) → (count : ℕ) → Window
 window_of es first count = record {
   from = min first (length es);
   to = min first (length es) + min count (length es - min first (length es));
 }
 
--- the entry that decides a task's fate; while none does, the one after the last that is shown
+-- the entry that decides a task's fate or, until one does, the one after the last shown
 abbrev pub end_of : Window → TaskRun → ℕ
 end_of w r = unwrap_or r.last w.to
 
--- one of the entries from a task's assignment to the end of it is shown
+-- one of the entries from a task's assignment to its end is shown
 abbrev pub is_shown : Window → TaskRun → Bool
 is_shown w r = nat_lt r.first w.to && nat_le w.from (end_of w r)
 
@@ -31,6 +31,7 @@ cut w r = record {
   end = cond (nat_lt w.to (end_of w r)) w.to (end_of w r);
 }
 
+-- the bar of a task, if any of it is shown
 abbrev pub bar_of : Window → TaskRun → Option Bar
 bar_of w r = cond (is_shown w r) (Some (cut w r)) None
 

@@ -19,7 +19,7 @@ use Rattle.svc_draw.specs.declared.marks.MarkKind.{MarkKind}
 use Rattle.svc_draw.specs.declared.marks.MarkKind.TheVariants as mark
 use Rattle.svc_draw.specs.Bars.{runs}
 
--- what a reply tells, if anything
+-- the kind of mark that a reply makes, if any
 abbrev pub kind_of : ReplyKind → Option MarkKind
 kind_of reply.Loaded = Some mark.Load
 kind_of reply.Stored = Some mark.Store
@@ -45,18 +45,21 @@ abbrev pub is_same_word : Option WordAddr → Option WordAddr → Bool
 is_same_word (Some a) (Some b) = a.0 == b.0
 is_same_word _ _ = false
 
--- the entry is a store of that word by the unit; a read of it by the unit that was served from elsewhere
+-- the entry is a store of that word by the unit; and a read of it by the unit that another supplier than its own
+-- version served
 abbrev pub stores : UnitId → Option WordAddr → Entry → Bool
 stores unit word e = is_store e.reply && ((e.unit.0 == unit.0) && is_same_word e.addr word)
 
+-- the entry is a read of that word by the unit that another supplier than its own version served
 abbrev pub takes : UnitId → Option WordAddr → Entry → Bool
 takes unit word e = is_taken e.served && ((e.unit.0 == unit.0) && is_same_word e.addr word)
 
--- the index of the first such entry, and of the last, where these begin at an index
+-- the index of the first such entry, and of the last, if these begin at an index
 unfoldable pub first_where : (Entry → Bool) → (at : ℕ) → List Entry → Option ℕ
 first_where p at [] = None
 first_where p at (e ∷ es) = cond (p e) (Some at) (first_where p (suc at) es)
 
+-- the last one found so far
 unfoldable pub last_where : (Entry → Bool) → (found : Option ℕ) → (at : ℕ) → List Entry → Option ℕ
 last_where p found at [] = found
 last_where p found at (e ∷ es) = last_where p (cond (p e) (Some at) found) (suc at) es
@@ -84,6 +87,7 @@ unfoldable pub left_at : (at : ℕ) → List Bar → List Bar
 left_at at [] = []
 left_at at (b ∷ bs) = cond (is_over at b) (left_at at bs) (b ∷ bs)
 
+-- the task of a bar
 abbrev pub task_of : Option Bar → Option TaskRun
 task_of None = None
 task_of (Some b) = Some b.task
@@ -92,7 +96,7 @@ task_of (Some b) = Some b.task
 abbrev pub task_at : List Bar → (unit : ℕ) → (at : ℕ) → Option TaskRun
 task_at bs unit at = task_of (first_bar (runs unit at) bs)
 
--- the first task that the entry squashes: its number is told, and the entry ended it
+-- the first task that the entry squashes: the entry gives its number, and ended it
 abbrev pub is_victim : Entry → (at : ℕ) → Bar → Bool
 is_victim e at b = is_number e.first b.task.number && is_number b.task.last at
 
@@ -100,7 +104,7 @@ is_victim e at b = is_number e.first b.task.number && is_number b.task.last at
 abbrev pub last_shown : List Entry → Window → (at : ℕ) → UnitId → Option WordAddr → Option ℕ
 last_shown es w at unit word = last_where (stores unit word) None w.from (between w.from at es)
 
--- where a given version was last stored, by what is known of that
+-- where a given version was last stored, given what is known of that
 abbrev pub handed_by : (UnitId → Option WordAddr → Option ℕ) → Entry → Option UnitId → Option Spot
 handed_by place e None = None
 handed_by place e (Some unit) = cond (is_given e.served) (Some (record { lane = unit; place = place unit e.addr })) None
@@ -115,6 +119,7 @@ taken es at e None = None
 taken es at e (Some b) =
     Some (record { lane = b.task.unit; place = first_where (takes b.task.unit e.addr) b.start (between b.start at es) })
 
+-- where the first task squashed by a violation had read the word too early
 abbrev pub squashed : List Entry → List Bar → (at : ℕ) → Entry → Option CutKind → Option Spot
 squashed es bs at e (Some cause.Violation) = taken es at e (first_bar (is_victim e at) bs)
 squashed es bs at e _ = None
@@ -125,18 +130,20 @@ shape bs at e None = []
 shape bs at e (Some kind) =
     record { kind = kind; entry = e; place = at; task = task_at bs e.unit.0 at; other = None } ∷ []
 
+-- an arrow, if it has another end
 abbrev pub arrow : MarkKind → List Bar → (at : ℕ) → Entry → Option Spot → List Mark
 arrow kind bs at e None = []
 arrow kind bs at e (Some spot) =
     record { kind = kind; entry = e; place = at; task = task_at bs e.unit.0 at; other = Some spot } ∷ []
 
--- the marks of an entry, by what is known of the stores before it, and by the entries that are shown
+-- the marks of an entry, given what is known of the stores before it, and the entries shown
 abbrev pub marks_by : (UnitId → Option WordAddr → Option ℕ) → List Entry → List Bar → (at : ℕ) → Entry → List Mark
 marks_by place es bs at e =
     shape bs at e (kind_of e.reply)
     ++ (arrow mark.Handed bs at e (handed_by place e e.from)
     ++ arrow mark.Squash bs at e (squashed es bs at e e.cause))
 
+-- the marks of the entry at an index
 abbrev pub marks_at : List Entry → Window → List Bar → (at : ℕ) → Entry → List Mark
 marks_at es w bs at e = marks_by (last_shown es w at) es bs at e
 

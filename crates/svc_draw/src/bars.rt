@@ -9,7 +9,7 @@ use std::alloc::{AllocError, Global};
 use svc_history_laws::Entry;
 use svc_task_runs::{TaskRun, tasks_of};
 
-/// The entries that a picture shows, counted from 0: those from one index on, and before another.
+/// The entries that a picture shows, counted from 0: from one index up to, but not including, another.
 #[derive(Clone, Copy)]
 pub struct Window {
     /// The first one.
@@ -19,7 +19,7 @@ pub struct Window {
 }
 
 impl Window {
-    /// So many entries from an index on, as far as there are any.
+    /// This many entries from an index on, as far as there are any.
     pub fn of(entries: &[Entry], from: u64, count: u64) -> Window
         ensures { result ≡ window_of entries.now from count }
     {
@@ -32,12 +32,12 @@ impl Window {
     }
 }
 
-/// A task that is active at one of the entries shown. A bar that ends at the window's end goes on past it.
+/// The bar of a task that is active at one of the entries shown. A bar that ends at the window's end goes on past it.
 #[derive(Clone, Copy)]
 pub struct Bar {
     /// The task.
     pub task: TaskRun,
-    /// The first entry of its that is shown.
+    /// The first of its entries that is shown.
     pub start: u64,
     /// The entry that decided its fate, or the end of those shown.
     pub end: u64,
@@ -83,7 +83,7 @@ fn push_bar(bar: Option<Bar>, bars: &mut Vec<Bar>) -> Result<(), AllocError>
     Ok(())
 }
 
-/// The bars of the tasks that are active at one of the entries shown, those of decided fate first.
+/// The bars of the tasks that are active at one of the entries shown; those with a decided fate come first.
 ///
 /// Errors: [`AllocError`], if memory runs out.
 pub fn bars_of(alloc: Global, entries: &[Entry], window: &Window) -> Result<Vec<Bar>, AllocError>

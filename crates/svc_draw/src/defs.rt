@@ -2,7 +2,7 @@
 
 use svc_task_runs::Fate;
 
-/// What a picture begins with: its size, and the hatchings.
+/// The beginning of a picture: its size, and the hatchings.
 pub(crate) const HEAD: &str = "<?xml version='1.0' encoding='UTF-8'?>
 <svg xmlns='http://www.w3.org/2000/svg' width='1600' height='900' viewBox='0 0 1600 900' \
     font-family='Helvetica, Arial, sans-serif' font-size='14' fill='#111'>

@@ -12,7 +12,7 @@ use itoa::Buffer;
 use std::alloc::AllocError;
 use svc_text::put;
 
-// What a text stands in: black on a white rim.
+// The style of a text: black on a white rim.
 const RIM: &str = "paint-order='stroke' stroke='#fff' stroke-width='4' stroke-linejoin='round'";
 
 const THIN: &str = "stroke='#14508c' stroke-width='2' marker-end='url(#thin)'";
@@ -44,7 +44,7 @@ pub(crate) fn write_bar(frame: &Frame, bar: &Bar, text: &mut Vec<u8>) -> Result<
     Ok(())
 }
 
-/// Writes what a bar says of its task: its number and entry, as far as there is room.
+/// Writes a bar's text, the task's number and entry, as far as there is room.
 pub(crate) fn write_name(frame: &Frame, bar: &Bar, text: &mut Vec<u8>) -> Result<(), AllocError> {
     let x = frame.bar_left(bar) + 4;
     let y = frame.bar_top(bar.task.unit.0) + 12;
@@ -68,7 +68,7 @@ pub(crate) fn write_name(frame: &Frame, bar: &Bar, text: &mut Vec<u8>) -> Result
     Ok(())
 }
 
-// Writes a mark's row of the trace, for the pointer.
+// Writes a mark's row of the trace, which shows at the pointer.
 fn write_title(
     frame: &Frame,
     rows: &Rows,
@@ -100,7 +100,7 @@ fn arrow(text: &mut Vec<u8>, from: Point, to: Point, form: &str) -> Result<(), A
     Ok(())
 }
 
-/// Writes a mark: what it is, and its row of the trace.
+/// Writes a mark: its element, and its row of the trace.
 pub(crate) fn write_mark(
     frame: &Frame,
     rows: &Rows,
@@ -123,7 +123,7 @@ pub(crate) fn write_mark(
     Ok(())
 }
 
-// The element that a mark is.
+// The element of a mark.
 fn close_of(kind: MarkKind) -> &'static str {
     match kind {
         MarkKind::Load => "circle",
@@ -132,7 +132,7 @@ fn close_of(kind: MarkKind) -> &'static str {
     }
 }
 
-// Writes what an arrow says, at its middle.
+// Writes an arrow's text, at its middle.
 fn write_saying(
     from: Point,
     to: Point,
@@ -159,7 +159,7 @@ fn write_value(frame: &Frame, mark: &Mark, text: &mut Vec<u8>) -> Result<(), All
     Ok(())
 }
 
-// Writes what a commit's line stands for, at its top.
+// Writes the text of a commit's line, at its top.
 fn write_committed(frame: &Frame, mark: &Mark, text: &mut Vec<u8>) -> Result<(), AllocError> {
     let x = frame.x(mark.place) - 6;
     let y = TOP + 18;
@@ -168,7 +168,7 @@ fn write_committed(frame: &Frame, mark: &Mark, text: &mut Vec<u8>) -> Result<(),
     Ok(())
 }
 
-/// Writes what a mark stands for.
+/// Writes a mark's text.
 pub(crate) fn write_words(
     frame: &Frame,
     mark: &Mark,

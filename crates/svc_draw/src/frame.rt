@@ -48,7 +48,7 @@ pub(crate) struct Frame {
 }
 
 impl Frame {
-    /// How many entries are shown; 1 where none are.
+    /// How many entries are shown; 1 if there are none.
     pub(crate) fn count(&self) -> u64
         ensures some { 0 < result }
         ensures few { result ≤ MAX_EVENTS }
@@ -61,7 +61,7 @@ impl Frame {
         WIDTH / self.count()
     }
 
-    /// The middle of an entry; an edge where it isn't shown.
+    /// The middle of an entry; an edge if it isn't shown.
     pub(crate) fn x(&self, place: u64) -> u64
         ensures left { LEFT ≤ result }
         ensures right { result ≤ RIGHT }
@@ -142,7 +142,7 @@ impl Frame {
         self.point(mark.entry.unit, Some(mark.place))
     }
 
-    /// The other end of a mark's arrow; the mark itself where there is none.
+    /// The other end of a mark's arrow; the mark itself if there is none.
     pub(crate) fn other_end(&self, mark: &Mark) -> Point {
         match mark.other {
             Some(spot) => self.point(spot.lane, spot.place),
@@ -150,7 +150,7 @@ impl Frame {
         }
     }
 
-    // The middle of a place; at the left edge where it stands before what is shown.
+    // The middle of a place; the left edge if it comes before what is shown.
     fn point(&self, lane: UnitId, place: Option<u64>) -> Point {
         let x = match place {
             Some(place) => self.x(place),

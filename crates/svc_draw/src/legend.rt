@@ -1,4 +1,4 @@
-// What stands around the bars and marks of a picture: its legend, its lanes and its axis.
+// What surrounds the bars and marks of a picture: its legend, its lanes and its axis.
 
 ghost use Rattle.std.specs.Prelude.{◌≤◌, ◌<◌};
 
@@ -45,7 +45,7 @@ fn write_fates(text: &mut Vec<u8>) -> Result<(), AllocError> {
     Ok(())
 }
 
-// A sample of each shape, and what it stands for.
+// A sample of each shape, with its meaning.
 fn write_shapes(text: &mut Vec<u8>) -> Result<(), AllocError> {
     ring(text, Point { x: 106, y: 90 }, 8)?;
     put!(text; "</circle><text x='130' y='95'>load</text>\n");

@@ -13,14 +13,14 @@ use svc_base::{UnitId, WordAddr};
 use svc_history_laws::{CutKind, Entry, ReplyKind, ServedKind};
 use svc_task_runs::TaskRun;
 
-/// What a mark tells.
+/// What a mark shows.
 #[derive(Clone, Copy)]
 pub enum MarkKind {
     /// A word was loaded.
     Load,
     /// A word was stored.
     Store,
-    /// A word was put out.
+    /// A word was output.
     PutOut,
     /// A task was committed.
     Commit,
@@ -35,26 +35,26 @@ pub enum MarkKind {
 pub struct Spot {
     /// The unit.
     pub lane: UnitId,
-    /// The index of an entry; none where that stands before those shown.
+    /// The index of an entry; none if that comes before those shown.
     pub place: Option<u64>,
 }
 
 /// A mark of the picture.
 #[derive(Clone, Copy)]
 pub struct Mark {
-    /// What it tells.
+    /// What it shows.
     pub kind: MarkKind,
-    /// The entry that it tells of, on whose unit's lane it stands.
+    /// The entry that it shows; it stands on that unit's lane.
     pub entry: Entry,
     /// The index of that entry.
     pub place: u64,
-    /// The task whose entry that is, with its number and its fate.
+    /// The task of that entry, with its number and its fate.
     pub task: Option<TaskRun>,
     /// The other end of an arrow.
     pub other: Option<Spot>,
 }
 
-// What the reply tells, if anything.
+// The kind of mark that the reply makes, if any.
 fn kind_of(reply: ReplyKind) -> Option<MarkKind>
     ensures { result ≡ kind_of reply }
 {
@@ -97,7 +97,7 @@ fn is_taken(served: Option<ServedKind>) -> bool
     }
 }
 
-// The entry is a read of the word by the unit that was served from elsewhere.
+// The entry is a read of the word by the unit that another supplier than its own version served.
 fn takes(unit: UnitId, word: Option<WordAddr>, entry: &Entry) -> bool
     ensures { result ≡ takes unit word entry.now }
 {
@@ -133,7 +133,7 @@ fn task_at(bars: &[Bar], unit: u8, at: u64) -> Option<TaskRun>
     None
 }
 
-// The number is there, and is this one.
+// There is a number, and it is this one.
 fn is_told(told: Option<u32>, number: u64) -> bool
     ensures { result ≡ is_number told number }
 {
@@ -143,7 +143,7 @@ fn is_told(told: Option<u32>, number: u64) -> bool
     }
 }
 
-// The number is there, and is this one.
+// There is a number, and it is this one.
 fn is_index(told: Option<u64>, index: u64) -> bool
     ensures { result ≡ is_number told index }
 {
@@ -166,7 +166,7 @@ fn victim(bars: &[Bar], entry: &Entry, at: u64) -> Option<Bar>
     None
 }
 
-// Where the version was stored that the entry's read was given, if it was another's.
+// Where the version that the entry's read was given was stored, if it was another unit's.
 fn handed_by(stores: &LastStores, entry: &Entry) -> Option<Spot>
     ensures { result ≡ handed_by (last_store stores.now) entry.now entry.now.from }
 {
@@ -180,7 +180,7 @@ fn handed_by(stores: &LastStores, entry: &Entry) -> Option<Spot>
     })
 }
 
-// The index of the first entry from one index on, and before another, by which the unit took the word from elsewhere.
+// The first entry, from one index on and before another, by which the unit took the word from elsewhere.
 #[tactic(auto, using(crate::proofs::Searching::no_entry_between))]
 fn taken_between(
     entries: &[Entry],
@@ -298,7 +298,7 @@ fn push_marks(
     )
 }
 
-// The bar's task was decided before an index, and so the bar has ended there.
+// The bar's task was decided before an index, so the bar has ended there.
 fn is_over(bar: &Bar, at: u64) -> bool
     ensures { result ≡ is_over at bar.now }
 {
@@ -308,7 +308,7 @@ fn is_over(bar: &Bar, at: u64) -> bool
     }
 }
 
-// The bars without the first ones that are over. Tasks stand in the order in which they were decided, so few are left
+// The bars without the first ones that are over. Tasks are in the order in which they were decided, so few remain
 // before those that run.
 fn left_at(bars: &[Bar], at: u64) -> &[Bar]
     ensures { result.now ≡ left_at at bars.now }

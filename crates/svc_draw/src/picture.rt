@@ -16,7 +16,7 @@ use svc_history_laws::Entry;
 use svc_report::ReportError;
 use svc_text::put;
 
-// Which marks stand below which: lines of commits, then arrows, then shapes.
+// Which marks lie below which: lines of commits, then arrows, then shapes.
 fn layer(kind: MarkKind) -> u8 {
     match kind {
         MarkKind::Commit => 0,
@@ -41,7 +41,7 @@ fn write_layer(
     Ok(())
 }
 
-// Writes what the marks stand for, where there is room.
+// Writes the texts of the marks, if there is room.
 fn write_values(frame: &Frame, marks: &[Mark], text: &mut Vec<u8>) -> Result<(), AllocError> {
     if !frame.is_wide() {
         return Ok(());
@@ -60,7 +60,7 @@ fn write_bars(frame: &Frame, bars: &[Bar], text: &mut Vec<u8>) -> Result<(), All
     Ok(())
 }
 
-// Writes what the bars say of their tasks.
+// Writes the texts of the bars.
 fn write_names(frame: &Frame, bars: &[Bar], text: &mut Vec<u8>) -> Result<(), AllocError> {
     for bar in bars {
         write_name(frame, bar, text)?;
@@ -68,7 +68,7 @@ fn write_names(frame: &Frame, bars: &[Bar], text: &mut Vec<u8>) -> Result<(), Al
     Ok(())
 }
 
-// The text of a picture of these rows, bars and marks, of a history of so many entries.
+// The text of a picture with these rows, bars and marks, of a history of this many entries.
 fn text_of(
     alloc: Global,
     frame: &Frame,

@@ -1,4 +1,4 @@
-// The shapes of marks, each around a point and of half a size.
+// The shapes of marks, each around a point and with half its size.
 
 ghost use Rattle.std.specs.Prelude.{◌≤◌};
 
@@ -24,7 +24,7 @@ pub(crate) fn square(text: &mut Vec<u8>, middle: Point, size: u64) -> Result<(),
     Ok(())
 }
 
-/// A diamond: a word put out.
+/// A diamond: an output word.
 pub(crate) fn diamond(text: &mut Vec<u8>, middle: Point, size: u64) -> Result<(), AllocError>
     requires small { size ≤ 10 }
 {

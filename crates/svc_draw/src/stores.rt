@@ -38,7 +38,7 @@ impl LastStores {
         }
     }
 
-    /// The entry at an index, which may be a store.
+    /// Takes in the entry at an index, which may be a store.
     pub(crate) fn note(&mut self, at: u64, entry: &Entry) -> Result<(), AllocError>
         ensures { OnOk result ((unit : UnitId) (word : Option WordAddr) → last_store self.new unit word
             ≡ cond (stores unit word entry.now) (Some at) (last_store self.old unit word)) }

@@ -10,15 +10,15 @@ use Rattle.svc_history_laws.specs.Board.{board}
 use Rattle.svc_history_laws.specs.Entries.{entry_of}
 use Rattle.svc_history.specs.Recorded.{Recorded, IsCounted, IsLegal, standing_of}
 
--- the first refusal that applies to it, by the table of refusals, where one does
+-- the first refusal that applies, by the table of refusals, if any
 abbrev pub refused_at : Recorded → Event → Option Refusal
 refused_at r x = refused r.machine.image r.machine.config (standing_of r) x
 
--- it is refused exactly where the table says, with that refusal
+-- it is refused exactly when the table says so, with that refusal
 abbrev pub IsRefusedByTable : Recorded → Event → Result Slip Refusal → Type 0
 IsRefusedByTable r x answer = MatchResult answer (λ _. refused_at r x ≡ None) (λ why. refused_at r x ≡ Some why)
 
--- the entry that it has where it is accepted: its own fields, with the plain machine's reply
+-- its entry if it is accepted: its own fields, with the plain machine's reply
 abbrev pub entry_at : Recorded → Event → Entry
 entry_at r x = entry_of x (reply_to r.machine.image (standing_of r) x)
 
@@ -26,8 +26,8 @@ entry_at r x = entry_of x (reply_to r.machine.image (standing_of r) x)
 abbrev pub led_on : Recorded → Event → Standing
 led_on r x = after_event r.machine.image r.machine.config (standing_of r) x
 
--- an accepted event appends exactly one entry, its own, and a refused one changes nothing; before it and after it the
--- history is legal, and the committed tasks have left what the plain evaluator leaves
+-- an accepted event appends exactly one entry, its own, and a refused one changes nothing. Before and after it the
+-- history is legal, and the committed tasks have left what the plain evaluator leaves.
 pub record IsApplied (old new : Recorded) (x : Event) (answer : Result Slip Refusal) : Type 0 where
   pub refused : IsRefusedByTable old x answer
   pub index : IfOk answer (λ slip. slip.index ≡ length old.entries)

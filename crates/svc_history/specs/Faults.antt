@@ -11,7 +11,7 @@ use Rattle.svc_history.specs.declared.trace.TraceFault.{TraceFault}
 use Rattle.svc_history.specs.declared.trace.TraceFaultKind.{TraceFaultKind}
 use Rattle.svc_history.specs.declared.trace.TraceFaultKind.TheVariants.{Memory, Refused, Differs}
 
--- the entry isn't legal where the recorder's history leads: its event is refused there, or is answered otherwise
+-- the entry isn't legal where the recorder's history leads: its event is refused there, or has another answer
 abbrev pub IsWrongThere : Recorded → Entry → TraceFaultKind → Type 0
 IsWrongThere r e Memory = ⊥
 IsWrongThere r e Refused =
@@ -21,13 +21,13 @@ IsWrongThere r e Differs =
     (LegalEntry r.machine.image r.machine.config (standing_of r) e → ⊥)
     × DiffersThere r.machine.image r.machine.config (standing_of r) e
 
--- the entry there, if any, is faulty in this way where the entries before it lead
+-- the entry there, if any, has this fault where the entries before it lead
 abbrev pub IsFaultyThere : Image → Config → List Entry → ℕ → (Standing → Entry → Type 0) → Type 0
 IsFaultyThere img config es index Is =
     (e : Entry) → slice_get es index ≡ Some e → Is (led_to img config (take index es)) e
 
--- the fault names the first faulty entry, and its kind: its event is refused there, or is answered otherwise; or memory
--- was refused
+-- the fault names the first faulty entry and its kind: its event is refused there, or has another answer; or memory was
+-- refused
 abbrev pub IsFaultAt : Image → Config → List Entry → ℕ → TraceFaultKind → Type 0
 IsFaultAt img config es index Memory = index ≡ 0
 IsFaultAt img config es index Refused =
@@ -35,5 +35,6 @@ IsFaultAt img config es index Refused =
 IsFaultAt img config es index Differs =
     IsFirstFault img config es index × IsFaultyThere img config es index (DiffersThere img config)
 
+-- the fault of a trace
 abbrev pub IsFault : Image → Config → List Entry → TraceFault → Type 0
 IsFault img config es fault = IsFaultAt img config es fault.index fault.kind

@@ -11,11 +11,11 @@ use Rattle.svc_machine.specs.Value.{MachineValue}
 use Rattle.svc_machine.specs.Reads.{is_full, lease_of, runs_head}
 use Rattle.svc_history.specs.declared.glance.Glance.{Glance}
 
--- no further event of the run is accepted: it has stopped, or the history is full
+-- the run is over: it has stopped, or the history is full
 abbrev pub has_ended : MachineValue → Bool
 has_ended m = is_some (plain_seq m.image m.plain.commits).stopped || is_full m
 
--- a glance or a move is refused exactly where there is no such unit
+-- a glance or a move is refused exactly when there is no such unit
 abbrev pub IsUnitKnown : {A : Type 0} → Config → UnitId → Result A Refusal → Type 0
 IsUnitKnown config unit answer =
     MatchResult answer (λ _. unit.0 < config.units) (λ why. (why ≡ refusal.NoSuchUnit) × (config.units ≤ unit.0))

@@ -1,12 +1,12 @@
--- What the type of a recorder keeps.
+-- What the type of a recorder guarantees.
 use Rattle.std.specs.Prelude.{◌≡◌, ◌+◌, ◌≤◌, length}
 use Rattle.svc_image.specs.Image.{IsImage}
 use Rattle.svc_machine_laws.specs.Reached.{IsReached}
 use Rattle.svc_history_laws.specs.Board.{board}
 use Rattle.svc_history.specs.Recorded.{Recorded, IsLegal, standing_of}
 
--- the history is legal and the machine is where it leads, which is a place that events lead to; it has an entry for
--- each accepted event, among them the commits; and each task that was assigned was committed or squashed or is active
+-- the history is legal, and the machine is where it leads, which is a standing that events lead to. It has an entry for
+-- each accepted event, commits among them, and each assigned task was committed or squashed or is active.
 pub record IsKept (r : Recorded) : Type 0 where
   pub legal : IsLegal r
   pub image : IsImage r.machine.image

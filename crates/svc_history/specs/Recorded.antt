@@ -6,6 +6,7 @@ use Rattle.svc_history_laws.specs.declared.entry.Entry.{Entry}
 use Rattle.svc_history_laws.specs.Board.{IsInOrder, board}
 use Rattle.svc_history_laws.specs.Legal.{LegalHistory, led_to}
 
+-- a machine and the list of its entries
 pub record Recorded : Type 0 where
   pub machine : MachineValue
   pub entries : List Entry

@@ -1,4 +1,4 @@
--- What an entry tells of its event, and what it has room for.
+-- What an entry says of its event, and what it has room for.
 use Rattle.std.specs.Prelude.{ℕ, ◌<◌, ◌^◌, IfSome}
 use Rattle.svc_machine_laws.specs.declared.reply.What.{What}
 use Rattle.svc_machine_laws.specs.declared.reply.What.TheVariants as what
@@ -11,7 +11,7 @@ use Rattle.svc_history.specs.declared.writing.EventFields.{EventFields}
 abbrev pub entry_with : EventFields → Entry
 entry_with f = plain_entry f.kind f.unit f.arg f.local f.ask
 
--- the number of the task that is told as committed, 0 if none is
+-- the number of the task reported as committed, 0 if there is none
 abbrev pub task_told : What → ℕ
 task_told (what.Assigned task entry epoch) = 0
 task_told what.Ran = 0
@@ -23,7 +23,7 @@ task_told (what.Replaced addr) = 0
 task_told what.Cancelled = 0
 task_told (what.Committed task end) = task.0
 
--- the numbers of tasks that are told fit 32 bits
+-- the reported task numbers fit 32 bits
 pub record IsSmall (r : Reply) : Type 0 where
   pub task : task_told r.what < 2 ^ 32
   pub first : IfSome r.cut (λ cut. first_of cut < 2 ^ 32)

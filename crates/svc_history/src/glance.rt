@@ -8,9 +8,9 @@ use svc_core::Lease;
 /// What a unit thread needs to know for its next event.
 #[derive(Clone, Copy)]
 pub struct Glance {
-    /// No event will be accepted that goes on with the run: it has stopped, or the history is full.
+    /// The run is over: it has stopped, or the history is full.
     pub ended: bool,
-    /// What the unit may run its task on from, where it has a task.
+    /// What the unit may run its task on from, if it has one.
     pub lease: Option<Lease>,
     /// The unit runs the head.
     pub is_head: bool,
@@ -34,8 +34,8 @@ pub enum Move<'a> {
 }
 
 impl Glance {
-    /// What the unit does next, by what it sees: nothing more in a run that has ended; without a task it begins one at
-    /// the guess; it runs a task on that has not ended, and commits one that has where that is the head. Else it waits.
+    /// What the unit does next, given what it sees: nothing more once the run is over. Without a task it begins one at
+    /// the guess. It runs on a task that has not ended, and commits one that has if it is the head. Otherwise it waits.
     pub fn next_move(&self) -> Move<'_>
         ensures { told result ≡ next_move self.now }
     {
@@ -43,7 +43,7 @@ impl Glance {
     }
 }
 
-// What a unit does next, by each thing that it sees: the fields of a glance, with the lease lent.
+// What a unit does next, given the fields of a glance, with the lease lent.
 pub(crate) fn move_by(
     ended: bool,
     lease: Option<&Lease>,

@@ -1,5 +1,5 @@
-//! The recorder: a machine with the history of its accepted events, which is legal by its type, and the check of
-//! another's trace.
+//! The recorder: a machine with the history of its accepted events, which is legal by its type, and the check of a
+//! trace.
 #![tactic(auto)]
 
 pub mod glance;

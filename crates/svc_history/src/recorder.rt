@@ -40,7 +40,7 @@ impl Model for Recorder {
 }
 
 impl Recorder {
-    /// A machine before any event. All the room is made that it and its history ever fill.
+    /// A machine before any event. It allocates all the room that the machine and its history ever fill.
     ///
     /// Errors: [`OpenError::Memory`].
     pub fn open(alloc: Global, image: Image, config: Config) -> Result<Recorder, OpenError>
@@ -56,8 +56,8 @@ impl Recorder {
         Ok(Recorder { machine, entries })
     }
 
-    /// One event. An accepted one appends exactly one entry, which is that event's with its reply, and a refused one
-    /// changes nothing. No memory is taken.
+    /// One event. An accepted one appends exactly one entry, that event's with its reply, and a refused one changes
+    /// nothing. It takes no memory.
     ///
     /// Errors: the first refusal that applies, by the table of refusals.
     ///
@@ -78,7 +78,7 @@ impl Recorder {
         })
     }
 
-    /// The machine where the history leads. Its reads tell what running the committed tasks one after another leaves.
+    /// The machine where the history leads. Its reads give what running the committed tasks one after another leaves.
     pub fn machine(&self) -> &Machine
         ensures machine { result.now ≡ self.now.machine }
         ensures legal { IsLegal self.now }
@@ -98,7 +98,7 @@ impl Recorder {
         self.entries.as_slice()
     }
 
-    /// Whether no further event of the run is accepted: it has stopped, or the history is full.
+    /// Whether the run is over: it has stopped, or the history is full.
     pub fn has_ended(&self) -> bool
         ensures ended { result ≡ has_ended self.now.machine }
         ensures legal { IsLegal self.now }
@@ -129,7 +129,7 @@ impl Recorder {
         })
     }
 
-    /// What the unit does next, by what [`Recorder::glance`] shows it. The lease is lent, so that nothing is copied.
+    /// What the unit does next, given what [`Recorder::glance`] shows it. The lease is lent, so that nothing is copied.
     ///
     /// Errors: [`Refusal::NoSuchUnit`].
     pub fn next_move(&self, unit: UnitId) -> Result<Move<'_>, Refusal>
@@ -149,7 +149,7 @@ impl Recorder {
         Ok(move_by(self.has_ended(), lease, machine.is_head(unit), guess))
     }
 
-    // The machine, where it has this unit.
+    // The machine, if it has this unit.
     //
     // Errors: [`Refusal::NoSuchUnit`].
     fn machine_with(&self, unit: UnitId) -> Result<&Machine, Refusal>

@@ -23,7 +23,7 @@ pub enum TraceFaultKind {
     /// The allocator refused memory; the index is 0.
     #[error("out of memory")]
     Memory,
-    /// Its event is refused there, or it lacks what its event needs.
+    /// Its event is refused there, or the entry lacks what its event needs.
     #[error("its event is refused there, or lacks what it needs")]
     Refused,
     /// Its event has another entry there.
@@ -41,7 +41,7 @@ pub struct TraceFault {
     pub kind: TraceFaultKind,
 }
 
-// Makes the burst that an entry of a submission names, where its machine stands, in the place of another one. None where
+// Makes the burst that an entry of a submission names, where its machine stands, in the place of another one. None if
 // the entry lacks what that needs.
 fn make_burst(burst: &mut Burst, machine: &Machine, entry: &Entry) -> Option<()>
     ensures replay { IfSome result (λ _.
@@ -89,7 +89,7 @@ fn replay(recorder: &mut Recorder, burst: &mut Burst, entry: &Entry) -> Result<(
     }
 }
 
-// Applies the event that the entry names, and compares what it comes to.
+// Applies the event that the entry names, and compares its entry.
 fn compared(recorder: &mut Recorder, entry: &Entry, event: Event<'_>) -> Result<(), TraceFaultKind>
     requires { IsReplay recorder.old.machine.image recorder.old.machine.plain entry.now (event_of event) }
     ensures entries { OnOk result (recorder.new.entries ≡ recorder.old.entries ++ entry.now ∷ []) }
@@ -122,10 +122,10 @@ pub fn open_trace(alloc: Global, image: Image, config: Config) -> Result<Recorde
     }
 }
 
-/// Goes on with the replay of these entries, of which the recorder has the first ones, up to the given number of them.
+/// Continues the replay of these entries, of which the recorder has the first ones, up to the given number of them.
 ///
-/// Errors: the first faulty entry, with what is wrong with it. The recorder's history may then end with another entry
-/// than the trace's. No memory is taken, so none is refused.
+/// Errors: the first faulty entry, with what is wrong with it. The recorder's history may then end with an entry other
+/// than the trace's. It takes no memory, so none is refused.
 pub fn check_on(recorder: &mut Recorder, entries: &[Entry], count: usize) -> Result<(), TraceFault>
     requires begun { recorder.old.entries ≡ take (length recorder.old.entries) entries.now }
     requires further { length recorder.old.entries ≤ count }
@@ -146,8 +146,8 @@ pub fn check_on(recorder: &mut Recorder, entries: &[Entry], count: usize) -> Res
     Ok(())
 }
 
-/// A recorder with exactly these entries, replayed from before any event: it is answered exactly where they are legal,
-/// memory aside.
+/// A recorder with exactly these entries, replayed from before any event. It succeeds exactly when they are legal,
+/// unless memory is refused.
 ///
 /// Errors: the first faulty entry, with what is wrong with it.
 pub fn check_trace(
@@ -164,7 +164,7 @@ pub fn check_trace(
 {
     let mut recorder = open_trace(alloc, image, config)?;
     check_on(&mut recorder, entries, entries.len())?;
-    // what the type keeps: its history is legal
+    // what the type guarantees: its history is legal
     let _legal = recorder.entries();
     Ok(recorder)
 }

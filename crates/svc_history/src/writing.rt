@@ -11,7 +11,7 @@ use svc_base::{UnitId, WordAddr};
 use svc_history_laws::{CutKind, Entry, Kind, ReplyKind, ServedKind};
 use svc_machine::{Cause, Cut, Event, Reply, Served, What};
 
-/// The fields of an entry that its event tells.
+/// The fields of an entry that come from its event.
 #[derive(Clone, Copy)]
 pub(crate) struct EventFields {
     pub(crate) kind: Kind,
@@ -34,7 +34,7 @@ fn plain(kind: Kind, unit: UnitId, arg: Option<u32>) -> EventFields
     }
 }
 
-/// The fields that an event tells of its entry.
+/// The fields that an event gives its entry.
 pub(crate) fn named(event: Event<'_>) -> EventFields
     ensures entry { entry_with result ≡ named (event_of event.entry) }
     ensures sound { IsEvent (event_of event.entry) }
@@ -74,7 +74,7 @@ fn reply_kind(what: What) -> ReplyKind
     }
 }
 
-// The word that it was done to.
+// The word that it concerned.
 fn address(what: What) -> Option<WordAddr>
     ensures { result ≡ address_told what }
 {
@@ -86,7 +86,7 @@ fn address(what: What) -> Option<WordAddr>
     }
 }
 
-// The number that it tells.
+// The number that it reports.
 fn word(what: What) -> Option<u32>
     requires { task_told what < 2 ^ 32 }
     ensures { result ≡ word_told what }

@@ -14,7 +14,7 @@ pub record Tally : Type 0 where
 abbrev pub no_events : Tally
 no_events = record { events = 0; assigned = 0; committed = 0; squashed = 0 }
 
--- one if the entry is an assignment's, and if it is a commit's
+-- one if the entry is an assignment's; and one if it is a commit's
 abbrev pub assigns : Kind → ℕ
 assigns Assign = 1
 assigns Submit = 0
@@ -22,6 +22,7 @@ assigns Replace = 0
 assigns Cancel = 0
 assigns Commit = 0
 
+-- one if the entry is a commit's
 abbrev pub commits : Kind → ℕ
 commits Assign = 0
 commits Submit = 0
@@ -29,7 +30,7 @@ commits Replace = 0
 commits Cancel = 0
 commits Commit = 1
 
--- one entry more
+-- one more entry
 abbrev pub counted : Tally → Entry → Tally
 counted t e = record {
   events = t.events + 1;
@@ -38,6 +39,7 @@ counted t e = record {
   squashed = t.squashed + unwrap_or e.squashed 0;
 }
 
+-- the numbers after more entries
 unfoldable pub counted_on : Tally → List Entry → Tally
 counted_on t [] = t
 counted_on t (e ∷ es) = counted_on (counted t e) es

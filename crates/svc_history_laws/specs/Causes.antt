@@ -1,4 +1,4 @@
--- What the cause of a cut says, as an entry tells it.
+-- What the cause of a cut says, read off an entry.
 use Rattle.std.specs.Prelude.{◌⊎◌, ◌≡◌, ◌≢◌, ℕ, suc, ◌+◌, ◌-◌, ◌<◌, ◌≤◌, true, List, ◌∷◌, length, Option, Some, None, is_some, slice_get, take}
 use Rattle.svc_base.specs.declared.config.Config.{Config}
 use Rattle.svc_base.specs.declared.ids.UnitId.{UnitId}
@@ -20,7 +20,8 @@ use Rattle.svc_history_laws.specs.declared.entry.CutKind.TheVariants as why
 use Rattle.svc_history_laws.specs.declared.entry.Entry.{Entry}
 use Rattle.svc_history_laws.specs.Legal.{the_ask, the_local, led_to}
 
--- the first task that the entry cuts is the one at this place, and it counts that task and all that were active after it
+-- the first task that the entry cuts is the one at this place, and it counts that task and all that were active after
+-- it
 pub record CutsFrom (s : Plain) (e : Entry) (place : ℕ) : Type 0 where
   pub first : e.first ≡ Some (s.commits + place)
   pub squashed : e.squashed ≡ Some (length s.tasks - place)
@@ -37,7 +38,8 @@ pub record IsViolation (img : Image) (s : Plain) (e : Entry) : Type 0 where
   pub is_victim : IsVictim (machine_of (program img) s).versioned place word.0 victim
   pub cuts : CutsFrom s e victim
 
--- a wrong guess: the entry is a commit, the run has stopped with it or the next task didn't begin at the entry that is due after it, and the first task cut is the next one
+-- a wrong guess: the entry is a commit, after which the run has stopped or the next task didn't begin at the entry that
+-- is due; the first task cut is that next one
 pub record IsWrongGuess (img : Image) (s : Plain) (e : Entry) : Type 0 where
   pub kind : e.kind ≡ Commit
   pub head : Task
@@ -47,7 +49,8 @@ pub record IsWrongGuess (img : Image) (s : Plain) (e : Entry) : Type 0 where
   pub wrong : (is_some (seq (program img) (suc s.commits)).stopped ≡ true) ⊎ ((seq (program img) (suc s.commits)).due ≢ Some next.entry)
   pub cuts : CutsFrom s e 1
 
--- a wrong guess: the entry is a submit with which its unit's task ended, and the first task cut is the next one, which began at another entry than the successor, or the task had none
+-- a wrong guess: the entry is a submit that ended its unit's task; the first task cut is the next one, which began at
+-- an entry other than the successor, or the task had none
 pub record IsFoundWrong (img : Image) (s : Plain) (e : Entry) : Type 0 where
   pub kind : e.kind ≡ Submit
   pub place : ℕ
@@ -62,6 +65,7 @@ pub record IsCancel (s : Plain) (e : Entry) : Type 0 where
   pub at : task_place s e.unit.0 ≡ Some place
   pub cuts : CutsFrom s e place
 
+-- the cut has the cause that it names
 abbrev pub HasCause : CutKind → Image → Plain → Entry → Type 0
 HasCause why.Violation img s e = IsViolation img s e
 HasCause why.Guess img s e = IsWrongGuess img s e ⊎ IsFoundWrong img s e
@@ -76,7 +80,8 @@ CutsBy (Some c) img s e = HasCause c img s e
 abbrev pub IsBlamed : Image → Plain → Entry → Type 0
 IsBlamed img s e = CutsBy e.cause img s e
 
--- an entry before this index read the word for the unit, otherwise than from its own line, and since then no task was assigned to the unit
+-- an entry before this index read the word for the unit, and not from its own line; since then no task was assigned to
+-- the unit
 pub record IsRead (es : List Entry) (index unit word : ℕ) : Type 0 where
   pub at : ℕ
   pub earlier : at < index
@@ -97,7 +102,8 @@ pub record IsFrom (s : Plain) (e : Entry) (number : ℕ) : Type 0 where
   pub at : task_place s from.0 ≡ Some place
   pub number_is : number ≡ s.commits + place
 
--- the cause of a violation in the log: the first task cut had read the word so, and a version that it was given was of a task not above the one that stored
+-- the cause of a violation in the log: the first task cut had read the word that way, and if it was given a version,
+-- that version's task was not above the one that stored
 pub record IsCaused (img : Image) (config : Config) (es : List Entry) (index : ℕ) (e : Entry) : Type 0 where
   pub word : WordAddr
   pub address : e.addr ≡ Some word

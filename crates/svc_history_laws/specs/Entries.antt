@@ -1,4 +1,5 @@
--- The entry of an accepted event.
+-- The entry of an accepted event: thirteen fields, the columns of a trace; those that don't apply are empty. A burst's
+-- start, looks and epoch are not among them: the entries before determine these.
 use Rattle.std.specs.Prelude.{ℕ, Bool, not, Option, Some, None, option_map, option_and_then}
 use Rattle.svc_base.specs.declared.ids.UnitId.{UnitId}
 use Rattle.svc_base.specs.declared.ids.WordAddr.{WordAddr}
@@ -34,6 +35,7 @@ reply_told (what.Replaced addr) = reply.Replaced
 reply_told what.Cancelled = reply.Cancelled
 reply_told (what.Committed task end) = reply.Committed
 
+-- the address that the reply reports, if any
 abbrev pub address_told : What → Option WordAddr
 address_told (what.Assigned task entry epoch) = None
 address_told what.Ran = None
@@ -45,6 +47,7 @@ address_told (what.Replaced addr) = Some addr
 address_told what.Cancelled = None
 address_told (what.Committed task end) = None
 
+-- the number that the reply reports, if any
 abbrev pub word_told : What → Option ℕ
 word_told (what.Assigned task entry epoch) = Some entry
 word_told what.Ran = None
@@ -68,6 +71,7 @@ served_told (what.Replaced addr) = None
 served_told what.Cancelled = None
 served_told (what.Committed task end) = None
 
+-- the supplier's name
 abbrev pub kind_served : Served → ServedKind
 kind_served served.Hit = kind.Hit
 kind_served served.Reuse = kind.Reuse
@@ -76,6 +80,7 @@ kind_served served.Spill = kind.Spill
 kind_served (served.Committed unit) = kind.Committed
 kind_served served.Memory = kind.Memory
 
+-- the unit that supplied the word, if a unit did
 abbrev pub unit_served : Served → Option UnitId
 unit_served served.Hit = None
 unit_served served.Reuse = None
@@ -104,6 +109,7 @@ abbrev pub plain_entry : Kind → UnitId → (arg : Option ℕ) → (local : Opt
 plain_entry k unit arg local ask =
     record { kind = k; unit = unit; arg = arg; local = local; ask = ask; reply = reply.Ran; addr = None; word = None; served = None; from = None; cause = None; first = None; squashed = None }
 
+-- the entry that has the fields of its event
 abbrev pub named : Event → Entry
 named (AssignEvent unit guess) = plain_entry Assign (record { 0 = unit }) (Some guess) None None
 named (SubmitEvent b) = plain_entry Submit b.unit None (Some b.local) (Some (not (is_nothing b.ask)))
@@ -124,6 +130,6 @@ telling r e = record e {
   squashed = option_map count_of r.cut;
 }
 
--- the entry of an event that was answered so
+-- the entry of an event with this answer
 unfoldable pub entry_of : Event → Reply → Entry
 entry_of x r = telling r (named x)

@@ -11,7 +11,7 @@ use Rattle.svc_history_laws.specs.Entries.{entry_of}
 use Rattle.svc_history_laws.specs.Legal.{after_entry, led_to}
 use Rattle.svc_history_laws.specs.Replay.{IsReplay}
 
--- the event that the entry names isn't refused there, the entry is its entry, and leads where it does
+-- the event that the entry names isn't refused there, the entry is its entry, and leads where the event does
 pub record HasEvent (img : Image) (config : Config) (s : Standing) (e : Entry) : Type 0 where
   pub event : Event
   pub is : IsEvent event
@@ -20,7 +20,7 @@ pub record HasEvent (img : Image) (config : Config) (s : Standing) (e : Entry) :
   pub entry : e ≡ entry_of event (reply_to img s event)
   pub leads : after_entry img s e ≡ stepped img s event
 
--- where a history leads is a standing that events lead to, and as many tasks were committed and events accepted there as its entries say
+-- the history leads to a standing that events lead to, with as many commits and accepted events as its entries say
 pub record LeadsOn (img : Image) (config : Config) (es : List Entry) : Type 0 where
   pub reached : IsReached img config (led_to img config es)
   pub commits : (led_to img config es).plain.commits ≡ (board es).committed

@@ -26,7 +26,7 @@ the_ask e = unwrap_or e.ask false
 abbrev pub IsAccepted : Image → Config → Standing → Event → Entry → Type 0
 IsAccepted img config s x e = (refused img config s x ≡ None) × (e ≡ entry_of x (reply_to img s x))
 
--- the entry is that of turns of its unit's task that may be submitted
+-- the entry is that of turns that its unit's task may submit
 pub record IsSubmitted (img : Image) (config : Config) (s : Standing) (e : Entry) : Type 0 where
   pub unit : e.unit.0 < config.units
   pub below_limit : s.plain.accepted < config.events
@@ -37,7 +37,8 @@ pub record IsSubmitted (img : Image) (config : Config) (s : Standing) (e : Entry
   pub turns : IsSubmission img s e.unit.0 place task (the_local e) (the_ask e)
   pub entry : e ≡ submission img s e.unit (the_local e) (the_ask e)
 
--- the entry is what the machine does there: it names an event that isn't refused, has that event's reply, and no field that doesn't apply
+-- the entry is what the machine does there: it names an event that isn't refused, has that event's reply, and no field
+-- that doesn't apply
 abbrev pub LegalKind : Kind → Image → Config → Standing → Entry → Type 0
 LegalKind Assign img config s e = IsAccepted img config s (event.Assign e.unit.0 (the_arg e)) e
 LegalKind Submit img config s e = IsSubmitted img config s e
@@ -45,6 +46,7 @@ LegalKind Replace img config s e = IsAccepted img config s (event.Replace e.unit
 LegalKind Cancel img config s e = IsAccepted img config s (event.Cancel e.unit.0) e
 LegalKind Commit img config s e = IsAccepted img config s (event.Commit e.unit.0) e
 
+-- a legal entry, where the ones before it lead
 unfoldable pub LegalEntry : Image → Config → Standing → Entry → Type 0
 LegalEntry img config s e = LegalKind e.kind img config s e
 
@@ -56,6 +58,7 @@ by_kind Replace img s e = stepped img s (event.Replace e.unit.0 (the_arg e))
 by_kind Cancel img s e = stepped img s (event.Cancel e.unit.0)
 by_kind Commit img s e = stepped img s (event.Commit e.unit.0)
 
+-- where an entry leads
 unfoldable pub after_entry : Image → Standing → Entry → Standing
 after_entry img s e = by_kind e.kind img s e
 

@@ -1,4 +1,4 @@
--- How an entry is replayed, and what is at fault with it.
+-- How an entry is replayed, and what may be wrong with it.
 use Rattle.std.specs.Prelude.{◌⊎◌, ◌≡◌, ◌≢◌, ℕ, ◌+◌, ◌<◌, true, List, Some, None, is_some, length, take}
 use Rattle.svc_base.specs.declared.config.Config.{Config}
 use Rattle.svc_image.specs.Image.{Image}
@@ -18,7 +18,7 @@ use Rattle.svc_history_laws.specs.Entries.{entry_of}
 use Rattle.svc_history_laws.specs.Submissions.{turns_of}
 use Rattle.svc_history_laws.specs.Legal.{the_arg, the_local, the_ask, LegalHistory}
 
--- the burst is what the unit's lease makes of so many turns
+-- the burst is what the unit's lease makes of this many turns
 pub record IsBurstOf (img : Image) (s : Plain) (unit turns : ℕ) (b : Advance) : Type 0 where
   pub seat : Seat State
   pub seat_is : seat_at (machine_of (program img) s) unit ≡ Some seat
@@ -36,10 +36,11 @@ ReplaysAs Replace img s e x = (is_some e.arg ≡ true) × (x ≡ event.Replace e
 ReplaysAs Cancel img s e x = x ≡ event.Cancel e.unit.0
 ReplaysAs Commit img s e x = x ≡ event.Commit e.unit.0
 
+-- the event is a replay of the entry
 abbrev pub IsReplay : Image → Plain → Entry → Event → Type 0
 IsReplay img s e x = ReplaysAs e.kind img s e x
 
--- the entry lacks what its event needs: a number, or a task that its unit can go on with
+-- the entry lacks what its event needs: a number, or a task that its unit can run on
 abbrev pub Lacks : Kind → Image → Plain → Entry → Type 0
 Lacks Assign img s e = e.arg ≡ None
 Lacks Submit img s e = (seat_at (machine_of (program img) s) e.unit.0 ≡ None) ⊎ ((e.local ≡ None) ⊎ (e.ask ≡ None))
@@ -47,7 +48,8 @@ Lacks Replace img s e = e.arg ≡ None
 Lacks Cancel img s e = ⊥
 Lacks Commit img s e = ⊥
 
--- the entry names no event there, since it lacks what its event needs or its unit has no task to go on with; or its event is refused
+-- the entry names no event there, because it lacks what its event needs or its unit has no task to run on; or its event
+-- is refused
 abbrev pub IsRefusedThere : Image → Config → Standing → Entry → Type 0
 IsRefusedThere img config s e = (x : Event) → IsReplay img s.plain e x → is_some (refused img config s x) ≡ true
 

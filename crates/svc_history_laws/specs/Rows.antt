@@ -17,7 +17,7 @@ asking unit = plain_entry Submit (record { 0 = unit }) None (Some 0) (Some true)
 abbrev pub loading : (unit addr word : ℕ) → Entry
 loading unit addr word = let e : Entry = asking unit in record e { reply = reply.Loaded; addr = Some (record { 0 = addr }); word = Some word; served = Some kind.Memory }
 
--- a store of less than a word, for which the word was read
+-- a store of less than a word, which first read its word
 abbrev pub storing_part : (unit addr word : ℕ) → Entry
 storing_part unit addr word = let e : Entry = asking unit in record e { reply = reply.Stored; addr = Some (record { 0 = addr }); word = Some word; served = Some kind.Hit }
 

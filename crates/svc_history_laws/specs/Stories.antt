@@ -14,7 +14,8 @@ use Rattle.svc_history_laws.specs.declared.entry.ReplyKind.TheVariants as reply
 use Rattle.svc_history_laws.specs.declared.entry.Entry.{Entry}
 use Rattle.svc_history_laws.specs.Legal.{led_to}
 
--- what a reply with this word and value tells of memory or output; a store for which a word was read is one of less than a word
+-- what a reply with this word and value says of memory or output; a store for which a word was read is one of less than
+-- a word
 abbrev pub told_reply : ReplyKind → (addr word : ℕ) → (served : Bool) → Option Action
 told_reply reply.Assigned addr word served = None
 told_reply reply.Ran addr word served = None
@@ -30,10 +31,11 @@ told_reply reply.Committed addr word served = None
 abbrev pub the_address : WordAddr → ℕ
 the_address a = a.0
 
+-- what an entry's reply says of memory or output, if anything
 abbrev pub told_by : Entry → Option Action
 told_by e = told_reply e.reply (unwrap_or (option_map the_address e.addr) 0) (unwrap_or e.word 0) (is_some e.served)
 
--- a story, the newest first, after an entry of its unit: an assignment begins it anew, and a submit adds what it was answered
+-- a story, the newest first, after an entry of its unit: an assignment begins it again, and a submit adds its answer
 abbrev pub goes_on : Kind → Option Action → List Action → List Action
 goes_on Assign told log = []
 goes_on Submit told log = plus told log
@@ -50,11 +52,13 @@ unfoldable pub story_after : (unit : ℕ) → List Action → List Entry → Lis
 story_after unit log [] = log
 story_after unit log (e ∷ es) = story_after unit (told_on unit log e) es
 
--- the story of a unit in a history: what its submits since its last assignment were answered, each a load, a store or a word put out with its address and word, the newest first
+-- the story of a unit in a history: the answers to its submits since its last assignment, each a load, a store or an
+-- output word with its address and word, the newest first
 abbrev pub story : (unit : ℕ) → List Entry → List Action
 story unit es = story_after unit [] es
 
--- a commit at this index of a history: its number is that of the commits before it, and the story of the unit whose task was the head is what the sequential run answers the task of that number
+-- a commit at this index of a history: its number is that of the commits before it, and the story of the head's unit is
+-- what the sequential run answers the task of that number
 pub record IsAnswered (img : Image) (config : Config) (es : List Entry) (index : ℕ) (e : Entry) : Type 0 where
   pub head : Task
   pub others : List Task

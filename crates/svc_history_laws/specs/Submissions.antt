@@ -1,4 +1,4 @@
--- Turns that an entry names for a task, with no burst in it.
+-- When a submit is legal, and where it leads, stated without a burst.
 use Rattle.std.specs.Prelude.{◌≡◌, ℕ, ◌+◌, ◌<◌, ◌≤◌, Bool, true, cond, Option, Some, None, slice_get}
 use Rattle.svc_base.specs.declared.ids.UnitId.{UnitId}
 use Rattle.svc_image.specs.Image.{Image}
@@ -19,11 +19,11 @@ use Rattle.svc_history_laws.specs.declared.entry.Kind.TheVariants.{Submit}
 use Rattle.svc_history_laws.specs.declared.entry.Entry.{Entry}
 use Rattle.svc_history_laws.specs.Entries.{plain_entry, telling}
 
--- one turn where there is an ask
+-- one turn if there is an ask
 abbrev pub turns_of : Bool → ℕ
 turns_of ask = cond ask 1 0
 
--- the core of the active task at a place, so many turns on, where it runs alone on the memory of its place
+-- the core of the active task at a place after this many turns, if it runs alone on the memory of its place
 abbrev pub core_on : Image → Plain → (place : ℕ) → Task → (more : ℕ) → State
 core_on img s place task n = (part (program img) task.entry (n + task.turns) (memory_at (program img) (seq (program img) s.commits).memory s.tasks place)).core
 
@@ -39,7 +39,8 @@ IsAskedAt img core = (core.done ≡ None) × (IsLocal (next img core) → ⊥)
 abbrev pub word_wanted : Image → State → Option ℕ
 word_wanted img core = word_of ((program img).want core)
 
--- so many local turns of the unit's task, which stands at the place, and an asked one after them where `ask` says so, may be submitted
+-- the unit's task, which stands at the place, may submit this many local turns, and after them an asked one if `ask`
+-- says so
 pub record IsSubmission (img : Image) (s : Standing) (unit place : ℕ) (task : Task) (local : ℕ) (ask : Bool) : Type 0 where
   pub some : 0 < local + turns_of ask
   pub few : local + turns_of ask ≤ 63
@@ -55,7 +56,7 @@ abbrev pub lines_asked : Image → Standing → (place : ℕ) → (local : ℕ) 
 lines_asked img s place local None ask = s.lines
 lines_asked img s place local (Some task) ask = cond ask (line_turn ((program img).want (core_on img s.plain place task local)) s.lines place) s.lines
 
--- the check of the guess after the task at a place, which has taken its turns
+-- the check of the guess after the task at a place has taken its turns
 abbrev pub checked_at : Image → (place : ℕ) → (turned : Plain) → LineTable → Standing
 checked_at img place turned t = record { plain = plain.check (program img) turned place; lines = line_check (plain.is_misled (program img) turned place) t place }
 

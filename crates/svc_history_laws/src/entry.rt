@@ -9,7 +9,7 @@ pub enum Kind {
     Assign,
     /// To take over a burst.
     Submit,
-    /// To take a line out of a cache.
+    /// To remove a line from a cache.
     Replace,
     /// To squash a task and all after it.
     Cancel,
@@ -28,11 +28,11 @@ pub enum ReplyKind {
     Loaded,
     /// A word was stored.
     Stored,
-    /// A word was put out.
+    /// A word was output.
     Emitted,
     /// The asked turn trapped.
     Trapped,
-    /// A line was taken out.
+    /// A line was removed.
     Replaced,
     /// A task was squashed.
     Cancelled,
@@ -60,10 +60,10 @@ pub enum ServedKind {
 /// Why tasks were squashed; the word of a violation stands in the field of the word that was stored.
 #[derive(Clone, Copy, Debug, PartialEq, Eq)]
 pub enum CutKind {
-    /// An earlier task stored to a word which the first of them had read too early.
+    /// An earlier task stored to a word that the first of them had read too early.
     Violation,
-    /// The task before the first of them ended the program, or handed on to another entry than the one where the first of
-    /// them began.
+    /// The task before the first of them ended the program, or handed on to another entry than the one where the first
+    /// of them began.
     Guess,
     /// The first of them was cancelled.
     Cancel,
@@ -86,8 +86,8 @@ pub struct Entry {
     pub reply: ReplyKind,
     /// The word that was loaded, stored or replaced.
     pub addr: Option<WordAddr>,
-    /// The entry where a task began; the value that was loaded; the whole word that was stored, or was put out; the number
-    /// of a trap; the number of the task that was committed.
+    /// The entry where a task began; the value that was loaded; the whole word that was stored or output; the number of
+    /// a trap; the number of the task that was committed.
     pub word: Option<u32>,
     /// Who supplied the word that was read.
     pub served: Option<ServedKind>,

@@ -13,8 +13,8 @@ ghost use Rattle.svc_history_laws.specs.Histories.{HasEvent, LeadsOn};
 ghost use Rattle.svc_history_laws.specs.Legal.{LegalEntry, LegalHistory, led_to};
 ghost use Rattle.svc_history_laws.specs.Stories.{HasCommit, IsAnswered};
 
-/// Every legal entry names an event that isn't refused there; it is that event's entry, and leads where the event does. Of a
-/// submit's entry the event is the burst that the lease of its unit makes of as many turns.
+/// Every legal entry names an event that isn't refused there; it is that event's entry, and leads where the event does.
+/// A submit's event is the burst that its unit's lease makes of that many turns.
 pub fn entry_has_event()
     ensures { (img : Image) → IsImage img → (config : Config) → (s : Standing) → (e : Entry)
         → LegalEntry img config s e → HasEvent img config s e }
@@ -27,25 +27,25 @@ pub fn history_leads_on()
         → LeadsOn img config es }
 {}
 
-/// The numbers of a legal history stand in order: those of committed and of squashed tasks make no more than were assigned,
+/// The numbers of a legal history are in order: committed and squashed tasks together are no more than were assigned,
 /// and these are no more than its entries.
 pub fn numbers_are_in_order()
     ensures { (img : Image) → IsImage img → (config : Config) → (es : List Entry) → LegalHistory img config es
         → IsInOrder (board es) }
 {}
 
-/// Each cut of an entry has its blame: a violation, the entry's own store of its word and the victim of that store; a wrong
-/// guess, the commit after which the run stops or another entry is due, or the submit with which its unit's task ended, and
-/// the program too or the next task had begun elsewhere; a cancel, its unit's task. The first task cut is that one, and all
-/// that were active from it on are counted. An entry without a cause cuts nothing.
+/// Each cut of an entry has its blame. A violation: the entry's own store of its word, and the victim of that store. A
+/// wrong guess: the commit after which the run stops or another entry is due, or the submit that ended its unit's task,
+/// if that ended the program or the next task had begun elsewhere. A cancel: its unit's task. The first task cut is
+/// that one, and all that were active from it on are counted. An entry without a cause cuts nothing.
 pub fn cuts_are_blamed()
     ensures { (img : Image) → IsImage img → (config : Config) → (es : List Entry) → LegalHistory img config es
         → (index : ℕ) → (e : Entry) → slice_get es index ≡ Some e
         → IsBlamed img (led_to img config (take index es)).plain e }
 {}
 
-/// Whatever a committed task was answered, also while earlier tasks still ran, is what the sequential run answers it, in
-/// order; and each number below that of committed tasks is that of a commit.
+/// Whatever a committed task was answered, even while earlier tasks still ran, is what the sequential run answers it,
+/// in order; and each number below that of committed tasks is that of a commit.
 pub fn stories_are_sequential()
     ensures answers { (img : Image) → IsImage img → (config : Config) → (es : List Entry) → LegalHistory img config es
         → (index : ℕ) → (e : Entry) → slice_get es index ≡ Some e → e.kind ≡ Commit → IsAnswered img config es index e }
@@ -53,8 +53,9 @@ pub fn stories_are_sequential()
         → (number : ℕ) → number < (board es).committed → HasCommit es number }
 {}
 
-/// Each violation has its cause in the log: since the last assignment of the unit of the first task cut, an entry of that unit
-/// has the word, and a supplier other than a hit; where that is a version, its task was not above the one that stored.
+/// Each violation has its cause in the log: since the last assignment of the unit of the first task cut, an entry of
+/// that unit has the word, and a supplier other than a hit; if that is a version, its task was not above the one that
+/// stored.
 pub fn violations_have_causes()
     ensures { (img : Image) → IsImage img → (config : Config) → (es : List Entry) → LegalHistory img config es
         → (index : ℕ) → (e : Entry) → slice_get es index ≡ Some e → e.cause ≡ Some Violation

@@ -1,6 +1,5 @@
-//! Histories of the machine: what an entry is, which lists of entries are legal, where they lead, and the laws of what they
-//! tell. Beside the types of an entry there is no code but functions with empty bodies, each of which has laws as its
-//! contract.
+//! Histories of the machine: what an entry is, which lists of entries are legal, where they lead, and the laws of what
+//! they say. Besides the types of an entry there are only functions with empty bodies, whose contracts are laws.
 #![tactic(auto)]
 
 pub mod entry;

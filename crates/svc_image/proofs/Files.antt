@@ -32,7 +32,7 @@ record IsHeader (bytes : List ℕ) : Type 0 where
   whole : 148 ≤ length bytes
 
 -- each check in a row passes, where none is a fault
-passes : (checks : List Check) (k : ℕ) (d : Check) → k < length checks → first_of checks ≡ None → (slice_index_or checks k d).0 ≡ false
+pub passes : (checks : List Check) (k : ℕ) (d : Check) → k < length checks → first_of checks ≡ None → (slice_index_or checks k d).0 ≡ false
 passes [] k d low none = absurd (omega (arith, low))
 passes (check ∷ rest) zero d low none = (first_of-cons check.0 check.1 (first_of rest) none).0
 passes (check ∷ rest) (suc k) d low none = passes rest k d (omega (arith, low)) (first_of-cons check.0 check.1 (first_of rest) none).1
@@ -143,16 +143,16 @@ header-none bytes header =
     rw (whole 4 (omega arith), begins, whole 6 (omega arith), header.version, whole 8 (omega arith), entries, whole 12 (omega arith), text, whole 16 (omega arith), words, whole 20 (omega arith), header.own, whole 24 (omega arith), whole 148 (omega arith)) refl
 
 -- an entry in its place has no fault
-entry-none : (bytes : List ℕ) (k : ℕ) → 148 + 4 * k + 4 ≤ length bytes → falls bytes k ≡ false → StartsWord (text_count_in bytes) (entry_in bytes k)
+entry-none : (bytes : List ℕ) (k : ℕ) → 148 + 4 * k + 4 ≤ length bytes → falls (entry_in bytes) k ≡ false → StartsWord (text_count_in bytes) (entry_in bytes k)
     → first_of (entry_checks bytes k) ≡ None
 unfolding entry_checks
 entry-none bytes k whole rises starts =
     let room : nat_lt (length bytes) (148 + 4 * k + 4) ≡ false = le-ltb (length bytes) (148 + 4 * k + 4) (omega (arith, whole)) in
-    let placed : is_misplaced bytes k ≡ false = ap not (and_from _ _ (eq-eqb (entry_in bytes k % 4) 0 starts.0) (lt-ltb (entry_in bytes k) (4 * text_count_in bytes) starts.1)) in
+    let placed : is_misplaced (text_count_in bytes) (entry_in bytes k) ≡ false = ap not (and_from _ _ (eq-eqb (entry_in bytes k % 4) 0 starts.0) (lt-ltb (entry_in bytes k) (4 * text_count_in bytes) starts.1)) in
     rw (room, rises, placed) refl
 
 -- where each entry is above the one before it, none falls
-rising-entry : (bytes : List ℕ) (k : ℕ) → ((j : ℕ) → suc j ≡ k → entry_in bytes j < entry_in bytes k) → falls bytes k ≡ false
+rising-entry : (bytes : List ℕ) (k : ℕ) → ((j : ℕ) → suc j ≡ k → entry_in bytes j < entry_in bytes k) → falls (entry_in bytes) k ≡ false
 rising-entry bytes zero rises = refl
 rising-entry bytes (suc j) rises = lt-leb (entry_in bytes (suc j)) (entry_in bytes j) (rises j refl)
 

@@ -9,3 +9,4 @@ pub mod Shown
 pub mod Versions
 pub mod Limits
 pub mod Copying
+pub mod Made

@@ -146,18 +146,18 @@ unfoldable pub header_checks : List ℕ → List Check
 header_checks bytes = version_checks bytes ++ count_checks bytes
 
 -- the k-th entry isn't above the one before it
-abbrev pub falls : List ℕ → ℕ → Bool
-falls bytes zero = false
-falls bytes (suc k) = nat_le (entry_in bytes (suc k)) (entry_in bytes k)
+abbrev pub falls : (ℕ → ℕ) → ℕ → Bool
+falls entry zero = false
+falls entry (suc k) = nat_le (entry (suc k)) (entry k)
 
--- no word of the text starts at the k-th entry
-abbrev pub is_misplaced : List ℕ → ℕ → Bool
-is_misplaced bytes k = not (entry_in bytes k % 4 == 0 && nat_lt (entry_in bytes k) (4 * text_count_in bytes))
+-- none of so many words of the text starts at an entry
+abbrev pub is_misplaced : (words entry : ℕ) → Bool
+is_misplaced words entry = not (entry % 4 == 0 && nat_lt entry (4 * words))
 
 -- the checks of the k-th entry
 unfoldable pub entry_checks : List ℕ → ℕ → List Check
 entry_checks bytes k =
-    ends_before bytes (148 + 4 * k + 4) ∷ (falls bytes k, EntryOrder) ∷ (is_misplaced bytes k, EntryPlace) ∷ []
+    ends_before bytes (148 + 4 * k + 4) ∷ (falls (entry_in bytes) k, EntryOrder) ∷ (is_misplaced (text_count_in bytes) (entry_in bytes k), EntryPlace) ∷ []
 
 -- the checks of the first n of a run, in turn
 unfoldable pub each_of : (ℕ → List Check) → ℕ → List Check

@@ -5,3 +5,4 @@ pub mod Format
 pub mod Reading
 pub mod Faults
 pub mod Slots
+pub mod Parts

@@ -116,9 +116,9 @@ pub fn count(value: u32, most: u32) -> Result<u32, ImageError>
     Ok(value)
 }
 
-// The version's own number, if it is in its range.
+/// The version's own number, if it is in its range.
 #[tactic(auto, unfolding(crate::specs::Format::is_outside))]
-fn own(version: Version, words: u32, value: u32) -> Result<u32, ImageError>
+pub fn own(version: Version, words: u32, value: u32) -> Result<u32, ImageError>
     ensures value { result ≡ (if is_own_outside version words value then Err ImageError.Count else Ok value) }
     ensures sound { IfOk result (IsOwn version words) }
 {

@@ -1,4 +1,4 @@
-// Where the fields of an image file are, and their limits.
+// Where the fields of an image file are, their limits, and where a program finds the data.
 
 /// The bytes with which every image file begins.
 pub const MAGIC: [u8; 4] = *b"SVCI";
@@ -7,6 +7,12 @@ pub const MAGIC: [u8; 4] = *b"SVCI";
 pub const MOST_ENTRIES: u32 = 1024;
 /// The most text words, the most data words, and the largest limit of turns.
 pub const MOST_WORDS: u32 = 65_536;
+/// The most bytes of an image file, which is one of version 2: the header with the registers, the entries, as many limits,
+/// the text and the data.
+pub const MOST_BYTES: u32 = 148 + 4 * (2 * MOST_ENTRIES + 2 * MOST_WORDS);
+
+/// The byte address of the first data word; the first text word stands at 0.
+pub const DATA_START: u32 = 0x0010_0000;
 
 /// The offset of the version, in bytes, as are the offsets below.
 pub const VERSION_PLACE: usize = 4;

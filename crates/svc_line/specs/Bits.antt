@@ -3,7 +3,7 @@ use Rattle.std.specs.Prelude.{ℕ, ◌/◌, ◌==◌, Bool, true, false, not, �
 use Rattle.std.specs.Int.RustNames.{bit_and}
 use Rattle.svc_line.specs.declared.bits.LineBits.{LineBits}
 
--- V, S, L, C and T, and the number that the bits without a name make
+-- V, S, L, C and T, and the number that the unnamed bits make
 pub record Bits : Type 0 where
   pub valid : Bool
   pub store : Bool
@@ -35,15 +35,15 @@ bits_of line = bits_in line.0
 abbrev pub no_bits : Bits
 no_bits = record { valid = false; store = false; load = false; commit = false; stale = false; unnamed = 0 }
 
--- there, and not committed
+-- valid, and not committed
 abbrev pub is_active : Bits → Bool
 is_active b = b.valid && not b.commit
 
--- there, and committed
+-- valid, and committed
 abbrev pub is_committed : Bits → Bool
 is_committed b = b.valid && b.commit
 
--- there, and stored to
+-- valid, and stored to
 abbrev pub is_dirty : Bits → Bool
 is_dirty b = b.valid && b.store
 
@@ -55,26 +55,27 @@ is_exposed b = is_active b && b.load
 abbrev pub is_reusable : Bits → Bool
 is_reusable b = is_committed b && not b.store && not b.stale
 
--- a load fills the line: it is there, loaded where the value is not the task's own, and stale where a later task has a version
+-- a load fills the line: it is valid, has L unless the value is the task's own, and has T if a later task has a version
 abbrev pub loaded : (first_use overtaken : Bool) → Bits
 loaded first_use overtaken = record no_bits { valid = true; load = first_use; stale = overtaken }
 
--- a store goes to the line: it is there and stored to, still loaded where it was exposed, and stale where a later task has a version
+-- a store writes the line: it is valid and stored to, keeps L if it was exposed, and has T if a later task has a
+-- version
 abbrev pub stored : Bits → (overtaken : Bool) → Bits
 stored b overtaken = record no_bits { valid = true; store = true; load = is_exposed b; stale = overtaken }
 
--- the unit's task is committed: an active line is committed with it
+-- the unit's task is committed: C is set on an active line
 abbrev pub committed : Bits → Bits
 committed b = if is_active b then record b { commit = true } else b
 
--- the unit's task is squashed: an active line goes with it
+-- the unit's task is squashed: an active line becomes invalid
 abbrev pub squashed : Bits → Bits
 squashed b = if is_active b then no_bits else b
 
--- the unit's next task takes the line over, and depends on its value
+-- the unit's next task takes over the line: L replaces C
 abbrev pub reused : Bits → Bits
 reused b = record b { commit = false; load = true }
 
--- a later task has stored the word
+-- a later task has stored the word: T is set
 abbrev pub overtaken_now : Bits → Bits
 overtaken_now b = record b { stale = true }

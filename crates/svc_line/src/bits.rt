@@ -25,7 +25,7 @@ bitflag_items! {
     }
 }
 
-// The bits that have names.
+// The named bits.
 const NAMED: u8 = 31;
 
 impl Flags for LineBits {
@@ -52,7 +52,7 @@ impl Flags for LineBits {
 
 #[tactic(auto, unfolding(crate::specs::Bits::bits_of), using(crate::proofs::Changes::with_commit, crate::proofs::Changes::with_stale, crate::proofs::Changes::with_reuse))]
 impl LineBits {
-    /// The line is there.
+    /// The line is valid.
     pub fn is_valid(self) -> bool
         ensures { result ≡ (bits_of self).valid }
     {
@@ -95,8 +95,8 @@ impl LineBits {
         self.is_committed() && !self.contains(LineBits::STORE) && !self.contains(LineBits::STALE)
     }
 
-    /// The bits of a line that a load fills. `first_use` says that the task depends on the value,
-    /// as it does unless the value is its own; `overtaken` that a later task has a version.
+    /// The bits of a line that a load fills. `first_use` says that the task depends on the value, as it does unless the
+    /// value is its own; `overtaken` says that a later task has a version.
     pub fn on_load(first_use: bool, overtaken: bool) -> LineBits
         ensures { bits_of result ≡ loaded first_use overtaken }
     {
@@ -152,7 +152,7 @@ impl LineBits {
         self.union(LineBits::STALE)
     }
 
-    /// The bits that have names, as they are.
+    /// The bits with names, as they are.
     pub fn named(self) -> LineBits
         ensures { bits_of result ≡ record (bits_of self) { unnamed = 0 } }
     {

@@ -7,9 +7,11 @@ use Rattle.std.proofs.lemmas.Map.{update_same, update_other}
 use Rattle.std.proofs.lemmas.Bool.{eq-eqb, ne_eqb, eqb-true, leb-true, and_parts, cases_eq}
 use Rattle.std.proofs.lemmas.List.{length-append, append-nil, append_assoc}
 use Rattle.svc_draft.specs.declared.section.Section.TheVariants as section
+use Rattle.svc_draft.specs.declared.statement.Width.TheVariants as wide
 use Rattle.svc_draft.specs.declared.statement.Next.TheVariants as go
 use Rattle.svc_draft.specs.declared.statement.Statement.TheVariants as say
-use Rattle.svc_draft.specs.Layouts.{Layout, Names, place, here, address_of, spot_here, with_symbol, with_word, after}
+use Rattle.svc_draft.specs.Options.{◌>>=◌}
+use Rattle.svc_draft.specs.Layouts.{Layout, Names, place, here, address_of, spot_here, with_symbol, with_word, going_on, after}
 use Rattle.svc_operands.specs.Characters.{name_at, found}
 use Rattle.svc_instructions.specs.declared.table.Part.{Part}
 use Rattle.svc_instructions.specs.declared.table.Row.{Row}
@@ -21,7 +23,7 @@ use Rattle.svc_list.proofs.LinesBack.{Trails, three, unlabelled, next_back, ende
 use Rattle.svc_list.proofs.NotesBack.{bare_ends, word_ends}
 use Rattle.svc_list.proofs.LabelsBack.{label_apart, label_same, colon_name, label_back, empty_back, text_spot, spot_is, label_found, label_again}
 use Rattle.svc_list.proofs.RowsBack.{refilled, Reaches, row_back, row_stops, known_same}
-use Rattle.svc_list.proofs.LayoutsBack.{AreMarks, next_marks, top_marks, marked, worded, Free, free_later, free_behind, one_entry, one_word, value_in_text, entries_of, limits_of}
+use Rattle.svc_list.proofs.LayoutsBack.{AreMarks, next_marks, top_marks, marked, worded, Free, free_later, free_behind, one_entry, one_word, value_in_text, line_goes_on, entries_of, limits_of}
 use Rattle.svc_list.proofs.Leading.{Leads, one_leads, leads_none, leads_both, leads_at, line_leads}
 use Rattle.svc_list.proofs.Printing.{text_both}
 
@@ -194,9 +196,10 @@ coded_row : (known : Bool) (count : ℕ) (labelled : ℕ → Bool) (n : ℕ) (d 
     → Leads (line_of (Codes w to (word_note (4 * n) w))) d (worded d (laid_as row to known w))
 unfolding statement_text
 coded_row known count labelled n d w None to row leads fit low few at good marked =
-    let text : line_of (Codes w to (word_note (4 * n) w)) ≡ line_of (Says (say.Word w) (word_note (4 * n) w)) = rw row refl in
+    let text : line_of (Codes w to (word_note (4 * n) w)) ≡ line_of (Says (say.Value wide.Word w go.Line) (word_note (4 * n) w)) = rw row refl in
     subst (λ (x : List ℕ). Leads x d (worded d w)) (sym text)
-    (line_leads (say.Word w) (word_note (4 * n) w) d (worded d w) at.line fit (word_ends (4 * n) w) (value_in_text d w at.text ∙ one_word d w (omega (arith, at.words, low, few))))
+    (line_leads (say.Value wide.Word w go.Line) (word_note (4 * n) w) d (worded d w) at.line (refl, refl, fit) (word_ends (4 * n) w)
+    (ap (λ (o : Option Layout). o >>= going_on go.Line) (value_in_text d w at.text ∙ one_word d w (omega (arith, at.words, low, few))) ∙ line_goes_on (worded d w) at.line))
 coded_row known count labelled n d w (Some r) to row leads fit low few at good marked =
     let four : 4 * length d.text ≡ 4 * n = ap (λ (x : ℕ). 4 * x) at.words in
     let place = here_is d (4 * n) at.text four (omega (arith, low, few)) in

@@ -1,5 +1,5 @@
 -- The lines of an image make its layout.
-use Rattle.std.proofs.Common.{◌≡◌, ℕ, suc, ◌+◌, ◌-◌, ◌*◌, ◌/◌, ◌%◌, ◌^◌, ◌<◌, ◌≤◌, inl, inr, Bool, true, false, ◌==◌, ◌&&◌, nat_le, nat_lt, List, [], ◌∷◌, ◌++◌, length, map, slice_index, take, drop, Option, Some, None, refl, ap, sym, ◌∙◌, subst, arith}
+use Rattle.std.proofs.Common.{◌≡◌, ℕ, suc, ◌+◌, ◌-◌, ◌*◌, ◌/◌, ◌%◌, ◌^◌, ◌<◌, ◌≤◌, inl, inr, Bool, true, false, ◌==◌, ◌&&◌, nat_le, nat_lt, List, [], ◌∷◌, ◌++◌, length, map, slice_index, replicate, take, drop, Option, Some, None, refl, ap, sym, ◌∙◌, subst, arith}
 use Rattle.std.proofs.Math.Seq.{set-append_seam}
 use Rattle.std.proofs.lemmas.Bool.{eq-eqb, eqb-true, ne_eqb, le-leb, cases_eq, and_parts}
 use Rattle.std.proofs.lemmas.List.{append_assoc, append-nil, length-append, length-take-le, take-append-drop}
@@ -9,18 +9,19 @@ use Rattle.std.specs.List.{AllByRecursion, list_any}
 use Rattle.svc_rv32i.specs.Meaning.{register}
 use Rattle.svc_image.specs.declared.version.Version.{Version}
 use Rattle.svc_image.specs.declared.version.Version.TheVariants as version
-use Rattle.svc_image.specs.Version.{read_only_by, own_number, listed}
-use Rattle.svc_image.specs.Image.{Image, IsLimit}
-use Rattle.svc_image.specs.Format.{bytes_of_word, bytes_of_words, file_of}
+use Rattle.svc_image.specs.Version.{read_only_by, limits_by}
+use Rattle.svc_image.specs.Image.{Image, IsImage, IsLimit, AreWords}
+use Rattle.svc_image.specs.Format.{bytes_of_word, bytes_of_words, words_in}
+use Rattle.svc_image.proofs.Wordwise.{length-bytes_of_words, words_in-bytes_of_words}
 use Rattle.svc_draft.specs.declared.section.Section.TheVariants as section
 use Rattle.svc_draft.specs.declared.statement.Width.TheVariants as wide
+use Rattle.svc_draft.specs.declared.statement.Next.{Next}
 use Rattle.svc_draft.specs.declared.statement.Next.TheVariants as go
 use Rattle.svc_draft.specs.declared.statement.Statement.TheVariants as say
 use Rattle.svc_draft.specs.Options.{◌>>=◌}
 use Rattle.svc_draft.specs.Areas.{with_more}
 use Rattle.svc_draft.specs.Limits.{is_limit}
-use Rattle.svc_draft.specs.Layouts.{Layout, Names, no_distances, with_word, with_bytes, with_value, with_version, with_read_only, with_own, with_place, with_entry, with_limit, with_register, data_size, after, limits_in, file_in}
-use Rattle.svc_draft.proofs.Wordwise.{length-bytes_of_word, length-bytes_of_words}
+use Rattle.svc_draft.specs.Layouts.{Layout, Names, no_distances, with_word, with_bytes, with_value, with_version, with_read_only, with_own, with_place, with_entry, with_limit, with_register, data_size, going_on, after, limits_in, data_in, image_laid}
 use Rattle.svc_list.specs.Listings.{Line, Says, Labels, Codes, Starts, bare, setting, settings, own_limit, marks, data_lines, all_data}
 
 -- the layout after all of these lines, of which none is a label
@@ -237,6 +238,10 @@ marks_limits v (e ∷ es) (l ∷ ls) h = ap (λ (xs : List (Option ℕ)). own_li
 abbrev holding : Layout → List ℕ → Layout
 holding d xs = record d { data_bytes = xs }
 
+length-bytes_of_word : (word : ℕ) → length (bytes_of_word word) ≡ 4
+unfolding bytes_of_words
+length-bytes_of_word word = ap length (sym (append-nil (bytes_of_word word))) ∙ length-bytes_of_words (word ∷ [])
+
 -- .data is the only section of data
 abbrev pub IsAlone : Layout → Type 0
 IsAlone d = (d.rodata_bytes ≡ []) × (d.bss_bytes ≡ [])
@@ -251,17 +256,27 @@ one_datum d bytes w inside alone room =
     le-leb (data_size next) 262144 (omega (arith, room, four, length-append bytes (bytes_of_word w), ap length alone.0, ap length alone.1)) in
     rw (inside, fits, left) refl
 
-word_in_data : (d : Layout) (w : ℕ) → d.section ≡ section.Data → after [] (say.Word w) d ≡ with_bytes (bytes_of_word w) d
+-- a line follows where one was to follow
+pub line_goes_on : (d : Layout) → d.next ≡ go.Line → going_on go.Line d ≡ Some d
+line_goes_on d line = ap (λ (n : Next). Some (record d { next = n })) (sym line)
+
+word_in_data : (d : Layout) (w : ℕ) → d.section ≡ section.Data → with_value wide.Word w d ≡ with_bytes (bytes_of_word w) d
 unfolding with_value
 word_in_data d w h = rw h refl
 
-data_laid : (d : Layout) (n : ℕ) (bytes ws : List ℕ) → d.section ≡ section.Data → IsAlone d → length bytes + 4 * length ws ≤ 262144 → after_all (data_lines n ws) (holding d bytes) ≡ Some (holding d (bytes ++ bytes_of_words ws))
+datum_laid : (d : Layout) (bytes : List ℕ) (w : ℕ) → d.section ≡ section.Data → d.next ≡ go.Line → IsAlone d → length bytes + 4 ≤ 262144
+    → after [] (say.Value wide.Word w go.Line) (holding d bytes) ≡ Some (holding d (bytes ++ bytes_of_word w))
+datum_laid d bytes w inside line alone room =
+    ap (λ o. o >>= going_on go.Line) (word_in_data (holding d bytes) w inside ∙ one_datum d bytes w inside alone room)
+    ∙ line_goes_on (holding d (bytes ++ bytes_of_word w)) line
+
+data_laid : (d : Layout) (n : ℕ) (bytes ws : List ℕ) → d.section ≡ section.Data → d.next ≡ go.Line → IsAlone d → length bytes + 4 * length ws ≤ 262144 → after_all (data_lines n ws) (holding d bytes) ≡ Some (holding d (bytes ++ bytes_of_words ws))
 unfolding bytes_of_words
-data_laid d n bytes [] inside alone room = rw (append-nil bytes) refl
-data_laid d n bytes (w ∷ ws) inside alone room =
+data_laid d n bytes [] inside line alone room = rw (append-nil bytes) refl
+data_laid d n bytes (w ∷ ws) inside line alone room =
     let longer_by : length (bytes ++ bytes_of_word w) ≡ length bytes + 4 = length-append bytes (bytes_of_word w) ∙ ap (λ n. length bytes + n) (length-bytes_of_word w) in
-    ap (λ o. o >>= after_all (data_lines (n + 4) ws)) (word_in_data (holding d bytes) w inside ∙ one_datum d bytes w inside alone (omega (arith, room)))
-    ∙ data_laid d (n + 4) (bytes ++ bytes_of_word w) ws inside alone (omega (arith, room, longer_by))
+    ap (λ o. o >>= after_all (data_lines (n + 4) ws)) (datum_laid d bytes w inside line alone (omega (arith, room)))
+    ∙ data_laid d (n + 4) (bytes ++ bytes_of_word w) ws inside line alone (omega (arith, room, longer_by))
     ∙ ap (λ xs. Some (holding d xs)) (append_assoc bytes (bytes_of_word w) (bytes_of_words ws))
 
 bytes_of_both : (xs ys : List ℕ) → bytes_of_words (xs ++ ys) ≡ bytes_of_words xs ++ bytes_of_words ys
@@ -278,13 +293,13 @@ fixed_laid d words inside first two =
     let count : length (bytes_of_words words) / 4 ≡ length words = omega (arith, size) in
     rw (version_again version.Two (holding d (bytes_of_words words)) two, inside, up_to, by_words, count) refl
 
-pub all_data_laid : (v : Version) (n : ℕ) (words : List ℕ) (d : Layout) → d.version ≡ Some v → d.section ≡ section.Data → IsAlone d → d.data_from ≡ 0 → d.data_bytes ≡ [] → d.read_only ≡ 0 → n ≤ length words → length words ≤ 65536
+pub all_data_laid : (v : Version) (n : ℕ) (words : List ℕ) (d : Layout) → d.version ≡ Some v → d.section ≡ section.Data → d.next ≡ go.Line → IsAlone d → d.data_from ≡ 0 → d.data_bytes ≡ [] → d.read_only ≡ 0 → n ≤ length words → length words ≤ 65536
     → after_all (all_data v n words) d ≡ Some (record d { data_bytes = bytes_of_words words; read_only = read_only_by v n })
-all_data_laid version.One n words d said inside alone first none free few most =
+all_data_laid version.One n words d said inside line alone first none free few most =
     ap (λ (xs : List ℕ). after_all (data_lines 1048576 words) (holding d xs)) none
-    ∙ data_laid d 1048576 [] words inside alone (omega (arith, most))
+    ∙ data_laid d 1048576 [] words inside line alone (omega (arith, most))
     ∙ ap (λ (q : ℕ). Some (record d { data_bytes = bytes_of_words words; read_only = q })) free
-all_data_laid version.Two n words d said inside alone first none free few most =
+all_data_laid version.Two n words d said inside line alone first none free few most =
     let front = take n words in
     let back = drop n words in
     let count : length front ≡ n = length-take-le n words few in
@@ -292,10 +307,10 @@ all_data_laid version.Two n words d said inside alone first none free few most =
     let sizes : length front + length back ≡ length words = sym (length-append front back) ∙ ap length split in
     let room : length (bytes_of_words front) + 4 * length back ≤ 262144 = omega (arith, length-bytes_of_words front, sizes, most) in
     let fixed : after_all (data_lines 1048576 front) d ≡ Some (holding d (bytes_of_words front)) =
-    ap (λ (xs : List ℕ). after_all (data_lines 1048576 front) (holding d xs)) none ∙ data_laid d 1048576 [] front inside alone (omega (arith, sizes, most)) in
+    ap (λ (xs : List ℕ). after_all (data_lines 1048576 front) (holding d xs)) none ∙ data_laid d 1048576 [] front inside line alone (omega (arith, sizes, most)) in
     after_both (data_lines 1048576 front) (bare say.ReadOnly ∷ data_lines (1048576 + 4 * n) back) d (holding d (bytes_of_words front)) fixed
     ∙ ap (λ o. o >>= after_all (data_lines (1048576 + 4 * n) back)) (fixed_laid d front inside first said)
-    ∙ data_laid (record d { read_only = length front }) (1048576 + 4 * n) (bytes_of_words front) back inside alone room
+    ∙ data_laid (record d { read_only = length front }) (1048576 + 4 * n) (bytes_of_words front) back inside line alone room
     ∙ ap (λ (xs : List ℕ). Some (record d { data_bytes = xs; read_only = length front })) (sym (bytes_of_both front back) ∙ ap bytes_of_words split)
     ∙ ap (λ (q : ℕ). Some (record d { data_bytes = bytes_of_words words; read_only = q })) count
 
@@ -304,18 +319,30 @@ own_limits : (limit : ℕ) (ls : List ℕ) → limits_in limit (map (own_limit v
 own_limits limit [] = refl
 own_limits limit (l ∷ ls) = ap (λ (xs : List ℕ). l ∷ xs) (own_limits limit ls)
 
-listed_back : (v : Version) (limit : ℕ) (ls : List ℕ) → listed v (limits_in limit (map (own_limit v) ls)) ≡ listed v ls
-listed_back version.One limit ls = refl
-listed_back version.Two limit ls = own_limits limit ls
+limits_back : (v : Version) (n : ℕ) (ls : List ℕ) → (v ≡ version.One → ls ≡ replicate n (slice_index ls 0))
+    → limits_by v n (common_limit v (slice_index ls 0)) (limits_in (common_limit v (slice_index ls 0)) (map (own_limit v) ls)) ≡ ls
+limits_back version.One n ls shared = sym (shared refl)
+limits_back version.Two n ls shared = own_limits 65536 ls
 
-own_back : (v : Version) (limit n : ℕ) → own_number v (common_limit v limit) (read_only_by v n) ≡ own_number v limit n
-own_back version.One limit n = refl
-own_back version.Two limit n = refl
+read_only_back : (v : Version) (n : ℕ) → (v ≡ version.One → n ≡ 0) → read_only_by v (read_only_by v n) ≡ n
+read_only_back version.One n nothing = sym (nothing refl)
+read_only_back version.Two n nothing = refl
 
--- the layout of an image makes the image's file
-pub image_file : (names : Names) (known : Bool) (from : ℕ) (img : Image) → file_in (layout_for names known from img) (bytes_of_words img.words) ≡ file_of img
-unfolding file_in file_of
-image_file names known from img =
-    let limit = slice_index img.limits 0 in
-    let words : length (bytes_of_words img.words) / 4 ≡ length img.words = omega (arith, length-bytes_of_words img.words) in
-    rw (words, listed_back img.version (common_limit img.version limit) img.limits, own_back img.version limit img.read_only) refl
+-- the words of data that is the bytes of words
+words_back : (bytes words : List ℕ) → bytes ≡ bytes_of_words words → AreWords words → words_in (length bytes / 4) bytes ≡ words
+words_back bytes words same fit =
+    let count : length (bytes_of_words words) / 4 ≡ length words = omega (arith, length-bytes_of_words words) in
+    ap (λ (xs : List ℕ). words_in (length xs / 4) xs) same
+    ∙ ap (λ (n : ℕ). words_in n (bytes_of_words words)) count
+    ∙ ap (words_in (length words)) (sym (append-nil (bytes_of_words words)))
+    ∙ words_in-bytes_of_words words [] fit
+
+-- the layout of an image makes the image
+pub image_back : (names : Names) (known : Bool) (from : ℕ) (img : Image) → IsImage img → data_in (layout_for names known from img) ≡ bytes_of_words img.words
+    → image_laid (layout_for names known from img) ≡ img
+unfolding image_laid
+image_back names known from img sound bytes =
+    let read_only = read_only_back img.version img.read_only (λ is. (sound.first is).nothing) in
+    let limits = limits_back img.version (length img.entries) img.limits (λ is. (sound.first is).shared) in
+    let words = words_back (data_in (layout_for names known from img)) img.words bytes sound.words_fit in
+    λ i. record { version = img.version; read_only = read_only i; start = img.start; registers = img.registers; entries = img.entries; limits = limits i; text = img.text; words = words i }

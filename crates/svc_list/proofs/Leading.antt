@@ -51,26 +51,10 @@ next_of ls d made (Some next) h = (next, refl, h)
 
 -- no line with a text is a label
 no_label : (name : List ℕ) (s : Statement) (d : Layout) → HasText s → after name s d ≡ after [] s d
-no_label name say.Nothing d h = refl
 no_label name say.Label d h = absurd h
-no_label name (say.Instruction w) d h = absurd h
-no_label name (say.Word n) d h = refl
-no_label name (say.Version v) d h = refl
-no_label name say.ReadOnly d h = refl
-no_label name (say.Entry limit) d h = refl
-no_label name (say.Start n) d h = refl
-no_label name (say.Limit n) d h = refl
-no_label name (say.Register r n) d h = refl
-no_label name (say.Pair i j) d h = absurd h
-no_label name (say.Section s) d h = refl
-no_label name (say.Zeros n) d h = absurd h
-no_label name (say.Align step) d h = absurd h
-no_label name (say.Open n) d h = absurd h
-no_label name (say.Value w n next) d h = absurd h
 no_label name (say.Symbol s) d h = absurd h
 no_label name (say.Common n step) d h = absurd h
-no_label name (say.Local n) d h = absurd h
-no_label name (say.Relative i n) d h = absurd h
+no_label name _ d h = refl
 
 pub line_leads : (s : Statement) (note : List ℕ) (d e : Layout) → d.next ≡ go.Line → HasText s → Trails note → after [] s d ≡ Some e → Leads (line_of (Says s note)) d e
 line_leads s note d e line h trails laid =
@@ -82,7 +66,7 @@ unfolding text_of
 lines_lead [] d e line h k = leads_at [] d d e (same_laid d e k) (leads_none d)
 lines_lead (Says s note ∷ ls) d e line h k =
     let step = next_of ls d e (after [] s d) k in
-    let same = kept go.Line (after [] s d) step.0 (line_keeps go.Line s d h.0.0 line) step.1 in
+    let same = kept go.Line (after [] s d) step.0 (line_keeps s d h.0.0 line) step.1 in
     leads_both (line_of (Says s note)) (text_of ls) d step.0 e (line_leads s note d step.0 line h.0.0 h.0.1 step.1) (lines_lead ls step.0 e same h.1 step.2)
 lines_lead (Labels a ∷ ls) d e line h k = absurd h.0
 lines_lead (Codes w to note ∷ ls) d e line h k = absurd h.0

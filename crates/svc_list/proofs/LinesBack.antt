@@ -1,5 +1,5 @@
 -- A line is read back from its text.
-use Rattle.std.proofs.Common.{◌≡◌, ℕ, ◌^◌, ◌<◌, Bool, true, false, not, ◌&&◌, ◌==◌, List, [], ◌∷◌, ◌++◌, length, Some, None, refl, ap, ◌∙◌, arith, decimal, codes}
+use Rattle.std.proofs.Common.{◌≡◌, ℕ, ◌^◌, ◌<◌, Bool, true, false, not, ◌&&◌, ◌==◌, List, [], ◌∷◌, ◌++◌, length, Some, None, refl, sym, ap, ◌∙◌, arith, decimal, codes}
 use Rattle.std.proofs.lemmas.Bool.{and_parts, not-true}
 use Rattle.std.proofs.lemmas.List.{append_assoc}
 use Rattle.svc_rv32i.specs.declared.instr.Register.{Register}
@@ -7,6 +7,7 @@ use Rattle.svc_image.specs.declared.version.Version.{Version}
 use Rattle.svc_image.specs.declared.version.Version.TheVariants as version
 use Rattle.svc_image.specs.Version.{version_number}
 use Rattle.svc_draft.specs.declared.section.Section.TheVariants as section
+use Rattle.svc_draft.specs.declared.statement.Width.TheVariants as wide
 use Rattle.svc_draft.specs.declared.statement.Next.{Next}
 use Rattle.svc_draft.specs.declared.statement.Next.TheVariants as go
 use Rattle.svc_draft.specs.declared.statement.Statement.{Statement}
@@ -47,7 +48,7 @@ pub by_directive : (d : Layout) (w rest : List ℕ) → all_dense (46 ∷ w) ≡
 unfolding statement_at
 by_directive d w rest h s = rw (at_name 46 w rest h s, at_rest 46 w rest h s) refl
 
-word_back : (d : Layout) (n : ℕ) (rest tail : List ℕ) → n < 2 ^ 32 → Ends rest tail → word_at d (32 ∷ (decimal n ++ rest)) ≡ Some (say.Word n, rest)
+word_back : (d : Layout) (n : ℕ) (rest tail : List ℕ) → n < 2 ^ 32 → Ends rest tail → word_at d (32 ∷ (decimal n ++ rest)) ≡ Some (say.Value wide.Word n go.Line, rest)
 unfolding word_at
 word_back d n rest tail h e = rw (spaced_value_back d n rest tail h e) refl
 
@@ -91,10 +92,9 @@ setting_back d r n rest tail h e =
 
 pub statement_back : (d : Layout) (s : Statement) (rest tail : List ℕ) → HasText s → Ends rest tail → statement_at d (statement_text s ++ rest) ≡ Some (s, rest)
 unfolding statement_text is_name directive_at said_by padded said_at
-statement_back d say.Nothing rest tail h e = absurd h
-statement_back d say.Label rest tail h e = absurd h
-statement_back d (say.Instruction w) rest tail h e = absurd h
-statement_back d (say.Word n) rest tail h e = by_directive d (codes "word") (32 ∷ (decimal n ++ rest)) refl refl ∙ word_back d n rest tail h e
+statement_back d (say.Value w n next) rest tail h e =
+    by_directive d (codes "word") (32 ∷ (decimal n ++ rest)) refl refl ∙ word_back d n rest tail h.2 e
+    ∙ (λ i. Some (say.Value (sym h.0 i) n (sym h.1 i), rest))
 statement_back d (say.Version v) rest tail h e = by_directive d (codes "svc_version") (32 ∷ (decimal (version_number v) ++ rest)) refl refl ∙ version_back v rest e.stop
 statement_back d say.ReadOnly rest tail h e = by_directive d (codes "svc_readonly") rest refl e.stop
 statement_back d (say.Entry None) rest tail h e = by_directive d (codes "svc_entry") rest refl e.stop ∙ bare_entry_back rest tail e
@@ -102,19 +102,11 @@ statement_back d (say.Entry (Some n)) rest tail h e = by_directive d (codes "svc
 statement_back d (say.Start n) rest tail h e = by_directive d (codes "svc_start") (32 ∷ (decimal n ++ rest)) refl refl ∙ start_back d n rest tail h e
 statement_back d (say.Limit n) rest tail h e = by_directive d (codes "svc_limit") (32 ∷ (decimal n ++ rest)) refl refl ∙ limit_back n rest h e.stop
 statement_back d (say.Register r n) rest tail h e = by_directive d (codes "svc_register") ((first_text r ++ (32 ∷ decimal n)) ++ rest) refl refl ∙ setting_back d r n rest tail h e
-statement_back d (say.Pair i j) rest tail h e = absurd h
 statement_back d (say.Section section.Text) rest tail h e = by_directive d (codes "text") rest refl e.stop
 statement_back d (say.Section section.Rodata) rest tail h e = by_directive d (codes "rodata") rest refl e.stop
 statement_back d (say.Section section.Data) rest tail h e = by_directive d (codes "data") rest refl e.stop
 statement_back d (say.Section section.Bss) rest tail h e = by_directive d (codes "bss") rest refl e.stop
-statement_back d (say.Zeros n) rest tail h e = absurd h
-statement_back d (say.Align step) rest tail h e = absurd h
-statement_back d (say.Open n) rest tail h e = absurd h
-statement_back d (say.Value w n next) rest tail h e = absurd h
-statement_back d (say.Symbol s) rest tail h e = absurd h
-statement_back d (say.Common n step) rest tail h e = absurd h
-statement_back d (say.Local n) rest tail h e = absurd h
-statement_back d (say.Relative i n) rest tail h e = absurd h
+statement_back d _ rest tail h e = absurd h
 
 -- a line that begins with no label
 pub unlabelled : (d : Layout) (text : List ℕ) → behind 58 (past_name text) ≡ None → line_at d text ≡ ended_at d text
@@ -136,10 +128,7 @@ directive_stops w rest h s = ap (behind 58) (at_rest 46 w rest h s) ∙ no_colon
 
 statement_stops : (s : Statement) (rest : List ℕ) → HasText s → stops rest ≡ true → behind 58 (past_name (statement_text s ++ rest)) ≡ None
 unfolding statement_text is_name past
-statement_stops say.Nothing rest h k = absurd h
-statement_stops say.Label rest h k = absurd h
-statement_stops (say.Instruction w) rest h k = absurd h
-statement_stops (say.Word n) rest h k = directive_stops (codes "word") (32 ∷ (decimal n ++ rest)) refl refl
+statement_stops (say.Value w n next) rest h k = directive_stops (codes "word") (32 ∷ (decimal n ++ rest)) refl refl
 statement_stops (say.Version v) rest h k = directive_stops (codes "svc_version") (32 ∷ (decimal (version_number v) ++ rest)) refl refl
 statement_stops say.ReadOnly rest h k = directive_stops (codes "svc_readonly") rest refl k
 statement_stops (say.Entry None) rest h k = directive_stops (codes "svc_entry") rest refl k
@@ -147,19 +136,11 @@ statement_stops (say.Entry (Some n)) rest h k = directive_stops (codes "svc_entr
 statement_stops (say.Start n) rest h k = directive_stops (codes "svc_start") (32 ∷ (decimal n ++ rest)) refl refl
 statement_stops (say.Limit n) rest h k = directive_stops (codes "svc_limit") (32 ∷ (decimal n ++ rest)) refl refl
 statement_stops (say.Register r n) rest h k = directive_stops (codes "svc_register") ((first_text r ++ (32 ∷ decimal n)) ++ rest) refl refl
-statement_stops (say.Pair i j) rest h k = absurd h
 statement_stops (say.Section section.Text) rest h k = directive_stops (codes "text") rest refl k
 statement_stops (say.Section section.Rodata) rest h k = directive_stops (codes "rodata") rest refl k
 statement_stops (say.Section section.Data) rest h k = directive_stops (codes "data") rest refl k
 statement_stops (say.Section section.Bss) rest h k = directive_stops (codes "bss") rest refl k
-statement_stops (say.Zeros n) rest h k = absurd h
-statement_stops (say.Align step) rest h k = absurd h
-statement_stops (say.Open n) rest h k = absurd h
-statement_stops (say.Value w n next) rest h k = absurd h
-statement_stops (say.Symbol s) rest h k = absurd h
-statement_stops (say.Common n step) rest h k = absurd h
-statement_stops (say.Local n) rest h k = absurd h
-statement_stops (say.Relative i n) rest h k = absurd h
+statement_stops _ rest h k = absurd h
 
 -- a line whose comment ends it
 abbrev pub Trails : List ℕ → Type 0

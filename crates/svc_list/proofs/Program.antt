@@ -19,8 +19,8 @@ use Rattle.svc_draft.specs.declared.section.Section.TheVariants as section
 use Rattle.svc_draft.specs.declared.statement.Next.TheVariants as go
 use Rattle.svc_draft.specs.declared.statement.Statement.TheVariants as say
 use Rattle.svc_draft.specs.Areas.{filled, data_of, some_word}
-use Rattle.svc_draft.specs.Layouts.{Layout, Names, no_names, zeros, address_of, empty, whole_size, with_version, file_in, data_in, HasFewParts, IsMadeOf}
-use Rattle.svc_draft.proofs.Wordwise.{length-bytes_of_words}
+use Rattle.svc_draft.specs.Layouts.{Layout, Names, no_names, zeros, address_of, empty, whole_size, with_version, IsMadeOf}
+use Rattle.svc_image.proofs.Wordwise.{length-bytes_of_words}
 use Rattle.svc_operands.specs.Characters.{is_name, past_name, behind}
 use Rattle.svc_operands.specs.Values.{value_at}
 use Rattle.svc_operands.specs.Names.{padded}
@@ -32,7 +32,7 @@ use Rattle.svc_list.proofs.LinesBack.{IsRead, by_directive, directive_stops, unl
 use Rattle.svc_list.proofs.NotesBack.{bare_ends, address_ends}
 use Rattle.svc_list.proofs.LabelsBack.{text_spot}
 use Rattle.svc_list.proofs.AimsBack.{label_value}
-use Rattle.svc_list.proofs.LayoutsBack.{Above, common_limit, layout_for, registers_in, settings_laid, are_zeros, marks_are, marks_few, limit_laid, marks_entries, marks_limits, limits_of, all_data_laid, image_file}
+use Rattle.svc_list.proofs.LayoutsBack.{Above, common_limit, layout_for, registers_in, settings_laid, are_zeros, marks_are, marks_few, limit_laid, marks_entries, marks_limits, limits_of, all_data_laid, image_back}
 use Rattle.svc_list.proofs.Leading.{Leads, one_leads, leads_none, leads_both, leads_at, leads_whole, line_leads, lines_lead}
 use Rattle.svc_list.proofs.CodeBack.{Good, HaveLabels, with_code, words_in, names_in, known_address, unknown_address, here_is, placed_is, code_leads, words_known, names_known, names_found}
 use Rattle.svc_list.proofs.Printing.{listing_parts}
@@ -74,7 +74,7 @@ marks_text v (e ∷ es) (l ∷ ls) h = (own_text_fits v l h.0, marks_text v es l
 
 data_text : (n : ℕ) (ws : List ℕ) → AllByRecursion (λ w. w < 2 ^ 32) ws → AllByRecursion IsRead (data_lines n ws)
 data_text n [] h = tt
-data_text n (w ∷ ws) h = ((h.0, address_ends n), data_text (n + 4) ws h.1)
+data_text n (w ∷ ws) h = (((refl, refl, h.0), address_ends n), data_text (n + 4) ws h.1)
 
 take_fits : (n : ℕ) (ws : List ℕ) → AllByRecursion (λ w. w < 2 ^ 32) ws → AllByRecursion (λ w. w < 2 ^ 32) (take n ws)
 take_fits zero ws h = tt
@@ -111,13 +111,6 @@ start_placed n s (e ∷ es) placed any =
       | inr there ↦ start_placed n s es (All-tail (StartsWord n) e es placed) there
     ]
 
-few_parts : (names : Names) (known : Bool) (from : ℕ) (img : Image) → IsImage img → HasFewParts (layout_for names known from img) (bytes_of_words img.words)
-few_parts names known from img sound = record {
-  entries_few = sound.entries_few;
-  text_few = sound.text_few;
-  data_few = omega (arith, sound.words_few, length-bytes_of_words img.words);
-}
-
 no_zeros : (words : List ℕ) → (4 - length (bytes_of_words words) % 4) % 4 ≡ 0
 no_zeros words = omega (arith, length-bytes_of_words words)
 
@@ -141,12 +134,7 @@ words_are_data words some =
 
 made_image : (names : Names) (known : Bool) (from : ℕ) (img : Image) → IsImage img → IsMadeOf (layout_for names known from img) img
 made_image names known from img sound =
-    let d = layout_for names known from img in
-    let same : data_in d ≡ bytes_of_words img.words = words_are_data img.words sound.words_some in
-    record {
-      few = subst (λ (bytes : List ℕ). HasFewParts d bytes) (sym same) (few_parts names known from img sound);
-      file = sym (ap (file_in d) same ∙ image_file names known from img);
-    }
+    sym (image_back names known from img sound (words_are_data img.words sound.words_some))
 
 -- how far behind the data's beginning .bss begins, by the first pass
 abbrev bss_behind : Image → ℕ
@@ -264,7 +252,7 @@ pass_leads names known from img sound begins good =
     let second = lines_lead (settings 1 img.registers) d₁ d₂ refl (settings_text 1 img.registers (fits img.registers sound.registers_fit)) (settings_laid d₁ [] img.registers zeros 1 refl (sym sound.registers_all) (are_zeros zeros refl) (omega (arith, sound.registers_all))) in
     let third = code_leads known count labelled sound.text_few ms img.text 0 d₂ (omega arith) (fits img.text sound.text_fits) (marks_text v img.entries img.limits limits) placed (record { text = refl; words = refl; pass = refl; line = refl }) (omega (arith, marks_few v img.entries img.limits, sound.entries_few)) (λ k above. refl) good (image_labels img) in
     let fourth = line_leads (say.Section section.Data) [] d₃ d₄ refl tt bare_ends refl in
-    let fifth = lines_lead (all_data v img.read_only img.words) d₄ d₅ refl (all_data_text v img.read_only img.words (fits img.words sound.words_fit)) (all_data_laid v img.read_only img.words d₄ refl refl (refl, refl) refl refl refl sound.read_only_few sound.words_few) in
+    let fifth = lines_lead (all_data v img.read_only img.words) d₄ d₅ refl (all_data_text v img.read_only img.words (fits img.words sound.words_fit)) (all_data_laid v img.read_only img.words d₄ refl refl refl (refl, refl) refl refl refl sound.read_only_few sound.words_few) in
     let body = text_of (all_data v img.read_only img.words) in
     let words = text_of (code count labelled 0 ms img.text) in
     let sets = text_of (settings 1 img.registers) in

@@ -1,5 +1,5 @@
 -- The text of an image: its lines, and how each is written.
-use Rattle.std.specs.Prelude.{Bool, false, ◌&&◌, ◌||◌, nat_le, length, ℕ, suc, ◌+◌, ◌*◌, ◌-◌, ◌/◌, ◌%◌, ◌^◌, ◌<◌, nat_lt, ◌==◌, List, [], ◌∷◌, ◌++◌, take, drop, length, slice_index, flat_map, Option, Some, None, if◌then◌else◌, codes, decimal}
+use Rattle.std.specs.Prelude.{◌≡◌, Bool, false, ◌&&◌, ◌||◌, nat_le, length, ℕ, suc, ◌+◌, ◌*◌, ◌-◌, ◌/◌, ◌%◌, ◌^◌, ◌<◌, nat_lt, ◌==◌, List, [], ◌∷◌, ◌++◌, take, drop, length, slice_index, flat_map, Option, Some, None, if◌then◌else◌, codes, decimal}
 use Rattle.std.specs.List.{list_any}
 use Rattle.svc_rv32i.specs.declared.instr.Register.{Register}
 use Rattle.svc_rv32i.specs.declared.instr.Short.{Short}
@@ -9,10 +9,13 @@ use Rattle.svc_rv32i.specs.declared.instr.Instr.TheVariants as i
 use Rattle.svc_rv32i.specs.Meaning.{register, short, long}
 use Rattle.svc_image.specs.declared.version.Version.{Version}
 use Rattle.svc_image.specs.declared.version.Version.TheVariants as version
+use Rattle.svc_image.specs.declared.layout.TheConstants.{DATA_START}
 use Rattle.svc_image.specs.Version.{version_number}
 use Rattle.svc_image.specs.Image.{Image}
 use Rattle.svc_draft.specs.declared.section.Section.{Section}
 use Rattle.svc_draft.specs.declared.section.Section.TheVariants as section
+use Rattle.svc_draft.specs.declared.statement.Width.TheVariants as wide
+use Rattle.svc_draft.specs.declared.statement.Next.TheVariants as go
 use Rattle.svc_draft.specs.declared.statement.Statement.{Statement}
 use Rattle.svc_draft.specs.declared.statement.Statement.TheVariants as say
 use Rattle.svc_operands.specs.Characters.{found, name_at}
@@ -108,49 +111,30 @@ section_text section.Rodata = codes ".rodata"
 section_text section.Data = codes ".data"
 section_text section.Bss = codes ".bss"
 
--- what a line says, as text
+-- what a line says, as text, where a listing has such lines
 unfoldable pub statement_text : Statement → List ℕ
-statement_text say.Nothing = []
-statement_text say.Label = []
-statement_text (say.Instruction w) = []
-statement_text (say.Word n) = codes ".word " ++ decimal n
+statement_text (say.Value w n next) = codes ".word " ++ decimal n
 statement_text (say.Version v) = codes ".svc_version " ++ decimal (version_number v)
 statement_text say.ReadOnly = codes ".svc_readonly"
 statement_text (say.Entry limit) = codes ".svc_entry" ++ own_text limit
 statement_text (say.Start n) = codes ".svc_start " ++ decimal n
 statement_text (say.Limit n) = codes ".svc_limit " ++ decimal n
 statement_text (say.Register r n) = codes ".svc_register" ++ (first_text r ++ (32 ∷ decimal n))
-statement_text (say.Pair i j) = []
 statement_text (say.Section s) = section_text s
-statement_text (say.Zeros n) = []
-statement_text (say.Align step) = []
-statement_text (say.Open n) = []
-statement_text (say.Value w n next) = []
-statement_text (say.Symbol s) = []
-statement_text (say.Common n step) = []
-statement_text (say.Local n) = []
-statement_text (say.Relative i n) = []
+statement_text _ = []
 
--- what has a text that is read back
+-- what has a text that is read back: numbers of 32 bits, and of values those that end their line
 abbrev pub HasText : Statement → Type 0
-HasText say.Nothing = ⊥
-HasText say.Label = ⊥
-HasText (say.Instruction w) = ⊥
-HasText (say.Word n) = n < 2 ^ 32
+HasText (say.Value w n next) = (w ≡ wide.Word) × (next ≡ go.Line) × (n < 2 ^ 32)
+HasText (say.Version v) = Unit {0}
+HasText say.ReadOnly = Unit {0}
+HasText (say.Entry None) = Unit {0}
 HasText (say.Entry (Some n)) = n < 2 ^ 32
 HasText (say.Start n) = n < 2 ^ 32
 HasText (say.Limit n) = n < 2 ^ 32
 HasText (say.Register r n) = n < 2 ^ 32
-HasText (say.Pair i j) = ⊥
-HasText (say.Zeros n) = ⊥
-HasText (say.Align step) = ⊥
-HasText (say.Open n) = ⊥
-HasText (say.Value w n next) = ⊥
-HasText (say.Symbol s) = ⊥
-HasText (say.Common n step) = ⊥
-HasText (say.Local n) = ⊥
-HasText (say.Relative i n) = ⊥
-HasText _ = Unit {0}
+HasText (say.Section s) = Unit {0}
+HasText _ = ⊥
 
 -- the comments behind a word of the text, by its address and its bits, and behind a word of the data, by its address
 abbrev pub address_note : ℕ → List ℕ
@@ -242,7 +226,7 @@ abbrev pub coded : (count address word : ℕ) → Line
 coded count address word = Codes word (target_of count address word) (word_note address word)
 
 abbrev pub datum : (address word : ℕ) → Line
-datum address word = Says (say.Word word) (address_note address)
+datum address word = Says (say.Value wide.Word word go.Line) (address_note address)
 
 -- the label of the n-th word, if it has one
 unfoldable pub labels : (ℕ → Bool) → ℕ → List Line
@@ -256,15 +240,15 @@ code count labelled n (m ∷ ms) (w ∷ ws) =
     labels labelled n
     ++ (if m.0 == 4 * n then bare (say.Entry m.1) ∷ coded count (4 * n) w ∷ code count labelled (suc n) ms ws else coded count (4 * n) w ∷ code count labelled (suc n) (m ∷ ms) ws)
 
--- the lines of data words from an address on; the data begins at 0x00100000
+-- the lines of data words from an address on
 abbrev pub data_lines : ℕ → List ℕ → List Line
 data_lines address [] = []
 data_lines address (w ∷ ws) = datum address w ∷ data_lines (address + 4) ws
 
 -- the lines of the data, where in version 2 the first ones are read-only
 abbrev pub all_data : Version → ℕ → List ℕ → List Line
-all_data version.One n words = data_lines 1048576 words
-all_data version.Two n words = data_lines 1048576 (take n words) ++ (bare say.ReadOnly ∷ data_lines (1048576 + 4 * n) (drop n words))
+all_data version.One n words = data_lines DATA_START words
+all_data version.Two n words = data_lines DATA_START (take n words) ++ (bare say.ReadOnly ∷ data_lines (DATA_START + 4 * n) (drop n words))
 
 -- the lines before the registers: in version 1 the limit of all tasks is one of them
 abbrev pub head_lines : Version → (limit start : ℕ) → List Line

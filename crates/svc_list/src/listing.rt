@@ -5,23 +5,21 @@ ghost use Rattle.svc_asm.specs.Programs.{IsProgramOf};
 ghost use Rattle.svc_list.specs.Listings.{first_text, own_text, section_text, statement_text, address_note, word_note, Starts, bare, line_of, text_of, coded, datum, labels, setting, settings, own_limit, marks, code, data_lines, all_data, head_lines, listing_of};
 
 use crate::labels::{labels_of, target_by};
-use crate::text::{put_hex, put_label, put_number, put_register, put_row, put_text};
+use crate::text::{put_hex, put_label, put_register, put_row};
 use std::alloc::{AllocError, Global};
-use svc_draft::{Section, Statement};
-use svc_image::{Image, Version};
+use svc_draft::{Next, Section, Statement, Width};
+use svc_image::{DATA_START, Image, Version};
 use svc_instructions::row_of;
 use svc_operands::register;
 use svc_rv32i::Register;
-
-// Where the data begins.
-const DATA_BASE: u32 = 0x0010_0000;
+use svc_text::{Piece, put};
 
 // A directive and its number.
 fn put_numbered(out: &mut Vec<u8>, name: &str, number: u32) -> Result<(), AllocError>
     ensures { OnOk result (out.new.items ≡ out.old.items ++ (name.now ++ decimal number)) }
 {
-    put_text(out, name)?;
-    put_number(out, number)
+    put!(out; name, number);
+    Ok(())
 }
 
 // An entry, and the limit that it has of its own.
@@ -29,7 +27,7 @@ fn put_entry(out: &mut Vec<u8>, limit: Option<u32>) -> Result<(), AllocError>
     ensures { OnOk result (out.new.items ≡ out.old.items ++ (codes ".svc_entry" ++ own_text limit)) }
 {
     match limit {
-        None => put_text(out, ".svc_entry"),
+        None => ".svc_entry".put(out),
         Some(limit) => put_numbered(out, ".svc_entry ", limit),
     }
 }
@@ -44,21 +42,20 @@ fn put_setting(
     ensures { OnOk result (out.new.items
         ≡ out.old.items ++ (name.now ++ (first_text register ++ (32 ∷ decimal value)))) }
 {
-    put_text(out, name)?;
-    put_text(out, " ")?;
+    put!(out; name, " ");
     put_register(out, register)?;
-    put_text(out, ", ")?;
-    put_number(out, value)
+    put!(out; ", ", value);
+    Ok(())
 }
 
 fn put_section(out: &mut Vec<u8>, section: Section) -> Result<(), AllocError>
     ensures { OnOk result (out.new.items ≡ out.old.items ++ section_text section) }
 {
     match section {
-        Section::Text => put_text(out, ".text"),
-        Section::Rodata => put_text(out, ".rodata"),
-        Section::Data => put_text(out, ".data"),
-        Section::Bss => put_text(out, ".bss"),
+        Section::Text => ".text".put(out),
+        Section::Rodata => ".rodata".put(out),
+        Section::Data => ".data".put(out),
+        Section::Bss => ".bss".put(out),
     }
 }
 
@@ -67,21 +64,16 @@ fn put_statement(out: &mut Vec<u8>, statement: Statement) -> Result<(), AllocErr
     ensures { OnOk result (out.new.items ≡ out.old.items ++ statement_text statement) }
 {
     match statement {
-        // These stand in no listing, or stand there as words of the text.
-        Statement::Nothing | Statement::Label => Ok(()),
-        Statement::Instruction(_) | Statement::Pair(..) => Ok(()),
-        Statement::Section(section) => put_section(out, section),
-        Statement::Zeros(_) | Statement::Align(_) => Ok(()),
-        Statement::Open(_) | Statement::Value(..) => Ok(()),
-        Statement::Symbol(_) | Statement::Common(..) | Statement::Local(_) => Ok(()),
-        Statement::Relative(..) => Ok(()),
-        Statement::Word(word) => put_numbered(out, ".word ", word),
+        Statement::Value(_, number, _) => put_numbered(out, ".word ", number),
         Statement::Version(version) => put_numbered(out, ".svc_version ", version.number() as u32),
-        Statement::ReadOnly => put_text(out, ".svc_readonly"),
+        Statement::ReadOnly => ".svc_readonly".put(out),
         Statement::Entry(limit) => put_entry(out, limit),
         Statement::Start(start) => put_numbered(out, ".svc_start ", start),
         Statement::Limit(limit) => put_numbered(out, ".svc_limit ", limit),
         Statement::Register(register, value) => put_setting(out, ".svc_register", register, value),
+        Statement::Section(section) => put_section(out, section),
+        // These stand in no listing, or stand there as words of the text.
+        _ => Ok(()),
     }
 }
 
@@ -89,14 +81,14 @@ fn put_line(out: &mut Vec<u8>, statement: Statement) -> Result<(), AllocError>
     ensures { OnOk result (out.new.items ≡ out.old.items ++ line_of (bare statement)) }
 {
     put_statement(out, statement)?;
-    put_text(out, "\n")
+    "\n".put(out)
 }
 
 // A comment that tells an address.
 fn put_address_note(out: &mut Vec<u8>, address: u32) -> Result<(), AllocError>
     ensures { OnOk result (out.new.items ≡ out.old.items ++ address_note address) }
 {
-    put_text(out, "\t# 0x")?;
+    "\t# 0x".put(out)?;
     put_hex(out, address)
 }
 
@@ -105,9 +97,9 @@ fn end_coded(out: &mut Vec<u8>, address: u32, word: u32) -> Result<(), AllocErro
     ensures { OnOk result (out.new.items ≡ out.old.items ++ (word_note address word ++ (10 ∷ []))) }
 {
     put_address_note(out, address)?;
-    put_text(out, " ")?;
+    " ".put(out)?;
     put_hex(out, word)?;
-    put_text(out, "\n")
+    "\n".put(out)
 }
 
 // A word of a text of so many words, with its address and its bits behind it.
@@ -130,7 +122,7 @@ fn put_labels(out: &mut Vec<u8>, address: u32, labelled: bool) -> Result<(), All
 {
     if labelled {
         put_label(out, address)?;
-        put_text(out, ":\n")?;
+        ":\n".put(out)?;
     }
     Ok(())
 }
@@ -138,18 +130,18 @@ fn put_labels(out: &mut Vec<u8>, address: u32, labelled: bool) -> Result<(), All
 fn put_start(out: &mut Vec<u8>, start: u32) -> Result<(), AllocError>
     ensures { OnOk result (out.new.items ≡ out.old.items ++ line_of (Starts start)) }
 {
-    put_text(out, ".svc_start ")?;
+    ".svc_start ".put(out)?;
     put_label(out, start)?;
-    put_text(out, "\n")
+    "\n".put(out)
 }
 
 // A word of the data, with its address behind it.
 fn put_datum(out: &mut Vec<u8>, address: u32, word: u32) -> Result<(), AllocError>
     ensures { OnOk result (out.new.items ≡ out.old.items ++ line_of (datum address word)) }
 {
-    put_statement(out, Statement::Word(word))?;
+    put_statement(out, Statement::Value(Width::Word, word, Next::Line))?;
     put_address_note(out, address)?;
-    put_text(out, "\n")
+    "\n".put(out)
 }
 
 // A register's line, where its value isn't 0.
@@ -283,9 +275,9 @@ fn put_split(out: &mut Vec<u8>, read_only: usize, words: &[u32]) -> Result<(), A
     ensures { OnOk result (out.new.items ≡ out.old.items ++ text_of (all_data Version.Two read_only words.now)) }
 {
     let parts = words.split_at(read_only);
-    put_data(out, DATA_BASE, parts.0)?;
+    put_data(out, DATA_START, parts.0)?;
     put_line(out, Statement::ReadOnly)?;
-    put_data(out, DATA_BASE + 4 * read_only as u32, parts.1)?;
+    put_data(out, DATA_START + 4 * read_only as u32, parts.1)?;
     Ok(())
 }
 
@@ -300,7 +292,7 @@ fn put_all_data(
     ensures { OnOk result (out.new.items ≡ out.old.items ++ text_of (all_data version read_only words.now)) }
 {
     match version {
-        Version::One => put_data(out, DATA_BASE, words),
+        Version::One => put_data(out, DATA_START, words),
         Version::Two => put_split(out, read_only, words),
     }
 }

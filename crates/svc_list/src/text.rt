@@ -1,46 +1,31 @@
 // Numbers, registers, labels and instructions as text.
 
-ghost use Rattle.std.specs.Prelude.{◌≡◌, ◌++◌, ◌∷◌, ◌*◌, ◌<◌, ◌≤◌, decimal, OnOk};
+ghost use Rattle.std.specs.Prelude.{◌≡◌, ◌++◌, ◌∷◌, ◌*◌, ◌<◌, ◌≤◌, OnOk};
 ghost use Rattle.svc_list.specs.Listings.{register_text, short_text, offset_text, hex_digit, hex_text, label_text, reach_text, part_text, parts_text, row_text};
 
-use itoa::Buffer;
 use std::alloc::AllocError;
 use svc_instructions::{Part, Row, taken};
 use svc_operands::{long, register, short, split_name};
 use svc_rv32i::{Register, Short};
-
-/// Puts a text behind another.
-pub fn put_text(out: &mut Vec<u8>, text: &str) -> Result<(), AllocError>
-    ensures { OnOk result (out.new.items ≡ out.old.items ++ text.now) }
-{
-    out.extend_from_slice(text.as_bytes())
-}
-
-/// A number in decimal.
-pub fn put_number(out: &mut Vec<u8>, number: u32) -> Result<(), AllocError>
-    ensures { OnOk result (out.new.items ≡ out.old.items ++ decimal number) }
-{
-    let mut buffer = Buffer::new();
-    put_text(out, buffer.format(number))
-}
+use svc_text::{Piece, put};
 
 /// A register, by its number.
 pub fn put_register(out: &mut Vec<u8>, register: Register) -> Result<(), AllocError>
     ensures { OnOk result (out.new.items ≡ out.old.items ++ register_text register) }
 {
-    put_text(out, "x")?;
-    put_number(out, register.number as u32)
+    put!(out; "x", register.number);
+    Ok(())
 }
 
 fn put_short(out: &mut Vec<u8>, imm: Short) -> Result<(), AllocError>
     ensures { OnOk result (out.new.items ≡ out.old.items ++ short_text imm) }
 {
     if imm.bits < 2048 {
-        put_text(out, " ")?;
-        return put_number(out, imm.bits as u32);
+        put!(out; " ", imm.bits as u32);
+    } else {
+        put!(out; " -", 4096 - imm.bits as u32);
     }
-    put_text(out, " -")?;
-    put_number(out, 4096 - imm.bits as u32)
+    Ok(())
 }
 
 // How far from here, in steps of two bytes: `half` of the numbers of its bits are forward.
@@ -50,11 +35,11 @@ fn put_offset(out: &mut Vec<u8>, half: u32, steps: u32) -> Result<(), AllocError
     ensures { OnOk result (out.new.items ≡ out.old.items ++ offset_text half steps) }
 {
     if steps < half {
-        put_text(out, " . + ")?;
-        return put_number(out, 2 * steps);
+        put!(out; " . + ", 2 * steps);
+    } else {
+        put!(out; " . - ", 2 * (2 * half - steps));
     }
-    put_text(out, " . - ")?;
-    put_number(out, 2 * (2 * half - steps))
+    Ok(())
 }
 
 // The digit that is worth so much.
@@ -95,7 +80,7 @@ pub fn put_hex(out: &mut Vec<u8>, word: u32) -> Result<(), AllocError>
 pub fn put_label(out: &mut Vec<u8>, address: u32) -> Result<(), AllocError>
     ensures { OnOk result (out.new.items ≡ out.old.items ++ label_text address) }
 {
-    put_text(out, "at_")?;
+    "at_".put(out)?;
     put_hex(out, address)
 }
 
@@ -107,7 +92,7 @@ fn put_reach(out: &mut Vec<u8>, to: Option<u32>, half: u32, steps: u32) -> Resul
 {
     match to {
         Some(target) => {
-            put_text(out, " ")?;
+            " ".put(out)?;
             put_label(out, target)
         }
         None => put_offset(out, half, steps),
@@ -121,24 +106,24 @@ fn put_part(out: &mut Vec<u8>, to: Option<u32>, part: Part, n: u32) -> Result<()
     match part {
         // A fence stands in no listing.
         Part::End | Part::Order => Ok(()),
-        Part::Comma => put_text(out, ","),
+        Part::Comma => ",".put(out),
         Part::Rd | Part::Rs1 | Part::Rs2 => {
-            put_text(out, " ")?;
+            " ".put(out)?;
             put_register(out, register(n % 32))
         }
         Part::Base => {
-            put_text(out, "(")?;
+            "(".put(out)?;
             put_register(out, register(n % 32))?;
-            put_text(out, ")")
+            ")".put(out)
         }
         Part::Immediate | Part::StoreOffset => put_short(out, short(n)),
         Part::Amount => {
-            put_text(out, " ")?;
-            put_number(out, n % 32)
+            put!(out; " ", n % 32);
+            Ok(())
         }
         Part::Upper => {
-            put_text(out, " ")?;
-            put_number(out, long(n).bits)
+            put!(out; " ", long(n).bits);
+            Ok(())
         }
         Part::Branch => put_reach(out, to, 2048, n % 4096),
         Part::Jump => put_reach(out, to, 524288, n % 1048576),

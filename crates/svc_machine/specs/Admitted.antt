@@ -1,4 +1,4 @@
--- An event that is admitted, and what was found of it.
+-- An event that is admitted, and what was found about it.
 use Rattle.std.specs.Prelude.{◌≡◌, Option, None, Some, Result, Ok, Err, option_map}
 use Rattle.svc_base.specs.declared.refusal.Refusal.{Refusal}
 use Rattle.svc_base.specs.declared.refusal.Refusal.TheVariants as refusal
@@ -47,7 +47,7 @@ refused_yet img t (admitted.Replace unit addr) = None
 refused_yet img t (admitted.Cancel unit place) = None
 refused_yet img t (admitted.Commit by end) = None
 
--- why the event is refused, by what its admission answers
+-- why the event is refused, given what its admission answers
 abbrev pub refusal_by : Image → LineTable → Result Admitted Refusal → Option Refusal
 refusal_by img t (Ok a) = refused_yet img t a
 refusal_by img t (Err why) = Some why

@@ -1,4 +1,4 @@
--- What an asked turn does to its task's seat and to the lines, and what it is answered, over each line table that the
+-- What an asked turn does to its task's seat and to the lines, and how it is answered, over each line table that the
 -- bus agrees with.
 use Rattle.std.specs.Prelude.{◌≡◌, ◌⊎◌, ◌^◌, ◌%◌, ℕ, Option, Some, None, option_map}
 use Rattle.svc_base.specs.declared.refusal.Refusal.{Refusal}
@@ -23,7 +23,7 @@ use Rattle.svc_machine_laws.specs.WholeMachine.{Seat, seat_turn}
 use Rattle.svc_machine_laws.specs.LineEvents.{line_ask}
 use Rattle.svc_machine_laws.specs.Replies.{ran, serves_at, turn_done}
 
--- there is such a line table, and such a place
+-- some line table and place are such
 abbrev pub IsRunning : BusState → (unit : ℕ) → Type 0
 IsRunning b unit = (t : LineTable) × (place : ℕ) × RunsAt b unit t place
 
@@ -38,19 +38,19 @@ pub record IsRead (t : LineTable) (place a : ℕ) (bus : BusState) (value : ℕ)
   pub served_is : served ≡ serves_at t place a
   pub table : Agrees bus (read t place a)
 
--- what a store leaves of the lines before it writes: one of less than a word has read the word
+-- the lines as a store finds them when it writes: one of less than a word has read the word
 abbrev pub read_first : StoreKind → LineTable → (place a : ℕ) → LineTable
 read_first store.Byte t place a = read t place a
 read_first store.Half t place a = read t place a
 read_first store.Word t place a = t
 
--- the whole word that it writes, where the word read so
+-- the whole word that it writes, given the word that it read
 abbrev pub word_written : StoreKind → (lane value old : ℕ) → ℕ
 word_written store.Byte lane value old = stored store.Byte lane value old
 word_written store.Half lane value old = stored store.Half lane value old
 word_written store.Word lane value old = value % 2 ^ 32
 
--- who served its read, where it made one
+-- who served its read, if it made one
 abbrev pub served_first : StoreKind → LineTable → (place a : ℕ) → Option Served
 served_first store.Byte t place a = Some (serves_at t place a)
 served_first store.Half t place a = Some (serves_at t place a)
@@ -69,10 +69,11 @@ abbrev pub HasRoomYet : (old new : BusValue) → (unit a : ℕ) → Type 0
 HasRoomYet old new unit a =
     (new ≡ old) ⊎ ((full_refusal (observed old) unit a ≡ None) × (full_refusal (observed new) unit a ≡ None))
 
--- the tasks that a store of this word squashes, as a reply has them
+-- the tasks that a store of this word squashes, as a reply names them
 abbrev pub violated : (a : ℕ) → Victim → Cut
 violated a v = record { cause = cause.Violation (record { 0 = a }); first = record { 0 = v.first }; tasks = v.tasks }
 
+-- the tasks that a store of this word squashes
 abbrev pub stored_cut : LineTable → (place a : ℕ) → Option Cut
 stored_cut t place a = option_map (violated a) (victim_answer (versioned t) place a)
 
@@ -84,11 +85,12 @@ asked_cut (Store a w c) t place = stored_cut t place a
 asked_cut (Narrow a f c) t place = stored_cut (read t place a) place a
 asked_cut (Emit w c) t place = None
 
--- the seat after it, and what it is answered, where a turn is asked
+-- the seat after it, and its answer, if a turn is asked
 abbrev pub seat_asked : Option (Want State) → Memory → Seat State → Seat State
 seat_asked None look seat = seat
 seat_asked (Some w) look seat = seat_turn w look seat
 
+-- what an asked turn is answered
 abbrev pub asked_answer : Image → Option (Want State) → LineTable → (place : ℕ) → Reply
 asked_answer img None t place = ran
 asked_answer img (Some w) t place = record {

@@ -18,8 +18,8 @@ use Rattle.svc_machine_laws.specs.Reached.{IsReached}
 use Rattle.svc_machine.specs.declared.seat.Seat.{Seat}
 use Rattle.svc_machine.specs.Value.{MachineValue}
 
--- the machine's fields, with the plain machine that its counts and seats make; places is how many seats there is memory
--- for, and room how many words the output has memory for
+-- the machine's fields, with the plain machine that its counts and seats make; `places` says for how many seats there
+-- is memory, and `room` for how many words of output
 pub record Parts : Type 0 where
   pub image : Image
   pub config : Config
@@ -56,7 +56,7 @@ pub record Kept (m : Parts) : Type 0 where
   pub guide : m.guide ≡ guide_of (program m.image) m.image.entries m.plain
   -- a unit runs at most one task
   pub places : m.config.units ≤ m.places
-  -- every accepted event puts out at most one word
+  -- every accepted event outputs at most one word
   pub room : m.config.events ≤ m.room
   pub lines : LineTable
   pub agrees : Agrees (observed m.bus) lines

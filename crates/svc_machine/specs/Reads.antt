@@ -1,4 +1,4 @@
--- What the reads of a machine tell.
+-- What the reads of a machine answer.
 use Rattle.std.specs.Prelude.{ℕ, Bool, nat_le, Option, map, option_map, slice_get}
 use Rattle.svc_core.specs.declared.burst.Lease.{Lease}
 use Rattle.svc_core_laws.specs.State.{State}
@@ -14,11 +14,11 @@ use Rattle.svc_machine.specs.Value.{MachineValue}
 abbrev pub runs_head : MachineValue → (unit : ℕ) → Bool
 runs_head m unit = bus.is_head (map unit_of m.plain.tasks) unit
 
--- what a unit's task may go on from
+-- from what a unit may run its task on
 abbrev pub lease_from : Seat State → Lease
 lease_from seat = record { unit = record { 0 = seat.unit }; epoch = seat.epoch; core = seat.core }
 
--- that of the unit's task, whose core is its part's, run anew
+-- that of the unit's task; its core is its part's, run again
 abbrev pub lease_of : MachineValue → (unit : ℕ) → Option Lease
 lease_of m unit = option_map lease_from (seat_at (machine_of (program m.image) m.plain) unit)
 
@@ -26,7 +26,7 @@ lease_of m unit = option_map lease_from (seat_at (machine_of (program m.image) m
 abbrev pub is_full : MachineValue → Bool
 is_full m = nat_le m.config.events m.plain.accepted
 
--- an active task as it stands: its unit, its entry, its turns so far, and how it has ended, where it has
+-- an active task as it stands: its unit, its entry, its turns so far, and how it has ended, if it has
 abbrev pub task_shown : Running State → ActiveTask
 task_shown x = record { unit = record { 0 = x.task.unit }; entry = x.task.entry; turns = x.task.turns; done = x.run.core.done }
 

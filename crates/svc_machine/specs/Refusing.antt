@@ -1,4 +1,4 @@
--- What the tests of the table of refusals look at.
+-- What the tests for refusals look at.
 use Rattle.std.specs.Prelude.{Bool, ◌&&◌}
 use Rattle.svc_core_laws.specs.State.{State}
 use Rattle.svc_core_laws.specs.Same.{same_state}
@@ -7,7 +7,7 @@ use Rattle.svc_core_laws.specs.Bursts.{Advance, is_nothing}
 use Rattle.svc_machine_laws.specs.WholeMachine.{Machine, machine_of}
 use Rattle.svc_machine.specs.Value.{MachineValue}
 
--- the whole machine that the plain machine tells of
+-- the whole machine that the plain machine describes
 unfoldable pub machine_at : MachineValue → Machine State
 machine_at m = machine_of (program m.image) m.plain
 

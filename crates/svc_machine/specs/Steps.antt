@@ -1,4 +1,4 @@
--- What one event of a machine does, said once for all that hand it on: at each standing that the machine is at.
+-- What one event of a machine does, at each standing that the machine is at. All calls that pass the event on cite it.
 use Rattle.std.specs.Prelude.{◌≡◌, None, Some, Result, IfOk, OnErr, MatchResult}
 use Rattle.svc_base.specs.declared.refusal.Refusal.{Refusal}
 use Rattle.svc_machine_laws.specs.declared.reply.Reply.{Reply}
@@ -9,11 +9,11 @@ use Rattle.svc_machine.specs.Value.{MachineValue, StandsAt}
 
 -- an event, refused or not
 pub record IsStep (old new : MachineValue) (x : Event) (result : Result Reply Refusal) : Type 0 where
-  -- it is refused exactly where the table of refusals says, with the first refusal that applies
+  -- it is refused exactly when the table of refusals says so, with the first refusal that applies
   pub refused : (s : Standing) → StandsAt old s → MatchResult result
       (λ _. laws.refused old.image old.config s x ≡ None)
       (λ e. laws.refused old.image old.config s x ≡ Some e)
-  -- else the reply is the plain machine's
+  -- otherwise the reply is the plain machine's
   pub reply : (s : Standing) → StandsAt old s → IfOk result (λ r. r ≡ laws.reply_to old.image s x)
   -- and the machine stands where the event leads
   pub standing : (s : Standing) → StandsAt old s → StandsAt new (laws.after_event old.image old.config s x)

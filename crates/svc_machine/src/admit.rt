@@ -28,9 +28,8 @@ use svc_core::{Burst, load_place, store_place};
 use svc_core_laws::{Ask, End};
 use svc_image::Image;
 
-/// An event that the machine doesn't refuse, with what the tests for refusals have found, so that
-/// nothing is searched for again. Only the bus may still refuse it, if the unit's cache has no room
-/// for the word that a burst asks for.
+/// An event that the machine doesn't refuse, with what the tests for refusals found, so that nothing is searched for
+/// again. Only the bus may still refuse it, if the unit's cache has no room for the word that a burst asks for.
 #[derive(Clone, Copy)]
 pub(crate) enum Admitted<'a> {
     /// The unit is idle.
@@ -49,7 +48,7 @@ impl Machine {
     /// The event with what was found about it.
     ///
     /// Errors: the refusal that the table of refusals has for it. A full set is one of them only if a later case of the
-    /// table holds too: otherwise the bus tests for it.
+    /// table holds too; otherwise the bus tests for it.
     pub(crate) fn admit<'a>(&self, event: Event<'a>) -> Result<Admitted<'a>, Refusal>
         ensures refused { (s : Standing) → StandsAt self.now s → refusal_by self.now.image s.lines result
             ≡ refused self.now.image self.now.config s (event_of event.entry) }
@@ -127,7 +126,7 @@ impl Machine {
         })
     }
 
-    // Why the burst is refused by the cases that come after that of a full set, if it is.
+    // Why a case after that of a full set refuses the burst, if one does.
     fn refused_late(&self, burst: &Burst) -> Option<Refusal>
         ensures { result ≡ first_case ((history_full self.now.config (machine_at self.now), Refusal.HistoryFull)
             ∷ (is_empty burst.now, Refusal.EmptyBurst) ∷ []) }
@@ -252,7 +251,7 @@ impl Machine {
         self.seats.first()
     }
 
-    // The word to be replaced before the unit has room for what is asked, if it has none.
+    // The word to replace before the unit has room for what is asked, if it has none.
     fn full_set(&self, unit: UnitId, ask: Ask) -> Option<WordAddr>
         requires { unit.0 < self.now.config.units }
         ensures { (t : LineTable) → Agrees (observed self.now.bus) t
@@ -262,8 +261,7 @@ impl Machine {
         self.bus.set_full(unit, addr)
     }
 
-    // If the unit has a valid line of the word, whether it is pinned: it is active, and the unit
-    // doesn't run the head.
+    // Whether the unit's valid line of the word, if any, is pinned: active, with a unit that doesn't run the head.
     fn pinned(&self, unit: UnitId, addr: WordAddr) -> Option<bool>
         requires { unit.0 < self.now.config.units }
         ensures resident { (t : LineTable) → Agrees (observed self.now.bus) t

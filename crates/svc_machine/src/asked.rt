@@ -31,10 +31,10 @@ use svc_image::Image;
 use svc_machine_laws::{Cause, Cut, Reply, What};
 use svc_rv32i::{LoadKind, Register, StoreKind};
 
-/// The task in the seat moves to this core, and does the asked turn, if there is one: a load or store that is misaligned
-/// or outside the data traps, and so does a store into a read-only word; a store of less than a word reads its word and
-/// writes it; an output word waits in the seat. The tasks that a store squashes stay in their seats: the answer says
-/// which they are.
+/// The task in the seat moves to this core, and does the asked turn, if there is one. A load or store that is
+/// misaligned or outside the data traps, and so does a store to a read-only word. A store of less than a word reads its
+/// word and writes it. An output word waits in the seat. The tasks that a store squashes stay in their seats: the
+/// answer names them.
 ///
 /// Errors: the bus's [`Refusal::SetFull`], if the unit's cache has no room for the asked word. Then nothing changes.
 pub(crate) fn do_asked(
@@ -181,8 +181,8 @@ fn without_cut(what: What) -> Reply
     Reply { what, cut: None }
 }
 
-// The whole word that a store leaves, and who served the read that it takes: a store of less than a
-// word reads the whole word, and replaces these bytes of it.
+// The whole word that a store leaves, and who served the read that it takes: a store of less than a word reads the
+// whole word, and replaces these bytes of it.
 //
 // Errors: the bus's, if there is no room for the word that is read. Then nothing changes.
 fn word_to_store(
@@ -211,9 +211,9 @@ fn word_to_store(
     }
 }
 
-// The unit's task stores the word. The answer is what that squashed.
+// The unit's task stores the word. It answers which tasks that squashed.
 //
-// Errors: the bus's, where the unit has no room for the word. Then nothing changes.
+// Errors: the bus's, if the unit has no room for the word. Then nothing changes.
 fn write(bus: &mut Bus, unit: UnitId, addr: WordAddr, word: u32) -> Result<Option<Cut>, Refusal>
     requires running { IsRunning (observed bus.old) unit.0 }
     requires in_memory { addr.0 < (observed bus.old).words }
@@ -228,7 +228,7 @@ fn write(bus: &mut Bus, unit: UnitId, addr: WordAddr, word: u32) -> Result<Optio
     Ok(violated(addr, victim))
 }
 
-// The tasks that a store of the word squashed, as a reply has them.
+// The tasks that a store of the word squashed, as a reply names them.
 fn violated(addr: WordAddr, victim: Option<Victim>) -> Option<Cut>
     ensures { result ≡ option_map (λ v. violated addr.0 (victim_shown v)) victim }
 {

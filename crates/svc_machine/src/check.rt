@@ -19,9 +19,8 @@ use svc_core_laws::End;
 use svc_machine_laws::{Cause, Cut};
 use svc_sequencer::Sequencer;
 
-/// Once the task at a place has ended, the tasks after it are squashed if the next one was guessed
-/// wrongly. The cut counts them out of the given number of tasks, including those that the same
-/// event has already squashed.
+/// Once the task at a place has ended, the tasks after it are squashed if the next one was guessed wrongly. The cut
+/// counts them out of the given number of tasks, including those that the same event has already squashed.
 pub(crate) fn check_guess(
     bus: &mut Bus,
     sequencer: &mut Sequencer,

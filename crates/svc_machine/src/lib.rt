@@ -2,7 +2,7 @@
 //!
 //! An event assigns a task to a unit, takes over the turns that a unit has run outside the lock, replaces a line,
 //! cancels a task or commits the head (Sohi, Breach, Vijaykumar, "Multiscalar Processors", ISCA 1995, for the
-//! sequencer, the head and retirement in order). Whatever the events, what is committed is what the program gives when
+//! sequencer, the head and retirement in order). Whatever the events, what is committed is what the program leaves when
 //! its tasks run one after another on one flat memory.
 #![tactic(auto)]
 

@@ -83,7 +83,7 @@ fn open_bus(alloc: Global, image: &Image, config: Config) -> Result<Bus, OpenErr
     Bus::open(alloc, config.units, config.sets, config.ways, memory)
 }
 
-// An empty list with room for so many.
+// An empty list with room for this many items.
 fn with_room<T>(alloc: Global, count: u32) -> Result<Vec<T>, OpenError>
     ensures empty { IfOk result (λ list. list.items ≡ []) }
     ensures room { IfOk result (λ list. count ≤ vec_capacity list) }
@@ -107,8 +107,8 @@ impl Machine {
         Machine::open_from(alloc, image, config, 0)
     }
 
-    /// The same, but the first assignment gets this epoch. (`u64::MAX` is never given out: such an
-    /// assignment is refused.)
+    /// The same, but the first assignment gets this epoch. (`u64::MAX` is never given out: such an assignment is
+    /// refused.)
     ///
     /// Errors: [`OpenError::Memory`].
     pub fn open_from(
@@ -139,8 +139,8 @@ impl Machine {
         })
     }
 
-    /// One event. It takes no memory. What it does and answers is stated for every standing that
-    /// the machine is at: the plain machine with any line table that the bus agrees with.
+    /// One event. It takes no memory. Its clauses are stated for every standing that the machine is at: the plain
+    /// machine with any line table that the bus agrees with.
     ///
     /// Errors: exactly the refusal that the table of refusals has for it, the first that applies. Then nothing changes.
     pub fn step(&mut self, event: Event<'_>) -> Result<Reply, Refusal>

@@ -1,5 +1,5 @@
-//! What can be read from a machine. What each read answers about the committed tasks is what
-//! running them one after another on one flat memory leaves.
+//! What can be read from a machine. What each read says of the committed tasks is what running them one after another
+//! on one flat memory leaves.
 
 ghost use Rattle.std.specs.Prelude.{◌≡◌, ◌<◌, true, IfSome, option_map};
 ghost use Rattle.svc_line.specs.Bits.{bits_of};
@@ -8,6 +8,8 @@ ghost use Rattle.svc_core_laws.specs.Sequence.{plain_seq, ending_of};
 ghost use Rattle.svc_core_laws.specs.Turns.{data_words};
 ghost use Rattle.svc_core_laws.specs.Words.{program};
 ghost use Rattle.svc_bus_laws.specs.BusState.{unnumbered};
+ghost use Rattle.svc_bus_laws.specs.BusView.{bus_newest};
+ghost use Rattle.svc_bus.specs.Observed.{observed};
 ghost use Rattle.svc_bus.specs.Calls.{line_shown};
 ghost use Rattle.svc_machine_laws.specs.Guess.{guess};
 ghost use Rattle.svc_machine_laws.specs.Reached.{IsReached};
@@ -52,8 +54,8 @@ impl Machine {
         }
     }
 
-    /// From what the unit may run its task on, without the machine; none if the unit has no task.
-    /// Its core is that of the task's part, run again on what the tasks before it leave.
+    /// What the unit may run its task on from, without the machine; none if the unit has no task. Its core is that of
+    /// the task's part, run again on what the tasks before it leave.
     #[tactic(auto, unfolding(crate::specs::Refusing::machine_at))]
     pub fn lease(&self, unit: UnitId) -> Option<&Lease>
         ensures { option_map (λ lease. lease.now) result ≡ lease_of self.now unit.0 }
@@ -91,6 +93,14 @@ impl Machine {
         ensures { result ≡ word_at (plain_seq self.now.image self.now.plain.commits).memory addr.0 }
     {
         self.bus.committed_memory(addr)
+    }
+
+    /// The unit whose line is the newest committed dirty one of the word, if there is one.
+    pub fn newest_committed(&self, addr: WordAddr) -> Option<UnitId>
+        requires in_data { addr.0 < data_words self.now.image }
+        ensures { option_map (λ unit. unit.0) result ≡ bus_newest (observed self.now.bus) addr.0 }
+    {
+        self.bus.newest_committed(addr)
     }
 
     /// The word in the backing memory itself.
@@ -138,7 +148,7 @@ impl Machine {
     }
 
     /// How the run has ended: by the exit or trap that stopped it; otherwise it is full if no
-    /// further event is accepted, or else open, with the entry that is due.
+    /// further event is accepted, otherwise open, with the entry that is due.
     pub fn ending(&self) -> Ending
         ensures { let seq = plain_seq self.now.image self.now.plain.commits in
             result ≡ ending_of (is_full self.now) seq.stopped seq.due }

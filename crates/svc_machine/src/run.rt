@@ -42,7 +42,7 @@ pub fn drive(
     Ok(machine)
 }
 
-// An event's burst, if it has one, ends where its looks lead from its start: its type keeps that.
+// An event's burst, if it has one, ends where its looks lead from its start: its type guarantees that.
 fn see(event: Event<'_>)
     ensures { IsEvent (event_of event.entry) }
 {

@@ -13,7 +13,7 @@ use svc_core_laws::End;
 /// The seat of an active task.
 #[derive(Drop)]
 pub(crate) struct Seat {
-    /// From what its unit runs it on: that unit, the epoch of its assignment, which no other assignment has, and its
+    /// What its unit runs it on from: that unit, the epoch of its assignment, which no other assignment has, and its
     /// current core.
     pub(crate) lease: Lease,
     /// The entry at which it began.

@@ -15,9 +15,9 @@ use svc_core::Burst;
 use svc_machine_laws::{Cut, Reply};
 
 impl Machine {
-    // The seat at this place, which is the unit's, takes over the burst's local turns, and then the
-    // asked turn, if there is one, is done. If the task has ended with them, the guess for the next
-    // one is checked: a wrong guess that is found is reported instead of a later victim.
+    // The seat at this place, which is the unit's, takes over the burst's local turns, and then does the asked turn, if
+    // there is one. If the task has then ended, the guess for the next one is checked; a wrong guess is reported
+    // instead of a later victim.
     //
     // Errors: the bus's, if the unit's cache has no room for the asked word. Then nothing changes.
     pub(crate) fn submit(&mut self, place: usize, burst: &Burst) -> Result<Reply, Refusal>

@@ -14,7 +14,7 @@ use Rattle.svc_machine_laws.specs.PlainMachine.{Task, Plain, running, run_done, 
 use Rattle.svc_machine_laws.specs.WholeMachine.{machine_of}
 use Rattle.svc_machine_laws.specs.Events.{Event, Assign, Submit, Replace, Cancel, Commit, asked_want, task_place}
 
--- the first task that is cut is the one at this place, and the cut counts it and all that were active after it
+-- the first task cut is the one at this place, and the cut counts it and all that were active after it
 pub record IsCutAt (s : Plain) (cut : Cut) (place : ℕ) : Type 0 where
   pub first : cut.first.0 ≡ s.commits + place
   pub tasks : cut.tasks ≡ length s.tasks - place
@@ -27,7 +27,8 @@ Writes (Store b w c) a = b ≡ a
 Writes (Narrow b f c) a = b ≡ a
 Writes (Emit w c) a = ⊥
 
--- a violation of a word: the event is a submit whose asked turn wrote the word, and the first task cut is the victim of that write
+-- a violation of a word: the event is a submit whose asked turn wrote the word, and the first task cut is the victim of
+-- that write
 pub record IsViolation (img : Image) (s : Plain) (x : Event) (cut : Cut) (a : ℕ) : Type 0 where
   pub burst : Advance
   pub event : x ≡ Submit burst
@@ -40,7 +41,8 @@ pub record IsViolation (img : Image) (s : Plain) (x : Event) (cut : Cut) (a : �
   pub is_victim : IsVictim (machine_of (program img) s).versioned place a victim
   pub cut_at : IsCutAt s cut victim
 
--- a wrong guess: the event is a commit, the run has stopped with it or the next task didn't begin at the entry that is due after it, and the first task cut is the next one
+-- a wrong guess: the event is a commit, after which the run has stopped or the next task didn't begin at the entry that
+-- is due; the first task cut is that next one
 pub record IsWrongGuess (img : Image) (s : Plain) (x : Event) (cut : Cut) : Type 0 where
   pub by : ℕ
   pub event : x ≡ Commit by
@@ -51,7 +53,7 @@ pub record IsWrongGuess (img : Image) (s : Plain) (x : Event) (cut : Cut) : Type
   pub wrong : (is_some (seq (program img) (suc s.commits)).stopped ≡ true) ⊎ ((seq (program img) (suc s.commits)).due ≢ Some next.entry)
   pub cut_at : IsCutAt s cut 1
 
--- the one at a place has ended, the next one began elsewhere than at its successor, or it had none
+-- the task at a place has ended, and the next one began elsewhere than at its successor, or it has none
 pub record Misleads {A : Type 0} (done : A → Option End) (entry : A → ℕ) (xs : List A) (place : ℕ) : Type 0 where
   pub ended : End
   pub one : A
@@ -61,7 +63,8 @@ pub record Misleads {A : Type 0} (done : A → Option End) (entry : A → ℕ) (
   pub next_is : slice_get xs (suc place) ≡ Some next
   pub wrong : (is_some (stopped_after (Some ended)) ≡ true) ⊎ (due_after (Some ended) ≢ Some (entry next))
 
--- a wrong guess: the event is a submit with which its unit's task ended, and the first task cut is the next one, which began elsewhere
+-- a wrong guess: the event is a submit that ended its unit's task; the first task cut is the next one, which began
+-- elsewhere
 pub record IsFoundWrong (img : Image) (s : Plain) (x : Event) (cut : Cut) : Type 0 where
   pub burst : Advance
   pub event : x ≡ Submit burst
@@ -78,11 +81,13 @@ pub record IsCancel (s : Plain) (x : Event) (cut : Cut) : Type 0 where
   pub at : task_place s unit ≡ Some place
   pub cut_at : IsCutAt s cut place
 
+-- what each cause says
 abbrev pub IsBlamedOn : Image → Plain → Event → Cut → Cause → Type 0
 IsBlamedOn img s x cut (cause.Violation a) = IsViolation img s x cut a.0
 IsBlamedOn img s x cut cause.WrongGuess = IsWrongGuess img s x cut ⊎ IsFoundWrong img s x cut
 IsBlamedOn img s x cut cause.Cancelled = IsCancel s x cut
 
+-- the cut has its blame
 abbrev pub IsBlamed : Image → Plain → Event → Cut → Type 0
 IsBlamed img s x cut = IsBlamedOn img s x cut cut.cause
 
@@ -91,7 +96,7 @@ abbrev pub tasks_cut : Option Cut → ℕ
 tasks_cut None = 0
 tasks_cut (Some cut) = cut.tasks
 
--- how many tasks an accepted event begins, and commits
+-- how many tasks an accepted event begins, and how many it commits
 abbrev pub begun : Event → ℕ
 begun (Assign unit guess) = 1
 begun (Submit b) = 0

@@ -13,18 +13,18 @@ use Rattle.svc_machine_laws.specs.WholeMachine.{Machine, seat_unit}
 use Rattle.svc_machine_laws.specs.WholeMachine as whole
 
 pub data Event : Type 0 where
-  -- the next task is to begin on this unit, at this guess
+  -- to begin the next task on this unit, at this guess
   Assign : (unit guess : ℕ) → Event
-  -- a burst of the unit's task is to be taken over, and its asked turn done
+  -- to take over a burst of the unit's task, and to do its asked turn
   Submit : Advance → Event
-  -- a line of this word is to leave the unit's cache
+  -- to remove the line of this word from the unit's cache
   Replace : (unit address : ℕ) → Event
-  -- the unit's task, and all after it, are to be squashed
+  -- to squash the unit's task and all after it
   Cancel : (unit : ℕ) → Event
-  -- the head is to be committed; this unit asks
+  -- to commit the head; this unit asks
   Commit : (by : ℕ) → Event
 
--- what the type of an event keeps: a burst's end is what its looks do from its start
+-- what the type of an event guarantees: a burst's end is what its looks do from its start
 abbrev pub IsEvent : Event → Type 0
 IsEvent (Assign unit guess) = Unit {0}
 IsEvent (Submit b) = Follows b
@@ -37,6 +37,7 @@ abbrev pub place_in : List ℕ → ℕ → Option ℕ
 place_in [] unit = None
 place_in (x ∷ units) unit = cond (x == unit) (Some 0) (option_map suc (place_in units unit))
 
+-- the place of the unit's task, by tasks and by seats
 abbrev pub task_place : Plain → ℕ → Option ℕ
 task_place s unit = place_in (map unit_of s.tasks) unit
 
@@ -50,7 +51,7 @@ want_of img c (ask.Load kind rd addr) = Some (wanted img c (shown c (ask.Load ki
 want_of img c (ask.Store kind addr v) = Some (wanted img c (shown c (ask.Store kind addr v)))
 want_of img c (ask.Emit w) = Some (wanted img c (shown c (ask.Emit w)))
 
--- what the asked turn of a burst wants, where there is one
+-- what the asked turn of a burst wants, if there is one
 abbrev pub asked_want : Image → Advance → Option (Want State)
 asked_want img b = want_of img b.end b.ask
 
@@ -63,6 +64,7 @@ abbrev pub plain_cancel : Plain → Option ℕ → Plain
 plain_cancel s None = s
 plain_cancel s (Some place) = plain.cancel s place
 
+-- what an accepted event does to the plain machine
 unfoldable pub plain_event : Image → Plain → Event → Plain
 plain_event img s (Assign unit guess) = plain.assign (program img) s unit guess
 plain_event img s (Submit b) = plain_submit img s (task_place s b.unit.0) b
@@ -79,6 +81,7 @@ abbrev pub whole_cancel : Machine State → Option ℕ → Machine State
 whole_cancel m None = m
 whole_cancel m (Some place) = whole.cancel m place
 
+-- what an accepted event does to the whole machine
 unfoldable pub whole_event : Image → Machine State → Event → Machine State
 whole_event img m (Assign unit guess) = whole.assign (program img) m unit guess
 whole_event img m (Submit b) = whole_submit img m (seat_place m b.unit.0) b

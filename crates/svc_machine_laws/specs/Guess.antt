@@ -6,7 +6,8 @@ use Rattle.svc_core_laws.specs.declared.end.End.{End}
 use Rattle.svc_core_laws.specs.Words.{program}
 use Rattle.svc_machine_laws.specs.PlainMachine.{Plain, entry_of, running, run_done}
 
--- the successor, where there is one, of a task that began at this entry, if it is the entry that is asked for; else what was known before
+-- the successor of a task that began at this entry, if it has one and the entry is the one asked for; otherwise what
+-- was known before
 abbrev pub newer_successor : (began : Option ℕ) → ℕ → (successor : Option ℕ) → Option ℕ → Option ℕ
 newer_successor None e successor older = older
 newer_successor (Some began) e None older = older
@@ -17,7 +18,7 @@ abbrev pub successor_at : {C : Type 0} → Program C → ℕ → ℕ → Option 
 successor_at p zero e = None
 successor_at p (suc k) e = newer_successor (seq p k).due e (seq p (suc k)).due (successor_at p k e)
 
--- the first of these entries that is above e
+-- the first of these entries above e
 abbrev pub first_above : List ℕ → ℕ → Option ℕ
 first_above [] e = None
 first_above (x ∷ entries) e = cond (nat_lt e x) (Some x) (first_above entries e)
@@ -32,17 +33,20 @@ youngest [] = None
 youngest (x ∷ []) = Some x
 youngest (x ∷ y ∷ entries) = youngest (y ∷ entries)
 
--- how the last of these has ended, where it has
+-- how the last of these has ended, if it has
 abbrev pub last_end : {A : Type 0} → (A → Option End) → List A → Option End
 last_end done [] = None
 last_end done (x ∷ []) = done x
 last_end done (x ∷ y ∷ xs) = last_end done (y ∷ xs)
 
--- the guess: with no task active the due entry; else where the youngest active one has handed on, that entry; else the successor of the last committed task that began where the youngest active one did, and without one the entry after that
+-- the guess. With no task active it is the due entry. Otherwise, if the youngest active task has handed on, it is that
+-- entry. Otherwise it is the successor of the last committed task that began where the youngest active one did or,
+-- without one, the entry after that.
 abbrev pub guess_after : (entries : List ℕ) → (due : Option ℕ) → (ℕ → Option ℕ) → (ended : Option End) → Option ℕ → Option ℕ
 guess_after entries due successor ended None = due
 guess_after entries due successor ended (Some e) = Some (unwrap_or (due_after ended) (unwrap_or (successor e) (entry_after entries e)))
 
+-- the guess of a plain machine
 abbrev pub guess : {C : Type 0} → Program C → List ℕ → Plain → Option ℕ
 guess p entries s = guess_after entries (seq p s.commits).due (successor_at p s.commits) (last_end (run_done p) (running p s)) (youngest (map entry_of s.tasks))
 

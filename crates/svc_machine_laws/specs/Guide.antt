@@ -1,11 +1,12 @@
--- What a sequencer keeps of the run, and what it makes of it.
+-- What a sequencer keeps of the run, and what it does with it.
 use Rattle.std.specs.Prelude.{ℕ, ◌==◌, cond, List, [], ◌∷◌, ◌++◌, map, take, drop, Option, Some, None, slice_get}
 use Rattle.svc_core_laws.specs.declared.end.End.{End}
 use Rattle.svc_core_laws.specs.Program.{Program, seq, due_after}
 use Rattle.svc_machine_laws.specs.PlainMachine.{Plain, entry_of, entry_for, cuts_next}
 use Rattle.svc_machine_laws.specs.Guess.{newer_successor, successor_at, guess_after, youngest}
 
--- the entries in rising order, the due entry, the last known successor of each entry, and the entries of the active tasks, oldest first
+-- the entries in rising order, the due entry, the last known successor of each entry, and the entries of the active
+-- tasks, oldest first
 pub record Guide : Type 0 where
   pub entries : List ℕ
   pub due : Option ℕ
@@ -31,7 +32,7 @@ guess_of ended g = guess_after g.entries g.due (successor_in g.entries g.success
 abbrev pub guide_opened : (entries : List ℕ) → (first : ℕ) → Guide
 guide_opened entries first = record { entries = entries; due = Some first; successors = map (λ e. None) entries; active = [] }
 
--- a task more, the last: at the due entry where no task is active, else at the guess
+-- one more task, as the youngest: at the due entry if no task is active, otherwise at the guess
 abbrev pub guide_assigned : (guess : ℕ) → Guide → Guide
 guide_assigned guess g = record g { active = g.active ++ entry_for g.due g.active guess ∷ [] }
 
@@ -39,13 +40,13 @@ guide_assigned guess g = record g { active = g.active ++ entry_for g.due g.activ
 abbrev pub guide_cut : (n : ℕ) → Guide → Guide
 guide_cut n g = record g { active = take n g.active }
 
--- the table with this successor of the entry at which a task began, where it had one
+-- the table with this successor, if any, of the entry at which a task began
 abbrev pub with_successor : List ℕ → (began successor : Option ℕ) → List (Option ℕ) → List (Option ℕ)
 with_successor [] began successor successors = successors
 with_successor (x ∷ entries) began successor [] = []
 with_successor (x ∷ entries) began successor (o ∷ successors) = newer_successor began x successor o ∷ with_successor entries began successor successors
 
--- the oldest task is committed, and ended so
+-- the oldest task is committed, with this end
 abbrev pub guide_committed : End → Guide → Guide
 guide_committed ended g = record g {
   due = due_after (Some ended);
@@ -53,6 +54,6 @@ guide_committed ended g = record g {
   active = drop 1 g.active;
 }
 
--- the tasks after the oldest are cut first, where the commit says so
+-- if the commit says so, the tasks after the oldest are cut first
 abbrev pub guide_settled : End → Guide → Guide
 guide_settled ended g = cond (cuts_next ended (drop 1 g.active)) (guide_cut 1 g) g

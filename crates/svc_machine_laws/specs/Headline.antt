@@ -6,7 +6,8 @@ use Rattle.svc_core_laws.specs.Sequence.{plain_seq}
 use Rattle.svc_bus_laws.specs.LineTable.{committed_value}
 use Rattle.svc_machine_laws.specs.Standing.{Whole}
 
--- the committed tasks are the first k of the sequential order, and committed memory, output, due entry and stop are exactly what running them one after another leaves
+-- the committed tasks are the first k of the sequential order, and committed memory, output, due entry and stop are
+-- exactly what running them one after another leaves
 pub record IsSequential (img : Image) (k : ℕ) (w : Whole) : Type 0 where
   pub tasks : w.machine.versioned.commits ≡ k
   pub memory : (a : ℕ) → committed_value w.lines a ≡ word_at (plain_seq img k).memory a

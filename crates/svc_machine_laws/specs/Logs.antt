@@ -1,4 +1,4 @@
--- What the active tasks have done with memory and output so far, and what each accepted event adds to it.
+-- What the active tasks have done with memory and output so far, and what each accepted event adds.
 use Rattle.std.specs.Prelude.{ℕ, ◌≡◌, Bool, cond, List, [], ◌∷◌, ◌++◌, map, take, Option, Some, None}
 use Rattle.svc_core_laws.specs.declared.end.End.{End}
 use Rattle.svc_core_laws.specs.Program.{Program, Action, Loaded, Stored, Replaced, Emitted, end_at, said}
@@ -20,7 +20,7 @@ log_of x = record { unit = x.task.unit; log = x.run.log }
 abbrev pub logs_of : {C : Type 0} → Program C → Plain → List TaskLog
 logs_of p s = map log_of (running p s)
 
--- what an answer tells of memory or output; a store for which a word was read is one of less than a word
+-- what an answer says of memory or output; a store for which a word was read is one of less than a word
 abbrev pub told : What → Option Action
 told (what.Assigned task entry epoch) = None
 told what.Ran = None
@@ -33,7 +33,7 @@ told (what.Replaced addr) = None
 told what.Cancelled = None
 told (what.Committed task ended) = None
 
--- one action more, where there is one
+-- one more action, if there is one
 abbrev pub plus : Option Action → List Action → List Action
 plus None log = log
 plus (Some action) log = action ∷ log
@@ -41,7 +41,7 @@ plus (Some action) log = action ∷ log
 abbrev pub adds : Option Action → TaskLog → TaskLog
 adds action t = record t { log = plus action t.log }
 
--- a submit puts what it answers on its task's log, and leaves the logs of the tasks that it doesn't cut
+-- a submit adds what it answers to its task's log, and leaves the logs of the tasks that it doesn't cut
 pub record AddsItsAnswer {C : Type 0} (p : Program C) (before after : Plain) (unit : ℕ) (done : What) : Type 0 where
   pub place : ℕ
   pub at : task_place before unit ≡ Some place
@@ -54,7 +54,7 @@ pub record LeavesEarlier {C : Type 0} (p : Program C) (before after : Plain) (un
   pub at : task_place before unit ≡ Some place
   pub logs : logs_of p after ≡ take place (logs_of p before)
 
--- the log of a head that is committed is the sequential answers of its task; the others stay, or are all cut
+-- the log of a head that is committed is the sequential answers of its task; the others stay, or all are cut
 pub record CommitsAnswers {C : Type 0} (p : Program C) (before after : Plain) : Type 0 where
   pub unit : ℕ
   pub others : List TaskLog
@@ -62,6 +62,7 @@ pub record CommitsAnswers {C : Type 0} (p : Program C) (before after : Plain) : 
   pub keep : Bool
   pub logs : logs_of p after ≡ cond keep others []
 
+-- what each kind of event adds to the logs
 abbrev pub LogsFollow : {C : Type 0} → Program C → Plain → Plain → Event → What → Type 0
 LogsFollow p before after (Assign unit guess) done = logs_of p after ≡ logs_of p before ++ record { unit = unit; log = [] } ∷ []
 LogsFollow p before after (Submit b) done = AddsItsAnswer p before after b.unit.0 done
@@ -69,7 +70,7 @@ LogsFollow p before after (Replace unit address) done = logs_of p after ≡ logs
 LogsFollow p before after (Cancel unit) done = LeavesEarlier p before after unit
 LogsFollow p before after (Commit by) done = CommitsAnswers p before after
 
--- a commit tells the number of the task committed, and how that task ends in the sequential order
+-- a commit reports the number of the committed task, and how that task ends in the sequential order
 pub record TellsTheEnd {C : Type 0} (p : Program C) (k : ℕ) (done : What) : Type 0 where
   pub end : End
   pub ends : end_at p k ≡ Some end

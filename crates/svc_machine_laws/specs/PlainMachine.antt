@@ -1,4 +1,4 @@
--- The plain machine: counts of turns, from which all else is read off by running the program anew.
+-- The plain machine: counts of turns, from which all else follows by running the program again.
 use Rattle.std.specs.Prelude.{ℕ, zero, suc, ◌≡◌, ◌==◌, ◌+◌, Bool, true, false, cond, not, List, [], ◌∷◌, ◌++◌, map, take, Option, Some, None, unwrap_or, slice_get}
 use Rattle.svc_core_laws.specs.declared.end.End.{End}
 use Rattle.svc_core_laws.specs.declared.end.End.TheVariants as end
@@ -56,9 +56,11 @@ running p s = runs_of p (seq p s.commits).memory s.tasks
 abbrev pub row_of : {C : Type 0} → Running C → Row
 row_of x = record { versions = wrote x.run.log; exposed = exposed x.run.log }
 
+-- more turns of a task
 abbrev pub more : ℕ → Task → Task
 more n t = record t { turns = n + t.turns }
 
+-- one more turn of a task
 abbrev pub one_more : Task → Task
 one_more t = record t { turns = suc t.turns }
 
@@ -70,20 +72,21 @@ cut_by (Store a w c) rows place = victim_after rows place a
 cut_by (Narrow a f c) rows place = victim_after rows place a
 cut_by (Emit w c) rows place = None
 
--- one turn more for the task at a place, where there is one; its victim and all after it go
+-- one more turn of the task at a place, if there is one; its victim and all after it go
 abbrev pub asked_by : {C : Type 0} → Program C → List (Running C) → List Task → ℕ → Option (Running C) → List Task
 asked_by p runs ts place None = ts
 asked_by p runs ts place (Some x) = edit place one_more (cut_by (p.want x.run.core) (map row_of runs) place) ts
 
+-- one more turn of the task at a place; its victim and all after it go
 abbrev pub asked : {C : Type 0} → Program C → Memory → List Task → ℕ → List Task
 asked p m ts place = asked_by p (runs_of p m ts) ts place (slice_get (runs_of p m ts) place)
 
--- so many local turns, and one more where there is an ask
+-- this many local turns, and one more if there is an ask
 abbrev pub submitted : {C : Type 0} → Program C → Memory → List Task → ℕ → ℕ → Bool → List Task
 submitted p m ts place local false = edit place (more local) None ts
 submitted p m ts place local true = asked p m (edit place (more local) None ts) place
 
--- whether the next task stays at a commit of a head that ended so: at its entry
+-- whether the next task stays when a head with this end is committed: it does if it began where the head handed on
 abbrev pub stays : Option End → List ℕ → Bool
 stays None entries = false
 stays (Some (end.Exit code)) entries = false
@@ -95,7 +98,8 @@ stays (Some (end.Next e)) (x ∷ entries) = x == e
 abbrev pub settled : Option End → List Task → List Task
 settled ended ts = cond (stays ended (map entry_of ts)) ts []
 
--- whether a task that ended so cuts the next ones, which began at these entries: where there is a next one, always at an exit or trap, and else where it began elsewhere
+-- whether a task with this end cuts the next ones, which began at these entries: without a next one it doesn't; an exit
+-- or trap always does, and otherwise it does if the next one began elsewhere
 abbrev pub cuts_next : End → (others : List ℕ) → Bool
 cuts_next ended [] = false
 cuts_next ended (x ∷ others) = not (stays (Some ended) (x ∷ others))
@@ -105,7 +109,7 @@ abbrev pub cuts_after : Option End → (others : List ℕ) → Bool
 cuts_after None others = false
 cuts_after (Some ended) others = cuts_next ended others
 
--- whether the one at a place has ended and cuts the next ones, by how each has ended and where it began
+-- whether the task at a place has ended and cuts the next ones, given how each has ended and where it began
 abbrev pub cuts_at : {A : Type 0} → (A → Option End) → (A → ℕ) → List A → (place : ℕ) → Bool
 cuts_at done entry [] place = false
 cuts_at done entry (x ∷ xs) zero = cuts_after (done x) (map entry xs)
@@ -125,20 +129,21 @@ is_misled p s place = cuts_at (run_done p) run_entry (running p s) place
 abbrev pub keep : ℕ → Plain → Plain
 keep n s = record s { tasks = take n s.tasks }
 
--- the check of the guess after the task at a place, once it has ended: the next task and all after it go where it was wrong
+-- the check of the guess after the task at a place: once it has ended, the next task and all after it go if the guess
+-- was wrong
 abbrev pub check : {C : Type 0} → Program C → Plain → (place : ℕ) → Plain
 check p s place = cond (is_misled p s place) (keep (suc place) s) s
 
--- the entry of a new task: the due one where no task is active, else the guess
+-- the entry of a new task: the due one if no task is active, otherwise the guess
 abbrev pub entry_for : Option ℕ → List ℕ → ℕ → ℕ
 entry_for due [] guess = unwrap_or due guess
 entry_for due (x ∷ entries) guess = guess
 
--- one event more is accepted, and these are the tasks
+-- one more event is accepted, and these are the tasks
 abbrev pub accept : Plain → List Task → Plain
 accept s ts = record s { accepted = suc s.accepted; tasks = ts }
 
--- a new task, the last, on this unit
+-- a new task on this unit, as the youngest
 abbrev pub assign : {C : Type 0} → Program C → Plain → (unit guess : ℕ) → Plain
 assign p s unit guess =
     record s {
@@ -147,7 +152,7 @@ assign p s unit guess =
       tasks = s.tasks ++ record { unit = unit; epoch = s.epoch; entry = entry_for (seq p s.commits).due (map entry_of s.tasks) guess; turns = 0 } ∷ [];
     }
 
--- turns of the task at a place: so many local ones, and one more where there is an ask
+-- turns of the task at a place: this many local ones, and one more if there is an ask
 abbrev pub submit : {C : Type 0} → Program C → Plain → (place local : ℕ) → Bool → Plain
 submit p s place local ask = accept s (submitted p (seq p s.commits).memory s.tasks place local ask)
 
@@ -159,7 +164,7 @@ replace s = accept s s.tasks
 abbrev pub cancel : Plain → (place : ℕ) → Plain
 cancel s place = accept s (take place s.tasks)
 
--- the first of these tasks is committed; the others stay where the next one begins where it ended
+-- the first of these tasks is committed; the others stay if it ended at an entry and the next one began there
 abbrev pub commit_tasks : {C : Type 0} → Program C → Plain → List Task → Plain
 commit_tasks p s [] = accept s []
 commit_tasks p s (t ∷ ts) =
@@ -169,6 +174,7 @@ commit_tasks p s (t ∷ ts) =
       tasks = settled (p.done (part p t.entry t.turns (seq p s.commits).memory).core) ts;
     }
 
+-- the head is committed
 abbrev pub commit : {C : Type 0} → Program C → Plain → Plain
 commit p s = commit_tasks p s s.tasks
 
@@ -176,7 +182,7 @@ commit p s = commit_tasks p s s.tasks
 abbrev pub plain_opening : (first : ℕ) → Plain
 plain_opening first = record { commits = 0; accepted = 0; epoch = first; tasks = [] }
 
--- the head, where there is one, is the task that is due
+-- the head, if there is one, is the task that is due
 abbrev pub IsDue : Option ℕ → List Task → Type 0
 IsDue due [] = Unit {0}
 IsDue due (t ∷ ts) = due ≡ Some t.entry

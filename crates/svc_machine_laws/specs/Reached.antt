@@ -13,7 +13,8 @@ use Rattle.svc_machine_laws.specs.PlainMachine.{Task, Plain, Running, running, u
 use Rattle.svc_machine_laws.specs.WholeMachine.{machine_of}
 use Rattle.svc_machine_laws.specs.Standing.{Standing}
 
--- the line table is sound, of the configuration's form and the image's size, and stands for the plain machine's versioned map
+-- the line table is sound, has the configuration's form and the image's size, and stands for the plain machine's
+-- versioned map
 pub record AreItsLines (img : Image) (config : Config) (s : Plain) (t : LineTable) : Type 0 where
   pub sound : IsSound t
   pub same_map : versioned t ≡ (machine_of (program img) s).versioned
@@ -27,15 +28,16 @@ pub record AreItsLines (img : Image) (config : Config) (s : Plain) (t : LineTabl
 abbrev pub BeganAtEntry : Image → Task → Type 0
 BeganAtEntry img t = is_entry img t.entry ≡ true
 
--- each turn of a task is one of its core's count
+-- a core's count is its task's turns
 abbrev pub IsCounted : Running State → Type 0
 IsCounted x = x.run.core.count ≡ x.task.turns
 
--- the words that these tasks have put out, which wait for their commits
+-- the words that these tasks have output, which wait for their commits
 abbrev pub words_waiting : {C : Type 0} → List (Running C) → ℕ
 words_waiting [] = 0
 words_waiting (x ∷ runs) = length (output x.run.log) + words_waiting runs
 
+-- the plain machine and the lines of a standing that events lead to
 pub record IsReached (img : Image) (config : Config) (s : Standing) : Type 0 where
   -- the head is the due task, and once the run has stopped there is no task
   pub due : IsDue (seq (program img) s.plain.commits).due s.plain.tasks
@@ -44,6 +46,6 @@ pub record IsReached (img : Image) (config : Config) (s : Standing) : Type 0 whe
   pub counted : AllByRecursion IsCounted (running (program img) s.plain)
   pub commits_few : s.plain.commits ≤ s.plain.accepted
   pub accepted_few : s.plain.accepted ≤ config.events
-  -- each word put out was one accepted event's
+  -- there are no more output words than accepted events
   pub outputs_few : length (seq (program img) s.plain.commits).output + words_waiting (running (program img) s.plain) ≤ s.plain.accepted
   pub lines : AreItsLines img config s.plain s.lines

@@ -1,4 +1,5 @@
--- When an event is refused: for each kind of event its cases in the order of their numbers, and the first that holds is the refusal.
+-- When an event is refused. Each kind of event has its cases, in the order of their numbers; the first that holds is
+-- the refusal.
 use Rattle.std.specs.Prelude.{ℕ, ◌-◌, ◌^◌, ◌==◌, Bool, false, cond, not, ◌&&◌, nat_le, List, [], ◌∷◌, Option, Some, None, unwrap_or, option_map, is_some, is_none, slice_get}
 use Rattle.svc_base.specs.declared.config.Config.{Config}
 use Rattle.svc_base.specs.declared.refusal.Refusal.{Refusal}
@@ -20,39 +21,43 @@ use Rattle.svc_machine_laws.specs.Events.{Event, Assign, Submit, Replace, Cancel
 abbrev pub seat_at : {C : Type 0} → Machine C → ℕ → Option (Seat C)
 seat_at m unit = unwrap_or (option_map (slice_get m.seats) (seat_place m unit)) None
 
--- the burst is of the unit's task as it stands
+-- the burst is of the unit's task, and begins where it stands
 abbrev pub is_current : Advance → Option (Seat State) → Bool
 is_current b None = false
 is_current b (Some s) = (b.epoch == s.epoch) && same_state b.start s.core
 
+-- the task has ended
 abbrev pub has_ended : Option (Seat State) → Bool
 has_ended None = false
 has_ended (Some s) = is_some s.core.done
 
--- the word of an access that doesn't trap
+-- the word of an access, if it doesn't trap
 abbrev pub word_unless : Option ℕ → ℕ → Option ℕ
 word_unless (Some trap) addr = None
 word_unless None addr = Some (word_address addr)
 
--- the asked word: that of a load that is aligned and in the data, or of a store that besides isn't to a read-only word
+-- the asked word: that of a load that is aligned and in the data, or of a store that is too, and not to a read-only
+-- word
 abbrev pub asked_word : Image → Ask → Option ℕ
 asked_word img ask.Nothing = None
 asked_word img (ask.Load kind rd addr) = word_unless (access_trap (data_words img) (load_bytes kind) addr) addr
 asked_word img (ask.Store kind addr v) = word_unless (store_trap (data_words img) img.read_only (store_bytes kind) addr) addr
 asked_word img (ask.Emit w) = None
 
--- the word to be replaced before the unit has room for the asked word, where it has none
+-- the word to replace before the unit has room for the asked word, if it has none
 abbrev pub full_set : LineTable → ℕ → Option ℕ → Option ℕ
 full_set t unit None = None
 full_set t unit (Some a) = set_full (table_cache t unit) a
 
+-- there is no such unit
 abbrev pub no_unit : Config → ℕ → Bool
 no_unit config unit = nat_le config.units unit
 
+-- no further event is accepted
 abbrev pub history_full : Config → Machine State → Bool
 history_full config m = nat_le config.events m.accepted
 
--- the cases of an event. A burst that asks for nothing is empty where it ends at the core where it starts
+-- the cases of an event. A burst that asks for nothing is empty if it ends at the core where it starts.
 abbrev pub cases_of : Image → Config → Machine State → LineTable → Event → List (Bool × Refusal)
 cases_of img config m t (Assign unit guess) =
     (no_unit config unit, refusal.NoSuchUnit)
@@ -99,6 +104,6 @@ abbrev pub first_case : List (Bool × Refusal) → Option Refusal
 first_case [] = None
 first_case (c ∷ cases) = cond c.0 (Some c.1) (first_case cases)
 
--- why the event is refused, where it is
+-- why the event is refused, if it is
 unfoldable pub refuse : Image → Config → Machine State → LineTable → Event → Option Refusal
 refuse img config m t x = first_case (cases_of img config m t x)

@@ -41,7 +41,8 @@ trap_number (Some (end.Next e)) = 0
 trap_number (Some (end.Exit code)) = 0
 trap_number (Some (end.Trap number)) = number
 
--- what an asked turn did that wants this, where memory is seen so and each read is served so; one that needs no memory has trapped
+-- what an asked turn that wants this did, given what each read sees and who serves it; one that needs no memory has
+-- trapped
 abbrev pub turn_done : {C : Type 0} → Program C → Want C → Memory → (ℕ → Served) → What
 turn_done p (Local c) look serves = what.Trapped (trap_number (p.done c))
 turn_done p (Load a value go) look serves = what.Loaded (record { 0 = a }) (value (look a)) (serves a)
@@ -49,7 +50,7 @@ turn_done p (Store a w c) look serves = what.Stored (record { 0 = a }) w None
 turn_done p (Narrow a f c) look serves = what.Stored (record { 0 = a }) (f (look a)) (Some (serves a))
 turn_done p (Emit w c) look serves = what.Emitted w
 
--- of so many tasks, the first of which has the number k, those from a place on are cut
+-- of this many tasks, the first of them numbered k, those from a place on are cut
 abbrev pub cut_from : Cause → (k count place : ℕ) → Cut
 cut_from why k count place = record { cause = why; first = record { 0 = k + place }; tasks = count - place }
 
@@ -61,7 +62,7 @@ turn_cut (Store a w c) rows k count place = option_map (λ n. cut_from (cause.Vi
 turn_cut (Narrow a f c) rows k count place = option_map (λ n. cut_from (cause.Violation (record { 0 = a })) k count (suc place + n)) (victim_after rows place a)
 turn_cut (Emit w c) rows k count place = None
 
--- what a commit cuts where the next task doesn't stay: all tasks after the head, where there are any
+-- what a commit cuts if the next task doesn't stay: all tasks after the head, if there are any
 abbrev pub wrong_guess : {A : Type 0} → ℕ → List A → Option Cut
 wrong_guess k [] = None
 wrong_guess k (x ∷ xs) = Some (cut_from cause.WrongGuess k (suc (length (x ∷ xs))) 1)
@@ -86,7 +87,8 @@ whole_asked p m t place None = ran
 whole_asked p m t place (Some w) =
     record { what = turn_done p w (seen m.versioned place) (serves_at t place); cut = turn_cut w m.versioned.rows m.versioned.commits (length m.seats) place }
 
--- the one cut of a submit: a wrong guess, where the check finds one after the turn's own cut; else the turn's own
+-- the one cut of a submit: a wrong guess if the check finds one among the tasks that the turn has left, otherwise the
+-- turn's own
 abbrev pub checked : Bool → (k count place : ℕ) → Reply → Reply
 checked false k count place r = r
 checked true k count place r = record r { cut = Some (cut_from cause.WrongGuess k count (suc place)) }
@@ -103,6 +105,7 @@ abbrev pub whole_committed : {C : Type 0} → Program C → ℕ → List (Seat C
 whole_committed p k [] = ran
 whole_committed p k (s ∷ seats) = committed k (p.done s.core) (stays (p.done s.core) (map seat_entry seats)) seats
 
+-- the whole machine's reply to an accepted event
 unfoldable pub whole_reply : Image → Machine State → LineTable → Event → Reply
 whole_reply img m t (Assign unit guess) =
     record { what = what.Assigned (record { 0 = m.versioned.commits + length m.seats }) (entry_for m.due (map seat_entry m.seats) guess) m.epoch; cut = None }
@@ -111,7 +114,7 @@ whole_reply img m t (Replace unit address) = record { what = what.Replaced (reco
 whole_reply img m t (Cancel unit) = whole_cancelled m (seat_place m unit)
 whole_reply img m t (Commit by) = whole_committed (program img) m.versioned.commits m.seats
 
--- the plain machine's answers: an asked turn is the next one of the task's run, run anew on the memory of its place
+-- the plain machine's answers: an asked turn is the next one of the task's run, run again on the memory of its place
 abbrev pub plain_asked_of : {C : Type 0} → Program C → Plain → LineTable → (place local : ℕ) → Option Task → Reply
 plain_asked_of p s t place local None = ran
 plain_asked_of p s t place local (Some task) =
@@ -140,6 +143,7 @@ plain_committed p k (t ∷ ts) =
     let ended = p.done (part p t.entry t.turns (seq p k).memory).core in
     committed k ended (stays ended (map entry_of ts)) ts
 
+-- the plain machine's reply to an accepted event
 unfoldable pub plain_reply : Image → Plain → LineTable → Event → Reply
 plain_reply img s t (Assign unit guess) =
     record { what = what.Assigned (record { 0 = s.commits + length s.tasks }) (entry_for (seq (program img) s.commits).due (map entry_of s.tasks) guess) s.epoch; cut = None }

@@ -1,4 +1,4 @@
--- The plain machine with the line table, the whole machine with it, and what lists of events lead them to.
+-- The plain machine with the line table, the whole machine with it, and where lists of events lead them.
 use Rattle.std.specs.Prelude.{ℕ, ◌+◌, List, [], ◌∷◌, Option, Some, None}
 use Rattle.svc_base.specs.declared.config.Config.{Config}
 use Rattle.svc_base.specs.declared.refusal.Refusal.{Refusal}
@@ -19,7 +19,7 @@ pub record Standing : Type 0 where
   pub plain : Plain
   pub lines : LineTable
 
--- the whole machine over its line table, which runs nothing anew
+-- the whole machine over its line table, which runs nothing again
 pub record Whole : Type 0 where
   pub machine : Machine State
   pub lines : LineTable
@@ -44,10 +44,11 @@ abbrev pub unless : {A : Type 0} → Option Refusal → A → A → A
 unless None old new = new
 unless (Some r) old new = old
 
--- why the event is refused, where it is
+-- why the event is refused, if it is
 abbrev pub whole_refuse : Image → Config → Whole → Event → Option Refusal
 whole_refuse img config w x = refuse img config w.machine w.lines x
 
+-- the same, of the plain machine
 unfoldable pub refused : Image → Config → Standing → Event → Option Refusal
 refused img config s x = whole_refuse img config (whole_of img s) x
 
@@ -69,7 +70,7 @@ after_event img config s x = unless (refused img config s x) s (stepped img s x)
 unfoldable pub whole_after_event : Image → Config → Whole → Event → Whole
 whole_after_event img config w x = unless (whole_refuse img config w x) w (whole_stepped img w x)
 
--- events, where refused ones are passed over
+-- after these events; refused ones are passed over
 unfoldable pub after_events : Image → Config → Standing → List Event → Standing
 after_events img config s [] = s
 after_events img config s (x ∷ xs) = after_events img config (after_event img config s x) xs
@@ -85,7 +86,7 @@ is_commit (Replace unit address) = 0
 is_commit (Cancel unit) = 0
 is_commit (Commit by) = 1
 
--- how many of these events are commits that are accepted
+-- how many of these events are accepted commits
 unfoldable pub accepted_commits : Image → Config → Whole → List Event → ℕ
 accepted_commits img config w [] = 0
 accepted_commits img config w (x ∷ xs) = unless (whole_refuse img config w x) 0 (is_commit x) + accepted_commits img config (whole_after_event img config w x) xs

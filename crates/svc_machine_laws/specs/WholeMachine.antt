@@ -1,4 +1,4 @@
--- The whole machine: a versioned map, and a seat for each active task. Its steps run nothing anew.
+-- The whole machine: a versioned map, and a seat for each active task. Its steps run nothing again.
 use Rattle.std.specs.Prelude.{ℕ, suc, Bool, true, false, cond, List, [], ◌∷◌, ◌++◌, map, take, Option, Some, None}
 use Rattle.svc_core_laws.specs.declared.end.End.{End}
 use Rattle.svc_core_laws.specs.Program.{Memory, Want, Local, Load, Store, Narrow, Emit, Program, output, seq, due_after, stopped_after}
@@ -7,7 +7,8 @@ use Rattle.svc_bus_laws.specs.ByRows.{view_of, edit, read, write}
 use Rattle.svc_bus_laws.specs.ByRows as rows
 use Rattle.svc_machine_laws.specs.PlainMachine.{Plain, Running, running, row_of, cut_by, stays, cuts_at, entry_for}
 
--- the seat of an active task: its unit, its epoch, the entry at which it began, its core, and the words that it has put out, which wait for its commit
+-- the seat of an active task: its unit, its epoch, the entry at which it began, its core, and the words that it has
+-- output, which wait for its commit
 pub record Seat (C : Type 0) : Type 0 where
   pub unit : ℕ
   pub epoch : ℕ
@@ -15,7 +16,8 @@ pub record Seat (C : Type 0) : Type 0 where
   pub core : C
   pub waiting : List ℕ
 
--- the committed words and the active tasks' versions, the seats, oldest task first, the output of the committed tasks, the due entry, how the run has stopped, the number of accepted events, and the next epoch
+-- the committed words and the active tasks' versions, the seats, oldest task first, the output of the committed tasks,
+-- the due entry, how the run has stopped, the number of accepted events, and the next epoch
 pub record Machine (C : Type 0) : Type 0 where
   pub versioned : Versioned
   pub seats : List (Seat C)
@@ -31,10 +33,13 @@ seat_unit s = s.unit
 abbrev pub seat_entry : {C : Type 0} → Seat C → ℕ
 seat_entry s = s.entry
 
+-- the seat of a task with this run
 abbrev pub seat_of : {C : Type 0} → Running C → Seat C
 seat_of x = record { unit = x.task.unit; epoch = x.task.epoch; entry = x.task.entry; core = x.run.core; waiting = output x.run.log }
 
--- what the plain machine says of the whole machine: the committed tasks are those of the sequential run, and each active task's core, waiting output, versions and exposed words are those of its run anew (the head's exposed words are not recorded)
+-- what the plain machine says of the whole machine: the committed tasks are those of the sequential run, and each
+-- active task's core, waiting output, versions and exposed words are those of its run, taken again (the head's exposed
+-- words are not recorded)
 abbrev pub machine_of : {C : Type 0} → Program C → Plain → Machine C
 machine_of p s =
     let done = seq p s.commits in
@@ -56,7 +61,7 @@ seen v place = view_of v.rows v.committed place
 abbrev pub at_core : {C : Type 0} → C → Seat C → Seat C
 at_core c s = record s { core = c }
 
--- a turn of a seat that wants this, where memory is seen so
+-- a turn of a seat that wants this, given what each read sees
 abbrev pub seat_turn : {C : Type 0} → Want C → Memory → Seat C → Seat C
 seat_turn (Local c) m s = at_core c s
 seat_turn (Load a value go) m s = at_core (go (value (m a))) s
@@ -72,11 +77,11 @@ map_turn (Store a w c) v place = write v place a w
 map_turn (Narrow a f c) v place = write (read v place a) place a (f (seen v place a))
 map_turn (Emit w c) v place = v
 
--- one event more is accepted, and these are the map and the seats
+-- one more event is accepted, and these are the map and the seats
 abbrev pub with_seats : {C : Type 0} → Machine C → Versioned → List (Seat C) → Machine C
 with_seats m v seats = record m { versioned = v; seats = seats; accepted = suc m.accepted }
 
--- a new task, the last, on this unit
+-- a new task on this unit, as the youngest
 abbrev pub assign : {C : Type 0} → Program C → Machine C → (unit guess : ℕ) → Machine C
 assign p m unit guess =
     let entry = entry_for m.due (map seat_entry m.seats) guess in
@@ -87,7 +92,8 @@ assign p m unit guess =
       epoch = suc m.epoch;
     }
 
--- the task at a place comes to the core at which its local turns end, and then takes the asked turn, where there is one; the victim and all after it go
+-- the task at a place takes its local turns, which lead to this core, and then the asked turn, if any; the victim and
+-- all after it go
 abbrev pub submit : {C : Type 0} → Machine C → (place : ℕ) → C → Option (Want C) → Machine C
 submit m place end None = with_seats m m.versioned (edit place (at_core end) None m.seats)
 submit m place end (Some w) =
@@ -117,7 +123,7 @@ keep n m = record m { versioned = squash m.versioned n; seats = take n m.seats }
 abbrev pub check : {C : Type 0} → Program C → Machine C → (place : ℕ) → Machine C
 check p m place = cond (is_misled p m.seats place) (keep (suc place) m) m
 
--- where the next task doesn't stay, the tasks after the head are cut first, while the head is still the head
+-- if the next task doesn't stay, the tasks after the head are cut first, while the head is still the head
 abbrev pub settle : Versioned → Bool → Versioned
 settle v true = v
 settle v false = squash v 1
@@ -136,7 +142,7 @@ commit_seats p m (s ∷ seats) =
       accepted = suc m.accepted;
     }
 
--- the head is committed, with what it has put out
+-- the head is committed, with its output
 abbrev pub commit : {C : Type 0} → Program C → Machine C → Machine C
 commit p m = commit_seats p m m.seats
 

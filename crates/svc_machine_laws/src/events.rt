@@ -33,8 +33,8 @@ pub fn accepted_event()
         ≡ reply_to img s x }
 {}
 
-/// The word that an asked turn wants, for which a unit's cache must have room, is the asked word of the table
-/// of refusals; and it is one of the data.
+/// The word that an asked turn wants, for which a unit's cache must have room, is the asked word of the table of
+/// refusals; and it is one of the data.
 pub fn asked_word_is_wanted()
     ensures word { (img : Image) → (s : State) → (ask : Ask) → (w : Want State) → want_of img s ask ≡ Some w
         → word_of w ≡ asked_word img ask }
@@ -42,13 +42,13 @@ pub fn asked_word_is_wanted()
         → IsWithin (data_words img) w }
 {}
 
-/// A burst ends at the core where it starts exactly where it has no local turn.
+/// A burst ends at the core where it starts exactly when it has no local turn.
 pub fn empty_burst_has_no_turn()
     ensures { (b : Advance) → Follows b → same_state b.end b.start ≡ (b.local == 0) }
 {}
 
-/// What holds of every standing that events lead to is kept by each event, accepted or refused: among it
-/// that the line table is sound and stands for the plain machine's versioned map.
+/// Each event, accepted or refused, keeps what holds of every standing that events lead to; so the line table is sound
+/// and stands for the plain machine's versioned map.
 pub fn event_keeps()
     ensures { (img : Image) → IsImage img → (config : Config) → (s : Standing) → IsReached img config s → (x : Event)
         → IsEvent x → IsReached img config (after_event img config s x) }
@@ -61,8 +61,8 @@ pub fn cut_is_blamed()
         → IsBlamed img s.plain x cut }
 {}
 
-/// Each task that was begun is committed, cut or active: the tasks after an accepted event, those that its
-/// reply counts as cut, and the one that it commits are the tasks before it and the one that it begins.
+/// Each task that was begun is committed, cut or active: the tasks after an accepted event, those that its reply counts
+/// as cut, and the one that it commits are together the tasks before it and the one that it begins.
 pub fn tasks_are_counted()
     ensures { (img : Image) → IsImage img → (config : Config) → (s : Standing) → (x : Event) → IsEvent x
         → refused img config s x ≡ None
@@ -70,17 +70,17 @@ pub fn tasks_are_counted()
         ≡ length s.plain.tasks + begun x }
 {}
 
-/// Each accepted event adds what it answers to the log of its task; and the log of a head that is committed
-/// is the sequential answers: whatever the task was answered, also while earlier tasks still ran, is what
-/// the sequential run answers it, in order.
+/// Each accepted event adds what it answers to the log of its task. The log of a head that is committed is the
+/// sequential answers: whatever the task was answered, even while earlier tasks still ran, is what the sequential run
+/// answers it, in order.
 pub fn logs_follow()
     ensures { (img : Image) → IsImage img → (config : Config) → (s : Standing) → IsReached img config s → (x : Event)
         → IsEvent x → refused img config s x ≡ None
         → LogsFollow (program img) s.plain (stepped img s x).plain x (reply_to img s x).what }
 {}
 
-/// An accepted commit answers the number of the committed task, which is how many tasks were committed before it, and how
-/// that task ends in the sequential order.
+/// An accepted commit answers the number of the committed task, which is how many tasks were committed before it, and
+/// how that task ends in the sequential order.
 pub fn commit_tells_the_end()
     ensures { (img : Image) → IsImage img → (config : Config) → (s : Standing) → IsReached img config s → (by : ℕ)
         → refused img config s (Commit by) ≡ None

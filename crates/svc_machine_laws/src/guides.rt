@@ -13,9 +13,9 @@ ghost use Rattle.svc_machine_laws.specs.Guide.{guide_of, guess_of, guide_opened,
 ghost use Rattle.svc_machine_laws.specs.Standing.{Standing};
 ghost use Rattle.svc_machine_laws.specs.Reached.{IsReached};
 
-/// What a sequencer keeps of the run follows the plain machine: it opens with it, a new task joins, tasks
-/// are cut, also after a task that has ended where the next one was guessed wrongly, and at a commit the
-/// next tasks are cut where it says so, the successor is remembered, and the oldest task leaves.
+/// What a sequencer keeps of the run follows the plain machine: it opens with it; a new task joins; tasks are cut, also
+/// after a task that ended with the next one guessed wrongly. At a commit the next tasks are cut if it says so, the
+/// successor is remembered, and the oldest task leaves.
 pub fn guide_steps<C>()
     ensures opening { (p : Program C) → (entries : List ℕ) → (first : ℕ)
         → guide_of p entries (plain_opening first) ≡ guide_opened entries p.first }
@@ -37,8 +37,8 @@ pub fn guide_steps<C>()
         ≡ guide_committed done.end (guide_settled done.end (guide_of p entries s)) }
 {}
 
-/// The guess that a sequencer gives, where it knows how the youngest active task has ended, is the one that is
-/// read off the sequential run.
+/// The guess that a sequencer gives, knowing how the youngest active task has ended, is the one read off the sequential
+/// run.
 pub fn guess_is_guided()
     ensures { (img : Image) → (config : Config) → (s : Standing) → IsReached img config s
         → guess_of (last_end (run_done (program img)) (running (program img) s.plain))

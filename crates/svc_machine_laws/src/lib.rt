@@ -1,6 +1,6 @@
-//! The plain machine: counts of commits, events and turns, from which all else is read off by running the
-//! program anew. What it says of the whole machine, when an event is refused, what is answered, and the
-//! headline. Each function is a law: its contract is the statement, and its body is empty.
+//! The plain machine: counts of commits, events and turns, from which all else follows by running the program again.
+//! What it says of the whole machine, when an event is refused, what is answered, and the headline. Each function is a
+//! law: its contract is the statement, and its body is empty.
 #![tactic(auto)]
 
 mod events;

@@ -27,8 +27,7 @@ pub fn list_keeps()
         → IsReached img config (after_events img config s events) }
 {}
 
-/// After every list of events the whole machine, which runs nothing again, is what the plain machine says
-/// of it.
+/// After every list of events the whole machine, which runs nothing again, is what the plain machine says of it.
 pub fn whole_machine_anew()
     ensures { (img : Image) → IsImage img → (config : Config) → (s : Standing) → (events : List Event)
         → AllByRecursion IsEvent events → IsReached img config s
@@ -47,7 +46,7 @@ pub fn tasks_are_few()
         → length s.plain.tasks ≤ config.units }
 {}
 
-/// Who serves a read of an active task holds the word that the task's run sees, when it is run again.
+/// The supplier of an active task's read holds the word that the task's run sees, when it is run again.
 pub fn supplier_holds()
     ensures { (img : Image) → (config : Config) → (s : Standing) → IsReached img config s → (place a : ℕ) → (t : Task)
         → slice_get s.plain.tasks place ≡ Some t → supplied s.lines place a (supplier s.lines place a)

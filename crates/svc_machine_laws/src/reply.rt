@@ -21,18 +21,18 @@ pub enum What {
         value: u32,
         served: Served,
     },
-    /// The asked turn stored: the word's address, the whole word that stands there now, and, for a byte
-    /// or a half alone, who supplied the word that was read for it.
+    /// The asked turn stored: the word's address, the whole word that stands there now, and, only for a byte or a half,
+    /// who supplied the word that was read for it.
     Stored {
         addr: WordAddr,
         word: u32,
         served: Option<Served>,
     },
-    /// The asked turn put out this word. It waits for the task's commit.
+    /// The asked turn output this word, which waits for the task's commit.
     Emitted(u32),
     /// The asked turn trapped, with this number.
     Trapped(u8),
-    /// A line of this word was taken out of the unit's cache.
+    /// A line of this word was removed from the unit's cache.
     Replaced {
         addr: WordAddr,
     },
@@ -50,8 +50,8 @@ pub enum What {
 pub enum Cause {
     /// An earlier task stored to this word, which the first of them had read too early.
     Violation(WordAddr),
-    /// The task before the first of them ended the program, or handed on to another entry than the one where
-    /// the first of them began.
+    /// The task before the first of them ended the program, or handed on to another entry than the one where the first
+    /// of them began.
     WrongGuess,
     /// The first of them was cancelled.
     Cancelled,

@@ -10,9 +10,9 @@ ghost use Rattle.svc_machine_laws.specs.Events.{Assign};
 ghost use Rattle.svc_machine_laws.specs.Guess.{entry_after, guess};
 ghost use Rattle.svc_machine_laws.specs.Standing.{opened_at, refused};
 
-/// Before any event the guess is the image's start. The first assignment, to unit 0 at any guess, is accepted
-/// unless all epochs were given, and after it the guess is the entry after the start. Of entries at 0 and
-/// 12, the one after 0 is 12, and the one after 12 is 0.
+/// Before any event the guess is the image's start. The first assignment, to unit 0 at any guess, is accepted unless
+/// all epochs were given, and after it the guess is the entry after the start. Of entries at 0 and 12, the one after 0
+/// is 12, and the one after 12 is 0.
 pub fn first_assignment()
     ensures opening { (img : Image) → (first : ℕ) → guess (program img) img.entries (plain_opening first)
         ≡ Some img.start }

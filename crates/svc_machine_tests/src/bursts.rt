@@ -9,7 +9,7 @@ use svc_image::Image;
 use svc_rv32i::StoreKind;
 use svc_samples::P;
 
-// Changes of the sample's text: none; in place of the store JAL x0, 0 or ADDI x0, x0, 0; EBREAK in place of the second
+// Changes of the sample's text: none; JAL x0, 0 or ADDI x0, x0, 0 in place of the store; EBREAK in place of the second
 // word.
 const NONE: &[(usize, u32)] = &[];
 
@@ -27,7 +27,7 @@ fn shape(burst: &Burst) -> Shape {
     (burst.local(), burst.looks().len(), asks, burst.end().done())
 }
 
-// The sample of two tasks, whose first one begins here, with these changes of its text.
+// The sample of two tasks, the first beginning here, with these changes of its text.
 fn sample(rt: &impl Abort, alloc: Global, start: u32, changes: &[(usize, u32)]) -> Image {
     let mut bytes = P;
     LittleEndian::write_u32(&mut bytes[20..], start);
@@ -48,12 +48,12 @@ fn advance(image: &Image, core: Core, max: u32) -> Burst {
     Lease::new(UnitId(1), 7, core).advance(image, max)
 }
 
-// The first burst of an image, of at most so many turns.
+// The first burst of an image, of at most this many turns.
 fn burst_of(image: &Image, max: u32) -> Burst {
     advance(image, core_of(image), max)
 }
 
-// Whose the first burst is, where it ends after how many turns, and what it asks.
+// The first burst: its unit, where it ends after how many turns, and what it asks.
 fn first_burst(rt: &impl Abort, alloc: Global) -> (UnitId, u64, u32, u32, Ask) {
     let burst = burst_of(&sample(rt, alloc, 0, NONE), 63);
     let end = burst.end();
@@ -98,7 +98,7 @@ fn an_ask_stops(rt: HostRuntime) {
     assert_eq!(rt; shapes_to_an_ask(&rt, rt.alloc()), shapes);
 }
 
-// The shapes of the first burst and of one from its end, of at most so many turns.
+// The shapes of the first burst and of one from its end, of at most this many turns.
 fn shapes_of(image: &Image, max: u32) -> [Shape; 2] {
     let first = burst_of(image, max);
     let second = advance(image, *first.end(), max);
@@ -137,7 +137,7 @@ fn is_of(rt: &impl Abort, alloc: Global, start: u32, changes: &[(usize, u32)]) -
     burst.is_of(&sample(rt, alloc, 0, changes))
 }
 
-// A burst is of its image, not of one with another second word, and where it didn't look there, it is.
+// A burst is of its image, and not of one with another second word; if it didn't look there, it is.
 #[test]
 fn a_burst_is_of_its_image(rt: HostRuntime) {
     let other = [(1, 0x00600093)];
@@ -149,8 +149,8 @@ fn a_burst_is_of_its_image(rt: HostRuntime) {
     assert_eq!(rt; found, [true, false, true]);
 }
 
-// The shape and the owner of a burst that was made in the place of a longer one of another image, and whether it is of
-// its image and begins with the core of its lease.
+// The shape and the owner of a burst made in the place of a longer one of another image, and whether it is of its image
+// and begins with the core of its lease.
 fn refilled(rt: &impl Abort, alloc: Global) -> (Shape, UnitId, u64, bool, bool) {
     let mut burst = burst_of(&sample(rt, alloc, 0, SPINS), 63);
     let image = sample(rt, alloc, 12, NONE);

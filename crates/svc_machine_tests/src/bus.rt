@@ -187,9 +187,8 @@ fn perform(rt: &impl Abort, bus: &mut Bus, step: Step) -> Answer {
     }
 }
 
-// A hit makes one look-up, a reuse at least one, any other accepted read or write at least one for
-// each unit, and none more than two for each; anything but an accepted read or write leaves the
-// number.
+// A hit makes one look-up, a reuse at least one, any other accepted read or write at least one for each unit, and none
+// more than two for each; anything except an accepted read or write leaves the number.
 fn check_probes(rt: &impl Abort, units: u32, answer: Answer, before: u32, after: u32) {
     let few = u64::from(after) <= 2 * u64::from(units);
     match answer {

@@ -41,7 +41,7 @@ enum Answer {
     Named(Option<WordAddr>),
 }
 
-// A cache, known to be of few ways, so that the probes of a step can be counted.
+// A cache, known to have few ways, so that the probes of a step can be counted.
 #[derive(Drop)]
 struct Tested {
     cache: Cache,
@@ -97,7 +97,7 @@ fn searches(step: Step) -> u32 {
     }
 }
 
-// Each step in turn is answered so, by one search of at most four places, and a commit and a squash by none.
+// Each step in turn has this answer, by one search of at most four places; a commit and a squash need none.
 fn follow(rt: &impl Abort, cache: &mut Tested, steps: &[(Step, Answer)]) {
     for (number, (step, expected)) in steps.iter().enumerate() {
         let (answer, probes) = cache.perform(*step);

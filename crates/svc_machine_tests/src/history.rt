@@ -1,5 +1,5 @@
-// What no text shows: what a unit's thread sees. Scripts and traces, with what is printed of them, are cases of the
-// program. What is expected follows from the sample's text by hand.
+// What no text shows: what a unit's thread sees. Scripts and traces, with what they print, are cases of the program.
+// What is expected follows from the sample's text by hand.
 
 use crate::script::{first, four_units, taken};
 use std::alloc::Global;
@@ -11,7 +11,7 @@ use svc_samples::{Line, P};
 
 mod glances;
 
-// Plays a line; a submission without a lease is refused as that of an idle unit.
+// Plays a line; a submission without a lease is refused as an idle unit's.
 fn step(recorder: &mut Recorder, line: Line) -> Result<Slip, Refusal> {
     match line {
         Line::Assign(unit, guess) => {
@@ -34,7 +34,7 @@ fn play(rt: &impl Abort, recorder: &mut Recorder, lines: &[Line]) {
     }
 }
 
-// A recorder of four units on the sample of two tasks with room for so many events, after so many of the ten.
+// A recorder of four units on the sample of two tasks, with room for this many events, after this many of the ten.
 fn after(rt: &impl Abort, alloc: Global, room: u32, count: usize) -> Recorder {
     let image = Image::read(alloc, &P).expect(rt, "an image");
     let opened = Recorder::open(alloc, image, four_units(rt, room));

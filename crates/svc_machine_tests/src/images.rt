@@ -1,4 +1,5 @@
-// What the readers of an image tell, and files that are cut short. Each other way to spoil a file is a case of the program.
+// What the readers of an image answer, and files that are cut short. Each other way to spoil a file is a case of the
+// program.
 
 use std::alloc::Global;
 use std::process::Abort;
@@ -43,7 +44,7 @@ fn samples_are_images(rt: HostRuntime) {
     }
 }
 
-// The first length at which the front of these bytes has any fault but that it is short.
+// The first length at which the front of these bytes has a fault other than being short.
 fn end_not_short(alloc: Global, bytes: &[u8]) -> Option<usize> {
     for end in 0..bytes.len() {
         if fault(alloc, &bytes[..end]) != 1 {
@@ -58,7 +59,7 @@ fn each_proper_front_is_short(rt: HostRuntime) {
     assert_eq!(rt; end_not_short(rt.alloc(), &P), None);
 }
 
-// Whether the file of two tasks tells its start, its registers, its limits at 12 and 4, its entries and its data.
+// Whether the file of two tasks gives its start, its registers, its limits at 12 and 4, its entries and its data.
 fn fields(rt: &impl Abort, alloc: Global) -> [bool; 6] {
     let image = image_of(rt, alloc, &P);
     [

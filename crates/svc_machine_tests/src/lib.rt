@@ -1,4 +1,5 @@
-//! Tests of the machine and of what it stands on, from configurations and images to its schedules, by their public calls.
+//! Tests of the machine and of what it stands on, from configurations and images to its schedules, by their public
+//! calls.
 
 #![tactic(auto)]
 

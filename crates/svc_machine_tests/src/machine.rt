@@ -1,5 +1,5 @@
-// What no script shows: what the reads tell, bursts of other images and machines, and the last epochs. Scripts with what
-// they print are cases of the program. What is expected follows from the sample's text by hand.
+// What no script shows: what the reads answer, bursts of other images and machines, and the last epochs. Scripts with
+// what they print are cases of the program. What is expected follows from the sample's text by hand.
 
 use crate::script::{four_units, taken};
 use std::alloc::Global;
@@ -16,13 +16,13 @@ mod reads;
 // The answer to an event.
 type Answer = Result<Reply, Refusal>;
 
-// A machine of four units on the image of this file, where the first assignment gets this epoch.
+// A machine of four units on the image of this file; the first assignment gets this epoch.
 fn opened_from(rt: &impl Abort, alloc: Global, file: &[u8], first: u64) -> Machine {
     let image = Image::read(alloc, file).expect(rt, "an image");
     Machine::open_from(alloc, image, four_units(rt, 10), first).expect(rt, "a machine")
 }
 
-// The answer to a line. A submission without a lease is refused as that of an idle unit.
+// The answer to a line. A submission without a lease is refused as an idle unit's.
 fn step(machine: &mut Machine, line: Line) -> Answer {
     match line {
         Line::Assign(unit, guess) => {

@@ -1,4 +1,4 @@
-// Runs of the sample of two tasks. Expected numbers of events are those of the twin in unproved Rust.
+// Runs of the sample of two tasks. Expected numbers of events come from the twin in unproved Rust.
 
 ghost use Rattle.std.specs.Prelude.{◌<◌, ◌≤◌};
 

@@ -1,7 +1,7 @@
-// Scripts on the sample of two tasks, for a machine and for a recorder, and the comparison of what was told.
+// Scripts on the sample of two tasks, for a machine and for a recorder, and the comparison of what they answer.
 //
-// A function that may end early has to let all that it holds go at each such end, which is dear to prove of a machine or
-// a recorder. So what isn't expected ends the process, and what was told is compared as text.
+// A function that can return early while owning a machine or a recorder is expensive to prove: every exit drops it. So
+// what isn't expected ends the process, and answers are compared as text.
 
 use std::alloc::AllocError;
 use std::process::Abort;
@@ -12,7 +12,7 @@ use svc_samples::{Line, TEN};
 
 static LINES: [Line; 10] = TEN;
 
-/// The first ones of the ten events.
+/// The first of the ten events.
 pub fn first(count: usize) -> &'static [Line] {
     &LINES[..count.min(10)]
 }
@@ -23,12 +23,12 @@ pub fn taken(machine: &Machine, unit: u8) -> Option<Burst> {
     Some(lease.advance(machine.image(), 63))
 }
 
-/// Four units, with room for so many events.
+/// Four units, with room for this many events.
 pub fn four_units(rt: &impl Abort, events: u32) -> Config {
     Config::new(4, 16, 2, events, 1).expect(rt, "a configuration")
 }
 
-/// What was told is what was wanted.
+/// The answers are what was wanted.
 pub fn agrees(rt: &impl Abort, told: Result<String, AllocError>, wanted: &str) {
     let told = told.expect(rt, wanted);
     assert_eq!(rt; told.as_str(), wanted);

@@ -1,5 +1,5 @@
-// What words mean by the instruction listings: fields at their edges, and words next to instructions that are none. Each
-// other instruction is a case of the program.
+// What words mean by the instruction listings: fields at their edges, and words next to instructions that are none.
+// Every other instruction is a case of the program.
 
 use svc_rv32i::{Comparison, ImmediateShift, Instr, Operation, decode};
 

@@ -89,7 +89,7 @@ impl TaskQueue {
         self.units[position]
     }
 
-    /// Removes the task at the position and all that are younger.
+    /// Removes the task at the position and all younger ones.
     pub fn cut_from(&mut self, position: usize)
         ensures { self.new ≡ take position self.old }
     {

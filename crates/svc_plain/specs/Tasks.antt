@@ -1,4 +1,4 @@
--- How many tasks a sequential run runs, and what stands after some of them.
+-- How many tasks a sequential run runs, and what some of them leave.
 use Rattle.std.specs.Prelude.{◌≡◌, ℕ, zero, suc, ◌+◌, ◌≤◌, List, Option, Some, None, length, slice_index}
 use Rattle.svc_image.specs.Image.{Image}
 use Rattle.svc_core_laws.specs.declared.end.End.{End}
@@ -7,17 +7,18 @@ use Rattle.svc_core_laws.specs.Words.{program}
 use Rattle.svc_core_laws.specs.Turns.{data_words}
 use Rattle.svc_core_laws.specs.Sequence.{plain_seq}
 
--- one task where one is due, else none
+-- one task if one is due, otherwise none
 abbrev pub tasks_due : Option ℕ → ℕ
 tasks_due None = 0
 tasks_due (Some entry) = 1
 
--- how many of the first k tasks there are: a program that ends has no task after that
+-- how many of the first k tasks there are: a program that has ended has no further task
 abbrev pub tasks_run : Image → ℕ → ℕ
 tasks_run img zero = 0
 tasks_run img (suc k) = tasks_run img k + tasks_due (plain_seq img k).due
 
--- k tasks in sequential order are so many, and leave these words of memory, this output, this entry for the next task, and this end, if any, that has stopped the run
+-- k tasks in sequential order are this many, and leave these words of memory, this output, this entry of the next task,
+-- and this end, if any, that stopped the run
 pub record IsRun (img : Image) (k count : ℕ) (after out : List ℕ) (next : Option ℕ) (last : Option End) : Type 0 where
   pub tasks : count ≡ tasks_run img k
   pub few : count ≤ k

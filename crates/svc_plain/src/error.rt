@@ -15,7 +15,7 @@ pub enum PlainError {
 }
 
 impl PlainError {
-    /// The number by which the program tells this error: 1.
+    /// The number by which the program reports this error: 1.
     pub fn number(self) -> u8
         ensures { result ≡ 1 }
     {

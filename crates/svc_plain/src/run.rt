@@ -19,7 +19,7 @@ pub struct PlainOutcome {
     pub tasks: u64,
     /// The words of the memory.
     pub memory: Vec<u32>,
-    /// The words that the tasks put out, the oldest first.
+    /// The words that the tasks output, the oldest first.
     pub output: Vec<u32>,
     /// How the run ended, or which task would be next.
     pub ending: Ending,

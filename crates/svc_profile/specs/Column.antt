@@ -1,7 +1,7 @@
 -- What is counted of a word.
 use Rattle.std.specs.Prelude.{ℕ}
 
--- entries that name it; loads of it; stores to it; reads of it that another task's version served; stores to it that found it
+-- entries that name it; loads of it; stores to it; reads of it that another task's version served; stores that found it
 -- read too early; tasks that these squashed; the turns of these tasks
 pub data Column : Type 0 where
   Named : Column

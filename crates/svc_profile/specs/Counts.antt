@@ -1,4 +1,4 @@
--- What is counted of a word in all columns at once, as it is gathered, and the rows made of that.
+-- What is counted of a word in all columns at once, as it is gathered, and the rows made from it.
 use Rattle.std.specs.Prelude.{◌≡◌, ◌==◌, ◌+◌, ℕ, false, cond, nat_lt, List, [], ◌∷◌, ◌++◌, Option, Some, None, decimal, flat_map, map, unwrap_or}
 use Rattle.std.specs.BTreeMap.{BTreeMap, get}
 use Rattle.std.specs.List.{list_any}
@@ -31,6 +31,7 @@ amount column.Turns k = k.turns
 abbrev pub no_counts : Counts
 no_counts = record { named = 0; loads = 0; stores = 0; versions = 0; violations = 0; squashed = 0; turns = 0 }
 
+-- what an entry counts, and what a squashed task does
 abbrev pub entry_counts : Entry → Counts
 entry_counts e = record {
   named = 1;
@@ -56,6 +57,7 @@ entry_counted e = word_counted e.addr (entry_counts e)
 abbrev pub task_counted : List Entry → TaskRun → List WordShare
 task_counted es r = word_counted (cut_word es r.fate r.last) (task_counts r)
 
+-- what all entries and tasks of a history count
 abbrev pub all_shares : List Entry → List WordShare
 all_shares es = flat_map entry_counted es ++ flat_map (task_counted es) (tasks_of es)
 
@@ -66,11 +68,11 @@ share_in c s = record { word = s.word; amount = amount c s.counts }
 abbrev pub in_column : Column → List WordShare → List Share
 in_column c ss = map (share_in c) ss
 
--- what a table has of a word
+-- what a table has for a word
 abbrev pub counts_at : BTreeMap ℕ Counts → ℕ → Counts
 counts_at m word = unwrap_or (get nat_cmp m word) no_counts
 
--- a table with one share more
+-- a table with one more share
 pub record Adds (s : WordShare) (m n : BTreeMap ℕ Counts) : Type 0 where
   pub counts : (c : Column) → amount c (counts_at n s.word) ≡ amount c (counts_at m s.word) + amount c s.counts
   pub others : (word : ℕ) → (s.word == word) ≡ false → get nat_cmp n word ≡ get nat_cmp m word
@@ -80,14 +82,14 @@ abbrev pub AddsFor : Option WordAddr → Counts → BTreeMap ℕ Counts → BTre
 AddsFor None k m n = n ≡ m
 AddsFor (Some a) k m n = Adds (record { word = a.0; counts = k }) m n
 
--- a table of what shares count together for each word
+-- a table of what shares count together for each word; the rows are written from it
 pub record IsTally (ss : List WordShare) (m : BTreeMap ℕ Counts) : Type 0 where
   pub counts : (word : ℕ) (c : Column) → amount c (counts_at m word) ≡ count_in (in_column c ss) word
   pub absent : (word : ℕ) → list_any (λ s. s.word == word) ss ≡ false → get nat_cmp m word ≡ None
 
 -- ---- the text
 
--- the counts that are told of a word, in their order
+-- the counts that are reported for a word, in their order
 abbrev pub told_of : Counts → List ℕ
 told_of k = k.loads ∷ k.stores ∷ k.versions ∷ k.violations ∷ k.squashed ∷ k.turns ∷ []
 

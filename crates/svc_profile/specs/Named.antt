@@ -7,7 +7,7 @@ use Rattle.svc_history_laws.specs.declared.entry.ServedKind.TheVariants as serve
 use Rattle.svc_report.specs.Summary.{is_cause, is_supplier}
 use Rattle.svc_task_runs.specs.Runs.{is_load, is_store}
 
--- an entry that loads, stores, was served by another task's version or squashes by a violation names a word
+-- an entry that loads, stores, was served by another task's version or squashes for a violation names a word
 pub record NamesItsWord (e : Entry) : Type 0 where
   pub loads : is_load e.reply ≡ true → IsSome e.addr
   pub stores : is_store e.reply ≡ true → IsSome e.addr

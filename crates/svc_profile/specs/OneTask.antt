@@ -1,4 +1,4 @@
--- Entries that load or store for one task alone.
+-- Entries that load or store for only one task.
 use Rattle.std.specs.Prelude.{◌≡◌, ℕ, suc, true, List, [], ◌∷◌, count_by, ⊤}
 use Rattle.svc_history_laws.specs.declared.entry.Entry.{Entry}
 use Rattle.svc_task_runs.specs.Runs.{Runs, is_load, is_store, is_submit_of, no_runs, step}

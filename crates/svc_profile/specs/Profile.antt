@@ -1,4 +1,4 @@
--- What speculation cost: how much was done by tasks that were committed, squashed and are active, and who served reads.
+-- What speculation cost: how much committed, squashed and active tasks did, and who served reads.
 use Rattle.std.specs.Prelude.{ℕ, Bool, true, false, cond, List, [], ◌∷◌, ◌++◌, codes, decimal, flat_map, length}
 use Rattle.std.specs.List.{sum_by}
 use Rattle.svc_history_laws.specs.declared.entry.Entry.{Entry}
@@ -30,18 +30,18 @@ is_of group.Squashed fate.Cancel = true
 is_of group.Active fate.Active = true
 is_of _ _ = false
 
--- how much of the measure a task comes to
+-- how much of the measure a task has
 abbrev pub measured : Measure → TaskRun → ℕ
 measured measure.Tasks r = 1
 measured measure.Turns r = r.turns
 measured measure.Loads r = r.loads
 measured measure.Stores r = r.stores
 
--- that of a task of the group, 0 of another
+-- the same for a task of the group, 0 for another
 abbrev pub part_of : Total → TaskRun → ℕ
 part_of t r = cond (is_of t.group r.fate) (measured t.measure r) 0
 
--- how much of the measure the tasks of the group come to
+-- how much of the measure the tasks of the group have together
 abbrev pub total : List TaskRun → Total → ℕ
 total rs t = sum_by (part_of t) rs
 
@@ -75,7 +75,7 @@ total_row rs t = measure_word t.measure ++ (codes "-" ++ (group_word t.group ++ 
 abbrev pub total_of : Measure → Group → Total
 total_of m g = record { measure = m; group = g }
 
--- the totals that are told, in their order
+-- the totals that are reported, in their order
 abbrev pub totals_told : List Total
 totals_told =
     total_of measure.Tasks group.Begun ∷ total_of measure.Tasks group.Committed
@@ -88,7 +88,7 @@ totals_told =
     ∷ total_of measure.Stores group.Committed ∷ total_of measure.Stores group.Squashed
     ∷ total_of measure.Stores group.Active ∷ []
 
--- how many reads were served so
+-- how many reads this supplier served
 abbrev pub served_count : Counts → ServedKind → ℕ
 served_count c served.Hit = c.hit
 served_count c served.Reuse = c.reuse
@@ -100,7 +100,7 @@ served_count c served.Memory = c.memory
 abbrev pub served_row : Counts → ServedKind → List ℕ
 served_row c k = codes "served-" ++ (served_word k ++ count_end (served_count c k))
 
--- the suppliers that are told, in their order
+-- the suppliers that are reported, in their order
 abbrev pub suppliers_told : List ServedKind
 suppliers_told = served.Hit ∷ served.Reuse ∷ served.Version ∷ served.Spill ∷ served.Committed ∷ served.Memory ∷ []
 

@@ -36,5 +36,6 @@ profile_fields label es =
     ++ (map (served_field (counts_of es)) suppliers_told
     ++ (decimal (counts_of es).replace ∷ [])))
 
+-- the row of a profile, with its header if asked for
 abbrev pub profile_row : TableRow → List Entry → List ℕ
 profile_row row es = table_text row.header profile_names (profile_fields row.label.now es)

@@ -13,11 +13,11 @@ use Rattle.svc_task_runs.specs.Runs.{tasks_of}
 abbrev pub is_on : ℕ → TaskRun → Bool
 is_on unit r = r.unit.0 == unit
 
--- those of the tasks that the unit ran
+-- the tasks that the unit ran
 abbrev pub tasks_on : List TaskRun → ℕ → List TaskRun
 tasks_on rs unit = filter (is_on unit) rs
 
--- what is told of a unit, in order
+-- what is reported for a unit, in order
 abbrev pub unit_columns : List Total
 unit_columns =
     total_of measure.Tasks group.Begun ∷ total_of measure.Tasks group.Committed ∷ total_of measure.Tasks group.Squashed
@@ -35,9 +35,10 @@ unit_row rs unit = decimal unit ++ (flat_map (total_column (tasks_on rs unit)) u
 abbrev pub unit_header : List ℕ
 unit_header = codes "unit,begun,committed,squashed,turns-committed,turns-squashed,loads,stores\n"
 
--- the rows of so many units
+-- the rows of this many units
 abbrev pub unit_rows : ℕ → List TaskRun → List ℕ
 unit_rows units rs = flat_map (unit_row rs) (range_with_len 0 units)
 
+-- the table of this many units
 abbrev pub unit_table : ℕ → List Entry → List ℕ
 unit_table units es = unit_header ++ unit_rows units (tasks_of es)

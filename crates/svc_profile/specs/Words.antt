@@ -1,4 +1,4 @@
--- The table of words: a row for each word that an entry names, with what it cost.
+-- The table of words: a row for each word that an entry names, with its cost.
 use Rattle.std.specs.Prelude.{ℕ, suc, ◌==◌, nat_lt, max, Bool, List, [], ◌∷◌, ◌++◌, Option, Some, None, codes, decimal, flat_map, slice_get}
 use Rattle.std.specs.List.{filter, range_with_len, sum_by}
 use Rattle.std.specs.Option.{option_and_then}
@@ -43,6 +43,7 @@ abbrev pub share_of : Option WordAddr → ℕ → List Share
 share_of None n = []
 share_of (Some a) n = record { word = a.0; amount = n } ∷ []
 
+-- what an entry, or a task, counts in a column, for its word
 abbrev pub entry_share : Column → Entry → List Share
 entry_share c e = share_of e.addr (entry_amount c e)
 
@@ -51,7 +52,7 @@ abbrev pub word_at : List Entry → Option ℕ → Option WordAddr
 word_at es None = None
 word_at es (Some at) = option_and_then (λ e. e.addr) (slice_get es at)
 
--- the word for which a task was squashed: a violation is one of the word that the entry stored which decided its fate
+-- the word for which a task was squashed: for a violation, the one stored by the entry that decided its fate
 abbrev pub cut_word : List Entry → Fate → Option ℕ → Option WordAddr
 cut_word es fate.Violation last = word_at es last
 cut_word es _ last = None
@@ -67,6 +68,7 @@ shares_of c es = flat_map (entry_share c) es ++ flat_map (task_share c es) (task
 abbrev pub count_in : List Share → ℕ → ℕ
 count_in ss word = sum_by (λ s. s.amount) (filter (λ s. s.word == word) ss)
 
+-- the count of a word in a column
 abbrev pub count_of : Column → List Entry → ℕ → ℕ
 count_of c es word = count_in (shares_of c es) word
 
@@ -82,25 +84,29 @@ abbrev pub words_end : List Entry → ℕ
 words_end [] = 0
 words_end (e ∷ es) = max (end_of e.addr) (words_end es)
 
+-- an entry names the word
 abbrev pub is_named : List Entry → ℕ → Bool
 is_named es word = nat_lt 0 (count_of column.Named es word)
 
+-- the words that entries name, in their order
 abbrev pub words_named : List Entry → List ℕ
 words_named es = filter (is_named es) (range_with_len 0 (words_end es))
 
 -- ---- the text
 
--- the counts that are told of a word, in their order
+-- the counts that are reported for a word, in their order
 abbrev pub counts_told : List Entry → ℕ → List ℕ
 counts_told es word =
     count_of column.Loads es word ∷ count_of column.Stores es word ∷ count_of column.Versions es word
     ∷ count_of column.Violations es word ∷ count_of column.Squashed es word ∷ count_of column.Turns es word ∷ []
 
+-- the row of a word
 abbrev pub word_row : List Entry → ℕ → List ℕ
 word_row es word = row (decimal word) (counts_told es word)
 
 abbrev pub word_header : List ℕ
 word_header = codes "word,loads,stores,versions,violations,squashed,turns-squashed\n"
 
+-- the table of words
 abbrev pub word_table : List Entry → List ℕ
 word_table es = word_header ++ flat_map (word_row es) (words_named es)

@@ -39,7 +39,7 @@ fn is_version(by: Option<ServedKind>) -> bool
     }
 }
 
-// Tasks were squashed since a word was read too early.
+// The entry squashed tasks because they had read a word too early.
 fn is_violation(why: Option<CutKind>) -> bool
     ensures { result ≡ is_cause cause.Violation why }
 {
@@ -50,7 +50,7 @@ fn is_violation(why: Option<CutKind>) -> bool
 }
 
 impl Counts {
-    /// Nothing is counted.
+    /// Nothing is counted yet.
     pub(crate) fn none() -> Counts
         ensures { result ≡ no_counts }
     {
@@ -91,7 +91,7 @@ impl Counts {
         }
     }
 
-    /// These, and more.
+    /// The sum of both.
     pub(crate) fn plus(self, more: Counts) -> Counts
         requires few { (c : Column) → amount c self + amount c more < 2 ^ 64 }
         ensures { (c : Column) → amount c result ≡ amount c self + amount c more }

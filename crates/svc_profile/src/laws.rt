@@ -1,4 +1,4 @@
-// The laws of sums: what the rows of a table add up to is the total in the profile.
+// The laws of sums: the rows of a table add up to the totals of the profile.
 
 ghost use Rattle.std.specs.Prelude.{◌≡◌, ◌<◌};
 ghost use Rattle.std.specs.List.{AllByRecursion, range_with_len, sum_by};

@@ -50,7 +50,7 @@ fn names(alloc: Global) -> Result<Fields, AllocError>
     Ok(names)
 }
 
-// Writes the names of the columns, where they are asked for.
+// Writes the names of the columns, if they are asked for.
 fn write_names<W: Write>(alloc: Global, header: bool, w: &mut W) -> Result<(), ReportError>
     ensures ok { OnOk result (Appends (W.contents w.old) (W.contents w.new) (header_text header profile_names)) }
     ensures err { IfErr result IsWriteFault }
@@ -87,7 +87,7 @@ fn push_served(
     Ok(())
 }
 
-// Adds the fields of a history's profile, given its tasks, where there are none.
+// Adds the fields of a history's profile, given its tasks, to an empty row.
 fn push_fields(
     fields: &mut Fields,
     label: &str,

@@ -13,7 +13,7 @@ use svc_task_runs::{Fate, TaskRun};
 pub(crate) struct WordShare {
     /// The word.
     pub(crate) word: u32,
-    /// How much of everything it is.
+    /// How much of each count it is.
     pub(crate) counts: Counts,
 }
 

@@ -59,7 +59,7 @@ fn add_entries(entries: &[Entry], words: &mut BTreeMap<u32, Counts>) -> Result<(
     Ok(())
 }
 
-// Adds what the tasks count to what the entries do.
+// Adds what the tasks count to what the entries count.
 fn add_tasks(
     entries: &[Entry],
     runs: &[TaskRun],

@@ -65,7 +65,7 @@ fn put_task(text: &mut Vec<u8>, run: &TaskRun) -> Result<(), AllocError>
     put_end(text, run)
 }
 
-// Writes the rows of these tasks, of which the last ones stay gathered.
+// Writes the rows of these tasks; the last ones stay gathered.
 fn write_rows<W: Write>(text: &mut Vec<u8>, runs: &[TaskRun], w: &mut W) -> Result<(), ReportError>
     ensures ok { OnOk result (Appends (append_known (W.contents w.old) text.old.items)
         (append_known (W.contents w.new) text.new.items) (flat_map task_row runs.now)) }

@@ -83,7 +83,7 @@ impl Group {
 }
 
 impl Measure {
-    /// How much of it a task has.
+    /// How much of the measure a task has.
     pub fn of(self, run: &TaskRun) -> u64
         ensures { result ≡ measured self run.now }
     {
@@ -109,7 +109,7 @@ impl Measure {
 }
 
 impl Total {
-    // What a task adds.
+    // What a task adds to the total.
     fn part(self, run: &TaskRun) -> u64
         ensures { result ≡ part_of self run.now }
     {

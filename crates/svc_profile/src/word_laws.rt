@@ -1,4 +1,4 @@
-// The laws of sums: what the rows of the table come to together, column by column, is what the profile tells.
+// The laws of sums: the rows of the table add up, column by column, to what the profile says.
 
 ghost use Rattle.std.specs.Prelude.{◌≡◌, List, count_by};
 ghost use Rattle.std.specs.List.{AllByRecursion, sum_by};
@@ -24,9 +24,9 @@ pub fn legal_entries_name_their_words()
         → AllByRecursion NamesItsWord es }
 {}
 
-/// Where each entry names the word for which it counts, the rows of the table of words have in each column what the
-/// profile tells: of the entries their loads, stores, reads that another task's version served and violations; of the
-/// tasks that a violation squashed their number and their turns.
+/// If each entry names the word for which it counts, the rows of the table of words add up in each column to what the
+/// profile says: of the entries, their loads, stores, reads that another task's version served and violations; of the
+/// tasks that a violation squashed, their number and their turns.
 pub fn word_rows_add_up(entries: &[Entry])
     requires named { AllByRecursion NamesItsWord entries.now }
     ensures loads { sum_by (count_of column.Loads entries.now) (words_named entries.now)
@@ -43,8 +43,8 @@ pub fn word_rows_add_up(entries: &[Entry])
         ≡ total (tasks_of entries.now) (total_of measure.Turns group.Violation) }
 {}
 
-/// Where besides each entry that loads or stores is a submit of just one active task, the rows have the loads and the
-/// stores of all tasks that were begun.
+/// If also each entry that loads or stores is a submit of just one active task, the rows have the loads and the stores
+/// of all tasks that were begun.
 pub fn word_rows_are_of_tasks(entries: &[Entry])
     requires named { AllByRecursion NamesItsWord entries.now }
     requires alone { EachIsOfOneTask entries.now }

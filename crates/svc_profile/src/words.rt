@@ -19,7 +19,7 @@ use svc_report::ReportError;
 use svc_task_runs::tasks_of;
 use svc_text::{put_row, write_text};
 
-// What is told of a word.
+// What is reported for a word.
 fn told_of(counts: &Counts) -> [u64; 6]
     ensures { result ≡ told_of counts.now }
 {

@@ -1,6 +1,6 @@
 -- What a request comes to, put together of what its parts say.
-use Rattle.std.specs.Prelude.{IfOk, IfErr, IfSome}
-use Rattle.std.proofs.Common.{◌≡◌, ◌∙◌, ◌⊎◌, ℕ, List, false, Option, Some, None, Result, Ok, Err, inl, inr, ap, subst}
+use Rattle.std.specs.Prelude.{IfOk, IfErr}
+use Rattle.std.proofs.Common.{◌≡◌, ◌⊎◌, ℕ, List, false, Option, Some, None, Result, Ok, Err, inl, inr, refl}
 use Rattle.svc_image.specs.Image.{Image}
 use Rattle.svc_plain.specs.Tasks.{tasks_run}
 use Rattle.svc_history_laws.specs.declared.entry.Entry.{Entry}
@@ -9,34 +9,37 @@ use Rattle.svc_request.specs.declared.faults.Fault.{Fault}
 use Rattle.svc_request.specs.declared.faults.Fault.TheVariants as fault
 use Rattle.svc_request.specs.declared.request.Request.{Request}
 use Rattle.svc_request.specs.declared.request.Request.TheVariants as request
+use Rattle.svc_report.specs.declared.script.Step.{Step}
 use Rattle.svc_request.specs.declared.request.Run.{Run}
+use Rattle.svc_request.specs.declared.request.Scripted.{Scripted}
 use Rattle.svc_request.specs.declared.request.Tasks.{Tasks}
 use Rattle.svc_request.specs.declared.request.Traced.{Traced}
 use Rattle.svc_request.specs.Faults.{IsEarly, IsOutputFault, IsReportFault}
 use Rattle.svc_request.specs.Held.{Held, KeepsAllBut}
 use Rattle.svc_request.specs.Names.{written_by}
-use Rattle.svc_program.specs.Requests.{Does, HasImage, IsAnswered, IsLate, IsOfSource, IsReady, IsTracedIn, IsTraceIn, KeepsFiles, SavesTrace, Spares}
+use Rattle.svc_program.specs.Requests.{Does, HasImage, IsAnswered, IsOfSource, IsQuiet, IsReady, IsScriptIn, IsTracedIn, IsTraceIn, KeepsFiles, SavesAlone, SavesAnyTrace, Spares}
 use Rattle.svc_program.specs.Runs.{GoesBy, IsRunOf, Reports, ReportsRun}
+use Rattle.svc_program.specs.Scripts.{PlaysScript}
 
 -- where no file is changed, none is but the one that is to be written
-pub all_kept : (name : Option (List ℕ)) (held saved : Held) → saved ≡ held → KeepsAllBut name held saved
-all_kept None held saved same = same
-all_kept (Some name) held saved same = λ other differs. ap (λ (h : Held). h other) same
+pub all_kept : (name : Option (List ℕ)) (held : Held) → KeepsAllBut name held held
+all_kept None held = refl
+all_kept (Some name) held = λ other differs. refl
 
 -- a fault before anything is printed or saved
-pub given_up : {O : Type 0} (contents : O → Option (List ℕ)) (asked : Request) (held saved : Held) (old new : O) (f : Fault)
-    → IsEarly f ⊎ HasImage asked held → saved ≡ held → new ≡ old → IsAnswered contents asked held saved old new (Err f)
-given_up contents asked held saved old new f order same quiet = record {
+pub given_up : {O : Type 0} (contents : O → Option (List ℕ)) (asked : Request) (held : Held) (old new : O) (f : Fault)
+    → IsEarly f ⊎ HasImage asked held → new ≡ old → IsAnswered contents asked held held old new (Err f)
+given_up contents asked held old new f order quiet = record {
   done = tt;
   silent = inr quiet;
   order = order;
-  kept = all_kept (written_by asked) held saved same;
-  spared = inl same;
+  kept = all_kept (written_by asked) held;
+  spared = inl refl;
 }
 
 -- with the image there, what is done of it or why not
 pub answered : {O : Type 0} (contents : O → Option (List ℕ)) (asked : Request) (held saved : Held) (old new : O) (r : Result ℕ Fault)
-    → HasImage asked held → IfOk r (Does asked held saved (contents old) (contents new)) → IfErr r (λ f. IsOutputFault f ⊎ (new ≡ old))
+    → HasImage asked held → IfOk r (Does asked held saved (contents old) (contents new)) → IfErr r (IsQuiet old new)
     → KeepsFiles asked held saved → IfErr r (λ f. Spares asked f held saved) → IsAnswered contents asked held saved old new r
 answered contents asked held saved old new (Ok exit) image done silent kept spared =
     record { done = done; silent = tt; order = tt; kept = kept; spared = tt }
@@ -49,14 +52,14 @@ output_fault _ is = absurd is
 
 -- before a fault that isn't one of the output nothing is printed
 pub silent_else : {O : Type 0} (old new : O) (r : Result ℕ Fault) (Other : Fault → Type 0)
-    → IfErr r (λ f. IsOutputFault f ⊎ (Other f × (new ≡ old))) → IfErr r (λ f. IsOutputFault f ⊎ (new ≡ old))
+    → IfErr r (λ f. IsOutputFault f ⊎ (Other f × (new ≡ old))) → IfErr r (IsQuiet old new)
 silent_else old new (Ok exit) Other said = tt
 silent_else old new (Err f) Other (inl output) = inl output
 silent_else old new (Err f) Other (inr other) = inr (other.1)
 
 -- the same, where a fault of a text is one of the output
 pub silent_before : {O : Type 0} (old new : O) (r : Result ℕ Fault) (Other : Fault → Type 0)
-    → IfErr r (λ f. IsReportFault f ⊎ (Other f × (new ≡ old))) → IfErr r (λ f. IsOutputFault f ⊎ (new ≡ old))
+    → IfErr r (λ f. IsReportFault f ⊎ (Other f × (new ≡ old))) → IfErr r (IsQuiet old new)
 silent_before old new (Ok exit) Other said = tt
 silent_before old new (Err f) Other (inl text) = inl (output_fault f text)
 silent_before old new (Err f) Other (inr other) = inr (other.1)
@@ -71,12 +74,12 @@ failed_save asked held saved (Ok exit) is ready = tt
 failed_save asked held saved (Err f) is ready = inr (inl is, ready)
 
 -- the same where no file is changed
-pub answered_reading : {O : Type 0} (contents : O → Option (List ℕ)) (asked : Request) (held saved : Held) (old new : O) (r : Result ℕ Fault)
-    → HasImage asked held → saved ≡ held → IfOk r (Does asked held saved (contents old) (contents new)) → IfErr r (λ f. IsOutputFault f ⊎ (new ≡ old))
-    → IsAnswered contents asked held saved old new r
-answered_reading contents asked held saved old new r image same done silent =
-    answered contents asked held saved old new r image done silent (all_kept (written_by asked) held saved same)
-    (on_err r (λ f. Spares asked f held saved) (λ f. inl same))
+pub answered_reading : {O : Type 0} (contents : O → Option (List ℕ)) (asked : Request) (held : Held) (old new : O) (r : Result ℕ Fault)
+    → HasImage asked held → IfOk r (Does asked held held (contents old) (contents new)) → IfErr r (IsQuiet old new)
+    → IsAnswered contents asked held held old new r
+answered_reading contents asked held old new r image done silent =
+    answered contents asked held held old new r image done silent (all_kept (written_by asked) held)
+    (on_err r (λ f. Spares asked f held held) (λ f. inl refl))
 
 -- what is done of an image and a trace that were loaded
 pub of_loaded : (r : Result ℕ Fault) (held : Held) (traced : Traced) (img : Image) (es : List Entry) (Holds : Image → List Entry → ℕ → Type 0)
@@ -86,37 +89,53 @@ of_loaded (Ok exit) held traced img es Holds image trace holds = (img, image, es
 of_loaded (Err f) held traced img es Holds image trace holds = tt
 
 -- a run: its trace is saved where a file is named for it, and its report printed
-pub run_answered : {O : Type 0} (contents : O → Option (List ℕ)) (run : Run) (held loaded saved : Held) (old new : O) (r : Result ℕ Fault) (img : Image) (recorded : Recorded)
-    → loaded ≡ held → IsOfSource held run.image img → IsRunOf img run.config recorded → GoesBy run.schedule img run.config recorded
-    → IfOk r (λ _. IfSome run.trace (λ name. SavesTrace saved name.now recorded.entries)) → IfOk r (ReportsRun run.row recorded (contents old) (contents new))
-    → IfErr r (λ f. IsOutputFault f ⊎ (new ≡ old)) → KeepsAllBut (written_by (request.Run run)) loaded saved → IfErr r (λ f. IsLate f ⊎ (saved ≡ loaded))
+pub run_answered : {O : Type 0} (contents : O → Option (List ℕ)) (run : Run) (held saved : Held) (old new : O) (r : Result ℕ Fault) (img : Image) (recorded : Recorded)
+    → IsOfSource held run.image img → IsRunOf img run.config recorded → GoesBy run.schedule img run.config recorded
+    → IfOk r (λ _. SavesAnyTrace saved run.trace recorded.entries) → IfOk r (ReportsRun run.row recorded (contents old) (contents new))
+    → IfErr r (IsQuiet old new) → SavesAlone (written_by (request.Run run)) held saved r
     → IsAnswered contents (request.Run run) held saved old new r
-run_answered contents run held loaded saved old new (Ok exit) img recorded same image is_run goes trace report silent kept spared = record {
+run_answered contents run held saved old new (Ok exit) img recorded image is_run goes trace report silent alone = record {
   done = (img, image, recorded, is_run, goes, trace, report);
   silent = tt;
   order = tt;
-  kept = subst (λ (h : Held). KeepsAllBut (written_by (request.Run run)) h saved) same kept;
+  kept = alone.kept;
   spared = tt;
 }
-run_answered contents run held loaded saved old new (Err f) img recorded same image is_run goes trace report silent kept spared = record {
+run_answered contents run held saved old new (Err f) img recorded image is_run goes trace report silent alone = record {
   done = tt;
   silent = silent;
   order = inr (img, image);
-  kept = subst (λ (h : Held). KeepsAllBut (written_by (request.Run run)) h saved) same kept;
-  spared = elim spared [ inl late ↦ inr (late, (img, image)) | inr keeps ↦ inl (keeps ∙ same) ];
+  kept = alone.kept;
+  spared = elim (alone.spared) [ inl late ↦ inr (late, (img, image)) | inr keeps ↦ inl keeps ];
+}
+
+-- a script: the trace of what it led to is saved where a file is named for it, and its lines printed
+pub script_answered : {O : Type 0} (contents : O → Option (List ℕ)) (scripted : Scripted) (held saved : Held) (old new : O) (r : Result ℕ Fault) (img : Image) (steps : List Step)
+    → IsOfSource held scripted.image img → IsScriptIn held scripted.events.now steps
+    → IfOk r (PlaysScript img scripted.config steps (SavesAnyTrace saved scripted.trace) (contents old) (contents new))
+    → IfErr r (IsQuiet old new) → SavesAlone (written_by (request.Script scripted)) held saved r
+    → IsAnswered contents (request.Script scripted) held saved old new r
+script_answered contents scripted held saved old new (Ok exit) img steps image script plays silent alone =
+    record { done = (img, image, steps, script, plays); silent = tt; order = tt; kept = alone.kept; spared = tt }
+script_answered contents scripted held saved old new (Err f) img steps image script plays silent alone = record {
+  done = tt;
+  silent = silent;
+  order = inr (img, image);
+  kept = alone.kept;
+  spared = elim (alone.spared) [ inl late ↦ inr (late, (img, image)) | inr keeps ↦ inl keeps ];
 }
 
 -- tasks in order: their summary is printed
-pub run_in_order : {O : Type 0} (contents : O → Option (List ℕ)) (tasks : Tasks) (held saved : Held) (old new : O) (r : Result ℕ Fault) (img : Image)
-    → saved ≡ held → IsOfSource held tasks.image img → IfOk r (Reports img tasks.most (tasks_run img tasks.most) false None (contents old) (contents new))
-    → IfErr r (λ f. IsReportFault f ⊎ (new ≡ old)) → IsAnswered contents (request.Sequential tasks) held saved old new r
-run_in_order contents tasks held saved old new (Ok exit) img same image report silent =
-    record { done = (img, image, report); silent = tt; order = tt; kept = same; spared = tt }
-run_in_order contents tasks held saved old new (Err f) img same image report silent =
+pub run_in_order : {O : Type 0} (contents : O → Option (List ℕ)) (tasks : Tasks) (held : Held) (old new : O) (r : Result ℕ Fault) (img : Image)
+    → IsOfSource held tasks.image img → IfOk r (Reports img tasks.most (tasks_run img tasks.most) false None (contents old) (contents new))
+    → IfErr r (IsQuiet old new) → IsAnswered contents (request.Sequential tasks) held held old new r
+run_in_order contents tasks held old new (Ok exit) img image report silent =
+    record { done = (img, image, report); silent = tt; order = tt; kept = refl; spared = tt }
+run_in_order contents tasks held old new (Err f) img image report silent =
     record {
       done = tt;
-      silent = elim silent [ inl text ↦ inl (output_fault f text) | inr quiet ↦ inr quiet ];
+      silent = silent;
       order = inr (img, image);
-      kept = same;
-      spared = inl same;
+      kept = refl;
+      spared = inl refl;
     }

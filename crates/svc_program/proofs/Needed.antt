@@ -1,5 +1,5 @@
 -- What is written of the needs that were found is what is told of them.
-use Rattle.std.proofs.Common.{ℕ, zero, suc, ◌≡◌, ◌∷◌, [], List, None, length, refl, ap, ap₂, ◌∙◌, arith}
+use Rattle.std.proofs.Common.{ℕ, zero, suc, ◌≡◌, ◌∷◌, [], None, length, refl, ap, ap₂, ◌∙◌, arith}
 use Rattle.std.proofs.lemmas.List.{length-append}
 use Rattle.svc_image.specs.Image.{Image}
 use Rattle.svc_plain.specs.Tasks.{tasks_run}

@@ -6,11 +6,11 @@ use Rattle.svc_image.specs.Format.{file_of}
 use Rattle.svc_asm.specs.Programs.{IsProgramOf}
 use Rattle.svc_list.specs.Listings.{listing_of}
 
--- the text, where it is known, makes an image
+-- the text, if it is known, makes an image
 abbrev pub MakesImage : Option (List ℕ) → Type 0
 MakesImage text = (img : Image) × IsImage img × IfSome text (λ bytes. IsProgramOf bytes img)
 
--- the text, where it is known, is a program of an image, and the file, where it is known, is that image's
+-- the text, if it is known, is a program of an image, and the file, if it is known, is that image's
 pub record Assembles (text file : Option (List ℕ)) (exit : ℕ) : Type 0 where
   pub image : Image
   pub sound : IsImage image

@@ -13,7 +13,8 @@ use Rattle.svc_profile.specs.Words.{word_table}
 use Rattle.svc_request.specs.declared.request.Table.{Table}
 use Rattle.svc_request.specs.declared.request.Table.TheVariants as table
 
--- what is told of a history: its profile, or a table of its tasks, of the configuration's units or of the words that it touches, or the profile as a row of a table
+-- what is printed of a history: its profile, or a table of its tasks, of the configuration's units or of the words that
+-- it touches, or the profile as a row of a table
 abbrev pub cost_text : Option Table → Config → List Entry → List ℕ
 cost_text None config es = profile_of es
 cost_text (Some table.Tasks) config es = task_table es
@@ -21,7 +22,7 @@ cost_text (Some table.Units) config es = unit_table config.units es
 cost_text (Some table.Words) config es = word_table es
 cost_text (Some (table.Row row)) config es = profile_row row es
 
--- the entries are a legal history, and what a writer holds has grown by what is told of it
+-- the entries are a legal history, and what a writer holds has grown by what is printed of it
 pub record TellsCost (by : Option Table) (img : Image) (config : Config) (es : List Entry) (old new : Option (List ℕ)) (exit : ℕ) : Type 0 where
   pub legal : LegalHistory img config es
   pub text : Appends old new (cost_text by config es)

@@ -1,5 +1,6 @@
 -- What it means to do what a command line asks for.
-use Rattle.std.specs.Prelude.{◌≡◌, ◌⊎◌, ⊤, ℕ, false, List, Option, Some, None, Result, IfSome, IfOk, IfErr, ◌++◌, codes, string_bytes}
+use Rattle.std.specs.Prelude.{◌≡◌, ◌⊎◌, ℕ, false, List, Option, None, Result, IfSome, IfOk, IfErr, ◌++◌, codes, string_bytes}
+use denote.Ref.{Bor}
 use Rattle.std.specs.Io.KnownBytes.{Appends}
 use Rattle.std.specs.List.{AllByRecursion}
 use Rattle.svc_image.specs.Image.{Image, IsImage}
@@ -31,7 +32,7 @@ use Rattle.svc_program.specs.Runs.{FindsSound, GoesBy, IsRunOf, Reports, Reports
 use Rattle.svc_program.specs.Scripts.{PlaysScript}
 use Rattle.svc_program.specs.Shown.{TellsMachine}
 
--- the image's file is the built-in one, or the named one, where it is known what that holds
+-- the bytes are the built-in image's, or those of the named file, if what it holds is known
 abbrev pub IsFileOf : Held → Source → List ℕ → Type 0
 IsFileOf held source.BuiltIn file = file ≡ P1
 IsFileOf held (source.File name) file = IfSome (held name.now) (λ bytes. file ≡ bytes)
@@ -45,19 +46,23 @@ pub record IsOfSource (held : Held) (from : Source) (img : Image) : Type 0 where
 abbrev pub IsThere : Held → Source → Type 0
 IsThere held from = (img : Image) × IsOfSource held from img
 
--- the steps are those of the named script, where it is known what that holds
+-- the steps are those of the named script, if what it holds is known
 pub record IsScriptIn (held : Held) (name : List ℕ) (steps : List Step) : Type 0 where
   pub rows : AllByRecursion HasStepRow steps
   pub text : IfSome (held name) (λ text. IsText text (script_records steps))
 
--- the entries are those of the named trace, where it is known what that holds
+-- the entries are those of the named trace, if what it holds is known
 pub record IsTraceIn (held : Held) (name : List ℕ) (es : List Entry) : Type 0 where
   pub rows : AllByRecursion HasRow es
   pub text : IfSome (held name) (λ text. IsText text (trace_records es))
 
--- the named file, where it is known what it holds, is the text of this history
+-- the named file, if what it holds is known, is the text of this history
 abbrev pub SavesTrace : Held → List ℕ → List Entry → Type 0
 SavesTrace held name es = IfSome (held name) (λ text. text ≡ text_of es)
+
+-- so is the file that is named for a trace, if one is
+abbrev pub SavesAnyTrace : Held → Option (Bor (List ℕ)) → List Entry → Type 0
+SavesAnyTrace held named es = IfSome named (λ name. SavesTrace held name.now es)
 
 -- a writer's text has grown by this one, and the exit status is 0
 pub record Shows (shown : List ℕ) (old new : Option (List ℕ)) (exit : ℕ) : Type 0 where
@@ -68,25 +73,27 @@ pub record Shows (shown : List ℕ) (old new : Option (List ℕ)) (exit : ℕ) :
 abbrev pub version_row : List ℕ
 version_row = codes "svcsim " ++ (VERSION.now ++ codes "\n")
 
--- an image of the source, and entries that are those of the named trace, of which something holds
+-- an image of the source, and entries, those of the named trace, for which something holds
 abbrev pub IsTracedIn : Held → Traced → (Image → List Entry → Type 0) → Type 0
 IsTracedIn held traced Holds =
     (img : Image) × IsOfSource held traced.image img × (es : List Entry) × IsTraceIn held traced.trace.now es × Holds img es
 
--- the request was done with this exit status, over files that held these bytes and hold those now, by a writer that held the one text and holds the other
+-- the request was done with this exit status, given what the files held before and hold now, and what the writer held
+-- before and holds now
 abbrev pub Does : Request → (held saved : Held) → (old new : Option (List ℕ)) → ℕ → Type 0
 Does (request.Help text) held saved old new exit = Shows (string_bytes text) old new exit
 Does request.Version held saved old new exit = Shows version_row old new exit
 Does (request.Run run) held saved old new exit =
     (img : Image) × IsOfSource held run.image img × (r : Recorded) × IsRunOf img run.config r × GoesBy run.schedule img run.config r
-    × IfSome run.trace (λ name. SavesTrace saved name.now r.entries) × ReportsRun run.row r old new exit
+    × SavesAnyTrace saved run.trace r.entries × ReportsRun run.row r old new exit
 Does (request.Sequential tasks) held saved old new exit =
     (img : Image) × IsOfSource held tasks.image img × Reports img tasks.most (tasks_run img tasks.most) false None old new exit
 Does (request.Depend depended) held saved old new exit =
     (img : Image) × IsOfSource held depended.image img × TellsNeeds depended.by img depended.most old new exit
 Does (request.Script scripted) held saved old new exit =
     (img : Image) × IsOfSource held scripted.image img
-    × (steps : List Step) × IsScriptIn held scripted.events.now steps × PlaysScript img scripted.config steps old new exit
+    × (steps : List Step) × IsScriptIn held scripted.events.now steps
+    × PlaysScript img scripted.config steps (SavesAnyTrace saved scripted.trace) old new exit
 Does (request.Check traced) held saved old new exit = IsTracedIn held traced (λ img es. FindsSound img traced.config es old new exit)
 Does (request.Profile traced by) held saved old new exit = IsTracedIn held traced (λ img es. TellsCost by img traced.config es old new exit)
 Does (request.Show traced at) held saved old new exit = IsTracedIn held traced (λ img es. TellsMachine at img traced.config es old new exit)
@@ -95,19 +102,19 @@ Does (request.Draw traced picture) held saved old new exit =
 Does (request.Assemble assembly) held saved old new exit = Assembles (held assembly.text.now) (saved assembly.image.now) exit × (new ≡ old)
 Does (request.List image) held saved old new exit = (img : Image) × IsOfSource held image img × Lists img old new exit
 
--- there is the image that is asked for
+-- the image that is asked for exists
 abbrev pub HasImage : Request → Held → Type 0
 HasImage asked held = IfSome (source_of asked) (IsThere held)
 
--- no file is changed but the one that is to be written
+-- no file is changed except the one to write
 abbrev pub KeepsFiles : Request → (held saved : Held) → Type 0
 KeepsFiles asked held saved = KeepsAllBut (written_by asked) held saved
 
--- a fault that may come while a file is written or after that: of a file, or of a text
+-- a fault that may come while a file is written or later: that of a file, or of a text
 abbrev pub IsLate : Fault → Type 0
 IsLate f = (f ≡ fault.File) ⊎ IsReportFault f
 
--- what is to be written can be: the text makes an image, or there is the image that is asked for
+-- what is to be written can be: the text makes an image, or the image that is asked for exists
 abbrev pub IsReady : Request → Held → Type 0
 IsReady (request.Assemble assembly) held = MakesImage (held assembly.text.now)
 IsReady asked held = HasImage asked held
@@ -116,15 +123,24 @@ IsReady asked held = HasImage asked held
 abbrev pub Spares : Request → Fault → (held saved : Held) → Type 0
 Spares asked f held saved = (saved ≡ held) ⊎ (IsLate f × IsReady asked held)
 
+-- what saving a trace comes to: no file is changed but the named one, and with a fault that one isn't either, or it was being written
+pub record SavesAlone {A : Type 0} (name : Option (List ℕ)) (held saved : Held) (answer : Result A Fault) : Type 0 where
+  pub kept : KeepsAllBut name held saved
+  pub spared : IfErr answer (λ f. IsLate f ⊎ (saved ≡ held))
+
+-- before this fault nothing was printed, unless the output failed
+abbrev pub IsQuiet : {O : Type 0} → (old new : O) → Fault → Type 0
+IsQuiet old new f = IsOutputFault f ⊎ (new ≡ old)
+
 -- what a request comes to: an exit status, or a fault
 --   done: with a status it was done
 --   silent: before a fault nothing is printed, unless the output failed
---   order: no fault but one of the image's file comes before the image
---   kept: no file is changed but the one that is to be written
---   spared: with a fault that one isn't either, or it was being written
+--   order: no fault except one of the image's file comes before the image
+--   kept: no file is changed except the one to write
+--   spared: nor is that one at a fault, unless it was being written
 pub record IsAnswered {O : Type 0} (contents : O → Option (List ℕ)) (asked : Request) (held saved : Held) (old new : O) (answer : Result ℕ Fault) : Type 0 where
   pub done : IfOk answer (Does asked held saved (contents old) (contents new))
-  pub silent : IfErr answer (λ f. IsOutputFault f ⊎ (new ≡ old))
+  pub silent : IfErr answer (IsQuiet old new)
   pub order : IfErr answer (λ f. IsEarly f ⊎ HasImage asked held)
   pub kept : KeepsFiles asked held saved
   pub spared : IfErr answer (λ f. Spares asked f held saved)

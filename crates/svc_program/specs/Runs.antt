@@ -26,18 +26,19 @@ use Rattle.svc_request.specs.declared.request.Order.{Order}
 use Rattle.svc_request.specs.declared.request.Order.TheVariants as order
 use Rattle.svc_request.specs.declared.request.Schedule.{Schedule}
 
--- the exit status of a run: 0 where the program came to its exit, else 2
+-- the exit status of a run: 0 if the program exited, otherwise 2
 abbrev pub status_of : Ending → ℕ
 status_of (ending.Exit code) = 0
 status_of (ending.Trap number) = 2
 status_of (ending.Full entry) = 2
 status_of (ending.Open entry) = 2
 
--- how the run stands after an image's first k tasks; where it goes on, `full` says whether no further event is accepted
+-- how the run stands after an image's first k tasks; if it goes on, `full` says whether no further event is accepted
 abbrev pub ending_after : Image → ℕ → Bool → Ending
 ending_after img k full = ending_of full (plain_seq img k).stopped (plain_seq img k).due
 
--- what a writer holds has grown by the summary of an image's first k tasks, run one after another on one flat memory, of which there are so many, with these counts if any; and the exit status is that of their ending
+-- what a writer holds has grown by the summary of an image's first k tasks, run one after another on one flat memory,
+-- with how many they are and with these counts, if any; the exit status is that of their ending
 pub record Reports (img : Image) (k tasks : ℕ) (full : Bool) (counts : Option Counts) (old new : Option (List ℕ)) (exit : ℕ) : Type 0 where
   pub text : Appends old new (summary_of (plain_seq img k).output tasks (ending_after img k full) counts)
   pub status : exit ≡ status_of (ending_after img k full)
@@ -48,14 +49,15 @@ pub record IsRunOf (img : Image) (config : Config) (r : Recorded) : Type 0 where
   pub config_is : r.machine.config ≡ config
   pub legal : IsLegal r
 
--- a run of the image goes by this order, with bursts of at most so many turns: each of its entries is that of one step, and it has as many steps as the configuration has turns unless its ending isn't open
+-- a run of the image goes by this order, with bursts of at most `burst` turns: each of its entries is that of one step,
+-- and it has as many steps as the configuration has turns unless its ending isn't open
 abbrev pub IsScheduledBy : Order → (burst : ℕ) → Image → Config → Recorded → Type 0
 IsScheduledBy order.Rotate burst img config r = (old : Rotate) × (new : Rotate) × IsScheduled Rotates img config burst old new r
 IsScheduledBy order.Oldest burst img config r = (old : Oldest) × (new : Oldest) × IsScheduled (GoesByAge Older) img config burst old new r
 IsScheduledBy order.Youngest burst img config r = (old : Youngest) × (new : Youngest) × IsScheduled (GoesByAge Younger) img config burst old new r
 IsScheduledBy (order.Random seed) burst img config r = (old : Random) × (old.generator ≡ generator_of seed) × (new : Random) × IsScheduled Draws img config burst old new r
 
--- a run goes by the schedule, where there is one
+-- a run goes by the schedule, if there is one
 abbrev pub GoesBy : Option Schedule → Image → Config → Recorded → Type 0
 GoesBy None img config r = ⊤
 GoesBy (Some schedule) img config r = IsScheduledBy schedule.order schedule.burst img config r
@@ -64,16 +66,16 @@ GoesBy (Some schedule) img config r = IsScheduledBy schedule.order schedule.burs
 abbrev pub tasks_of : Recorded → ℕ
 tasks_of r = (board r.entries).committed
 
--- the report of a run is that of the tasks which its history has committed, with the history's counts
+-- the report of a run is that of the tasks that its history has committed, with the history's counts
 abbrev pub ReportsOn : Recorded → Option (List ℕ) → Option (List ℕ) → ℕ → Type 0
 ReportsOn r old new exit = Reports r.machine.image (tasks_of r) (tasks_of r) (is_full r.machine) (Some (counts_of r.entries)) old new exit
 
--- what a writer holds has grown by the same as a row of a table, without the words put out
+-- the same as a row of a table, without the output words
 pub record ReportsRow (row : TableRow) (r : Recorded) (old new : Option (List ℕ)) (exit : ℕ) : Type 0 where
   pub text : Appends old new (summary_row row (tasks_of r) (ending_after r.machine.image (tasks_of r) (is_full r.machine)) (counts_of r.entries))
   pub status : exit ≡ status_of (ending_after r.machine.image (tasks_of r) (is_full r.machine))
 
--- the report of a run, as a row of a table where one is asked for
+-- the report of a run, as a row of a table if one is asked for
 abbrev pub ReportsRun : Option TableRow → Recorded → Option (List ℕ) → Option (List ℕ) → ℕ → Type 0
 ReportsRun None r old new exit = ReportsOn r old new exit
 ReportsRun (Some row) r old new exit = ReportsRow row r old new exit

@@ -25,7 +25,8 @@ use Rattle.svc_program.specs.declared.script.Answer.{Answer}
 use Rattle.svc_program.specs.declared.script.Answer.TheVariants as answer
 use Rattle.svc_program.specs.Runs.{IsRunOf, ReportsOn}
 
--- the line that tells an answer: an accepted event's row of a trace, a refusal's number, or the local turns of a burst that is kept and whether it asks
+-- the line of an answer: an accepted event's row of a trace, a refusal's number, or the local turns of a burst that is
+-- kept and whether it asks
 abbrev pub answer_row : Answer → List ℕ
 answer_row (answer.Accepted e) = row_of e
 answer_row (answer.Refused why) = codes "refused," ++ (decimal (number_of why) ++ codes "\n")
@@ -46,41 +47,41 @@ pub record Accepts (r : Recorded) (x : Event) (e : Entry) (next : Recorded) : Ty
   pub entries : next.entries ≡ r.entries ++ e ∷ []
   pub run : IsRunOf r.machine.image r.machine.config next
 
--- an event is tried: it is accepted with its entry, or refused and changes nothing
+-- an event is tried: it is accepted with its entry, or is refused and changes nothing
 abbrev pub Tries : Recorded → Event → Answer → Recorded → Type 0
 Tries r x (answer.Accepted e) next = Accepts r x e next
 Tries r x (answer.Refused why) next = (refused r.machine.image r.machine.config (standing_of r) x ≡ Some why) × (next ≡ r)
 Tries r x (answer.Taken local ask) next = ⊥
 Tries r x answer.Nothing next = ⊥
 
--- why no task is there: there is no such unit, or it is idle
+-- why there is no task: there is no such unit, or it is idle
 abbrev pub no_task : Recorded → UnitId → Refusal
 no_task r unit = cond (nat_lt unit.0 r.machine.config.units) refusal.Idle refusal.NoSuchUnit
 
--- the burst takes the leased task on by at most so many turns
+-- the burst runs the leased task on by at most this many turns
 pub record TakesOn (img : Image) (lease : Lease) (turns : ℕ) (burst : Advance) : Type 0 where
   pub unit : burst.unit ≡ lease.unit
   pub epoch : burst.epoch ≡ lease.epoch
   pub start : burst.start ≡ lease.core
   pub advance : IsAdvance img turns burst
 
--- what a unit's task may be taken on by: a burst, or the refusal where there is no task
+-- what runs a unit's task on: a burst, or the refusal if there is no task
 abbrev pub HasBurst : Recorded → UnitId → (turns : ℕ) → Option Lease → Result Advance Refusal → Type 0
 HasBurst r unit turns None result = result ≡ Err (no_task r unit)
 HasBurst r unit turns (Some lease) result = IfOk result (TakesOn r.machine.image lease turns) × IsOk result
 
--- a unit's task is taken on and the burst submitted; without a task this is refused
+-- a unit's task is run on and the burst submitted; without a task this is refused
 abbrev pub Submits : Option Lease → (turns : ℕ) → UnitId → Recorded → Answer → Recorded → Type 0
 Submits None turns unit r a next = (a ≡ answer.Refused (no_task r unit)) × (next ≡ r)
 Submits (Some lease) turns unit r a next = (b : Advance) × TakesOn r.machine.image lease turns b × Tries r (event.Submit b) a next
 
--- a unit's task is taken on and the burst kept; without a task nothing is
+-- a unit's task is run on and the burst kept; without a task nothing is
 abbrev pub Takes : Option Lease → (turns : ℕ) → UnitId → Recorded → Kept → Answer → Kept → Type 0
 Takes None turns unit r kept a after = (a ≡ answer.Nothing) × (after ≡ kept)
 Takes (Some lease) turns unit r kept a after =
     (b : Advance) × TakesOn r.machine.image lease turns b × (a ≡ answer.Taken b.local (not (is_nothing b.ask))) × (after ≡ slice_set kept unit.0 (Some b))
 
--- the burst that is kept for a unit is submitted, and kept no more; without one nothing is
+-- the burst that is kept for a unit is submitted, and no longer kept; without one nothing is
 abbrev pub Gives : Option Advance → Recorded → Answer → Recorded → Type 0
 Gives None r a next = (a ≡ answer.Nothing) × (next ≡ r)
 Gives (Some b) r a next = Tries r (event.Submit b) a next
@@ -105,12 +106,13 @@ pub record Play : Type 0 where
 abbrev pub Plays : Step → Play → Play → Type 0
 Plays s p next = (a : Answer) × DoesKind s.kind s.unit p.run p.kept a next.run next.kept × (next.text ≡ p.text ++ answer_row a)
 
--- the first steps of a script, so many, lead on
+-- the first n steps of a script lead on
 abbrev pub PlaysTo : List Step → ℕ → Play → Play → Type 0
 PlaysTo steps zero p next = next ≡ p
 PlaysTo steps (suc n) p next = (between : Play) × PlaysTo steps n p between × (s : Step) × (slice_get steps n ≡ Some s) × Plays s between next
 
--- so many first steps of a script lead from one run to another of the same machine, and what a writer holds has grown by their lines
+-- the first n steps of a script lead from one run to another of the same machine, and what a writer holds has grown by
+-- their lines
 pub record HasPlayed (steps : List Step) (n : ℕ) (r : Recorded) (kept : Kept) (next : Recorded) (after : Kept) (old new : Option (List ℕ)) : Type 0 where
   pub text : List ℕ
   pub steps_done : PlaysTo steps n (record { run = r; kept = kept; text = [] }) (record { run = next; kept = after; text = text })
@@ -118,8 +120,14 @@ pub record HasPlayed (steps : List Step) (n : ℕ) (r : Recorded) (kept : Kept) 
   pub image : next.machine.image ≡ r.machine.image
   pub config_is : next.machine.config ≡ r.machine.config
 
--- from a machine before any event the script leads to a run; the line of each step was printed, and then the report of that run
-pub record PlaysScript (img : Image) (config : Config) (steps : List Step) (old new : Option (List ℕ)) (exit : ℕ) : Type 0 where
+-- all steps of a script lead on so, and then the report of the run was printed
+abbrev pub HasPlayedAll : (steps : List Step) (r : Recorded) (kept : Kept) (next : Recorded) (after : Kept) (old new : Option (List ℕ)) → ℕ → Type 0
+HasPlayedAll steps r kept next after old new exit =
+    (between : Option (List ℕ)) × HasPlayed steps (length steps) r kept next after old between × ReportsOn next between new exit
+
+-- from a machine before any event the script leads to a run, of whose entries something holds; the line of each step was
+-- printed, and then the report of that run
+pub record PlaysScript (img : Image) (config : Config) (steps : List Step) (Holds : List Entry → Type 0) (old new : Option (List ℕ)) (exit : ℕ) : Type 0 where
   pub start : Recorded
   pub started : IsRunOf img config start
   pub none_yet : start.entries ≡ []
@@ -129,3 +137,4 @@ pub record PlaysScript (img : Image) (config : Config) (steps : List Step) (old 
   pub between : Option (List ℕ)
   pub played : HasPlayed steps (length steps) start (replicate config.units None) last kept old between
   pub report : ReportsOn last between new exit
+  pub entries : Holds last.entries

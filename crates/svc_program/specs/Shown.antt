@@ -9,20 +9,20 @@ use Rattle.svc_show.specs.Show.{show_of}
 use Rattle.svc_request.specs.declared.faults.Fault.{Fault}
 use Rattle.svc_request.specs.declared.faults.Fault.TheVariants as fault
 
--- the entries after which the machine is shown: the first so many, or all
+-- the entries after which the machine is shown: the first n, or all
 abbrev pub shown_entries : Option ℕ → List Entry → List Entry
 shown_entries None es = es
 shown_entries (Some at) es = take at es
 
--- the entries are a legal history, of which there are as many as are asked for, and what a writer holds has grown by the
--- text of the machine where these lead
+-- the entries are a legal history with at least as many as are asked for, and what a writer holds has grown by the text
+-- of the machine to which that many lead
 pub record TellsMachine (at : Option ℕ) (img : Image) (c : Config) (es : List Entry) (old new : Option (List ℕ)) (exit : ℕ) : Type 0 where
   pub legal : LegalHistory img c es
   pub within : IfSome at (λ n. n ≤ length es)
   pub text : Appends old new (show_of img c (shown_entries at es))
   pub status : exit ≡ 0
 
--- the fault is that of a file, and there are fewer entries than are asked for, which are a legal history
+-- the fault is that of a file, and the entries are a legal history of fewer entries than are asked for
 abbrev pub IsPastTheEnd : Option ℕ → Image → Config → List Entry → Fault → Type 0
 IsPastTheEnd None img config es f = ⊥
 IsPastTheEnd (Some at) img config es f = (f ≡ fault.File) × LegalHistory img config es × (length es < at)

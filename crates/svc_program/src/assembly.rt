@@ -34,7 +34,7 @@ pub fn assemble<F: Files, O: Write>(
         Ok(image) => image,
         Err(error) => return Err(assembly_fault(alloc, assembly.text, error)),
     };
-    // what the type keeps: it is an image
+    // what the type guarantees: it is an image
     let _start = image.start();
     let file = image.write(alloc)?;
     files.save(assembly.image, &file)?;
@@ -44,10 +44,9 @@ pub fn assemble<F: Files, O: Write>(
 // The size in bytes of the largest text that is assembled.
 const GREATEST_TEXT: u32 = 16_777_216;
 
-// The text of a file, of which no more is read than the largest text has, and one byte.
-fn load_text<F: Files>(alloc: Global, name: &str, files: &mut F) -> Result<Vec<u8>, Fault>
-    ensures text { IfOk result (λ bytes. IfSome (F.held files.old name.now) (λ known. bytes.items ≡ known)) }
-    ensures kept { F.held files.new ≡ F.held files.old }
+// The text of a file. No more is read than the longest text has, and one byte.
+fn load_text<F: Files>(alloc: Global, name: &str, files: &F) -> Result<Vec<u8>, Fault>
+    ensures { IfOk result (λ bytes. IfSome (F.held files.now name.now) (λ known. bytes.items ≡ known)) }
 {
     let reader = files.open(name)?;
     let bytes = front_of(alloc, reader, GREATEST_TEXT)?;
@@ -57,7 +56,7 @@ fn load_text<F: Files>(alloc: Global, name: &str, files: &mut F) -> Result<Vec<u
     Ok(bytes)
 }
 
-// How a fault of a named text is reported: with the text's name before it.
+// How a fault of a named text is reported: after the text's name.
 fn assembly_fault(alloc: Global, name: &str, error: AssembleError) -> Fault {
     let told = match error {
         AssembleError::Memory => return Fault::File,
@@ -73,11 +72,11 @@ fn assembly_fault(alloc: Global, name: &str, error: AssembleError) -> Fault {
 pub fn list<F: Files, O: Write>(
     alloc: Global,
     image: Source<'_>,
-    files: &mut F,
+    files: &F,
     out: &mut O,
 ) -> Result<u8, Fault>
     ensures { IsAnswered O.contents (request.List image.entry)
-        (F.held files.old) (F.held files.new) out.old out.new result }
+        (F.held files.now) (F.held files.now) out.old out.new result }
 {
     let image = load_image(alloc, image, files)?;
     list_image(alloc, &image, out)

@@ -22,11 +22,11 @@ use svc_request::{Fault, Files, Traced};
 pub fn check<F: Files, O: Write>(
     alloc: Global,
     traced: Traced<'_>,
-    files: &mut F,
+    files: &F,
     out: &mut O,
 ) -> Result<u8, Fault>
     ensures { IsAnswered O.contents (request.Check traced.entry)
-        (F.held files.old) (F.held files.new) out.old out.new result }
+        (F.held files.now) (F.held files.now) out.old out.new result }
 {
     let (image, entries) = load_traced(alloc, traced, files)?;
     check_entries(alloc, image, traced.config, &entries, out)

@@ -1,33 +1,32 @@
 //! `depend`: what the tasks of an image need of one another.
 
-ghost use Rattle.std.specs.Prelude.{◌≡◌, ◌⊎◌, ℕ, OnOk, IfOk, IfErr};
-ghost use Rattle.std.specs.Io.KnownBytes.{Appends};
-ghost use Rattle.svc_image.specs.Image.{Image};
-ghost use Rattle.svc_report.specs.Faults.{IsWriteFault};
+ghost use Rattle.std.specs.Prelude.{◌≤◌, Some, None, IfOk, IfErr};
+ghost use Rattle.svc_request.specs.declared.request.NeedsTable.TheVariants as table;
 ghost use Rattle.svc_request.specs.declared.request.Request.TheVariants as request;
-ghost use Rattle.svc_request.specs.Faults.{IsReportFault};
-ghost use Rattle.svc_program.specs.Needs.{AreOf, TellsNeeds, needs_text, table_text};
-ghost use Rattle.svc_program.specs.Requests.{IsAnswered};
+ghost use Rattle.svc_program.specs.Needs.{IsTold, TellsNeeds};
+ghost use Rattle.svc_program.specs.Requests.{IsAnswered, IsQuiet};
 
 use crate::load::load_image;
 use crate::output::flush;
 use crate::summary::exit_status;
 use std::alloc::Global;
 use std::io::Write;
-use svc_depend::{Needs, find_needs, write_task_needs, write_totals, write_word_needs};
+use svc_core::Ending;
+use svc_depend::{
+    MAX_TASKS, PairForm, find_needs, write_pairs, write_task_needs, write_totals, write_word_needs,
+};
 use svc_image::Image;
-use svc_report::ReportError;
 use svc_request::{Depended, Fault, Files, NeedsTable};
 
-/// Runs tasks in order, on one flat memory, and prints what they need of one another, in all or by a table.
+/// Runs tasks in order, on one flat memory, and prints what they need of one another, in total or by a table.
 pub fn depend<F: Files, O: Write>(
     alloc: Global,
     depended: Depended<'_>,
-    files: &mut F,
+    files: &F,
     out: &mut O,
 ) -> Result<u8, Fault>
     ensures { IsAnswered O.contents (request.Depend depended.entry)
-        (F.held files.old) (F.held files.new) out.old out.new result }
+        (F.held files.now) (F.held files.now) out.old out.new result }
 {
     let image = load_image(alloc, depended.image, files)?;
     tell_needs(alloc, &image, depended, out)
@@ -42,47 +41,79 @@ fn tell_needs<O: Write>(
 ) -> Result<u8, Fault>
     ensures told { IfOk result (TellsNeeds depended.entry.by image.now depended.entry.most (O.contents out.old)
         (O.contents out.new)) }
-    ensures silent { IfErr result (λ fault. IsReportFault fault ⊎ (out.new ≡ out.old)) }
+    ensures silent { IfErr result (IsQuiet out.old out.new) }
 {
-    let needs = find_needs(alloc, image, u64::from(depended.most))?;
-    write_needs(alloc, &needs, depended.by, out)?;
+    let ending = write_needs(alloc, image, depended, out)?;
     flush(out)?;
-    Ok(exit_status(needs.ending))
+    Ok(exit_status(ending))
 }
 
-// Writes what was found, or the table that is asked for.
+// Writes what the tasks need in all, or the table that is asked for, and tells how they ended.
 fn write_needs<O: Write>(
     alloc: Global,
-    needs: &Needs,
-    by: Option<NeedsTable>,
+    image: &Image,
+    depended: Depended<'_>,
     out: &mut O,
-) -> Result<(), ReportError>
-    ensures ok { OnOk result ((img : Image) → (most : ℕ) → AreOf img most needs.now
-        → Appends (O.contents out.old) (O.contents out.new) (needs_text by img most)) }
-    ensures err { IfErr result IsWriteFault }
+) -> Result<Ending, Fault>
+    ensures told { IfOk result (IsTold depended.entry.by image.now depended.entry.most (O.contents out.old)
+        (O.contents out.new)) }
+    ensures silent { IfErr result (IsQuiet out.old out.new) }
 {
-    match by {
-        None => {
-            let tasks = needs.tasks.len() as u64;
-            write_totals(alloc, tasks, needs.ending, &needs.totals, out)
-        }
-        Some(table) => write_table(alloc, needs, table, out),
+    let most = u64::from(depended.most);
+    match depended.by {
+        None => write_all(alloc, image, most, out),
+        Some(NeedsTable::Tasks) => write_by_task(alloc, image, most, out),
+        Some(NeedsTable::Words) => write_by_word(alloc, image, most, out),
+        Some(NeedsTable::Pairs) => Ok(write_pairs(alloc, image, most, PairForm::Rows, out)?),
+        Some(NeedsTable::Graph) => Ok(write_pairs(alloc, image, most, PairForm::Graph, out)?),
     }
 }
 
-// Writes a table of what was found.
-fn write_table<O: Write>(
+// In all.
+fn write_all<O: Write>(
     alloc: Global,
-    needs: &Needs,
-    table: NeedsTable,
+    image: &Image,
+    most: u64,
     out: &mut O,
-) -> Result<(), ReportError>
-    ensures ok { OnOk result ((img : Image) → (most : ℕ) → AreOf img most needs.now
-        → Appends (O.contents out.old) (O.contents out.new) (table_text table img most)) }
-    ensures err { IfErr result IsWriteFault }
+) -> Result<Ending, Fault>
+    requires { most ≤ MAX_TASKS }
+    ensures told { IfOk result (IsTold None image.now most (O.contents out.old) (O.contents out.new)) }
+    ensures silent { IfErr result (IsQuiet out.old out.new) }
 {
-    match table {
-        NeedsTable::Tasks => write_task_needs(alloc, &needs.tasks, out),
-        NeedsTable::Words => write_word_needs(alloc, &needs.words, out),
-    }
+    let needs = find_needs(alloc, image, most)?;
+    let tasks = needs.tasks.len() as u64;
+    write_totals(alloc, tasks, needs.ending, &needs.totals, out)?;
+    Ok(needs.ending)
+}
+
+// Task by task.
+fn write_by_task<O: Write>(
+    alloc: Global,
+    image: &Image,
+    most: u64,
+    out: &mut O,
+) -> Result<Ending, Fault>
+    requires { most ≤ MAX_TASKS }
+    ensures told { IfOk result (IsTold (Some table.Tasks) image.now most (O.contents out.old) (O.contents out.new)) }
+    ensures silent { IfErr result (IsQuiet out.old out.new) }
+{
+    let needs = find_needs(alloc, image, most)?;
+    write_task_needs(alloc, &needs.tasks, out)?;
+    Ok(needs.ending)
+}
+
+// Word by word.
+fn write_by_word<O: Write>(
+    alloc: Global,
+    image: &Image,
+    most: u64,
+    out: &mut O,
+) -> Result<Ending, Fault>
+    requires { most ≤ MAX_TASKS }
+    ensures told { IfOk result (IsTold (Some table.Words) image.now most (O.contents out.old) (O.contents out.new)) }
+    ensures silent { IfErr result (IsQuiet out.old out.new) }
+{
+    let needs = find_needs(alloc, image, most)?;
+    write_word_needs(alloc, &needs.words, out)?;
+    Ok(needs.ending)
 }

@@ -20,13 +20,12 @@ use std::sync::Wait;
 use std::thread::Threads;
 use svc_request::{Fault, Files, Request, VERSION};
 
-/// Does what is asked for. It returns the exit status: 0 if the run came to the program's exit, a
-/// trace was sound, an image was assembled or listed, or help or the version was asked for, and 2
-/// at any other ending.
+/// Does what is asked for. It returns the exit status: 0 if the run reached the program's exit, a trace was sound, an
+/// image was assembled or listed, or help or the version was asked for, and 2 at any other ending.
 ///
 /// Errors: the first fault, looked for in this order: a file that would be written over one that is read, the image,
-/// the script or trace, the opening of the machine, the run, the output. Before a fault that isn't one of the output
-/// nothing is printed.
+/// the script or trace, the opening of the machine, the run, the output. Nothing is printed before a fault, unless it
+/// is one of the output.
 pub fn perform<R: Threads + Wait + Sync, F: Files, O: Write>(
     rt: &R,
     alloc: Global,
@@ -37,7 +36,7 @@ pub fn perform<R: Threads + Wait + Sync, F: Files, O: Write>(
     ensures answered { IsAnswered O.contents request.entry (F.held files.old) (F.held files.new) out.old out.new
         result }
 
-    // Nothing is read or written if that would lose a file.
+    // Reads or writes nothing if that would lose a file.
     ensures apart { IsOverItself request.entry → (result ≡ Err Fault.File) × (F.held files.new ≡ F.held files.old)
         × (out.new ≡ out.old) }
 {

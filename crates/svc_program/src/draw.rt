@@ -36,8 +36,8 @@ pub fn draw<F: Files, O: Write>(
 
 // Replays the entries, and draws those that the picture shows.
 //
-// Errors: the trace's first fault; [`Fault::File`] if it has fewer entries than stand before the picture's first; lack
-// of memory.
+// Errors: the trace's first fault; [`Fault::File`] if the trace has fewer entries than precede the picture's first;
+// lack of memory.
 fn draw_entries(
     alloc: Global,
     image: Image,

@@ -1,61 +1,49 @@
 //! The files of a request: its image, its script and its trace.
 
-ghost use Rattle.std.specs.Prelude.{◌≡◌, ◌⊎◌, None, IfOk, IfErr, IfSome, option_map};
+ghost use Rattle.std.specs.Prelude.{◌≡◌, ◌⊎◌, IfOk, IfErr, IfSome, option_map};
 ghost use Rattle.svc_image.specs.Format.{file_of};
 ghost use Rattle.svc_request.specs.Faults.{IsEarly};
-ghost use Rattle.svc_request.specs.Held.{KeepsAllBut};
-ghost use Rattle.svc_program.specs.Requests.{IsLate, IsOfSource, IsScriptIn, IsThere, IsTraceIn, SavesTrace};
+ghost use Rattle.svc_program.specs.Requests.{IsOfSource, IsScriptIn, IsThere, IsTraceIn, SavesAlone, SavesAnyTrace};
 
 use crate::front::front_of;
 use std::alloc::Global;
 use std::io::Read;
 use svc_history::Entry;
-use svc_image::{Image, ImageError, samples};
+use svc_image::{Image, ImageError, MOST_BYTES, samples};
 use svc_report::{ReportError, Step, read_script, read_trace, write_trace};
 use svc_request::{Fault, Files, Source, Traced};
 
-// The size in bytes of the largest image, which is one of version 2: the header with the registers,
-// entries, as many limits, text and data.
-const GREATEST_IMAGE: u32 = 148 + 4 * (1_024 + 1_024 + 65_536 + 65_536);
-
 /// The image of a source.
-pub fn load_image<F: Files>(
-    alloc: Global,
-    source: Source<'_>,
-    files: &mut F,
-) -> Result<Image, Fault>
-    ensures image { IfOk result (IsOfSource (F.held files.old) source.entry) }
-    ensures kept { F.held files.new ≡ F.held files.old }
+pub fn load_image<F: Files>(alloc: Global, source: Source<'_>, files: &F) -> Result<Image, Fault>
+    ensures image { IfOk result (IsOfSource (F.held files.now) source.entry) }
     ensures early { IfErr result IsEarly }
 {
     let image = match source {
         Source::BuiltIn => Image::read(alloc, samples::P1.as_slice())?,
         Source::File(name) => read_image(alloc, files.open(name)?)?,
     };
-    // what the type keeps: it is an image
+    // what the type guarantees: it is an image
     let _start = image.start();
     Ok(image)
 }
 
-// The image that a reader gives, of which no more is read than the largest image has, and one byte.
-// The first fault of these bytes is that of the whole, since each check but the last looks at a
-// place within an image.
+// The image that a reader gives. No more is read than the largest image has, and one byte. The first fault of these
+// bytes is that of the whole, since each check except the last looks at a place within an image.
 fn read_image<R: Read + Drop>(alloc: Global, reader: R) -> Result<Image, Fault>
     ensures image { IfOk result (λ img. IfSome (R.remaining reader) (λ bytes. file_of img ≡ bytes)) }
     ensures early { IfErr result IsEarly }
 {
-    let bytes = front_of(alloc, reader, GREATEST_IMAGE)?;
+    let bytes = front_of(alloc, reader, MOST_BYTES)?;
     let image = Image::read(alloc, &bytes)?;
-    if bytes.len() > GREATEST_IMAGE as usize {
+    if bytes.len() > MOST_BYTES as usize {
         return Err(Fault::Image(ImageError::Trailing));
     }
     Ok(image)
 }
 
-/// The steps of a script's file, which is read whole before the first of them is done.
-pub fn load_script<F: Files>(alloc: Global, name: &str, files: &mut F) -> Result<Vec<Step>, Fault>
-    ensures script { IfOk result (λ steps. IsScriptIn (F.held files.old) name.now steps.items) }
-    ensures kept { F.held files.new ≡ F.held files.old }
+/// The steps of a script's file, which is read whole before the first step is done.
+pub fn load_script<F: Files>(alloc: Global, name: &str, files: &F) -> Result<Vec<Step>, Fault>
+    ensures script { IfOk result (λ steps. IsScriptIn (F.held files.now) name.now steps.items) }
 {
     let reader = files.open(name)?;
     match read_script(alloc, reader) {
@@ -66,9 +54,8 @@ pub fn load_script<F: Files>(alloc: Global, name: &str, files: &mut F) -> Result
 }
 
 /// The entries of a trace's file.
-pub fn load_trace<F: Files>(alloc: Global, name: &str, files: &mut F) -> Result<Vec<Entry>, Fault>
-    ensures trace { IfOk result (λ entries. IsTraceIn (F.held files.old) name.now entries.items) }
-    ensures kept { F.held files.new ≡ F.held files.old }
+pub fn load_trace<F: Files>(alloc: Global, name: &str, files: &F) -> Result<Vec<Entry>, Fault>
+    ensures trace { IfOk result (λ entries. IsTraceIn (F.held files.now) name.now entries.items) }
 {
     let reader = files.open(name)?;
     let entries = read_trace(alloc, reader)?;
@@ -79,12 +66,11 @@ pub fn load_trace<F: Files>(alloc: Global, name: &str, files: &mut F) -> Result<
 pub fn load_traced<F: Files>(
     alloc: Global,
     traced: Traced<'_>,
-    files: &mut F,
+    files: &F,
 ) -> Result<(Image, Vec<Entry>), Fault>
-    ensures image { IfOk result (λ it. IsOfSource (F.held files.old) traced.entry.image it.0) }
-    ensures trace { IfOk result (λ it. IsTraceIn (F.held files.old) traced.entry.trace.now it.1.items) }
-    ensures order { IfErr result (λ fault. IsEarly fault ⊎ IsThere (F.held files.old) traced.entry.image) }
-    ensures kept { F.held files.new ≡ F.held files.old }
+    ensures image { IfOk result (λ it. IsOfSource (F.held files.now) traced.entry.image it.0) }
+    ensures trace { IfOk result (λ it. IsTraceIn (F.held files.now) traced.entry.trace.now it.1.items) }
+    ensures order { IfErr result (λ fault. IsEarly fault ⊎ IsThere (F.held files.now) traced.entry.image) }
 {
     let image = load_image(alloc, traced.image, files)?;
     let entries = load_trace(alloc, traced.trace, files)?;
@@ -98,9 +84,8 @@ pub fn save_trace<F: Files>(
     name: Option<&str>,
     files: &mut F,
 ) -> Result<(), Fault>
-    ensures saved { IfOk result (λ _. IfSome name.entry (λ name. SavesTrace (F.held files.new) name.now entries.now)) }
-    ensures kept { KeepsAllBut (option_map (λ name. name.now) name.entry) (F.held files.old) (F.held files.new) }
-    ensures spared { IfErr result (λ fault. IsLate fault ⊎ (F.held files.new ≡ F.held files.old)) }
+    ensures saved { IfOk result (λ _. SavesAnyTrace (F.held files.new) name.entry entries.now) }
+    ensures alone { SavesAlone (option_map (λ name. name.now) name.entry) (F.held files.old) (F.held files.new) result }
 {
     let Some(name) = name else {
         return Ok(());

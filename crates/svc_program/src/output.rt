@@ -8,7 +8,7 @@ use std::io::Write;
 use svc_report::ReportError;
 use svc_text::write_text;
 
-/// Prints a text that was gathered.
+/// Prints a gathered text.
 ///
 /// Errors: [`ReportError::Write`].
 pub fn print_text<O: Write>(text: &[u8], out: &mut O) -> Result<(), ReportError>
@@ -19,7 +19,7 @@ pub fn print_text<O: Write>(text: &[u8], out: &mut O) -> Result<(), ReportError>
     flush(out)
 }
 
-/// Hands on what was printed of a text.
+/// Flushes what was printed of a text.
 ///
 /// Errors: [`ReportError::Write`].
 pub fn flush<O: Write>(out: &mut O) -> Result<(), ReportError>

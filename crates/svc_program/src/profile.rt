@@ -21,16 +21,16 @@ use svc_profile::{write_profile, write_profile_row, write_tasks, write_units, wr
 use svc_report::ReportError;
 use svc_request::{Fault, Files, Table, Traced};
 
-/// Replays a trace, and prints what its speculation cost, in all or by a table.
+/// Replays a trace, and prints what its speculation cost, in total or by a table.
 pub fn profile<F: Files, O: Write>(
     alloc: Global,
     traced: Traced<'_>,
     by: Option<Table<'_>>,
-    files: &mut F,
+    files: &F,
     out: &mut O,
 ) -> Result<u8, Fault>
     ensures { IsAnswered O.contents (request.Profile traced.entry by.entry)
-        (F.held files.old) (F.held files.new) out.old out.new result }
+        (F.held files.now) (F.held files.now) out.old out.new result }
 {
     let (image, entries) = load_traced(alloc, traced, files)?;
     profile_entries(alloc, image, traced.config, &entries, by, out)

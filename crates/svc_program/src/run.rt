@@ -1,10 +1,9 @@
 //! How `run` runs an image.
 
-ghost use Rattle.std.specs.Prelude.{◌≡◌, ◌⊎◌, IfOk, IfErr, IfSome, option_map};
+ghost use Rattle.std.specs.Prelude.{IfOk, IfErr, option_map};
 ghost use Rattle.svc_request.specs.declared.request.Request.TheVariants as request;
-ghost use Rattle.svc_request.specs.Faults.{IsOutputFault, IsRunFault};
-ghost use Rattle.svc_request.specs.Held.{KeepsAllBut};
-ghost use Rattle.svc_program.specs.Requests.{IsAnswered, IsLate, SavesTrace};
+ghost use Rattle.svc_request.specs.Faults.{IsRunFault};
+ghost use Rattle.svc_program.specs.Requests.{IsAnswered, IsQuiet, SavesAlone, SavesAnyTrace};
 ghost use Rattle.svc_program.specs.Runs.{GoesBy, IsRunOf, IsScheduledBy, ReportsRun};
 
 use crate::load::{load_image, save_trace};
@@ -30,7 +29,7 @@ impl Gate for OpenGate {
     }
 }
 
-/// Runs an image, saves the trace where a file is named for it, and prints the summary.
+/// Runs an image, saves the trace if a file is named for it, and prints the summary.
 pub fn run<R: Threads + Wait + Sync, F: Files, O: Write>(
     rt: &R,
     alloc: Global,
@@ -46,7 +45,7 @@ pub fn run<R: Threads + Wait + Sync, F: Files, O: Write>(
     report_run(alloc, &recorder, run.trace, run.row, files, out)
 }
 
-// Saves the trace of what was recorded, where a file is named for it, and prints its summary.
+// Saves the trace of what was recorded, if a file is named for it, and prints its summary.
 fn report_run<F: Files, O: Write>(
     alloc: Global,
     recorder: &Recorder,
@@ -55,20 +54,18 @@ fn report_run<F: Files, O: Write>(
     files: &mut F,
     out: &mut O,
 ) -> Result<u8, Fault>
-    ensures saved { IfOk result (λ _. IfSome trace.entry
-        (λ name. SavesTrace (F.held files.new) name.now recorder.now.entries)) }
+    ensures saved { IfOk result (λ _. SavesAnyTrace (F.held files.new) trace.entry recorder.now.entries) }
     ensures report { IfOk result (ReportsRun row.entry recorder.now (O.contents out.old) (O.contents out.new)) }
-    ensures silent { IfErr result (λ fault. IsOutputFault fault ⊎ (out.new ≡ out.old)) }
-    ensures kept { KeepsAllBut (option_map (λ name. name.now) trace.entry) (F.held files.old) (F.held files.new) }
-    ensures spared { IfErr result (λ fault. IsLate fault ⊎ (F.held files.new ≡ F.held files.old)) }
+    ensures silent { IfErr result (IsQuiet out.old out.new) }
+    ensures alone { SavesAlone (option_map (λ name. name.now) trace.entry) (F.held files.old) (F.held files.new) result }
 {
     save_trace(alloc, recorder.entries(), trace, files)?;
     print_run(alloc, recorder, row, out)
 }
 
-// Runs the image on all units of the configuration, by the schedule if there is one, otherwise
-// each in a thread of its own, until the run has stopped or has used up its events or its turns:
-// those of the threads, or the steps of the schedule.
+// Runs the image on all units of the configuration, by the schedule if there is one, otherwise each in a thread of its
+// own, until the run has stopped or has used up its events or its turns: those of the threads, or the steps of the
+// schedule.
 fn run_image<R: Threads + Wait + Sync>(
     rt: &R,
     alloc: Global,

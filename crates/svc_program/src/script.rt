@@ -1,18 +1,18 @@
 //! `script`: the events of a script, one after another.
 
-ghost use Rattle.std.specs.Prelude.{ℕ, List, Option, ◌≡◌, ◌⊎◌, ◌<◌, length, replicate, slice_set, None, Some, IfOk, IfErr, OnOk, MatchResult};
+ghost use Rattle.std.specs.Prelude.{◌≡◌, ◌<◌, length, option_map, replicate, slice_set, None, Some, IfOk, IfErr, OnOk};
 ghost use Rattle.std.specs.Io.KnownBytes.{Appends};
 ghost use Rattle.svc_base.specs.declared.refusal.Refusal.TheVariants as refusal;
 ghost use Rattle.svc_machine.specs.Events.{event_of};
 ghost use Rattle.svc_machine.specs.Reads.{lease_of};
 ghost use Rattle.svc_history.specs.Recorded.{IsLegal};
 ghost use Rattle.svc_request.specs.declared.request.Request.TheVariants as request;
-ghost use Rattle.svc_program.specs.Requests.{IsAnswered};
-ghost use Rattle.svc_program.specs.Runs.{ReportsOn};
-ghost use Rattle.svc_request.specs.Faults.{IsOutputFault, IsRunFault};
-ghost use Rattle.svc_program.specs.Scripts.{DoesKind, Gives, HasBurst, HasPlayed, PlaysScript, Submits, Takes, Tries, answer_row, kept_for};
+ghost use Rattle.svc_program.specs.Requests.{IsAnswered, IsQuiet, SavesAlone, SavesAnyTrace, SavesTrace};
+ghost use Rattle.svc_request.specs.Faults.{IsOutputFault};
+ghost use Rattle.svc_program.specs.Scripts.{DoesKind, Gives, HasBurst, HasPlayed, HasPlayedAll, PlaysScript, Submits, Takes, Tries, answer_row, kept_for};
 
-use crate::load::{load_image, load_script};
+use crate::load::{load_image, load_script, save_trace};
+use crate::output::print_text;
 use crate::summary::print_recorded;
 use std::alloc::Global;
 use std::io::Write;
@@ -20,7 +20,7 @@ use svc_base::{Config, OpenError, Refusal, UnitId};
 use svc_core::Burst;
 use svc_history::{Entry, Event, Recorder};
 use svc_image::Image;
-use svc_report::{Step, StepKind, write_entry};
+use svc_report::{ReportError, Step, StepKind, write_entry};
 use svc_request::{Fault, Files, Scripted};
 
 /// The outcome of a step of a script.
@@ -39,7 +39,8 @@ pub enum Answer {
 /// The bursts that are kept, by unit.
 type Kept = Vec<Option<Burst>>;
 
-/// Does the steps of a script, and prints a line for each, and then the summary.
+/// Does the steps of a script, and prints a line for each, and then the summary. Where a file is named for it, the trace
+/// is saved before anything is printed.
 pub fn script<F: Files, O: Write>(
     alloc: Global,
     scripted: Scripted<'_>,
@@ -51,23 +52,59 @@ pub fn script<F: Files, O: Write>(
 {
     let image = load_image(alloc, scripted.image, files)?;
     let steps = load_script(alloc, scripted.events, files)?;
-    play_script(alloc, image, scripted.config, &steps, out)
+    play_script(alloc, image, scripted, &steps, files, out)
 }
 
-// Does the steps from before any event, and prints a line for each, and then the summary.
-fn play_script<O: Write>(
+// Does the steps from before any event.
+fn play_script<F: Files, O: Write>(
     alloc: Global,
     image: Image,
-    config: Config,
+    scripted: Scripted<'_>,
     steps: &[Step],
+    files: &mut F,
     out: &mut O,
 ) -> Result<u8, Fault>
-    ensures script { IfOk result (PlaysScript image config steps.now (O.contents out.old) (O.contents out.new)) }
-    ensures silent { IfErr result (λ fault. IsOutputFault fault ⊎ (IsRunFault fault × (out.new ≡ out.old))) }
+    ensures script { IfOk result (PlaysScript image scripted.entry.config steps.now
+        (SavesAnyTrace (F.held files.new) scripted.entry.trace) (O.contents out.old) (O.contents out.new)) }
+    ensures silent { IfErr result (IsQuiet out.old out.new) }
+    ensures alone { SavesAlone (option_map (λ name. name.now) scripted.entry.trace)
+        (F.held files.old) (F.held files.new) result }
 {
+    let config = scripted.config;
     let mut recorder = Recorder::open(alloc, image, config)?;
     let mut kept = no_bursts(alloc, config.units)?;
-    play_all(alloc, &mut recorder, &mut kept, steps, out)
+    match scripted.trace {
+        None => play_all(alloc, &mut recorder, &mut kept, steps, out),
+        Some(trace) => play_saved(alloc, &mut recorder, &mut kept, steps, trace, files, out),
+    }
+}
+
+// Does all the steps, saves the trace, and then prints a line for each step, and the summary.
+fn play_saved<F: Files, O: Write>(
+    alloc: Global,
+    recorder: &mut Recorder,
+    kept: &mut Kept,
+    steps: &[Step],
+    trace: &str,
+    files: &mut F,
+    out: &mut O,
+) -> Result<u8, Fault>
+    ensures start { IsLegal recorder.old }
+    ensures last { OnOk result (IsLegal recorder.new) }
+    ensures played { IfOk result (HasPlayedAll steps.now recorder.old kept.old.items recorder.new kept.new.items
+        (O.contents out.old) (O.contents out.new)) }
+    ensures saved { OnOk result (SavesTrace (F.held files.new) trace.now recorder.new.entries) }
+    ensures silent { IfErr result (IsQuiet out.old out.new) }
+    ensures alone { SavesAlone (Some trace.now) (F.held files.old) (F.held files.new) result }
+{
+    let mut text = Vec::new(alloc);
+    // A vector refuses what is written to it for want of memory alone.
+    let Ok(status) = play_all(alloc, recorder, kept, steps, &mut text) else {
+        return Err(Fault::Report(ReportError::Memory));
+    };
+    save_trace(alloc, recorder.entries(), Some(trace), files)?;
+    print_text(&text, out)?;
+    Ok(status)
 }
 
 // Does all the steps, and prints a line for each, and then the summary.
@@ -80,9 +117,8 @@ fn play_all<O: Write>(
 ) -> Result<u8, Fault>
     ensures start { IsLegal recorder.old }
     ensures last { OnOk result (IsLegal recorder.new) }
-    ensures played { IfOk result (λ exit. (between : Option (List ℕ))
-        × HasPlayed steps.now (length steps.now) recorder.old kept.old.items recorder.new kept.new.items
-        (O.contents out.old) between × ReportsOn recorder.new between (O.contents out.new) exit) }
+    ensures played { IfOk result (HasPlayedAll steps.now recorder.old kept.old.items recorder.new kept.new.items
+        (O.contents out.old) (O.contents out.new)) }
     ensures fault { IfErr result IsOutputFault }
 {
     let _start = recorder.entries();
@@ -195,7 +231,7 @@ fn take(recorder: &Recorder, kept: &mut Kept, unit: UnitId, turns: u32) -> Answe
     Answer::Taken { local, ask }
 }
 
-// Submits the burst that is kept for the unit, which is then no longer kept.
+// Submits the burst kept for the unit, which is then no longer kept.
 fn give(recorder: &mut Recorder, kept: &mut Kept, unit: UnitId) -> Answer
     ensures gives { Gives (kept_for kept.old.items unit) recorder.old result recorder.new }
     ensures kept { kept.new.items ≡ slice_set kept.old.items unit.0 None }

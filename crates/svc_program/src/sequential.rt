@@ -1,10 +1,9 @@
 //! `seq`: tasks of an image, one after another.
 
-ghost use Rattle.std.specs.Prelude.{◌≡◌, ◌⊎◌, false, None, IfOk, IfErr};
+ghost use Rattle.std.specs.Prelude.{false, None, IfOk, IfErr};
 ghost use Rattle.svc_plain.specs.Tasks.{tasks_run};
 ghost use Rattle.svc_request.specs.declared.request.Request.TheVariants as request;
-ghost use Rattle.svc_request.specs.Faults.{IsReportFault};
-ghost use Rattle.svc_program.specs.Requests.{IsAnswered};
+ghost use Rattle.svc_program.specs.Requests.{IsAnswered, IsQuiet};
 ghost use Rattle.svc_program.specs.Runs.{Reports};
 
 use crate::load::load_image;
@@ -19,11 +18,11 @@ use svc_request::{Fault, Files, Tasks};
 pub fn sequential<F: Files, O: Write>(
     alloc: Global,
     tasks: Tasks<'_>,
-    files: &mut F,
+    files: &F,
     out: &mut O,
 ) -> Result<u8, Fault>
     ensures { IsAnswered O.contents (request.Sequential tasks.entry)
-        (F.held files.old) (F.held files.new) out.old out.new result }
+        (F.held files.now) (F.held files.now) out.old out.new result }
 {
     let image = load_image(alloc, tasks.image, files)?;
     run_in_order(alloc, &image, tasks.most, out)
@@ -33,7 +32,7 @@ pub fn sequential<F: Files, O: Write>(
 fn run_in_order<O: Write>(alloc: Global, image: &Image, most: u32, out: &mut O) -> Result<u8, Fault>
     ensures report { IfOk result (Reports image.now most (tasks_run image.now most) false None (O.contents out.old)
         (O.contents out.new)) }
-    ensures silent { IfErr result (λ fault. IsReportFault fault ⊎ (out.new ≡ out.old)) }
+    ensures silent { IfErr result (IsQuiet out.old out.new) }
 {
     let outcome = run_tasks(alloc, image, u64::from(most))?;
     print(

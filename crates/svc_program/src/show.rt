@@ -24,11 +24,11 @@ pub fn show<F: Files, O: Write>(
     alloc: Global,
     traced: Traced<'_>,
     at: Option<u64>,
-    files: &mut F,
+    files: &F,
     out: &mut O,
 ) -> Result<u8, Fault>
     ensures { IsAnswered O.contents (request.Show traced.entry at)
-        (F.held files.old) (F.held files.new) out.old out.new result }
+        (F.held files.now) (F.held files.now) out.old out.new result }
 {
     let (image, entries) = load_traced(alloc, traced, files)?;
     show_entries(alloc, image, traced.config, &entries, at, out)
@@ -54,8 +54,8 @@ fn show_entries<O: Write>(
     Ok(0)
 }
 
-// The text of the machine after the first so many of the entries, or after all. One replay does: the text is gathered on
-// the way, and the entries past it are checked before a word of it is printed.
+// The text of the machine after the first entries, this many or all. One replay does it: the text is gathered on the
+// way, and the entries after it are checked before any of it is printed.
 fn text_at(
     alloc: Global,
     image: Image,
@@ -73,7 +73,7 @@ fn text_at(
     text_on(alloc, &mut recorder, entries, at)
 }
 
-// The same by a recorder of the image and the configuration, before any event.
+// The same with a recorder of the image and the configuration, before any event.
 fn text_on(
     alloc: Global,
     recorder: &mut Recorder,
@@ -93,7 +93,7 @@ fn text_on(
     check_on(recorder, entries, shown_count(entries, at))?;
     let text = show_text(alloc, recorder)?;
     check_on(recorder, entries, entries.len())?;
-    // what the type keeps: its history is legal
+    // what the type guarantees: its history is legal
     let _legal = recorder.entries();
     if is_past_the_end(entries, at) {
         return Err(Fault::File);
@@ -101,7 +101,7 @@ fn text_on(
     Ok(text)
 }
 
-// How many of the entries lead to the machine that is shown: so many, as far as there are any.
+// How many of the entries lead to the machine that is shown: this many, as far as there are any.
 fn shown_count(entries: &[Entry], at: Option<u64>) -> usize
     ensures { result ≡ min (unwrap_or at (length entries.now)) (length entries.now) }
 {

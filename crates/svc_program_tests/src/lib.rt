@@ -1,5 +1,5 @@
-//! Tests of what the program stands on above the machine, by what these crates make public: units on real threads, and the
-//! texts that are read and written.
+//! Tests of what the program is built on above the machine, by what these crates make public: units on real threads,
+//! and the texts that are read and written.
 
 #![tactic(auto)]
 

@@ -1,11 +1,11 @@
--- How far a text is read: no record is read further than so many bytes.
+-- How far a text is read: no record is read past this many bytes.
 use Rattle.std.specs.Prelude.{ℕ, List, [], ◌∷◌, ◌+◌, Bool, true, false, nat_lt, if◌then◌else◌}
 use Rattle.csv.specs.Machine.{step}
 use Rattle.csv.specs.Reading.{default_config, strip_bom}
 use Rattle.csv.specs.declared.parser.State.{State}
 use Rattle.csv.specs.declared.parser.State.TheVariants as st
 
--- the most bytes of a record that are read, its line end not counted
+-- the most bytes of a record that are read, not counting its line end
 abbrev pub most_bytes : ℕ
 most_bytes = 4096
 
@@ -15,8 +15,8 @@ is_between st.StartRecord = true
 is_between st.AfterCr = true
 is_between _ = false
 
--- what is read of a text from here on, where the record at hand has so many bytes before: all of it, or what comes before the first byte
--- too many of a record
+-- what is read of a text from here on, if the record at hand has had this many bytes: all of it, or what comes before
+-- the first byte too many of a record
 unfoldable pub readable_from : State → ℕ → List ℕ → List ℕ
 readable_from s size [] = []
 readable_from s size (b ∷ rest) =

@@ -6,7 +6,7 @@ use Rattle.svc_record_limit.specs.declared.limited.Limited.{Limited}
 use Rattle.svc_record_limit.specs.declared.place.Place.{Place}
 use Rattle.svc_record_limit.specs.declared.place.Place.TheVariants as place
 
--- after a byte that stands outside of quotes and opens none
+-- after a byte that stands outside quotes and opens none
 abbrev pub plain_after : ℕ → Place
 plain_after b = if b == 44 then place.Field else if (b == 13) || (b == 10) then place.Between else place.Plain
 
@@ -25,7 +25,7 @@ place_after place.Plain b = plain_after b
 place_after place.Quoted b = if b == 34 then place.Quote else place.Quoted
 place_after place.Quote b = if b == 34 then place.Quoted else plain_after b
 
--- the place is outside of all records
+-- the place is outside all records
 abbrev pub is_outside : Place → Bool
 is_outside place.Between = true
 is_outside _ = false
@@ -37,7 +37,7 @@ gauge_after g b =
     else if nat_lt g.size most_bytes then Some (record { place = place_after g.place b; size = g.size + 1 })
     else None
 
--- what is read of a text from this place on, where the record there has so many bytes before
+-- what is read of a text from this place on, if the record there has had this many bytes
 unfoldable pub passed_from : Place → ℕ → List ℕ → List ℕ
 passed_from p size [] = []
 passed_from p size (b ∷ rest) =
@@ -45,11 +45,11 @@ passed_from p size (b ∷ rest) =
     else if nat_lt size most_bytes then b ∷ passed_from (place_after p b) (size + 1) rest
     else []
 
--- the same, by a gauge; or nothing, where the text is read no further
+-- the same, by a gauge; nothing once the text is read no further
 abbrev pub passed : Option Gauge → List ℕ → List ℕ
 passed None text = []
 passed (Some g) text = passed_from g.place g.size text
 
--- the bytes that a limited reader will give, where those of the reader underneath are known
+-- the bytes that a limited reader will give, as far as those of the reader below are known
 abbrev pub known_through : {R : Type 0} → (R → Option (List ℕ)) → Limited R → Option (List ℕ)
 known_through rem l = option_map (passed l.gauge) (rem l.reader)

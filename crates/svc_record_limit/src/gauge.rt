@@ -41,7 +41,7 @@ impl Gauge {
         true
     }
 
-    // Goes past as many of these bytes as may be read, and says how many that is.
+    // Goes past as many of these bytes as may be read, and says how many those are.
     pub(crate) fn pass_all(&mut self, bytes: &[u8]) -> usize
         ensures count { result ≤ length bytes.now }
         ensures passes { (rest : List ℕ) → passed (Some self.old) (bytes.now ++ rest)

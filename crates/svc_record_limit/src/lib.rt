@@ -1,7 +1,7 @@
 //! A reader that ends within the first record that is too long, so that a record without an end takes no unbounded
 //! memory.
 //!
-//! Where a record of a text ends is what RFC 4180 says of quotes, commas and line breaks, as the crate `csv` reads
+//! Where a record of a text ends follows RFC 4180's rules for quotes, commas and line breaks, as the crate `csv` reads
 //! them.
 #![tactic(auto)]
 

@@ -8,10 +8,10 @@ ghost use Rattle.svc_record_limit.specs.Places.{known_through};
 use crate::gauge::Gauge;
 use std::io::{Read, Result};
 
-/// A reader that ends within the first record that is too long, after 4,096 bytes of it, its line end not counted. It
-/// gives what comes before as it is, and at the text's start also a byte order mark.
+/// A reader that ends within the first record that is too long, after 4,096 bytes of it, not counting its line end. It
+/// gives what comes before unchanged, including a byte order mark at the text's start.
 ///
-/// A reader that fails is left where it was: the next read goes on there.
+/// A reader that fails stays where it was: the next read continues there.
 #[derive(Drop)]
 pub struct Limited<R> {
     reader: R,

@@ -19,7 +19,7 @@ pub(crate) enum Place {
     Plain,
     // Within quotes.
     Quoted,
-    // After a quote within quotes: it ends them or, together with the next one, stands for a quote.
+    // After a quote within quotes: it ends them or, with another one after it, stands for a quote.
     Quote,
 }
 

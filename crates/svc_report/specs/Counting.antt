@@ -1,4 +1,4 @@
--- The counts of a history with one entry more.
+-- The counts of a history with one more entry.
 use Rattle.std.specs.Prelude.{ℕ, ◌+◌, ◌<◌, ◌^◌, Option, Bool, cond}
 use Rattle.svc_history_laws.specs.declared.entry.Kind.{Kind}
 use Rattle.svc_history_laws.specs.declared.entry.Kind.TheVariants as kind
@@ -10,11 +10,11 @@ use Rattle.svc_history_laws.specs.declared.entry.Entry.{Entry}
 use Rattle.svc_report.specs.declared.counts.Counts.{Counts}
 use Rattle.svc_report.specs.Summary.{is_kind, is_supplier, is_cause}
 
--- one where it holds, else none
+-- one if it holds, otherwise none
 abbrev pub one_where : Bool → ℕ
 one_where b = cond b 1 0
 
--- one entry of the kind more
+-- one more entry of the kind
 abbrev pub with_kind : Counts → Kind → Counts
 with_kind c k = record {
   assign = c.assign + one_where (is_kind kind.Assign k);
@@ -33,7 +33,7 @@ with_kind c k = record {
   cancelled = c.cancelled;
 }
 
--- one entry more that was served by the supplier, if there is one
+-- one more entry that the supplier served, if there is one
 abbrev pub with_supplier : Counts → Option ServedKind → Counts
 with_supplier c s = record {
   assign = c.assign;
@@ -52,7 +52,7 @@ with_supplier c s = record {
   cancelled = c.cancelled;
 }
 
--- one entry more that has the cause of a cut, if there is one
+-- one more entry with the cause of a cut, if there is one
 abbrev pub with_cause : Counts → Option CutKind → Counts
 with_cause c k = record {
   assign = c.assign;
@@ -71,11 +71,11 @@ with_cause c k = record {
   cancelled = c.cancelled + one_where (is_cause cause.Cancel k);
 }
 
--- one entry more
+-- one more entry
 abbrev pub with_entry : Counts → Entry → Counts
 with_entry c e = with_cause (with_supplier (with_kind c e.kind) e.served) e.cause
 
--- each count of a kind can be one more in its word
+-- the word of each count of a kind has room for one more
 pub record HaveRoomForKind (c : Counts) : Type 0 where
   pub assign : c.assign + 1 < 2 ^ 64
   pub submit : c.submit + 1 < 2 ^ 64
@@ -83,7 +83,7 @@ pub record HaveRoomForKind (c : Counts) : Type 0 where
   pub cancel : c.cancel + 1 < 2 ^ 64
   pub commit : c.commit + 1 < 2 ^ 64
 
--- each count of a supplier can be one more in its word
+-- the word of each count of a supplier has room for one more
 pub record HaveRoomForSupplier (c : Counts) : Type 0 where
   pub hit : c.hit + 1 < 2 ^ 64
   pub reuse : c.reuse + 1 < 2 ^ 64
@@ -92,7 +92,7 @@ pub record HaveRoomForSupplier (c : Counts) : Type 0 where
   pub committed : c.committed + 1 < 2 ^ 64
   pub memory : c.memory + 1 < 2 ^ 64
 
--- each count of a cause can be one more in its word
+-- the word of each count of a cause has room for one more
 pub record HaveRoomForCause (c : Counts) : Type 0 where
   pub violation : c.violation + 1 < 2 ^ 64
   pub guess : c.guess + 1 < 2 ^ 64

@@ -3,7 +3,7 @@ use Rattle.std.specs.Prelude.{ℕ, ◌≡◌}
 use Rattle.svc_report.specs.declared.error.ReportError.{ReportError}
 use Rattle.svc_report.specs.declared.error.ReportError.TheVariants as fault
 
--- the number by which a fault is told
+-- the number by which a fault is reported
 abbrev pub fault_number : ReportError → ℕ
 fault_number fault.Memory = 1
 fault_number fault.Write = 2

@@ -11,6 +11,7 @@ use Rattle.svc_history_laws.specs.declared.entry.ServedKind.TheVariants as serve
 use Rattle.svc_history_laws.specs.declared.entry.CutKind.{CutKind}
 use Rattle.svc_history_laws.specs.declared.entry.CutKind.TheVariants as cause
 
+-- the word for each kind, reply, supplier and cause
 abbrev pub kind_word : Kind → List ℕ
 kind_word kind.Assign = codes "assign"
 kind_word kind.Submit = codes "submit"
@@ -42,6 +43,7 @@ cause_word cause.Violation = codes "violation"
 cause_word cause.Guess = codes "guess"
 cause_word cause.Cancel = codes "cancel"
 
+-- 1 if a burst asks, otherwise 0
 abbrev pub ask_word : Bool → List ℕ
 ask_word true = codes "1"
 ask_word false = codes "0"
@@ -52,7 +54,7 @@ unit_text unit = decimal unit.0
 abbrev pub address_text : WordAddr → List ℕ
 address_text addr = decimal addr.0
 
--- the field of a value that may not apply: what doesn't apply is empty
+-- the field of a value that may not apply: empty if it doesn't
 abbrev pub optional : {A : Type 0} → (A → List ℕ) → Option A → List ℕ
 optional text None = []
 optional text (Some x) = text x
@@ -61,7 +63,8 @@ optional text (Some x) = text x
 abbrev pub is_padded : List ℕ → Bool
 is_padded field = (get_or field 0 0 == 43) || ((get_or field 0 0 == 48) && nat_lt 1 (length field))
 
--- what a field is read as: a value with P whose text it is, or none where no value with P has this text
+-- what a field is read as: a value with P whose text it is, or none if no value with P has this text. No second rule
+-- says what a field may look like.
 abbrev pub Reads : {A : Type 0} → (A → Type 0) → (A → List ℕ) → List ℕ → Option A → Type 0
 Reads {A} P text field None = (x : A) → P x → field ≢ text x
 Reads P text field (Some x) = P x × (field ≡ text x)

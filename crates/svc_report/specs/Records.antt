@@ -19,12 +19,12 @@ IsText text records = AreRecords default_config st.StartRecord (strip_bom text) 
 abbrev pub IsRead : List ℕ → List (List (List ℕ)) → Type 0
 IsRead text records = AreRecords default_config st.StartRecord (readable text) records
 
--- the first column in which the fields aren't these names, counted from 1; or 0 where their number is another one
+-- the first column in which the fields differ from these names, counted from 1; 0 if their number is wrong
 unfoldable pub FirstOther : List (List ℕ) → List (List ℕ) → ℕ → Type 0
 FirstOther fields names zero = length fields ≢ length names
 FirstOther fields names (suc k) = (length fields ≡ length names) × (take k fields ≡ take k names) × (get_or fields k [] ≢ get_or names k [])
 
--- the text has no record, which is told as row 1 and column 0, or its first one isn't these names
+-- the text has no record, which is reported as row 1 and column 0, or its first record isn't these names
 abbrev pub IsBadHeader : List ℕ → List (List ℕ) → ℕ → ℕ → Type 0
 IsBadHeader text names row column =
     (row ≡ 1) × ((IsRead text [] × (column ≡ 0)) ⊎ ((fields : List (List ℕ)) × BeginsWith text (fields ∷ []) × FirstOther fields names column))

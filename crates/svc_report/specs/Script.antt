@@ -19,6 +19,7 @@ word_text word.Commit = codes "commit"
 word_text word.Take = codes "take"
 word_text word.Give = codes "give"
 
+-- the word of a step's kind
 abbrev pub word_of : StepKind → StepWord
 word_of (kind.Assign guess) = word.Assign
 word_of (kind.Submit turns) = word.Submit
@@ -28,7 +29,7 @@ word_of kind.Commit = word.Commit
 word_of (kind.Take turns) = word.Take
 word_of kind.Give = word.Give
 
--- the number that a step has, if it has one
+-- the number of a step, if it has one
 abbrev pub arg_of : StepKind → Option ℕ
 arg_of (kind.Assign guess) = Some guess
 arg_of (kind.Submit turns) = Some turns
@@ -66,12 +67,14 @@ pub record HasStepRow (s : Step) : Type 0 where
   pub unit : s.unit.0 ≤ 255
   pub arg : IfSome (arg_of s.kind) (λ n. n < 2 ^ 32)
 
--- the first bad column of a record, counted from 1: some step has the columns before it, and none has this one too; or 0 where the number of fields is wrong
+-- the first bad column of a record, counted from 1: some step has the columns before it, and none has this one too; 0
+-- if the number of fields is wrong
 unfoldable pub FirstBadStep : List (List ℕ) → ℕ → Type 0
 FirstBadStep fields zero = length fields ≢ 3
 FirstBadStep fields (suc k) = (length fields ≡ 3) × ((s : Step) × HasStepRow s × (take k fields ≡ take k (step_columns s)))
     × ((s : Step) → HasStepRow s → take (suc k) fields ≢ take (suc k) (step_columns s))
 
--- a reading fails for memory or the reader, or names the first bad record of the text, where that is known, with its first bad column
+-- a reading fails for memory or the reader, or names the text's first bad record, if the text is known, with its first
+-- bad column
 abbrev pub IsScriptFault : Option (List ℕ) → ReportError → Type 0
 IsScriptFault known error = IsRowsFault script_header step_columns HasStepRow FirstBadStep known error

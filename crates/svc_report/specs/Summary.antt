@@ -12,6 +12,7 @@ use Rattle.svc_history_laws.specs.declared.entry.Entry.{Entry}
 use Rattle.svc_report.specs.declared.counts.Counts.{Counts}
 use Rattle.svc_report.specs.Lines.{line}
 
+-- the entry has this kind; this supplier; this cause
 abbrev pub is_kind : Kind → Kind → Bool
 is_kind kind.Assign kind.Assign = true
 is_kind kind.Submit kind.Submit = true
@@ -35,6 +36,7 @@ is_cause cause.Guess (Some cause.Guess) = true
 is_cause cause.Cancel (Some cause.Cancel) = true
 is_cause _ _ = false
 
+-- how many entries have the kind; the supplier; the cause
 abbrev pub count_of_kind : Kind → List Entry → ℕ
 count_of_kind k h = count_by (λ e. is_kind k e.kind) h
 
@@ -67,7 +69,7 @@ counts_of h = record {
 abbrev pub number_row : List ℕ → ℕ → List ℕ
 number_row name number = line (name ∷ decimal number ∷ [])
 
--- a row for each word put out, in order
+-- a row for each output word, in order
 abbrev pub output_rows : List ℕ → List ℕ
 output_rows output = flat_map (λ word. number_row (codes "out") word) output
 
@@ -108,11 +110,11 @@ number_rows [] numbers = []
 number_rows (name ∷ names) [] = []
 number_rows (name ∷ names) (number ∷ numbers) = number_row name number ++ number_rows names numbers
 
--- a row for each count, where they are given
+-- a row for each count, if they are given
 abbrev pub counts_rows : Option Counts → List ℕ
 counts_rows None = []
 counts_rows (Some c) = number_rows count_names (count_numbers c)
 
--- the words put out, the number of tasks, the ending, and the counts where they are given
+-- the output words, the number of tasks, the ending, and the counts if they are given
 abbrev pub summary_of : List ℕ → ℕ → Ending → Option Counts → List ℕ
 summary_of output tasks ending counts = output_rows output ++ (number_row (codes "tasks") tasks ++ (ending_row ending ++ counts_rows counts))

@@ -29,7 +29,8 @@ text_of h = line header ++ flat_map row_of h
 abbrev pub trace_records : List Entry → List (List (List ℕ))
 trace_records h = records_of header columns h
 
--- the numbers of an entry are in the ranges of their columns
+-- the numbers of an entry are in the ranges of their columns; here a number has no bound of its own, so the bounds of
+-- the types are listed too
 pub record HasRow (e : Entry) : Type 0 where
   pub unit : e.unit.0 ≤ 255
   pub arg : IfSome e.arg (λ n. n < 2 ^ 32)
@@ -44,15 +45,17 @@ pub record HasRow (e : Entry) : Type 0 where
 abbrev pub IsBadField : List ℕ → ℕ → Type 0
 IsBadField field k = (e : Entry) → HasRow e → field ≢ get_or (columns e) k []
 
--- the first bad column of a record, counted from 1: the columns before it are those of an entry, and no entry has its field there; or 0 where the number of fields is wrong
+-- the first bad column of a record, counted from 1: the columns before it are those of an entry, and no entry has its
+-- field there; 0 if the number of fields is wrong
 unfoldable pub FirstBad : List (List ℕ) → ℕ → Type 0
 FirstBad fields zero = length fields ≢ 13
 FirstBad fields (suc k) = (length fields ≡ 13) × ((e : Entry) × HasRow e × (take k fields ≡ take k (columns e))) × IsBadField (get_or fields k []) k
 
--- after the rows of some entries comes a record that is bad
+-- a bad record follows the rows of some entries
 abbrev pub IsBadEntry : List ℕ → ℕ → ℕ → Type 0
 IsBadEntry text row column = IsBadRow header columns HasRow FirstBad text row column
 
--- a reading fails for memory or the reader, or names the first bad record of the text, where that is known, with its first bad column
+-- a reading fails for memory or the reader, or names the text's first bad record, if the text is known, with its first
+-- bad column
 abbrev pub IsReadFault : Option (List ℕ) → ReportError → Type 0
 IsReadFault known error = IsRowsFault header columns HasRow FirstBad known error

@@ -40,7 +40,7 @@ pub struct Counts {
     pub cancelled: u64,
 }
 
-/// The names of the counts, in the order in which they are shown.
+/// The names of the counts, in the order in which they are printed.
 pub const COUNT_NAMES: [&str; 14] = [
     "kind-assign",
     "kind-submit",
@@ -70,7 +70,7 @@ impl Counts {
         counts
     }
 
-    /// The counts in the order in which they are shown.
+    /// The counts in the order in which they are printed.
     pub(crate) fn numbers(&self) -> [u64; 14]
         ensures { result ≡ count_numbers self.now }
     {

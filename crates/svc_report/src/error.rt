@@ -8,7 +8,7 @@ use std::alloc::{AllocError, AllocFailed};
 use std::io;
 use thiserror::Error;
 
-/// Why a text was not written or read. What was written until then is to be thrown away.
+/// Why a text was not written or read. What was written until then should be discarded.
 #[derive(Clone, Copy, Debug, PartialEq, Eq, Error)]
 pub enum ReportError {
     /// Memory ran out.
@@ -23,8 +23,7 @@ pub enum ReportError {
     /// The text has a bad record: the first one, and its first bad column.
     #[error("row {row} column {column}")]
     Row {
-        /// The record, counted from 1; the first has the names of the columns. A blank line is not
-        /// a record.
+        /// The record, counted from 1; the first has the names of the columns. A blank line is not a record.
         row: u64,
         /// The column, counted from 1; 0 if the number of fields is wrong, or if the text has no
         /// record.

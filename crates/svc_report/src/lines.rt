@@ -14,8 +14,7 @@ use std::marker::Model;
 use std::mem;
 use svc_text::{ENOUGH, write_text};
 
-/// Lines that are still to be written. They are gathered, as a new writer of `csv` for each would cost more than the
-/// line.
+/// Lines still to be written. They are gathered, since a new writer of `csv` for each would cost more than the line.
 #[derive(Drop)]
 pub(crate) struct Pending {
     alloc: Global,
@@ -34,8 +33,7 @@ impl Model for Pending {
     ghost invariant = { λ p. (writer_setup p.lines ≡ default_writer) × (fields_written p.lines ≡ 0) × (has_written p.lines ≡ false) };
 }
 
-// Starts again. (It is a function of its own because otherwise room for the new writer would be
-// made at each line.)
+// Starts again. (It is a function of its own because otherwise room for the new writer would be made at each line.)
 fn renew(lines: &mut Writer<Vec<u8>>, alloc: Global)
     ensures setup { writer_setup lines.new ≡ default_writer }
     ensures fields { fields_written lines.new ≡ 0 }

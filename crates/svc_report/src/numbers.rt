@@ -51,7 +51,7 @@ pub(crate) fn address_text(buffer: &mut Buffer, addr: Option<WordAddr>) -> &str
     }
 }
 
-// Whether a sign or a zero stands before other bytes: the parser takes both, and the text of a number has neither.
+// Whether a sign or a zero stands before other bytes: the parser accepts both, and the text of a number has neither.
 fn is_padded(field: &[u8]) -> bool
     ensures { result ≡ is_padded field.now }
 {

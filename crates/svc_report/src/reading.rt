@@ -1,4 +1,4 @@
-// Reads a text of a row for each item: what traces and scripts share.
+// How a text with a row for each item is read: what traces and scripts share.
 
 ghost use Rattle.std.specs.Prelude.{◌≡◌, ◌≤◌, ℕ, List, [], Option, length, map, option_map, IfOk, IfErr, IfSome, MatchResult};
 ghost use Rattle.std.specs.List.{AllByRecursion};
@@ -55,7 +55,7 @@ pub(crate) fn read_rows<T: Row, R: Read + Drop>(
     Ok(items)
 }
 
-// Puts the items of a text's rows into an empty list. What it fills is lent, so that no early end lets it go.
+// Puts the items of a text's rows into an empty list. The list is lent, so that no early return drops it.
 fn add_rows<T: Row, R: Read + Drop>(
     reader: &mut Reader<Limited<R>>,
     row: &mut ByteRecord,

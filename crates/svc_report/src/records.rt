@@ -15,9 +15,8 @@ use std::alloc::Global;
 use std::io::Read;
 use svc_record_limit::Limited;
 
-/// A reader of records with the usual settings, which reads no record further than the most bytes
-/// that one may have. A record may have any number of fields, since it is up to the caller to
-/// report one with a wrong number.
+/// A reader of records with the usual settings, which reads no record past the most bytes that one may have. A record
+/// may have any number of fields: it is up to the caller to report a wrong number.
 pub(crate) fn open<R: Read>(alloc: Global, reader: R) -> Reader<Limited<R>>
     ensures open { IsOpen result }
     ensures state { reader_state result ≡ st.StartRecord }
@@ -58,7 +57,7 @@ pub(crate) fn field(row: &ByteRecord, place: usize) -> &[u8]
     }
 }
 
-/// Compares a record with names, and returns the first column that has a different one.
+/// Compares a record with names, and returns the first column that differs.
 pub(crate) fn check_names(row: &ByteRecord, names: &[&[u8]]) -> Result<(), u8>
     requires { length names.now ≤ 100 }
     ensures { MatchResult result (λ _. fields_of row.now ≡ map (λ n. n.now) names.now)

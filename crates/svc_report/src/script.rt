@@ -57,8 +57,7 @@ enum StepWord {
 }
 
 impl StepWord {
-    // The kind with this word and number, if the word needs a number and there is one, or needs
-    // none and there is none.
+    // The kind with this word and number: the number is there exactly if the word needs one.
     fn with(self, arg: Option<u32>) -> Option<StepKind>
         ensures { result ≡ kind_with self arg }
     {

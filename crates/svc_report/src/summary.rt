@@ -14,7 +14,7 @@ use std::alloc::Global;
 use std::io::Write;
 use svc_core_laws::Ending;
 
-// Writes a row of a name and a number, by way of what is pending.
+// Writes a row of a name and a number, through the pending lines.
 fn write_number<W: Write>(
     pending: &mut Pending,
     name: &str,
@@ -103,7 +103,7 @@ fn write_numbers<W: Write>(
     Ok(())
 }
 
-// Writes the rows of a summary, by way of what is pending.
+// Writes the rows of a summary, through the pending lines.
 fn write_rows<W: Write>(
     pending: &mut Pending,
     output: &[u32],

@@ -26,7 +26,7 @@ fn names(alloc: Global) -> Result<Fields, AllocError>
     Ok(names)
 }
 
-// Writes the names of the columns, where they are asked for.
+// Writes the names of the columns, if they are asked for.
 fn write_names<W: Write>(alloc: Global, header: bool, w: &mut W) -> Result<(), ReportError>
     ensures ok { OnOk result (Appends (W.contents w.old) (W.contents w.new) (header_text header summary_names)) }
     ensures err { IfErr result IsWriteFault }
@@ -47,7 +47,7 @@ fn push_numbers(fields: &mut Fields, numbers: &[u64]) -> Result<(), AllocError>
     Ok(())
 }
 
-// Puts the fields of a summary where there are none.
+// Puts the fields of a summary into an empty row.
 fn push_fields(
     fields: &mut Fields,
     label: &str,
@@ -66,7 +66,7 @@ fn push_fields(
 }
 
 /// Writes the summary of a run as a row of a table: its label, how many tasks were committed, the word and the number
-/// of the ending, and the counts. The words put out aren't in it.
+/// of the ending, and the counts. The output words aren't in it.
 ///
 /// Errors: [`ReportError::Memory`], [`ReportError::Write`].
 pub fn write_summary_row<W: Write>(

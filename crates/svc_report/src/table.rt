@@ -1,4 +1,4 @@
-// Rows of tables, in which the results of many runs join.
+// Rows of tables, in which the results of many runs are joined.
 
 ghost use Rattle.std.specs.Prelude.{◌≡◌, ◌++◌, ◌∷◌, [], OnOk, IfErr, decimal, map};
 ghost use Rattle.std.specs.Io.KnownBytes.{Appends};

@@ -44,7 +44,7 @@ const HEADER: [&[u8]; 13] = [
 // The most local turns of a burst.
 const MOST_LOCAL: u8 = 63;
 
-// Writes the row of an entry, by way of what is pending.
+// Writes the row of an entry, through the pending lines.
 fn write_row<W: Write>(pending: &mut Pending, entry: &Entry, w: &mut W) -> Result<(), ReportError>
     ensures ok { OnOk result (Appends (append_known (W.contents w.old) pending.old)
         (append_known (W.contents w.new) pending.new) (row_of entry.now)) }
@@ -100,7 +100,7 @@ pub fn write_trace<W: Write>(alloc: Global, entries: &[Entry], w: &mut W) -> Res
     pending.write_all(w)
 }
 
-// Writes the names of the columns and the row of each entry, by way of what is pending.
+// Writes the names of the columns and the row of each entry, through the pending lines.
 fn write_rows<W: Write>(
     pending: &mut Pending,
     entries: &[Entry],

@@ -19,7 +19,7 @@ pub trait Word: Copy + 'static {
         ensures { result.now ≡ word self };
 }
 
-/// The word of a value that may not apply: nothing where it doesn't.
+/// The word of a value that may not apply: empty if it doesn't.
 pub(crate) fn text_or_none<W: Word>(value: Option<W>) -> &'static str
     ensures { result.now ≡ optional W.word value }
 {
@@ -41,7 +41,7 @@ pub(crate) fn named<W: Word>(field: &[u8]) -> Option<W>
     None
 }
 
-/// The one whose word this is, or none of them where the field is empty.
+/// The one whose word this is, or none if the field is empty.
 pub(crate) fn named_or_none<W: Word>(field: &[u8]) -> Option<Option<W>>
     ensures { Reads IsAny (optional W.word) field.now result }
 {
@@ -152,7 +152,7 @@ impl Word for CutKind {
     }
 }
 
-// Whether a burst ends in an ask.
+// Whether a burst ends with an ask.
 impl Word for bool {
     ghost word = { ask_word };
 

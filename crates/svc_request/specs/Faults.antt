@@ -17,25 +17,25 @@ trace_fault_number kind.Memory = 1
 trace_fault_number kind.Refused = 2
 trace_fault_number kind.Differs = 3
 
--- how a fault of a text is told: a bad record is one of a trace, since a script's is told as such
+-- how a fault of a text is reported: a bad record is taken as a trace's, since a script's is reported as such
 abbrev pub told_as : ReportError → Fault
 told_as error.Memory = fault.Report error.Memory
 told_as error.Write = fault.Report error.Write
 told_as error.Read = fault.Report error.Read
 told_as (error.Row row column) = fault.BadTrace row column
 
--- a text wasn't read or written
+-- a text couldn't be read or written
 abbrev pub IsReportFault : Fault → Type 0
 IsReportFault (fault.Report e) = ⊤
 IsReportFault _ = ⊥
 
--- a text wasn't read or written, or a line of the program's own wasn't printed
+-- a text couldn't be read or written, or a line of the program's own couldn't be printed
 abbrev pub IsOutputFault : Fault → Type 0
 IsOutputFault (fault.Report e) = ⊤
 IsOutputFault fault.Output = ⊤
 IsOutputFault _ = ⊥
 
--- the machine wasn't opened, or the unit threads gave no outcome
+-- the machine couldn't be opened, or the unit threads gave no outcome
 abbrev pub IsRunFault : Fault → Type 0
 IsRunFault (fault.Open e) = ⊤
 IsRunFault (fault.Run e) = ⊤

@@ -1,7 +1,7 @@
--- What files hold, where that is known.
+-- What files hold, as far as that is known.
 use Rattle.std.specs.Prelude.{◌≡◌, ◌≢◌, ℕ, List, Option, None, Some}
 
--- the bytes of the file of each name, where they are known
+-- the bytes of the file of each name, if they are known
 abbrev pub Held : Type 0
 Held = List ℕ → Option (List ℕ)
 
@@ -9,7 +9,7 @@ Held = List ℕ → Option (List ℕ)
 abbrev pub KeepsOthers : (held saved : Held) → (name : List ℕ) → Type 0
 KeepsOthers held saved name = (other : List ℕ) → other ≢ name → saved other ≡ held other
 
--- every file but that of the name, if there is one, holds what it held
+-- every file except that of the name, if there is one, holds what it held
 abbrev pub KeepsAllBut : (name : Option (List ℕ)) → (held saved : Held) → Type 0
 KeepsAllBut None held saved = saved ≡ held
 KeepsAllBut (Some name) held saved = KeepsOthers held saved name

@@ -10,7 +10,7 @@ abbrev pub IsNameOf : List ℕ → Source → Type 0
 IsNameOf name source.BuiltIn = ⊥
 IsNameOf name (source.File file) = file.now ≡ name
 
--- the image that a request is about, where it is about one that is there already
+-- the image that a request is about, if that is an existing one
 abbrev pub source_of : Request → Option Source
 source_of (request.Run run) = Some run.image
 source_of (request.Sequential tasks) = Some tasks.image
@@ -23,16 +23,18 @@ source_of (request.Draw traced picture) = Some traced.image
 source_of (request.List image) = Some image
 source_of _ = None
 
--- the name of the file that is to be written, if any is
+-- the name of the file to write, if there is one
 abbrev pub written_by : Request → Option (List ℕ)
 written_by (request.Run run) = option_map (λ name. name.now) run.trace
+written_by (request.Script scripted) = option_map (λ name. name.now) scripted.trace
 written_by (request.Draw traced picture) = Some picture.file.now
 written_by (request.Assemble assembly) = Some assembly.image.now
 written_by _ = None
 
--- the file that is to be written is one that is to be read
+-- the file to write is also one to read
 abbrev pub IsOverItself : Request → Type 0
 IsOverItself (request.Run run) = IsSomeAnd run.trace (λ name. IsNameOf name.now run.image)
+IsOverItself (request.Script scripted) = IsSomeAnd scripted.trace (λ name. (scripted.events.now ≡ name.now) ⊎ IsNameOf name.now scripted.image)
 IsOverItself (request.Draw traced picture) = (traced.trace.now ≡ picture.file.now) ⊎ IsNameOf picture.file.now traced.image
 IsOverItself (request.Assemble assembly) = assembly.text.now ≡ assembly.image.now
 IsOverItself _ = ⊥

@@ -149,8 +149,8 @@ impl<T: Drop> From<AllocFailed<T>> for Fault {
 // The exit status of a fault.
 const FAULT_STATUS: u8 = 1;
 
-/// Reports a fault in one line, or in the text that the parser of command lines gives. It returns
-/// the exit status. If writing to `err` fails, that is ignored: there is nowhere else to report it.
+/// Reports a fault in one line, or in the text of the command line's parser. It returns the exit status. A failure to
+/// write to `err` is ignored: there is nowhere else to report it.
 pub fn tell<E: io::Write>(fault: &Fault, err: &mut E) -> u8
     ensures { result ≡ 1 }
 {

@@ -9,22 +9,21 @@ use std::io::Read;
 #[derive(Clone, Copy)]
 pub struct FileFault;
 
-/// Files by their names: a disk, or a substitute for one in a test.
+/// Files by their names: a disk, or what stands for one in a test.
 pub trait Files {
-    // The bytes of the file of a name, where they are known.
+    // The bytes of the file of a name, if they are known.
     ghost held: { Self → List ℕ → Option (List ℕ) } = { λ _ _. None };
 
-    /// What gives the bytes of a file, from the first on.
+    /// A reader of a file's bytes, from the first on.
     type Reader: Read + Drop;
 
-    /// A reader of a file, which may have more bytes than there is memory for, or no end.
-    fn open(&mut self, name: &str) -> Result<Self::Reader, FileFault>
-        ensures bytes { IfOk result (λ reader. IfSome (held self.old name.now)
-            (λ known. Self.Reader.remaining reader ≡ Some known)) }
-        ensures kept { held self.new ≡ held self.old };
+    /// A reader of a file, which may have more bytes than memory holds, or no end.
+    fn open(&self, name: &str) -> Result<Self::Reader, FileFault>
+        ensures { IfOk result (λ reader. IfSome (held self.now name.now)
+            (λ known. Self.Reader.remaining reader ≡ Some known)) };
 
-    /// Makes these bytes the whole content of a file, which is created if there is none. Where that fails the file may hold
-    /// anything. Files of other names hold what they held.
+    /// Makes these bytes the whole content of a file, which is created if there is none. If that fails the file may
+    /// hold anything. Files of other names hold what they held.
     fn save(&mut self, name: &str, bytes: &[u8]) -> Result<(), FileFault>
         ensures saved { OnOk result (IfSome (held self.new name.now) (λ known. known ≡ bytes.now)) }
         ensures others { KeepsOthers (held self.old) (held self.new) name.now };

@@ -1,4 +1,4 @@
-// Files that would be written over ones that are read.
+// Files that would be written over files that are read.
 
 ghost use Rattle.std.specs.Prelude.{IsTrue};
 ghost use Rattle.svc_request.specs.Names.{IsNameOf, IsOverItself};
@@ -17,6 +17,12 @@ impl Request<'_> {
                 Some(trace) => is_source(run.image, trace, files),
                 None => false,
             },
+            Request::Script(scripted) => match scripted.trace {
+                Some(trace) => {
+                    files.is_same(scripted.events, trace) || is_source(scripted.image, trace, files)
+                }
+                None => false,
+            },
             Request::Draw(traced, picture) => {
                 files.is_same(traced.trace, picture.file)
                     || is_source(traced.image, picture.file, files)
@@ -27,7 +33,7 @@ impl Request<'_> {
     }
 }
 
-// Whether the file of this name is that of the image, as far as `files` can tell.
+// Whether the file of this name is the image's, as far as `files` can tell.
 fn is_source<F: Files>(image: Source<'_>, name: &str, files: &F) -> bool
     ensures { IsNameOf name.now image.entry → IsTrue result }
 {

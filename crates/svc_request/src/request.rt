@@ -13,7 +13,7 @@ pub const VERSION: &str = "0.1.0";
 /// Where the bytes of an image come from.
 #[derive(Clone, Copy)]
 pub enum Source<'a> {
-    /// The image that the program brings along.
+    /// The program's built-in image.
     BuiltIn,
     /// The file of this name.
     File(&'a str),
@@ -28,11 +28,11 @@ pub enum Order {
     Oldest,
     /// The idle ones first, and then those with tasks, the youngest task first.
     Youngest,
-    /// By number, from a unit that is drawn from this seed.
+    /// By number, from a unit that is drawn; the draws come from this seed.
     Random { seed: u32 },
 }
 
-/// How a run goes in one host thread.
+/// How a run in one host thread goes.
 #[derive(Clone, Copy)]
 pub struct Schedule {
     /// In which order the units are asked.
@@ -44,7 +44,7 @@ pub struct Schedule {
 }
 
 impl Schedule {
-    /// A schedule by these; none where the turns of a burst are not 1 to [`MAX_BURST_TURNS`].
+    /// The schedule of these; none if the turns of a burst are not 1 to [`MAX_BURST_TURNS`].
     pub fn new(order: Order, burst: u32) -> Option<Schedule>
         ensures given { IsSome result ↔ ((0 < burst) × (burst ≤ 63)) }
         ensures order { IfSome result (λ s. s.order ≡ order) }
@@ -66,7 +66,7 @@ pub enum Table<'a> {
     Units,
     /// A row for each word that was touched.
     Words,
-    /// The counts in all, as one row of a table of many traces.
+    /// All counts, as one row of a table of many traces.
     Row(TableRow<'a>),
 }
 
@@ -77,9 +77,9 @@ pub struct Run<'a> {
     pub config: Config,
     /// The order of its steps; without one each unit has a thread of its own.
     pub schedule: Option<Schedule>,
-    /// The file that its trace is saved in.
+    /// The file in which its trace is saved.
     pub trace: Option<&'a str>,
-    /// The row of a table that is printed in place of the summary.
+    /// The row of a table that is printed instead of the summary.
     pub row: Option<TableRow<'a>>,
 }
 
@@ -87,7 +87,7 @@ pub struct Run<'a> {
 #[derive(Clone, Copy)]
 pub struct Tasks<'a> {
     pub image: Source<'a>,
-    /// How many tasks are run at most.
+    /// How many tasks to run at most.
     pub most: u32,
 }
 
@@ -98,21 +98,25 @@ pub enum NeedsTable {
     Tasks,
     /// A row for each word that a task needs or writes.
     Words,
+    /// A row for each task and each other one that it needs.
+    Pairs,
+    /// A graph of these, for Graphviz.
+    Graph,
 }
 
 /// What the first tasks of an image need of one another.
 #[derive(Clone, Copy)]
 pub struct Depended<'a> {
     pub image: Source<'a>,
-    /// How many tasks are followed at most, 0 to [`MAX_TASKS`].
+    /// How many tasks to follow at most, 0 to [`MAX_TASKS`].
     pub most: u32,
-    /// The table that is printed in place of the totals.
+    /// The table that is printed instead of the totals.
     pub by: Option<NeedsTable>,
     pub ghost few: { most ≤ 1000000 },
 }
 
 impl<'a> Depended<'a> {
-    /// Of an image's first tasks by this table; none where more than [`MAX_TASKS`] are asked for.
+    /// The needs of an image's first tasks, by this table; none if more than [`MAX_TASKS`] are asked for.
     pub fn new(image: Source<'a>, most: u32, by: Option<NeedsTable>) -> Option<Depended<'a>>
         ensures given { IsSome result ↔ (most ≤ 1000000) }
         ensures image { IfSome result (λ it. it.image ≡ image.entry) }
@@ -133,6 +137,8 @@ pub struct Scripted<'a> {
     pub config: Config,
     /// The script's file.
     pub events: &'a str,
+    /// The file that the trace of what it led to is saved in.
+    pub trace: Option<&'a str>,
 }
 
 /// A trace of an image, which is replayed on a machine of a configuration.
@@ -147,7 +153,7 @@ pub struct Traced<'a> {
 /// A picture of a trace.
 #[derive(Clone, Copy)]
 pub struct Picture<'a> {
-    /// The file that it is saved in.
+    /// The file in which it is saved.
     pub file: &'a str,
     /// The first entry that it shows, counted from 0.
     pub from: u32,
@@ -160,7 +166,7 @@ pub struct Picture<'a> {
 pub struct Assembly<'a> {
     /// The text's file.
     pub text: &'a str,
-    /// The file that the image is saved in.
+    /// The file in which the image is saved.
     pub image: &'a str,
 }
 
@@ -171,17 +177,17 @@ pub enum Request<'a> {
     Help(String),
     /// To print the program's name and version.
     Version,
-    /// To run an image, to save the trace where a file is named for it, and to print the summary.
+    /// To run an image, to save the trace if a file is named for it, and to print the summary.
     Run(Run<'a>),
     /// To run tasks in order, and to print the summary.
     Sequential(Tasks<'a>),
-    /// To run tasks in order, and to print what they need of one another, in all or by a table.
+    /// To run tasks in order, and to print what they need of one another, in total or by a table.
     Depend(Depended<'a>),
     /// To do the events of a script, and to print a line for each, and the summary.
     Script(Scripted<'a>),
     /// To replay a trace, and to print whether it is sound.
     Check(Traced<'a>),
-    /// To replay a trace, and to print what its speculation cost, in all or by a table.
+    /// To replay a trace, and to print what its speculation cost, in total or by a table.
     Profile(Traced<'a>, Option<Table<'a>>),
     /// To replay a trace, and to print the machine after this many of its entries, or after all.
     Show(Traced<'a>, Option<u64>),
@@ -189,6 +195,6 @@ pub enum Request<'a> {
     Draw(Traced<'a>, Picture<'a>),
     /// To assemble a text, and to save its image.
     Assemble(Assembly<'a>),
-    /// To print an image as a text that is assembled to it.
+    /// To print an image as a text that assembles to it.
     List(Source<'a>),
 }

@@ -1,4 +1,4 @@
--- What a purge of a word takes out, what it writes back, and what it costs.
+-- What a purge of a word removes, what it writes back, and what it costs.
 use Rattle.std.specs.Prelude.{◌≡◌, ℕ, ◌+◌, ◌*◌, ◌<◌, ◌≤◌, ◌^◌, ◌==◌, Bool, true, false, cond, not, ◌&&◌, ◌||◌, Option, Some, None, List, length, get_or}
 use Rattle.svc_base.specs.declared.config.TheConstants.{MAX_WAYS}
 use Rattle.svc_base.specs.declared.ids.UnitId.{UnitId}
@@ -25,61 +25,61 @@ purged_line line = cond (is_committed_version line) None line
 abbrev pub line_after_purge : Option UnitId → (word u a : ℕ) → Option SeenLine → Option SeenLine
 line_after_purge keep word u a line = cond (a == word) (cond (keeps keep u) line (purged_line line)) line
 
--- the unit's line of the word is taken out
+-- the purge removes the unit's line of the word
 abbrev pub is_purged : List CacheValue → Option UnitId → (word u : ℕ) → Bool
 is_purged caches keep word u = is_committed_version (held_line caches u word) && not (keeps keep u)
 
--- how many lines are taken out
+-- how many lines it removes
 abbrev pub purges : List CacheValue → Option UnitId → (word : ℕ) → ℕ
 purges caches keep word = how_many (length caches) (is_purged caches keep word)
 
--- a committed line is dirty
+-- the committed line is dirty
 abbrev pub is_dirty_version : Version → Bool
 is_dirty_version version = is_dirty (bits_of version.line.bits)
 
--- it is to be taken out
+-- it is removed
 abbrev pub drops : Option UnitId → Version → Bool
 drops keep version = is_dirty_version version && not (keeps keep version.unit.0)
 
--- the unit has a committed version of the word, and it is older than none
+-- the unit has a committed version of the word, and none is newer
 abbrev pub is_newest : List CacheValue → (word u : ℕ) → Bool
 is_newest caches word u =
     is_committed_version (held_line caches u word)
     && all_below (length caches) (λ v. not (is_committed_version (held_line caches v word)) || not (is_older_line (length caches) (lines_in caches word) u v))
 
--- the line's value, 0 where there is none
+-- the line's value, 0 if there is none
 abbrev pub line_value : Option SeenLine → ℕ
 line_value None = 0
 line_value (Some line) = line.value
 
--- the value of the unit's line, else the word in memory
+-- the value of the unit's line, otherwise the word in memory
 abbrev pub value_of : List CacheValue → (memory : List ℕ) → (word : ℕ) → Option ℕ → ℕ
 value_of caches memory word None = get_or memory word 0
 value_of caches memory word (Some u) = line_value (held_line caches u word)
 
--- the committed value of the word: that of its newest committed version, else of the memory
+-- the committed value of the word: that of its newest committed version, otherwise that of the memory
 abbrev pub committed_in : List CacheValue → (memory : List ℕ) → ℕ → ℕ
 committed_in caches memory word = value_of caches memory word (least (length caches) (is_newest caches word))
 
--- the version at a place is dirty, and none of those between it and the end is
+-- the version at a place is dirty, and no later one is
 pub record IsNewestAt (versions : List Version) (count value place : ℕ) : Type 0 where
   pub within : place < count
   pub dirty : is_dirty_version (version_at versions place) ≡ true
   pub value_is : value ≡ (version_at versions place).line.value
   pub last : (later : ℕ) → place < later → later < count → is_dirty_version (version_at versions later) ≡ false
 
--- the value of the last dirty one of the first so many versions
+-- the value of the last dirty one among the first n versions
 abbrev pub IsNewest : List Version → (count : ℕ) → Option ℕ → Type 0
 IsNewest versions count None = (place : ℕ) → place < count → is_dirty_version (version_at versions place) ≡ false
 IsNewest versions count (Some value) = (place : ℕ) × IsNewestAt versions count value place
 
--- so many searches can be counted
+-- there is room to count this many searches
 pub record HasRoomFor (probes : Probes) (caches : List CacheValue) (count : ℕ) : Type 0 where
   pub searches : probes.searches + count < 2 ^ 32
   pub places : probes.places + MAX_WAYS * count < 2 ^ 32
   pub ways : (u : ℕ) → u < length caches → (cache_at caches u).ways ≤ MAX_WAYS
 
--- exactly so many searches were added, and each visited no more places than a set can have ways
+-- exactly this many searches were added, each visiting at most as many places as a set can have ways
 pub record CountsSearches (before after : Probes) (count : ℕ) : Type 0 where
   pub searches : after.searches ≡ before.searches + count
   pub places : after.places ≤ before.places + MAX_WAYS * count

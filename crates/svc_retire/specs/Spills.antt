@@ -20,11 +20,11 @@ is_listed (Spilled value) = true
 abbrev pub place_at : List Place → ℕ → Place
 place_at places word = get_or places word Unlisted
 
--- the word is among the first so many of the list
+-- the word is among the first n of the list
 abbrev pub is_among : List ℕ → (count word : ℕ) → Bool
 is_among words count word = any_below count (λ k. get_or words k 0 == word)
 
--- the first so many of the list are the words that are to be in it, each once
+-- the first n of the list are the words that belong in it, each once
 pub record IsListed (places : List Place) (words : List ℕ) (count : ℕ) : Type 0 where
   pub room : length words ≡ length places
   pub counted : count ≡ how_many (length places) (λ word. is_listed (place_at places word))

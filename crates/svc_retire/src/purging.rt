@@ -11,7 +11,7 @@ use svc_base::{UnitId, WordAddr};
 use svc_cache::{Cache, Probes};
 use svc_vol::{Version, VersionList};
 
-/// The value of the newest version among committed lines, of which the oldest is the first.
+/// The value of the newest version among committed lines; the oldest comes first.
 pub fn newest(committed: &[Version]) -> Option<u32>
     ensures { IsNewest committed.now (length committed.now) result }
 {
@@ -55,7 +55,7 @@ fn drop_version(
     }
 }
 
-// All of these that hold versions become invalid, except the one of the unit that keeps it.
+// All of these that hold versions become invalid, except that of the unit that keeps its line.
 fn drop_versions(
     caches: &mut [Cache],
     committed: &[Version],
@@ -74,9 +74,9 @@ fn drop_versions(
     }
 }
 
-/// The word is purged: of its committed lines that hold versions, the newest one's value goes to the
-/// backing memory, and all of them become invalid. The line of `keep` stays in its place, for a read or
-/// write of that unit that fills over it at once.
+/// Purges the word: of its committed lines that hold versions, the newest one's value goes to the backing memory, and
+/// all of them become invalid. The line of `keep` stays in its place, for a read or write of that unit that fills over
+/// it at once.
 ///
 /// `list` is the version list of the word. Each line that becomes invalid takes one search.
 pub fn purge(

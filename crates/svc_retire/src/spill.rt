@@ -43,7 +43,7 @@ impl Place {
         }
     }
 
-    // The place once its word was stored again.
+    // The place after its word was stored again.
     fn emptied(&self) -> Place
         ensures listed { is_listed result ≡ is_listed self.now }
         ensures empty { spilled result ≡ None }
@@ -143,7 +143,7 @@ impl Spill {
         self.places[place] = Place::Spilled(value);
     }
 
-    /// The head stored the word again, so the spilled version of it is no longer its version.
+    /// The head stored the word again: the spilled version is no longer its version.
     pub fn clear(&mut self, word: WordAddr)
         requires { word.0 < length self.old }
         ensures { self.new ≡ set self.old word.0 None }

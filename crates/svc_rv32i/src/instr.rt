@@ -10,8 +10,9 @@ pub struct Register {
     pub ghost in_range: { number < 2 ^ 5 },
 }
 
-/// The twelve bits of a short immediate, as an unsigned number: bits 11 to 0 of the immediate itself, or bits 12 to 1 of a branch's offset, whose bit 0 is always clear (RV32I, section 2.3 Immediate Encoding Variants).
-/// They are not sign-extended: whoever carries out the instruction does that.
+/// The twelve bits of a short immediate, as an unsigned number: bits 11 to 0 of the immediate itself, or bits 12 to 1
+/// of a branch's offset, whose bit 0 is always clear (RV32I, section 2.3 Immediate Encoding Variants). They are not
+/// sign-extended: whoever carries out the instruction does that.
 #[derive(Clone, Copy)]
 pub struct Short {
     /// 0 to 4,095.
@@ -19,8 +20,9 @@ pub struct Short {
     pub ghost in_range: { bits < 2 ^ 12 },
 }
 
-/// The twenty bits of a long immediate, as an unsigned number: bits 31 to 12 of an upper immediate, whose other bits are clear, or bits 20 to 1 of a jump's offset, whose bit 0 is always clear (RV32I, section 2.3 Immediate Encoding Variants).
-/// They are not sign-extended: whoever carries out the instruction does that.
+/// The twenty bits of a long immediate, as an unsigned number: bits 31 to 12 of an upper immediate, whose other bits
+/// are clear, or bits 20 to 1 of a jump's offset, whose bit 0 is always clear (RV32I, section 2.3 Immediate Encoding
+/// Variants). They are not sign-extended: whoever carries out the instruction does that.
 #[derive(Clone, Copy)]
 pub struct Long {
     /// 0 to 1,048,575.
@@ -28,7 +30,8 @@ pub struct Long {
     pub ghost in_range: { bits < 2 ^ 20 },
 }
 
-/// By how many bits an immediate shift shifts: the manual's shamt (RV32I, section 2.4.1 Integer Register-Immediate Instructions).
+/// By how many bits an immediate shift shifts: the manual's shamt (RV32I, section 2.4.1 Integer Register-Immediate
+/// Instructions).
 #[derive(Clone, Copy)]
 pub struct ShiftAmount {
     /// 0 to 31.
@@ -88,9 +91,9 @@ pub enum Operation {
     Sub,
     /// SLL: rs1 shifted left by the lowest five bits of rs2.
     ShiftLeft,
-    /// SLT: 1 where rs1 is less with sign, else 0.
+    /// SLT: 1 if rs1 is less with sign, otherwise 0.
     SetLess,
-    /// SLTU: 1 where rs1 is less without sign, else 0.
+    /// SLTU: 1 if rs1 is less without sign, otherwise 0.
     SetLessUnsigned,
     /// XOR: each bit where they differ.
     Xor,
@@ -104,14 +107,15 @@ pub enum Operation {
     And,
 }
 
-/// An operation on rs1 and a sign-extended short immediate (RV32I, section 2.4.1 Integer Register-Immediate Instructions).
+/// An operation on rs1 and a sign-extended short immediate (RV32I, section 2.4.1 Integer Register-Immediate
+/// Instructions).
 #[derive(Clone, Copy)]
 pub enum ImmediateOperation {
     /// ADDI: their sum, modulo 2^32.
     Add,
-    /// SLTI: 1 where rs1 is less with sign, else 0.
+    /// SLTI: 1 if rs1 is less with sign, otherwise 0.
     SetLess,
-    /// SLTIU: 1 where rs1 is less without sign, else 0.
+    /// SLTIU: 1 if rs1 is less without sign, otherwise 0.
     SetLessUnsigned,
     /// XORI: each bit where they differ.
     Xor,
@@ -134,7 +138,8 @@ pub enum ImmediateShift {
 
 /// An instruction of RV32I, by its format and its operation.
 ///
-/// The register rd receives the result, and rs1 and rs2 are read; imm holds the immediate's bits as they are numbered, without sign.
+/// The register rd receives the result, and rs1 and rs2 are read; imm holds the immediate's bits as they are numbered,
+/// without sign.
 #[derive(Clone, Copy)]
 pub enum Instr {
     /// LUI: rd receives the upper immediate (RV32I, section 2.4.1 Integer Register-Immediate Instructions).
@@ -142,30 +147,35 @@ pub enum Instr {
         rd: Register,
         imm: Long,
     },
-    /// AUIPC: rd receives the instruction's address plus the upper immediate (RV32I, section 2.4.1 Integer Register-Immediate Instructions).
+    /// AUIPC: rd receives the instruction's address plus the upper immediate (RV32I, section 2.4.1 Integer
+    /// Register-Immediate Instructions).
     Auipc {
         rd: Register,
         imm: Long,
     },
-    /// JAL: a jump by the offset; rd receives the address of the next instruction (RV32I, section 2.5.1 Unconditional Jumps).
+    /// JAL: a jump by the offset; rd receives the address of the next instruction (RV32I, section 2.5.1 Unconditional
+    /// Jumps).
     Jal {
         rd: Register,
         imm: Long,
     },
-    /// JALR: a jump to rs1 plus the immediate, with bit 0 cleared; rd receives the address of the next instruction (RV32I, section 2.5.1 Unconditional Jumps).
+    /// JALR: a jump to rs1 plus the immediate, with bit 0 cleared; rd receives the address of the next instruction
+    /// (RV32I, section 2.5.1 Unconditional Jumps).
     Jalr {
         rd: Register,
         rs1: Register,
         imm: Short,
     },
-    /// BEQ, BNE, BLT, BGE, BLTU and BGEU: a jump by the offset where the test holds (RV32I, section 2.5.2 Conditional Branches).
+    /// BEQ, BNE, BLT, BGE, BLTU and BGEU: a jump by the offset if the test holds (RV32I, section 2.5.2 Conditional
+    /// Branches).
     Branch {
         test: Comparison,
         rs1: Register,
         rs2: Register,
         imm: Short,
     },
-    /// LB, LH, LW, LBU and LHU: rd receives what memory holds at rs1 plus the immediate (RV32I, section 2.6 Load and Store Instructions).
+    /// LB, LH, LW, LBU and LHU: rd receives what memory holds at rs1 plus the immediate (RV32I, section 2.6 Load and
+    /// Store Instructions).
     Load {
         kind: LoadKind,
         rd: Register,
@@ -186,7 +196,8 @@ pub enum Instr {
         rs1: Register,
         imm: Short,
     },
-    /// SLLI, SRLI and SRAI; the amount stands in the field of rs2 (RV32I, section 2.4.1 Integer Register-Immediate Instructions).
+    /// SLLI, SRLI and SRAI; the amount stands in the field of rs2 (RV32I, section 2.4.1 Integer Register-Immediate
+    /// Instructions).
     ShiftImm {
         op: ImmediateShift,
         rd: Register,
@@ -200,7 +211,9 @@ pub enum Instr {
         rs1: Register,
         rs2: Register,
     },
-    /// FENCE, with FENCE.TSO and PAUSE among its encodings. Every rd, rs1 and imm is an instruction, since a base implementation ignores those fields or takes them as an ordinary fence (RV32I, section 2.7 Memory Ordering Instructions).
+    /// FENCE, with FENCE.TSO and PAUSE among its encodings. Every rd, rs1 and imm is an instruction, since a base
+    /// implementation ignores those fields or takes them as an ordinary fence (RV32I, section 2.7 Memory Ordering
+    /// Instructions).
     Fence {
         rd: Register,
         rs1: Register,

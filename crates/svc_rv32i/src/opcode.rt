@@ -1,4 +1,5 @@
-//! The major opcodes of the instructions, by their names in the base opcode map (The RISC-V Instruction Set Manual, Volume I, chapter "RV32/64G Instruction Set Listings").
+//! The major opcodes of the instructions, by their names in the base opcode map (The RISC-V Instruction Set Manual,
+//! Volume I, chapter "RV32/64G Instruction Set Listings").
 
 pub(crate) const LOAD: u8 = 0b0000011;
 

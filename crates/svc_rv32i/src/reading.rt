@@ -192,7 +192,8 @@ fn instr_at(f: Fields) -> Option<Instr>
     }
 }
 
-/// The instruction whose word it is; `None` for a word that is no instruction's, as of another extension or a reserved one.
+/// The instruction of a word; `None` for a word that is no instruction's, such as one of an extension or a reserved
+/// one.
 #[tactic(auto, unfolding(crate::specs::Meaning::meaning), using(crate::proofs::Exact::meaning_exact))]
 pub fn decode(word: u32) -> Option<Instr>
     ensures exact { (i : Instr) → (result ≡ Some i) ↔ (word_of i ≡ word) }

@@ -3,7 +3,7 @@
 use svc_base::{UnitId, WordAddr};
 use svc_history_laws::{CutKind, Entry, Kind, ReplyKind, ServedKind};
 
-// What an entry has where no field applies that only some have: that of a commit which unit 0 asks for.
+// The entry of a commit that unit 0 asks for: none of the fields that only some entries have applies.
 const COMMITTED: Entry = Entry {
     kind: Kind::Commit,
     unit: UnitId(0),
@@ -27,7 +27,7 @@ const ASSIGNED: Entry = Entry {
     ..COMMITTED
 };
 
-// The end of unit 0's task, by turns of its own.
+// Local turns that end unit 0's task.
 const RAN: Entry = Entry {
     kind: Kind::Submit,
     local: Some(2),
@@ -53,7 +53,7 @@ const STORED: Entry = Entry {
     ..LOADED
 };
 
-// The word that unit 0's task puts out.
+// The output of unit 0's task.
 const EMITTED: Entry = Entry {
     local: Some(1),
     ask: Some(true),

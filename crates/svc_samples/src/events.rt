@@ -1,6 +1,6 @@
 //! The ten events.
 
-/// An event: a submission is of a burst that the unit's task is taken on by then.
+/// An event; a submission's burst is what the unit's task is run on by then.
 #[derive(Clone, Copy)]
 pub enum Line {
     /// This unit is assigned a task, with a guess where it begins.
@@ -13,8 +13,8 @@ pub enum Line {
     Commit(u8),
 }
 
-/// The ten events after which both tasks of [`P`](crate::P) are committed: the second one loads too early, is squashed, and
-/// begins anew. A burst has up to 63 turns.
+/// The ten events after which both tasks of [`P`](crate::P) are committed: the second one loads too early, is squashed,
+/// and begins again. A burst has up to 63 turns.
 pub const TEN: [Line; 10] = [
     Line::Assign(0, 0),
     Line::Assign(1, 12),

@@ -1,8 +1,8 @@
-//! Small images, for tests and for cases. Each line holds, in order: the magic; the version and the number of
-//! entries; the counts of text and data words; the limit, which is the number of read-only words in version 2, and the
-//! start; two registers at a time, all 0; the last register; the entries; in version 2 their limits; one instruction per
-//! line; the two data words. The files p.svci, r.svci and p2.svci under images/ hold the same bytes: they were made from
-//! this table, and have to be made again if it changes.
+//! Small images, for tests and for cases. Each line holds, in order: the magic; the version and the number of entries;
+//! the counts of text and data words; the limit, which is the number of read-only words in version 2, and the start;
+//! two registers at a time, all 0; the last register; the entries; in version 2 their limits; one instruction per line;
+//! the two data words. The files p.svci, r.svci and p2.svci under images/ hold the same bytes: they were made from this
+//! table, and have to be made again if it changes.
 
 /// Two tasks, which begin at 0 and at 12. The first stores 5 into data word 0 (`lui x5, 0x100`,
 /// `addi x1, x0, 5`, `sw x1, 0(x5)`); the second loads that word (`lui x5, 0x100`, `lw x10, 0(x5)`),

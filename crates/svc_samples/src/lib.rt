@@ -1,4 +1,4 @@
-//! What tests and cases play on: sample images, and ten events of one of them, as values and as texts.
+//! What tests and cases use: sample images, and ten events of one of them, as values and as texts.
 #![tactic(auto)]
 
 mod entries;

@@ -15,7 +15,7 @@ use Rattle.svc_history.specs.Moves.{NextMove, move_of}
 use Rattle.svc_history.specs.Moves as move
 use Rattle.svc_history.specs.Recorded.{Recorded, standing_of}
 
--- the burst is what advancing the lease by at most so many turns makes
+-- the burst is what advancing the lease by at most `most` turns makes
 pub record IsBurstOf (img : Image) (most : ℕ) (lease : Lease) (b : Advance) : Type 0 where
   pub unit : b.unit ≡ lease.unit
   pub epoch : b.epoch ≡ lease.epoch
@@ -26,8 +26,8 @@ pub record IsBurstOf (img : Image) (most : ℕ) (lease : Lease) (b : Advance) : 
 abbrev pub RunsOnBy : (most : ℕ) → Recorded → UnitId → Advance → Type 0
 RunsOnBy most r unit b = (lease : Lease) × (move_of r.machine unit.0 ≡ move.RunOn lease) × IsBurstOf r.machine.image most lease b
 
--- a unit with a running task asks to submit its burst; and where that is refused as its cache has no room for the asked
--- word, to replace the line that is named
+-- a unit with a running task asks to submit its burst; if that is refused because its cache has no room for the asked
+-- word, it asks to replace the line that the refusal names
 abbrev pub SubmitsOrReplaces : (unit : ℕ) → Advance → Option Refusal → Event → Type 0
 SubmitsOrReplaces unit b why x =
     ((x ≡ Submit b) × ((addr : WordAddr) → why ≡ Some (SetFull addr) → ⊥)) ⊎ ((addr : WordAddr) × (why ≡ Some (SetFull addr)) × (x ≡ Replace unit addr.0))
@@ -40,7 +40,7 @@ Asks img config s most unit move.Commit x = x ≡ Commit unit
 Asks img config s most unit move.Wait x = ⊥
 Asks img config s most unit move.Ended x = ⊥
 
--- the event is the unit's move, where a burst has at most so many turns
+-- the event is the unit's move, with a burst of at most `most` turns
 pub record IsMove (most : ℕ) (r : Recorded) (unit : ℕ) (x : Event) : Type 0 where
   pub known : unit < r.machine.config.units
   pub asks : Asks r.machine.image r.machine.config (standing_of r) most unit (move_of r.machine unit) x

@@ -26,6 +26,7 @@ around first units = around_by first units units
 abbrev pub unit_in : Entry → UnitId
 unit_in e = e.unit
 
+-- the unit that moved last, if any
 abbrev pub moved_last : List Entry → Option UnitId
 moved_last es = option_map unit_in (slice_get es (length es - 1))
 
@@ -48,8 +49,8 @@ abbrev pub by_rank : (rank : ℕ → ℕ) → (n : ℕ) → List UnitId
 by_rank rank zero = []
 by_rank rank (suc n) = insert (by_rank rank n) (place_among (map (λ u. rank u.0) (by_rank rank n)) (rank n)) (record { 0 = n })
 
--- the rank of a unit's task: the greater its number of assignment, the younger it is. A unit without a task counts as
--- the youngest
+-- the rank of a unit's task: the greater the number of its assignment, the younger it is. A unit without a task counts
+-- as the youngest.
 abbrev pub rank_of : First → Option Lease → ℕ
 rank_of Older (Some lease) = lease.epoch
 rank_of Older None = 2 ^ 64 - 1

@@ -18,18 +18,18 @@ abbrev pub FirstMoves : (most : ℕ) → (old new : Recorded) → List UnitId �
 FirstMoves most old new [] = ⊥
 FirstMoves most old new (unit ∷ units) = IsMade most old new unit ⊎ (IsPassed most old unit × FirstMoves most old new units)
 
--- the units that a step asks, in order: those that are named, and then each of the 16 that there may be, by number
+-- the units that a step asks, in order: those named, and then each of the 16 that there may be, by number
 abbrev pub asked : (named : List UnitId) → List UnitId
 asked named = named ++ around 0 16
 
--- so many steps of a policy, which lead from one policy and history to others; before each the machine stands where the
--- history leads
+-- this many steps of a policy, which lead from one policy and history to others; before each the machine stands where
+-- the history leads
 abbrev pub Steps : {P : Type 0} → (Gives : P → Recorded → List UnitId → P → Type 0) → (most count : ℕ) → (old new : P) → (opened led : Recorded) → Type 0
 Steps Gives most zero old new opened led = (new ≡ old) × (led ≡ opened)
 Steps {P} Gives most (suc n) old new opened led =
     (before : P) × (there : Recorded) × (named : List UnitId) × Steps Gives most n old before opened there × IsLegal there × Gives before there named new × FirstMoves most there led (asked named)
 
--- how a machine's run has ended, as `Machine::ending` tells it
+-- how a machine's run has ended, as `Machine::ending` answers it
 abbrev pub ending_at : MachineValue → Ending
 ending_at m = ending_of (is_full m) (plain_seq m.image m.plain.commits).stopped (plain_seq m.image m.plain.commits).due
 

@@ -11,7 +11,7 @@ use svc_base::OpenError;
 use svc_core::{Burst, Core, Lease};
 use svc_image::Image;
 
-/// A burst for each unit that a machine may have, by number. At first it is one from where the program starts.
+/// A burst for each unit that a machine may have, by number. At first each is one from where the program starts.
 ///
 /// Errors: [`OpenError::Memory`].
 pub(crate) fn first_bursts(alloc: Global, image: &Image, most: u32) -> Result<Vec<Burst>, OpenError>
@@ -29,8 +29,8 @@ pub(crate) fn first_bursts(alloc: Global, image: &Image, most: u32) -> Result<Ve
     Ok(bursts)
 }
 
-/// Makes the burst of a lease in the place of another one. Where that one starts at the same lease it is the same: so a
-/// unit that waits, since the line that it would replace has to stay, takes its turns once.
+/// Makes the burst of a lease in the place of another one. If that one starts at the same lease it is kept, being the
+/// same. So a unit that waits because the line to replace has to stay takes its turns once.
 pub(crate) fn make_burst(burst: &mut Burst, lease: &Lease, image: &Image, most: u32)
     requires { IsAdvance image.now most burst.old }
     ensures { IsBurstOf image.now most lease.now burst.new }

@@ -1,5 +1,5 @@
 //! Scheduled runs: all units of a machine in one host thread, in an order that a policy gives, so that a run can be
-//! repeated; and each step of a run that has not ended makes exactly one accepted event.
+//! repeated. Each step of a run that has not ended makes exactly one accepted event.
 #![tactic(auto)]
 
 mod bursts;

@@ -16,20 +16,20 @@ use svc_history::Recorder;
 // The units in an order.
 type Order = ArrayVec<UnitId, 16>;
 
-/// The unit after the one that moved last is asked first, unit 0 at the start, and then the others by rising number,
+/// Asks the unit after the one that moved last first (unit 0 at the start), and then the others by rising number,
 /// around.
 #[derive(Drop)]
 pub struct Rotate;
 
-/// The units with tasks are asked first, the oldest task first, and then the idle ones by number.
+/// Asks the units with tasks first, the oldest task first, and then the idle ones by number.
 #[derive(Drop)]
 pub struct Oldest;
 
-/// The idle units are asked first, by number, and then those with tasks, the youngest task first.
+/// Asks the idle units first, by number, and then those with tasks, the youngest task first.
 #[derive(Drop)]
 pub struct Youngest;
 
-/// A unit that is drawn is asked first, and then the others by rising number, around. One is drawn a step.
+/// Asks a unit that is drawn first, and then the others by rising number, around. Each step draws one.
 #[derive(Drop)]
 pub struct Random {
     generator: Pcg32,
@@ -52,7 +52,7 @@ impl Random {
 pub enum First {
     // The older one's.
     Older,
-    // The younger one's; a unit without a task counts as one with the youngest.
+    // The younger one's; a unit without a task counts as having the youngest.
     Younger,
 }
 
@@ -135,7 +135,7 @@ fn around(first: u32, units: u32) -> Order
     order
 }
 
-// The remainder of a number that is below twice that of the units: a difference costs less than a division.
+// The remainder of a number that is below twice the number of units: a difference costs less than a division.
 fn wrapped(number: u32, units: u32) -> u32
     requires low { number < units + units }
     ensures around { result ≡ number % units }
@@ -148,7 +148,7 @@ fn wrapped(number: u32, units: u32) -> u32
     }
 }
 
-// All units by the ages of their tasks, and by number where these are the same.
+// All units by the ages of their tasks, and by number if these are the same.
 fn by_age(recorder: &Recorder, first: First) -> Order
     ensures { result.items ≡ by_age first recorder.now }
 {
@@ -166,7 +166,7 @@ fn by_age(recorder: &Recorder, first: First) -> Order
     order
 }
 
-// The rank of a unit's task: that of lower rank is asked first.
+// The rank of a unit's task: the lower rank is asked first.
 fn rank_of(first: First, lease: Option<&Lease>) -> u64
     ensures { result ≡ rank_of first (option_map (λ lent. lent.now) lease.entry) }
 {

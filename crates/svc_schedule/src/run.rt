@@ -16,7 +16,7 @@ use svc_image::Image;
 /// it leaves out by number, until one makes a move that is accepted. So each step makes exactly one event. A unit runs
 /// its task on by at most `burst` turns at a time, 1 to [`svc_core::MAX_BURST_TURNS`].
 ///
-/// No memory is taken after the opening.
+/// After the opening it takes no memory.
 ///
 /// Errors: [`OpenError::Memory`].
 pub fn run_schedule<P: Policy>(

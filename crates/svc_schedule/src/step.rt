@@ -34,7 +34,7 @@ pub const EVERY_UNIT: [UnitId; MAX_UNITS as usize] = [
     UnitId(15),
 ];
 
-/// One step of a run that has not ended: the named units are asked for their moves, and then each unit by number, until
+/// One step of a run that has not ended: it asks the named units for their moves, and then each unit by number, until
 /// one makes a move that is accepted. Some unit always does.
 pub(crate) fn take_step(recorder: &mut Recorder, bursts: &mut [Burst], named: &[UnitId], most: u32)
     requires some { 0 < most }
@@ -50,7 +50,7 @@ pub(crate) fn take_step(recorder: &mut Recorder, bursts: &mut [Burst], named: &[
     let _moved = ask_in_turn(recorder, bursts, &EVERY_UNIT, most);
 }
 
-// What the type of a recorder keeps.
+// What the type of a recorder guarantees.
 pub(crate) fn keeps(recorder: &Recorder)
     ensures legal { IsLegal recorder.now }
     ensures image { IsImage recorder.now.machine.image }
@@ -59,7 +59,7 @@ pub(crate) fn keeps(recorder: &Recorder)
     let _start = machine.image().start();
 }
 
-// The units are asked for their moves, until one makes a move that is accepted. Whether one did.
+// Asks the units for their moves, until one makes a move that is accepted. Answers whether one did.
 fn ask_in_turn(recorder: &mut Recorder, bursts: &mut [Burst], units: &[UnitId], most: u32) -> bool
     requires ready { AreReady recorder.old.machine.image most bursts.old }
     ensures moved { IsTrue result → FirstMoves most recorder.old recorder.new units.now }
@@ -74,7 +74,7 @@ fn ask_in_turn(recorder: &mut Recorder, bursts: &mut [Burst], units: &[UnitId], 
     false
 }
 
-// The unit asks for its move. Whether that was accepted.
+// Asks the unit for its move. Answers whether that was accepted.
 fn make_move(recorder: &mut Recorder, bursts: &mut [Burst], unit: UnitId, most: u32) -> bool
     requires ready { AreReady recorder.old.machine.image most bursts.old }
     ensures made { IsTrue result → IsMade most recorder.old recorder.new unit }
@@ -96,7 +96,7 @@ fn make_move(recorder: &mut Recorder, bursts: &mut [Burst], unit: UnitId, most: 
     }
 }
 
-// The unit runs its task on by its burst, or replaces a line in place of that where its cache has no room.
+// The unit runs its task on by its burst or, if its cache has no room for that, replaces a line.
 fn run_on(recorder: &mut Recorder, burst: &Burst, unit: UnitId) -> bool
     requires { unit.0 < recorder.old.machine.config.units }
     ensures made { IsTrue result → (most : ℕ) → RunsOnBy most recorder.old unit burst.now

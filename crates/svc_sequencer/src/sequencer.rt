@@ -19,10 +19,9 @@ use svc_image::Image;
 pub const CAPACITY: usize = 16;
 
 /// Keeps the due entry, the successor of the last committed task that began at each entry, and the entries of the
-/// active tasks, oldest first. With each of these goes its place in the table of entries, so that a guess needs no
-/// search.
+/// active tasks, oldest first, each with its place in the table of entries, so that a guess needs no search.
 ///
-/// Contracts see it as a guide, which is stated in terms of the plain machine.
+/// Contracts see it as a guide, stated in terms of the plain machine.
 #[derive(Drop)]
 pub struct Sequencer {
     entries: Vec<u32>,
@@ -84,7 +83,7 @@ fn stands_at(entries: &[u32], entry: u32, place: usize) -> bool
     }
 }
 
-// The successor of the entry with this place, or else the entry after it in the table.
+// The successor of the entry with this place, otherwise the entry after it in the table.
 fn following(entries: &[u32], successors: &[Option<u32>], entry: u32, place: usize) -> u32
     requires rising { IsStrictlyIncreasing entries.now }
     requires as_many { length successors.now ≡ length entries.now }
@@ -161,11 +160,10 @@ impl Sequencer {
         self.due
     }
 
-    /// The guess for the next task, a byte address, given how the youngest active task has ended,
-    /// if it has. With no task active it is the due entry. Otherwise it is the entry to which the
-    /// youngest handed on. If it hasn't, it is the successor of the last committed task that began
-    /// where the youngest did or, without one, the entry after that, in which the first follows the
-    /// last.
+    /// The guess for the next task, a byte address, given how the youngest active task has ended, if it has. With no
+    /// task active it is the due entry. Otherwise it is the entry to which the youngest handed on. If it hasn't, it is
+    /// the successor of the last committed task that began where the youngest did or, without one, the entry after
+    /// that, in which the first follows the last.
     pub fn predict(&self, ended: Option<End>) -> Option<u32>
         ensures { result ≡ guess_of ended self.now }
     {
@@ -181,9 +179,9 @@ impl Sequencer {
         }
     }
 
-    /// Whether the end of the task at a position, counted from the oldest, cuts the ones after it:
-    /// always at an exit or trap, and otherwise exactly when the next task began at an entry other
-    /// than the one to which it handed on. Without a next task there is nothing to cut.
+    /// Whether the end of the task at a position, counted from the oldest, cuts the ones after it: always at an exit or
+    /// trap, and otherwise exactly when the next task began at an entry other than the one to which it handed on.
+    /// Without a next task there is nothing to cut.
     pub fn settle(&self, position: usize, end: End) -> bool
         ensures { result ≡ cuts_next end (drop (suc position) self.now.active) }
     {
@@ -214,8 +212,8 @@ impl Sequencer {
         entry
     }
 
-    /// Removes the oldest task, which has this end: its successor becomes due, and is remembered.
-    /// After an exit or trap no task is due any more.
+    /// Removes the oldest task, which has this end. Its successor becomes due, and is remembered. After an exit or trap
+    /// no task is due any more.
     pub fn commit(&mut self, end: End)
         requires { 0 < length self.old.active }
         ensures { self.new ≡ guide_committed end self.old }
@@ -226,7 +224,7 @@ impl Sequencer {
         remember(&self.entries, &mut self.successors, head, self.due);
     }
 
-    /// Removes the task at a position, counted from the oldest, and all that are younger.
+    /// Removes the task at a position, counted from the oldest, and all younger ones.
     pub fn cut_from(&mut self, position: usize)
         ensures { self.new ≡ guide_cut position self.old }
     {

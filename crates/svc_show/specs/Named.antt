@@ -19,7 +19,7 @@ use Rattle.svc_show.specs.declared.cached.Versions.{Versions}
 use Rattle.svc_show.specs.declared.cached.Versions.TheVariants.{Absent, One, Several}
 use Rattle.svc_show.specs.Rows.{line_row, memory_row, spill_row}
 
--- the word is there, and is this one
+-- there is a word, and it is this one
 abbrev pub is_word : (word : ℕ) → Option WordAddr → Bool
 is_word word None = false
 is_word word (Some a) = word == a.0
@@ -46,7 +46,7 @@ are_some namers.Nobody = false
 are_some (namers.One one) = true
 are_some namers.Several = true
 
--- the marks with a unit more at a place, where there is one
+-- the marks with one more unit at a place, if there is one
 abbrev pub marked_over : Option Namers → (at : ℕ) → UnitId → List Namers → List Namers
 marked_over None at unit marks = marks
 marked_over (Some mark) at unit marks = slice_set marks at (and_unit mark unit)
@@ -62,7 +62,7 @@ marked_by (Some a) unit marks = marked_at a.0 unit marks
 abbrev pub marked : Entry → List Namers → List Namers
 marked e marks = marked_by e.addr e.unit marks
 
--- the marks of so many words: whoever names a word is among its namers
+-- the marks of n words: whoever names a word is among its namers
 pub record IsMarked (es : List Entry) (words : ℕ) (marks : List Namers) : Type 0 where
   pub size : length marks ≡ words
   pub told : (unit word : ℕ) → word < words → may_have unit (get_or marks word namers.Nobody) ≡ false → list_any (names unit word) es ≡ false
@@ -80,14 +80,14 @@ pub record AreNamed (es : List Entry) (words : ℕ) (named : List Named) : Type 
   pub marked : IsMarked es words marks
   pub named_is : named ≡ flat_map (named_at marks) (range_with_len 0 words)
 
--- among so many words, these have all that are in a line or spilled: a line is of a unit that names its word
+-- among n words, these have all that is in a line or spilled: a line is in a unit that names its word
 pub record IsHeldBy (b : BusState) (words : ℕ) (named : List Named) : Type 0 where
   pub marks : List Namers
   pub named_is : named ≡ flat_map (named_at marks) (range_with_len 0 words)
   pub lines : (unit word : ℕ) → word < words → may_have unit (get_or marks word namers.Nobody) ≡ false → b.lines unit word ≡ None
   pub spill : (word : ℕ) → word < words → are_some (get_or marks word namers.Nobody) ≡ false → b.spill word ≡ None
 
--- a named word is one of so many, and only a unit that names it has a line of it
+-- a named word is one of n, and only a unit that names it has a line of it
 pub record HasItsLines (b : BusState) (words : ℕ) (n : Named) : Type 0 where
   pub in_data : n.word.0 < words
   pub lines : (unit : ℕ) → may_have unit n.by ≡ false → b.lines unit n.word.0 ≡ None
@@ -100,6 +100,7 @@ line_named b n unit = cond (may_have unit n.by) (b.lines unit n.word.0) None
 abbrev pub named_line : BusState → (unit : ℕ) → Named → List ℕ
 named_line b unit n = optional (line_row unit n.word.0) (line_named b n unit)
 
+-- the rows of the lines of named words, by unit
 abbrev pub named_lines : (units : ℕ) → BusState → List Named → List ℕ
 named_lines units b named = flat_map (λ unit. flat_map (named_line b unit) named) (range_with_len 0 units)
 
@@ -124,10 +125,11 @@ and_version Several value = Several
 abbrev pub and_line : Versions → Option BusLine → Versions
 and_line vs line = cond (is_committed_dirty_line line) (and_version vs (value_of_line line)) vs
 
--- of so many units none has a version, or this one alone, with this value
+-- among n units none has a version, or only this one has, with this value
 abbrev pub NoneHas : BusState → Named → (units : ℕ) → Type 0
 NoneHas b n units = (u : ℕ) → u < units → is_named_version b n u ≡ false
 
+-- this unit alone has a version, with this value
 pub record OneHas (b : BusState) (n : Named) (units value : ℕ) : Type 0 where
   pub unit : ℕ
   pub inside : unit < units
@@ -135,6 +137,7 @@ pub record OneHas (b : BusState) (n : Named) (units value : ℕ) : Type 0 where
   pub value_is : value_of_line (line_named b n unit) ≡ value
   pub others : (u : ℕ) → u < units → (u == unit) ≡ false → is_named_version b n u ≡ false
 
+-- what is known of the versions of a named word
 abbrev pub AreVersions : BusState → Named → (units : ℕ) → Versions → Type 0
 AreVersions b n units Absent = NoneHas b n units
 AreVersions b n units (One value) = OneHas b n units value

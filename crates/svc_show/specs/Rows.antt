@@ -11,11 +11,11 @@ use Rattle.svc_text.specs.Rows.{fields, row}
 abbrev pub told_row : (name text : List ℕ) → List ℕ
 told_row name text = name ++ (codes "," ++ (text ++ codes "\n"))
 
--- a row of a name and an entry, which is empty where there is none
+-- a row of a name and an entry, which is empty if there is none
 abbrev pub entry_row : List ℕ → Option ℕ → List ℕ
 entry_row name entry = told_row name (optional decimal entry)
 
--- how a task stands: it goes on, or it has ended so
+-- how a task stands: it runs, or how it has ended
 abbrev pub state_word : Option End → List ℕ
 state_word None = codes "running"
 state_word (Some (end.Next entry)) = codes "next"

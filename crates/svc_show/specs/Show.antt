@@ -1,4 +1,4 @@
--- The text that shows the machine where a history leads.
+-- The text that shows the machine to which a history leads.
 use Rattle.std.specs.Prelude.{ℕ, suc, ◌||◌, Bool, cond, List, [], ◌∷◌, ◌++◌, codes, flat_map, is_some, length, nat_le}
 use Rattle.std.specs.List.{list_any, range_with_len}
 use Rattle.svc_base.specs.declared.config.Config.{Config}
@@ -27,7 +27,7 @@ progress_rows img config s =
     ++ (entry_row (codes "guess") (guess (program img) img.entries s)
     ++ ending_row (ending_of (nat_le config.events s.accepted) done.stopped done.due)))
 
--- a row for each of the active tasks, which are numbered from this one on, oldest first
+-- a row for each of the active tasks, numbered from this one on, oldest first
 abbrev pub task_rows : (number : ℕ) → List (Running State) → List ℕ
 task_rows number [] = []
 task_rows number (x ∷ runs) = task_row number (task_shown x) ++ task_rows (suc number) runs
@@ -65,10 +65,10 @@ machine_rows img config s b =
     progress_rows img config s ++ (task_rows s.commits (running (program img) s)
     ++ (line_rows config.units (data_words img) b ++ (spill_rows (data_words img) b ++ memory_rows img config s b (data_words img))))
 
--- those of where a machine stands: the plain machine, and the line table
+-- those of a standing: the plain machine and the line table
 abbrev pub standing_rows : Image → Config → Standing → List ℕ
 standing_rows img config s = machine_rows img config s.plain (state_of 0 s.lines)
 
--- the text that shows the machine where a history leads: how many entries it has, and the rows of that machine
+-- the text that shows the machine to which a history leads: how many entries it has, and the rows of that machine
 abbrev pub show_of : Image → Config → List Entry → List ℕ
 show_of img config es = number_row (codes "at") (length es) ++ standing_rows img config (led_to img config es)

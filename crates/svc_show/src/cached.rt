@@ -49,7 +49,7 @@ pub(crate) struct Cached {
 }
 
 impl Cached {
-    // With another cache, which has this line or none.
+    // With one more cache, which has this line or none.
     fn and(self, line: Option<(LineBits, u32)>) -> Cached
         ensures line { result.line ≡ (self.line || is_some (option_map line_shown line)) }
         ensures versions { result.versions ≡ and_line self.versions (option_map line_shown line) }
@@ -85,8 +85,8 @@ impl Cached {
     }
 }
 
-/// The value that the committed tasks have left of a named word. Only where several caches have a version of theirs
-/// is the newest one looked for.
+/// The value that the committed tasks have left of a named word. The newest version is looked for only if several
+/// caches have one.
 pub(crate) fn committed_of(machine: &Machine, named: Named, versions: Versions) -> u32
     requires own { HasItsLines (observed machine.now.bus) (data_words machine.now.image) named }
     requires versions { AreVersions (observed machine.now.bus) named machine.now.config.units versions }

@@ -1,4 +1,4 @@
-// What a machine's bus holds, said of the one value that the machine has.
+// What a machine's bus holds, stated for the one value that the machine has.
 
 ghost use Rattle.std.specs.Prelude.{◌≡◌, ◌<◌, is_some, option_map};
 ghost use Rattle.svc_core_laws.specs.Turns.{data_words};
@@ -19,7 +19,7 @@ pub(crate) fn line_of(machine: &Machine, unit: UnitId, word: WordAddr) -> Option
     machine.line_at(unit, word)
 }
 
-/// The unit's valid line of a named word. Its cache is searched only where the unit may have named the word.
+/// The unit's valid line of a named word. Its cache is searched only if the unit may have named the word.
 pub(crate) fn line_of_named(
     machine: &Machine,
     unit: UnitId,

@@ -1,5 +1,5 @@
-//! The machine where a history leads, as rows: its active tasks, the lines of its caches with their bits, its spilled
-//! words, and the memory of the words that these hold.
+//! The machine to which a history leads, as rows: its active tasks, the lines of its caches with their bits, its
+//! spilled words, and the memory of the words in these.
 #![tactic(auto)]
 
 mod bits;

@@ -29,7 +29,7 @@ fn write_line(
     write_bits(line, rows)
 }
 
-// Writes the row of the unit's line of a named word, where there is one.
+// Writes the row of the unit's line of a named word, if there is one.
 fn write_named(
     machine: &Machine,
     unit: UnitId,

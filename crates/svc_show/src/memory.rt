@@ -23,7 +23,7 @@ fn write_spill(word: WordAddr, value: u32, rows: &mut Vec<u8>) -> Result<(), All
     put_row(rows, "spill", &[u64::from(word.0), u64::from(value)])
 }
 
-// Writes the row of the word, where it is spilled.
+// Writes the row of the word, if it is spilled.
 fn write_spill_of(machine: &Machine, word: WordAddr, rows: &mut Vec<u8>) -> Result<(), AllocError>
     requires in_data { word.0 < data_words machine.now.image }
     ensures { OnOk result
@@ -35,7 +35,7 @@ fn write_spill_of(machine: &Machine, word: WordAddr, rows: &mut Vec<u8>) -> Resu
     }
 }
 
-/// Writes a row for each spilled one of the named words.
+/// Writes a row for each of the named words that is spilled.
 pub(crate) fn write_spills(
     machine: &Machine,
     named: &[Named],
@@ -65,7 +65,7 @@ fn write_memory(
     put_row(rows, "memory", &numbers)
 }
 
-// Writes the row of the named word, where it has a valid line or is spilled.
+// Writes the row of the named word, if it has a valid line or is spilled.
 fn write_word(machine: &Machine, named: Named, rows: &mut Vec<u8>) -> Result<(), AllocError>
     requires own { HasItsLines (observed machine.now.bus) (data_words machine.now.image) named }
     ensures { let m = machine.now in

@@ -30,7 +30,7 @@ pub(crate) struct Named {
 }
 
 impl Namers {
-    // These, and this unit.
+    // These units and one more.
     fn and(self, unit: UnitId) -> Namers
         ensures { result ≡ and_unit self unit }
     {
@@ -58,7 +58,7 @@ impl Namers {
         }
     }
 
-    // There is one.
+    // There is a word.
     fn are_some(self) -> bool
         ensures { result ≡ are_some self }
     {

@@ -11,7 +11,7 @@ use svc_core_laws::Ending;
 use svc_machine::Machine;
 use svc_text::put;
 
-// Writes a row of a name and an entry, which is empty where there is none.
+// Writes a row of a name and an entry, which is empty if there is none.
 fn write_entry(name: &str, entry: Option<u32>, rows: &mut Vec<u8>) -> Result<(), AllocError>
     ensures { OnOk result (rows.new.items ≡ rows.old.items ++ entry_row name.now entry) }
 {

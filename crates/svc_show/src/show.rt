@@ -66,7 +66,7 @@ fn write_machine(machine: &Machine, named: &[Named], rows: &mut Vec<u8>) -> Resu
     write_all_words(machine, named, rows)
 }
 
-// Writes how many entries a history has, and the rows of the machine where it leads.
+// Writes how many entries a history has, and the rows of the machine to which it leads.
 fn write_rows(recorder: &Recorder, named: &[Named], rows: &mut Vec<u8>) -> Result<(), AllocError>
     requires named { let r = recorder.now in AreNamed r.entries (data_words r.machine.image) named.now }
     ensures { let r = recorder.now in
@@ -80,9 +80,9 @@ fn write_rows(recorder: &Recorder, named: &[Named], rows: &mut Vec<u8>) -> Resul
     write_machine(machine, named, rows)
 }
 
-/// The text of the machine where a history leads: how many entries it has, the tasks committed, the entries that are
-/// due and to be guessed, the ending, and a row for each active task, oldest first, for each valid line, by unit and
-/// then word, for each spilled word, and for each word that has a valid line or is spilled.
+/// The text of the machine to which a history leads: how many entries it has, the tasks committed, the entries that are
+/// due and to be guessed, the ending; and a row for each active task, oldest first, each valid line, by unit and then
+/// word, each spilled word, and each word that has a valid line or is spilled.
 ///
 /// Only words that an entry names can be in a line or spilled, so no other word is looked up.
 ///

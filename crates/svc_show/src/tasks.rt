@@ -13,7 +13,7 @@ use svc_core_laws::End;
 use svc_machine::{ActiveTask, Machine};
 use svc_text::{put, put_fields};
 
-// The word of how a task stands.
+// The word for how a task stands.
 fn state_word(done: Option<End>) -> &'static str
     ensures { result.now ≡ state_word done }
 {

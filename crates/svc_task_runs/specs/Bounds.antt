@@ -1,4 +1,4 @@
--- How great the numbers of a history's tasks become.
+-- How large the numbers of a history's tasks become.
 use Rattle.std.specs.Prelude.{ℕ, ◌+◌, ◌*◌, ◌≤◌, length}
 use Rattle.std.specs.List.{AllByRecursion}
 use Rattle.svc_task_runs.specs.declared.task_run.TaskRun.{TaskRun}
@@ -8,11 +8,11 @@ use Rattle.svc_task_runs.specs.Runs.{Runs}
 abbrev pub work : TaskRun → ℕ
 work r = r.turns + (r.loads + r.stores)
 
--- no more than so many entries come to
+-- no more than this many entries add up to
 abbrev pub IsLight : (n : ℕ) → TaskRun → Type 0
 IsLight n r = work r ≤ 514 * n
 
--- the tasks of so many entries
+-- the tasks of this many entries
 pub record AreFew (n : ℕ) (s : Runs) : Type 0 where
   pub commits : s.commits ≤ n
   pub settled : AllByRecursion (IsLight n) s.settled

@@ -25,6 +25,7 @@ is_submit_of e r = is_kind Submit e.kind && (e.unit.0 == r.unit.0)
 abbrev pub turns_in : Entry → ℕ
 turns_in e = unwrap_or e.local 0 + one_where (unwrap_or e.ask false)
 
+-- the reply is that a word was loaded; that it was stored
 abbrev pub is_load : ReplyKind → Bool
 is_load reply.Loaded = true
 is_load _ = false
@@ -33,7 +34,7 @@ abbrev pub is_store : ReplyKind → Bool
 is_store reply.Stored = true
 is_store _ = false
 
--- the number is there, and is this one; and is there, and not above this one
+-- there is a number, and it is this one; there is a number, and it isn't above this one
 abbrev pub is_number : Option ℕ → ℕ → Bool
 is_number None n = false
 is_number (Some m) n = m == n
@@ -42,19 +43,21 @@ abbrev pub is_not_above : Option ℕ → ℕ → Bool
 is_not_above None n = false
 is_not_above (Some m) n = nat_le m n
 
+-- the fate of tasks squashed for this cause
 abbrev pub fate_of : Option CutKind → Fate
 fate_of None = fate.Active
 fate_of (Some cause.Violation) = fate.Violation
 fate_of (Some cause.Guess) = fate.Guess
 fate_of (Some cause.Cancel) = fate.Cancel
 
--- a task is squashed where the first one that the entry squashes isn't above it, committed where the entry commits the
--- task of its number, and goes on else
+-- a task is squashed if the first one that the entry squashes isn't above it, committed if the entry commits the task
+-- of its number, and otherwise goes on
 abbrev pub fate_after : Entry → TaskRun → Fate
 fate_after e r =
     cond (is_not_above e.first r.number) (fate_of e.cause)
     (cond (is_kind Commit e.kind && is_number e.word r.number) fate.Committed fate.Active)
 
+-- the task is still active
 abbrev pub is_active : Fate → Bool
 is_active fate.Active = true
 is_active _ = false
@@ -65,7 +68,7 @@ goes_on r = is_active r.fate
 abbrev pub is_settled : TaskRun → Bool
 is_settled r = not (is_active r.fate)
 
--- a task that the entry is a submit of, with what it did more
+-- a task of which the entry is a submit, with what that adds
 abbrev pub ran : Entry → TaskRun → TaskRun
 ran e r =
     cond (is_submit_of e r)
@@ -90,7 +93,7 @@ fate_word fate.Cancel = codes "cancel"
 
 -- ---- all tasks
 
--- how many tasks were committed, the tasks whose fate is decided, in the order in which it was, and the active ones,
+-- how many tasks were committed; the tasks whose fate is decided, in the order of the decisions; and the active ones,
 -- oldest first
 pub record Runs : Type 0 where
   pub commits : ℕ
@@ -136,6 +139,6 @@ runs_from s at (e ∷ es) = runs_from (step at e s) (suc at) es
 abbrev pub runs_of : List Entry → Runs
 runs_of es = runs_from no_runs 0 es
 
--- those that are settled, and then the active ones
+-- those whose fate is decided, and then the active ones
 abbrev pub tasks_of : List Entry → List TaskRun
 tasks_of es = (runs_of es).settled ++ (runs_of es).active

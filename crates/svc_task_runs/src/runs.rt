@@ -13,7 +13,7 @@ use crate::task_run::{Fate, TaskRun, turns_in};
 use std::alloc::{AllocError, Global};
 use svc_history_laws::{Entry, Kind};
 
-/// The tasks of a history so far: those whose fate is decided, in the order in which it was, and the active ones,
+/// The tasks of a history so far: those whose fate is decided, in the order of the decisions, and the active ones,
 /// oldest first.
 #[derive(Drop)]
 pub(crate) struct TaskRuns {
@@ -43,7 +43,7 @@ fn commits_in(kind: Kind) -> u64
     }
 }
 
-// The entry at this index, for each of the active tasks. It says whether the fate of any of them is decided now.
+// Gives each of the active tasks the entry at this index. It says whether that decides the fate of any.
 fn go_on(active: &mut [TaskRun], at: u64, entry: &Entry) -> bool
     requires few { at < MAX_EVENTS }
     requires light { AllByRecursion (IsLight at) active.old }
@@ -155,7 +155,7 @@ impl TaskRuns {
     }
 }
 
-/// The tasks of a history: those whose fate is decided, in the order in which it was, and then the active ones, oldest
+/// The tasks of a history: those whose fate is decided, in the order of the decisions, and then the active ones, oldest
 /// first.
 ///
 /// Errors: [`AllocError`], if memory runs out.

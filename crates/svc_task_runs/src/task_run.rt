@@ -110,7 +110,7 @@ fn fate_of(cause: Option<CutKind>) -> Fate
     }
 }
 
-// The number is there, and is this one.
+// There is a number, and it is this one.
 fn is_number(told: Option<u32>, number: u64) -> bool
     ensures { result ≡ is_number told number }
 {
@@ -120,7 +120,7 @@ fn is_number(told: Option<u32>, number: u64) -> bool
     }
 }
 
-// The number is there, and is not above this one.
+// There is a number, and it is not above this one.
 fn is_not_above(told: Option<u32>, number: u64) -> bool
     ensures { result ≡ is_not_above told number }
 {
@@ -148,7 +148,7 @@ impl TaskRun {
         }
     }
 
-    // What becomes of the task by the entry.
+    // What the entry makes of the task.
     fn fate_after(&self, entry: &Entry) -> Fate
         ensures { result ≡ fate_after entry.now self.now }
     {
@@ -173,7 +173,7 @@ impl TaskRun {
         }
     }
 
-    /// The entry at this index: what the active task does by it, and what becomes of the task.
+    /// The entry at this index: what the active task does with it, and what becomes of the task.
     pub(crate) fn go_on(&mut self, at: u64, entry: &Entry)
         requires { work self.old + 514 < 2 ^ 64 }
         ensures { self.new ≡ after at entry.now self.old }

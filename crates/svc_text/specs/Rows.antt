@@ -5,7 +5,7 @@ use Rattle.std.specs.Prelude.{ℕ, List, ◌++◌, codes, decimal, flat_map}
 abbrev pub field : ℕ → List ℕ
 field n = codes "," ++ decimal n
 
--- what a row begins with, and numbers after it
+-- the beginning of a row, and numbers after it
 abbrev pub fields : (first numbers : List ℕ) → List ℕ
 fields first numbers = first ++ flat_map field numbers
 

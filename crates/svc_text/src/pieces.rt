@@ -1,11 +1,11 @@
-// What a text is put together from.
+// The pieces of a text.
 
 ghost use Rattle.std.specs.Prelude.{◌≡◌, ◌++◌, ℕ, List, OnOk, OnErr, decimal};
 
 use itoa::Buffer;
 use std::alloc::AllocError;
 
-/// What a text is put together from: texts, bytes, and numbers in decimal.
+/// A piece of a text: a text, bytes, or a number in decimal.
 pub trait Piece: Copy {
     // The bytes that it adds.
     ghost bytes: { Self → List ℕ };
@@ -59,8 +59,8 @@ impl Piece for u8 {
     }
 }
 
-/// Adds pieces to a text, one after the other. It ends the function that it stands in with an [`AllocError`] if memory
-/// runs out.
+/// Adds pieces to a text, one after the other. It ends the enclosing function with an [`AllocError`] if memory runs
+/// out.
 #[macro_export]
 macro_rules! put {
     ($text:expr; $($piece:expr),+ $(,)?) => {

@@ -14,7 +14,7 @@ fn put_field(text: &mut Vec<u8>, number: u64) -> Result<(), AllocError>
     number.put(text)
 }
 
-/// Adds what a row begins with, and numbers after it, each after a comma.
+/// Adds the beginning of a row, and numbers after it, each after a comma.
 ///
 /// Errors: [`AllocError`], if memory runs out.
 pub fn put_fields<P: Piece>(text: &mut Vec<u8>, first: P, numbers: &[u64]) -> Result<(), AllocError>

@@ -7,12 +7,13 @@ use Rattle.svc_history_laws.specs.Board.{Tally, IsInOrder}
 use Rattle.svc_threads.specs.declared.board.BoardRow.{BoardRow}
 use Rattle.svc_threads.specs.declared.board.View.{View}
 
--- which board a pass is of, whether it is the one that publishes, and the last row that it published or read
+-- the board that a pass belongs to, whether it publishes, and the last row that it published or read
 pub record Knower : Type 0 where
   pub board : TableId
   pub publishes : Bool
   pub row : BoardRow
 
+-- what a pass knows
 abbrev pub knower : TableId → Bool → BoardRow → Knower
 knower board publishes row = record { board = board; publishes = publishes; row = row }
 
@@ -37,7 +38,7 @@ InOrder r = IsInOrder (tally_of r)
 abbrev pub AtMost : BoardRow → BoardRow → Type 0
 AtMost r s = (r.events ≤ s.events) × (r.assigned ≤ s.assigned) × (r.committed ≤ s.committed) × (r.squashed ≤ s.squashed)
 
--- a pass has seen no more than the row, and if it publishes, it is the one that does, and knows the row
+-- a pass has seen no more than the row; if it publishes, it is the only one that does, and knows the row
 abbrev pub Fits : ℕ → BoardRow → ℕ → View → Type 0
 Fits seat row by v = AtMost v.row row × (v.publishes ≡ true → (by ≡ seat) × (v.row ≡ row))
 
@@ -45,11 +46,11 @@ Fits seat row by v = AtMost v.row row × (v.publishes ≡ true → (by ≡ seat)
 abbrev pub Ruled : BoardRow → List View → Type 0
 Ruled row views = InOrder row × ((seat : ℕ) × ((by : ℕ) (v : View) → get_elem? views by ≡ some v → Fits seat row by v))
 
--- a publish tells that the pass knows the new row
+-- after a publish the pass knows the new row
 abbrev pub Published : View → BoardRow → BoardRow → View → Type 0
 Published v before after w = w ≡ view_of v.publishes after
 
--- a read tells that the pass knows the row, which is in order and not below what the pass had seen
+-- after a read the pass knows the row, which is in order and not below what the pass had seen
 abbrev pub HasRead : View → BoardRow → BoardRow → View → Type 0
 HasRead v before after w = (w ≡ view_of v.publishes after) × InOrder after × AtMost v.row after
 

@@ -1,4 +1,4 @@
--- The row of a history, and of one entry more.
+-- The row of a history, and of one more entry.
 use Rattle.std.specs.Prelude.{◌^◌, ◌<◌, List}
 use Rattle.svc_history_laws.specs.declared.entry.Entry.{Entry}
 use Rattle.svc_history_laws.specs.Board.{board, counted}
@@ -9,7 +9,7 @@ use Rattle.svc_threads.specs.Boards.{row_of, tally_of}
 abbrev pub row_of_entries : List Entry → BoardRow
 row_of_entries es = row_of (board es)
 
--- one entry more
+-- one more entry
 abbrev pub with_entry : BoardRow → Entry → BoardRow
 with_entry r e = row_of (counted (tally_of r) e)
 

@@ -1,4 +1,4 @@
--- The numbers by which the program tells of a run's errors.
+-- The numbers by which the program reports a run's errors.
 use Rattle.std.specs.Prelude.{ℕ}
 use Rattle.svc_threads.specs.declared.fault.RunError.{RunError}
 use Rattle.svc_threads.specs.declared.fault.RunError.TheVariants.{Memory, NotStarted, ForeignImage, Torn}

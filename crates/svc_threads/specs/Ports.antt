@@ -1,4 +1,4 @@
--- What a unit's thread is answered, and what it brings back.
+-- How a unit's thread is answered, and what it brings back.
 use Rattle.std.specs.Prelude.{◌≡◌, IfSome, Result}
 use Rattle.svc_base.specs.declared.ids.UnitId.{UnitId}
 use Rattle.svc_base.specs.declared.refusal.Refusal.{Refusal}
@@ -40,6 +40,6 @@ IsOf unit s = s.entry.unit ≡ unit
 abbrev pub IsGlanceOfSome : UnitId → Glance → Type 0
 IsGlanceOfSome unit glance = (r : Recorded) × IsLegal r × IsGlance r.machine unit.0 glance
 
--- a lease that the glance has is the unit's own
+-- a lease in the glance is the unit's own
 abbrev pub LeasesTo : UnitId → Glance → Type 0
 LeasesTo unit glance = IfSome glance.lease (λ (lease : Lease). lease.unit ≡ unit)

@@ -1,4 +1,4 @@
-// Four numbers that one pass publishes and every pass reads, whole.
+// Four numbers that one pass publishes and every pass reads, as a whole.
 
 ghost use Rattle.std.specs.Prelude.{◌≡◌, true, false, IfOk};
 ghost use Rattle.crossbeam_utils.specs.Seq.{cell_view};
@@ -44,7 +44,7 @@ impl Words<4> for BoardRow {
     }
 }
 
-/// What a pass knows. No value of it is made.
+/// What a pass knows. It exists only in contracts.
 pub struct View {
     /// Whether the pass publishes.
     pub publishes: bool,
@@ -139,8 +139,8 @@ impl Board {
         Ok((Board { cell }, BoardPass { pass }))
     }
 
-    /// Shows a new row, in one step. The pass is the one of this board that publishes, and no number of the row is
-    /// below those that it knows.
+    /// Shows a new row, in one step. The pass must be the one that publishes on this board, and no number of the row
+    /// may be below those that it knows.
     pub fn publish<R: Wait>(&self, rt: &R, pass: &mut BoardPass, row: BoardRow)
         requires board { pass.old.board ≡ self.now }
         requires publisher { pass.old.publishes ≡ true }
@@ -151,8 +151,8 @@ impl Board {
         self.cell.swap_as::<Publishes, R>(rt, &mut pass.pass, row);
     }
 
-    /// The row on the board, whole, read in one step by a pass of this board. No number of it is
-    /// below those that the pass knew.
+    /// The row on the board, whole, read in one step by a pass of this board. No number of it is below those that the
+    /// pass knew.
     pub fn read<R: Wait>(&self, rt: &R, pass: &mut BoardPass) -> BoardRow
         requires board { pass.old.board ≡ self.now }
         ensures order { InOrder result }
@@ -162,7 +162,7 @@ impl Board {
         self.cell.load_as::<Reads, R>(rt, &mut pass.pass)
     }
 
-    /// A reader's pass of this board that knows the same row.
+    /// A reader's pass of this board, which knows the same row.
     pub fn split(&self, pass: &mut BoardPass) -> BoardPass
         requires board { pass.old.board ≡ self.now }
         ensures same { pass.new ≡ pass.old }

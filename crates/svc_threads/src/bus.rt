@@ -37,7 +37,7 @@ impl Model for SharedBus {
     ghost view = { λ b. arc_value b.board };
 }
 
-// A board that two hold, with its pass that publishes and one that reads.
+// A board with two passes: one that publishes and one that reads.
 #[derive(Drop)]
 struct TwiceHeld {
     board: Arc<Board>,
@@ -112,8 +112,8 @@ impl SharedBus {
         self.lock.lock(rt).recorder().glance(unit)
     }
 
-    /// One event, as the recorder takes it, under the lock. The board shows the new numbers after an accepted event,
-    /// and is left alone after a refused one.
+    /// One event, as the recorder takes it, under the lock. After an accepted event the board shows the new numbers; a
+    /// refused one leaves it alone.
     ///
     /// Errors: the first refusal that applies; then nothing has changed.
     pub fn apply<R: Wait>(&self, rt: &R, event: Event<'_>) -> Result<Slip, Refusal>

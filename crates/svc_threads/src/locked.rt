@@ -14,9 +14,8 @@ use std::sync::{Arc, Wait};
 use svc_base::Refusal;
 use svc_history::{Entry, Event, Kind, Recorder, Slip};
 
-/// A recorder with the numbers of its history, and a board that shows them. The type guarantees
-/// that they are those numbers, and that the pass is the one of that board that publishes and knows
-/// them.
+/// A recorder with the numbers of its history, and a board that shows them. The type guarantees that they are those
+/// numbers, and that the pass is the one that publishes on that board and knows them.
 #[derive(Drop)]
 pub(crate) struct Locked {
     recorder: Recorder,

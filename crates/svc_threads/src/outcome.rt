@@ -39,7 +39,7 @@ pub fn reconcile(
     Ok(Outcome { recorder, slips })
 }
 
-// Whether they make an outcome, and if not, why.
+// Why they make no outcome, if they don't.
 fn judge(
     image: &Image,
     config: Config,
@@ -98,15 +98,15 @@ fn all_agree(units: u32, entries: &[Entry], lists: &[Vec<Slip>]) -> bool
     true
 }
 
-// The slip is that of this entry, at this index.
+// The slip is this entry's, at this index.
 fn is_slip(slip: &Slip, index: usize, entry: &Entry) -> bool
     ensures { Decides result (slip.now ≡ slip_at index entry.now) }
 {
     slip.index == index && is_same(&slip.entry, entry)
 }
 
-// How many slips of each list are its unit's entries with their indexes, in order; nothing if a
-// list has too few, or a different one.
+// How many slips of each list are its unit's entries with their indexes, in order; nothing if a list has too few, or a
+// different one.
 fn agreeing(entries: &[Entry], lists: &[Vec<Slip>]) -> Option<[usize; 256]>
     ensures some { IfSome result (λ ends.
         AllAgreeTo (length entries.now) entries.now ends (map (λ v. v.items) lists.now)) }

@@ -1,4 +1,4 @@
-// What a unit's thread knows of the bus, and who is asked round its events.
+// What a unit's thread knows of the bus, and the gate that its events pass.
 
 ghost use Rattle.std.specs.Prelude.{◌≡◌, IfOk};
 ghost use Rattle.svc_threads.specs.Ports.{IsEntryOf, LeasesTo};
@@ -11,14 +11,14 @@ use svc_history::{Event, Glance, Slip};
 /// Where a unit's thread stands.
 #[derive(Clone, Copy)]
 pub enum Phase<'a> {
-    /// It is about to ask for this event; of a submit, its burst is made.
+    /// It is about to ask for this event; the burst of a submit is made.
     Before(Event<'a>),
     /// The event was accepted or refused.
     After,
 }
 
-/// Is asked before and after each event of a unit's thread, which has no lock then, and may wait. Where it says no,
-/// that thread ends: before an event without it, and after one with its slip.
+/// Is asked before and after each event of a unit's thread, which then has no lock, and may wait. If it says no, that
+/// thread ends: without the event, if asked before it, and with its slip, if asked after it.
 pub trait Gate {
     fn pass(&self, unit: UnitId, phase: Phase<'_>) -> bool;
 }

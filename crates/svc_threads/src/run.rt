@@ -17,7 +17,7 @@ use svc_base::{Config, UnitId};
 use svc_history::{Recorder, Slip};
 use svc_image::Image;
 
-/// A port whose recorder can be had once no thread shares it any more.
+/// A port that gives its recorder back once no thread shares it any more.
 pub trait Shared: Port + Sync + Drop {
     /// The recorder, with the history that the port leaves.
     fn into_recorder(self) -> Recorder;
@@ -85,7 +85,7 @@ fn join_all<R: Threads>(
     Ok(slips)
 }
 
-// Runs each unit in a thread of its own, and gives what each brought back.
+// Runs each unit in a thread of its own, and returns what each brought back.
 fn run_all<P: Port + Sync, G: Gate + Sync, R: Threads + Wait + Sync>(
     rt: &R,
     alloc: Global,

@@ -1,4 +1,4 @@
-// What one unit's thread does.
+// What a unit's thread does.
 
 ghost use Rattle.std.specs.Prelude.{◌≡◌, ◌<◌, All, IfOk, IfErr, vec_len, vec_capacity};
 ghost use Rattle.svc_threads.specs.Ports.{IsOf, unit_of};
@@ -38,15 +38,15 @@ enum Tried {
     Ended,
 }
 
-/// The body of a unit's thread: at most `turns` turns. A turn reads the board. Where the last turn stalled and the
-/// board shows the same numbers it stalls again, without the lock. Else the unit takes a glance and does its next move:
-/// it begins a task at the guess, runs its task by a burst, without the lock, and submits that, or commits its head.
-/// Where its cache is full it replaces a line in the same turn. It stalls where it has to wait, and where the line may
-/// not go, and ends where the run has.
+/// The body of a unit's thread: at most `turns` turns. Each turn reads the board. If the last turn stalled and the
+/// board shows the same numbers, it stalls again, without the lock. Otherwise the unit takes a glance and makes its
+/// next move: it begins a task at the guess, makes a burst of its task without the lock and submits it, or commits its
+/// head. If its cache is full it replaces a line in the same turn. It stalls when it must wait or the line is pinned,
+/// and ends with the run.
 ///
 /// The slips of the accepted events come back in order. Room for one is made before each event.
 ///
-/// Errors: [`RunError::Memory`]; the events up to there stand and their slips are dropped.
+/// Errors: [`RunError::Memory`]; the events until then stand, and their slips are dropped.
 pub fn run_unit<P: Port, G: Gate, A: Allocator, R: Wait>(
     rt: &R,
     alloc: A,
@@ -86,7 +86,7 @@ pub fn run_unit<P: Port, G: Gate, A: Allocator, R: Wait>(
     Ok(slips)
 }
 
-// Does the unit's next move, and replaces a line in the same turn where there is no room for it.
+// Makes the unit's next move, and replaces a line in the same turn if there is no room for it.
 fn take_turn<P: Port, G: Gate, A: Allocator, R: Wait>(
     rt: &R,
     port: &P,
@@ -108,7 +108,8 @@ fn take_turn<P: Port, G: Gate, A: Allocator, R: Wait>(
     Ok(ended(tried))
 }
 
-// Asks for the event that the unit does next, by a glance. A burst is made without the lock, in the place of the last.
+// Asks for the event that the unit does next, given a glance. A burst is made without the lock, in the place of the
+// last one.
 fn make_move<P: Port, G: Gate, A: Allocator, R: Wait>(
     rt: &R,
     port: &P,
@@ -138,7 +139,7 @@ fn make_move<P: Port, G: Gate, A: Allocator, R: Wait>(
     }
 }
 
-// Asks for one event, for whose slip room is made first. The gate is asked before and after.
+// Asks for one event, after making room for its slip. The gate is asked before and after.
 fn attempt<P: Port, G: Gate, A: Allocator, R: Wait>(
     rt: &R,
     port: &P,
@@ -163,7 +164,7 @@ fn attempt<P: Port, G: Gate, A: Allocator, R: Wait>(
     }
 }
 
-// Asks for one event, and keeps its slip in the room that there is.
+// Asks for one event, and keeps its slip in the room made for it.
 fn ask<P: Port, A: Allocator, R: Wait>(
     rt: &R,
     port: &P,
@@ -186,7 +187,7 @@ fn ask<P: Port, A: Allocator, R: Wait>(
     }
 }
 
-// How the turn ends: a line that may not go lets the unit wait for another one's event.
+// How the turn ends: if the line is pinned, the unit waits for another unit's event.
 fn ended(tried: Tried) -> Turn {
     match tried {
         Tried::Accepted => Turn::Went,

@@ -13,7 +13,7 @@ use Rattle.svc_vcl.specs.Listed.{entry_at}
 abbrev pub line_with : (value : ℕ) → Bits → BusLine
 line_with value bits = record { value = value; store = bits.store; load = bits.load; commit = bits.commit; stale = bits.stale }
 
--- a line of a cache, as callers of the bus see it; one without V is not there
+-- a line of a cache, as callers of the bus see it; one without V counts as none
 abbrev pub bus_line_of : Option SeenLine → Option BusLine
 bus_line_of None = None
 bus_line_of (Some line) = if line.bits.valid then Some (line_with line.value line.bits) else None
@@ -28,7 +28,7 @@ pub record IsActiveIn (b : BusState) (a unit : ℕ) (version : Version) : Type 0
   pub held : b.lines unit a ≡ Some (line_shown version)
   pub active : is_active (bits_of version.line.bits) ≡ true
 
--- the entry of a task is its unit's active line of the word, or none where it has none
+-- a task's entry is its unit's active line of the word, or none if it has none
 abbrev pub IsEntryOf : BusState → (a unit : ℕ) → Option Version → Type 0
 IsEntryOf b a unit None = is_active_line (b.lines unit a) ≡ false
 IsEntryOf b a unit (Some version) = IsActiveIn b a unit version
@@ -39,7 +39,8 @@ pub record IsCommittedIn (b : BusState) (a : ℕ) (version : Version) : Type 0 w
   pub held : b.lines version.unit.0 a ≡ Some (line_shown version)
   pub committed : is_committed (bits_of version.line.bits) ≡ true
 
--- the list has the valid lines of the word: the active one of each task at its place, and the committed ones, no version after a newer one
+-- the list has the valid lines of the word: each task's active one at its place, and the committed ones, no version
+-- after a newer one
 pub record Describes (b : BusState) (a : ℕ) (list : Versions) : Type 0 where
   pub places : length list.active ≡ length b.units
   pub active : (place : ℕ) → place < length b.units → IsEntryOf b a (get_or b.units place 0) (entry_at list.active place)
@@ -47,7 +48,8 @@ pub record Describes (b : BusState) (a : ℕ) (list : Versions) : Type 0 where
   pub each : (unit : ℕ) → unit < b.caches → is_committed_line (b.lines unit a) ≡ true → (i : ℕ) × (i < length list.committed) × (unit_at list.committed i ≡ unit)
   pub oldest_first : (i j : ℕ) → i < j → j < length list.committed → b.is_older a (unit_at list.committed j) (unit_at list.committed i) ≡ false
 
--- a request for the word by the unit of the task at a place, on a bus that agrees with a line table, with the word's version list
+-- a request for the word by the unit of the task at a place, on a bus that agrees with a line table, with the word's
+-- version list
 pub record IsRequest (b : BusState) (t : LineTable) (a : ℕ) (list : Versions) (unit place : ℕ) : Type 0 where
   pub agrees : Agrees b t
   pub described : Describes b a list

@@ -24,21 +24,23 @@ is_exposure (Some version) = is_exposed (bits_of version.line.bits)
 abbrev pub nearest_in : List (Option Version) → (place : ℕ) → Option ℕ
 nearest_in active place = greatest place (λ q. is_version (entry_at active q))
 
+-- the version of the nearest earlier task that has one
 abbrev pub nearest_version_in : List (Option Version) → (place : ℕ) → Option Version
 nearest_version_in active place = option_and_then (entry_at active) (nearest_in active place)
 
--- of the first so many tasks the nearest above the place that has a version
+-- the nearest place above that has a version, among the first n tasks
 abbrev pub next_in : List (Option Version) → (count place : ℕ) → Option ℕ
 next_in active count place = least count (λ q. ltb place q && is_version (entry_at active q))
 
+-- the version of the nearest later task that has one
 abbrev pub next_version_in : List (Option Version) → (count place : ℕ) → Option Version
 next_version_in active count place = option_and_then (entry_at active) (next_in active count place)
 
--- the walk over the later tasks: one that exposed the word is found, otherwise one with a version ends the walk
+-- the walk over the later tasks: it finds one that exposed the word; otherwise one with a version ends it
 abbrev pub victim_in : List (Option Version) → (place : ℕ) → Option ℕ
 victim_in active place = walk (λ q. is_exposure (entry_at active q)) (λ q. is_version (entry_at active q)) (suc place) (length active - suc place)
 
--- among the first so many tasks one above the place has a version
+-- among the first n tasks, one above the place has a version
 abbrev pub is_overtaken_in : List (Option Version) → (count place : ℕ) → Bool
 is_overtaken_in active count place = any_below count (λ q. ltb place q && is_version (entry_at active q))
 
@@ -46,12 +48,14 @@ is_overtaken_in active count place = any_below count (λ q. ltb place q && is_ve
 abbrev pub newest_in : List Version → Option ℕ
 newest_in committed = greatest (length committed) (λ i. is_dirty (bits_of (version_at committed i).line.bits))
 
+-- the newest committed version
 abbrev pub newest_version_in : List Version → Option Version
 newest_version_in committed = option_map (version_at committed) (newest_in committed)
 
--- the unit's committed copy that no later store has passed
+-- the unit's committed copy, if no later store has overtaken it
 abbrev pub reusable_in : List Version → (unit : ℕ) → Option ℕ
 reusable_in committed unit = least (length committed) (λ i. (unit_at committed i == unit) && is_reusable (bits_of (version_at committed i).line.bits))
 
+-- the unit's reusable copy
 abbrev pub reusable_version_in : List Version → (unit : ℕ) → Option Version
 reusable_version_in committed unit = option_map (version_at committed) (reusable_in committed unit)

@@ -30,7 +30,7 @@ is_named versions unit = list_any (λ (version : Version). version.unit.0 == uni
 pub record AreApart (versions : List Version) : Type 0 where
   pub apart : (i j : ℕ) → i < j → j < length versions → unit_at versions i ≢ unit_at versions j
 
--- T is set anew on a line that a purge has left: a committed one, or one of a task below the writer's
+-- T is newly set on a line that a purge has left: a committed one, or one of a task below the writer's
 abbrev pub is_marked_anew : (below : Bool) → Option BusLine → Bool
 is_marked_anew below None = false
 is_marked_anew below (Some line) = not line.stale && (line.commit || below)
@@ -39,12 +39,12 @@ is_marked_anew below (Some line) = not line.stale && (line.commit || below)
 abbrev pub becomes_stale : BusState → (place a unit : ℕ) → Bool
 becomes_stale b place a unit = not (unit == get_or b.units place 0) && is_marked_anew (is_below b place unit) (purged_line (b.lines unit a))
 
--- T is set where the flag says so
+-- T is set if the flag says so
 abbrev pub marked_where : Bool → Option BusLine → Option BusLine
 marked_where flag None = None
 marked_where flag (Some line) = Some (record line { stale = line.stale || flag })
 
--- the bits of an active line, and none where there is no such line
+-- the bits of an active line; no bits if there is none
 abbrev pub own_bits : Option Version → Bits
 own_bits None = no_bits
 own_bits (Some version) = bits_of version.line.bits
@@ -53,11 +53,11 @@ own_bits (Some version) = bits_of version.line.bits
 abbrev pub is_fresh_copy : Version → Bool
 is_fresh_copy version = not (is_dirty (bits_of version.line.bits)) && not (bits_of version.line.bits).stale
 
--- the version, where it is a clean line without T in another unit than the writer's
+-- the version, if it is a clean line without T in a unit other than the writer's
 abbrev pub fresh_beside : (writer : ℕ) → Version → Option Version
 fresh_beside writer version = cond (not (version.unit.0 == writer) && is_fresh_copy version) (Some version) None
 
--- the entry's line, where T is clear
+-- the entry's line, if T is clear
 abbrev pub unmarked_entry : Option Version → Option Version
 unmarked_entry None = None
 unmarked_entry (Some version) = cond (bits_of version.line.bits).stale None (Some version)
@@ -74,12 +74,13 @@ passed_in earlier = filter_map unmarked_entry earlier
 abbrev pub stale_in : Versions → (writer place : ℕ) → List Version
 stale_in list writer place = copies_in list.committed writer ++ passed_in (take place list.active)
 
--- the version before the written one, where it has T already
+-- the version before the written one, if it has T already
 abbrev pub relinked_in : Option Version → List Version
 relinked_in None = []
 relinked_in (Some version) = cond (bits_of version.line.bits).stale (version ∷ []) []
 
--- all lines of other units that a write changes: those that it makes stale, and the version before the written one, whose link it sets
+-- all lines of other units that a write changes: those that it makes stale, and the version before the written one,
+-- whose link it sets
 abbrev pub changed_in : Versions → (writer place : ℕ) → List Version
 changed_in list writer place = stale_in list writer place ++ relinked_in (nearest_version_in list.active place)
 
@@ -87,7 +88,7 @@ changed_in list writer place = stale_in list writer place ++ relinked_in (neares
 abbrev pub unit_in : Option Version → Option ℕ
 unit_in = option_map (λ (version : Version). version.unit.0)
 
--- some of the first so many committed versions is a clean line without T in this unit, which is not the writer's
+-- one of the first n committed versions is a clean line without T in this unit, which is not the writer's
 abbrev pub is_copy_of : List Version → (count writer unit : ℕ) → Bool
 is_copy_of committed count writer unit = any_below count (λ i. (not (unit_at committed i == writer) && is_fresh_copy (version_at committed i)) && (unit_at committed i == unit))
 
@@ -96,6 +97,6 @@ abbrev pub is_unmarked_in : Option Version → (unit : ℕ) → Bool
 is_unmarked_in None unit = false
 is_unmarked_in (Some version) unit = not (bits_of version.line.bits).stale && (version.unit.0 == unit)
 
--- some task of the first so many has an active line without T in this unit
+-- one of the first n tasks has an active line without T in this unit
 abbrev pub is_passed_in : List (Option Version) → (count unit : ℕ) → Bool
 is_passed_in active count unit = any_below count (λ q. is_unmarked_in (entry_at active q) unit)

@@ -27,8 +27,8 @@ pub struct ReadPlan {
     pub bits: LineBits,
 }
 
-// The supplier if the unit's own line isn't, and its value: the nearest earlier version, otherwise
-// the spilled value, otherwise the newest committed version, otherwise the backing memory.
+// The supplier and its value, if the unit's own line isn't it: the nearest earlier version, otherwise the spilled
+// value, otherwise the newest committed version, otherwise the backing memory.
 fn supplier(list: &VersionList, place: usize, spill: Option<u32>, backing: u32) -> (Served, u32)
     requires { place < length list.now.active }
     ensures served { (b : BusState) (t : LineTable) (a unit : ℕ)
@@ -50,16 +50,15 @@ fn supplier(list: &VersionList, place: usize, spill: Option<u32>, backing: u32) 
     }
 }
 
-// The value is not the task's own: the head's own version may be spilled.
+// The value is not the task's own, as the head's spilled version is.
 fn is_first_use(place: usize, spill: Option<u32>) -> bool
     ensures { result ≡ not ((place == 0) && is_some spill) }
 {
     place != 0 || spill.is_none()
 }
 
-/// The plan of a read by the unit of the task at a place: who supplies the value, the value that
-/// the task sees, and the bits that the unit's line then has. `spill` is the word's spilled value,
-/// and `backing` its value in memory.
+/// The plan of a read by the unit of the task at a place: who supplies the value, the value that the task sees, and the
+/// bits of the unit's line after it. `spill` is the word's spilled value, and `backing` its value in memory.
 pub fn plan_read(
     list: &VersionList,
     unit: UnitId,

@@ -54,8 +54,8 @@ pub(crate) fn next(active: &[Option<Version>], count: usize, place: usize) -> Op
     None
 }
 
-/// The place of the task that a write squashes: of the tasks after the writer's, in order, the first
-/// that read the word before it wrote it, unless one before that has a version.
+/// The place of the task that a write squashes: of the tasks after the writer's, in order, the first that read the word
+/// before it wrote it, unless an earlier one has a version.
 pub(crate) fn victim(active: &[Option<Version>], place: usize) -> Option<usize>
     requires { place < length active.now }
     ensures { result ≡ victim_in active.now place }
@@ -84,7 +84,7 @@ pub(crate) fn is_overtaken(active: &[Option<Version>], count: usize, place: usiz
 }
 
 /// The newest committed version.
-pub(crate) fn newest(committed: &[Version]) -> Option<Version>
+pub fn newest(committed: &[Version]) -> Option<Version>
     ensures { result ≡ newest_version_in committed.now }
 {
     let mut newest = None;

@@ -20,17 +20,18 @@ use svc_base::UnitId;
 use svc_line::LineBits;
 use svc_vol::{CAPACITY, Version, VersionList};
 
-/// How many lines can become stale at most, going by the types: all of a version list.
+/// How many lines can become stale at most, as far as the types say: all of a version list.
 pub const STALE_CAPACITY: usize = 2 * CAPACITY;
 
-/// What a write does, beside the lines of other units that change.
+/// What a write does, apart from the lines of other units that change.
 #[derive(Clone, Copy)]
 pub struct WritePlan {
     /// The place of the task that is squashed, with all after it.
     pub victim: Option<usize>,
     /// The bits of the unit's line after the write.
     pub bits: LineBits,
-    /// The unit that the unit's line links to after the write: that of the next newer version among the tasks that are left.
+    /// The unit that the unit's line links to after the write: that of the next newer version among the tasks that are
+    /// left.
     pub next: Option<UnitId>,
     /// The unit whose version is the nearest older one among active tasks. Its line is to link to the writer's unit.
     pub previous: Option<UnitId>,
@@ -120,9 +121,8 @@ fn unit_of(version: Option<Version>) -> Option<UnitId>
     }
 }
 
-/// The plan of a write by the unit of the task at a place: the victim, if any, the bits that the unit's
-/// line then has, and the links of the line and of the version before it. (A write purges the word, so no committed
-/// version is left.)
+/// The plan of a write by the unit of the task at a place: the victim, if any, the bits of the unit's line after it,
+/// and the links of that line and of the version before it. (A write purges the word, so no committed version is left.)
 ///
 /// `changed` becomes the lines of other units that change, as they were before: the committed copies and the lines of
 /// earlier tasks, which become stale, and that of the version before, which is linked. It is filled in place, since it

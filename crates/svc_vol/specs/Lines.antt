@@ -36,7 +36,8 @@ versions_of lines unit = is_committed_version (lines unit)
 abbrev pub links_of : UnitLines → ℕ → Option ℕ
 links_of lines unit = link_of (lines unit)
 
--- of so many units: both have a committed version of the word, and links lead from the first's to the second's, so it is older
+-- of n units: both have a committed version of the word, and links lead from the first's to the second's, so it is
+-- older
 abbrev pub is_older_line : (units : ℕ) → UnitLines → (unit other : ℕ) → Bool
 is_older_line units lines unit other = versions_of lines unit && reaches (versions_of lines) (links_of lines) units unit other
 
@@ -44,7 +45,7 @@ is_older_line units lines unit other = versions_of lines unit && reaches (versio
 abbrev pub IsRanked : (units : ℕ) → UnitLines → Type 0
 IsRanked units lines = chain.IsRanked units (versions_of lines) (links_of lines)
 
--- each line that is there has V
+-- every line has V
 pub record AreValid (lines : UnitLines) : Type 0 where
   pub valid : (unit : ℕ) (line : SeenLine) → lines unit ≡ Some line → line.bits.valid ≡ true
 
@@ -52,7 +53,7 @@ pub record AreValid (lines : UnitLines) : Type 0 where
 abbrev pub ways_in : List CacheValue → ℕ
 ways_in caches = sum_by (λ (cache : CacheValue). cache.ways) caches
 
--- one search of each cache can be counted
+-- there is room to count one search of each cache
 pub record HasRoomForEach (probes : Probes) (caches : List CacheValue) : Type 0 where
   pub searches : probes.searches + length caches < 2 ^ 32
   pub places : probes.places + ways_in caches < 2 ^ 32
@@ -62,7 +63,7 @@ pub record CountsOneOfEach (before after : Probes) (caches : List CacheValue) : 
   pub searches : after.searches ≡ before.searches + length caches
   pub places : after.places ≤ before.places + ways_in caches
 
--- the same, where one of the caches isn't searched
+-- the same without one cache, which isn't searched
 pub record CountsEachOther (before after : Probes) (caches : List CacheValue) : Type 0 where
   pub searches : after.searches + 1 ≡ before.searches + length caches
   pub places : after.places ≤ before.places + ways_in caches

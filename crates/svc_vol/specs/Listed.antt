@@ -12,13 +12,13 @@ abbrev pub is_copy : Option SeenLine → Bool
 is_copy None = false
 is_copy (Some line) = is_committed line.bits && not (is_dirty line.bits)
 
--- the line, where it is one
+-- the line, if it is one
 abbrev pub IsCopyIn : Option Line → Option Line → Type 0
 IsCopyIn None copy = copy ≡ None
 IsCopyIn (Some line) None = is_copy (Some (seen line)) ≡ false
 IsCopyIn (Some line) (Some copy) = (copy ≡ line) × (is_copy (Some (seen line)) ≡ true)
 
--- the list has the clean committed line of each of the first so many units once and no other
+-- the list has the clean committed line of each of the first n units once, and nothing else
 pub record AreCopies (lines : UnitLines) (count : ℕ) (versions : List Version) : Type 0 where
   pub within : (k : ℕ) → k < length versions → unit_at versions k < count
   pub held : (k : ℕ) → k < length versions → lines (unit_at versions k) ≡ Some (seen (version_at versions k).line)
@@ -26,7 +26,7 @@ pub record AreCopies (lines : UnitLines) (count : ℕ) (versions : List Version)
   pub each : (u : ℕ) → u < count → is_copy (lines u) ≡ true → (k : ℕ) × (k < length versions) × (unit_at versions k ≡ u)
   pub apart : (j k : ℕ) → j < k → k < length versions → unit_at versions j ≢ unit_at versions k
 
--- the lines of the first so many units of the order come after what stood in the list
+-- the lines of the first n units of the order follow what the list had
 pub record ListsAfter (lines : UnitLines) (old : List Version) (order : List ℕ) (count : ℕ) (versions : List Version) : Type 0 where
   pub later : List Version
   pub are : versions ≡ old ++ later

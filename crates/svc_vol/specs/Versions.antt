@@ -21,7 +21,7 @@ pub record SeenVersion : Type 0 where
 abbrev pub seen_version : Version → SeenVersion
 seen_version version = record { unit = version.unit.0; line = seen version.line }
 
--- the unit's line, where it is active
+-- the unit's line, if it is active
 abbrev pub active_version : (unit : ℕ) → Option SeenLine → Option SeenVersion
 active_version unit None = None
 active_version unit (Some line) = if is_active line.bits then Some (record { unit = unit; line = line }) else None
@@ -34,6 +34,7 @@ active_versions lines units = map (λ unit. active_version unit (lines unit)) un
 abbrev pub no_version : Version
 no_version = record { unit = record { 0 = 0 }; line = record { value = 0; bits = record { 0 = 0 }; next = None } }
 
+-- the version at a place
 abbrev pub version_at : List Version → ℕ → Version
 version_at versions place = get_or versions place no_version
 
@@ -41,13 +42,13 @@ version_at versions place = get_or versions place no_version
 abbrev pub unit_at : List Version → ℕ → ℕ
 unit_at versions place = (version_at versions place).unit.0
 
--- it is the committed line of its unit, one of the first so many
+-- it is the committed line of its unit, one of the first n
 pub record IsCommittedVersion (lines : UnitLines) (count : ℕ) (version : Version) : Type 0 where
   pub within : version.unit.0 < count
   pub held : lines version.unit.0 ≡ Some (seen version.line)
   pub committed : is_committed (seen version.line).bits ≡ true
 
--- the list has each committed line of the first so many units once and no other, and no version stands after a newer one
+-- the list has each committed line of the first n units once and nothing else, and no version stands after a newer one
 pub record AreCommitted (lines : UnitLines) (count : ℕ) (versions : List Version) : Type 0 where
   pub few : length versions ≤ count
   pub only : (place : ℕ) → place < length versions → IsCommittedVersion lines count (version_at versions place)

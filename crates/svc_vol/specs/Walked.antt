@@ -9,7 +9,7 @@ use Rattle.svc_vol.specs.Lines.{UnitLines, is_committed_version, link_of, is_old
 abbrev pub is_before : Option SeenLine → (unit : ℕ) → Bool
 is_before line unit = is_committed_version line && is_unit (link_of line) unit
 
--- the list has each of so many units with a committed version of the word once and no other, and none after a newer one
+-- the list has each of n units with a committed version of the word once and nothing else, and none after a newer one
 pub record AreWalked (lines : UnitLines) (units : ℕ) (list : List ℕ) : Type 0 where
   pub all : (u : ℕ) → versions_of lines u ≡ true → StandsIn list u
   pub only : (i : ℕ) → i < length list → versions_of lines (get_or list i 0) ≡ true

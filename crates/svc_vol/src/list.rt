@@ -25,7 +25,7 @@ pub const CAPACITY: usize = 16;
 /// Among the committed lines those that were stored to are in the order of their tasks, oldest
 /// first. An active line is at the place of its task in the queue.
 ///
-/// A list may be filled again and again, for any word: it keeps the places in which it is made.
+/// A list may be filled again and again, for any word: it reuses its places.
 #[derive(Drop)]
 pub struct VersionList {
     // What a search finds in each cache, and the units of the committed versions, oldest first.
@@ -53,7 +53,7 @@ fn copy_in(line: &Option<Line>) -> Option<Line>
     }
 }
 
-// One look-up in each cache: the word's line in it.
+// One look-up in each cache for the word's line.
 fn find(
     found: &mut ArrayVec<Option<Line>, CAPACITY>,
     caches: &[Cache],
@@ -72,7 +72,7 @@ fn find(
     }
 }
 
-// The word's line in a cache, which is searched if the line isn't known.
+// The word's line in a cache, which is searched unless the line is known.
 fn line_beside(
     cache: &Cache,
     word: WordAddr,
@@ -155,7 +155,7 @@ fn list_versions(
     }
 }
 
-// The committed lines among those that were found: the clean ones, and then the versions, oldest first.
+// The committed lines among those found: the clean ones, and then the versions, oldest first.
 fn list_committed(
     committed: &mut ArrayVec<Version, CAPACITY>,
     order: &mut ArrayVec<usize, CAPACITY>,
@@ -171,7 +171,7 @@ fn list_committed(
     list_versions(committed, order, found);
 }
 
-// The active lines among those that were found, by the places of their tasks.
+// The active lines among those found, by the places of their tasks.
 fn list_active(
     active: &mut ArrayVec<Option<Version>, CAPACITY>,
     found: &[Option<Line>],
@@ -188,7 +188,7 @@ fn list_active(
     }
 }
 
-// The valid lines among those that were found, in order.
+// The valid lines among those found, in order.
 fn list_found(
     committed: &mut ArrayVec<Version, CAPACITY>,
     active: &mut ArrayVec<Option<Version>, CAPACITY>,

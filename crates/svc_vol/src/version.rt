@@ -18,7 +18,7 @@ pub struct Version {
 }
 
 impl Default for Version {
-    // A line without V: what fills the unused places of a list.
+    // A line without V, for the unused places of a list.
     fn default() -> Version {
         Version {
             unit: UnitId(0),

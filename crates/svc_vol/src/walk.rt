@@ -98,8 +98,7 @@ fn next_of(found: &[Option<Line>], unit: usize) -> Option<usize>
     }
 }
 
-/// The units of the committed versions, oldest first: along the links, from the version to which no
-/// other links.
+/// The units of the committed versions, oldest first: along the links, from the version that no other links to.
 pub(crate) fn oldest_first(order: &mut ArrayVec<usize, CAPACITY>, found: &[Option<Line>])
     requires few { length found.now ≤ CAPACITY }
     requires ranked { IsRanked (length found.now) (lines_at (map (option_map seen) found.now)) }

@@ -1,25 +1,25 @@
-//! What may be seen of a call.
+//! What a call may do.
 
 /// Why an attempt at a call has no answer.
 #[derive(Clone, Copy)]
 pub enum Refused {
     /// Memory was refused before the call.
     Before,
-    /// The call told that memory was refused.
+    /// The call reported that memory was refused.
     Told,
 }
 
-/// An attempt at a call: whether it answered rightly, or why it has no answer.
+/// An attempt at a call: whether it answered correctly, or why it has no answer.
 pub type Attempt = Result<bool, Refused>;
 
-/// What was seen of a call.
+/// What a call did.
 #[derive(Clone, Copy)]
 pub enum Seen {
     /// Memory was refused before the call.
     Before,
-    /// The call told that memory was refused, and answered rightly once there was enough.
+    /// The call reported that memory was refused, and answered correctly once there was enough.
     Told,
-    /// No request for memory was refused, and the call answered rightly.
+    /// No request for memory was refused, and the call answered correctly.
     Ample,
     /// A request for memory was refused in the call, and it answered as if none had been.
     Untold,
@@ -30,7 +30,7 @@ pub enum Seen {
 }
 
 impl Seen {
-    /// The word by which it is told.
+    /// The word that is printed for it.
     pub fn word(self) -> &'static str {
         match self {
             Seen::Before => "before",
@@ -43,7 +43,7 @@ impl Seen {
     }
 }
 
-/// What is made ready for a call.
+/// What is prepared for a call.
 pub fn ready<T: Drop, E: Drop>(made: Result<T, E>) -> Result<T, Refused> {
     match made {
         Ok(value) => Ok(value),

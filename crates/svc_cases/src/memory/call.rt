@@ -6,7 +6,7 @@ use std::rt::Files;
 use std::sync::Wait;
 use std::thread::Threads;
 
-// Makes the call of this name; none where no call has it. A name is of one call.
+// Makes the call of this name; none if no call has it. Each name belongs to one call.
 fn attempt<R: Files + Threads + Wait + Sync + AllocGlobal>(rt: &R, name: &str) -> Option<Attempt> {
     let alloc = rt.alloc();
     images::attempt(alloc, name)
@@ -18,7 +18,7 @@ fn attempt<R: Files + Threads + Wait + Sync + AllocGlobal>(rt: &R, name: &str) -
         .or(help::attempt(rt, name))
 }
 
-/// Makes the call of this name, and once more where it told that memory was refused.
+/// Makes the call of this name, and makes it again if it reported that memory was refused.
 pub fn seen<R: Files + Threads + Wait + Sync + AllocGlobal>(rt: &R, name: &str) -> Seen {
     match attempt(rt, name) {
         None => Seen::Unknown,

@@ -1,4 +1,4 @@
-//! The help, which is the parser's text: each subcommand explains its options. And words without number.
+//! The help, which is the parser's text: each subcommand explains its options. And too many words.
 
 use super::attempt::{Attempt, Refused, ready};
 use super::program::{Samples, line};
@@ -7,7 +7,7 @@ use std::sync::Wait;
 use std::thread::Threads;
 use svc_command::execute;
 
-/// Makes the call of this name, where it is one of these.
+/// Makes the call of this name, if it is one of these.
 pub fn attempt<R: Threads + Wait + Sync + AllocGlobal>(rt: &R, name: &str) -> Option<Attempt> {
     match name {
         "help_explains_each_option" => Some(explains_each_option(rt)),
@@ -18,7 +18,7 @@ pub fn attempt<R: Threads + Wait + Sync + AllocGlobal>(rt: &R, name: &str) -> Op
     }
 }
 
-// What is printed at these words, which ask for help.
+// What these words, which ask for help, print.
 fn help<R: Threads + Wait + Sync + AllocGlobal>(
     rt: &R,
     words: &[&str],

@@ -7,7 +7,7 @@ use svc_image::{Image, ImageError, Version};
 use svc_plain::{PlainError, run_tasks};
 use svc_samples::{P, P2};
 
-/// Makes the call of this name, where it is one of these.
+/// Makes the call of this name, if it is one of these.
 pub fn attempt(alloc: Global, name: &str) -> Option<Attempt> {
     match name {
         "image_read" => Some(read(alloc)),
@@ -42,7 +42,7 @@ fn read(alloc: Global) -> Attempt {
     }
 }
 
-/// All but the sample's last byte is read, which is too short.
+/// All except the sample's last byte is read, which is too short.
 fn read_front(alloc: Global) -> Attempt {
     Ok(matches!(Image::read(alloc, &P[..199]), Err(ImageError::Short)))
 }
@@ -81,7 +81,7 @@ fn copy(alloc: Global) -> Attempt {
     }
 }
 
-/// The sample is made an image of version 2: no word is read-only, and the limit stands at each entry.
+/// The sample is made an image of version 2: no word is read-only, and each entry has the limit.
 fn upgrade(alloc: Global) -> Attempt {
     let image = sample(alloc)?;
     match image.upgrade(alloc) {

@@ -1,4 +1,4 @@
-//! Calls that open machines and recorders. What is opened then takes ten events, for which no memory is left to ask.
+//! Calls that open machines and recorders. What they open then takes ten events, for which it asks for no more memory.
 
 use super::attempt::{Attempt, Refused, ready};
 use super::images::sample;
@@ -11,7 +11,7 @@ use svc_machine::drive;
 use svc_samples::{Line, TEN, TEN_ENTRIES};
 use svc_schedule::{Youngest, run_schedule};
 
-/// Makes the call of this name, where it is one of these.
+/// Makes the call of this name, if it is one of these.
 pub fn attempt(alloc: Global, name: &str) -> Option<Attempt> {
     match name {
         "machine_open" => Some(open(alloc)),
@@ -24,12 +24,12 @@ pub fn attempt(alloc: Global, name: &str) -> Option<Attempt> {
     }
 }
 
-// Four units, and room for the ten events alone.
+// Four units, and room for only the ten events.
 fn four_units() -> Result<Config, Refused> {
     ready(Config::new(4, 16, 2, 10, 1))
 }
 
-// The burst that the unit of a line has its task taken on by.
+// The burst by which the unit of a line runs its task on.
 fn burst(machine: &Machine, line: Line) -> Option<Burst> {
     match line {
         Line::Submit(unit) => {
@@ -53,7 +53,7 @@ fn event(line: Line, burst: &Option<Burst>) -> Option<Event<'_>> {
     }
 }
 
-// Both tasks are committed, and the second has put out what the first stored.
+// Both tasks are committed, and the second has output what the first stored.
 fn is_done(machine: &Machine) -> bool {
     machine.output() == [5].as_slice()
         && machine.committed_tasks() == 2
@@ -117,8 +117,8 @@ fn record(alloc: Global) -> Attempt {
     }
 }
 
-/// A machine is driven over the first task: it is begun, its store is submitted, and it is committed. Where that is refused,
-/// another machine takes the ten events.
+/// A machine is driven over the first task: it is begun, its store is submitted, and it is committed. If that is
+/// refused, another machine takes the ten events.
 fn driven(alloc: Global) -> Attempt {
     let config = four_units()?;
     let image = sample(alloc)?;

@@ -6,8 +6,9 @@ ghost use Rattle.std.specs.List.{starts_with};
 use super::attempt::{Attempt, Refused, ready};
 use super::texts::TEXT;
 use super::wanted::{
-    CHECK, DEPEND, DEPEND_BY_TASK, DEPEND_BY_WORD, LIST, PROFILE, PROFILE_BY_TASK, PROFILE_BY_UNIT,
-    PROFILE_BY_WORD, PROFILE_ROW, RUN, RUN_ROW, SCHEDULE, SCRIPT, SEQ, SHOW, SHOW_AT,
+    CHECK, DEPEND, DEPEND_AS_GRAPH, DEPEND_BY_PAIR, DEPEND_BY_TASK, DEPEND_BY_WORD, LIST, PROFILE,
+    PROFILE_BY_TASK, PROFILE_BY_UNIT, PROFILE_BY_WORD, PROFILE_ROW, RUN, RUN_ROW, SCHEDULE, SCRIPT,
+    SEQ, SHOW, SHOW_AT,
 };
 use std::alloc::{AllocError, Global};
 use std::sync::Wait;
@@ -20,19 +21,22 @@ use svc_program::{
 };
 use svc_samples::{P, TRACE};
 
-/// Makes the call of this name, where it is one of these.
+/// Makes the call of this name, if it is one of these.
 pub fn attempt<R: Threads + Wait + Sync + AllocGlobal>(rt: &R, name: &str) -> Option<Attempt> {
     attempt_image(rt, name).or(attempt_trace(rt, name))
 }
 
-// The calls that want no trace.
+// The calls that read no trace.
 fn attempt_image<R: Threads + Wait + Sync + AllocGlobal>(rt: &R, name: &str) -> Option<Attempt> {
     match name {
         "seq" => Some(seq(rt)),
         "depend" => Some(depend(rt, None, DEPEND)),
         "depend_by_task" => Some(depend(rt, Some(NeedsTable::Tasks), DEPEND_BY_TASK)),
         "depend_by_word" => Some(depend(rt, Some(NeedsTable::Words), DEPEND_BY_WORD)),
-        "script" => Some(script(rt)),
+        "depend_by_pair" => Some(depend(rt, Some(NeedsTable::Pairs), DEPEND_BY_PAIR)),
+        "depend_as_graph" => Some(depend(rt, Some(NeedsTable::Graph), DEPEND_AS_GRAPH)),
+        "script" => Some(script(rt, None)),
+        "script_saved" => Some(script(rt, Some("saved"))),
         "script_line" => Some(script_line(rt)),
         "run" => Some(run(rt)),
         "schedule" => Some(schedule(rt, Some("saved"), None, SCHEDULE)),
@@ -59,7 +63,7 @@ fn attempt_trace<R: Threads + Wait + Sync + AllocGlobal>(rt: &R, name: &str) -> 
     }
 }
 
-/// The files that the words name. What is saved is as if it had gone to a disk.
+/// The files that the words name. Saving always succeeds, as if on a disk.
 #[derive(Drop)]
 pub struct Samples;
 
@@ -69,7 +73,7 @@ static IMAGE: [u8; 200] = P;
 impl Files for Samples {
     type Reader = &'static [u8];
 
-    fn open(&mut self, name: &str) -> Result<&'static [u8], FileFault> {
+    fn open(&self, name: &str) -> Result<&'static [u8], FileFault> {
         match name {
             "p" => Ok(IMAGE.as_slice()),
             "events" => Ok(svc_samples::SCRIPT.as_bytes()),
@@ -88,8 +92,8 @@ impl Files for Samples {
     }
 }
 
-// What the program tells where memory was refused: the last by the parser of its words, and the one before it where it
-// was refused to the vector that stands for standard output.
+// What the program reports if memory was refused: the last comes from the parser of its words, and the one before it if
+// memory was refused to the vector that stands for standard output.
 const TOLD: [&str; 9] = [
     "svcsim: file fault\n",
     "svcsim: image fault 9\n",
@@ -102,7 +106,7 @@ const TOLD: [&str; 9] = [
     "error: out of memory\n",
 ];
 
-// Whether this is told where memory was refused.
+// Whether this is what the program reports if memory was refused.
 fn is_told(err: &[u8]) -> bool {
     for fault in TOLD {
         if err == fault.as_bytes() {
@@ -112,7 +116,7 @@ fn is_told(err: &[u8]) -> bool {
     false
 }
 
-// What the program has printed and ended with is right, or it has told of a fault and printed a beginning of that.
+// What the program printed and ended with is right, or it reported a fault and printed a beginning of that.
 fn judged(status: u8, out: &[u8], err: &[u8], wanted: &str) -> Attempt
     ensures right { result ≡ Ok true → (status ≡ 0) × (out.now ≡ wanted.now) }
     ensures told { IfErr result (λ _. (status ≡ 1) × (starts_with nat_eq wanted.now out.now ≡ true)) }
@@ -135,7 +139,7 @@ pub fn line(alloc: Global, words: &[&str]) -> Result<Vec<String>, AllocError> {
     Ok(line)
 }
 
-// Does what the words of a command line say, which prints this.
+// Does what the words of a command line say, which should print this.
 fn told_by<R: Threads + Wait + Sync + AllocGlobal>(
     rt: &R,
     words: &[&str],
@@ -154,7 +158,7 @@ fn seq<R: Threads + Wait + Sync + AllocGlobal>(rt: &R) -> Attempt {
     told_by(rt, &["svcsim", "seq", "p", "--tasks", "2"], SEQ)
 }
 
-// Does what is asked for, which prints this.
+// Does what is asked for, which should print this.
 fn asked<R: Threads + Wait + Sync + AllocGlobal>(
     rt: &R,
     request: Request<'_>,
@@ -170,7 +174,7 @@ fn asked<R: Threads + Wait + Sync + AllocGlobal>(
     judged(status, &out, &err, wanted)
 }
 
-/// What both tasks need of one another is told, by this table or in all.
+/// What both tasks need of one another is printed, by this table or in total.
 fn depend<R: Threads + Wait + Sync + AllocGlobal>(
     rt: &R,
     by: Option<NeedsTable>,
@@ -182,12 +186,13 @@ fn depend<R: Threads + Wait + Sync + AllocGlobal>(
     }
 }
 
-/// Ten events are done.
-fn script<R: Threads + Wait + Sync + AllocGlobal>(rt: &R) -> Attempt {
+/// Ten events are done, and their trace is saved where a file is named for it.
+fn script<R: Threads + Wait + Sync + AllocGlobal>(rt: &R, trace: Option<&str>) -> Attempt {
     let scripted = Scripted {
         image: Source::File("p"),
         config: ready(Config::new(4, 16, 2, 10, 1))?,
         events: "events",
+        trace,
     };
     asked(rt, Request::Script(scripted), SCRIPT)
 }
@@ -255,7 +260,7 @@ const HEADED: TableRow<'static> = TableRow {
     header: true,
 };
 
-/// What the trace of ten events cost is told, by this table or in all.
+/// What the trace of ten events cost is printed, by this table or in total.
 fn profile<R: Threads + Wait + Sync + AllocGlobal>(
     rt: &R,
     by: Option<Table<'_>>,
@@ -264,7 +269,7 @@ fn profile<R: Threads + Wait + Sync + AllocGlobal>(
     asked(rt, Request::Profile(ten_entries()?, by), wanted)
 }
 
-/// The machine to which the trace of ten events leads is shown, after so many of them or after all.
+/// The machine to which the trace of ten events leads is shown, after this many of them or after all.
 fn show<R: Threads + Wait + Sync + AllocGlobal>(rt: &R, at: Option<u64>, wanted: &str) -> Attempt {
     asked(rt, Request::Show(ten_entries()?, at), wanted)
 }

@@ -9,7 +9,7 @@ use std::{fs, rt};
 use svc_command::{Disk, words_of};
 use svc_program::{Fault, Files};
 
-/// Makes the call of this name, where it is one of these.
+/// Makes the call of this name, if it is one of these.
 pub fn attempt<R: rt::Files + AllocGlobal>(rt: &R, name: &str) -> Option<Attempt> {
     match name {
         "words" => Some(words(rt.alloc())),
@@ -19,7 +19,7 @@ pub fn attempt<R: rt::Files + AllocGlobal>(rt: &R, name: &str) -> Option<Attempt
     }
 }
 
-// A command line of three words of one byte, of which the second may be any.
+// A command line of three words of one byte; the second may be any byte.
 #[derive(Drop)]
 struct Given {
     second: u8,
@@ -46,7 +46,7 @@ impl Env for Given {
     }
 }
 
-// The words of such a line, of which the second is b.
+// The words of such a line whose second word is b.
 fn is_read(words: &[String]) -> bool {
     match words {
         [first, second, third] => first.as_str() == "a"
@@ -65,7 +65,7 @@ fn words(alloc: Global) -> Attempt {
     }
 }
 
-/// Of three words the second is no UTF-8.
+/// The second of three words is not UTF-8.
 fn words_that_are_no_text(alloc: Global) -> Attempt {
     Ok(matches!(words_of(&(Given { second: 0xFF }, alloc)), Err(Fault::File)))
 }

@@ -1,4 +1,4 @@
-//! Calls that write and read texts. What is written goes to a room that is made before.
+//! Calls that write and read texts. They write to room that is made before.
 
 use super::attempt::{Attempt, Refused, ready};
 use std::alloc::Global;
@@ -8,7 +8,7 @@ use svc_report::{
 };
 use svc_samples::{SCRIPT, SUMMARY, TEN_ENTRIES, TRACE};
 
-/// Makes the call of this name, where it is one of these.
+/// Makes the call of this name, if it is one of these.
 pub fn attempt(alloc: Global, name: &str) -> Option<Attempt> {
     match name {
         "write_trace" => Some(write_history(alloc)),
@@ -20,7 +20,7 @@ pub fn attempt(alloc: Global, name: &str) -> Option<Attempt> {
     }
 }
 
-/// A program with each section, and with names and local labels of its own.
+/// A program with each section, names and local labels.
 pub const TEXT: &str = ".svc_register x2, 256
 .svc_entry
 1:

@@ -14,7 +14,7 @@ use svc_image::samples::P1;
 use svc_samples::SIX_ENTRIES;
 use svc_threads::{BoardPass, Gate, Phase, RunError, SharedBus, run_unit};
 
-/// Makes the call of this name, where it is one of these.
+/// Makes the call of this name, if it is one of these.
 pub fn attempt<R: Wait>(rt: &R, alloc: Global, name: &str) -> Option<Attempt> {
     match name {
         "run_unit" => Some(run_alone(rt, alloc)),
@@ -71,7 +71,7 @@ fn slips<R: Wait>(
     run_unit(rt, alloc, bus, UnitId(0), pass, image, TURNS, &Open).map(|slips| slips.len())
 }
 
-// The thread has brought back a slip of each event and the task is committed, or it has told that memory was refused.
+// The thread brought back a slip of each event and the task is committed, or it reported that memory was refused.
 fn judged(slips: Result<usize, RunError>, recorder: &Recorder) -> Attempt {
     let begins_rightly = are_first(recorder.entries());
     match slips {

@@ -1,6 +1,6 @@
-//! What the program has to print.
+//! What the program should print.
 
-/// By the script of ten events: a line for each, and the summary.
+/// For the script of ten events: a line for each, and the summary.
 pub const SCRIPT: &str = "assign,0,0,,,assigned,,0,,,,,
 assign,1,12,,,assigned,,12,,,,,
 submit,1,,1,1,loaded,0,0,memory,,,,
@@ -30,7 +30,7 @@ cut-guess,0
 cut-cancel,0
 ";
 
-/// By a run of the built-in image on one unit.
+/// For a run of the built-in image on one unit.
 pub const RUN: &str = "out,5
 tasks,1
 exit,5
@@ -50,7 +50,7 @@ cut-guess,0
 cut-cancel,0
 ";
 
-/// By a run of two tasks on four units by a schedule, the youngest task first.
+/// For a run of two tasks on four units by a schedule, the youngest task first.
 pub const SCHEDULE: &str = "out,5
 tasks,2
 exit,5
@@ -76,10 +76,10 @@ pub const RUN_ROW: &str =
 a,2,exit,5,16,36,0,0,2,0,0,7,0,0,3,5,3,0
 ";
 
-/// By both tasks in order.
+/// For both tasks in order.
 pub const SEQ: &str = "out,5\ntasks,2\nexit,5\n";
 
-/// By what both tasks need of one another.
+/// For what both tasks need of one another.
 pub const DEPEND: &str = "tasks,2
 exit,5
 turns,9
@@ -101,10 +101,21 @@ pub const DEPEND_BY_WORD: &str = "word,readers,writers,nearest
 0,1,1,1
 ";
 
-/// By the check of the trace of ten events.
+/// The same, by pairs.
+pub const DEPEND_BY_PAIR: &str = "task,on,distance,words
+1,0,1,1
+";
+
+/// The same, as a graph.
+pub const DEPEND_AS_GRAPH: &str = "digraph depend {
+  1 -> 0 [label=\"0\"];
+}
+";
+
+/// For the check of the trace of ten events.
 pub const CHECK: &str = "sound,10\n";
 
-/// By the profile of the trace of ten events.
+/// For the profile of the trace of ten events.
 pub const PROFILE: &str = "events,10
 tasks-begun,3
 tasks-committed,2
@@ -157,7 +168,7 @@ pub const PROFILE_BY_WORD: &str = "word,loads,stores,versions,violations,squashe
 0,2,1,0,1,1,2
 ";
 
-/// By the machine after ten events.
+/// For the machine after ten events.
 pub const SHOW: &str = "at,10
 tasks,2
 due,
@@ -167,7 +178,7 @@ line,1,0,5,V-LC-
 memory,0,5,5
 ";
 
-/// By the machine after four of them.
+/// For the machine after four of them.
 pub const SHOW_AT: &str = "at,4
 tasks,0
 due,0
@@ -178,7 +189,7 @@ line,0,0,5,VS---
 memory,0,0,0
 ";
 
-/// By the listing of the sample of two tasks.
+/// For the listing of the sample of two tasks.
 pub const LIST: &str = ".svc_version 1
 .svc_limit 100
 .svc_start at_00000000

@@ -287,7 +287,7 @@ fn a_squash_in_the_middle_keeps_the_order(rt: HostRuntime) {
 }
 
 // One look-up in each of the four caches, one for the line that is put in, and one for each line that is purged or
-// marked stale; a hit looks into its own cache alone.
+// marked stale; a hit looks only into its own cache.
 #[test]
 fn the_look_ups_of_each_call_are_told(rt: HostRuntime) {
     let calls = [
@@ -313,7 +313,7 @@ fn the_look_ups_of_each_call_are_told(rt: HostRuntime) {
     tells(&rt, &mut bus, &calls);
 }
 
-// After each call so many look-ups are told.
+// After each call this many look-ups are reported.
 fn tells(rt: &impl Abort, bus: &mut Bus, calls: &[(Step, u32)]) {
     for (number, (step, look_ups)) in calls.iter().enumerate() {
         perform(rt, bus, *step);

@@ -47,13 +47,13 @@ fn seen(alloc: Global, glance: Glance) -> Result<String, AllocError> {
     format!(in alloc; "{ended} {at:?} {is_head} {guess:?}")
 }
 
-// The step that the recorder tells after so many of the ten events.
+// The step that the recorder answers after this many of the ten events.
 fn told(rt: &impl Abort, alloc: Global, count: usize, unit: u8) -> Step {
     let recorder = after(rt, alloc, 1_000, count);
     step_of(recorder.next_move(UnitId(unit)).expect(rt, "a move"))
 }
 
-// The unit's glance at a recorder with room for so many entries, after so many of the ten events.
+// The unit's glance at a recorder with room for this many entries, after this many of the ten events.
 fn glance(rt: &impl Abort, alloc: Global, room: u32, count: usize, unit: u8) -> Glance {
     let recorder = after(rt, alloc, room, count);
     recorder.glance(UnitId(unit)).expect(rt, "a glance")
@@ -65,7 +65,7 @@ fn refusal(rt: &impl Abort, alloc: Global, unit: u8) -> Option<Refusal> {
     recorder.glance(UnitId(unit)).err()
 }
 
-// After so many of the ten events, what the unit sees.
+// What the unit sees after this many of the ten events.
 const GLANCES: [(usize, u8, &str); 7] = [
     (0, 3, "false None false Some(0)"),
     (1, 0, "false Some(0) true Some(12)"),
@@ -95,7 +95,7 @@ fn a_full_history_has_ended(rt: HostRuntime) {
     agrees(&rt, seen(rt.alloc(), glance_full), full);
 }
 
-// After so many of the ten events, what the unit does next.
+// What the unit does next after this many of the ten events.
 const MOVES: [(usize, u8, Step); 7] = [
     (0, 1, Step::Begin(0)),
     (2, 3, Step::Begin(0)),
@@ -117,8 +117,8 @@ fn a_unit_moves_by_what_it_sees(rt: HostRuntime) {
     }
 }
 
-// The moves of a glance, and of the same where the unit isn't the head, where it has no task and there is a guess or
-// none, and where the run has ended.
+// The moves of a glance, and of the same if the unit isn't the head, if it has no task and there is a guess or none,
+// and if the run has ended.
 fn turned(glance: Glance) -> [Step; 5] {
     let later = Glance {
         is_head: false,
@@ -146,7 +146,7 @@ fn turned(glance: Glance) -> [Step; 5] {
     ]
 }
 
-// Each field that the move hangs on, where it alone is turned.
+// Each field on which the move depends, changed by itself.
 #[test]
 fn the_first_case_that_holds_tells_the_move(rt: HostRuntime) {
     let glance = glance(&rt, rt.alloc(), 1_000, 4, 0);

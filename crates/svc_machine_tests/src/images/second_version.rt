@@ -6,7 +6,7 @@ use std::alloc::Global;
 use std::process::Abort;
 use svc_samples::{P, P2};
 
-// What the readers tell of an image: its version, its read-only words, and the limits at 0, 4 and 12.
+// What the readers of an image answer: its version, its read-only words, and the limits at 0, 4 and 12.
 fn shown(rt: &impl Abort, alloc: Global, file: &[u8]) -> (u16, u32, [Option<u32>; 3]) {
     let image = image_of(rt, alloc, file);
     let limits = [image.limit_at(0), image.limit_at(4), image.limit_at(12)];

@@ -1,4 +1,4 @@
-// Lists of events, some of which come too early: these are passed over.
+// Lists of events, some of which come too early and are passed over.
 
 use super::limits::first_burst;
 use super::reads::{of_the_run, of_the_word};
@@ -31,7 +31,7 @@ fn a_commit_too_early_is_passed_over(rt: HostRuntime) {
     agrees(&rt, of_the_word(rt.alloc(), &machine), "5 0");
 }
 
-// The burst that this unit submits after so many of the ten events.
+// The burst that this unit submits after this many of the ten events.
 fn burst_after(rt: &impl Abort, alloc: Global, count: usize, unit: u8) -> Burst {
     let mut machine = opened_from(rt, alloc, &P, 0);
     play(rt, &mut machine, first(count));
@@ -68,7 +68,7 @@ fn with_early_commits(bursts: &[Burst; 5]) -> [Event<'_>; 13] {
     ]
 }
 
-// A machine that is driven over these is that of the ten events.
+// Driven over these, a machine is that of the ten events.
 #[test]
 fn commits_too_early_leave_the_ten_events(rt: HostRuntime) {
     let bursts = [

@@ -14,7 +14,7 @@ const BEGIN: Line = Line::Assign(0, 0);
 
 const NEXT: Line = Line::Assign(1, 12);
 
-// Why the last line is refused after the others, where the first assignment gets this epoch.
+// Why the last line is refused after the others, if the first assignment gets this epoch.
 fn refusal(
     rt: &impl Abort,
     alloc: Global,
@@ -56,7 +56,7 @@ pub fn first_burst(rt: &impl Abort, alloc: Global, file: &[u8]) -> Burst {
     lease.advance(&image, 63)
 }
 
-// What that burst is answered when it is submitted, and when it is submitted again.
+// How that burst is answered when it is submitted, and when it is submitted again.
 fn answers_twice(rt: &impl Abort, alloc: Global, file: &[u8]) -> [Answer; 2] {
     let burst = first_burst(rt, alloc, file);
     let mut machine = opened_from(rt, alloc, &P, 0);

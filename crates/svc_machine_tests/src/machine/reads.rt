@@ -1,4 +1,4 @@
-// What the machine tells, from its opening to its stop.
+// What the machine says, from its opening to its stop.
 
 ghost use Rattle.std.specs.Prelude.{◌<◌};
 
@@ -14,7 +14,7 @@ const BEGUN: &[Line] = &[Line::Assign(0, 0)];
 
 const STORED: &[Line] = &[Line::Assign(0, 0), Line::Submit(0)];
 
-// Which of the reads are told.
+// Which of the reads are made.
 #[derive(Clone, Copy)]
 enum Reads {
     // of the run
@@ -113,7 +113,7 @@ fn the_reads_follow_the_events(rt: HostRuntime) {
     tells(&rt, rt.alloc(), &P, STORED, Reads::Lines, "Some(5) None");
 }
 
-// The committed word stays in its cache until it is asked for.
+// The committed word stays in its cache until it is requested.
 #[test]
 fn a_commit_leaves_the_backing_word(rt: HostRuntime) {
     let committed = "4 1 Some(12) Some(0) [] None Open(12)";

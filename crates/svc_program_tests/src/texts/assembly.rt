@@ -1,9 +1,9 @@
-// A text with a word more than an image may have, which is too long for a case.
+// A text with one word more than an image may have, which is too long for a case.
 
 use std::alloc::{AllocError, Global};
 use svc_asm::assemble;
 
-// Whether a text makes no image, and this is told of it.
+// Whether a text makes no image, and this is reported of it.
 fn is_told(alloc: Global, text: &str, wanted: &str) -> bool {
     match assemble(alloc, text.as_bytes()) {
         Ok(_) => false,
@@ -14,7 +14,7 @@ fn is_told(alloc: Global, text: &str, wanted: &str) -> bool {
     }
 }
 
-// A line of so many words 0 and one more.
+// A line of this many words 0 and one more.
 fn words_line(alloc: Global, count: usize) -> Result<String, AllocError> {
     let mut line = String::new(alloc);
     line.push_str(".word 0")?;
@@ -24,7 +24,7 @@ fn words_line(alloc: Global, count: usize) -> Result<String, AllocError> {
     Ok(line)
 }
 
-// Whether this is told of such a line.
+// Whether this is reported of such a line.
 fn is_told_of_words(alloc: Global, count: usize, wanted: &str) -> bool {
     match words_line(alloc, count) {
         Ok(line) => is_told(alloc, line.as_str(), wanted),

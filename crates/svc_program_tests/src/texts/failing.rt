@@ -2,7 +2,7 @@
 
 use std::io::{self, ErrorKind, Read, Write};
 
-/// A writer that is to be given a text: it takes a byte at a time, and fails once, after so many bytes.
+/// A writer that should be given a text: it takes a byte at a time, and fails once, after this many bytes.
 #[derive(Drop)]
 pub struct FailingWriter<'a> {
     // What is still to come of the text.
@@ -10,12 +10,12 @@ pub struct FailingWriter<'a> {
     // How many bytes are taken before the failure.
     left: usize,
     failed: bool,
-    // Whether each byte that was taken is the text's, and none came behind the failure.
+    // Whether each byte that was taken is the text's, and none came after the failure.
     as_wanted: bool,
 }
 
 impl FailingWriter<'_> {
-    /// A writer that is to be given this text, and fails after so many bytes.
+    /// A writer that should be given this text, and fails after this many bytes.
     pub fn after(text: &[u8], left: usize) -> FailingWriter<'_> {
         FailingWriter {
             rest: text,
@@ -25,7 +25,7 @@ impl FailingWriter<'_> {
         }
     }
 
-    /// Whether it has failed, and was given the text until there, and no more.
+    /// Whether it has failed, and was given the text up to there, and no more.
     pub fn is_broken(&self) -> bool {
         self.failed && self.as_wanted
     }
@@ -62,7 +62,7 @@ impl Write for FailingWriter<'_> {
     }
 }
 
-/// A reader that gives a text byte by byte, and fails once, after so many bytes.
+/// A reader that gives a text byte by byte, and fails once, after this many bytes.
 #[derive(Drop)]
 pub struct FailingReader<'a> {
     text: &'a [u8],
@@ -71,7 +71,7 @@ pub struct FailingReader<'a> {
 }
 
 impl FailingReader<'_> {
-    /// A reader that gives this text, and fails after so many bytes.
+    /// A reader that gives this text, and fails after this many bytes.
     pub fn after(text: &[u8], left: usize) -> FailingReader<'_> {
         FailingReader {
             text,

@@ -1,4 +1,4 @@
-// What stands for a disk without files.
+// A disk without files.
 
 use std::io::Empty;
 use svc_program::{FileFault, Files};
@@ -10,7 +10,7 @@ pub struct NoFiles;
 impl Files for NoFiles {
     type Reader = Empty;
 
-    fn open(&mut self, _name: &str) -> Result<Empty, FileFault> {
+    fn open(&self, _name: &str) -> Result<Empty, FileFault> {
         Err(FileFault)
     }
 

@@ -51,7 +51,7 @@ fn built_in<'a>() -> Option<Request<'a>> {
     }))
 }
 
-// The status of an answer, of which a fault is told.
+// The status of an answer, whose fault, if any, is reported.
 fn status_of<E: Write>(answer: Result<u8, Fault>, err: &mut E) -> u8 {
     match answer {
         Ok(status) => status,
@@ -59,7 +59,7 @@ fn status_of<E: Write>(answer: Result<u8, Fault>, err: &mut E) -> u8 {
     }
 }
 
-// Whether that run over such a writer ends with this status, and tells this.
+// Whether that run over such a writer ends with this status, and reports this.
 fn ends_so<R: Threads + Wait + Sync + AllocGlobal>(
     rt: &R,
     mut out: Narrow,
@@ -73,8 +73,8 @@ fn ends_so<R: Threads + Wait + Sync + AllocGlobal>(
     Some(status == wanted && err.as_slice() == told.as_bytes())
 }
 
-// For how many bytes there is room, whether the writer can be flushed, and with which status that ends, after telling
-// what.
+// For how many bytes there is room, whether the writer can be flushed, and the status and the report with which that
+// ends.
 const ENDS: [(usize, bool, u8, &str); 4] = [
     (0, true, 1, "svcsim: report fault 2\n"),
     (7, true, 1, "svcsim: report fault 2\n"),
@@ -97,7 +97,7 @@ struct TwoFiles;
 impl Files for TwoFiles {
     type Reader = &'static [u8];
 
-    fn open(&mut self, name: &str) -> Result<&'static [u8], FileFault> {
+    fn open(&self, name: &str) -> Result<&'static [u8], FileFault> {
         let text = match name {
             "events" => "kind,unit,arg\nassign,0,0\nsubmit,0,63\ncommit,0,\n",
             "trace" => "kind,unit,arg,local,ask,reply,addr,word,served,from,cause,first,squashed\n\
@@ -116,7 +116,7 @@ impl Files for TwoFiles {
     }
 }
 
-// What prints each kind of text.
+// A request that prints each kind of text.
 #[derive(Clone, Copy)]
 enum Printing {
     Summary,
@@ -153,6 +153,7 @@ fn request_of<'a>(kind: Printing, config: Config) -> Request<'a> {
             image,
             config,
             events: "events",
+            trace: None,
         }),
         Printing::Check => Request::Check(traced),
         Printing::Profile => Request::Profile(traced, None),
@@ -163,7 +164,7 @@ fn request_of<'a>(kind: Printing, config: Config) -> Request<'a> {
     }
 }
 
-// What does a request over a writer, and answers what is told.
+// Does a request over a writer, and answers what is reported.
 fn print<R: Threads + Wait + Sync + AllocGlobal, O: Write>(
     rt: &R,
     kind: Printing,
@@ -190,8 +191,8 @@ const ACCEPTED: &str = "assign,0,0,,,assigned,,0,,,,,\nsubmit,0,,2,1,stored,0,5,
 // The line of its refused one.
 const REFUSED: &str = "refused,12\n";
 
-// Whether the byte at this place of a kind's text is of a line of the program's own: that of a check, of the version or of a
-// refused event.
+// Whether the byte at this place of a kind's text belongs to a line of the program's own: that of a check, of the
+// version or of a refused event.
 fn is_of_a_line(kind: Printing, place: usize) -> bool {
     match kind {
         Printing::Check | Printing::Version => true,
@@ -200,7 +201,7 @@ fn is_of_a_line(kind: Printing, place: usize) -> bool {
     }
 }
 
-// Whether that fault of output is told, as a file fault where it is of a line that is no text of its own.
+// Whether that fault of output is reported: as a file fault if it is in a line of the program's own.
 fn is_told(answer: Option<Result<u8, Fault>>, is_line: bool) -> bool {
     match answer {
         Some(Err(Fault::Output)) => is_line,
@@ -209,7 +210,7 @@ fn is_told(answer: Option<Result<u8, Fault>>, is_line: bool) -> bool {
     }
 }
 
-// Whether the failure of a writer after so many bytes of the whole text is told, and nothing follows it.
+// Whether the failure of a writer after this many bytes of the whole text is reported, and nothing follows it.
 fn failure_is_told<R: Threads + Wait + Sync + AllocGlobal>(
     rt: &R,
     kind: Printing,
@@ -256,7 +257,7 @@ impl Write for Unflushed {
     }
 }
 
-// Whether that is told.
+// Whether that is reported.
 fn flush_is_told<R: Threads + Wait + Sync + AllocGlobal>(rt: &R, kind: Printing) -> bool {
     let answer = print(rt, kind, &mut Unflushed);
     is_told(answer, matches!(kind, Printing::Check | Printing::Version))
@@ -273,7 +274,7 @@ static IMAGE: [u8; 200] = P;
 
 const TEXT: &[u8] = b".data\n";
 
-// Files that fail once while they are read, after so many bytes.
+// Files that fail once while they are read, after this many bytes.
 #[derive(Drop)]
 struct FailingFiles {
     left: usize,
@@ -282,7 +283,7 @@ struct FailingFiles {
 impl Files for FailingFiles {
     type Reader = FailingReader<'static>;
 
-    fn open(&mut self, name: &str) -> Result<FailingReader<'static>, FileFault> {
+    fn open(&self, name: &str) -> Result<FailingReader<'static>, FileFault> {
         match name {
             "image" => Ok(FailingReader::after(&IMAGE, self.left)),
             "text" => Ok(FailingReader::after(TEXT, self.left)),
@@ -299,7 +300,7 @@ impl Files for FailingFiles {
     }
 }
 
-// Whether a request is told as a fault of its file, which fails after so many bytes.
+// Whether a request reports a fault of its file, which fails after this many bytes.
 fn file_fails<R: Threads + Wait + Sync + AllocGlobal>(
     rt: &R,
     request: Request<'_>,

@@ -16,7 +16,7 @@ fn is_written(alloc: Global, history: &[Entry], wanted: &str) -> bool {
     }
 }
 
-// The entries of the history a hundred times over.
+// The entries of the history, a hundred times over.
 fn long_history(alloc: Global) -> Result<Vec<Entry>, AllocError> {
     TEN_ENTRIES.repeat(alloc, 100)
 }

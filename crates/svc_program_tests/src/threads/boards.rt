@@ -31,7 +31,7 @@ fn bus_of_two<R: Wait + Abort>(rt: &R, alloc: Global) -> (SharedBus, BoardPass)
     opened(rt, alloc, two_tasks(rt, alloc), config)
 }
 
-// What is seen of some events.
+// What some events leave.
 #[derive(Clone, Copy)]
 struct Seen {
     // what the board shows before them
@@ -42,7 +42,7 @@ struct Seen {
     after: BoardRow,
     // the epoch of unit 0's task then
     epoch: Option<u64>,
-    // whether a unit that is not there may lease
+    // whether a unit that doesn't exist may lease
     stranger: bool,
     // what another board shows that is opened then
     again: BoardRow,
@@ -53,7 +53,7 @@ fn epoch_of<R: Wait>(rt: &R, bus: &SharedBus, unit: UnitId) -> Option<u64> {
     Some(lease.epoch)
 }
 
-// What a board shows that is opened on the recorder.
+// What a board opened on the recorder shows.
 fn shown<R: Wait + Abort>(rt: &R, alloc: Global, recorder: Recorder) -> BoardRow {
     let (bus, mut pass) = SharedBus::open(rt, alloc, recorder).expect(rt, "a bus");
     bus.board().read(rt, &mut pass)

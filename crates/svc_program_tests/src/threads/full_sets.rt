@@ -15,22 +15,21 @@ use svc_history::{Event, Glance, Kind, Slip};
 use svc_image::{Image, samples};
 use svc_threads::{Board, Port, run_unit};
 
-// The sample of one task, whose load is of the next word.
+// The sample of one task, which loads the next word.
 fn two_words(rt: &impl Abort, alloc: Global) -> Image {
     let mut bytes = samples::P1;
     put(&mut bytes, 168, 0x0042_A503);
     image_of(rt, alloc, &bytes)
 }
 
-// What the run of one unit leaves whose cache has one place, after so many turns.
+// What the run of one unit whose cache has one place leaves, after this many turns.
 fn run_small<R: Threads + Wait + Abort + Sync>(rt: &R, alloc: Global, turns: u32) -> Left {
     let config = Config::new(1, 1, 1, 100, turns).expect(rt, "a configuration");
     run(rt, alloc, &two_words(rt, alloc), config, &Open)
 }
 
 // One place in the cache, and two words: between the store and the load one line is replaced, in the turn of the load
-// that was refused. So with the assignment, four submits, the load that was refused and the commit there are seven
-// turns.
+// that was refused. With the assignment, four submits, the refused load and the commit that makes seven turns.
 #[test]
 fn a_line_is_replaced_in_the_same_turn(rt: HostRuntime) {
     for (turns, entries, ending) in [(7, 7, Ending::Exit(0)), (6, 6, Ending::Open(0))] {
@@ -41,7 +40,7 @@ fn a_line_is_replaced_in_the_same_turn(rt: HostRuntime) {
     }
 }
 
-/// A bus on which a unit's cache is full of lines that may not go.
+/// A bus on which a unit's cache is full of pinned lines.
 #[derive(Drop)]
 struct Pinned {
     board: Board,

@@ -27,7 +27,7 @@ impl Gate for Open {
     }
 }
 
-/// Waits until the counter has come so far, for at most the limit of snoozes. It says whether it has.
+/// Waits until the counter has reached this number, for at most the limit of snoozes. It says whether it has.
 pub(crate) fn wait_for(counter: &AtomicU64, count: u64) -> bool {
     let backoff = Backoff::new();
     for _ in 0..LIMIT {
@@ -57,7 +57,7 @@ impl Counters {
         }
     }
 
-    /// Counts one more for a unit, and says how many there are.
+    /// Counts one more for a unit, and says how many that makes.
     pub(crate) fn add(&self, unit: UnitId) -> u64 {
         match self.of.get(usize::from(unit.0)) {
             Some(counter) => counter.fetch_add(1, Ordering::SeqCst).saturating_add(1),
@@ -65,7 +65,7 @@ impl Counters {
         }
     }
 
-    /// Waits until the unit's counter has come so far.
+    /// Waits until the unit's counter has reached this number.
     pub(crate) fn wait(&self, unit: u8, count: u64) -> bool {
         match self.of.get(usize::from(unit)) {
             Some(counter) => wait_for(counter, count),
@@ -74,8 +74,8 @@ impl Counters {
     }
 }
 
-/// The first assignment of each of four units waits for that of every other, and so do their submits, each for the one of
-/// its number.
+/// The first assignment of each of four units waits for that of every other, and so do their submits, each for the
+/// others' with its number.
 #[derive(Drop)]
 struct Meeting {
     assigns: Counters,
@@ -114,7 +114,7 @@ impl Gate for Meeting {
     }
 }
 
-// What is left of a run of four units that meet, and how often one waited in vain.
+// What a run of four units that meet leaves, and how often one waited in vain.
 fn run_meeting<R: Threads + Wait + Abort + Sync>(rt: &R, alloc: Global) -> (Left, u64) {
     let config = config(rt, 4, 16, 100_000, 1_000_000);
     let image = changed(rt, alloc, 6_300, 0x0000_006F);
@@ -137,7 +137,7 @@ fn four_units_meet_at_each_submit(rt: HostRuntime) {
     assert_eq!(rt; left.lists, 4);
 }
 
-// What is left of a run of four units on the sample of two tasks.
+// What a run of four units on the sample of two tasks leaves.
 fn run_two<R: Threads + Wait + Abort + Sync>(rt: &R, alloc: Global) -> Left {
     let config = config(rt, 4, 16, 1_000_000, 10_000_000);
     run(rt, alloc, &two_tasks(rt, alloc), config, &Open)
@@ -174,7 +174,7 @@ fn closing(at: u64) -> Closes {
     }
 }
 
-// What is left of a run of one unit whose gate closes.
+// What a run of one unit whose gate closes leaves.
 fn run_closing<R: Threads + Wait + Abort + Sync>(rt: &R, alloc: Global, at: u64) -> Left {
     let config = config(rt, 1, 16, 100_000, 10_000);
     run(rt, alloc, &one_task(rt, alloc), config, &closing(at))
@@ -190,14 +190,14 @@ fn a_gate_that_closes_ends_one_unit(rt: HostRuntime) {
     }
 }
 
-// The output is what the plain evaluator gives for as many tasks, which is nothing or 5.
+// The output is what the plain evaluator gives for that many tasks: nothing, or 5.
 fn output_is_sound(rt: &impl Abort, alloc: Global, image: &Image, outcome: &Outcome) -> bool {
     let machine = outcome.recorder.machine();
     let plain = run_tasks(alloc, image, machine.committed_tasks()).expect(rt, "a plain run");
     matches!(machine.output(), [] | [5]) && machine.output() == plain.output.as_slice()
 }
 
-// The same of a run of four units, the first of which has a gate that closes.
+// The same for a run of four units, the first of which has a gate that closes.
 fn closing_is_sound<R: Threads + Wait + Abort + Sync>(rt: &R, alloc: Global, at: u64) -> bool {
     let config = config(rt, 4, 16, 100_000, 10_000);
     let image = two_tasks(rt, alloc);

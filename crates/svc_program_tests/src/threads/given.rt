@@ -1,5 +1,5 @@
-// What the tests play on, and how they play: images, configurations, buses, and events. What isn't expected ends the
-// process: a function that may end early has to let all that it holds go at each such end, which is dear to prove.
+// What the tests use: images, configurations, buses, and events. What isn't expected ends the process: a function that
+// can return early while owning such values is expensive to prove, since every exit drops them.
 
 ghost use Rattle.std.specs.Prelude.{◌≡◌};
 
@@ -74,7 +74,7 @@ pub(crate) fn opened<R: Wait + Abort>(
     SharedBus::open(rt, alloc, recorder).expect(rt, "a bus")
 }
 
-/// Does an event of the sample of two tasks, where it is accepted.
+/// Does an event of the sample of two tasks, if it is accepted.
 pub(crate) fn take<R: Wait>(rt: &R, bus: &SharedBus, image: &Image, line: Line) -> Option<Slip> {
     match line {
         Line::Assign(unit, guess) => {
@@ -87,14 +87,14 @@ pub(crate) fn take<R: Wait>(rt: &R, bus: &SharedBus, image: &Image, line: Line) 
     }
 }
 
-// Submits a burst of the unit's task, where it has one and that is accepted.
+// Submits a burst of the unit's task, if it has one and that is accepted.
 fn submit<R: Wait>(rt: &R, bus: &SharedBus, image: &Image, unit: UnitId) -> Option<Slip> {
     let lease = bus.lease(rt, unit).ok()?.lease?;
     let burst = lease.advance(image, MAX_BURST_TURNS);
     bus.apply(rt, Event::Submit { burst: &burst }).ok()
 }
 
-/// Does events of the sample of two tasks until one is refused, and tells how many were accepted.
+/// Does events of the sample of two tasks until one is refused, and answers how many were accepted.
 pub(crate) fn play<R: Wait + Abort>(
     rt: &R,
     alloc: Global,
@@ -139,7 +139,7 @@ fn left_by(outcome: &Outcome) -> Left {
     }
 }
 
-/// Runs an image's units, and tells what they have left.
+/// Runs an image's units, and answers what they have left.
 pub(crate) fn run<G: Gate + Sync, R: Threads + Wait + Abort + Sync>(
     rt: &R,
     alloc: Global,

@@ -11,7 +11,7 @@ use svc_image::Image;
 use svc_samples::TEN;
 use svc_threads::{RunError, SharedBus, reconcile};
 
-// The slips of the script with the violation, each of whose steps is accepted.
+// The slips of the script with the violation; each of its steps is accepted.
 fn slips_of<R: Wait + Abort>(rt: &R, alloc: Global, bus: &SharedBus) -> [Slip; 10] {
     let image = two_tasks(rt, alloc);
     TEN.map(|line| take(rt, bus, &image, line).expect(rt, "an accepted event"))
@@ -45,8 +45,8 @@ fn brought(rt: &impl Abort, alloc: Global, slips: &[Slip], lists: &[&[usize]]) -
     all
 }
 
-// The fault that reconciling finds for this image and configuration, where the units' threads bring back these slips of the
-// script.
+// The fault that reconciling finds for this image and configuration, if the units' threads bring back these slips of
+// the script.
 fn reconciled<R: Wait + Abort>(
     rt: &R,
     alloc: Global,

@@ -54,7 +54,7 @@ fn after_a_burst(image: &Image) -> Core {
     *lease.advance(image, MAX_BURST_TURNS).end()
 }
 
-// What is seen of a unit whose task has ended.
+// What a unit does whose task has ended.
 #[derive(Clone, Copy)]
 struct Stalled {
     running: bool,
@@ -96,7 +96,7 @@ const ASSIGN: u64 = 1;
 
 const SUBMIT: u64 = 2;
 
-/// Holds two units so that unit 0 stalls while unit 1's task is the head, and is let go on after that.
+/// Holds two units so that unit 0 stalls while unit 1's task is the head, and lets it go on after that.
 #[derive(Drop)]
 struct Held {
     came: Counters,
@@ -178,7 +178,7 @@ impl Gate for Held {
     }
 }
 
-// What is left of a run of two units that are held so, and how often one waited in vain.
+// What a run of two units that are held this way leaves, and how often one waited in vain.
 fn run_held<R: Threads + Wait + Abort + Sync>(rt: &R, alloc: Global) -> (Left, u64) {
     let config = config(rt, 2, 16, 100, 10_000_000);
     let image = changed(rt, alloc, 100, 0xFF9F_F06F);

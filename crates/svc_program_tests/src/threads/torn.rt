@@ -1,4 +1,4 @@
-// A port that tells its threads another thing than it records.
+// A port that tells its threads something other than what it records.
 
 use crate::threads::gates::Open;
 use crate::threads::given::{config, one_task, opened};

@@ -1,4 +1,4 @@
-use Rattle.std.proofs.Common.{◌≡◌, ℕ, List, sym, ap, refl, ◌+◌, ◌*◌, ◌∙◌, ◌<◌, arith, add-one, subst}
+use Rattle.std.proofs.Common.{◌≡◌, ℕ, List, ap, refl, ◌+◌, ◌*◌, ◌<◌, arith, add-one}
 use Rattle.std.proofs.lemmas.Result.{err_from_is_err_and}
 use Rattle.svc_image.specs.declared.header.Header.{Header}
 use Rattle.svc_image.specs.Version.{listed_count}

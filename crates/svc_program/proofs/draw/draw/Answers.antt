@@ -1,7 +1,6 @@
 use Rattle.std.proofs.Common.{List, refl, rules, subst}
 use Rattle.svc_history_laws.specs.declared.entry.Entry.{Entry}
 use Rattle.svc_request.specs.declared.request.Request.TheVariants as request
-use Rattle.svc_request.specs.Held.{Held, KeepsOthers}
 use Rattle.svc_program.specs.Drawings.{IsDrawn}
 use Rattle.svc_program.proofs.Answering.{failed_save}
 use Rattle.svc_program.proofs.draw.draw.Goals as goal
@@ -14,7 +13,7 @@ returns-in_err-save g c =
       done = search rules;
       silent = search rules;
       order = search rules;
-      kept = subst (λ (h : Held). KeepsOthers h saved c.args.picture.file.now) c.load_traced.ensures.kept c.save.ensures.others;
+      kept = c.save.ensures.others;
       spared = failed_save (request.Draw c.args.traced c.args.picture) held saved c.from_residual-in_err-save.result (search rules) (c.in_ok-image.image, c.in_ok-image.ensures.image);
     }
 
@@ -34,6 +33,6 @@ returns g c =
       );
       silent = tt;
       order = tt;
-      kept = subst (λ (h : Held). KeepsOthers h (g.F.Files.held c.save.new.self) c.args.picture.file.now) c.load_traced.ensures.kept c.in_ok-save.ensures.others;
+      kept = c.in_ok-save.ensures.others;
       spared = tt;
     }

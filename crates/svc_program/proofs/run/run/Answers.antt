@@ -3,7 +3,7 @@ use Rattle.svc_program.proofs.run.run.Goals as goal
 
 pub returns : goal.returns
 returns g c =
-    run_answered g.O.Write.contents c.args.run (g.F.Files.held c.args.files.now) (g.F.Files.held c.load_image.new.files) (g.F.Files.held c.report_run.new.files)
+    run_answered g.O.Write.contents c.args.run (g.F.Files.held c.args.files.now) (g.F.Files.held c.report_run.new.files)
     c.args.out.now c.report_run.new.out c.report_run.result c.in_ok-image.image c.in_ok-recorder.recorder
-    c.load_image.ensures.kept c.in_ok-image.ensures.image c.in_ok-recorder.ensures.run c.in_ok-recorder.ensures.goes
-    c.report_run.ensures.saved c.report_run.ensures.report c.report_run.ensures.silent c.report_run.ensures.kept c.report_run.ensures.spared
+    c.in_ok-image.ensures.image c.in_ok-recorder.ensures.run c.in_ok-recorder.ensures.goes
+    c.report_run.ensures.saved c.report_run.ensures.report c.report_run.ensures.silent c.report_run.ensures.alone

@@ -1,10 +1,8 @@
-use Rattle.std.specs.Prelude.{IfOk, IfErr}
-use Rattle.svc_request.specs.declared.request.Request.TheVariants as request
 use Rattle.svc_program.proofs.Answering.{run_in_order}
 use Rattle.svc_program.proofs.sequential.sequential.Goals as goal
 
 pub returns : goal.returns
 returns g c =
-    run_in_order g.O.Write.contents c.args.tasks (g.F.Files.held c.args.files.now) (g.F.Files.held c.load_image.new.files)
+    run_in_order g.O.Write.contents c.args.tasks (g.F.Files.held c.args.files.now)
     c.args.out.now c.run_in_order.new.out c.run_in_order.result c.in_ok-image.image
-    c.load_image.ensures.kept c.in_ok-image.ensures.image c.run_in_order.ensures.report c.run_in_order.ensures.silent
+    c.in_ok-image.ensures.image c.run_in_order.ensures.report c.run_in_order.ensures.silent

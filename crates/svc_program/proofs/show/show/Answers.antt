@@ -10,15 +10,14 @@ use Rattle.svc_program.proofs.show.show.Goals as goal
 pub returns : goal.returns
 returns g c =
     let held = g.F.Files.held c.args.files.now in
-    let saved = g.F.Files.held c.load_traced.new.files in
     let old = c.args.out.now in
     let new = c.show_entries.new.out in
     let traced = c.args.traced in
     let img = c.in_ok-image.image in
     let es = c.in_ok-image.entries.items in
     let Tells = λ (i : Image) (xs : List Entry). TellsMachine c.args.at i traced.config xs (g.O.Write.contents old) (g.O.Write.contents new) in
-    answered_reading g.O.Write.contents (request.Show traced c.args.at) held saved old new c.show_entries.result
-    (img, c.in_ok-image.ensures.image) c.load_traced.ensures.kept
+    answered_reading g.O.Write.contents (request.Show traced c.args.at) held old new c.show_entries.result
+    (img, c.in_ok-image.ensures.image)
     (of_loaded c.show_entries.result held traced img es Tells c.in_ok-image.ensures.image c.in_ok-image.ensures.trace
     (subst (λ (xs : List Entry). IfOk c.show_entries.result (Tells img xs)) c.deref.ensures.value c.show_entries.ensures.shown))
     (silent_before old new c.show_entries.result _ c.show_entries.ensures.fault)

@@ -8,7 +8,7 @@ use svc_history_laws::Entry;
 use svc_report::{Counts, ReportError, read_script, read_trace, write_summary, write_trace};
 use svc_samples::{SUMMARY, TEN_ENTRIES, TRACE};
 
-// Whether writing a trace fails where the writer does, after so many bytes of its text.
+// Whether writing a trace fails when the writer does, after this many bytes of its text.
 fn trace_breaks(alloc: Global, history: &[Entry], text: &str, left: usize) -> bool {
     let mut writer = FailingWriter::after(text.as_bytes(), left);
     let written = write_trace(alloc, history, &mut writer);
@@ -20,11 +20,11 @@ fn a_trace_over_a_writer_that_fails(rt: HostRuntime) {
     for left in 0..TRACE.len() {
         assert!(rt; trace_breaks(rt.alloc(), &TEN_ENTRIES, TRACE, left));
     }
-    // The entries are as they were.
+    // The entries are unchanged.
     assert!(rt; is_written(rt.alloc(), &TEN_ENTRIES, TRACE));
 }
 
-// Whether writing the long trace fails where the writer does: after each of these numbers of bytes, and before the last
+// Whether writing the long trace fails when the writer does: after each of these numbers of bytes, and before the last
 // one.
 fn long_trace_breaks(alloc: Global, places: &[usize]) -> Result<bool, AllocError> {
     let history = long_history(alloc)?;
@@ -36,7 +36,7 @@ fn long_trace_breaks(alloc: Global, places: &[usize]) -> Result<bool, AllocError
     Ok(breaks)
 }
 
-// Whether the long trace is written over a writer that would fail behind its last byte.
+// Whether the long trace is written over a writer that would fail after its last byte.
 fn long_trace_is_whole(alloc: Global) -> Result<bool, AllocError> {
     let history = long_history(alloc)?;
     let text = long_trace(alloc)?;
@@ -52,14 +52,14 @@ fn a_long_trace_over_a_writer_that_fails(rt: HostRuntime) {
     assert!(rt; long_trace_is_whole(rt.alloc()) == Ok(true));
 }
 
-// Whether writing the summary of the run fails where the writer does, after so many bytes of its text.
+// Whether writing the summary of the run fails when the writer does, after this many bytes of its text.
 fn summary_breaks(alloc: Global, counts: Counts, left: usize) -> bool {
     let mut writer = FailingWriter::after(SUMMARY.as_bytes(), left);
     let written = write_summary(alloc, &[5], 2, Ending::Exit(5), Some(counts), &mut writer);
     written == Err(ReportError::Write) && writer.is_broken()
 }
 
-// Whether the summary of the run is the text that it has to be.
+// Whether the summary of the run is the text that it should be.
 fn is_summarized(alloc: Global, counts: Counts) -> bool {
     let mut text = Vec::new(alloc);
     let written = write_summary(alloc, &[5], 2, Ending::Exit(5), Some(counts), &mut text);
@@ -75,7 +75,7 @@ fn a_summary_over_a_writer_that_fails(rt: HostRuntime) {
     assert!(rt; is_summarized(rt.alloc(), counts));
 }
 
-// Whether reading a trace fails where the reader does, after so many bytes.
+// Whether reading a trace fails when the reader does, after this many bytes.
 fn trace_fails(alloc: Global, text: &[u8], left: usize) -> bool {
     matches!(
         read_trace(alloc, FailingReader::after(text, left)),
@@ -91,7 +91,7 @@ fn a_trace_over_a_reader_that_fails(rt: HostRuntime) {
     }
 }
 
-// Whether reading a script fails where the reader does, after so many bytes.
+// Whether reading a script fails when the reader does, after this many bytes.
 fn script_fails(alloc: Global, text: &[u8], left: usize) -> bool {
     matches!(
         read_script(alloc, FailingReader::after(text, left)),
@@ -107,7 +107,7 @@ fn a_script_over_a_reader_that_fails(rt: HostRuntime) {
     }
 }
 
-// Whether an error is told by this text.
+// Whether an error is reported as this text.
 fn is_told(alloc: Global, error: ReportError, wanted: &str) -> bool {
     match format!(in alloc; "{error}") {
         Ok(text) => text.as_str() == wanted,

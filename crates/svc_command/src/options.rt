@@ -1,0 +1,126 @@
+//! What the options of several subcommands give.
+
+ghost use Rattle.std.specs.Prelude.{◌≡◌, IfOk, IfSome, codes};
+ghost use Rattle.svc_command.specs.Given.{GivesConfig, GivesImage, GivesNeedsTable, GivesOrder, GivesRow, GivesSchedule, GivesTable};
+ghost use Rattle.svc_command.specs.Line.{IsValueOf, texts};
+
+use crate::line::Line;
+use std::alloc::Global;
+use svc_base::Config;
+use svc_core::MAX_BURST_TURNS;
+use svc_program::{Fault, NeedsTable, Order, Schedule, Source, Table, TableRow};
+
+const SEED_ALONE: &str = "error: the argument '--seed <N>' is of '--schedule random' alone
+
+For more information, try '--help'.
+";
+
+/// The image's file.
+pub(crate) fn image<'a>(line: Line<'_, 'a>) -> Result<Source<'a>, Fault>
+    ensures { IfOk result (GivesImage (texts line.entry.words.now)) }
+{
+    let name = line.file("IMAGE")?;
+    Ok(Source::File(name))
+}
+
+/// The row of a table that the options ask for, if any.
+pub(crate) fn row<'a>(line: Line<'_, 'a>) -> Result<Option<TableRow<'a>>, Fault>
+    ensures { IfOk result (λ row. IfSome row (GivesRow (texts line.entry.words.now))) }
+{
+    match line.option("row")? {
+        Some(label) => Ok(Some(TableRow {
+            label,
+            header: line.flag("header"),
+        })),
+        None => Ok(None),
+    }
+}
+
+/// The table of a profile that the options name, if any.
+pub(crate) fn table<'a>(line: Line<'_, 'a>) -> Result<Option<Table<'a>>, Fault>
+    ensures { IfOk result (λ table. IfSome table (GivesTable (texts line.entry.words.now))) }
+{
+    match line.option("by")? {
+        None => Ok(row(line)?.map(Table::Row)),
+        Some("task") => Ok(Some(Table::Tasks)),
+        Some("unit") => Ok(Some(Table::Units)),
+        Some("word") => Ok(Some(Table::Words)),
+        // The parser accepts no other name.
+        Some(_) => Err(Fault::File),
+    }
+}
+
+/// The table of needs that the options name, if any.
+pub(crate) fn needs_table(line: Line<'_, '_>) -> Result<Option<NeedsTable>, Fault>
+    ensures { IfOk result (λ table. IfSome table (GivesNeedsTable (texts line.entry.words.now))) }
+{
+    match line.option("by")? {
+        None => Ok(graph(line)),
+        Some("task") => Ok(Some(NeedsTable::Tasks)),
+        Some("pair") => Ok(Some(NeedsTable::Pairs)),
+        Some("word") => Ok(Some(NeedsTable::Words)),
+        // The parser accepts no other name.
+        Some(_) => Err(Fault::File),
+    }
+}
+
+// The graph of needs, if it is asked for.
+fn graph(line: Line<'_, '_>) -> Option<NeedsTable>
+    ensures { IfSome result (GivesNeedsTable (texts line.entry.words.now)) }
+{
+    if line.flag("dot") {
+        Some(NeedsTable::Graph)
+    } else {
+        None
+    }
+}
+
+/// The schedule that the options give, if any.
+pub(crate) fn schedule(alloc: Global, line: Line<'_, '_>) -> Result<Option<Schedule>, Fault>
+    ensures { IfOk result (λ schedule. IfSome schedule (GivesSchedule (texts line.entry.words.now))) }
+{
+    let Some(name) = line.option("schedule")? else {
+        return Ok(None);
+    };
+    let order = order(alloc, name, line)?;
+    let burst = line.number("burst", MAX_BURST_TURNS)?;
+    // The parser accepts no other burst.
+    let schedule = Schedule::new(order, burst).ok_or(Fault::File)?;
+    Ok(Some(schedule))
+}
+
+// The order of this name. A seed is that of a random order alone.
+fn order(alloc: Global, name: &str, line: Line<'_, '_>) -> Result<Order, Fault>
+    ensures { IsValueOf (codes "schedule") name.now (texts line.entry.words.now)
+        → IfOk result (GivesOrder (texts line.entry.words.now)) }
+{
+    if name == "random" {
+        return Ok(Order::Random {
+            seed: line.number("seed", 0)?,
+        });
+    }
+    if line.given.contains_id("seed") {
+        return Err(Fault::CommandLine(String::from_str(alloc, SEED_ALONE)?));
+    }
+    match name {
+        "rotate" => Ok(Order::Rotate),
+        "oldest" => Ok(Order::Oldest),
+        "youngest" => Ok(Order::Youngest),
+        // The parser accepts no other name.
+        _ => Err(Fault::File),
+    }
+}
+
+/// The configuration that the options give.
+pub(crate) fn configuration(line: Line<'_, '_>) -> Result<Config, Fault>
+    ensures { IfOk result (GivesConfig (texts line.entry.words.now)) }
+{
+    let config = Config::new(
+        line.number("units", 4)?,
+        line.number("sets", 16)?,
+        line.number("ways", 2)?,
+        line.number("events", 100_000)?,
+        line.number("turns", 1_000_000)?,
+    )?;
+    Ok(config)
+}

@@ -1,0 +1,146 @@
+//! The request of each subcommand, by the words of its line.
+
+ghost use Rattle.std.specs.Prelude.{IfOk, codes};
+ghost use Rattle.svc_command.specs.Asked.{Names};
+ghost use Rattle.svc_command.specs.Given.{Gives, GivesTraced};
+ghost use Rattle.svc_command.specs.Line.{IsNamed, texts};
+
+use crate::line::Line;
+use crate::options::{configuration, image, needs_table, row, schedule, table};
+use std::alloc::Global;
+use svc_program::{Assembly, Depended, Fault, Picture, Request, Run, Scripted, Tasks, Traced};
+
+/// The run that `run` asks for. A mistake of the line is told before one of the configuration.
+pub(crate) fn run<'a>(alloc: Global, line: Line<'_, 'a>) -> Result<Request<'a>, Fault>
+    ensures named { IsNamed (codes "run") (texts line.entry.words.now)
+        → IfOk result (Names (texts line.entry.words.now)) }
+    ensures gives { IfOk result (Gives (texts line.entry.words.now)) }
+{
+    let image = image(line)?;
+    let schedule = schedule(alloc, line)?;
+    Ok(Request::Run(Run {
+        image,
+        config: configuration(line)?,
+        schedule,
+        trace: line.option("trace")?,
+        row: row(line)?,
+    }))
+}
+
+/// The tasks that `seq` asks for.
+pub(crate) fn sequential<'a>(line: Line<'_, 'a>) -> Result<Request<'a>, Fault>
+    ensures named { IsNamed (codes "seq") (texts line.entry.words.now)
+        → IfOk result (Names (texts line.entry.words.now)) }
+    ensures gives { IfOk result (Gives (texts line.entry.words.now)) }
+{
+    Ok(Request::Sequential(Tasks {
+        image: image(line)?,
+        most: line.given_number("tasks")?,
+    }))
+}
+
+/// The needs of tasks that `depend` asks for.
+pub(crate) fn depend<'a>(line: Line<'_, 'a>) -> Result<Request<'a>, Fault>
+    ensures named { IsNamed (codes "depend") (texts line.entry.words.now)
+        → IfOk result (Names (texts line.entry.words.now)) }
+    ensures gives { IfOk result (Gives (texts line.entry.words.now)) }
+{
+    let image = image(line)?;
+    let most = line.number("tasks", 1_000_000)?;
+    let by = needs_table(line)?;
+    // The parser accepts no greater number.
+    let depended = Depended::new(image, most, by).ok_or(Fault::File)?;
+    Ok(Request::Depend(depended))
+}
+
+/// The script that `script` asks for.
+pub(crate) fn script<'a>(line: Line<'_, 'a>) -> Result<Request<'a>, Fault>
+    ensures named { IsNamed (codes "script") (texts line.entry.words.now)
+        → IfOk result (Names (texts line.entry.words.now)) }
+    ensures gives { IfOk result (Gives (texts line.entry.words.now)) }
+{
+    Ok(Request::Script(Scripted {
+        image: image(line)?,
+        config: configuration(line)?,
+        events: line.file("EVENTS")?,
+        trace: line.option("trace")?,
+    }))
+}
+
+/// The trace that `check` asks for.
+pub(crate) fn check<'a>(line: Line<'_, 'a>) -> Result<Request<'a>, Fault>
+    ensures named { IsNamed (codes "check") (texts line.entry.words.now)
+        → IfOk result (Names (texts line.entry.words.now)) }
+    ensures gives { IfOk result (Gives (texts line.entry.words.now)) }
+{
+    Ok(Request::Check(traced(line)?))
+}
+
+/// The trace that `profile` asks for, and the table.
+pub(crate) fn profile<'a>(line: Line<'_, 'a>) -> Result<Request<'a>, Fault>
+    ensures named { IsNamed (codes "profile") (texts line.entry.words.now)
+        → IfOk result (Names (texts line.entry.words.now)) }
+    ensures gives { IfOk result (Gives (texts line.entry.words.now)) }
+{
+    let traced = traced(line)?;
+    Ok(Request::Profile(traced, table(line)?))
+}
+
+/// The trace that `show` asks for, and how many of its entries.
+pub(crate) fn show<'a>(line: Line<'_, 'a>) -> Result<Request<'a>, Fault>
+    ensures named { IsNamed (codes "show") (texts line.entry.words.now)
+        → IfOk result (Names (texts line.entry.words.now)) }
+    ensures gives { IfOk result (Gives (texts line.entry.words.now)) }
+{
+    let traced = traced(line)?;
+    Ok(Request::Show(traced, line.index("at")?))
+}
+
+/// The trace that `draw` asks for, and the picture.
+pub(crate) fn draw<'a>(line: Line<'_, 'a>) -> Result<Request<'a>, Fault>
+    ensures named { IsNamed (codes "draw") (texts line.entry.words.now)
+        → IfOk result (Names (texts line.entry.words.now)) }
+    ensures gives { IfOk result (Gives (texts line.entry.words.now)) }
+{
+    let traced = traced(line)?;
+    Ok(Request::Draw(
+        traced,
+        Picture {
+            file: line.file("FILE.svg")?,
+            from: line.number("from", 0)?,
+            count: line.number("count", 400)?,
+        },
+    ))
+}
+
+/// The text that `assemble` asks for, and the image's file.
+pub(crate) fn assemble<'a>(line: Line<'_, 'a>) -> Result<Request<'a>, Fault>
+    ensures named { IsNamed (codes "assemble") (texts line.entry.words.now)
+        → IfOk result (Names (texts line.entry.words.now)) }
+    ensures gives { IfOk result (Gives (texts line.entry.words.now)) }
+{
+    Ok(Request::Assemble(Assembly {
+        text: line.file("FILE")?,
+        image: line.file("IMAGE")?,
+    }))
+}
+
+/// The image that `list` asks for.
+pub(crate) fn list<'a>(line: Line<'_, 'a>) -> Result<Request<'a>, Fault>
+    ensures named { IsNamed (codes "list") (texts line.entry.words.now)
+        → IfOk result (Names (texts line.entry.words.now)) }
+    ensures gives { IfOk result (Gives (texts line.entry.words.now)) }
+{
+    Ok(Request::List(image(line)?))
+}
+
+// The trace that a subcommand replays.
+fn traced<'a>(line: Line<'_, 'a>) -> Result<Traced<'a>, Fault>
+    ensures { IfOk result (GivesTraced (texts line.entry.words.now)) }
+{
+    Ok(Traced {
+        image: image(line)?,
+        config: configuration(line)?,
+        trace: line.file("TRACE")?,
+    })
+}

@@ -1,0 +1,7 @@
+use Rattle.std.proofs.Common.{◌≡◌, ◌++◌, get_or, take}
+use Rattle.std.specs.Prelude.{decimal, flat_map}
+use Rattle.svc_depend.proofs.Spaced.{after_space, no_link}
+use Rattle.svc_depend.proofs.pairs.put_spaced.Given as goal
+
+abbrev pub invariant-loop-link : goal.invariant-loop-link
+invariant-loop-link l = l.text.items ≡ (l.fn.text.items ++ decimal (get_or l.links 0 no_link).word) ++ flat_map after_space (take l.link-index l.link-items)

@@ -1,0 +1,10 @@
+pub mod Moving
+pub mod KeyLists
+pub mod KeyTells
+pub mod Leading
+pub mod Rosters
+pub mod Exploring
+pub mod Growing
+pub mod Founding
+pub mod PlayEnds
+pub mod Scheduled

@@ -1,0 +1,24 @@
+use Rattle.std.proofs.Common.{◌<◌, inl, inr, arith, subst, sym, length}
+use Rattle.svc_explore.specs.Found.{are_seen}
+use Rattle.svc_explore.specs.Search.{IsExploredAt, are_keys}
+use Rattle.svc_explore.proofs.Growing.{explored_at_stays, grows_trans, below_more, length_keys}
+use Rattle.svc_explore.proofs.walk.Search.explore_key.Goals as goal
+
+pub loop-unit-preserved : goal.loop-unit-preserved
+loop-unit-preserved c =
+    let old = c.loop-unit.self in
+    let new = c.explore_unit.new.self in
+    let says = c.in_ok-explore_unit.ensures in
+    let inv = c.loop-unit.invariant in
+    let index : c.args.index < length old.keys.entries = omega (arith, c.requires.inside, inv.longer) in
+    record {
+      each = λ unit h. elim (below_more unit c.loop-unit.unit h) [
+        | inl low ↦ explored_at_stays c.args.image.now c.args.config c.args.most (are_keys old.keys.entries) (are_keys new.keys.entries) (are_seen old.found.items) (are_seen new.found.items) says.keys says.found
+            c.args.index unit (length_keys old.keys.entries c.args.index index) (inv.each unit low)
+        | inr is ↦ subst (IsExploredAt c.args.image.now c.args.config c.args.most (are_keys new.keys.entries) (are_seen new.found.items) c.args.index) (sym is) (says.explored c.if-not-branch.false)
+      ];
+      keys = grows_trans (are_keys c.args.self.now.keys.entries) (are_keys old.keys.entries) (are_keys new.keys.entries) inv.keys says.keys;
+      longer = omega (arith, inv.longer, says.longer);
+      found = grows_trans (are_seen c.args.self.now.found.items) (are_seen old.found.items) (are_seen new.found.items) inv.found says.found;
+      witnessed = says.witnessed;
+    }

@@ -1,0 +1,63 @@
+use Rattle.std.proofs.Common.{◌≡◌, ◌∙◌, List, ℕ, Some, ap, subst, sym, slice_get, option_map, option_to_list}
+use Rattle.std.specs.Map.Iter.{deref_pair}
+use Rattle.svc_base.specs.declared.config.Config.{Config}
+use Rattle.svc_image.specs.Image.{Image}
+use Rattle.svc_explore_laws.specs.declared.observation.Observation.{Observation}
+use Rattle.svc_explore_laws.specs.Closed.{IsExplored}
+use Rattle.svc_explore.specs.Found.{are_seen}
+use Rattle.svc_explore.specs.Search.{are_keys, image_key}
+use Rattle.svc_explore.specs.Tries.{Shows, ShowsIt, TriedAt}
+use Rattle.svc_explore.proofs.Founding.{adds_grows, adds_witnessed, all_left, all_right, both_in}
+use Rattle.svc_explore.proofs.Growing.{Place, grows_trans, key_stays, length_keys, same_key}
+use Rattle.svc_explore.proofs.walk.Search.explore_unit.Goals as goal
+
+pub returns-in-Rests-clause-explored : goal.returns-in-Rests-clause-explored
+returns-in-Rests-clause-explored c = λ ok k h.
+    let img : Image = c.args.image.now in
+    let config : Config = c.args.config in
+    let es : List Place = c.args.self.now.keys.entries in
+    let keys : List (List ℕ) = are_keys es in
+    let found : List Observation = are_seen c.args.self.now.found.items in
+    let here : slice_get es c.args.index ≡ Some (deref_pair c.unwrap.result) = sym c.get_index.ensures.entry ∙ ap (option_map deref_pair) c.unwrap.ensures in
+    let tried = subst (TriedAt img config c.args.most c.as_slice.result.now c.args.unit.0) c.in-Rests.is c.in_ok-try_unit.ensures.tried in
+    subst (λ q. IsExplored img config c.args.most (image_key img config) keys found q c.args.unit.0)
+    (c.as_slice.ensures.value ∙ same_key es c.args.index (deref_pair c.unwrap.result) k here h) (tried keys found)
+
+pub returns-in_ok-note_key-in-Moves-clause-explored : goal.returns-in_ok-note_key-in-Moves-clause-explored
+returns-in_ok-note_key-in-Moves-clause-explored c = λ ok k h.
+    let img : Image = c.args.image.now in
+    let config : Config = c.args.config in
+    let es : List Place = c.args.self.now.keys.entries in
+    let keys : List (List ℕ) = are_keys c.note_key.new.keys.entries in
+    let mid : List Observation = are_seen c.note_seen.new.found.items in
+    let found : List Observation = are_seen c.note_seen-in-Moves.new.found.items in
+    let here : slice_get es c.args.index ≡ Some (deref_pair c.unwrap.result) = sym c.get_index.ensures.entry ∙ ap (option_map deref_pair) c.unwrap.ensures in
+    let tried = subst (TriedAt img config c.args.most c.as_slice.result.now c.args.unit.0) c.in-Moves.is c.in_ok-try_unit.ensures.tried in
+    let was : slice_get (are_keys es) c.args.index ≡ Some k =
+    key_stays img config c.args.most (are_keys es) keys found found c.in_ok-note_key-in-Moves.ensures.grows (λ i x e. e) c.args.index k (length_keys es c.args.index c.requires.inside) h in
+    subst (λ q. IsExplored img config c.args.most (image_key img config) keys found q c.args.unit.0)
+    (c.as_slice.ensures.value ∙ same_key es c.args.index (deref_pair c.unwrap.result) k here was)
+    (tried keys found
+    (both_in c.in-Moves.happened c.in-Moves.squashed mid found
+    (adds_grows c.note_seen.new.found.items c.note_seen-in-Moves.new.found.items c.in-Moves.squashed c.as_slice-path.result.now c.args.unit c.in_ok-note_seen-in-Moves-2.ensures.adds)
+    c.in_ok-note_seen-in-Moves.ensures.listed c.in_ok-note_seen-in-Moves-2.ensures.listed)
+    c.in_ok-note_key-in-Moves.ensures.listed)
+
+pub returns-in_ok-note_key-in-Moves-clause-found : goal.returns-in_ok-note_key-in-Moves-clause-found
+returns-in_ok-note_key-in-Moves-clause-found c =
+    grows_trans (are_seen c.args.self.now.found.items) (are_seen c.note_seen.new.found.items) (are_seen c.note_seen-in-Moves.new.found.items)
+    (adds_grows c.args.self.now.found.items c.note_seen.new.found.items c.in-Moves.happened c.as_slice-path.result.now c.args.unit c.in_ok-note_seen-in-Moves.ensures.adds)
+    (adds_grows c.note_seen.new.found.items c.note_seen-in-Moves.new.found.items c.in-Moves.squashed c.as_slice-path.result.now c.args.unit c.in_ok-note_seen-in-Moves-2.ensures.adds)
+
+pub returns-in_ok-note_key-in-Moves-clause-witnessed : goal.returns-in_ok-note_key-in-Moves-clause-witnessed
+returns-in_ok-note_key-in-Moves-clause-witnessed c =
+    let img : Image = c.args.image.now in
+    let config : Config = c.args.config in
+    let shown = subst (ShowsIt img config c.args.most c.as_slice-path.result.now c.args.unit.0) c.in-Moves.is c.in_ok-try_unit.ensures.shown in
+    let path = c.as_slice-path.result.now in
+    let happened : List Observation = option_to_list c.in-Moves.happened in
+    let squashed : List Observation = option_to_list c.in-Moves.squashed in
+    let P : Observation → Type 0 = Shows img config c.args.most path c.args.unit.0 in
+    adds_witnessed img config c.args.most c.note_seen.new.found.items c.note_seen-in-Moves.new.found.items c.in-Moves.squashed path c.args.unit c.in_ok-note_seen-in-Moves-2.ensures.adds (all_right P happened squashed shown)
+    (adds_witnessed img config c.args.most c.args.self.now.found.items c.note_seen.new.found.items c.in-Moves.happened path c.args.unit c.in_ok-note_seen-in-Moves.ensures.adds (all_left P happened squashed shown)
+    c.requires.witnessed)

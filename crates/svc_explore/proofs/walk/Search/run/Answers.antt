@@ -1,0 +1,26 @@
+use Rattle.std.proofs.Common.{◌<◌, arith, length}
+use Rattle.svc_explore.specs.Found.{are_seen}
+use Rattle.svc_explore.specs.Search.{are_keys}
+use Rattle.svc_explore.proofs.Growing.{closed_none, closed_more}
+use Rattle.svc_explore.proofs.walk.Search.run.Goals as goal
+
+pub loop-index-init : goal.loop-index-init
+loop-index-init c = record {
+  closed = closed_none c.args.image.now c.args.config c.args.most (are_keys c.args.self.now.keys.entries) (are_seen c.args.self.now.found.items) c.requires.opening;
+  inside = omega arith;
+  witnessed = c.requires.witnessed;
+}
+
+pub loop-index-preserved : goal.loop-index-preserved
+loop-index-preserved c =
+    let old = c.loop-index.self in
+    let new = c.explore_key.new.self in
+    let says = c.in_ok-explore_key.ensures in
+    let inv = c.loop-index.invariant in
+    let inside : c.loop-index.index < length old.keys.entries = omega (arith, inv.inside) in
+    record {
+      closed = closed_more c.args.image.now c.args.config c.args.most old.keys.entries new.keys.entries (are_seen old.found.items) (are_seen new.found.items) says.keys says.found c.loop-index.index inside inv.closed
+          (says.explored c.if-not-branch.false);
+      inside = omega (arith, inside, says.longer);
+      witnessed = says.witnessed;
+    }

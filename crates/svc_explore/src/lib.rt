@@ -1,0 +1,18 @@
+//! All schedules of a small image: every standing that moves of its units lead to, and all that can be seen there.
+#![tactic(auto)]
+
+mod found;
+mod key;
+mod moves;
+mod roster;
+mod rows;
+mod runs;
+mod search;
+mod sight;
+mod walk;
+
+pub use found::Seen;
+pub use moves::make_move;
+pub use rows::put_exploration;
+pub use runs::scheduled_runs_play;
+pub use walk::{Exploration, explore};

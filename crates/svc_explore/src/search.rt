@@ -1,0 +1,172 @@
+// One step of the search: a unit's move where a schedule leads.
+
+ghost use Rattle.std.specs.Prelude.{◌≡◌, ◌<◌, ◌++◌, ◌∷◌, [], List, IfOk, IfSome, IsTrue, length};
+ghost use Rattle.svc_machine_laws.specs.Standing.{opened_at};
+ghost use Rattle.svc_history.specs.Recorded.{standing_of};
+ghost use Rattle.svc_base.specs.declared.ids.UnitId.{UnitId};
+ghost use Rattle.svc_explore_laws.specs.Moves.{HasRoom};
+ghost use Rattle.svc_explore.specs.Recorders.{GaveFew, Leads};
+ghost use Rattle.svc_explore.specs.Search.{image_key};
+ghost use Rattle.svc_explore.specs.Tries.{IsTried, ShowsIt, TriedAt};
+ghost use Rattle.svc_history_laws.specs.declared.entry.Entry.{Entry};
+
+use crate::key::key_of;
+use crate::moves::{keeps, make_move};
+use crate::sight::{happened, roster_of, squashed};
+use std::alloc::{AllocError, Global};
+use svc_base::{Config, UnitId};
+use svc_explore_laws::Observation;
+use svc_history::Recorder;
+use svc_history_laws::Entry;
+use svc_image::Image;
+
+// A machine of the image before any event.
+fn open_recorder(alloc: Global, image: &Image, config: Config) -> Result<Recorder, AllocError>
+    ensures image { IfOk result (λ r. r.machine.image ≡ image.now) }
+    ensures config { IfOk result (λ r. r.machine.config ≡ config) }
+    ensures opened { IfOk result (λ r. standing_of r ≡ opened_at image.now config 0) }
+{
+    let Ok(own) = image.copy(alloc) else {
+        return Err(AllocError);
+    };
+    let Ok(recorder) = Recorder::open(alloc, own, config) else {
+        return Err(AllocError);
+    };
+    Ok(recorder)
+}
+
+// The key of a machine before any event.
+pub(crate) fn opening_key(
+    alloc: Global,
+    image: &Image,
+    config: Config,
+) -> Result<Vec<u64>, AllocError>
+    ensures { IfOk result (λ key. key.items ≡ image_key image.now config (opened_at image.now config 0)) }
+{
+    let recorder = open_recorder(alloc, image, config)?;
+    key_of(alloc, &recorder)
+}
+
+// The machine where a schedule leads, if each of its moves is accepted.
+pub(crate) fn replay(
+    alloc: Global,
+    image: &Image,
+    config: Config,
+    path: &[UnitId],
+    most: u32,
+) -> Result<Option<Recorder>, AllocError>
+    ensures image { IfOk result (λ o. IfSome o (λ r. r.machine.image ≡ image.now)) }
+    ensures config { IfOk result (λ o. IfSome o (λ r. r.machine.config ≡ config)) }
+    ensures few { IfOk result (λ o. IfSome o (λ r. GaveFew (standing_of r))) }
+    ensures leads { IfOk result (λ o. IfSome o (λ r. Leads image.now config most (opened_at image.now config 0) path.now (standing_of r))) }
+{
+    let mut recorder = open_recorder(alloc, image, config)?;
+    for unit in path {
+        keeps(&recorder);
+        if recorder.machine().is_full() {
+            return Ok(None);
+        }
+        if !make_move(&mut recorder, *unit, most) {
+            return Ok(None);
+        }
+    }
+    Ok(Some(recorder))
+}
+
+// Whether two keys are one.
+fn is_same(a: &[u64], b: &[u64]) -> bool
+    ensures { IsTrue result → a.now ≡ b.now }
+{
+    a == b
+}
+
+// What trying a unit at a key came to.
+pub(crate) enum Tried {
+    // The schedule doesn't lead to the key, or the history is full there.
+    Off,
+    // The unit has no move that is accepted.
+    Rests,
+    // Its move shows this, and leads to this key.
+    Moves {
+        happened: Option<Observation>,
+        squashed: Option<Observation>,
+        key: Vec<u64>,
+    },
+}
+
+// The unit makes its move.
+fn try_move(
+    alloc: Global,
+    recorder: &mut Recorder,
+    most: u32,
+    unit: UnitId,
+) -> Result<Tried, AllocError>
+    requires room { HasRoom recorder.old.machine.config (standing_of recorder.old).plain }
+    ensures { IfOk result (IsTried most recorder.old unit.0) }
+{
+    let roster = roster_of(alloc, recorder)?;
+    if !make_move(recorder, unit, most) {
+        return Ok(Tried::Rests);
+    }
+    let entry = last_entry(recorder);
+    let key = key_of(alloc, recorder)?;
+    Ok(Tried::Moves {
+        happened: happened(&roster, &entry),
+        squashed: squashed(&entry),
+        key,
+    })
+}
+
+// The unit makes its move at a standing that should have this key.
+fn try_at(
+    alloc: Global,
+    recorder: &mut Recorder,
+    most: u32,
+    key: &[u64],
+    unit: UnitId,
+) -> Result<Tried, AllocError>
+    requires few { GaveFew (standing_of recorder.old) }
+    ensures tried { IfOk result (TriedAt recorder.old.machine.image recorder.old.machine.config most key.now unit.0) }
+    ensures shown { IfOk result (λ tried. (path : List UnitId)
+        → Leads recorder.old.machine.image recorder.old.machine.config most
+        (opened_at recorder.old.machine.image recorder.old.machine.config 0) path (standing_of recorder.old)
+        → ShowsIt recorder.old.machine.image recorder.old.machine.config most path unit.0 tried) }
+{
+    keeps(recorder);
+    if recorder.machine().is_full() {
+        return Ok(Tried::Off);
+    }
+    let here = key_of(alloc, recorder)?;
+    if !is_same(here.as_slice(), key) {
+        return Ok(Tried::Off);
+    }
+    try_move(alloc, recorder, most, unit)
+}
+
+// The unit makes its move where a schedule leads, which should be a standing with this key.
+pub(crate) fn try_unit(
+    alloc: Global,
+    image: &Image,
+    config: Config,
+    most: u32,
+    path: &[UnitId],
+    key: &[u64],
+    unit: UnitId,
+) -> Result<Tried, AllocError>
+    ensures tried { IfOk result (TriedAt image.now config most key.now unit.0) }
+    ensures shown { IfOk result (ShowsIt image.now config most path.now unit.0) }
+{
+    match replay(alloc, image, config, path, most)? {
+        Some(mut recorder) => try_at(alloc, &mut recorder, most, key, unit),
+        None => Ok(Tried::Off),
+    }
+}
+
+// The last entry of a history.
+fn last_entry(recorder: &Recorder) -> Entry
+    requires some { 0 < length recorder.now.entries }
+    ensures { (es : List Entry) (x : Entry) → recorder.now.entries ≡ es ++ x ∷ [] → result ≡ x }
+{
+    let entries = recorder.entries();
+    entries[entries.len() - 1]
+}

@@ -1,0 +1,202 @@
+// All schedules of an image.
+
+ghost use Rattle.std.specs.Prelude.{◌≡◌, ◌<◌, ◌≤◌, ◌++◌, ◌∷◌, [], ℕ, IfOk, IfSome, IsTrue, OnOk, length};
+ghost use Rattle.svc_machine_laws.specs.Standing.{opened_at};
+ghost use Rattle.svc_explore_laws.specs.Closed.{IsIn, ShowNothingElse};
+ghost use Rattle.svc_explore.specs.Found.{AreWitnessed, are_seen};
+ghost use Rattle.svc_explore.specs.Search.{GrowsTo, IsExploredAt, IsPartlyClosed, are_keys, image_key};
+
+use crate::found::{Seen, note_seen};
+use crate::search::{Tried, opening_key, try_unit};
+use indexmap::IndexMap;
+use std::alloc::{AllocError, Global};
+use svc_base::{Config, UnitId};
+use svc_image::Image;
+
+/// What an exploration found.
+#[derive(Drop)]
+pub struct Exploration {
+    /// What was seen, each observation once, those first that the shortest schedules show.
+    pub found: Vec<Seen>,
+    /// How many standings were told apart.
+    pub states: usize,
+    /// How many moves were made at them.
+    pub moves: u64,
+    /// How many moves the longest of the schedules has that lead to a standing first.
+    pub deepest: usize,
+    /// No limit was met: no schedule shows anything else.
+    pub whole: bool,
+}
+
+// The keys that were met, each with the schedule that led there first, and what was seen.
+#[derive(Drop)]
+struct Search {
+    keys: IndexMap<Vec<u64>, Vec<UnitId>>,
+    found: Vec<Seen>,
+    moves: u64,
+}
+
+// Notes a key, and the schedule that leads there, unless it was met before.
+fn note_key(
+    keys: &mut IndexMap<Vec<u64>, Vec<UnitId>>,
+    key: Vec<u64>,
+    path: Vec<UnitId>,
+) -> Result<(), AllocError>
+    ensures listed { OnOk result (IsIn key.items (are_keys keys.new.entries)) }
+    ensures grows { OnOk result (GrowsTo (are_keys keys.old.entries) (are_keys keys.new.entries)) }
+    ensures longer { OnOk result (length keys.old.entries ≤ length keys.new.entries) }
+{
+    if keys.contains_key(key.as_slice()) {
+        return Ok(());
+    }
+    keys.insert(key, path)?;
+    Ok(())
+}
+
+// A schedule with one unit more.
+fn longer(alloc: Global, path: &[UnitId], unit: UnitId) -> Result<Vec<UnitId>, AllocError> {
+    let mut next = Vec::from_slice(alloc, path)?;
+    next.push(unit)?;
+    Ok(next)
+}
+
+impl Search {
+    // The unit makes its move where the schedule of a key leads. Whether that was possible.
+    fn explore_unit(
+        &mut self,
+        alloc: Global,
+        image: &Image,
+        config: Config,
+        most: u32,
+        index: usize,
+        unit: UnitId,
+    ) -> Result<bool, AllocError>
+        requires inside { index < length self.old.keys.entries }
+        requires witnessed { AreWitnessed image.now config most self.old.found.items }
+        ensures explored { IfOk result (λ ok. IsTrue ok → IsExploredAt image.now config most (are_keys self.new.keys.entries) (are_seen self.new.found.items) index unit.0) }
+        ensures keys { OnOk result (GrowsTo (are_keys self.old.keys.entries) (are_keys self.new.keys.entries)) }
+        ensures longer { OnOk result (length self.old.keys.entries ≤ length self.new.keys.entries) }
+        ensures found { OnOk result (GrowsTo (are_seen self.old.found.items) (are_seen self.new.found.items)) }
+        ensures witnessed { OnOk result (AreWitnessed image.now config most self.new.found.items) }
+    {
+        let (key, path) = self.keys.get_index(index).unwrap();
+        let path = path.as_slice();
+        match try_unit(alloc, image, config, most, path, key.as_slice(), unit)? {
+            Tried::Off => Ok(false),
+            Tried::Rests => Ok(true),
+            Tried::Moves {
+                happened,
+                squashed,
+                key,
+            } => {
+                let next = longer(alloc, path, unit)?;
+                note_seen(alloc, &mut self.found, happened, path, unit)?;
+                note_seen(alloc, &mut self.found, squashed, path, unit)?;
+                note_key(&mut self.keys, key, next)?;
+                self.moves = self.moves.saturating_add(1);
+                Ok(true)
+            }
+        }
+    }
+
+    // Each unit makes its move where the schedule of a key leads. Whether that was possible.
+    fn explore_key(
+        &mut self,
+        alloc: Global,
+        image: &Image,
+        config: Config,
+        most: u32,
+        index: usize,
+    ) -> Result<bool, AllocError>
+        requires inside { index < length self.old.keys.entries }
+        requires witnessed { AreWitnessed image.now config most self.old.found.items }
+        ensures explored { IfOk result (λ ok. IsTrue ok → (unit : ℕ) → unit < config.units → IsExploredAt image.now config most (are_keys self.new.keys.entries) (are_seen self.new.found.items) index unit) }
+        ensures keys { OnOk result (GrowsTo (are_keys self.old.keys.entries) (are_keys self.new.keys.entries)) }
+        ensures longer { OnOk result (length self.old.keys.entries ≤ length self.new.keys.entries) }
+        ensures found { OnOk result (GrowsTo (are_seen self.old.found.items) (are_seen self.new.found.items)) }
+        ensures witnessed { OnOk result (AreWitnessed image.now config most self.new.found.items) }
+    {
+        for unit in 0..config.units {
+            if !self.explore_unit(alloc, image, config, most, index, UnitId(unit as u8))? {
+                return Ok(false);
+            }
+        }
+        Ok(true)
+    }
+
+    // Explores one key after another, as many as the limit says. Whether none is left.
+    fn run(
+        &mut self,
+        alloc: Global,
+        image: &Image,
+        config: Config,
+        most: u32,
+        limit: usize,
+    ) -> Result<bool, AllocError>
+        requires opening { IsIn (image_key image.now config (opened_at image.now config 0)) (are_keys self.old.keys.entries) }
+        requires witnessed { AreWitnessed image.now config most self.old.found.items }
+        ensures closed { IfOk result (λ ok. IsTrue ok → IsPartlyClosed image.now config most (are_keys self.new.keys.entries) (are_seen self.new.found.items) (length self.new.keys.entries)) }
+        ensures witnessed { OnOk result (AreWitnessed image.now config most self.new.found.items) }
+    {
+        for index in 0..limit {
+            if index == self.keys.len() {
+                return Ok(true);
+            }
+            if !self.explore_key(alloc, image, config, most, index)? {
+                return Ok(false);
+            }
+        }
+        Ok(false)
+    }
+
+    // How many moves the schedule of the last key has: each standing was met first by a shortest one.
+    fn deepest(&self) -> usize {
+        match self.keys.last() {
+            Some((_, path)) => path.len(),
+            None => 0,
+        }
+    }
+}
+
+// The search before any move.
+fn opened(alloc: Global, image: &Image, config: Config) -> Result<Search, AllocError>
+    ensures opening { IfOk result (λ s. IsIn (image_key image.now config (opened_at image.now config 0)) (are_keys s.keys.entries)) }
+    ensures nothing { IfOk result (λ s. s.found.items ≡ []) }
+{
+    let key = opening_key(alloc, image, config)?;
+    let mut keys = IndexMap::new(alloc);
+    note_key(&mut keys, key, Vec::new(alloc))?;
+    Ok(Search {
+        keys,
+        found: Vec::new(alloc),
+        moves: 0,
+    })
+}
+
+/// Explores all schedules of the image: at each standing that moves of the units lead to, each unit makes its move. A unit runs its
+/// task on by at most `burst` turns at a time. At most `limit` standings are explored.
+///
+/// Errors: [`AllocError`].
+pub fn explore(
+    alloc: Global,
+    image: &Image,
+    config: Config,
+    burst: u32,
+    limit: usize,
+) -> Result<Exploration, AllocError>
+    // Where no limit was met, whichever units make their moves, in whatever order and however long, nothing is seen but what was found.
+    ensures whole { IfOk result (λ r. IsTrue r.whole → ShowNothingElse image.now config burst (are_seen r.found.items)) }
+    // Each observation was found once, and its schedule shows it, whether a limit was met or not.
+    ensures witnessed { IfOk result (λ r. AreWitnessed image.now config burst r.found.items) }
+{
+    let _start = image.start();
+    let mut search = opened(alloc, image, config)?;
+    let whole = search.run(alloc, image, config, burst, limit)?;
+    Ok(Exploration {
+        states: search.keys.len(),
+        moves: search.moves,
+        deepest: search.deepest(),
+        found: search.found,
+        whole,
+    })
+}

@@ -1,0 +1,14 @@
+pub mod Blanks
+pub mod Newest
+pub mod Bits
+pub mod TwinSteps
+pub mod OneBurst
+pub mod Ageless
+pub mod FutureLines
+pub mod FutureReplies
+pub mod FutureSteps
+pub mod FutureRefusals
+pub mod FutureMoves
+pub mod Keys
+pub mod Sights
+pub mod ClosedPlays
