@@ -12,7 +12,7 @@ set xtics (1, 2, 4, 8, 16)
 set xlabel "units"
 set grid
 set key left top
-orders = "rotate oldest youngest random"
+orders = "rotate youngest random"
 at(order) = strcol("order") eq order && column("sets") == 16 && column("ways") == 2 ? column("units") : NaN
 set multiplot layout 2, 1
 set ylabel "tasks squashed by violations"

@@ -7,6 +7,7 @@ use crate::arguments::{
 };
 use crate::helps::{
     ABOUT, ASSEMBLE, CHECK, DEPEND, DRAW, FAULTS, LIST, PROFILE, RUN, SCRIPT, SEQ, SHOW, STATUSES,
+    STATUSES_OF_ASSEMBLE, STATUSES_OF_LIST,
 };
 use clap::{Arg, ArgAction, Command};
 use std::alloc::{AllocError, Global};
@@ -20,6 +21,8 @@ struct Subcommand {
     about: &'static str,
     // Its help.
     help: &'static str,
+    // The end of its help: the statuses.
+    statuses: &'static str,
     arguments: &'static [Argument],
 }
 
@@ -28,6 +31,7 @@ const SUBCOMMANDS: [Subcommand; 10] = [
         name: "run",
         about: "Runs an image on the simulated machine, and prints the summary",
         help: RUN,
+        statuses: STATUSES,
         arguments: &[
             IMAGE, TRACE, ROW, HEADER, SCHEDULE, SEED, BURST, UNITS, SETS, WAYS, EVENTS, TURNS,
         ],
@@ -36,30 +40,35 @@ const SUBCOMMANDS: [Subcommand; 10] = [
         name: "seq",
         about: "Runs an image's tasks one after another on plain memory, and prints the summary",
         help: SEQ,
+        statuses: STATUSES,
         arguments: &[IMAGE, TASKS],
     },
     Subcommand {
         name: "depend",
         about: "Runs an image's tasks one after another, and prints what they need of one another",
         help: DEPEND,
+        statuses: STATUSES,
         arguments: &[IMAGE, TASKS_FOLLOWED, BY_OF_NEEDS, DOT],
     },
     Subcommand {
         name: "script",
         about: "Applies the events of a script, and prints a line for each, and the summary",
         help: SCRIPT,
+        statuses: STATUSES,
         arguments: &[IMAGE, EVENTS_FILE, UNITS, SETS, WAYS, EVENTS, TURNS, TRACE],
     },
     Subcommand {
         name: "check",
         about: "Replays a trace, and says whether it is sound",
         help: CHECK,
+        statuses: STATUSES,
         arguments: &[IMAGE, TRACE_FILE, UNITS, SETS, WAYS, EVENTS, TURNS],
     },
     Subcommand {
         name: "profile",
         about: "Replays a trace, and counts what its speculation cost",
         help: PROFILE,
+        statuses: STATUSES,
         arguments: &[
             IMAGE,
             TRACE_FILE,
@@ -77,12 +86,14 @@ const SUBCOMMANDS: [Subcommand; 10] = [
         name: "show",
         about: "Replays a trace, and shows the machine to which it leads",
         help: SHOW,
+        statuses: STATUSES,
         arguments: &[IMAGE, TRACE_FILE, AT, UNITS, SETS, WAYS, EVENTS, TURNS],
     },
     Subcommand {
         name: "draw",
         about: "Replays a trace, and saves a picture of it",
         help: DRAW,
+        statuses: STATUSES,
         arguments: &[
             IMAGE, TRACE_FILE, PICTURE, FROM, COUNT, UNITS, SETS, WAYS, EVENTS, TURNS,
         ],
@@ -91,12 +102,14 @@ const SUBCOMMANDS: [Subcommand; 10] = [
         name: "assemble",
         about: "Assembles a text, and saves the image",
         help: ASSEMBLE,
+        statuses: STATUSES_OF_ASSEMBLE,
         arguments: &[TEXT, MADE_IMAGE],
     },
     Subcommand {
         name: "list",
         about: "Prints an image as assembly",
         help: LIST,
+        statuses: STATUSES_OF_LIST,
         arguments: &[IMAGE],
     },
 ];
@@ -122,7 +135,7 @@ fn described<'a>(alloc: Global, subcommand: &Subcommand) -> Result<Command<'a>, 
     let mut command = Command::new(alloc, subcommand.name)
         .about(subcommand.about)
         .long_about(subcommand.help)
-        .after_help(STATUSES);
+        .after_help(subcommand.statuses);
     for argument in subcommand.arguments {
         command = command.arg(given(alloc, argument)?)?;
     }

@@ -65,6 +65,14 @@ which standard error names in one line:
   file fault      a file could not be read or written, another line could not be printed, a trace has fewer
                   entries than --at or --from says, or memory was refused elsewhere";
 
+/// The end of the help of `assemble`.
+pub(crate) const STATUSES_OF_ASSEMBLE: &str =
+    "Exit status: 0 if the image was saved, and 1 at a fault, which standard error names.";
+
+/// The end of the help of `list`.
+pub(crate) const STATUSES_OF_LIST: &str =
+    "Exit status: 0 if the whole image was printed, and 1 at a fault, which standard error names.";
+
 /// The help of `run`.
 pub(crate) const RUN: &str = "Runs an image on the simulated machine, and prints the summary.
 
@@ -78,9 +86,16 @@ the number of the ending, and the counts. So the rows of many runs join; give on
 
 Each unit runs in a thread of its own, so runs differ. With a schedule all units run in one thread, step by
 step, and the same options give the same run. A step makes one event: the units are asked in order, and
-the first that can make its next move does. --turns then limits the steps.
+the first that can make its next move does. --turns then limits the steps. The orders:
 
-Example: svcsim run sum.svci --units 8 --schedule oldest --row 8,oldest";
+  rotate     the unit after the one that moved last, and so on around
+  oldest     the unit of the oldest task first: it can always move, so the tasks run one after another, and
+             nothing is speculative, on however many units
+  youngest   units without a task first, then the youngest task: squashes may cost more events than --events
+             allows, so such a run may not end
+  random     a unit that is drawn, and so on around
+
+Example: svcsim run sum.svci --units 8 --schedule rotate --row 8,rotate";
 
 /// The help of `seq`.
 pub(crate) const SEQ: &str =
@@ -124,14 +139,15 @@ summary.
 A script is a CSV text with the header kind,unit,arg. Its rows are:
 
   assign,U,E    begins a task on unit U at the entry E
-  submit,U,T    runs U's task on by at most T turns (and 63), and submits that burst
+  submit,U,T    runs U's task on by at most T turns (and 63), and submits that burst; if its last turn asks the
+                bus, that one counts too
   replace,U,A   removes the line of data word A from U's cache
   cancel,U,     squashes U's task and all after it
   commit,U,     commits the oldest task; U asks for it
   take,U,T      runs U's task on likewise, and keeps that burst to be submitted later
   give,U,       submits the burst kept for U
 
-An accepted event prints its row of a trace; a refused one prints refused,N with the number of the refusal.
+It has no comments, no spaces and no other columns. An accepted event prints its row of a trace; a refused one prints refused,N with the number of the refusal.
 A kept burst prints taken,L,A: its local turns, and 1 if it asks for the bus, otherwise 0. If there is
 nothing to keep or to give, none is printed. With --trace the trace of the accepted events is saved before
 anything is printed.
@@ -197,7 +213,8 @@ came too early, for which it squashed a task. Point at a mark to see its row of 
 trace it reports the first fault, as check does, and saves nothing. Give the options that the trace was made
 with.
 
-Nothing is printed. The time that a picture takes grows with the square of the entries that it shows.
+Nothing is printed. The file grows with the entries that it shows, by some 150 bytes for each; from a few
+thousand on, a browser takes long to open it.
 
 Example: svcsim draw sum.svci sum.csv sum.svg --from 100 --count 200";
 
