@@ -1,8 +1,8 @@
 -- Lists of numbers, strings, and names with what they stand for: they are read part by part.
-use Rattle.std.specs.Prelude.{ℕ, ◌+◌, ◌*◌, ◌-◌, ◌%◌, ◌^◌, Bool, true, false, ◌==◌, nat_le, List, [], ◌∷◌, Option, Some, None, if◌then◌else◌, codes}
+use Rattle.std.specs.Prelude.{ℕ, ◌+◌, ◌*◌, ◌-◌, ◌%◌, Bool, true, false, ◌==◌, List, [], ◌∷◌, Option, Some, None, if◌then◌else◌, codes, option_map}
 use Rattle.std.specs.Str.{bytes_eq}
-use Rattle.svc_draft.specs.declared.section.Section.TheVariants as section
-use Rattle.svc_draft.specs.declared.section.Spot.{Spot}
+use Rattle.svc_draft.specs.declared.statement.Section.TheVariants as section
+use Rattle.svc_draft.specs.declared.statement.Spot.{Spot}
 use Rattle.svc_draft.specs.declared.statement.Width.{Width}
 use Rattle.svc_draft.specs.declared.statement.Width.TheVariants as wide
 use Rattle.svc_draft.specs.declared.statement.Ending.{Ending}
@@ -16,103 +16,43 @@ use Rattle.svc_draft.specs.Layouts.{Layout, spot_here}
 use Rattle.svc_operands.specs.declared.operands.Signed.{Signed}
 use Rattle.svc_operands.specs.Characters.{is_from_to, past_spaces, found, name_at, past_name, mark_at, escaped}
 use Rattle.svc_operands.specs.Operands.{Read, number_at, behind_sign}
-use Rattle.svc_operands.specs.Values.{value_at}
-use Rattle.svc_asm.specs.Directives.{opened_by}
-use Rattle.svc_asm.specs.Statements.{end_at, is_label, line_at}
+use Rattle.svc_operands.specs.Values.{value_at, bits_of, fitted, sum}
+use Rattle.svc_asm.specs.declared.directives.TheConstants.{OPENED}
+use Rattle.svc_asm.specs.Statements.{said_by, begun_at, some_left, said_at, end_at, is_label, line_at}
 
--- what is left, of which there is some: no text ends within a list
-abbrev pub some_left : List ℕ → Option (List ℕ)
-some_left [] = None
-some_left (c ∷ rest) = Some (c ∷ rest)
-
--- what begins a list, up to its first part
-unfoldable pub open_at : Next → List ℕ → Read Statement
-open_at n text = do
-  rest ← some_left text
-  Some (say.Open n, rest)
-
--- a string begins with a quote
-unfoldable pub behind_name : Next → List ℕ → Option (List ℕ)
-behind_name (go.Character e) text = mark_at 34 text
-behind_name _ text = Some text
-
-unfoldable pub begun_at : Next → List ℕ → Read Statement
-begun_at n text = do
-  rest ← behind_name n text
-  open_at n rest
-
-unfoldable pub opened_at : List ℕ → Read Statement
-opened_at text = opened_by (name_at text) >>= (λ n. begun_at n (past_name text))
+-- a directive that begins what has parts, up to the first of them
+unfoldable pub opened_at : Layout → List ℕ → Read Statement
+opened_at d text = said_by OPENED (name_at text) >>= (λ s. said_at d s (past_name text))
 
 -- a number that may have a minus sign, or a label's address
-unfoldable pub positive_at : Layout → List ℕ → Read Signed
-positive_at d text = do
-  n ← value_at d text
-  Some (record { negative = false; magnitude = n.0 }, n.1)
-
 abbrev pub datum_from : Layout → List ℕ → Read Signed
 datum_from d [] = None
-datum_from d (c ∷ rest) = if c == 45 then behind_sign true rest else positive_at d (c ∷ rest)
+datum_from d (c ∷ rest) = if c == 45 then behind_sign true rest else option_map (λ n. (record { negative = false; magnitude = n.0 }, n.1)) (value_at d (c ∷ rest))
 
 unfoldable pub datum_at : Layout → List ℕ → Read Signed
 datum_at d text = datum_from d (past_spaces text)
 
--- how far below 0, and how great, a number of so many bytes may be
-abbrev pub least : Width → ℕ
-least wide.Byte = 128
-least wide.Half = 32768
-least wide.Word = 2147483648
+-- how far below 0 a number of so many bytes may be
+abbrev pub half : Width → ℕ
+half wide.Byte = 128
+half wide.Half = 32768
+half wide.Word = 2147483648
 
-abbrev pub greatest : Width → ℕ
-greatest wide.Byte = 255
-greatest wide.Half = 65535
-greatest wide.Word = 4294967295
-
--- the 32 bits of a number that so many bytes have room for
-unfoldable pub fitted : Width → Signed → Option ℕ
-fitted w s =
-    if s.negative then if nat_le s.magnitude (least w) then Some ((2 ^ 32 - s.magnitude) % 2 ^ 32) else None
-    else if nat_le s.magnitude (greatest w) then Some s.magnitude else None
-
--- the end of a line, behind which a line is read
-unfoldable pub over_at : List ℕ → Read Next
-over_at text = do
-  rest ← end_at text
-  Some (go.Line, rest)
-
--- behind a number: a comma and more, or the end of the line
-unfoldable pub more_at : Next → List ℕ → Read Next
-more_at n text = do
-  rest ← some_left text
-  Some (n, rest)
-
+-- behind a part of a list: a comma and what begins the next one, or the end of the line, behind which a line is read
 unfoldable pub going_at : Next → List ℕ → Read Next
-going_at n text = found (mark_at 44 text) (λ rest. more_at n rest) (over_at text)
+going_at n text = found (mark_at 44 text) (λ more. option_map (λ rest. (n, rest)) (begun_at n more)) (option_map (λ rest. (go.Line, rest)) (end_at text))
 
 unfoldable pub item_at : Layout → Width → List ℕ → Read Statement
 item_at d w text = do
   s ← datum_at d text
-  n ← fitted w s.0
+  n ← fitted (half w) s.0
   then_ ← going_at (go.Value w) s.1
   Some (say.Value w n then_.0, then_.1)
 
--- behind a string: a comma and another one's quote, or the end of the line
-unfoldable pub next_quote_at : Ending → List ℕ → Read Next
-next_quote_at e text = do
-  inside ← mark_at 34 text
-  more_at (go.Character e) inside
-
-unfoldable pub next_string_at : Ending → List ℕ → Read Next
-next_string_at e text = found (mark_at 44 text) (λ rest. next_quote_at e rest) (over_at text)
-
+-- what the end of a string says
 abbrev pub closed : Ending → Next → Statement
 closed ending.Bare n = say.Open n
 closed ending.Zero n = say.Value wide.Byte 0 n
-
-unfoldable pub close_at : Ending → List ℕ → Read Statement
-close_at e text = do
-  n ← next_string_at e text
-  Some (closed e n.0, n.1)
 
 -- a character, behind which the string goes on
 unfoldable pub put_at : Ending → ℕ → List ℕ → Read Statement
@@ -142,19 +82,13 @@ escape_at e (c ∷ rest) = found (escaped c) (λ b. put_at e b rest) (octal_at e
 unfoldable pub character_at : Ending → List ℕ → Read Statement
 character_at e [] = None
 character_at e (c ∷ rest) =
-    if c == 34 then close_at e rest else
+    if c == 34 then option_map (λ n. (closed e n.0, n.1)) (going_at (go.Character e) rest) else
     if c == 92 then escape_at e rest else
     if c == 10 then None else
     put_at e c rest
 
--- a place so many bytes on, and so many back
-abbrev pub moved_on : Spot → ℕ → Spot
-moved_on s n = record { section = s.section; offset = (s.offset + n) % 2 ^ 32 }
-
 unfoldable pub moved_by : Bool → Spot → List ℕ → Read Spot
-moved_by back s text = do
-  n ← number_at text
-  Some (moved_on s (if back then (2 ^ 32 - n.0) % 2 ^ 32 else n.0), n.1)
+moved_by negative s text = option_map (λ n. (record { section = s.section; offset = sum s.offset (bits_of n.0) }, n.1)) (behind_sign negative text)
 
 -- a place and what is added to it or taken away
 abbrev pub moved_from : Spot → List ℕ → List ℕ → Read Spot
@@ -165,14 +99,9 @@ moved_from s rest (c ∷ more) = if c == 43 then moved_by false s more else if c
 unfoldable pub spot_named : Layout → List ℕ → Option Spot
 spot_named d name = if bytes_eq name (codes ".") then Some (spot_here d) else d.names name
 
-unfoldable pub named_spot_at : Layout → List ℕ → Read Spot
-named_spot_at d text = do
-  s ← spot_named d (name_at text)
-  Some (s, past_name text)
-
 -- what a number, a dot or a name before stands for
 unfoldable pub first_spot_at : Layout → List ℕ → Read Spot
-first_spot_at d text = found (number_at text) (λ n. Some (record { section = section.Text; offset = n.0 }, n.1)) (named_spot_at d text)
+first_spot_at d text = found (number_at text) (λ n. Some (record { section = section.Text; offset = n.0 }, n.1)) (option_map (λ s. (s, past_name text)) (spot_named d (name_at text)))
 
 unfoldable pub spot_at : Layout → List ℕ → Read Spot
 spot_at d text = do
@@ -204,7 +133,7 @@ common_at text = do
 
 -- a line, up to the colon where it begins with a label, and up to the first part where it begins what has parts
 abbrev pub first_at : Layout → List ℕ → Read Statement
-first_at d text = found (line_at d text) (λ s. Some s) (opened_at text)
+first_at d text = found (line_at d text) (λ s. Some s) (opened_at d text)
 
 -- what is read next
 abbrev pub part_at : Next → Layout → List ℕ → Read Statement

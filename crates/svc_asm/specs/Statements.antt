@@ -1,70 +1,66 @@
 -- What a line says: directives and instructions, read from their text.
-use Rattle.std.specs.Prelude.{ℕ, nat_eq, Bool, false, not, ◌==◌, List, [], ◌∷◌, drop, Option, Some, None, if◌then◌else◌, codes}
+use Rattle.std.specs.Prelude.{ℕ, nat_eq, List, [], ◌∷◌, Option, Some, None, if◌then◌else◌, ◌^◌, ◌==◌, nat_le, Bool, false, not, drop, codes, option_map}
 use Rattle.std.specs.List.{starts_with}
-use Rattle.svc_image.specs.declared.version.Version.{Version}
+use Rattle.std.specs.Str.{bytes_eq}
+use Rattle.svc_draft.specs.declared.statement.Section.{Section}
+use Rattle.svc_draft.specs.Options.{◌>>=◌}
+use Rattle.svc_operands.specs.Characters.{name_at, is_from_to, opens, past_spaces, past, found, past_name, behind, mark_at, value_of}
+use Rattle.svc_operands.specs.Names.{padded}
+use Rattle.svc_asm.specs.declared.directives.Says.{Says}
+use Rattle.svc_asm.specs.declared.directives.Directive.{Directive}
+use Rattle.svc_asm.specs.declared.directives.Beginning.{Beginning}
+use Rattle.svc_asm.specs.declared.directives.TheConstants.{SECTIONS, DIRECTIVES}
 use Rattle.svc_image.specs.declared.version.Version.TheVariants as version
-use Rattle.svc_draft.specs.declared.statement.Width.TheVariants as wide
-use Rattle.svc_draft.specs.declared.statement.Next.TheVariants as go
 use Rattle.svc_draft.specs.declared.statement.Statement.{Statement}
 use Rattle.svc_draft.specs.declared.statement.Statement.TheVariants as say
-use Rattle.svc_draft.specs.Options.{◌>>=◌}
-use Rattle.svc_operands.specs.Characters.{is_from_to, opens, past_spaces, past, found, name_at, past_name, behind, value_of}
-use Rattle.svc_instructions.specs.Statements.{instruction_at}
+use Rattle.svc_operands.specs.Operands.{Read, number_at, first_register_at}
+use Rattle.svc_asm.specs.declared.directives.Number.{Number}
+use Rattle.svc_asm.specs.declared.directives.Number.TheVariants as number
+use Rattle.svc_draft.specs.declared.statement.Width.TheVariants as wide
+use Rattle.svc_draft.specs.declared.statement.Next.{Next}
+use Rattle.svc_draft.specs.declared.statement.Next.TheVariants as go
+use Rattle.svc_instructions.specs.Couples.{instruction_at}
 use Rattle.svc_draft.specs.Layouts.{Layout}
-use Rattle.svc_asm.specs.declared.passed.Passed.{Passed}
-use Rattle.svc_asm.specs.declared.passed.Passed.TheVariants as passed
-use Rattle.svc_asm.specs.declared.directives.Says.{Says}
+use Rattle.svc_asm.specs.declared.line.Passed.{Passed}
+use Rattle.svc_asm.specs.declared.line.Passed.TheVariants as passed
 use Rattle.svc_asm.specs.declared.directives.Says.TheVariants as says
-use Rattle.svc_asm.specs.Directives.{said_by, section_by}
-use Rattle.svc_asm.specs.Blanks.{blank_at}
-use Rattle.svc_operands.specs.Operands.{Read, first_register_at, number_at}
 use Rattle.svc_operands.specs.Values.{value_at}
 
--- the directives that have a number, or a label's address
-unfoldable pub word_at : Layout → List ℕ → Read Statement
-word_at d text = do
-  n ← value_at d text
-  Some (say.Value wide.Word n.0 go.Line, n.1)
+-- what a directive says
+abbrev pub says_in : List Directive → List ℕ → Option Says
+says_in [] name = None
+says_in (r ∷ more) name = if bytes_eq name r.0 then Some r.1 else says_in more name
 
-unfoldable pub start_at : Layout → List ℕ → Read Statement
-start_at d text = do
-  n ← value_at d text
-  Some (say.Start n.0, n.1)
+unfoldable pub said_by : List Directive → List ℕ → Option Says
+said_by rows name = padded name >>= (λ letters. says_in rows letters)
 
-unfoldable pub limit_at : List ℕ → Read Statement
-limit_at text = do
+-- the section that a name is a part of, by how it begins
+abbrev pub section_in : List Beginning → List ℕ → Option Section
+section_in [] name = None
+section_in (r ∷ more) name = if starts_with nat_eq name (name_at r.0) then Some r.1 else section_in more name
+
+unfoldable pub section_by : List ℕ → Option Section
+section_by name = section_in SECTIONS name
+
+-- 2 ^ 16 is the greatest alignment by a power
+abbrev pub said_of : Number → ℕ → Option Statement
+said_of number.Zeros n = Some (say.Zeros n)
+said_of number.Power n = if nat_le n 16 then Some (say.Align (2 ^ n)) else None
+said_of number.Step n = Some (say.Align n)
+said_of number.Version n = if n == 1 then Some (say.Version version.One) else if n == 2 then Some (say.Version version.Two) else None
+said_of number.Limit n = Some (say.Limit n)
+said_of number.Own n = Some (say.Entry (Some n))
+
+unfoldable pub numbered_at : Number → List ℕ → Read Statement
+numbered_at number text = do
   n ← number_at text
-  Some (say.Limit n.0, n.1)
+  s ← said_of number n.0
+  Some (s, n.1)
 
--- the version, by its number
-abbrev pub known_version : ℕ → Option Version
-known_version n = if n == 1 then Some version.One else if n == 2 then Some version.Two else None
-
-unfoldable pub version_at : List ℕ → Read Statement
-version_at text = do
-  n ← number_at text
-  v ← known_version n.0
-  Some (say.Version v, n.1)
-
--- an entry, and its own limit where something follows
-unfoldable pub limited_entry_at : List ℕ → Read Statement
-limited_entry_at text = do
-  n ← number_at text
-  Some (say.Entry (Some n.0), n.1)
-
+-- a task begins here, maybe with a limit of its own
 abbrev pub entry_before : List ℕ → List ℕ → Read Statement
 entry_before [] text = Some (say.Entry None, text)
-entry_before (c ∷ name) text = limited_entry_at text
-
-unfoldable pub entry_at : List ℕ → Read Statement
-entry_at text = entry_before (name_at text) text
-
--- a register and its value
-unfoldable pub setting_at : Layout → List ℕ → Read Statement
-setting_at d text = do
-  r ← first_register_at text
-  n ← value_at d r.1
-  Some (say.Register r.0 n.0, n.1)
+entry_before (c ∷ name) text = numbered_at number.Own text
 
 -- the rest of a line
 abbrev pub is_inside : ℕ → Bool
@@ -89,29 +85,39 @@ unfoldable pub past_rest : Passed → List ℕ → List ℕ
 past_rest p [] = []
 past_rest p (c ∷ rest) = found (rest_behind p c rest) (λ next. past_rest next rest) (c ∷ rest)
 
+-- what is left, of which there is some: no text ends within a list
+abbrev pub some_left : List ℕ → Option (List ℕ)
+some_left [] = None
+some_left (c ∷ rest) = Some (c ∷ rest)
+
+-- where a part begins that is read next: a string begins behind a quote
+abbrev pub behind_name : Next → List ℕ → Option (List ℕ)
+behind_name (go.Character e) text = mark_at 34 text
+behind_name _ text = Some text
+
+unfoldable pub begun_at : Next → List ℕ → Option (List ℕ)
+begun_at n text = behind_name n text >>= some_left
+
 -- a section by its name; flags and the like follow it
-unfoldable pub section_at : List ℕ → Read Statement
-section_at text = do
-  s ← section_by (name_at text)
-  Some (say.Section s, past_rest passed.Plain (past_name text))
+abbrev pub section_at : List ℕ → Read Statement
+section_at text = option_map (λ s. (say.Section s, past_rest passed.Plain (past_name text))) (section_by (name_at text))
 
 -- what a directive says, by what it reads
 unfoldable pub said_at : Layout → Says → List ℕ → Read Statement
 said_at d (says.Section s) text = Some (say.Section s, text)
 said_at d says.NamedSection text = section_at text
-said_at d says.Word text = word_at d text
-said_at d (says.Blank b) text = blank_at b text
-said_at d says.Version text = version_at text
+said_at d says.Word text = option_map (λ n. (say.Value wide.Word n.0 go.Line, n.1)) (value_at d text)
+said_at d (says.Number number) text = numbered_at number text
 said_at d says.ReadOnly text = Some (say.ReadOnly, text)
-said_at d says.Entry text = entry_at text
-said_at d says.Start text = start_at d text
-said_at d says.Limit text = limit_at text
-said_at d says.Register text = setting_at d text
+said_at d says.Entry text = entry_before (name_at text) text
+said_at d says.Start text = option_map (λ n. (say.Start n.0, n.1)) (value_at d text)
+said_at d says.Register text = first_register_at text >>= (λ r. option_map (λ n. (say.Register r.0 n.0, n.1)) (value_at d r.1))
 said_at d says.Passed text = Some (say.Nothing, past_rest passed.Plain text)
+said_at d (says.Open n) text = option_map (λ rest. (say.Open n, rest)) (begun_at n text)
 
 unfoldable pub directive_at : Layout → List ℕ → List ℕ → Read Statement
 directive_at d name text =
-    found (said_by name) (λ s. said_at d s text) (
+    found (said_by DIRECTIVES name) (λ s. said_at d s text) (
     if starts_with nat_eq name (codes ".cfi_") then Some (say.Nothing, past_rest passed.Plain text) else None)
 
 -- what a name and what follows it say: a directive's name begins with a dot
@@ -146,13 +152,8 @@ is_label [] = false
 is_label (c ∷ name) = not (is_from_to 48 57 c)
 
 -- what a name, or a local label's number, and a colon say
-unfoldable pub local_with : List ℕ → List ℕ → Read Statement
-local_with name rest = do
-  n ← value_of 10 name
-  Some (say.Local n, rest)
-
 abbrev pub label_with : List ℕ → List ℕ → Read Statement
-label_with name rest = if is_label name then Some (say.Label, rest) else local_with name rest
+label_with name rest = if is_label name then Some (say.Label, rest) else option_map (λ n. (say.Local n, rest)) (value_of 10 name)
 
 -- a line, up to the colon where it begins with a label: what it says, and the text behind it
 unfoldable pub line_at : Layout → List ℕ → Read Statement

@@ -21,34 +21,40 @@ use thiserror::Error;
 /// Why a text makes no image.
 #[derive(Clone, Copy, Debug, Error)]
 pub enum AssembleError {
-    /// The text can't be read further: this stands at this line and column, counted from 1, where something else may
-    /// stand.
-    #[error("{line}:{column}: found {found}, expected {wanted}")]
-    Unread {
+    /// This stands at this line and column, counted from 1, where the text can't be read further, or what begins there
+    /// may not stand there, or the lines up to there make no image.
+    #[error("{line}:{column}: found {found}, expected {expected}")]
+    Fault {
         line: usize,
         column: usize,
         found: Found,
-        wanted: Wanted,
-    },
-    /// What begins at this line and column may not stand there, or the lines up to there make no image.
-    #[error("{line}:{column}: found {found}, expected {refusal}")]
-    Refused {
-        line: usize,
-        column: usize,
-        found: Found,
-        refusal: Refusal,
+        expected: Expected,
     },
     /// Memory ran out.
     #[error("out of memory")]
     Memory,
 }
 
-// Why reading stops: where the text can't be read further, a line that may not stand where it stands, or no memory.
+/// What may stand at a place instead.
+#[derive(Clone, Copy, Debug, Error)]
+pub enum Expected {
+    /// Where the text can't be read further.
+    #[error("{0}")]
+    Read(Wanted),
+    /// Where a line may not stand.
+    #[error("{0}")]
+    Stand(Refusal),
+}
+
+// Why reading stops: something else is expected where so many bytes of the text are left, or there is no memory.
 #[derive(Clone, Copy)]
 enum Stop {
-    Unread(Unread),
-    Refused { left: usize, refusal: Refusal },
+    Fault(usize, Expected),
     Memory,
+}
+
+fn unread_stop(unread: Unread) -> Stop {
+    Stop::Fault(unread.left, Expected::Read(unread.wanted))
 }
 
 // How many bytes of the text are left from its second word on.
@@ -75,21 +81,21 @@ fn take_line<'a>(text: &'a [u8], draft: &mut Draft<'a>) -> Result<(Statement, &'
 {
     let (statement, rest) = match read_next(draft, text) {
         Ok(read) => read,
-        Err(unread) => return Err(Stop::Unread(unread)),
+        Err(unread) => return Err(unread_stop(unread)),
     };
     // A line takes at least a byte.
     if rest.len() >= text.len() {
-        return Err(Stop::Unread(stopped_at(text, Wanted::LineEnd)));
+        return Err(unread_stop(stopped_at(text, Wanted::LineEnd)));
     }
     let (name, _) = split_name(text);
     let next = draft.next();
     match draft.take(name, statement) {
         Ok(()) => Ok((statement, rest)),
         Err(Refusal::Memory) => Err(Stop::Memory),
-        Err(refusal) => Err(Stop::Refused {
-            left: refused_at(next, text, refusal),
-            refusal,
-        }),
+        Err(refusal) => {
+            let left = refused_at(next, text, refusal);
+            Err(Stop::Fault(left, Expected::Stand(refusal)))
+        }
     }
 }
 
@@ -146,50 +152,30 @@ fn place(text: &[u8], left: usize) -> (usize, usize) {
     (line, column)
 }
 
-// What stands where so many bytes of the text are left.
-fn found_at(text: &[u8], left: usize) -> Found {
-    let (_, rest) = text.split_at(text.len().saturating_sub(left));
-    found_in(rest)
-}
-
-// How a stop is told.
 fn told(text: &[u8], stop: Stop) -> AssembleError
     ensures { (stop ≡ halt.Memory) → result ≡ error.Memory }
 {
     match stop {
-        Stop::Unread(Unread { left, wanted }) => {
+        Stop::Fault(left, expected) => {
             let (line, column) = place(text, left);
-            AssembleError::Unread {
+            AssembleError::Fault {
                 line,
                 column,
-                found: found_at(text, left),
-                wanted,
-            }
-        }
-        Stop::Refused { left, refusal } => {
-            let (line, column) = place(text, left);
-            AssembleError::Refused {
-                line,
-                column,
-                found: found_at(text, left),
-                refusal,
+                found: found_in(text.split_at(text.len().saturating_sub(left)).1),
+                expected,
             }
         }
         Stop::Memory => AssembleError::Memory,
     }
 }
 
-// Where the lines make no image: at the start that they say, or where they end.
 fn no_image(start: usize, refusal: Refusal) -> Stop
     ensures { (refusal ≡ lack.Memory) → result ≡ halt.Memory }
 {
     match refusal {
         Refusal::Memory => Stop::Memory,
-        Refusal::OtherStart => Stop::Refused {
-            left: start,
-            refusal,
-        },
-        _ => Stop::Refused { left: 0, refusal },
+        Refusal::OtherStart => Stop::Fault(start, Expected::Stand(refusal)),
+        _ => Stop::Fault(0, Expected::Stand(refusal)),
     }
 }
 

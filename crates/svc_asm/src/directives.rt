@@ -1,12 +1,13 @@
-// The directives as tables: what each of their names says.
+// The directives as tables: what each of their names says, and what some say by one number.
 
-ghost use Rattle.std.specs.Prelude.{◌≡◌};
+ghost use Rattle.std.specs.Prelude.{◌≡◌, ◌^◌, ◌≤◌};
 ghost use Rattle.std.specs.List.{starts_with};
-ghost use Rattle.svc_asm.specs.Directives.{says_in, said_by, opened_in, opened_by, section_in, section_by};
+ghost use Rattle.svc_asm.specs.Statements.{says_in, said_by, section_in, section_by, said_of, numbered_at};
+ghost use Rattle.svc_operands.specs.Operands.{Gives};
 
-use crate::blanks::Blank;
-use svc_draft::{Ending, Next, Section, Width};
-use svc_operands::{Name, padded, split_name};
+use svc_draft::{Ending, Next, Section, Statement, Width};
+use svc_image::Version;
+use svc_operands::{Name, Read, Wanted, padded, read_number, split_name, stopped_at};
 
 /// What a directive says, and what it reads.
 #[derive(Clone, Copy)]
@@ -17,22 +18,20 @@ pub enum Says {
     NamedSection,
     /// A word, by its value.
     Word,
-    /// Zeros.
-    Blank(Blank),
-    /// The version of the image.
-    Version,
+    /// What it says by its number.
+    Number(Number),
     /// The data up to here is read-only.
     ReadOnly,
     /// A task begins here, maybe with a limit of its own.
     Entry,
     /// Where the first task begins.
     Start,
-    /// The limit of turns of every other task.
-    Limit,
     /// A register, and its value.
     Register,
     /// Nothing of an image: it is passed over, with the rest of its line.
     Passed,
+    /// What follows is read part by part, first this.
+    Open(Next),
 }
 
 /// A directive's name, and what it says.
@@ -50,17 +49,17 @@ pub const DIRECTIVES: [Directive; 31] = [
     Directive(*b".bss            ", Says::Section(Section::Bss)),
     Directive(*b".sbss           ", Says::Section(Section::Bss)),
     Directive(*b".section        ", Says::NamedSection),
-    Directive(*b".zero           ", Says::Blank(Blank::Zeros)),
-    Directive(*b".space          ", Says::Blank(Blank::Zeros)),
-    Directive(*b".skip           ", Says::Blank(Blank::Zeros)),
-    Directive(*b".align          ", Says::Blank(Blank::Power)),
-    Directive(*b".p2align        ", Says::Blank(Blank::Power)),
-    Directive(*b".balign         ", Says::Blank(Blank::Step)),
-    Directive(*b".svc_version    ", Says::Version),
+    Directive(*b".zero           ", Says::Number(Number::Zeros)),
+    Directive(*b".space          ", Says::Number(Number::Zeros)),
+    Directive(*b".skip           ", Says::Number(Number::Zeros)),
+    Directive(*b".align          ", Says::Number(Number::Power)),
+    Directive(*b".p2align        ", Says::Number(Number::Power)),
+    Directive(*b".balign         ", Says::Number(Number::Step)),
+    Directive(*b".svc_version    ", Says::Number(Number::Version)),
     Directive(*b".svc_readonly   ", Says::ReadOnly),
     Directive(*b".svc_entry      ", Says::Entry),
     Directive(*b".svc_start      ", Says::Start),
-    Directive(*b".svc_limit      ", Says::Limit),
+    Directive(*b".svc_limit      ", Says::Number(Number::Limit)),
     Directive(*b".svc_register   ", Says::Register),
     Directive(*b".globl          ", Says::Passed),
     Directive(*b".global         ", Says::Passed),
@@ -74,25 +73,30 @@ pub const DIRECTIVES: [Directive; 31] = [
     Directive(*b".attribute      ", Says::Passed),
 ];
 
-/// A directive that begins what is read part by part, and what is read next.
-#[derive(Clone, Copy)]
-pub struct Opened(pub Name, pub Next);
-
 /// The directives that are read part by part.
-pub const OPENED: [Opened; 13] = [
-    Opened(*b".word           ", Next::Value(Width::Word)),
-    Opened(*b".4byte          ", Next::Value(Width::Word)),
-    Opened(*b".half           ", Next::Value(Width::Half)),
-    Opened(*b".2byte          ", Next::Value(Width::Half)),
-    Opened(*b".short          ", Next::Value(Width::Half)),
-    Opened(*b".byte           ", Next::Value(Width::Byte)),
-    Opened(*b".ascii          ", Next::Character(Ending::Bare)),
-    Opened(*b".asciz          ", Next::Character(Ending::Zero)),
-    Opened(*b".string         ", Next::Character(Ending::Zero)),
-    Opened(*b".set            ", Next::Symbol),
-    Opened(*b".equ            ", Next::Symbol),
-    Opened(*b".comm           ", Next::Common),
-    Opened(*b".lcomm          ", Next::Common),
+pub const OPENED: [Directive; 13] = [
+    Directive(*b".word           ", Says::Open(Next::Value(Width::Word))),
+    Directive(*b".4byte          ", Says::Open(Next::Value(Width::Word))),
+    Directive(*b".half           ", Says::Open(Next::Value(Width::Half))),
+    Directive(*b".2byte          ", Says::Open(Next::Value(Width::Half))),
+    Directive(*b".short          ", Says::Open(Next::Value(Width::Half))),
+    Directive(*b".byte           ", Says::Open(Next::Value(Width::Byte))),
+    Directive(
+        *b".ascii          ",
+        Says::Open(Next::Character(Ending::Bare)),
+    ),
+    Directive(
+        *b".asciz          ",
+        Says::Open(Next::Character(Ending::Zero)),
+    ),
+    Directive(
+        *b".string         ",
+        Says::Open(Next::Character(Ending::Zero)),
+    ),
+    Directive(*b".set            ", Says::Open(Next::Symbol)),
+    Directive(*b".equ            ", Says::Open(Next::Symbol)),
+    Directive(*b".comm           ", Says::Open(Next::Common)),
+    Directive(*b".lcomm          ", Says::Open(Next::Common)),
 ];
 
 /// How the name of a section begins, and the section that it is a part of.
@@ -121,31 +125,18 @@ fn says_in(rows: &[Directive], name: Name) -> Option<Says>
     None
 }
 
-/// What the directive of this name says.
-#[tactic(auto, unfolding(crate::specs::Directives::said_by))]
+#[tactic(auto, unfolding(crate::specs::Statements::said_by))]
 pub fn said_by(name: &[u8]) -> Option<Says>
-    ensures { result ≡ said_by name.now }
+    ensures { result ≡ said_by DIRECTIVES name.now }
 {
     says_in(&DIRECTIVES, padded(name)?)
 }
 
-fn opened_in(rows: &[Opened], name: Name) -> Option<Next>
-    ensures { result ≡ opened_in rows.now name }
+#[tactic(auto, unfolding(crate::specs::Statements::said_by))]
+pub fn opened_by(name: &[u8]) -> Option<Says>
+    ensures { result ≡ said_by OPENED name.now }
 {
-    for row in rows {
-        if name == row.0 {
-            return Some(row.1);
-        }
-    }
-    None
-}
-
-/// What is read next behind the name of a directive.
-#[tactic(auto, unfolding(crate::specs::Directives::opened_by))]
-pub fn opened_by(name: &[u8]) -> Option<Next>
-    ensures { result ≡ opened_by name.now }
-{
-    opened_in(&OPENED, padded(name)?)
+    says_in(&OPENED, padded(name)?)
 }
 
 fn section_in(rows: &[Beginning], name: &[u8]) -> Option<Section>
@@ -160,10 +151,66 @@ fn section_in(rows: &[Beginning], name: &[u8]) -> Option<Section>
     None
 }
 
-/// The section that a name is a part of.
-#[tactic(auto, unfolding(crate::specs::Directives::section_by))]
+#[tactic(auto, unfolding(crate::specs::Statements::section_by))]
 pub fn section_by(name: &[u8]) -> Option<Section>
     ensures { result ≡ section_by name.now }
 {
     section_in(&SECTIONS, name)
+}
+
+/// What a directive says by its number.
+#[derive(Clone, Copy)]
+pub enum Number {
+    /// How many zeros there are.
+    Zeros,
+    /// The power of two that is to divide the next address.
+    Power,
+    /// The number that is to divide the next address.
+    Step,
+    /// The version of the image.
+    Version,
+    /// The limit of turns of every task that has none of its own.
+    Limit,
+    /// A task's own limit of turns.
+    Own,
+}
+
+fn power(exponent: u32) -> u32
+    requires { exponent ≤ 16 }
+    ensures { result ≡ 2 ^ exponent }
+{
+    1 << exponent
+}
+
+fn said_of(number: Number, n: u32) -> Option<Statement>
+    ensures { result ≡ said_of number n }
+{
+    match number {
+        Number::Zeros => Some(Statement::Zeros(n)),
+        Number::Power if n <= 16 => Some(Statement::Align(power(n))),
+        Number::Step => Some(Statement::Align(n)),
+        Number::Version if n == 1 => Some(Statement::Version(Version::One)),
+        Number::Version if n == 2 => Some(Statement::Version(Version::Two)),
+        Number::Limit => Some(Statement::Limit(n)),
+        Number::Own => Some(Statement::Entry(Some(n))),
+        Number::Power | Number::Version => None,
+    }
+}
+
+fn wanted_by(number: Number) -> Wanted {
+    match number {
+        Number::Version => Wanted::Version,
+        _ => Wanted::Power,
+    }
+}
+
+#[tactic(auto, unfolding(crate::specs::Statements::numbered_at))]
+pub fn read_numbered(number: Number, text: &[u8]) -> Read<'_, Statement>
+    ensures { Gives (λ x. (x.0, x.1.now)) result (numbered_at number text.now) }
+{
+    let (n, rest) = read_number(text)?;
+    match said_of(number, n) {
+        Some(statement) => Ok((statement, rest)),
+        None => Err(stopped_at(text, wanted_by(number))),
+    }
 }

@@ -41,16 +41,14 @@ fn goes_on(c: u8) -> bool {
 fn first_word(text: &[u8]) -> Word {
     let mut bytes = [0; MOST_TOLD];
     let mut length = 0;
+    let mut is_cut = false;
     for &c in text {
         if length > 0 && !goes_on(c) {
             break;
         }
         if length >= MOST_TOLD {
-            return Word {
-                bytes,
-                length,
-                is_cut: true,
-            };
+            is_cut = true;
+            break;
         }
         bytes[length] = c;
         length += 1;
@@ -58,7 +56,7 @@ fn first_word(text: &[u8]) -> Word {
     Word {
         bytes,
         length,
-        is_cut: false,
+        is_cut,
     }
 }
 

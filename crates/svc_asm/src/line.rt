@@ -1,93 +1,69 @@
 // Lines: what they say, and where they end.
 
 ghost use Rattle.std.specs.Prelude.{◌≡◌, option_map};
+ghost use Rattle.svc_asm.specs.declared.line.Passed.TheVariants as passed;
+ghost use Rattle.svc_asm.specs.Statements.{rest_behind, past_rest, section_at, some_left, behind_name, begun_at, said_at, directive_at, statement_at, is_inside, end_at, ended_at, is_label, label_with, line_at};
 ghost use Rattle.svc_operands.specs.Characters.{past};
 ghost use Rattle.svc_draft.specs.Layouts.{layout_of};
-ghost use Rattle.svc_operands.specs.Reading.{Gives};
-ghost use Rattle.svc_asm.specs.Statements.{word_at, start_at, limit_at, known_version, version_at, limited_entry_at, entry_at, setting_at, section_at, said_at, directive_at, statement_at, is_inside, end_at, ended_at, is_label, local_with, label_with, line_at};
+ghost use Rattle.svc_operands.specs.Operands.{Gives};
 
-use crate::blanks::read_blank;
-use crate::directives::{Says, said_by, section_by};
-use crate::passed::skip_rest;
+use crate::directives::{Number, Says, read_numbered, said_by, section_by};
 use svc_draft::{Draft, Next, Statement, Width};
-use svc_image::Version;
 use svc_instructions::read_instruction;
 use svc_operands::{
-    Unread, Wanted, decimal_of, read_first_register, read_number, read_value, skip_spaces,
-    split_name, stopped_at, stopped_at_name,
+    Read, Unread, Wanted, opens, read_first_register, read_mark, read_value, skip_spaces,
+    split_name, stopped_at, stopped_at_name, value_of,
 };
 
-#[tactic(auto, unfolding(crate::specs::Statements::word_at))]
-fn read_word<'a>(draft: &Draft, text: &'a [u8]) -> Result<(Statement, &'a [u8]), Unread>
-    ensures { Gives (λ x. (x.0, x.1.now)) result (word_at (layout_of draft.now) text.now) }
-{
-    let (number, rest) = read_value(draft, text)?;
-    Ok((Statement::Value(Width::Word, number, Next::Line), rest))
+/// Where in the rest of a line a character stands.
+#[derive(Clone, Copy)]
+pub enum Passed {
+    /// In no string and no comment.
+    Plain,
+    /// In a string.
+    Quoted,
+    /// In a string, behind a backslash.
+    Escaped,
+    /// In a comment up to the line's end.
+    Remark,
+    /// Behind the slash that opens a comment.
+    Opening,
+    /// In such a comment.
+    Inside,
+    /// In such a comment, behind a star.
+    Star,
 }
 
-#[tactic(auto, unfolding(crate::specs::Statements::start_at))]
-fn read_start<'a>(draft: &Draft, text: &'a [u8]) -> Result<(Statement, &'a [u8]), Unread>
-    ensures { Gives (λ x. (x.0, x.1.now)) result (start_at (layout_of draft.now) text.now) }
+fn rest_behind(place: Passed, c: u8, rest: &[u8]) -> Option<Passed>
+    ensures { result ≡ rest_behind place c rest.now }
 {
-    let (number, rest) = read_value(draft, text)?;
-    Ok((Statement::Start(number), rest))
-}
-
-#[tactic(auto, unfolding(crate::specs::Statements::limit_at))]
-fn read_limit(text: &[u8]) -> Result<(Statement, &[u8]), Unread>
-    ensures { Gives (λ x. (x.0, x.1.now)) result (limit_at text.now) }
-{
-    let (number, rest) = read_number(text)?;
-    Ok((Statement::Limit(number), rest))
-}
-
-fn known_version(number: u32) -> Option<Version>
-    ensures { result ≡ known_version number }
-{
-    match number {
-        1 => Some(Version::One),
-        2 => Some(Version::Two),
-        _ => None,
+    match (place, c) {
+        (Passed::Plain | Passed::Quoted | Passed::Escaped | Passed::Remark, b'\n') => None,
+        (Passed::Plain, b'"') => Some(Passed::Quoted),
+        (Passed::Plain, b'#') | (Passed::Remark, _) => Some(Passed::Remark),
+        (Passed::Plain, _) if opens(c, rest) => Some(Passed::Opening),
+        (Passed::Plain, _) | (Passed::Quoted, b'"') | (Passed::Star, b'/') => Some(Passed::Plain),
+        (Passed::Quoted, b'\\') => Some(Passed::Escaped),
+        (Passed::Quoted | Passed::Escaped, _) => Some(Passed::Quoted),
+        (Passed::Inside | Passed::Star, b'*') => Some(Passed::Star),
+        (Passed::Opening | Passed::Inside | Passed::Star, _) => Some(Passed::Inside),
     }
 }
 
-#[tactic(auto, unfolding(crate::specs::Statements::version_at))]
-fn read_version(text: &[u8]) -> Result<(Statement, &[u8]), Unread>
-    ensures { Gives (λ x. (x.0, x.1.now)) result (version_at text.now) }
+#[tactic(auto, unfolding(crate::specs::Statements::past_rest))]
+pub fn skip_rest(text: &[u8]) -> &[u8]
+    ensures { result.now ≡ past_rest passed.Plain text.now }
 {
-    let (number, rest) = read_number(text)?;
-    match known_version(number) {
-        Some(version) => Ok((Statement::Version(version), rest)),
-        None => Err(stopped_at(text, Wanted::Version)),
+    let mut place = Passed::Plain;
+    let mut rest = text;
+    while let [first, after @ ..] = rest {
+        match rest_behind(place, *first, after) {
+            Some(next) => place = next,
+            None => return rest,
+        }
+        rest = after;
     }
-}
-
-#[tactic(auto, unfolding(crate::specs::Statements::limited_entry_at))]
-fn read_limited_entry(text: &[u8]) -> Result<(Statement, &[u8]), Unread>
-    ensures { Gives (λ x. (x.0, x.1.now)) result (limited_entry_at text.now) }
-{
-    let (limit, rest) = read_number(text)?;
-    Ok((Statement::Entry(Some(limit)), rest))
-}
-
-#[tactic(auto, unfolding(crate::specs::Statements::entry_at))]
-fn read_entry(text: &[u8]) -> Result<(Statement, &[u8]), Unread>
-    ensures { Gives (λ x. (x.0, x.1.now)) result (entry_at text.now) }
-{
-    let (name, _) = split_name(text);
-    match name {
-        [] => Ok((Statement::Entry(None), text)),
-        _ => read_limited_entry(text),
-    }
-}
-
-#[tactic(auto, unfolding(crate::specs::Statements::setting_at))]
-fn read_setting<'a>(draft: &Draft, text: &'a [u8]) -> Result<(Statement, &'a [u8]), Unread>
-    ensures { Gives (λ x. (x.0, x.1.now)) result (setting_at (layout_of draft.now) text.now) }
-{
-    let (register, rest) = read_first_register(text)?;
-    let (value, rest) = read_value(draft, rest)?;
-    Ok((Statement::Register(register, value), rest))
+    rest
 }
 
 #[tactic(auto, unfolding(svc_operands::specs::Characters::past))]
@@ -104,9 +80,7 @@ fn skip_inside(text: &[u8]) -> &[u8]
     rest
 }
 
-// A section's name, and what follows it on its line.
-#[tactic(auto, unfolding(crate::specs::Statements::section_at))]
-fn read_section(text: &[u8]) -> Result<(Statement, &[u8]), Unread>
+fn read_section(text: &[u8]) -> Read<'_, Statement>
     ensures { Gives (λ x. (x.0, x.1.now)) result (section_at text.now) }
 {
     let (name, rest) = split_name(text);
@@ -116,32 +90,77 @@ fn read_section(text: &[u8]) -> Result<(Statement, &[u8]), Unread>
     }
 }
 
-// What a directive says, by what it reads.
+fn wanted_by(next: Next) -> Wanted {
+    match next {
+        Next::Line => Wanted::Statement,
+        Next::Value(_) => Wanted::Value,
+        Next::Character(_) => Wanted::Quote,
+        Next::Symbol | Next::Common => Wanted::Label,
+    }
+}
+
+pub fn read_left(next: Next, text: &[u8]) -> Result<&[u8], Unread>
+    ensures { Gives (λ x. x.now) result (some_left text.now) }
+{
+    match text {
+        [] => Err(stopped_at(text, wanted_by(next))),
+        _ => Ok(text),
+    }
+}
+
+fn behind_name(next: Next, text: &[u8]) -> Result<&[u8], Unread>
+    ensures { Gives (λ x. x.now) result (behind_name next text.now) }
+{
+    match next {
+        Next::Character(_) => read_mark(b'"', Wanted::Quote, text),
+        _ => Ok(text),
+    }
+}
+
+#[tactic(auto, unfolding(crate::specs::Statements::begun_at))]
+pub fn read_begun(next: Next, text: &[u8]) -> Result<&[u8], Unread>
+    ensures { Gives (λ x. x.now) result (begun_at next text.now) }
+{
+    let rest = behind_name(next, text)?;
+    read_left(next, rest)
+}
+
 #[tactic(auto, unfolding(crate::specs::Statements::said_at))]
-fn read_said<'a>(draft: &Draft, says: Says, text: &'a [u8]) -> Result<(Statement, &'a [u8]), Unread>
+pub fn read_said<'a>(draft: &Draft, says: Says, text: &'a [u8]) -> Read<'a, Statement>
     ensures { Gives (λ x. (x.0, x.1.now)) result (said_at (layout_of draft.now) says text.now) }
 {
     match says {
         Says::Section(section) => Ok((Statement::Section(section), text)),
         Says::NamedSection => read_section(text),
-        Says::Word => read_word(draft, text),
-        Says::Blank(blank) => read_blank(blank, text),
-        Says::Version => read_version(text),
+        Says::Word => {
+            let (number, rest) = read_value(draft, text)?;
+            Ok((Statement::Value(Width::Word, number, Next::Line), rest))
+        }
+        Says::Number(number) => read_numbered(number, text),
         Says::ReadOnly => Ok((Statement::ReadOnly, text)),
-        Says::Entry => read_entry(text),
-        Says::Start => read_start(draft, text),
-        Says::Limit => read_limit(text),
-        Says::Register => read_setting(draft, text),
+        Says::Entry => match split_name(text) {
+            ([], _) => Ok((Statement::Entry(None), text)),
+            _ => read_numbered(Number::Own, text),
+        },
+        Says::Start => {
+            let (start, rest) = read_value(draft, text)?;
+            Ok((Statement::Start(start), rest))
+        }
+        Says::Register => {
+            let (register, rest) = read_first_register(text)?;
+            let (value, rest) = read_value(draft, rest)?;
+            Ok((Statement::Register(register, value), rest))
+        }
         Says::Passed => Ok((Statement::Nothing, skip_rest(text))),
+        Says::Open(next) => {
+            let rest = read_begun(next, text)?;
+            Ok((Statement::Open(next), rest))
+        }
     }
 }
 
 #[tactic(auto, unfolding(crate::specs::Statements::directive_at))]
-fn read_directive<'a>(
-    draft: &Draft,
-    name: &[u8],
-    text: &'a [u8],
-) -> Result<(Statement, &'a [u8]), Unread>
+fn read_directive<'a>(draft: &Draft, name: &[u8], text: &'a [u8]) -> Read<'a, Statement>
     ensures { Gives (λ x. (x.0, x.1.now)) result (directive_at (layout_of draft.now) name.now text.now) }
 {
     if let Some(says) = said_by(name) {
@@ -154,7 +173,7 @@ fn read_directive<'a>(
 }
 
 #[tactic(auto, unfolding(crate::specs::Statements::statement_at))]
-fn read_statement<'a>(draft: &Draft, text: &'a [u8]) -> Result<(Statement, &'a [u8]), Unread>
+fn read_statement<'a>(draft: &Draft, text: &'a [u8]) -> Read<'a, Statement>
     ensures { Gives (λ x. (x.0, x.1.now)) result (statement_at (layout_of draft.now) text.now) }
 {
     let (name, rest) = split_name(text);
@@ -165,7 +184,6 @@ fn read_statement<'a>(draft: &Draft, text: &'a [u8]) -> Result<(Statement, &'a [
     }
 }
 
-/// What follows the end of a line, which a comment may stand before.
 #[tactic(auto, unfolding(crate::specs::Statements::end_at))]
 pub fn read_end(text: &[u8]) -> Result<&[u8], Unread>
     ensures { Gives (λ x. x.now) result (end_at text.now) }
@@ -182,7 +200,7 @@ pub fn read_end(text: &[u8]) -> Result<&[u8], Unread>
 }
 
 #[tactic(auto, unfolding(crate::specs::Statements::ended_at))]
-fn read_ended<'a>(draft: &Draft, text: &'a [u8]) -> Result<(Statement, &'a [u8]), Unread>
+fn read_ended<'a>(draft: &Draft, text: &'a [u8]) -> Read<'a, Statement>
     ensures { Gives (λ x. (x.0, x.1.now)) result (ended_at (layout_of draft.now) text.now) }
 {
     let (statement, rest) = read_statement(draft, text)?;
@@ -190,7 +208,6 @@ fn read_ended<'a>(draft: &Draft, text: &'a [u8]) -> Result<(Statement, &'a [u8])
     Ok((statement, rest))
 }
 
-/// Whether this may be a label's name: no digit begins it.
 pub fn is_label(name: &[u8]) -> bool
     ensures { result ≡ is_label name.now }
 {
@@ -200,27 +217,17 @@ pub fn is_label(name: &[u8]) -> bool
     }
 }
 
-// What a local label's number and a colon say.
-#[tactic(auto, unfolding(crate::specs::Statements::local_with))]
-fn local_with<'a>(name: &[u8], rest: &'a [u8]) -> Option<(Statement, &'a [u8])>
-    ensures { option_map (λ x. (x.0, x.1.now)) result ≡ local_with name.now rest.now }
-{
-    Some((Statement::Local(decimal_of(name)?), rest))
-}
-
-// What a label and a colon say.
 fn label_with<'a>(name: &[u8], rest: &'a [u8]) -> Option<(Statement, &'a [u8])>
     ensures { option_map (λ x. (x.0, x.1.now)) result ≡ label_with name.now rest.now }
 {
     if is_label(name) {
         return Some((Statement::Label, rest));
     }
-    local_with(name, rest)
+    Some((Statement::Local(value_of(10, name)?), rest))
 }
 
-/// What a line says, up to the colon where it begins with a label, and the text behind it.
 #[tactic(auto, unfolding(crate::specs::Statements::line_at))]
-pub fn read_line<'a>(draft: &Draft, text: &'a [u8]) -> Result<(Statement, &'a [u8]), Unread>
+pub fn read_line<'a>(draft: &Draft, text: &'a [u8]) -> Read<'a, Statement>
     ensures { Gives (λ x. (x.0, x.1.now)) result (line_at (layout_of draft.now) text.now) }
 {
     let (name, rest) = split_name(text);

@@ -1,144 +1,252 @@
 // What is read part by part: lists of numbers, strings, and names with what they stand for.
 
-ghost use Rattle.std.specs.Prelude.{◌≡◌};
+ghost use Rattle.std.specs.Prelude.{◌≡◌, ◌+◌, ◌*◌, ◌<◌, IfSome, option_map};
+ghost use Rattle.svc_operands.specs.Operands.{Gives};
+ghost use Rattle.svc_asm.specs.DataLines.{closed, put_at, octal_digit, octal_on, octal_at, escape_at, character_at, moved_by, moved_from, spot_named, first_spot_at, spot_at, named_at, symbol_at, step_at, common_at, opened_at, datum_at, half, going_at, item_at, first_at, next_at};
+ghost use Rattle.svc_operands.specs.Characters.{past_spaces};
 ghost use Rattle.svc_draft.specs.Layouts.{layout_of};
-ghost use Rattle.svc_operands.specs.Reading.{Gives};
-ghost use Rattle.svc_asm.specs.DataLines.{some_left, open_at, behind_name, begun_at, opened_at, positive_at, datum_at, least, greatest, fitted, over_at, more_at, going_at, item_at, first_at, next_at};
 
 use crate::directives::opened_by;
-use crate::line::{read_end, read_line};
-use crate::strings::read_character;
-use crate::symbols::{read_common, read_symbol};
-use svc_draft::{Draft, Next, Statement, Width};
+use crate::line::{is_label, read_begun, read_end, read_left, read_line, read_said};
+use svc_draft::{Draft, Ending, Next, Section, Spot, Statement, Width};
 use svc_operands::{
-    Signed, Unread, Wanted, read_behind_sign, read_mark, read_value, skip_mark, skip_spaces,
-    split_name, stopped_at, stopped_at_name,
+    Read, Signed, Unread, Wanted, bits_of, escaped, fitted, read_behind_sign, read_mark,
+    read_number, read_value, skip_mark, skip_spaces, split_name, stopped_at, stopped_at_name,
 };
 
-// What may stand where this is read next.
-fn wanted_by(next: Next) -> Wanted {
-    match next {
-        Next::Line => Wanted::Statement,
-        Next::Value(_) => Wanted::Value,
-        Next::Character(_) => Wanted::Quote,
-        Next::Symbol | Next::Common => Wanted::Label,
+// The fault of a backslash that this follows. A space is no blank there.
+fn stopped_behind_backslash(text: &[u8]) -> Unread {
+    Unread {
+        left: text.len(),
+        wanted: Wanted::Escape,
     }
 }
 
-/// What is left, of which this is read next, where something is: no text ends within a list.
-pub fn read_left(next: Next, text: &[u8]) -> Result<&[u8], Unread>
-    ensures { Gives (λ x. x.now) result (some_left text.now) }
+fn closed(ending: Ending, next: Next) -> Statement
+    ensures { result ≡ closed ending next }
+{
+    match ending {
+        Ending::Bare => Statement::Open(next),
+        Ending::Zero => Statement::Value(Width::Byte, 0, next),
+    }
+}
+
+#[tactic(auto, unfolding(crate::specs::DataLines::put_at))]
+fn read_on(ending: Ending, character: u8, text: &[u8]) -> Read<'_, Statement>
+    ensures { Gives (λ x. (x.0, x.1.now)) result (put_at ending character text.now) }
+{
+    let next = Next::Character(ending);
+    let rest = read_left(next, text)?;
+    Ok((Statement::Value(Width::Byte, character as u32, next), rest))
+}
+
+fn split_octal(text: &[u8]) -> Option<(u32, &[u8])>
+    ensures value { option_map (λ x. (x.0, x.1.now)) result ≡ octal_digit text.now }
+    ensures small { IfSome result (λ x. x.0 < 8) }
 {
     match text {
-        [] => Err(stopped_at(text, wanted_by(next))),
-        _ => Ok(text),
+        [digit, rest @ ..] if matches!(*digit, b'0'..=b'7') => Some(((*digit - b'0') as u32, rest)),
+        _ => None,
     }
 }
 
-#[tactic(auto, unfolding(crate::specs::DataLines::open_at))]
-fn read_open(next: Next, text: &[u8]) -> Result<(Statement, &[u8]), Unread>
-    ensures { Gives (λ x. (x.0, x.1.now)) result (open_at next text.now) }
+// A number and one octal digit more, where one follows.
+#[tactic(auto, unfolding(crate::specs::DataLines::octal_on))]
+fn octal_on(number: u32, text: &[u8]) -> (u32, &[u8])
+    requires { number < 64 }
+    ensures number { result.0 ≡ (octal_on number text.now).0 }
+    ensures rest { result.1.now ≡ (octal_on number text.now).1 }
+    ensures small { result.0 < 8 * number + 8 }
 {
-    let rest = read_left(next, text)?;
-    Ok((Statement::Open(next), rest))
-}
-
-// What is left behind a directive's name: a string begins with a quote.
-#[tactic(auto, unfolding(crate::specs::DataLines::behind_name))]
-fn behind_name(next: Next, text: &[u8]) -> Result<&[u8], Unread>
-    ensures { Gives (λ x. x.now) result (behind_name next text.now) }
-{
-    match next {
-        Next::Character(_) => read_mark(b'"', Wanted::Quote, text),
-        _ => Ok(text),
+    match split_octal(text) {
+        Some((digit, rest)) => (8 * number + digit, rest),
+        None => (number, text),
     }
 }
 
-#[tactic(auto, unfolding(crate::specs::DataLines::begun_at))]
-fn read_begun(next: Next, text: &[u8]) -> Result<(Statement, &[u8]), Unread>
-    ensures { Gives (λ x. (x.0, x.1.now)) result (begun_at next text.now) }
+#[tactic(auto, unfolding(crate::specs::DataLines::octal_at))]
+fn read_octal(ending: Ending, text: &[u8]) -> Read<'_, Statement>
+    ensures { Gives (λ x. (x.0, x.1.now)) result (octal_at ending text.now) }
 {
-    let rest = behind_name(next, text)?;
-    read_open(next, rest)
+    match split_octal(text) {
+        Some((first, rest)) => {
+            let (two, rest) = octal_on(first, rest);
+            let (three, rest) = octal_on(two, rest);
+            read_on(ending, (three % 256) as u8, rest)
+        }
+        None => Err(stopped_behind_backslash(text)),
+    }
 }
 
-// The directive that begins a list, a string or a name with its value, up to what follows its own name.
+#[tactic(auto, unfolding(crate::specs::DataLines::escape_at))]
+fn read_escape(ending: Ending, text: &[u8]) -> Read<'_, Statement>
+    ensures { Gives (λ x. (x.0, x.1.now)) result (escape_at ending text.now) }
+{
+    match text {
+        [] => Err(stopped_behind_backslash(text)),
+        [letter, rest @ ..] => match escaped(*letter) {
+            Some(character) => read_on(ending, character, rest),
+            None => read_octal(ending, text),
+        },
+    }
+}
+
+#[tactic(auto, unfolding(crate::specs::DataLines::character_at))]
+pub fn read_character(ending: Ending, text: &[u8]) -> Read<'_, Statement>
+    ensures { Gives (λ x. (x.0, x.1.now)) result (character_at ending text.now) }
+{
+    match text {
+        [] => Err(stopped_at(text, Wanted::Quote)),
+        [b'"', rest @ ..] => {
+            let (next, rest) = read_going(Next::Character(ending), rest)?;
+            Ok((closed(ending, next), rest))
+        }
+        [b'\\', rest @ ..] => read_escape(ending, rest),
+        [b'\n', ..] => Err(stopped_at(text, Wanted::Quote)),
+        [character, rest @ ..] => read_on(ending, *character, rest),
+    }
+}
+
+#[tactic(auto, unfolding(crate::specs::DataLines::moved_by))]
+fn read_moved_by(negative: bool, spot: Spot, text: &[u8]) -> Read<'_, Spot>
+    ensures { Gives (λ x. (x.0, x.1.now)) result (moved_by negative spot text.now) }
+{
+    let (number, rest) = read_behind_sign(negative, text)?;
+    let offset = spot.offset.wrapping_add(bits_of(number));
+    let section = spot.section;
+    Ok((Spot { section, offset }, rest))
+}
+
+fn read_moved(spot: Spot, text: &[u8]) -> Read<'_, Spot>
+    ensures { Gives (λ x. (x.0, x.1.now)) result (moved_from spot text.now (past_spaces text.now)) }
+{
+    match skip_spaces(text) {
+        [b'+', rest @ ..] => read_moved_by(false, spot, rest),
+        [b'-', rest @ ..] => read_moved_by(true, spot, rest),
+        _ => Ok((spot, text)),
+    }
+}
+
+#[tactic(auto, unfolding(crate::specs::DataLines::spot_named))]
+fn spot_named(draft: &Draft, name: &[u8]) -> Option<Spot>
+    ensures { result ≡ spot_named (layout_of draft.now) name.now }
+{
+    match name {
+        b"." => Some(draft.spot_here()),
+        _ => draft.spot_of(name),
+    }
+}
+
+#[tactic(auto, unfolding(crate::specs::DataLines::first_spot_at))]
+fn read_first_spot<'a>(draft: &Draft, text: &'a [u8]) -> Read<'a, Spot>
+    ensures { Gives (λ x. (x.0, x.1.now)) result (first_spot_at (layout_of draft.now) text.now) }
+{
+    match read_number(text) {
+        Ok((offset, rest)) => {
+            let section = Section::Text;
+            Ok((Spot { section, offset }, rest))
+        }
+        Err(_) => {
+            let (name, rest) = split_name(text);
+            match spot_named(draft, name) {
+                Some(spot) => Ok((spot, rest)),
+                None => Err(stopped_at(text, Wanted::Symbol)),
+            }
+        }
+    }
+}
+
+#[tactic(auto, unfolding(crate::specs::DataLines::spot_at))]
+fn read_spot<'a>(draft: &Draft, text: &'a [u8]) -> Read<'a, Spot>
+    ensures { Gives (λ x. (x.0, x.1.now)) result (spot_at (layout_of draft.now) text.now) }
+{
+    let (spot, rest) = read_first_spot(draft, text)?;
+    read_moved(spot, rest)
+}
+
+#[tactic(auto, unfolding(crate::specs::DataLines::named_at))]
+fn read_named(text: &[u8]) -> Result<&[u8], Unread>
+    ensures { Gives (λ x. x.now) result (named_at text.now) }
+{
+    let (name, rest) = split_name(text);
+    if is_label(name) {
+        read_mark(b',', Wanted::Comma, rest)
+    } else {
+        Err(stopped_at(text, Wanted::Label))
+    }
+}
+
+#[tactic(auto, unfolding(crate::specs::DataLines::symbol_at))]
+pub fn read_symbol<'a>(draft: &Draft, text: &'a [u8]) -> Read<'a, Statement>
+    ensures { Gives (λ x. (x.0, x.1.now)) result (symbol_at (layout_of draft.now) text.now) }
+{
+    let rest = read_named(text)?;
+    let (spot, rest) = read_spot(draft, rest)?;
+    let rest = read_end(rest)?;
+    Ok((Statement::Symbol(spot), rest))
+}
+
+#[tactic(auto, unfolding(crate::specs::DataLines::step_at))]
+fn read_step(text: &[u8]) -> Read<'_, u32>
+    ensures { Gives (λ x. (x.0, x.1.now)) result (step_at text.now) }
+{
+    match skip_mark(b',', text) {
+        Some(rest) => read_number(rest),
+        None => Ok((4, text)),
+    }
+}
+
+#[tactic(auto, unfolding(crate::specs::DataLines::common_at))]
+pub fn read_common(text: &[u8]) -> Read<'_, Statement>
+    ensures { Gives (λ x. (x.0, x.1.now)) result (common_at text.now) }
+{
+    let rest = read_named(text)?;
+    let (count, rest) = read_number(rest)?;
+    let (step, rest) = read_step(rest)?;
+    let rest = read_end(rest)?;
+    Ok((Statement::Common(count, step), rest))
+}
+
 #[tactic(auto, unfolding(crate::specs::DataLines::opened_at))]
-fn read_opened(text: &[u8]) -> Result<(Statement, &[u8]), Unread>
-    ensures { Gives (λ x. (x.0, x.1.now)) result (opened_at text.now) }
+fn read_opened<'a>(draft: &Draft, text: &'a [u8]) -> Read<'a, Statement>
+    ensures { Gives (λ x. (x.0, x.1.now)) result (opened_at (layout_of draft.now) text.now) }
 {
     let (name, rest) = split_name(text);
     match opened_by(name) {
-        Some(next) => read_begun(next, rest),
+        Some(says) => read_said(draft, says, rest),
         None => Err(stopped_at_name(name, rest, Wanted::Statement)),
     }
 }
 
-#[tactic(auto, unfolding(crate::specs::DataLines::positive_at))]
-fn read_positive<'a>(draft: &Draft, text: &'a [u8]) -> Result<(Signed, &'a [u8]), Unread>
-    ensures { Gives (λ x. (x.0, x.1.now)) result (positive_at (layout_of draft.now) text.now) }
-{
-    let (magnitude, rest) = read_value(draft, text)?;
-    let negative = false;
-    Ok((
-        Signed {
-            negative,
-            magnitude,
-        },
-        rest,
-    ))
-}
-
 #[tactic(auto, unfolding(crate::specs::DataLines::datum_at))]
-fn read_datum<'a>(draft: &Draft, text: &'a [u8]) -> Result<(Signed, &'a [u8]), Unread>
+fn read_datum<'a>(draft: &Draft, text: &'a [u8]) -> Read<'a, Signed>
     ensures { Gives (λ x. (x.0, x.1.now)) result (datum_at (layout_of draft.now) text.now) }
 {
     let rest = skip_spaces(text);
     match rest {
         [] => Err(stopped_at(text, Wanted::Value)),
         [b'-', magnitude @ ..] => read_behind_sign(true, magnitude),
-        _ => read_positive(draft, rest),
+        _ => {
+            let (magnitude, rest) = read_value(draft, rest)?;
+            let negative = false;
+            Ok((
+                Signed {
+                    negative,
+                    magnitude,
+                },
+                rest,
+            ))
+        }
     }
 }
 
-// How far below 0 a number of so many bytes may be.
-fn least(width: Width) -> u32
-    ensures { result ≡ least width }
+fn half(width: Width) -> u32
+    ensures { result ≡ half width }
 {
     match width {
         Width::Byte => 128,
         Width::Half => 32_768,
         Width::Word => 2_147_483_648,
-    }
-}
-
-// How great a number of so many bytes may be.
-fn greatest(width: Width) -> u32
-    ensures { result ≡ greatest width }
-{
-    match width {
-        Width::Byte => 255,
-        Width::Half => 65_535,
-        Width::Word => 4_294_967_295,
-    }
-}
-
-// The 32 bits of a number that so many bytes have room for.
-#[tactic(auto, unfolding(crate::specs::DataLines::fitted))]
-fn fitted(width: Width, number: Signed) -> Option<u32>
-    ensures { result ≡ fitted width number }
-{
-    let magnitude = number.magnitude;
-    if number.negative {
-        if magnitude <= least(width) {
-            return Some(0u32.wrapping_sub(magnitude));
-        }
-        return None;
-    }
-    if magnitude <= greatest(width) {
-        Some(magnitude)
-    } else {
-        None
     }
 }
 
@@ -151,44 +259,28 @@ fn number_in(width: Width) -> Wanted {
     }
 }
 
-/// The end of a line, behind which a line is read.
-#[tactic(auto, unfolding(crate::specs::DataLines::over_at))]
-pub fn read_over(text: &[u8]) -> Result<(Next, &[u8]), Unread>
-    ensures { Gives (λ x. (x.0, x.1.now)) result (over_at text.now) }
-{
-    let rest = read_end(text)?;
-    Ok((Next::Line, rest))
-}
-
-/// What follows a comma.
-#[tactic(auto, unfolding(crate::specs::DataLines::more_at))]
-pub fn read_more(next: Next, text: &[u8]) -> Result<(Next, &[u8]), Unread>
-    ensures { Gives (λ x. (x.0, x.1.now)) result (more_at next text.now) }
-{
-    let rest = read_left(next, text)?;
-    Ok((next, rest))
-}
-
 #[tactic(auto, unfolding(crate::specs::DataLines::going_at))]
-fn read_going(next: Next, text: &[u8]) -> Result<(Next, &[u8]), Unread>
+pub fn read_going(next: Next, text: &[u8]) -> Read<'_, Next>
     ensures { Gives (λ x. (x.0, x.1.now)) result (going_at next text.now) }
 {
     match skip_mark(b',', text) {
-        Some(rest) => read_more(next, rest),
-        None => read_over(text),
+        Some(more) => {
+            let rest = read_begun(next, more)?;
+            Ok((next, rest))
+        }
+        None => {
+            let rest = read_end(text)?;
+            Ok((Next::Line, rest))
+        }
     }
 }
 
 #[tactic(auto, unfolding(crate::specs::DataLines::item_at))]
-fn read_item<'a>(
-    draft: &Draft,
-    width: Width,
-    text: &'a [u8],
-) -> Result<(Statement, &'a [u8]), Unread>
+fn read_item<'a>(draft: &Draft, width: Width, text: &'a [u8]) -> Read<'a, Statement>
     ensures { Gives (λ x. (x.0, x.1.now)) result (item_at (layout_of draft.now) width text.now) }
 {
     let (signed, rest) = read_datum(draft, text)?;
-    let number = match fitted(width, signed) {
+    let number = match fitted(half(width), signed) {
         Some(number) => number,
         None => return Err(stopped_at(text, number_in(width))),
     };
@@ -196,22 +288,20 @@ fn read_item<'a>(
     Ok((Statement::Value(width, number, next), rest))
 }
 
-// A line, up to the colon where it begins with a label, and up to the first part where it begins what has parts.
-fn read_first<'a>(draft: &Draft, text: &'a [u8]) -> Result<(Statement, &'a [u8]), Unread>
+fn read_first<'a>(draft: &Draft, text: &'a [u8]) -> Read<'a, Statement>
     ensures { Gives (λ x. (x.0, x.1.now)) result (first_at (layout_of draft.now) text.now) }
 {
     match read_line(draft, text) {
         Ok(read) => Ok(read),
-        Err(unread) => match read_opened(text) {
+        Err(unread) => match read_opened(draft, text) {
             Ok(opened) => Ok(opened),
             Err(_) => Err(unread),
         },
     }
 }
 
-/// The next part of a text, by what is read next.
 #[tactic(auto, unfolding(crate::specs::DataLines::next_at))]
-pub fn read_next<'a>(draft: &Draft, text: &'a [u8]) -> Result<(Statement, &'a [u8]), Unread>
+pub fn read_next<'a>(draft: &Draft, text: &'a [u8]) -> Read<'a, Statement>
     ensures { Gives (λ x. (x.0, x.1.now)) result (next_at (layout_of draft.now) text.now) }
 {
     match draft.next() {

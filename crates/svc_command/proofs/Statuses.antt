@@ -1,5 +1,5 @@
 -- The exit status of what was done is 2 at most.
-use Rattle.std.proofs.Common.{◌≡◌, ◌≤◌, ℕ, List, Option, Some, None, arith}
+use Rattle.std.proofs.Common.{◌≡◌, ◌≤◌, ℕ, Bool, true, false, cond, List, Option, Some, None, arith}
 use Rattle.svc_core_laws.specs.declared.end.Ending.{Ending}
 use Rattle.svc_core_laws.specs.declared.end.Ending.TheVariants as ending
 use Rattle.svc_history.specs.Recorded.{Recorded}
@@ -23,16 +23,21 @@ of_run : (row : Option TableRow) (r : Recorded) (old new : Option (List ℕ)) (e
 of_run None r old new exit report = of_ending _ exit report.status
 of_run (Some row) r old new exit report = of_ending _ exit report.status
 
+of_whole : (whole : Bool) (exit : ℕ) → exit ≡ cond whole 0 2 → exit ≤ 2
+of_whole true exit is = omega (arith, is)
+of_whole false exit is = omega (arith, is)
+
 pub two_at_most : (asked : Request) (held saved : Held) (old new : Option (List ℕ)) (exit : ℕ) → Does asked held saved old new exit → exit ≤ 2
 two_at_most (request.Help text) held saved old new exit done = of_nothing exit done.status
 two_at_most request.Version held saved old new exit done = of_nothing exit done.status
 two_at_most (request.Run run) held saved old new exit (img, image, r, is_run, goes, trace, report) = of_run run.row r old new exit report
 two_at_most (request.Sequential tasks) held saved old new exit (img, image, report) = of_ending _ exit report.status
-two_at_most (request.Depend depended) held saved old new exit (img, image, tells) = of_ending _ exit tells.status
+two_at_most (request.Depend depended) held saved old new exit (img, image, (names, named, tells)) = of_ending _ exit tells.status
+two_at_most (request.Explore explored) held saved old new exit (img, image, tells) = of_whole tells.exploration.whole exit tells.status
 two_at_most (request.Script scripted) held saved old new exit (img, image, steps, script, plays) = of_ending _ exit plays.report.status
 two_at_most (request.Check traced) held saved old new exit (img, image, es, trace, sound) = of_nothing exit sound.status
-two_at_most (request.Profile traced by) held saved old new exit (img, image, es, trace, told) = of_nothing exit told.status
-two_at_most (request.Show traced at) held saved old new exit (img, image, es, trace, told) = of_nothing exit told.status
+two_at_most (request.Profile traced to by asked) held saved old new exit (img, image, es, trace, (names, named, told)) = of_nothing exit told.status
+two_at_most (request.Show traced at asked) held saved old new exit (img, image, es, trace, (names, named, told)) = of_nothing exit told.status
 two_at_most (request.Draw traced picture) held saved old new exit (drawn, quiet, zero) = of_nothing exit zero
 two_at_most (request.Assemble assembly) held saved old new exit (made, quiet) = of_nothing exit made.status
 two_at_most (request.List image) held saved old new exit (img, is_image, lists) = of_nothing exit lists.status

@@ -1,8 +1,10 @@
 -- What a request takes from the words of a line.
 use Rattle.std.specs.Prelude.{◌≡◌, ⊤, ℕ, true, List, Option, None, Some, IfSome, codes}
+use denote.Ref.{Bor}
 use Rattle.svc_base.specs.declared.config.Config.{Config}
 use Rattle.svc_report.specs.declared.table.TableRow.{TableRow}
 use Rattle.svc_request.specs.declared.request.Depended.{Depended}
+use Rattle.svc_request.specs.declared.request.Explored.{Explored}
 use Rattle.svc_request.specs.declared.request.NeedsTable.{NeedsTable}
 use Rattle.svc_request.specs.declared.request.NeedsTable.TheVariants as needs
 use Rattle.svc_request.specs.declared.request.Order.{Order}
@@ -64,11 +66,16 @@ GivesNeedsTable words needs.Words = IsValueOf (codes "by") (codes "word") words
 GivesNeedsTable words needs.Pairs = IsValueOf (codes "by") (codes "pair") words
 GivesNeedsTable words needs.Graph = HasWord (option_word (codes "dot")) words
 
--- the request for needs takes its image, its table and its number from the line
+-- the table of names is the one that the line names
+abbrev pub GivesNames : List (List ℕ) → Option (Bor (List ℕ)) → Type 0
+GivesNames words names = IfSome names (λ name. IsValueOf (codes "names") name.now words)
+
+-- the request for needs takes its image, its table, its number and its names from the line
 pub record GivesDepended (words : List (List ℕ)) (depended : Depended) : Type 0 where
   pub image : GivesImage words depended.image
   pub most : IsNumberOf (codes "tasks") 1000000 depended.most words
   pub by : IfSome depended.by (GivesNeedsTable words)
+  pub names : GivesNames words depended.names
 
 -- a run takes its image, its configuration, its schedule, its trace and its row from the line
 pub record GivesRun (words : List (List ℕ)) (run : Run) : Type 0 where
@@ -84,6 +91,13 @@ pub record GivesTraced (words : List (List ℕ)) (traced : Traced) : Type 0 wher
   pub config_is : GivesConfig words traced.config
   pub trace : HasWord traced.trace.now words
 
+-- all schedules are those of the line's image and configuration, by bursts of its number of turns, as many standings as it says
+pub record GivesExplored (words : List (List ℕ)) (explored : Explored) : Type 0 where
+  pub image : GivesImage words explored.image
+  pub config_is : GivesConfig words explored.config
+  pub burst : IsNumberOf (codes "burst") 63 explored.burst words
+  pub states : IsNumberOf (codes "states") 1000000 explored.states words
+
 pub record GivesScripted (words : List (List ℕ)) (scripted : Scripted) : Type 0 where
   pub image : GivesImage words scripted.image
   pub config_is : GivesConfig words scripted.config
@@ -98,10 +112,13 @@ Gives words request.Version = ⊤
 Gives words (request.Run run) = GivesRun words run
 Gives words (request.Sequential tasks) = GivesImage words tasks.image × IsGivenNumber (codes "tasks") tasks.most words
 Gives words (request.Depend depended) = GivesDepended words depended
+Gives words (request.Explore explored) = GivesExplored words explored
 Gives words (request.Script scripted) = GivesScripted words scripted
 Gives words (request.Check traced) = GivesTraced words traced
-Gives words (request.Profile traced by) = GivesTraced words traced × IfSome by (GivesTable words)
-Gives words (request.Show traced at) = GivesTraced words traced × IfSome at (λ n. IsGivenNumber (codes "at") n words)
+Gives words (request.Profile traced to by names) =
+    GivesTraced words traced × IfSome to (λ n. IsGivenNumber (codes "to") n words) × IfSome by (GivesTable words) × GivesNames words names
+Gives words (request.Show traced at names) =
+    GivesTraced words traced × IfSome at (λ n. IsGivenNumber (codes "at") n words) × GivesNames words names
 Gives words (request.Draw traced picture) =
     GivesTraced words traced × HasWord picture.file.now words
     × IsNumberOf (codes "from") 0 picture.from words × IsNumberOf (codes "count") 400 picture.count words

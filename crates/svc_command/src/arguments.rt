@@ -135,10 +135,31 @@ pub(crate) const BY: Argument = Argument {
     ..OPTION
 };
 
+pub(crate) const NAMES: Argument = Argument {
+    name: "names",
+    takes: Takes::Word,
+    value: "FILE",
+    help: "Puts the names of this table at the ends of rows, by the address that a row has",
+    ..OPTION
+};
+
+// The same names, beside the row of a profile.
+pub(crate) const NAMES_OF_PROFILE: Argument = Argument {
+    excludes: Some("row"),
+    ..NAMES
+};
+
 pub(crate) const AT: Argument = Argument {
     name: "at",
     takes: Takes::Index,
     help: "Shows the machine after this many of the trace's entries; without it, after all",
+    ..OPTION
+};
+
+pub(crate) const TO: Argument = Argument {
+    name: "to",
+    takes: Takes::Index,
+    help: "Counts this many of the trace's entries; without it, all",
     ..OPTION
 };
 
@@ -209,6 +230,22 @@ pub(crate) const BURST: Argument = Argument {
     takes: Takes::Number(1, MAX_BURST_TURNS),
     needs: Some("schedule"),
     help: "The most turns of a unit in a step of a schedule: 1 to 63; without it, 63",
+    ..OPTION
+};
+
+// The same number, for a unit's move in any schedule.
+pub(crate) const BURST_OF_MOVES: Argument = Argument {
+    needs: None,
+    default: Some("63"),
+    help: "The most turns of a unit in a move: 1 to 63",
+    ..BURST
+};
+
+pub(crate) const STATES: Argument = Argument {
+    name: "states",
+    takes: Takes::Number(1, u32::MAX),
+    default: Some("1000000"),
+    help: "How many standings are followed at most: 1 to 4294967295",
     ..OPTION
 };
 

@@ -1,13 +1,14 @@
 //! The command line, as `clap` reads it: its subcommands and their arguments.
 
 use crate::arguments::{
-    AT, Argument, BURST, BY, BY_OF_NEEDS, COUNT, DOT, EVENTS, EVENTS_FILE, FROM, HEADER, IMAGE,
-    MADE_IMAGE, PICTURE, ROW, ROW_OF_PROFILE, SCHEDULE, SEED, SETS, TASKS, TASKS_FOLLOWED, TEXT,
-    TRACE, TRACE_FILE, TURNS, Takes, UNITS, WAYS,
+    AT, Argument, BURST, BURST_OF_MOVES, BY, BY_OF_NEEDS, COUNT, DOT, EVENTS, EVENTS_FILE, FROM,
+    HEADER, IMAGE, MADE_IMAGE, NAMES, NAMES_OF_PROFILE, PICTURE, ROW, ROW_OF_PROFILE, SCHEDULE,
+    SEED, SETS, STATES, TASKS, TASKS_FOLLOWED, TEXT, TO, TRACE, TRACE_FILE, TURNS, Takes, UNITS,
+    WAYS,
 };
 use crate::helps::{
-    ABOUT, ASSEMBLE, CHECK, DEPEND, DRAW, FAULTS, LIST, PROFILE, RUN, SCRIPT, SEQ, SHOW, STATUSES,
-    STATUSES_OF_ASSEMBLE, STATUSES_OF_LIST,
+    ABOUT, ASSEMBLE, CHECK, DEPEND, DRAW, EXPLORE, FAULTS, LIST, PROFILE, RUN, SCRIPT, SEQ, SHOW,
+    STATUSES, STATUSES_OF_ASSEMBLE, STATUSES_OF_EXPLORE, STATUSES_OF_LIST,
 };
 use clap::{Arg, ArgAction, Command};
 use std::alloc::{AllocError, Global};
@@ -26,7 +27,7 @@ struct Subcommand {
     arguments: &'static [Argument],
 }
 
-const SUBCOMMANDS: [Subcommand; 10] = [
+const SUBCOMMANDS: [Subcommand; 11] = [
     Subcommand {
         name: "run",
         about: "Runs an image on the simulated machine, and prints the summary",
@@ -48,7 +49,23 @@ const SUBCOMMANDS: [Subcommand; 10] = [
         about: "Runs an image's tasks one after another, and prints what they need of one another",
         help: DEPEND,
         statuses: STATUSES,
-        arguments: &[IMAGE, TASKS_FOLLOWED, BY_OF_NEEDS, DOT],
+        arguments: &[IMAGE, TASKS_FOLLOWED, BY_OF_NEEDS, DOT, NAMES],
+    },
+    Subcommand {
+        name: "explore",
+        about: "Follows every schedule of a small image, and prints what can be seen in any of them",
+        help: EXPLORE,
+        statuses: STATUSES_OF_EXPLORE,
+        arguments: &[
+            IMAGE,
+            BURST_OF_MOVES,
+            STATES,
+            UNITS,
+            SETS,
+            WAYS,
+            EVENTS,
+            TURNS,
+        ],
     },
     Subcommand {
         name: "script",
@@ -72,9 +89,11 @@ const SUBCOMMANDS: [Subcommand; 10] = [
         arguments: &[
             IMAGE,
             TRACE_FILE,
+            TO,
             BY,
             ROW_OF_PROFILE,
             HEADER,
+            NAMES_OF_PROFILE,
             UNITS,
             SETS,
             WAYS,
@@ -87,7 +106,9 @@ const SUBCOMMANDS: [Subcommand; 10] = [
         about: "Replays a trace, and shows the machine to which it leads",
         help: SHOW,
         statuses: STATUSES,
-        arguments: &[IMAGE, TRACE_FILE, AT, UNITS, SETS, WAYS, EVENTS, TURNS],
+        arguments: &[
+            IMAGE, TRACE_FILE, AT, NAMES, UNITS, SETS, WAYS, EVENTS, TURNS,
+        ],
     },
     Subcommand {
         name: "draw",

@@ -56,6 +56,8 @@ which standard error names in one line:
                   column 0 if the number of fields is wrong
   script fault row R column C
                   a script's, likewise
+  names fault row R column C
+                  that of a table of names, likewise
   trace fault 1 at entry 0
                   memory was refused for the replay of a trace
   trace fault 2 at entry I
@@ -68,6 +70,11 @@ which standard error names in one line:
 /// The end of the help of `assemble`.
 pub(crate) const STATUSES_OF_ASSEMBLE: &str =
     "Exit status: 0 if the image was saved, and 1 at a fault, which standard error names.";
+
+/// The end of the help of `explore`.
+pub(crate) const STATUSES_OF_EXPLORE: &str =
+    "Exit status: 0 if the exploration was whole, 2 if a limit was met, --states or --events, and 1 at a fault,
+which standard error names.";
 
 /// The end of the help of `list`.
 pub(crate) const STATUSES_OF_LIST: &str =
@@ -129,7 +136,31 @@ With --by it prints a table instead, with a row for each task, for each task and
 each word that a task needs or writes. With --dot it prints a graph for Graphviz, as dot -Tsvg draws it: an
 edge from a task to each one that it needs, with the first three words and how many more there are.
 
+With --names a row ends with the name of its entry or word, and an edge has names in place of words, where
+the table has them: a CSV text with the header name,address, in order of address and then name.
+
 Example: svcsim depend sum.svci --by task";
+
+/// The help of `explore`.
+pub(crate) const EXPLORE: &str =
+    "Follows every schedule of a small image, and prints what can be seen in any of them.
+
+From each standing of the machine that was met, each unit makes its next move, as in a run with --schedule,
+by at most --burst turns at a time. The rows, in this order:
+
+  states,N     how many standings were told apart
+  moves,M      how many moves the units have at those that were followed
+  deepest,D    how many moves a schedule has that leads to a standing first
+  whole,W      yes: no limit was met, and what isn't printed is never seen, whatever the schedule; or no
+  seen,WHAT,TASK,WORD,VALUE,BY,STEPS
+               what an entry says happened to which task, and how many moves a schedule has that shows it
+
+WHAT is one of begin, load, store, output, trap, replace, commit, squash. BY says who supplied a word that was
+read (hit, reuse, version:T of task T, spill, committed, memory), or why tasks were squashed (violation, guess).
+
+How many standings there are grows fast with the units: begin with two.
+
+Example: svcsim explore sum.svci --units 2";
 
 /// The help of `script`.
 pub(crate) const SCRIPT: &str =
@@ -175,7 +206,9 @@ check does, and no count. Give the options that the trace was made with.
 
 With --by it prints a table instead, with a row for each task that was begun, squashed ones included, for
 each unit, or for each word of data that was touched. With --row it prints the counts as one row of a table,
-after a label, so that the rows of many traces join.
+after a label, so that the rows of many traces join. With --to N it covers the first N entries, and those after
+them may be faulty. With --names a row ends with the name of its entry or word, by a table: a CSV text with the
+header name,address, in order of address and then name.
 
 Example: svcsim profile sum.svci sum.csv --by task";
 
@@ -197,8 +230,11 @@ first N entries. Its rows, in this order:
   memory,A,C,B           a word that is in a line or spilled: what the committed tasks left in it, and what
                          memory itself holds
 
-For a faulty trace it reports the first fault, as check does, and no row. N past the last entry is a file
-fault. Give the options that the trace was made with.
+With --names a row ends with the name of its entry or word, by a table: a CSV text with the header
+name,address, in order of address and then name.
+
+For a faulty trace it reports the first fault, as check does, and no row; with --at N only the first N entries
+have to be sound. N past the last entry is a file fault. Give the options that the trace was made with.
 
 Example: svcsim show sum.svci sum.csv --at 4";
 
@@ -209,9 +245,9 @@ pub(crate) const DRAW: &str =
 A lane is a unit, and time goes to the right, one entry of the trace after another. A bar is a task, from its
 assignment to its commit or squash; its filling says which. Marks are loads, stores and output words. A thin
 arrow goes from the store of a version to a read that received it, a bold one from a store to the read that
-came too early, for which it squashed a task. Point at a mark to see its row of the trace. For a faulty
-trace it reports the first fault, as check does, and saves nothing. Give the options that the trace was made
-with.
+came too early, for which it squashed a task. Point at a mark to see its row of the trace. Entries after the
+last one shown may be faulty; for an earlier fault it reports the first one, as check does, and saves nothing.
+Give the options that the trace was made with.
 
 Nothing is printed. The file grows with the entries that it shows, by some 150 bytes for each; from a few
 thousand on, a browser takes long to open it.

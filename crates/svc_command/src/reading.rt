@@ -8,7 +8,7 @@ ghost use Rattle.svc_command.specs.Line.{Has, IsNamed, texts};
 use crate::command::command;
 use crate::line::Line;
 use crate::requests::{
-    assemble, check, depend, draw, list, profile, run, script, sequential, show,
+    assemble, check, depend, draw, explore, list, profile, run, script, sequential, show,
 };
 use clap::error::ErrorKind;
 use clap::{ArgMatches, Error};
@@ -119,6 +119,7 @@ fn asked_by<'a>(alloc: Global, name: &str, line: Line<'_, 'a>) -> Result<Request
         "run" => run(alloc, line),
         "seq" => sequential(line),
         "depend" => depend(line),
+        "explore" => explore(line),
         "script" => script(line),
         "check" => check(line),
         "profile" => profile(line),

@@ -8,7 +8,10 @@ ghost use Rattle.svc_command.specs.Line.{IsNamed, texts};
 use crate::line::Line;
 use crate::options::{configuration, image, needs_table, row, schedule, table};
 use std::alloc::Global;
-use svc_program::{Assembly, Depended, Fault, Picture, Request, Run, Scripted, Tasks, Traced};
+use svc_core::MAX_BURST_TURNS;
+use svc_program::{
+    Assembly, Depended, Explored, Fault, Picture, Request, Run, Scripted, Tasks, Traced,
+};
 
 /// The run that `run` asks for. A mistake of the line is told before one of the configuration.
 pub(crate) fn run<'a>(alloc: Global, line: Line<'_, 'a>) -> Result<Request<'a>, Fault>
@@ -49,8 +52,22 @@ pub(crate) fn depend<'a>(line: Line<'_, 'a>) -> Result<Request<'a>, Fault>
     let most = line.number("tasks", 1_000_000)?;
     let by = needs_table(line)?;
     // The parser accepts no greater number.
-    let depended = Depended::new(image, most, by).ok_or(Fault::File)?;
+    let depended = Depended::new(image, most, by, line.option("names")?).ok_or(Fault::File)?;
     Ok(Request::Depend(depended))
+}
+
+/// The schedules that `explore` asks for.
+pub(crate) fn explore<'a>(line: Line<'_, 'a>) -> Result<Request<'a>, Fault>
+    ensures named { IsNamed (codes "explore") (texts line.entry.words.now)
+        → IfOk result (Names (texts line.entry.words.now)) }
+    ensures gives { IfOk result (Gives (texts line.entry.words.now)) }
+{
+    Ok(Request::Explore(Explored {
+        image: image(line)?,
+        config: configuration(line)?,
+        burst: line.number("burst", MAX_BURST_TURNS)?,
+        states: line.number("states", 1_000_000)?,
+    }))
 }
 
 /// The script that `script` asks for.
@@ -76,24 +93,27 @@ pub(crate) fn check<'a>(line: Line<'_, 'a>) -> Result<Request<'a>, Fault>
     Ok(Request::Check(traced(line)?))
 }
 
-/// The trace that `profile` asks for, and the table.
+/// The trace that `profile` asks for, how many of its entries, the table, and the names.
 pub(crate) fn profile<'a>(line: Line<'_, 'a>) -> Result<Request<'a>, Fault>
     ensures named { IsNamed (codes "profile") (texts line.entry.words.now)
         → IfOk result (Names (texts line.entry.words.now)) }
     ensures gives { IfOk result (Gives (texts line.entry.words.now)) }
 {
     let traced = traced(line)?;
-    Ok(Request::Profile(traced, table(line)?))
+    let to = line.index("to")?;
+    let by = table(line)?;
+    Ok(Request::Profile(traced, to, by, line.option("names")?))
 }
 
-/// The trace that `show` asks for, and how many of its entries.
+/// The trace that `show` asks for, how many of its entries, and the names.
 pub(crate) fn show<'a>(line: Line<'_, 'a>) -> Result<Request<'a>, Fault>
     ensures named { IsNamed (codes "show") (texts line.entry.words.now)
         → IfOk result (Names (texts line.entry.words.now)) }
     ensures gives { IfOk result (Gives (texts line.entry.words.now)) }
 {
     let traced = traced(line)?;
-    Ok(Request::Show(traced, line.index("at")?))
+    let at = line.index("at")?;
+    Ok(Request::Show(traced, at, line.option("names")?))
 }
 
 /// The trace that `draw` asks for, and the picture.

@@ -1,21 +1,25 @@
 -- The words of links, one after another.
-use Rattle.std.proofs.Common.{ℕ, ◌≡◌, ◌<◌, ◌++◌, ◌∷◌, List, [], length, get_or, drop, map, refl, ap, arith}
-use Rattle.std.specs.Prelude.{codes, decimal, flat_map}
+use Rattle.std.proofs.Common.{ℕ, ◌≡◌, ◌<◌, ◌++◌, ◌∷◌, List, [], Option, length, get_or, drop, map, refl, ap, arith}
+use Rattle.std.specs.Prelude.{codes, flat_map}
+use Rattle.svc_names.specs.declared.name.Name.{Name}
+use Rattle.svc_names.specs.Given.{word_text}
 use Rattle.svc_depend.specs.declared.links.Link.{Link}
 use Rattle.svc_depend.specs.Pairs.{spaced}
 
 -- a word after a space
-abbrev pub after_space : Link → List ℕ
-after_space l = codes " " ++ decimal l.word
+abbrev pub after_space : Option (List Name) → Link → List ℕ
+after_space names l = codes " " ++ word_text names l.word
 
-words_spaced : (links : List Link) → flat_map (λ v. codes " " ++ decimal v) (map (λ (l : Link). l.word) links) ≡ flat_map after_space links
-words_spaced [] = refl
-words_spaced (l ∷ ls) = ap (λ x. codes " " ++ decimal l.word ++ x) (words_spaced ls)
+words_spaced : (names : Option (List Name)) (links : List Link)
+    → flat_map (λ v. codes " " ++ word_text names v) (map (λ (l : Link). l.word) links) ≡ flat_map (after_space names) links
+words_spaced names [] = refl
+words_spaced names (l ∷ ls) = ap (λ x. codes " " ++ word_text names l.word ++ x) (words_spaced names ls)
 
 -- the first word, and each of the others after a space
-pub spaced_is : (links : List Link) (d : Link) → 0 < length links → spaced (map (λ (l : Link). l.word) links) ≡ decimal (get_or links 0 d).word ++ flat_map after_space (drop 1 links)
-spaced_is [] d some = absurd (omega (arith, some))
-spaced_is (l ∷ ls) d some = ap (λ x. decimal l.word ++ x) (words_spaced ls)
+pub spaced_is : (names : Option (List Name)) (links : List Link) (d : Link) → 0 < length links
+    → spaced names (map (λ (l : Link). l.word) links) ≡ word_text names (get_or links 0 d).word ++ flat_map (after_space names) (drop 1 links)
+spaced_is names [] d some = absurd (omega (arith, some))
+spaced_is names (l ∷ ls) d some = ap (λ x. word_text names l.word ++ x) (words_spaced names ls)
 
 -- a link in no list
 abbrev pub no_link : Link

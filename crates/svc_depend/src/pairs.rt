@@ -1,12 +1,13 @@
 // The texts of the pairs of a task and another one that it needs, task by task.
 
-ghost use Rattle.std.specs.Prelude.{◌≡◌, ◌≤◌, ◌<◌, ◌++◌, false, map, OnOk, IfErr, IfOk, length};
+ghost use Rattle.std.specs.Prelude.{◌≡◌, ◌≤◌, ◌<◌, ◌++◌, false, codes, map, OnOk, IfErr, IfOk, length};
 ghost use Rattle.std.specs.Io.KnownBytes.{Appends, append_known};
 ghost use Rattle.std.specs.List.{All, AllWithin};
 ghost use Rattle.std.specs.List.Sorted.{IsNonDecreasingBy, IsPermutation};
 ghost use Rattle.svc_core_laws.specs.Sequence.{ending_of, plain_seq};
 ghost use Rattle.svc_plain.specs.Tasks.{tasks_run};
 ghost use Rattle.svc_report.specs.Faults.{IsWriteFault};
+ghost use Rattle.svc_names.specs.Given.{listed, word_text};
 ghost use Rattle.svc_depend.specs.Links.{IsOrdered, links_text};
 ghost use Rattle.svc_depend.specs.Pairs.{edge, label, more_text, pair_row, pair_text, pairs_begin, pairs_end, pairs_of, pairs_text, spaced};
 ghost use Rattle.svc_depend.specs.Tables.{text_over};
@@ -18,49 +19,72 @@ use std::alloc::{AllocError, Global};
 use std::io::Write;
 use svc_core::Ending;
 use svc_image::Image;
+use svc_names::{Names, data_address};
 use svc_report::ReportError;
-use svc_text::{put, put_row, write_if_long, write_text};
+use svc_text::{Piece, put, put_row, write_if_long, write_text};
 
 // How many words an edge of the graph names.
 const NAMED_WORDS: usize = 3;
 
 /// How the pairs of a task and another one that it needs are told.
 #[derive(Clone, Copy)]
-pub enum PairForm {
+pub enum PairForm<'a> {
     /// A row for each.
     Rows,
-    /// A graph for Graphviz, with an edge for each.
-    Graph,
+    /// A graph for Graphviz, with an edge for each, on which words stand by these names.
+    Graph(Option<&'a Names>),
 }
 
 // The text before those of the pairs.
-fn pairs_begin(form: PairForm) -> &'static [u8]
-    ensures { result.now ≡ pairs_begin form }
+fn pairs_begin(form: PairForm<'_>) -> &'static [u8]
+    ensures { result.now ≡ pairs_begin form.entry }
 {
     match form {
         PairForm::Rows => b"task,on,distance,words\n",
-        PairForm::Graph => b"digraph depend {\n",
+        PairForm::Graph(_) => b"digraph depend {\n",
     }
 }
 
 // The text after them.
-fn pairs_end(form: PairForm) -> &'static [u8]
-    ensures { result.now ≡ pairs_end form }
+fn pairs_end(form: PairForm<'_>) -> &'static [u8]
+    ensures { result.now ≡ pairs_end form.entry }
 {
     match form {
         PairForm::Rows => b"",
-        PairForm::Graph => b"}\n",
+        PairForm::Graph(_) => b"}\n",
     }
 }
 
-// Adds the words of links, with a space between two.
-fn put_spaced(text: &mut Vec<u8>, links: &[Link]) -> Result<(), AllocError>
-    requires { 0 < length links.now }
-    ensures { OnOk result (text.new.items ≡ text.old.items ++ spaced (map (λ l. l.word) links.now)) }
+// Adds a word: its name, if names are given and it has one, or its number.
+fn put_word(text: &mut Vec<u8>, names: Option<&Names>, word: u32) -> Result<(), AllocError>
+    ensures { OnOk result (text.new.items ≡ text.old.items ++ word_text (listed names.entry) word) }
 {
-    put!(text; links[0].word);
+    let Some(names) = names else {
+        return word.put(text);
+    };
+    match names.nearest(data_address(word)) {
+        Some(near) => near.put(text),
+        None => word.put(text),
+    }
+}
+
+// Adds a word after a space.
+fn put_next(text: &mut Vec<u8>, names: Option<&Names>, word: u32) -> Result<(), AllocError>
+    ensures { OnOk result (text.new.items ≡ text.old.items ++ (codes " " ++ word_text (listed names.entry) word)) }
+{
+    put!(text; " ");
+    put_word(text, names, word)
+}
+
+// Adds the words of links, with a space between two.
+fn put_spaced(text: &mut Vec<u8>, names: Option<&Names>, links: &[Link]) -> Result<(), AllocError>
+    requires { 0 < length links.now }
+    ensures { OnOk result (text.new.items ≡ text.old.items
+        ++ spaced (listed names.entry) (map (λ l. l.word) links.now)) }
+{
+    put_word(text, names, links[0].word)?;
     for link in &links[1..] {
-        put!(text; " ", link.word);
+        put_next(text, names, link.word)?;
     }
     Ok(())
 }
@@ -76,22 +100,30 @@ fn put_more(text: &mut Vec<u8>, more: usize) -> Result<(), AllocError>
 }
 
 // Adds the first words of links, and how many more there are.
-fn put_label(text: &mut Vec<u8>, links: &[Link]) -> Result<(), AllocError>
+fn put_label(text: &mut Vec<u8>, names: Option<&Names>, links: &[Link]) -> Result<(), AllocError>
     requires { 0 < length links.now }
-    ensures { OnOk result (text.new.items ≡ text.old.items ++ label (map (λ l. l.word) links.now)) }
+    ensures { OnOk result (text.new.items ≡ text.old.items
+        ++ label (listed names.entry) (map (λ l. l.word) links.now)) }
 {
     let named = links.len().min(NAMED_WORDS);
-    put_spaced(text, &links[..named])?;
+    put_spaced(text, names, &links[..named])?;
     put_more(text, links.len() - named)
 }
 
 // Adds the edge from a task to another one, of which it needs the words of these links.
-fn put_edge(text: &mut Vec<u8>, task: u32, on: u32, links: &[Link]) -> Result<(), AllocError>
+fn put_edge(
+    text: &mut Vec<u8>,
+    names: Option<&Names>,
+    task: u32,
+    on: u32,
+    links: &[Link],
+) -> Result<(), AllocError>
     requires { 0 < length links.now }
-    ensures { OnOk result (text.new.items ≡ text.old.items ++ edge task on (map (λ l. l.word) links.now)) }
+    ensures { OnOk result (text.new.items ≡ text.old.items
+        ++ edge (listed names.entry) task on (map (λ l. l.word) links.now)) }
 {
     put!(text; "  ", task, " -> ", on, " [label=\"");
-    put_label(text, links)?;
+    put_label(text, names, links)?;
     put!(text; "\"];\n");
     Ok(())
 }
@@ -108,18 +140,18 @@ fn put_pair_row(text: &mut Vec<u8>, task: u32, on: u32, links: &[Link]) -> Resul
 // Adds what is told of them.
 fn put_pair(
     text: &mut Vec<u8>,
-    form: PairForm,
+    form: PairForm<'_>,
     task: u32,
     on: u32,
     links: &[Link],
 ) -> Result<(), AllocError>
     requires some { 0 < length links.now }
     requires before { on ≤ task }
-    ensures { OnOk result (text.new.items ≡ text.old.items ++ pair_text form task on (map (λ l. l.word) links.now)) }
+    ensures { OnOk result (text.new.items ≡ text.old.items ++ pair_text form.entry task on (map (λ l. l.word) links.now)) }
 {
     match form {
         PairForm::Rows => put_pair_row(text, task, on, links),
-        PairForm::Graph => put_edge(text, task, on, links),
+        PairForm::Graph(names) => put_edge(text, names, task, on, links),
     }
 }
 
@@ -138,13 +170,13 @@ fn group_end(links: &[Link], at: usize, on: u32) -> usize
 // Adds what is told of a task by its links, which are in the order of the tasks that it needs.
 fn put_links(
     text: &mut Vec<u8>,
-    form: PairForm,
+    form: PairForm<'_>,
     task: u32,
     links: &[Link],
 ) -> Result<(), AllocError>
     requires order { IsNonDecreasingBy (λ l. l.on) links.now }
     requires before { All (λ l. l.on < task) links.now }
-    ensures { OnOk result (text.new.items ≡ text.old.items ++ links_text form task links.now) }
+    ensures { OnOk result (text.new.items ≡ text.old.items ++ links_text form.entry task links.now) }
 {
     let mut at = 0;
     while at < links.len() {
@@ -169,13 +201,13 @@ fn write_rows<W: Write>(
     alloc: Global,
     image: &Image,
     k: u64,
-    form: PairForm,
+    form: PairForm<'_>,
     text: &mut Vec<u8>,
     w: &mut W,
 ) -> Result<Ending, ReportError>
     requires { k ≤ MAX_TASKS }
     ensures rows { OnOk result (Appends (append_known (W.contents w.old) text.old.items)
-        (append_known (W.contents w.new) text.new.items) (text_over (pairs_of form image.now) (tasks_run image.now k))) }
+        (append_known (W.contents w.new) text.new.items) (text_over (pairs_of form.entry image.now) (tasks_run image.now k))) }
     ensures ending { IfOk result (λ ending.
         ending ≡ ending_of false (plain_seq image.now k).stopped (plain_seq image.now k).due) }
     ensures err { IfErr result IsWriteFault }
@@ -216,12 +248,12 @@ pub fn write_pairs<W: Write>(
     alloc: Global,
     image: &Image,
     k: u64,
-    form: PairForm,
+    form: PairForm<'_>,
     w: &mut W,
 ) -> Result<Ending, ReportError>
     requires { k ≤ MAX_TASKS }
     ensures ok { OnOk result (Appends (W.contents w.old) (W.contents w.new)
-        (pairs_text form image.now (tasks_run image.now k))) }
+        (pairs_text form.entry image.now (tasks_run image.now k))) }
     ensures ending { IfOk result (λ ending.
         ending ≡ ending_of false (plain_seq image.now k).stopped (plain_seq image.now k).due) }
     ensures err { IfErr result IsWriteFault }

@@ -1,22 +1,22 @@
 -- Where the lines of a program put what they say, and the image that this makes.
-use Rattle.std.specs.Prelude.{◌≡◌, ℕ, ◌+◌, ◌*◌, ◌-◌, ◌/◌, ◌%◌, ◌^◌, Bool, true, false, nat_eq, nat_le, nat_lt, is_some, ◌==◌, List, [], ◌∷◌, ◌++◌, length, map, Option, Some, None, unwrap_or, if◌then◌else◌, slice_set, slice_get, option_map, take, drop, ◌&&◌, not}
+use Rattle.std.specs.Prelude.{Bool, false, not, ◌==◌, Option, Some, None, ℕ, List, [], ◌∷◌, if◌then◌else◌, ◌≡◌, ◌+◌, ◌*◌, ◌-◌, ◌/◌, ◌%◌, ◌^◌, true, nat_eq, nat_le, nat_lt, is_some, ◌++◌, length, map, unwrap_or, slice_set, slice_get, option_map, take, drop, ◌&&◌}
+use Rattle.svc_image.specs.declared.version.Version.{Version}
+use Rattle.svc_image.specs.declared.version.Version.TheVariants as version
+use Rattle.svc_image.specs.Version.{version_number, read_only_by, limits_by}
+use Rattle.svc_draft.specs.declared.statement.Spot.{Spot}
+use Rattle.svc_draft.specs.declared.statement.Local.{Local}
 use Rattle.std.specs.List.{list_any}
 use Rattle.std.specs.Str.{bytes_eq}
 use Rattle.std.specs.Map.{update}
 use Rattle.std.specs.HashMap.{get, get_by}
 use Rattle.svc_rv32i.specs.declared.instr.Register.{Register}
-use Rattle.svc_image.specs.declared.version.Version.{Version}
-use Rattle.svc_image.specs.declared.version.Version.TheVariants as version
 use Rattle.svc_image.specs.declared.parts.Own.{Own}
 use Rattle.svc_image.specs.declared.parts.Own.TheVariants as own
 use Rattle.svc_image.specs.declared.layout.TheConstants.{DATA_START}
-use Rattle.svc_image.specs.Version.{read_only_by, limits_by}
 use Rattle.svc_image.specs.Image.{Image}
 use Rattle.svc_image.specs.Format.{words_in}
-use Rattle.svc_draft.specs.declared.section.Section.{Section}
-use Rattle.svc_draft.specs.declared.section.Section.TheVariants as section
-use Rattle.svc_draft.specs.declared.section.Spot.{Spot}
-use Rattle.svc_draft.specs.declared.section.Local.{Local}
+use Rattle.svc_draft.specs.declared.statement.Section.{Section}
+use Rattle.svc_draft.specs.declared.statement.Section.TheVariants as section
 use Rattle.svc_draft.specs.declared.statement.Width.{Width}
 use Rattle.svc_draft.specs.declared.statement.Width.TheVariants as wide
 use Rattle.svc_draft.specs.declared.statement.Next.{Next}
@@ -26,9 +26,26 @@ use Rattle.svc_draft.specs.declared.statement.Statement.TheVariants as say
 use Rattle.svc_draft.specs.declared.draft.Draft.{Draft}
 use Rattle.svc_draft.specs.Options.{◌>>=◌}
 use Rattle.svc_draft.specs.Areas.{padding, with_more, with_zeros, bytes_in, data_of}
-use Rattle.svc_draft.specs.Limits.{is_limit}
-use Rattle.svc_draft.specs.Locals.{last_local, first_local}
-use Rattle.svc_draft.specs.Versions.{has_other, version_in}
+
+-- another version is said than this one
+abbrev pub has_other : Version → Option Version → Bool
+has_other v None = false
+has_other v (Some said) = not (version_number said == version_number v)
+
+-- the version of a program is 1 where no line says another
+abbrev pub version_in : Option Version → Version
+version_in None = version.One
+version_in (Some v) = v
+
+-- where the last label of this number stands, and where this one does if there is none
+unfoldable pub last_local : ℕ → Option Spot → List Local → Option Spot
+last_local n before [] = before
+last_local n before (l ∷ ls) = last_local n (if l.number == n then Some l.spot else before) ls
+
+-- where the first label of this number stands
+unfoldable pub first_local : ℕ → List Local → Option Spot
+first_local n [] = None
+first_local n (l ∷ ls) = if l.number == n then Some l.spot else first_local n ls
 
 -- what names stand for: places in sections
 abbrev pub Names : Type 0
@@ -204,11 +221,8 @@ with_align step d = with_blank (padding step (size d)) d
 -- a number of so many bytes; the text takes words
 abbrev pub with_number : Section → Width → ℕ → Layout → Option Layout
 with_number section.Text wide.Word n d = with_word n d
-with_number section.Text wide.Half n d = None
-with_number section.Text wide.Byte n d = None
-with_number section.Rodata width n d = with_bytes (bytes_in width n) d
-with_number section.Data width n d = with_bytes (bytes_in width n) d
-with_number section.Bss width n d = with_bytes (bytes_in width n) d
+with_number section.Text _ n d = None
+with_number _ width n d = with_bytes (bytes_in width n) d
 
 unfoldable pub with_value : Width → ℕ → Layout → Option Layout
 with_value width n d = with_number d.section width n d
@@ -220,16 +234,10 @@ going_on n d = Some (record d { next = n })
 -- an instruction, which stands in the text
 abbrev pub word_in : Section → ℕ → Layout → Option Layout
 word_in section.Text w d = with_word w d
-word_in section.Rodata w d = None
-word_in section.Data w d = None
-word_in section.Bss w d = None
+word_in _ w d = None
 
 abbrev pub with_instruction : ℕ → Layout → Option Layout
 with_instruction w d = word_in d.section w d
-
--- two instructions
-unfoldable pub with_pair : ℕ → ℕ → Layout → Option Layout
-with_pair first second d = with_instruction first d >>= with_instruction second
 
 -- an instruction with the high part of how far it is to a value
 unfoldable pub with_relative : ℕ → ℕ → Layout → Option Layout
@@ -252,6 +260,10 @@ read_only_up_to bytes d = Some (record d { read_only = bytes / 4 })
 
 unfoldable pub with_read_only : Layout → Option Layout
 with_read_only d = if data_up_to d.section d % 4 == 0 then with_version version.Two d >>= read_only_up_to (data_up_to d.section d) else None
+
+-- the limits of turns that a task may have
+abbrev pub is_limit : ℕ → Bool
+is_limit n = nat_le 1 n && nat_le n 65536
 
 -- the limit of turns of the entries that have none of their own
 unfoldable pub with_limit : ℕ → Layout → Option Layout
@@ -325,7 +337,7 @@ after name (say.Open n) d = going_on n d
 after name (say.Value width n next) d = with_value width n d >>= going_on next
 after name (say.Symbol s) d = with_symbol name s d >>= going_on go.Line
 after name (say.Common count step) d = with_common name count step d
-after name (say.Pair v w) d = with_pair v w d
+after name (say.Pair v w) d = with_instruction v d >>= with_instruction w
 after name (say.Local n) d = with_local n d
 after name (say.Relative w n) d = with_relative w n d
 

@@ -1,5 +1,5 @@
 -- When a line may be refused.
-use Rattle.std.specs.Prelude.{◌≡◌, Option, None}
+use Rattle.std.specs.Prelude.{◌≡◌, Option, Some, None, Result, Ok, Err}
 use Rattle.svc_draft.specs.declared.refusal.Refusal.{Refusal}
 use Rattle.svc_draft.specs.declared.refusal.Refusal.TheVariants as refusal
 
@@ -7,3 +7,8 @@ use Rattle.svc_draft.specs.declared.refusal.Refusal.TheVariants as refusal
 abbrev pub Refuses : {X : Type 0} → Refusal → Option X → Type 0
 Refuses refusal.Memory next = Unit {0}
 Refuses _ next = next ≡ None
+
+-- what a line says, done: the value that is to come of it, or a refusal that is right
+abbrev pub Changes : {A X : Type 0} → Result A Refusal → Option X → X → Type 0
+Changes (Ok done) next new = next ≡ Some new
+Changes (Err e) next new = Refuses e next

@@ -1,30 +1,131 @@
-// The sections of data.
+// The words of the text, and the bytes of the sections of data.
 
-ghost use Rattle.std.specs.Prelude.{◌≡◌, IfErr, OnOk, Some};
-ghost use Rattle.svc_draft.specs.Areas.{bytes_in, with_more, with_zeros};
-ghost use Rattle.svc_draft.specs.Refusals.{Refuses};
-ghost use Rattle.svc_draft.specs.Layouts.{layout_of, in_section, with_room, data_size, with_bytes, with_blank, with_align, with_value, with_common};
+ghost use Rattle.std.specs.Prelude.{◌≡◌, ◌++◌, ◌+◌, ◌%◌, ◌<◌, ◌≤◌, length, OnOk, IfOk, IfErr};
+ghost use Rattle.svc_image.specs.declared.error.ImageError.TheVariants as image_error;
+ghost use Rattle.svc_image.specs.Format.{bytes_of_half, bytes_of_word};
+ghost use Rattle.svc_draft.specs.Areas.{padding, with_more, with_zeros, filled, data_of, bytes_in};
+ghost use Rattle.svc_draft.specs.Layouts.{whole_size, layout_of, in_section, with_room, data_size, with_bytes, with_blank, with_align, with_value, with_common, with_word, with_instruction, with_relative};
+ghost use Rattle.svc_draft.specs.Refusals.{Changes};
 
-use crate::area::{padding, put_more, put_zeros, whole_size};
-use crate::bytes::{half_bytes, word_bytes};
 use crate::draft::Draft;
 use crate::refusal::Refusal;
-use crate::section::Section;
-use crate::statement::{Next, Width};
-use svc_image::MOST_WORDS;
+use crate::statement::{Next, Section, Width};
+use byteorder::{ByteOrder, LittleEndian};
+use std::alloc::Global;
+use svc_image::{ImageError, MOST_WORDS};
+
+// The most bytes of a section.
+const MOST_BYTES: usize = 4 * MOST_WORDS as usize;
+
+pub fn padding(step: u32, size: u32) -> u32
+    ensures { result ≡ padding step size }
+{
+    if step == 0 {
+        return 0;
+    }
+    (step - size % step) % step
+}
+
+pub fn whole_size(bytes: &[u8]) -> u32
+    requires { length bytes.now ≤ 262144 }
+    ensures size { result ≡ whole_size bytes.now }
+    ensures few { result ≤ 262144 }
+{
+    let size = bytes.len() as u32;
+    size + padding(4, size)
+}
+
+#[tactic(auto, unfolding(crate::specs::Areas::with_more))]
+pub fn put_more(bytes: &mut Vec<u8>, more: &[u8]) -> Result<(), Refusal>
+    requires { length bytes.old.items ≤ 262144 }
+    ensures done { Changes result (with_more more.now bytes.old.items) bytes.new.items }
+    ensures few { length bytes.new.items ≤ 262144 }
+{
+    if more.len() > MOST_BYTES - bytes.len() {
+        return Err(Refusal::FullData);
+    }
+    bytes.extend_from_slice(more)?;
+    Ok(())
+}
+
+#[tactic(auto, unfolding(crate::specs::Areas::with_zeros))]
+pub fn put_zeros(bytes: &mut Vec<u8>, count: u32) -> Result<(), Refusal>
+    requires { length bytes.old.items ≤ 262144 }
+    ensures done { Changes result (with_zeros count bytes.old.items) bytes.new.items }
+    ensures few { length bytes.new.items ≤ 262144 }
+{
+    let size = bytes.len();
+    if count as usize > MOST_BYTES - size {
+        return Err(Refusal::FullData);
+    }
+    bytes.resize(size + count as usize, 0)?;
+    Ok(())
+}
+
+// Puts a section behind others, and zeros up to a whole word.
+#[tactic(auto, unfolding(crate::specs::Areas::filled))]
+fn put_filled(all: &mut Vec<u8>, section: &[u8]) -> Result<(), ImageError>
+    requires section { length section.now ≤ 262144 }
+    requires all { length all.old.items ≤ 524288 }
+    ensures ok { OnOk result (all.new.items ≡ all.old.items ++ filled section.now) }
+    ensures few { length all.new.items ≤ length all.old.items + 262144 }
+    ensures whole { OnOk result (length all.old.items % 4 ≡ 0 → length all.new.items % 4 ≡ 0) }
+    ensures err { IfErr result (λ e. e ≡ image_error.Memory) }
+{
+    all.extend_from_slice(section)?;
+    let zeros = padding(4, section.len() as u32);
+    let size = all.len() + zeros as usize;
+    all.resize(size, 0)?;
+    Ok(())
+}
+
+/// The data of an image: the sections one behind the other, each in whole words, and at least one word.
+#[tactic(auto, unfolding(crate::specs::Areas::data_of))]
+pub fn join(alloc: Global, rodata: &[u8], middle: &[u8], bss: &[u8]) -> Result<Vec<u8>, ImageError>
+    requires rodata { length rodata.now ≤ 262144 }
+    requires middle { length middle.now ≤ 262144 }
+    requires bss { length bss.now ≤ 262144 }
+    ensures ok { IfOk result (λ all. all.items ≡ data_of rodata.now middle.now bss.now) }
+    ensures whole { IfOk result (λ all. length all.items % 4 ≡ 0) }
+    ensures err { IfErr result (λ e. e ≡ image_error.Memory) }
+{
+    let mut all = Vec::new(alloc);
+    put_filled(&mut all, rodata)?;
+    put_filled(&mut all, middle)?;
+    put_filled(&mut all, bss)?;
+    if all.is_empty() {
+        all.extend_from_slice(&[0, 0, 0, 0])?;
+    }
+    Ok(all)
+}
+
+#[tactic(auto, unfolding(svc_image::specs::Format::bytes_of_half))]
+pub fn half_bytes(number: u16) -> [u8; 2]
+    ensures { result ≡ bytes_of_half number }
+{
+    let mut two = [0; 2];
+    LittleEndian::write_u16(&mut two, number);
+    two
+}
+
+#[tactic(auto, unfolding(svc_image::specs::Format::bytes_of_word))]
+pub fn word_bytes(number: u32) -> [u8; 4]
+    ensures { result ≡ bytes_of_word number }
+{
+    let mut four = [0; 4];
+    LittleEndian::write_u32(&mut four, number);
+    four
+}
 
 impl<'a> Draft<'a> {
-    // How many bytes the image's data has so far.
     pub(crate) fn data_size(&self) -> u32
         ensures { result ≡ data_size (layout_of self.now) }
     {
         whole_size(&self.rodata_bytes) + whole_size(&self.data_bytes) + whole_size(&self.bss_bytes)
     }
 
-    // Refuses more data than an image may have.
     pub(crate) fn check_room(&self) -> Result<(), Refusal>
-        ensures ok { OnOk result (with_room (layout_of self.now) ≡ Some (layout_of self.now)) }
-        ensures err { IfErr result (λ e. Refuses e (with_room (layout_of self.now))) }
+        ensures { Changes result (with_room (layout_of self.now)) (layout_of self.now) }
     {
         if self.data_size() > 4 * MOST_WORDS {
             return Err(Refusal::FullData);
@@ -32,12 +133,9 @@ impl<'a> Draft<'a> {
         Ok(())
     }
 
-    // Puts bytes behind those of the section of what follows.
     pub(crate) fn extend_section(&mut self, bytes: &[u8]) -> Result<(), Refusal>
-        ensures ok { OnOk result (in_section (with_more bytes.now) (layout_of self.old).section (layout_of self.old)
-            ≡ Some (layout_of self.new)) }
-        ensures err { IfErr result (λ e.
-            Refuses e (in_section (with_more bytes.now) (layout_of self.old).section (layout_of self.old))) }
+        ensures { Changes result
+            (in_section (with_more bytes.now) (layout_of self.old).section (layout_of self.old)) (layout_of self.new) }
     {
         match self.section {
             Section::Text => Err(Refusal::InText),
@@ -49,21 +147,15 @@ impl<'a> Draft<'a> {
 
     #[tactic(auto, unfolding(crate::specs::Layouts::with_bytes))]
     pub(crate) fn push_bytes(&mut self, bytes: &[u8]) -> Result<(), Refusal>
-        ensures ok { OnOk result (with_bytes bytes.now (layout_of self.old) ≡ Some (layout_of self.new)) }
-        ensures err { IfErr result (λ e. Refuses e (with_bytes bytes.now (layout_of self.old))) }
+        ensures { Changes result (with_bytes bytes.now (layout_of self.old)) (layout_of self.new) }
     {
-        match self.extend_section(bytes) {
-            Ok(()) => self.check_room(),
-            Err(refusal) => Err(refusal),
-        }
+        self.extend_section(bytes)?;
+        self.check_room()
     }
 
-    // Puts zeros behind the bytes of the section of what follows.
     pub(crate) fn fill_section(&mut self, count: u32) -> Result<(), Refusal>
-        ensures ok { OnOk result (in_section (with_zeros count) (layout_of self.old).section (layout_of self.old)
-            ≡ Some (layout_of self.new)) }
-        ensures err { IfErr result (λ e.
-            Refuses e (in_section (with_zeros count) (layout_of self.old).section (layout_of self.old))) }
+        ensures { Changes result
+            (in_section (with_zeros count) (layout_of self.old).section (layout_of self.old)) (layout_of self.new) }
     {
         match self.section {
             Section::Text => Err(Refusal::InText),
@@ -75,31 +167,24 @@ impl<'a> Draft<'a> {
 
     #[tactic(auto, unfolding(crate::specs::Layouts::with_blank))]
     pub(crate) fn push_blank(&mut self, count: u32) -> Result<(), Refusal>
-        ensures ok { OnOk result (with_blank count (layout_of self.old) ≡ Some (layout_of self.new)) }
-        ensures err { IfErr result (λ e. Refuses e (with_blank count (layout_of self.old))) }
+        ensures { Changes result (with_blank count (layout_of self.old)) (layout_of self.new) }
     {
         if count == 0 {
             return Ok(());
         }
-        match self.fill_section(count) {
-            Ok(()) => self.check_room(),
-            Err(refusal) => Err(refusal),
-        }
+        self.fill_section(count)?;
+        self.check_room()
     }
 
     #[tactic(auto, unfolding(crate::specs::Layouts::with_align))]
     pub(crate) fn align(&mut self, step: u32) -> Result<(), Refusal>
-        ensures ok { OnOk result (with_align step (layout_of self.old) ≡ Some (layout_of self.new)) }
-        ensures err { IfErr result (λ e. Refuses e (with_align step (layout_of self.old))) }
+        ensures { Changes result (with_align step (layout_of self.old)) (layout_of self.new) }
     {
         self.push_blank(padding(step, self.size()))
     }
 
-    // A number as bytes of a section of data.
     pub(crate) fn push_number(&mut self, width: Width, number: u32) -> Result<(), Refusal>
-        ensures ok { OnOk result
-            (with_bytes (bytes_in width number) (layout_of self.old) ≡ Some (layout_of self.new)) }
-        ensures err { IfErr result (λ e. Refuses e (with_bytes (bytes_in width number) (layout_of self.old))) }
+        ensures { Changes result (with_bytes (bytes_in width number) (layout_of self.old)) (layout_of self.new) }
     {
         match width {
             Width::Byte => self.push_bytes(&[(number % 256) as u8]),
@@ -110,8 +195,7 @@ impl<'a> Draft<'a> {
 
     #[tactic(auto, unfolding(crate::specs::Layouts::with_value))]
     pub(crate) fn push_value(&mut self, width: Width, number: u32) -> Result<(), Refusal>
-        ensures ok { OnOk result (with_value width number (layout_of self.old) ≡ Some (layout_of self.new)) }
-        ensures err { IfErr result (λ e. Refuses e (with_value width number (layout_of self.old))) }
+        ensures { Changes result (with_value width number (layout_of self.old)) (layout_of self.new) }
     {
         match (self.section, width) {
             (Section::Text, Width::Word) => self.push_word(number),
@@ -127,8 +211,7 @@ impl<'a> Draft<'a> {
         count: u32,
         step: u32,
     ) -> Result<(), Refusal>
-        ensures ok { OnOk result (with_common name.now count step (layout_of self.old) ≡ Some (layout_of self.new)) }
-        ensures err { IfErr result (λ e. Refuses e (with_common name.now count step (layout_of self.old))) }
+        ensures { Changes result (with_common name.now count step (layout_of self.old)) (layout_of self.new) }
     {
         let section = self.section;
         self.section = Section::Bss;
@@ -138,5 +221,34 @@ impl<'a> Draft<'a> {
         self.section = section;
         self.next = Next::Line;
         Ok(())
+    }
+
+    pub(crate) fn push_instruction(&mut self, word: u32) -> Result<(), Refusal>
+        ensures { Changes result (with_instruction word (layout_of self.old)) (layout_of self.new) }
+    {
+        match self.section {
+            Section::Text => self.push_word(word),
+            _ => Err(Refusal::InData),
+        }
+    }
+
+    #[tactic(auto, unfolding(crate::specs::Layouts::with_word))]
+    pub(crate) fn push_word(&mut self, word: u32) -> Result<(), Refusal>
+        ensures { Changes result (with_word word (layout_of self.old)) (layout_of self.new) }
+    {
+        if self.text.len() >= MOST_WORDS as usize {
+            return Err(Refusal::FullText);
+        }
+        self.text.push(word)?;
+        Ok(())
+    }
+
+    #[tactic(auto, unfolding(crate::specs::Layouts::with_relative))]
+    pub(crate) fn push_relative(&mut self, word: u32, distance: u32) -> Result<(), Refusal>
+        ensures { Changes result (with_relative word distance (layout_of self.old)) (layout_of self.new) }
+    {
+        let place = self.here();
+        self.distances.insert(place, distance)?;
+        self.push_instruction(word)
     }
 }

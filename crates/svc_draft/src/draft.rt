@@ -4,46 +4,35 @@ ghost use Rattle.std.specs.Prelude.{◌≡◌, ◌≤◌, length, IfErr, OnOk};
 ghost use Rattle.std.specs.Str.{bytes_eq};
 ghost use Rattle.std.specs.HashMap.{get_by};
 
-use crate::area::whole_size;
-use crate::marks::Mark;
+use crate::data::whole_size;
+use crate::making::Mark;
 use crate::refusal::Refusal;
-use crate::section::{Local, Section, Spot};
-use crate::statement::{Next, Statement};
+use crate::statement::{Local, Next, Section, Spot, Statement};
 use std::alloc::Global;
 use std::collections::HashMap;
 use svc_image::{DATA_START, MOST_WORDS, Version};
 
-/// What the lines read so far make.
+/// What the lines read so far make, as a `Layout` says it.
 #[derive(Drop)]
 pub struct Draft<'a> {
-    // The version, where it is said.
     pub(crate) version: Option<Version>,
     pub(crate) limit: u32,
-    // How many of the first data words are read-only.
     pub(crate) read_only: u32,
     pub(crate) start: Option<u32>,
     pub(crate) registers: [u32; 31],
     pub(crate) entries: Vec<Mark>,
     pub(crate) text: Vec<u32>,
-    // The sections of data, in bytes.
     pub(crate) rodata_bytes: Vec<u8>,
     pub(crate) data_bytes: Vec<u8>,
     pub(crate) bss_bytes: Vec<u8>,
-    // The section of what follows.
     pub(crate) section: Section,
-    // What is read next.
     pub(crate) next: Next,
     pub(crate) names: HashMap<&'a [u8], Spot>,
-    // Whether these are all the names of the program, as they are in the second pass.
     pub(crate) known: bool,
-    // How far behind the data's beginning these sections begin, which the second pass knows.
     pub(crate) data_from: u32,
     pub(crate) bss_from: u32,
-    // The local labels in the order of their lines, which the second pass has from the first one.
     pub(crate) locals: Vec<Local>,
-    // How many of them the second pass has passed.
     pub(crate) passed: usize,
-    // How far it is from each instruction with `%pcrel_hi` so far, by its address, to the value.
     pub(crate) distances: HashMap<u32, u32>,
     ghost text_few: { length text.items ≤ 65536 },
     ghost rodata_few: { length rodata_bytes.items ≤ 262144 },
@@ -119,7 +108,6 @@ impl<'a> Draft<'a> {
         self.next
     }
 
-    // How many bytes of the section of what follows there are so far.
     pub(crate) fn size(&self) -> u32
         ensures { result ≡ size (layout_of self.now) }
     {
@@ -131,7 +119,6 @@ impl<'a> Draft<'a> {
         }
     }
 
-    // Where a section begins.
     pub(crate) fn base(&self, section: Section) -> u32
         ensures { result ≡ base section (layout_of self.now) }
     {
@@ -143,7 +130,6 @@ impl<'a> Draft<'a> {
         }
     }
 
-    // The byte address of a place.
     pub(crate) fn place(&self, spot: Spot) -> u32
         ensures { result ≡ place (layout_of self.now) spot }
     {
@@ -204,7 +190,10 @@ impl<'a> Draft<'a> {
                 self.next = Next::Line;
             }
             Statement::Common(count, step) => return self.push_common(name, count, step),
-            Statement::Pair(first, second) => return self.push_pair(first, second),
+            Statement::Pair(first, second) => {
+                self.push_instruction(first)?;
+                self.push_instruction(second)?;
+            }
             Statement::Local(number) => return self.take_local(number),
             Statement::Relative(word, distance) => return self.push_relative(word, distance),
         }

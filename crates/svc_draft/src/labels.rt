@@ -1,13 +1,12 @@
 // Names and local labels: what stands for what.
 
-ghost use Rattle.std.specs.Prelude.{◌≡◌, IfErr, OnOk, Some};
-ghost use Rattle.svc_draft.specs.Refusals.{Refuses};
-ghost use Rattle.svc_draft.specs.Layouts.{layout_of, place, address_of, address_back, address_ahead, distance_from, with_symbol, with_passed, with_local};
+ghost use Rattle.std.specs.Prelude.{◌≡◌, IfErr, OnOk, Some, None};
+ghost use Rattle.svc_draft.specs.Layouts.{last_local, first_local, layout_of, place, address_of, address_back, address_ahead, distance_from, with_symbol, with_passed, with_local};
+ghost use Rattle.svc_draft.specs.Refusals.{Refuses, Changes};
 
 use crate::draft::Draft;
-use crate::locals::{first_local, last_local};
 use crate::refusal::Refusal;
-use crate::section::{Local, Spot};
+use crate::statement::{Local, Spot};
 
 /// The most local labels. Each is looked at for every name of one, so that few bound the time.
 const MOST_LOCALS: usize = 4096;
@@ -27,10 +26,7 @@ impl<'a> Draft<'a> {
         if !self.known {
             return Some(self.here());
         }
-        match self.spot_of(name) {
-            Some(spot) => Some(self.place(spot)),
-            None => None,
-        }
+        Some(self.place(self.spot_of(name)?))
     }
 
     /// The address of the last local label of this number before here. In the first pass any may yet come to stand.
@@ -40,10 +36,7 @@ impl<'a> Draft<'a> {
         if !self.known {
             return Some(self.here());
         }
-        match last_local(number, &self.locals[..self.passed]) {
-            Some(spot) => Some(self.place(spot)),
-            None => None,
-        }
+        Some(self.place(last_local(number, &self.locals[..self.passed])?))
     }
 
     /// The address of the next local label of this number behind here. In the first pass any may yet come to stand.
@@ -53,10 +46,7 @@ impl<'a> Draft<'a> {
         if !self.known {
             return Some(self.here());
         }
-        match first_local(number, &self.locals[self.passed..]) {
-            Some(spot) => Some(self.place(spot)),
-            None => None,
-        }
+        Some(self.place(first_local(number, &self.locals[self.passed..])?))
     }
 
     /// How far it is from the instruction with `%pcrel_hi` at this address to its value. In the first pass any may yet
@@ -90,11 +80,9 @@ impl<'a> Draft<'a> {
         Ok(())
     }
 
-    // A local label that the first pass found.
     #[tactic(auto, unfolding(crate::specs::Layouts::with_passed))]
     pub(crate) fn pass_local(&mut self, number: u32) -> Result<(), Refusal>
-        ensures ok { OnOk result (with_passed number (layout_of self.old) ≡ Some (layout_of self.new)) }
-        ensures err { IfErr result (λ e. Refuses e (with_passed number (layout_of self.old))) }
+        ensures { Changes result (with_passed number (layout_of self.old)) (layout_of self.new) }
     {
         let here = self.here();
         match self.locals.get(self.passed).copied() {
@@ -108,8 +96,7 @@ impl<'a> Draft<'a> {
 
     #[tactic(auto, unfolding(crate::specs::Layouts::with_local))]
     pub(crate) fn take_local(&mut self, number: u32) -> Result<(), Refusal>
-        ensures ok { OnOk result (with_local number (layout_of self.old) ≡ Some (layout_of self.new)) }
-        ensures err { IfErr result (λ e. Refuses e (with_local number (layout_of self.old))) }
+        ensures { Changes result (with_local number (layout_of self.old)) (layout_of self.new) }
     {
         if self.known {
             return self.pass_local(number);
@@ -121,4 +108,29 @@ impl<'a> Draft<'a> {
         self.locals.push(Local { number, spot })?;
         Ok(())
     }
+}
+
+#[tactic(auto, unfolding(crate::specs::Layouts::last_local))]
+fn last_local(number: u32, locals: &[Local]) -> Option<Spot>
+    ensures { result ≡ last_local number None locals.now }
+{
+    let mut found = None;
+    for local in locals {
+        if local.number == number {
+            found = Some(local.spot);
+        }
+    }
+    found
+}
+
+#[tactic(auto, unfolding(crate::specs::Layouts::first_local))]
+fn first_local(number: u32, locals: &[Local]) -> Option<Spot>
+    ensures { result ≡ first_local number locals.now }
+{
+    for local in locals {
+        if local.number == number {
+            return Some(local.spot);
+        }
+    }
+    None
 }

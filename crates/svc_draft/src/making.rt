@@ -1,6 +1,7 @@
 // The image that the lines make.
 
-ghost use Rattle.std.specs.Prelude.{◌≡◌, ◌/◌, IfOk, IfErr, MatchResult};
+ghost use Rattle.std.specs.Prelude.{◌≡◌, ◌==◌, map, unwrap_or, IfOk, ◌/◌, IfErr, MatchResult};
+ghost use Rattle.std.specs.List.{list_any};
 ghost use Rattle.svc_image.specs.Image.{IsImage};
 ghost use Rattle.svc_image.specs.Parts.{HasLimits, image_made};
 ghost use Rattle.svc_draft.specs.Layouts.{layout_of, start_in, IsOwnOf, image_laid, IsMadeOf};
@@ -8,12 +9,49 @@ ghost use Rattle.svc_image.specs.declared.error.ImageError.TheVariants as image_
 ghost use Rattle.svc_draft.specs.declared.refusal.Refusal.TheVariants as refusal;
 ghost use Rattle.svc_image.specs.Image as value;
 
-use crate::area::join;
+use crate::data::join;
 use crate::draft::Draft;
-use crate::marks::{limits_of, places_of};
 use crate::refusal::Refusal;
 use std::alloc::{AllocError, Global};
 use svc_image::{Image, ImageError, Own, Parts, Version, read_words};
+
+/// An entry.
+#[derive(Clone, Copy)]
+pub struct Mark {
+    /// Its byte address.
+    pub place: u32,
+    /// The limit that it has of its own.
+    pub limit: Option<u32>,
+}
+
+pub fn has_place(marks: &[Mark], place: u32) -> bool
+    ensures { result ≡ list_any (λ e. e == place) (map (λ m. m.place) marks.now) }
+{
+    marks
+        .iter()
+        .map(|mark| mark.place)
+        .any(|entry| entry == place)
+}
+
+pub fn places_of(alloc: Global, marks: &[Mark]) -> Result<Vec<u32>, AllocError>
+    ensures { IfOk result (λ places. places.items ≡ map (λ m. m.place) marks.now) }
+{
+    let mut places = Vec::with_capacity(alloc, marks.len())?;
+    for mark in marks {
+        places.push(mark.place)?;
+    }
+    Ok(places)
+}
+
+pub fn limits_of(alloc: Global, limit: u32, marks: &[Mark]) -> Result<Vec<u32>, AllocError>
+    ensures { IfOk result (λ limits. limits.items ≡ map (λ m. unwrap_or m.limit limit) marks.now) }
+{
+    let mut limits = Vec::with_capacity(alloc, marks.len())?;
+    for mark in marks {
+        limits.push(mark.limit.unwrap_or(limit))?;
+    }
+    Ok(limits)
+}
 
 impl Draft<'_> {
     /// The image that the lines make. Where no line says so, the first task begins at the first entry, the limit is
@@ -76,7 +114,6 @@ impl Draft<'_> {
         }
     }
 
-    // Where the first task begins.
     pub(crate) fn start_place(&self) -> u32
         ensures { result ≡ start_in (layout_of self.now).start (layout_of self.now).entries }
     {
@@ -90,7 +127,6 @@ impl Draft<'_> {
     }
 }
 
-// What the lines lack, by why they make no image. A count too great is refused at its line, so that here one is 0.
 fn lack(has_entry: bool, error: ImageError) -> Refusal
     ensures { (error ≡ image_error.Memory) → result ≡ refusal.Memory }
 {

@@ -1,23 +1,20 @@
 // What directives of images say: the version, read-only data, limits, entries and registers.
 
-ghost use Rattle.std.specs.Prelude.{◌≡◌, IfErr, OnOk, Some};
-ghost use Rattle.svc_draft.specs.Limits.{is_limit};
-ghost use Rattle.svc_draft.specs.Versions.{has_other};
-ghost use Rattle.svc_draft.specs.Refusals.{Refuses};
-ghost use Rattle.svc_draft.specs.Layouts.{layout_of, with_version, data_up_to, with_read_only, with_own, with_place, with_entry, with_limit, with_register};
+ghost use Rattle.std.specs.Prelude.{◌≡◌};
+ghost use Rattle.svc_draft.specs.Layouts.{has_other, layout_of, is_limit, with_version, data_up_to, with_read_only, with_own, with_place, with_entry, with_limit, with_register};
+ghost use Rattle.svc_draft.specs.Refusals.{Changes};
 
 use crate::draft::Draft;
-use crate::marks::{Mark, has_place};
+use crate::making::{Mark, has_place};
 use crate::refusal::Refusal;
-use crate::section::Section;
+use crate::statement::Section;
 use svc_image::{MOST_ENTRIES, MOST_WORDS, Version};
 use svc_rv32i::Register;
 
 impl Draft<'_> {
     #[tactic(auto, unfolding(crate::specs::Layouts::with_version))]
     pub(crate) fn set_version(&mut self, version: Version) -> Result<(), Refusal>
-        ensures ok { OnOk result (with_version version (layout_of self.old) ≡ Some (layout_of self.new)) }
-        ensures err { IfErr result (λ e. Refuses e (with_version version (layout_of self.old))) }
+        ensures { Changes result (with_version version (layout_of self.old)) (layout_of self.new) }
     {
         if has_other(version, self.version) {
             return Err(Refusal::OtherVersion);
@@ -26,7 +23,6 @@ impl Draft<'_> {
         Ok(())
     }
 
-    // How many bytes the data has up to the end of the section so far; the text stands for .data.
     pub(crate) fn data_up_to_here(&self) -> u32
         ensures { result ≡ data_up_to (layout_of self.now).section (layout_of self.now) }
     {
@@ -39,8 +35,7 @@ impl Draft<'_> {
 
     #[tactic(auto, unfolding(crate::specs::Layouts::with_read_only))]
     pub(crate) fn set_read_only(&mut self) -> Result<(), Refusal>
-        ensures ok { OnOk result (with_read_only (layout_of self.old) ≡ Some (layout_of self.new)) }
-        ensures err { IfErr result (λ e. Refuses e (with_read_only (layout_of self.old))) }
+        ensures { Changes result (with_read_only (layout_of self.old)) (layout_of self.new) }
     {
         let bytes = self.data_up_to_here();
         if bytes % 4 != 0 {
@@ -57,8 +52,7 @@ impl Draft<'_> {
 
     #[tactic(auto, unfolding(crate::specs::Layouts::with_limit))]
     pub(crate) fn set_limit(&mut self, limit: u32) -> Result<(), Refusal>
-        ensures ok { OnOk result (with_limit limit (layout_of self.old) ≡ Some (layout_of self.new)) }
-        ensures err { IfErr result (λ e. Refuses e (with_limit limit (layout_of self.old))) }
+        ensures { Changes result (with_limit limit (layout_of self.old)) (layout_of self.new) }
     {
         if !is_limit(limit) {
             return Err(Refusal::Limit);
@@ -67,10 +61,8 @@ impl Draft<'_> {
         Ok(())
     }
 
-    // An entry with a limit of its own makes the program one of version 2.
     pub(crate) fn allow_own(&mut self, limit: Option<u32>) -> Result<(), Refusal>
-        ensures ok { OnOk result (with_own limit (layout_of self.old) ≡ Some (layout_of self.new)) }
-        ensures err { IfErr result (λ e. Refuses e (with_own limit (layout_of self.old))) }
+        ensures { Changes result (with_own limit (layout_of self.old)) (layout_of self.new) }
     {
         match limit {
             None => Ok(()),
@@ -81,8 +73,7 @@ impl Draft<'_> {
 
     #[tactic(auto, unfolding(crate::specs::Layouts::with_place))]
     pub(crate) fn push_place(&mut self, limit: Option<u32>) -> Result<(), Refusal>
-        ensures ok { OnOk result (with_place limit (layout_of self.old) ≡ Some (layout_of self.new)) }
-        ensures err { IfErr result (λ e. Refuses e (with_place limit (layout_of self.old))) }
+        ensures { Changes result (with_place limit (layout_of self.old)) (layout_of self.new) }
     {
         let words = self.text.len();
         if words >= MOST_WORDS as usize {
@@ -101,19 +92,15 @@ impl Draft<'_> {
 
     #[tactic(auto, unfolding(crate::specs::Layouts::with_entry))]
     pub(crate) fn push_entry(&mut self, limit: Option<u32>) -> Result<(), Refusal>
-        ensures ok { OnOk result (with_entry limit (layout_of self.old) ≡ Some (layout_of self.new)) }
-        ensures err { IfErr result (λ e. Refuses e (with_entry limit (layout_of self.old))) }
+        ensures { Changes result (with_entry limit (layout_of self.old)) (layout_of self.new) }
     {
-        match self.allow_own(limit) {
-            Ok(()) => self.push_place(limit),
-            Err(refusal) => Err(refusal),
-        }
+        self.allow_own(limit)?;
+        self.push_place(limit)
     }
 
     #[tactic(auto, unfolding(crate::specs::Layouts::with_register))]
     pub(crate) fn set_register(&mut self, register: Register, value: u32) -> Result<(), Refusal>
-        ensures ok { OnOk result (with_register register value (layout_of self.old) ≡ Some (layout_of self.new)) }
-        ensures err { IfErr result (λ e. Refuses e (with_register register value (layout_of self.old))) }
+        ensures { Changes result (with_register register value (layout_of self.old)) (layout_of self.new) }
     {
         if register.number == 0 {
             return Err(Refusal::ZeroRegister);
@@ -123,20 +110,17 @@ impl Draft<'_> {
     }
 }
 
-// Whether a task may have this limit of turns.
 fn is_limit(limit: u32) -> bool
     ensures { result ≡ is_limit limit }
 {
     (1..=MOST_WORDS).contains(&limit)
 }
 
-// Whether another version is said.
 fn has_other(version: Version, said: Option<Version>) -> bool
     ensures { result ≡ has_other version said }
 {
-    match (said, version) {
-        (None, _) | (Some(Version::One), Version::One) | (Some(Version::Two), Version::Two) =>
-            false,
-        _ => true,
+    match said {
+        None => false,
+        Some(said) => said.number() != version.number(),
     }
 }

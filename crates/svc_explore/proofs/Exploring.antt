@@ -14,6 +14,7 @@ use Rattle.svc_explore_laws.specs.Closed.{IsIn, AreIn}
 use Rattle.svc_explore.specs.KeyWords.{key_of}
 use Rattle.svc_explore.specs.Search.{image_key}
 use Rattle.svc_explore.specs.Recorders.{Leads, key_in}
+use Rattle.svc_explore.proofs.Leading.{leads_more}
 use Rattle.svc_explore.specs.declared.search.Tried.{Tried}
 use Rattle.svc_explore.specs.declared.search.Tried.TheVariants as tried
 use Rattle.svc_explore.specs.Tries.{IsMovedTo, IsTried, TriedAt, Shows, ShowsIt, both}
@@ -50,21 +51,29 @@ module _ (most : ℕ) (r : Recorded) (unit : ℕ) where
     });
   }
 
-  pub shows_it : (path : List UnitId) → Leads r.machine.image r.machine.config most (opened_at r.machine.image r.machine.config 0) path (standing_of r)
-      → (t : Tried) → IsTried most r unit t → ShowsIt r.machine.image r.machine.config most path unit t
-  shows_it path leads tried.Off h = tt
-  shows_it path leads tried.Rests h = tt
-  shows_it path leads (tried.Moves happened squashed next) h =
-      all_at (both happened squashed) (Shows r.machine.image r.machine.config most path unit) (λ i o at. record {
+pub shows_it : (most : ℕ) (r : Recorded) (unit : UnitId) (path : List UnitId) → Leads r.machine.image r.machine.config most (opened_at r.machine.image r.machine.config 0) path (standing_of r)
+    → (t : Tried) → IsTried most r unit.0 t → ShowsIt r.machine.image r.machine.config most path unit t
+shows_it most r unit path leads tried.Off h = tt
+shows_it most r unit path leads tried.Rests h = tt
+shows_it most r unit path leads (tried.Moves happened squashed next) h =
+    let img : Image = r.machine.image in
+    let config : Config = r.machine.config in (
+      all_at (both happened squashed) (Shows img config most path unit.0) (λ i o at. record {
         standing = standing_of r;
         leads = leads;
         event = h.moved.event;
         moves = h.moved.moves;
         seen = (i, ap (λ l. slice_get l i) (sym h.sights_are) ∙ at);
-      })
+      }),
+      record {
+        standing = stepped img (standing_of r) h.moved.event;
+        leads = leads_more img config most (opened_at img config 0) (standing_of r) path unit h.moved.event leads h.moved.moves;
+        key_is = there most r unit.0 (both happened squashed) (vec_items next) h;
+      },
+    )
 
 -- what the schedule shows of a recorder's image and configuration
-pub shown_as : (img : Image) (config : Config) (most : ℕ) (r : Recorded) (unit : ℕ) → r.machine.image ≡ img → r.machine.config ≡ config → (path : List UnitId)
+pub shown_as : (img : Image) (config : Config) (most : ℕ) (r : Recorded) (unit : UnitId) → r.machine.image ≡ img → r.machine.config ≡ config → (path : List UnitId)
     → Leads img config most (opened_at img config 0) path (standing_of r) → (t : Tried)
     → ((p : List UnitId) → Leads r.machine.image r.machine.config most (opened_at r.machine.image r.machine.config 0) p (standing_of r) → ShowsIt r.machine.image r.machine.config most p unit t)
     → ShowsIt img config most path unit t

@@ -46,14 +46,14 @@ place_cases (z ∷ xs) y (suc i) x e = elim (place_cases xs y i x e) [
   | inr h ↦ inr (ap suc h.0, h.1)
 ]
 
-once_more : (xs : List Observation) (y : Observation) → (IsIn y xs → ⊥) → AreOnce xs → AreOnce (xs ++ y ∷ [])
-once_more xs y fresh once i j x e f = elim (place_cases xs y i x e) [
+pub once_more : {A : Type 0} (xs : List A) (y : A) → (IsIn y xs → ⊥) → AreOnce xs → AreOnce (xs ++ y ∷ [])
+once_more {A} xs y fresh once i j x e f = elim (place_cases xs y i x e) [
   | inl h ↦ elim (place_cases xs y j x f) [
     | inl k ↦ once i j x h k
-    | inr k ↦ absurd (fresh (i, h ∙ ap (λ (o : Observation). Some o) k.1))
+    | inr k ↦ absurd (fresh (i, h ∙ ap (λ (o : A). Some o) k.1))
   ]
   | inr h ↦ elim (place_cases xs y j x f) [
-    | inl k ↦ absurd (fresh (j, k ∙ ap (λ (o : Observation). Some o) h.1))
+    | inl k ↦ absurd (fresh (j, k ∙ ap (λ (o : A). Some o) h.1))
     | inr k ↦ h.0 ∙ sym k.0
   ]
 ]
@@ -82,7 +82,7 @@ on_ok (Err e) f h = h
 
 -- ---- with schedules that show them
 
-all_more : {A : Type 0} (P : A → Type 0) (xs : List A) (y : A) → AllByRecursion P xs → P y → AllByRecursion P (xs ++ y ∷ [])
+pub all_more : {A : Type 0} (P : A → Type 0) (xs : List A) (y : A) → AllByRecursion P xs → P y → AllByRecursion P (xs ++ y ∷ [])
 all_more P [] y all h = (h, tt)
 all_more P (x ∷ xs) y all h = (all.0, all_more P xs y all.1 h)
 

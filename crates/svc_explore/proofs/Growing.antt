@@ -16,7 +16,8 @@ use Rattle.svc_machine_laws.proofs.Given.{given}
 use Rattle.svc_machine_laws.proofs.Folds.{opened_reached}
 use Rattle.svc_explore_laws.proofs.ClosedPlays.{shows}
 use Rattle.svc_explore.proofs.KeyTells.{key_tells}
-use Rattle.svc_explore_laws.specs.Closed.{IsIn, AreIn, IsExplored, ShowNothingElse}
+use Rattle.svc_explore_laws.specs.Closed.{IsIn, AreIn, IsClosed, IsExplored, ShowNothingElse}
+use Rattle.svc_explore.specs.Counts.{Place}
 use Rattle.svc_explore.specs.Search.{GrowsTo, are_keys, key_at, image_key, IsExploredAt, IsPartlyClosed}
 
 pub append_grows : {A : Type 0} (xs ys : List A) → GrowsTo xs (xs ++ ys)
@@ -37,14 +38,11 @@ same_grows xs ys e i x h = ap (λ l. slice_get l i) e ∙ h
 
 -- ---- a key that is added to a map
 
-abbrev pub Place : Type 0
-Place = Vec ℕ Global × Vec UnitId Global
-
 abbrev pub eq_keys : Vec ℕ Global → Vec ℕ Global → Bool
 eq_keys a b = bytes_eq (vec_items a) (vec_items b)
 
 module _ (key : Vec ℕ Global) (path : Vec UnitId Global) where
-  abbrev put : List Place → List Place
+  abbrev pub put : List Place → List Place
   put es = insert_entry eq_keys es key path
 
   pub insert_grows : (es : List Place) → GrowsTo (are_keys es) (are_keys (put es))
@@ -139,10 +137,14 @@ module _ (img : Image) (config : Config) (most : ℕ) where
     ];
   }
 
+  pub closed_whole : (keys : List (Vec ℕ Global × Vec UnitId Global)) (found : List Observation) → IsPartlyClosed img config most (are_keys keys) found (length keys)
+      → IsClosed img config most (image_key img config) (are_keys keys) found
+  closed_whole keys found closed = record {
+    opening = closed.opening;
+    each = λ k there unit known. closed.each there.0 (let h = within (are_keys keys) there.0 k there.1 in let e = length_map key_at keys in omega (arith, h, e)) unit known k there.1;
+  }
+
   -- THE WHOLE SEARCH
   pub closed_shows : IsImage img → (keys : List (Vec ℕ Global × Vec UnitId Global)) (found : List Observation) → IsPartlyClosed img config most (are_keys keys) found (length keys) → ShowNothingElse img config most found
   closed_shows is keys found closed =
-      shows img is config most (image_key img config) (key_tells img config) (are_keys keys) found (record {
-        opening = closed.opening;
-        each = λ k there unit known. closed.each there.0 (let h = within (are_keys keys) there.0 k there.1 in let e = length_map key_at keys in omega (arith, h, e)) unit known k there.1;
-      }) (opened_reached img (given img is) config 0)
+      shows img is config most (image_key img config) (key_tells img config) (are_keys keys) found (closed_whole keys found closed) (opened_reached img (given img is) config 0)

@@ -6,5 +6,7 @@ pub mod Rosters
 pub mod Exploring
 pub mod Growing
 pub mod Founding
+pub mod Permuting
+pub mod Counting
 pub mod PlayEnds
 pub mod Scheduled

@@ -1,14 +1,13 @@
 -- The history of a scheduled run is a play.
-use Rattle.std.proofs.Common.{ℕ, zero, suc, ◌≡◌, ◌⊎◌, ◌∷◌, [], ◌++◌, List, length, inl, inr, refl, sym, ap, ◌∙◌, subst}
+use Rattle.std.proofs.Common.{ℕ, zero, suc, ◌≡◌, ◌∷◌, [], List, length, inl, inr, refl, sym, ap, ◌∙◌, subst}
 use Rattle.svc_base.specs.declared.config.Config.{Config}
 use Rattle.svc_base.specs.declared.ids.UnitId.{UnitId}
 use Rattle.svc_image.specs.Image.{Image, IsImage}
-use Rattle.svc_machine_laws.specs.Events.{Event, Submit, IsEvent}
-use Rattle.svc_machine_laws.specs.Standing.{Standing, refused, stepped, reply_to, opened_at}
+use Rattle.svc_machine_laws.specs.Events.{Event, IsEvent}
+use Rattle.svc_machine_laws.specs.Standing.{reply_to, opened_at}
 use Rattle.svc_machine_laws.proofs.Given.{given}
-use Rattle.svc_history_laws.specs.declared.entry.Entry.{Entry}
 use Rattle.svc_history_laws.specs.Entries.{entry_of}
-use Rattle.svc_history_laws.specs.Legal.{after_entry, last}
+use Rattle.svc_history_laws.specs.Legal.{last}
 use Rattle.svc_history_laws.proofs.Legality.{entry_leads, last-append}
 use Rattle.svc_history.specs.Moves.{NextMove, Begin, RunOn, Commit, Wait, Ended, move_of}
 use Rattle.svc_history.specs.Recorded.{Recorded, IsLegal, standing_of}

@@ -14,8 +14,8 @@ abbrev pub are_seen : List Seen → List Observation
 are_seen seen = map (λ (s : Seen). s.what) seen
 
 -- none twice
-abbrev pub AreOnce : List Observation → Type 0
-AreOnce xs = (i j : ℕ) (x : Observation) → slice_get xs i ≡ Some x → slice_get xs j ≡ Some x → i ≡ j
+abbrev pub AreOnce : {A : Type 0} → List A → Type 0
+AreOnce {A} xs = (i j : ℕ) (x : A) → slice_get xs i ≡ Some x → slice_get xs j ≡ Some x → i ≡ j
 
 -- the observation is shown by its schedule
 abbrev pub IsShown : Image → Config → (most : ℕ) → Seen → Type 0

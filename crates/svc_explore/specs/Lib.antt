@@ -4,4 +4,6 @@ pub mod Sights
 pub mod Search
 pub mod Tries
 pub mod Found
+pub mod Order
+pub mod Counts
 pub mod Rows

@@ -1,5 +1,5 @@
 -- What a unit's move tells, where it was tried.
-use Rattle.std.specs.Prelude.{◌≡◌, ℕ, ◌++◌, List, Option, option_to_list, vec_items}
+use Rattle.std.specs.Prelude.{◌≡◌, ℕ, ◌++◌, ◌∷◌, [], List, Option, option_to_list, vec_items}
 use Rattle.std.specs.List.{AllByRecursion}
 use Rattle.svc_base.specs.declared.config.Config.{Config}
 use Rattle.svc_image.specs.Image.{Image}
@@ -51,8 +51,15 @@ pub record Shows (img : Image) (config : Config) (most : ℕ) (path : List UnitI
   pub moves : Moves img config most standing unit event
   pub seen : IsIn o (observations standing.plain (entry_of event (reply_to img standing event)))
 
--- where the unit has moved, the schedule and the unit show what is seen
-abbrev pub ShowsIt : Image → Config → (most : ℕ) → (path : List UnitId) → (unit : ℕ) → Tried → Type 0
+-- the schedule leads to a standing with this key
+pub record LeadsToKey (img : Image) (config : Config) (most : ℕ) (path : List UnitId) (key : List ℕ) : Type 0 where
+  pub standing : Standing
+  pub leads : Leads img config most (opened_at img config 0) path standing
+  pub key_is : key ≡ image_key img config standing
+
+-- where the unit has moved, the schedule and the unit show what is seen, and lead to the key
+abbrev pub ShowsIt : Image → Config → (most : ℕ) → (path : List UnitId) → (unit : UnitId) → Tried → Type 0
 ShowsIt img config most path unit tried.Off = Unit {0}
 ShowsIt img config most path unit tried.Rests = Unit {0}
-ShowsIt img config most path unit (tried.Moves happened squashed next) = AllByRecursion (Shows img config most path unit) (both happened squashed)
+ShowsIt img config most path unit (tried.Moves happened squashed next) =
+    AllByRecursion (Shows img config most path unit.0) (both happened squashed) × LeadsToKey img config most (path ++ unit ∷ []) (vec_items next)

@@ -4,6 +4,7 @@
 mod found;
 mod key;
 mod moves;
+mod order;
 mod roster;
 mod rows;
 mod runs;

@@ -130,7 +130,7 @@ fn try_at(
     ensures shown { IfOk result (λ tried. (path : List UnitId)
         → Leads recorder.old.machine.image recorder.old.machine.config most
         (opened_at recorder.old.machine.image recorder.old.machine.config 0) path (standing_of recorder.old)
-        → ShowsIt recorder.old.machine.image recorder.old.machine.config most path unit.0 tried) }
+        → ShowsIt recorder.old.machine.image recorder.old.machine.config most path unit tried) }
 {
     keeps(recorder);
     if recorder.machine().is_full() {
@@ -154,7 +154,7 @@ pub(crate) fn try_unit(
     unit: UnitId,
 ) -> Result<Tried, AllocError>
     ensures tried { IfOk result (TriedAt image.now config most key.now unit.0) }
-    ensures shown { IfOk result (ShowsIt image.now config most path.now unit.0) }
+    ensures shown { IfOk result (ShowsIt image.now config most path.now unit) }
 {
     match replay(alloc, image, config, path, most)? {
         Some(mut recorder) => try_at(alloc, &mut recorder, most, key, unit),

@@ -1,12 +1,15 @@
 // All schedules of an image.
 
-ghost use Rattle.std.specs.Prelude.{◌≡◌, ◌<◌, ◌≤◌, ◌++◌, ◌∷◌, [], ℕ, IfOk, IfSome, IsTrue, OnOk, length};
+ghost use Rattle.std.specs.Prelude.{◌≡◌, ◌<◌, ◌≤◌, ◌+◌, ◌*◌, ◌++◌, ◌∷◌, [], ℕ, IfOk, IfSome, IsTrue, OnOk, length, slice_get};
 ghost use Rattle.svc_machine_laws.specs.Standing.{opened_at};
 ghost use Rattle.svc_explore_laws.specs.Closed.{IsIn, ShowNothingElse};
+ghost use Rattle.svc_explore.specs.Counts.{AddsPlace, IsDepth, IsLongest, IsSound, IsTold};
 ghost use Rattle.svc_explore.specs.Found.{AreWitnessed, are_seen};
+ghost use Rattle.svc_explore.specs.Order.{AreInOrder};
 ghost use Rattle.svc_explore.specs.Search.{GrowsTo, IsExploredAt, IsPartlyClosed, are_keys, image_key};
 
 use crate::found::{Seen, note_seen};
+use crate::order::put_in_order;
 use crate::search::{Tried, opening_key, try_unit};
 use indexmap::IndexMap;
 use std::alloc::{AllocError, Global};
@@ -16,7 +19,7 @@ use svc_image::Image;
 /// What an exploration found.
 #[derive(Drop)]
 pub struct Exploration {
-    /// What was seen, each observation once, those first that the shortest schedules show.
+    /// What was seen, each observation once, in the order of its rows.
     pub found: Vec<Seen>,
     /// How many standings were told apart.
     pub states: usize,
@@ -44,7 +47,7 @@ fn note_key(
 ) -> Result<(), AllocError>
     ensures listed { OnOk result (IsIn key.items (are_keys keys.new.entries)) }
     ensures grows { OnOk result (GrowsTo (are_keys keys.old.entries) (are_keys keys.new.entries)) }
-    ensures longer { OnOk result (length keys.old.entries ≤ length keys.new.entries) }
+    ensures adds { OnOk result (AddsPlace keys.old.entries keys.new.entries key path) }
 {
     if keys.contains_key(key.as_slice()) {
         return Ok(());
@@ -54,7 +57,9 @@ fn note_key(
 }
 
 // A schedule with one unit more.
-fn longer(alloc: Global, path: &[UnitId], unit: UnitId) -> Result<Vec<UnitId>, AllocError> {
+fn longer(alloc: Global, path: &[UnitId], unit: UnitId) -> Result<Vec<UnitId>, AllocError>
+    ensures { IfOk result (λ next. next.items ≡ path.now ++ unit ∷ []) }
+{
     let mut next = Vec::from_slice(alloc, path)?;
     next.push(unit)?;
     Ok(next)
@@ -72,12 +77,13 @@ impl Search {
         unit: UnitId,
     ) -> Result<bool, AllocError>
         requires inside { index < length self.old.keys.entries }
-        requires witnessed { AreWitnessed image.now config most self.old.found.items }
+        requires sound { IsSound image.now config most self.old }
         ensures explored { IfOk result (λ ok. IsTrue ok → IsExploredAt image.now config most (are_keys self.new.keys.entries) (are_seen self.new.found.items) index unit.0) }
+        ensures moves { OnOk result (self.new.moves ≤ self.old.moves + 1) }
         ensures keys { OnOk result (GrowsTo (are_keys self.old.keys.entries) (are_keys self.new.keys.entries)) }
         ensures longer { OnOk result (length self.old.keys.entries ≤ length self.new.keys.entries) }
         ensures found { OnOk result (GrowsTo (are_seen self.old.found.items) (are_seen self.new.found.items)) }
-        ensures witnessed { OnOk result (AreWitnessed image.now config most self.new.found.items) }
+        ensures sound { OnOk result (IsSound image.now config most self.new) }
     {
         let (key, path) = self.keys.get_index(index).unwrap();
         let path = path.as_slice();
@@ -89,11 +95,14 @@ impl Search {
                 squashed,
                 key,
             } => {
+                let Some(moves) = self.moves.checked_add(1) else {
+                    return Ok(false);
+                };
                 let next = longer(alloc, path, unit)?;
                 note_seen(alloc, &mut self.found, happened, path, unit)?;
                 note_seen(alloc, &mut self.found, squashed, path, unit)?;
                 note_key(&mut self.keys, key, next)?;
-                self.moves = self.moves.saturating_add(1);
+                self.moves = moves;
                 Ok(true)
             }
         }
@@ -109,12 +118,13 @@ impl Search {
         index: usize,
     ) -> Result<bool, AllocError>
         requires inside { index < length self.old.keys.entries }
-        requires witnessed { AreWitnessed image.now config most self.old.found.items }
+        requires sound { IsSound image.now config most self.old }
         ensures explored { IfOk result (λ ok. IsTrue ok → (unit : ℕ) → unit < config.units → IsExploredAt image.now config most (are_keys self.new.keys.entries) (are_seen self.new.found.items) index unit) }
+        ensures moves { OnOk result (self.new.moves ≤ self.old.moves + config.units) }
         ensures keys { OnOk result (GrowsTo (are_keys self.old.keys.entries) (are_keys self.new.keys.entries)) }
         ensures longer { OnOk result (length self.old.keys.entries ≤ length self.new.keys.entries) }
         ensures found { OnOk result (GrowsTo (are_seen self.old.found.items) (are_seen self.new.found.items)) }
-        ensures witnessed { OnOk result (AreWitnessed image.now config most self.new.found.items) }
+        ensures sound { OnOk result (IsSound image.now config most self.new) }
     {
         for unit in 0..config.units {
             if !self.explore_unit(alloc, image, config, most, index, UnitId(unit as u8))? {
@@ -134,9 +144,12 @@ impl Search {
         limit: usize,
     ) -> Result<bool, AllocError>
         requires opening { IsIn (image_key image.now config (opened_at image.now config 0)) (are_keys self.old.keys.entries) }
-        requires witnessed { AreWitnessed image.now config most self.old.found.items }
+        requires unmoved { self.old.moves ≡ 0 }
+        requires sound { IsSound image.now config most self.old }
         ensures closed { IfOk result (λ ok. IsTrue ok → IsPartlyClosed image.now config most (are_keys self.new.keys.entries) (are_seen self.new.found.items) (length self.new.keys.entries)) }
-        ensures witnessed { OnOk result (AreWitnessed image.now config most self.new.found.items) }
+        ensures moves { OnOk result (self.new.moves ≤ length self.new.keys.entries * config.units) }
+        ensures opening { OnOk result (0 < length self.new.keys.entries) }
+        ensures sound { OnOk result (IsSound image.now config most self.new) }
     {
         for index in 0..limit {
             if index == self.keys.len() {
@@ -146,22 +159,39 @@ impl Search {
                 return Ok(false);
             }
         }
-        Ok(false)
+        Ok(self.keys.len() == limit)
     }
 
-    // How many moves the schedule of the last key has: each standing was met first by a shortest one.
-    fn deepest(&self) -> usize {
-        match self.keys.last() {
-            Some((_, path)) => path.len(),
-            None => 0,
+    // How many moves the schedule of a key has.
+    fn depth(&self, index: usize) -> usize
+        requires inside { index < length self.now.keys.entries }
+        ensures { IsDepth self.now.keys.entries index result }
+    {
+        let (_, path) = self.keys.get_index(index).unwrap();
+        path.len()
+    }
+
+    // How many moves the longest schedule has.
+    fn deepest(&self) -> usize
+        requires some { 0 < length self.now.keys.entries }
+        ensures { IsLongest result self.now.keys.entries }
+    {
+        let mut deepest = 0;
+        for index in 0..self.keys.len() {
+            let depth = self.depth(index);
+            if deepest < depth {
+                deepest = depth;
+            }
         }
+        deepest
     }
 }
 
 // The search before any move.
 fn opened(alloc: Global, image: &Image, config: Config) -> Result<Search, AllocError>
     ensures opening { IfOk result (λ s. IsIn (image_key image.now config (opened_at image.now config 0)) (are_keys s.keys.entries)) }
-    ensures nothing { IfOk result (λ s. s.found.items ≡ []) }
+    ensures unmoved { IfOk result (λ s. s.moves ≡ 0) }
+    ensures sound { IfOk result (λ s. (most : ℕ) → IsSound image.now config most s) }
 {
     let key = opening_key(alloc, image, config)?;
     let mut keys = IndexMap::new(alloc);
@@ -188,15 +218,22 @@ pub fn explore(
     ensures whole { IfOk result (λ r. IsTrue r.whole → ShowNothingElse image.now config burst (are_seen r.found.items)) }
     // Each observation was found once, and its schedule shows it, whether a limit was met or not.
     ensures witnessed { IfOk result (λ r. AreWitnessed image.now config burst r.found.items) }
+    // They stand in the order of their rows.
+    ensures order { IfOk result (λ r. AreInOrder (are_seen r.found.items)) }
+    // The standings that were told apart are counted, and the moves of the longest schedule that led to one first.
+    ensures told { IfOk result (IsTold image.now config burst) }
 {
     let _start = image.start();
     let mut search = opened(alloc, image, config)?;
     let whole = search.run(alloc, image, config, burst, limit)?;
+    let deepest = search.deepest();
+    let mut found = search.found;
+    put_in_order(&mut found);
     Ok(Exploration {
         states: search.keys.len(),
         moves: search.moves,
-        deepest: search.deepest(),
-        found: search.found,
+        deepest,
+        found,
         whole,
     })
 }

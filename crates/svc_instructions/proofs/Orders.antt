@@ -4,7 +4,7 @@ use Rattle.std.specs.Prelude.{IfSome}
 use Rattle.std.specs.List.{AllByRecursion}
 use Rattle.svc_operands.specs.Names.{number_named}
 use Rattle.svc_operands.proofs.Rows.{number_small}
-use Rattle.svc_instructions.specs.declared.fence.TheConstants.{ORDERS}
+use Rattle.svc_instructions.specs.declared.reading.TheConstants.{ORDERS}
 
 each_small : AllByRecursion (λ r. r.1 < 16) ORDERS
 each_small = (lit< tt, (lit< tt, (lit< tt, (lit< tt, (lit< tt, (lit< tt, (lit< tt, (lit< tt, (lit< tt, (lit< tt, (lit< tt, (lit< tt, (lit< tt, (lit< tt, (lit< tt, tt)))))))))))))))

@@ -1,20 +1,42 @@
 -- What the rows of the table say, read from a text.
-use Rattle.std.specs.Prelude.{ℕ, ◌+◌, ◌*◌, ◌/◌, ◌%◌, ◌^◌, ◌==◌, Bool, ◌&&◌, ◌||◌, List, [], ◌∷◌, Option, Some, None, if◌then◌else◌, option_map}
+use Rattle.std.specs.Prelude.{ℕ, ◌+◌, ◌*◌, List, [], ◌∷◌, Some, ◌/◌, ◌%◌, ◌^◌, ◌==◌, Bool, ◌&&◌, ◌||◌, Option, None, if◌then◌else◌, option_map}
+use Rattle.svc_draft.specs.Options.{◌>>=◌}
+use Rattle.svc_operands.specs.Characters.{name_at, past_name, mark_at, found, is_over}
+use Rattle.svc_operands.specs.Names.{number_named}
+use Rattle.svc_operands.specs.Operands.{Read, register_at, base_at, number_below}
+use Rattle.svc_instructions.specs.declared.reading.TheConstants.{ORDERS}
 use Rattle.std.specs.List.{find}
 use Rattle.std.specs.Str.{bytes_eq}
 use Rattle.svc_draft.specs.declared.statement.Statement.{Statement}
 use Rattle.svc_draft.specs.declared.statement.Statement.TheVariants as say
-use Rattle.svc_draft.specs.Options.{◌>>=◌}
 use Rattle.svc_draft.specs.Layouts.{Layout}
-use Rattle.svc_operands.specs.Characters.{found, is_over, mark_at}
-use Rattle.svc_operands.specs.Operands.{Read, register_at, base_at, amount_at}
-use Rattle.svc_operands.specs.Targets.{branch_at, jump_at}
-use Rattle.svc_operands.specs.Values.{short_at, upper_at}
-use Rattle.svc_instructions.specs.Fences.{fence_at}
+use Rattle.svc_operands.specs.Values.{target_at, short_at, upper_at}
 use Rattle.svc_instructions.specs.declared.table.Part.{Part}
 use Rattle.svc_instructions.specs.declared.table.Part.TheVariants as part
 use Rattle.svc_instructions.specs.declared.table.Row.{Row}
 use Rattle.svc_instructions.specs.declared.table.TheConstants.{ROWS, ALIASES}
+
+-- a set of accesses
+unfoldable pub order_at : List ℕ → Read ℕ
+order_at text = do
+  n ← number_named ORDERS (name_at text)
+  Some (n, past_name text)
+
+-- what comes before it, and what behind it
+unfoldable pub orders_at : List ℕ → Read ℕ
+orders_at text = do
+  before ← order_at text
+  rest ← mark_at 44 before.1
+  behind ← order_at rest
+  Some (16 * before.0 + behind.0, behind.1)
+
+-- where nothing is said, it orders all
+abbrev pub fence_before : List ℕ → List ℕ → Read ℕ
+fence_before [] text = Some (255, text)
+fence_before (c ∷ name) text = orders_at text
+
+unfoldable pub fence_at : List ℕ → Read ℕ
+fence_at text = fence_before (name_at text) text
 
 -- a number's bits at the places that an operand has in a word (RV32I, section 2.3 Immediate Encoding Variants)
 unfoldable pub placed : Part → ℕ → ℕ
@@ -56,13 +78,13 @@ part_at d part.Rd text = option_map (λ r. (r.0.number, r.1)) (register_at text)
 part_at d part.Rs1 text = option_map (λ r. (r.0.number, r.1)) (register_at text)
 part_at d part.Rs2 text = option_map (λ r. (r.0.number, r.1)) (register_at text)
 part_at d part.Base text = option_map (λ r. (r.0.number, r.1)) (base_at text)
-part_at d part.Immediate text = option_map (λ r. (r.0.bits, r.1)) (short_at d text)
-part_at d part.StoreOffset text = option_map (λ r. (r.0.bits, r.1)) (short_at d text)
-part_at d part.Amount text = option_map (λ r. (r.0.bits, r.1)) (amount_at text)
-part_at d part.Upper text = option_map (λ r. (r.0.bits, r.1)) (upper_at d text)
+part_at d part.Immediate text = short_at d text
+part_at d part.StoreOffset text = short_at d text
+part_at d part.Amount text = number_below 32 text
+part_at d part.Upper text = upper_at d text
 part_at d part.Order text = fence_at text
-part_at d part.Branch text = option_map (λ r. (r.0.bits, r.1)) (branch_at d text)
-part_at d part.Jump text = option_map (λ r. (r.0.bits, r.1)) (jump_at d text)
+part_at d part.Branch text = target_at 2048 d text
+part_at d part.Jump text = target_at 524288 d text
 
 -- a word and an operand's number in it
 abbrev pub joined : ℕ → Part → ℕ → ℕ

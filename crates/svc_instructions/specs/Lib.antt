@@ -1,4 +1,2 @@
-pub mod Fences
 pub mod Instructions
 pub mod Couples
-pub mod Statements

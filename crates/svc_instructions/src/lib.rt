@@ -2,13 +2,9 @@
 #![tactic(auto)]
 
 mod couple;
-mod fence;
-mod instruction;
 mod reading;
-mod rows;
 mod table;
 
-pub use fence::ORDERS;
-pub use instruction::read_instruction;
-pub use rows::{row_of, taken};
+pub use couple::read_instruction;
+pub use reading::{ORDERS, row_of, taken};
 pub use table::{ALIASES, COUPLES, Couple, Part, ROWS, Row};

@@ -1,19 +1,78 @@
-// A name and its operands, read by the table.
+// A name and its operands, read by the table, and a word's row of it.
 
-ghost use Rattle.std.specs.Prelude.{◌≡◌};
+ghost use Rattle.std.specs.Prelude.{◌≡◌, ◌<◌, IfSome, IfOk};
+ghost use Rattle.svc_operands.specs.Names.{number_named};
+ghost use Rattle.svc_operands.specs.Operands.{Gives};
+ghost use Rattle.svc_instructions.specs.Instructions.{order_at, orders_at, fence_at, placed, part_at, joined, parts_at, row_at, rows_at, either_at, alone_at, taken, with_funct3, with_funct7, fixed, is_of, row_of};
 ghost use Rattle.svc_draft.specs.Layouts.{layout_of};
-ghost use Rattle.svc_operands.specs.Reading.{Gives};
-ghost use Rattle.svc_instructions.specs.Instructions.{placed, part_at, joined, parts_at, row_at, rows_at, either_at, alone_at};
+ghost use Rattle.std.specs.List.{find};
 
-use crate::fence::read_fence;
 use crate::table::{ALIASES, Part, ROWS, Row};
 use svc_draft::{Draft, Statement};
 use svc_operands::{
-    Name, Unread, Wanted, is_over, read_amount, read_base, read_branch, read_jump, read_mark,
-    read_register, read_short, read_upper, stopped_at,
+    Name, Named, Read, Unread, Wanted, is_over, number_named, read_base, read_below, read_mark,
+    read_register, read_short, read_target, read_upper, split_name, stopped_at,
 };
 
-/// A number's bits at the places that an operand has in a word.
+/// Sets of accesses by their letters, as four bits: input, output, reads and writes.
+pub const ORDERS: [Named; 15] = [
+    Named(*b"w               ", 1),
+    Named(*b"r               ", 2),
+    Named(*b"rw              ", 3),
+    Named(*b"o               ", 4),
+    Named(*b"ow              ", 5),
+    Named(*b"or              ", 6),
+    Named(*b"orw             ", 7),
+    Named(*b"i               ", 8),
+    Named(*b"iw              ", 9),
+    Named(*b"ir              ", 10),
+    Named(*b"irw             ", 11),
+    Named(*b"io              ", 12),
+    Named(*b"iow             ", 13),
+    Named(*b"ior             ", 14),
+    Named(*b"iorw            ", 15),
+];
+
+fn order_named(name: &[u8]) -> Option<u32>
+    ensures value { result ≡ number_named ORDERS name.now }
+    ensures small { IfSome result (λ n. n < 16) }
+{
+    number_named(&ORDERS, name)
+}
+
+#[tactic(auto, unfolding(crate::specs::Instructions::order_at))]
+fn read_order(text: &[u8]) -> Read<'_, u32>
+    ensures gives { Gives (λ x. (x.0, x.1.now)) result (order_at text.now) }
+    ensures small { IfOk result (λ x. x.0 < 16) }
+{
+    let (name, rest) = split_name(text);
+    match order_named(name) {
+        Some(order) => Ok((order, rest)),
+        None => Err(stopped_at(text, Wanted::Order)),
+    }
+}
+
+#[tactic(auto, unfolding(crate::specs::Instructions::orders_at))]
+fn read_orders(text: &[u8]) -> Read<'_, u32>
+    ensures { Gives (λ x. (x.0, x.1.now)) result (orders_at text.now) }
+{
+    let (before, rest) = read_order(text)?;
+    let rest = read_mark(b',', Wanted::Comma, rest)?;
+    let (behind, rest) = read_order(rest)?;
+    Ok((16 * before + behind, rest))
+}
+
+#[tactic(auto, unfolding(crate::specs::Instructions::fence_at))]
+pub fn read_fence(text: &[u8]) -> Read<'_, u32>
+    ensures { Gives (λ x. (x.0, x.1.now)) result (fence_at text.now) }
+{
+    let (name, _) = split_name(text);
+    match name {
+        [] => Ok((0xff, text)),
+        _ => read_orders(text),
+    }
+}
+
 #[tactic(auto, unfolding(crate::specs::Instructions::placed))]
 pub fn placed(part: Part, n: u32) -> u32
     ensures { result ≡ placed part n }
@@ -38,7 +97,6 @@ pub fn placed(part: Part, n: u32) -> u32
     }
 }
 
-/// A word and an operand's number in it.
 pub fn joined(word: u32, part: Part, n: u32) -> u32
     ensures { result ≡ joined word part n }
 {
@@ -46,7 +104,7 @@ pub fn joined(word: u32, part: Part, n: u32) -> u32
 }
 
 #[tactic(auto, unfolding(crate::specs::Instructions::part_at))]
-fn read_part<'a>(draft: &Draft, part: Part, text: &'a [u8]) -> Result<(u32, &'a [u8]), Unread>
+fn read_part<'a>(draft: &Draft, part: Part, text: &'a [u8]) -> Read<'a, u32>
     ensures { Gives (λ x. (x.0, x.1.now)) result (part_at (layout_of draft.now) part text.now) }
 {
     match part {
@@ -63,31 +121,16 @@ fn read_part<'a>(draft: &Draft, part: Part, text: &'a [u8]) -> Result<(u32, &'a 
             let (register, rest) = read_base(text)?;
             Ok((register.number as u32, rest))
         }
-        Part::Immediate | Part::StoreOffset => {
-            let (short, rest) = read_short(draft, text)?;
-            Ok((short.bits as u32, rest))
-        }
-        Part::Amount => {
-            let (amount, rest) = read_amount(text)?;
-            Ok((amount.bits as u32, rest))
-        }
-        Part::Upper => {
-            let (upper, rest) = read_upper(draft, text)?;
-            Ok((upper.bits, rest))
-        }
+        Part::Immediate | Part::StoreOffset => read_short(draft, text),
+        Part::Amount => read_below(32, Wanted::Amount, text),
+        Part::Upper => read_upper(draft, text),
         Part::Order => read_fence(text),
-        Part::Branch => {
-            let (offset, rest) = read_branch(draft, text)?;
-            Ok((offset.bits as u32, rest))
-        }
-        Part::Jump => {
-            let (offset, rest) = read_jump(draft, text)?;
-            Ok((offset.bits, rest))
-        }
+        Part::Branch => read_target(draft, 2048, Wanted::BranchOffset, text),
+        Part::Jump => read_target(draft, 524_288, Wanted::JumpOffset, text),
     }
 }
 
-fn read_parts<'a>(draft: &Draft, row: &Row, text: &'a [u8]) -> Result<(u32, &'a [u8]), Unread>
+fn read_parts<'a>(draft: &Draft, row: &Row, text: &'a [u8]) -> Read<'a, u32>
     ensures { Gives (λ x. (x.0, x.1.now)) result (parts_at (layout_of draft.now) row.now.2 text.now row.now.1) }
 {
     let mut word = row.1;
@@ -100,9 +143,8 @@ fn read_parts<'a>(draft: &Draft, row: &Row, text: &'a [u8]) -> Result<(u32, &'a 
     Ok((word, rest))
 }
 
-// A row's operands, behind which the line ends.
 #[tactic(auto, unfolding(crate::specs::Instructions::row_at))]
-fn read_row<'a>(draft: &Draft, row: &Row, text: &'a [u8]) -> Result<(u32, &'a [u8]), Unread>
+fn read_row<'a>(draft: &Draft, row: &Row, text: &'a [u8]) -> Read<'a, u32>
     ensures { Gives (λ x. (x.0, x.1.now)) result (row_at (layout_of draft.now) row.now text.now) }
 {
     let (word, rest) = read_parts(draft, row, text)?;
@@ -123,14 +165,13 @@ fn further(fault: Unread, later: Unread) -> Unread {
     }
 }
 
-// The first row of this name that is read. Else the fault that is furthest on, or this one.
 fn read_rows<'a>(
     draft: &Draft,
     rows: &[Row],
     name: Name,
     text: &'a [u8],
     fault: Unread,
-) -> Result<(u32, &'a [u8]), Unread>
+) -> Read<'a, u32>
     ensures { Gives (λ x. (x.0, x.1.now)) result (rows_at (layout_of draft.now) rows.now name text.now) }
 {
     let mut fault = fault;
@@ -152,7 +193,7 @@ fn read_either<'a>(
     name: Name,
     text: &'a [u8],
     fault: Unread,
-) -> Result<(u32, &'a [u8]), Unread>
+) -> Read<'a, u32>
     ensures { Gives (λ x. (x.0, x.1.now)) result (either_at (layout_of draft.now) rows.now more.now name text.now) }
 {
     match read_rows(draft, rows, name, text, fault) {
@@ -170,9 +211,82 @@ pub fn read_alone<'a>(
     name: Name,
     text: &'a [u8],
     unknown: Unread,
-) -> Result<(Statement, &'a [u8]), Unread>
+) -> Read<'a, Statement>
     ensures { Gives (λ x. (x.0, x.1.now)) result (alone_at (layout_of draft.now) name text.now) }
 {
     let (word, rest) = read_either(draft, &ROWS, &ALIASES, name, text, unknown)?;
     Ok((Statement::Instruction(word), rest))
+}
+
+/// The number whose bits stand where an operand has its own in a word.
+#[tactic(auto, unfolding(crate::specs::Instructions::taken))]
+pub fn taken(part: Part, w: u32) -> u32
+    ensures { result ≡ taken part w }
+{
+    match part {
+        Part::End | Part::Comma => 0,
+        Part::Rd => (w >> 7) % 32,
+        Part::Rs1 | Part::Base => (w >> 15) % 32,
+        Part::Rs2 | Part::Amount => (w >> 20) % 32,
+        Part::Immediate | Part::Order => (w >> 20) % 4096,
+        Part::StoreOffset => (w >> 7) % 32 + ((w >> 25) % 128 << 5),
+        Part::Branch => {
+            (w >> 8) % 16 + ((w >> 25) % 64 << 4) + ((w >> 7) % 2 << 10) + ((w >> 31) % 2 << 11)
+        }
+        Part::Upper => (w >> 12) % 1048576,
+        Part::Jump => {
+            (w >> 21) % 1024
+                + ((w >> 20) % 2 << 10)
+                + ((w >> 12) % 256 << 11)
+                + ((w >> 31) % 2 << 19)
+        }
+    }
+}
+
+fn with_funct3(w: u32) -> u32
+    ensures { result ≡ with_funct3 w }
+{
+    w % 128 + ((w >> 12) % 8 << 12)
+}
+
+fn with_funct7(w: u32) -> u32
+    ensures { result ≡ with_funct7 w }
+{
+    with_funct3(w) + (w >> 25 << 25)
+}
+
+#[tactic(auto, unfolding(crate::specs::Instructions::fixed_by))]
+fn fixed(w: u32) -> u32
+    ensures { result ≡ fixed w }
+{
+    let opcode = w % 128;
+    if opcode == 0x37 || opcode == 0x17 || opcode == 0x6f {
+        return opcode;
+    }
+    if opcode == 0x33 || (opcode == 0x13 && (w >> 12) % 4 == 1) {
+        return with_funct7(w);
+    }
+    if opcode == 0x73 {
+        return w;
+    }
+    with_funct3(w)
+}
+
+fn find_row(rows: &[Row], bits: u32) -> Option<Row>
+    ensures { result ≡ find (is_of bits) rows.now }
+{
+    for row in rows {
+        if bits == row.1 {
+            return Some(*row);
+        }
+    }
+    None
+}
+
+/// The row of the table that a word is of.
+#[tactic(auto, unfolding(crate::specs::Instructions::row_of))]
+pub fn row_of(word: u32) -> Option<Row>
+    ensures { result ≡ row_of word }
+{
+    find_row(&ROWS, fixed(word))
 }

@@ -8,9 +8,7 @@ use Rattle.svc_draft.specs.declared.statement.Next.TheVariants as go
 use Rattle.svc_draft.specs.declared.statement.Statement.{Statement}
 use Rattle.svc_draft.specs.declared.statement.Statement.TheVariants as say
 use Rattle.svc_draft.specs.Options.{◌>>=◌}
-use Rattle.svc_draft.specs.Versions.{has_other}
-use Rattle.svc_draft.specs.Limits.{is_limit}
-use Rattle.svc_draft.specs.Layouts.{Layout, with_value, going_on, with_version, data_up_to, read_only_up_to, with_read_only, with_own, takes_entry, with_place, with_entry, with_limit, with_register, after}
+use Rattle.svc_draft.specs.Layouts.{has_other, is_limit, Layout, with_value, going_on, with_version, data_up_to, read_only_up_to, with_read_only, with_own, takes_entry, with_place, with_entry, with_limit, with_register, after}
 use Rattle.svc_list.specs.Listings.{HasText}
 
 -- where there is a layout, this is read next

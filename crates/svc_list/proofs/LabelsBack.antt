@@ -5,8 +5,8 @@ use Rattle.std.specs.Map.{update}
 use Rattle.std.proofs.lemmas.Bool.{and_parts, and_from, le-leb, lt-leb, cases_lt, eq-eqb, agree_below_at, false_from_ne_true}
 use Rattle.std.proofs.lemmas.List.Sums.{take_while-cons}
 use Rattle.std.proofs.lemmas.Slice.Eq.{bytes_eq-Decides}
-use Rattle.svc_draft.specs.declared.section.Section.TheVariants as section
-use Rattle.svc_draft.specs.declared.section.Spot.{Spot}
+use Rattle.svc_draft.specs.declared.statement.Section.TheVariants as section
+use Rattle.svc_draft.specs.declared.statement.Spot.{Spot}
 use Rattle.svc_draft.specs.declared.statement.Statement.TheVariants as say
 use Rattle.svc_draft.specs.Layouts.{Layout, place, spot_here, is_place, with_symbol}
 use Rattle.svc_operands.specs.Characters.{is_name, past_blanks, past, name_at, past_name, behind}

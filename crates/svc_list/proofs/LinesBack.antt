@@ -6,7 +6,7 @@ use Rattle.svc_rv32i.specs.declared.instr.Register.{Register}
 use Rattle.svc_image.specs.declared.version.Version.{Version}
 use Rattle.svc_image.specs.declared.version.Version.TheVariants as version
 use Rattle.svc_image.specs.Version.{version_number}
-use Rattle.svc_draft.specs.declared.section.Section.TheVariants as section
+use Rattle.svc_draft.specs.declared.statement.Section.TheVariants as section
 use Rattle.svc_draft.specs.declared.statement.Width.TheVariants as wide
 use Rattle.svc_draft.specs.declared.statement.Next.{Next}
 use Rattle.svc_draft.specs.declared.statement.Next.TheVariants as go
@@ -14,10 +14,11 @@ use Rattle.svc_draft.specs.declared.statement.Statement.{Statement}
 use Rattle.svc_draft.specs.declared.statement.Statement.TheVariants as say
 use Rattle.svc_operands.specs.Characters.{is_name, past, past_name, behind}
 use Rattle.svc_draft.specs.Layouts.{Layout}
-use Rattle.svc_instructions.specs.Statements.{instruction_at}
+use Rattle.svc_instructions.specs.Couples.{instruction_at}
 use Rattle.svc_operands.specs.Names.{padded}
-use Rattle.svc_asm.specs.Directives.{said_by}
-use Rattle.svc_asm.specs.Statements.{said_at, word_at, start_at, limit_at, version_at, limited_entry_at, entry_before, entry_at, setting_at, directive_at, statement_at, ended_at, line_at}
+use Rattle.svc_asm.specs.Statements.{said_by, numbered_at, said_at, entry_before, directive_at, statement_at, ended_at, line_at}
+use Rattle.svc_asm.specs.declared.directives.Number.TheVariants as number
+use Rattle.svc_asm.specs.declared.directives.Says.TheVariants as says
 use Rattle.svc_asm.specs.DataLines.{first_at, part_at, next_at}
 use Rattle.svc_list.specs.Listings.{first_text, statement_text, HasText, Line, Says, Labels, Codes, Starts, line_of}
 use Rattle.svc_list.proofs.NamesBack.{all_dense, stops, Ends, at_name, at_rest, no_colon}
@@ -48,46 +49,46 @@ pub by_directive : (d : Layout) (w rest : List ℕ) → all_dense (46 ∷ w) ≡
 unfolding statement_at
 by_directive d w rest h s = rw (at_name 46 w rest h s, at_rest 46 w rest h s) refl
 
-word_back : (d : Layout) (n : ℕ) (rest tail : List ℕ) → n < 2 ^ 32 → Ends rest tail → word_at d (32 ∷ (decimal n ++ rest)) ≡ Some (say.Value wide.Word n go.Line, rest)
-unfolding word_at
+word_back : (d : Layout) (n : ℕ) (rest tail : List ℕ) → n < 2 ^ 32 → Ends rest tail → said_at d says.Word (32 ∷ (decimal n ++ rest)) ≡ Some (say.Value wide.Word n go.Line, rest)
+unfolding said_at
 word_back d n rest tail h e = rw (spaced_value_back d n rest tail h e) refl
 
-start_back : (d : Layout) (n : ℕ) (rest tail : List ℕ) → n < 2 ^ 32 → Ends rest tail → start_at d (32 ∷ (decimal n ++ rest)) ≡ Some (say.Start n, rest)
-unfolding start_at
+start_back : (d : Layout) (n : ℕ) (rest tail : List ℕ) → n < 2 ^ 32 → Ends rest tail → said_at d says.Start (32 ∷ (decimal n ++ rest)) ≡ Some (say.Start n, rest)
+unfolding said_at
 start_back d n rest tail h e = rw (spaced_value_back d n rest tail h e) refl
 
-limit_back : (n : ℕ) (rest : List ℕ) → n < 2 ^ 32 → stops rest ≡ true → limit_at (32 ∷ (decimal n ++ rest)) ≡ Some (say.Limit n, rest)
-unfolding limit_at
+limit_back : (n : ℕ) (rest : List ℕ) → n < 2 ^ 32 → stops rest ≡ true → numbered_at number.Limit (32 ∷ (decimal n ++ rest)) ≡ Some (say.Limit n, rest)
+unfolding numbered_at
 limit_back n rest h s = rw (spaced_number_back n rest h s) refl
 
-version_back : (v : Version) (rest : List ℕ) → stops rest ≡ true → version_at (32 ∷ (decimal (version_number v) ++ rest)) ≡ Some (say.Version v, rest)
-unfolding version_at
+version_back : (v : Version) (rest : List ℕ) → stops rest ≡ true → numbered_at number.Version (32 ∷ (decimal (version_number v) ++ rest)) ≡ Some (say.Version v, rest)
+unfolding numbered_at
 version_back version.One rest s = rw (spaced_number_back 1 rest (omega arith) s) refl
 version_back version.Two rest s = rw (spaced_number_back 2 rest (omega arith) s) refl
 
-limited_entry_back : (n : ℕ) (rest : List ℕ) → n < 2 ^ 32 → stops rest ≡ true → limited_entry_at (32 ∷ (decimal n ++ rest)) ≡ Some (say.Entry (Some n), rest)
-unfolding limited_entry_at
-limited_entry_back n rest h s = rw (spaced_number_back n rest h s) refl
+own_back : (n : ℕ) (rest : List ℕ) → n < 2 ^ 32 → stops rest ≡ true → numbered_at number.Own (32 ∷ (decimal n ++ rest)) ≡ Some (say.Entry (Some n), rest)
+unfolding numbered_at
+own_back n rest h s = rw (spaced_number_back n rest h s) refl
 
-entry_limited : (name text : List ℕ) → 0 < length name → entry_before name text ≡ limited_entry_at text
+entry_limited : (name text : List ℕ) → 0 < length name → entry_before name text ≡ numbered_at number.Own text
 entry_limited [] text some = absurd (omega (arith, some))
 entry_limited (c ∷ name) text some = refl
 
-entry_back : (n : ℕ) (rest : List ℕ) → n < 2 ^ 32 → stops rest ≡ true → entry_at (32 ∷ (decimal n ++ rest)) ≡ Some (say.Entry (Some n), rest)
-unfolding entry_at
-entry_back n rest h s =
+entry_back : (d : Layout) (n : ℕ) (rest : List ℕ) → n < 2 ^ 32 → stops rest ≡ true → said_at d says.Entry (32 ∷ (decimal n ++ rest)) ≡ Some (say.Entry (Some n), rest)
+unfolding said_at
+entry_back d n rest h s =
     ap (λ (name : List ℕ). entry_before name (32 ∷ (decimal n ++ rest))) (spaced_name n rest h s)
     ∙ entry_limited (decimal n) (32 ∷ (decimal n ++ rest)) (decimal_some n h)
-    ∙ limited_entry_back n rest h s
+    ∙ own_back n rest h s
 
-bare_entry_back : (rest tail : List ℕ) → Ends rest tail → entry_at rest ≡ Some (say.Entry None, rest)
-unfolding entry_at
-bare_entry_back rest tail e = ap (λ (name : List ℕ). entry_before name rest) e.no_name
+bare_entry_back : (d : Layout) (rest tail : List ℕ) → Ends rest tail → said_at d says.Entry rest ≡ Some (say.Entry None, rest)
+unfolding said_at
+bare_entry_back d rest tail e = ap (λ (name : List ℕ). entry_before name rest) e.no_name
 
-setting_back : (d : Layout) (r : Register) (n : ℕ) (rest tail : List ℕ) → n < 2 ^ 32 → Ends rest tail → setting_at d ((first_text r ++ (32 ∷ decimal n)) ++ rest) ≡ Some (say.Register r n, rest)
-unfolding setting_at
+setting_back : (d : Layout) (r : Register) (n : ℕ) (rest tail : List ℕ) → n < 2 ^ 32 → Ends rest tail → said_at d says.Register ((first_text r ++ (32 ∷ decimal n)) ++ rest) ≡ Some (say.Register r n, rest)
+unfolding said_at
 setting_back d r n rest tail h e =
-    ap (setting_at d) (append_assoc (first_text r) (32 ∷ decimal n) rest)
+    ap (said_at d says.Register) (append_assoc (first_text r) (32 ∷ decimal n) rest)
     ∙ rw (first_back r (32 ∷ (decimal n ++ rest)), spaced_value_back d n rest tail h e) refl
 
 pub statement_back : (d : Layout) (s : Statement) (rest tail : List ℕ) → HasText s → Ends rest tail → statement_at d (statement_text s ++ rest) ≡ Some (s, rest)
@@ -97,8 +98,8 @@ statement_back d (say.Value w n next) rest tail h e =
     ∙ (λ i. Some (say.Value (sym h.0 i) n (sym h.1 i), rest))
 statement_back d (say.Version v) rest tail h e = by_directive d (codes "svc_version") (32 ∷ (decimal (version_number v) ++ rest)) refl refl ∙ version_back v rest e.stop
 statement_back d say.ReadOnly rest tail h e = by_directive d (codes "svc_readonly") rest refl e.stop
-statement_back d (say.Entry None) rest tail h e = by_directive d (codes "svc_entry") rest refl e.stop ∙ bare_entry_back rest tail e
-statement_back d (say.Entry (Some n)) rest tail h e = by_directive d (codes "svc_entry") (32 ∷ (decimal n ++ rest)) refl refl ∙ entry_back n rest h e.stop
+statement_back d (say.Entry None) rest tail h e = by_directive d (codes "svc_entry") rest refl e.stop ∙ bare_entry_back d rest tail e
+statement_back d (say.Entry (Some n)) rest tail h e = by_directive d (codes "svc_entry") (32 ∷ (decimal n ++ rest)) refl refl ∙ entry_back d n rest h e.stop
 statement_back d (say.Start n) rest tail h e = by_directive d (codes "svc_start") (32 ∷ (decimal n ++ rest)) refl refl ∙ start_back d n rest tail h e
 statement_back d (say.Limit n) rest tail h e = by_directive d (codes "svc_limit") (32 ∷ (decimal n ++ rest)) refl refl ∙ limit_back n rest h e.stop
 statement_back d (say.Register r n) rest tail h e = by_directive d (codes "svc_register") ((first_text r ++ (32 ∷ decimal n)) ++ rest) refl refl ∙ setting_back d r n rest tail h e

@@ -3,19 +3,15 @@ use Rattle.std.proofs.Common.{◌≡◌, ℕ, suc, ◌-◌, ◌*◌, ◌/◌, �
 use Rattle.std.proofs.lemmas.Bool.{le-leb, lt-leb, cases_lt, cases_eq, ne_eqb}
 use Rattle.std.proofs.lemmas.List.{append_assoc}
 use Rattle.svc_rv32i.specs.declared.instr.Register.{Register}
-use Rattle.svc_rv32i.specs.declared.instr.Short.{Short}
-use Rattle.svc_rv32i.specs.declared.instr.Long.{Long}
-use Rattle.svc_rv32i.specs.declared.instr.ShiftAmount.{ShiftAmount}
-use Rattle.svc_rv32i.specs.Meaning.{register, short, long}
+use Rattle.svc_rv32i.specs.Meaning.{register}
 use Rattle.svc_operands.specs.declared.operands.Signed.{Signed}
 use Rattle.svc_operands.specs.Characters.{is_name, past_blanks, past, name_at, past_name, behind, mark_at, value_on, value_of, number_of}
 use Rattle.svc_draft.specs.Layouts.{Layout}
 use Rattle.svc_operands.specs.Names.{numbered, register_named}
-use Rattle.svc_operands.specs.Operands.{register_at, first_register_at, number_at, behind_sign, signed_from, signed_at, wrapped, short_of, halved, branch_of, jump_of, upper_of, amount, amount_of, number_short_at, number_upper_at, amount_at}
-use Rattle.svc_operands.specs.Targets.{offset_at, branch_at, jump_at}
-use Rattle.svc_operands.specs.Values.{plain_term_at, term_from, term_at, value_at, short_at, upper_at}
+use Rattle.svc_operands.specs.Operands.{register_at, first_register_at, number_at, behind_sign, signed_from, signed_at, wrapped, halved, steps_of, number_short_at, number_below}
+use Rattle.svc_operands.specs.Values.{offset_at, target_at, plain_term_at, term_from, term_at, value_at, short_at, upper_at}
 use Rattle.svc_list.specs.Listings.{register_text, first_text, short_text, offset_text, upper_text}
-use Rattle.svc_rv32i.proofs.Same.{same_register, same_short, same_long, same_amount}
+use Rattle.svc_rv32i.proofs.Same.{same_register}
 use Rattle.svc_list.proofs.NamesBack.{all_dense, stops, Ends, at_name, at_rest, no_slash, no_space, is_digit, digit_no_minus, all_digits, first_digit, digits_dense, numerals}
 
 number_of_decimal : (n : ℕ) → n < 2 ^ 32 → number_of (decimal n) ≡ Some n
@@ -141,18 +137,6 @@ wrapped_high half n h k =
     let back : 2 * half - (2 * half - n) ≡ n = omega (arith, h, k) in
     rw (most, back) refl
 
-pub short_is : (imm : Short) → short imm.bits ≡ imm
-unfolding short
-short_is imm = same_short (short imm.bits) imm (omega (arith, imm.in_range))
-
-pub long_is : (imm : Long) → long imm.bits ≡ imm
-unfolding long
-long_is imm = same_long (long imm.bits) imm (omega (arith, imm.in_range))
-
-amount_is : (a : ShiftAmount) → amount a.bits ≡ a
-unfolding amount
-amount_is a = same_amount (amount a.bits) a (omega (arith, a.in_range))
-
 -- digits are no percent sign
 digit_no_percent : (c : ℕ) → is_digit c ≡ true → (c == 37) ≡ false
 unfolding is_name
@@ -167,42 +151,42 @@ no_mark (c ∷ ds) rest h k =
     ap (behind 37) here ∙ rw percent refl
 
 -- a short immediate
-short_low : (imm : Short) (rest : List ℕ) → stops rest ≡ true → imm.bits < 2048 → number_short_at (short_text imm ++ rest) ≡ Some (imm, rest)
-unfolding number_short_at short_of
-short_low imm rest s h =
-    let low : nat_lt imm.bits 2048 ≡ true = le-leb (suc imm.bits) 2048 (omega (arith, h)) in
-    let facts = numerals imm.bits (omega (arith, h)) (omega (arith, h)) in
-    let read : signed_at (32 ∷ (decimal imm.bits ++ rest)) ≡ Some (sign false imm.bits, rest) =
-    signed_digits (decimal imm.bits) rest facts.digits facts.some ∙ behind_sign_back false imm.bits rest (omega (arith, h)) s in
-    rw (low, read, wrapped_low 2048 imm.bits h) (ap (λ x. Some (x, rest)) (short_is imm))
+short_low : (n : ℕ) (rest : List ℕ) → stops rest ≡ true → n < 2048 → number_short_at (short_text n ++ rest) ≡ Some (n, rest)
+unfolding number_short_at
+short_low n rest s h =
+    let low : nat_lt n 2048 ≡ true = le-leb (suc n) 2048 (omega (arith, h)) in
+    let facts = numerals n (omega (arith, h)) (omega (arith, h)) in
+    let read : signed_at (32 ∷ (decimal n ++ rest)) ≡ Some (sign false n, rest) =
+    signed_digits (decimal n) rest facts.digits facts.some ∙ behind_sign_back false n rest (omega (arith, h)) s in
+    rw (low, read, wrapped_low 2048 n h) refl
 
-short_high : (imm : Short) (rest : List ℕ) → stops rest ≡ true → 2048 ≤ imm.bits → number_short_at (short_text imm ++ rest) ≡ Some (imm, rest)
-unfolding number_short_at short_of signed_at past past_blanks
-short_high imm rest s h =
-    let high : nat_lt imm.bits 2048 ≡ false = lt-leb (suc imm.bits) 2048 (omega (arith, h)) in
-    let read : behind_sign true (decimal (2 * 2048 - imm.bits) ++ rest) ≡ Some (sign true (2 * 2048 - imm.bits), rest) =
-    behind_sign_back true (2 * 2048 - imm.bits) rest (omega arith) s in
-    rw (high, no_slash 45 (decimal (2 * 2048 - imm.bits) ++ rest) refl, read, wrapped_high 2048 imm.bits h (omega (arith, imm.in_range))) (ap (λ x. Some (x, rest)) (short_is imm))
+short_high : (n : ℕ) (rest : List ℕ) → stops rest ≡ true → 2048 ≤ n → n < 4096 → number_short_at (short_text n ++ rest) ≡ Some (n, rest)
+unfolding number_short_at signed_at past past_blanks
+short_high n rest s h k =
+    let high : nat_lt n 2048 ≡ false = lt-leb (suc n) 2048 (omega (arith, h)) in
+    let read : behind_sign true (decimal (2 * 2048 - n) ++ rest) ≡ Some (sign true (2 * 2048 - n), rest) =
+    behind_sign_back true (2 * 2048 - n) rest (omega arith) s in
+    rw (high, no_slash 45 (decimal (2 * 2048 - n) ++ rest) refl, read, wrapped_high 2048 n h k) refl
 
-number_short_back : (imm : Short) (rest : List ℕ) → stops rest ≡ true → number_short_at (short_text imm ++ rest) ≡ Some (imm, rest)
-number_short_back imm rest s = elim (cases_lt imm.bits 2048) [ inl h ↦ short_low imm rest s h | inr h ↦ short_high imm rest s h ]
+number_short_back : (n : ℕ) (rest : List ℕ) → stops rest ≡ true → n < 4096 → number_short_at (short_text n ++ rest) ≡ Some (n, rest)
+number_short_back n rest s k = elim (cases_lt n 2048) [ inl h ↦ short_low n rest s h | inr h ↦ short_high n rest s h k ]
 
-short_no_mark : (imm : Short) (rest : List ℕ) → mark_at 37 (short_text imm ++ rest) ≡ None
+short_no_mark : (n : ℕ) (rest : List ℕ) → mark_at 37 (short_text n ++ rest) ≡ None
 unfolding past past_blanks
-short_no_mark imm rest =
-    elim (cases_lt imm.bits 2048) [
+short_no_mark n rest =
+    elim (cases_lt n 2048) [
       | inl h ↦
-          let low : nat_lt imm.bits 2048 ≡ true = le-leb (suc imm.bits) 2048 (omega (arith, h)) in
-          let facts = numerals imm.bits (omega (arith, h)) (omega (arith, h)) in
-          rw low (no_mark (decimal imm.bits) rest facts.digits facts.some)
+          let low : nat_lt n 2048 ≡ true = le-leb (suc n) 2048 (omega (arith, h)) in
+          let facts = numerals n (omega (arith, h)) (omega (arith, h)) in
+          rw low (no_mark (decimal n) rest facts.digits facts.some)
       | inr h ↦
-          let high : nat_lt imm.bits 2048 ≡ false = lt-leb (suc imm.bits) 2048 (omega (arith, h)) in
-          rw (high, no_slash 45 (decimal (2 * 2048 - imm.bits) ++ rest) refl) refl
+          let high : nat_lt n 2048 ≡ false = lt-leb (suc n) 2048 (omega (arith, h)) in
+          rw (high, no_slash 45 (decimal (2 * 2048 - n) ++ rest) refl) refl
     ]
 
-pub short_back : (d : Layout) (imm : Short) (rest : List ℕ) → stops rest ≡ true → short_at d (short_text imm ++ rest) ≡ Some (imm, rest)
+pub short_back : (d : Layout) (n : ℕ) (rest : List ℕ) → stops rest ≡ true → n < 4096 → short_at d (short_text n ++ rest) ≡ Some (n, rest)
 unfolding short_at
-short_back d imm rest s = rw (short_no_mark imm rest) (number_short_back imm rest s)
+short_back d n rest s k = rw (short_no_mark n rest) (number_short_back n rest s k)
 
 -- an offset is read as its sign and twice its steps
 offset_low : (d : Layout) (half n : ℕ) (rest : List ℕ) → stops rest ≡ true → half ≤ 524288 → n < half → offset_at d (offset_text half n ++ rest) ≡ Some (sign false (2 * n), rest)
@@ -223,47 +207,29 @@ halved_double negative n =
     let half : 2 * n / 2 ≡ n = omega arith in
     rw (even, half) refl
 
-branch_low : (d : Layout) (imm : Short) (rest : List ℕ) → stops rest ≡ true → imm.bits < 2048 → branch_at d (offset_text 2048 imm.bits ++ rest) ≡ Some (imm, rest)
-unfolding branch_at branch_of short_of
-branch_low d imm rest s h =
-    rw (offset_low d 2048 imm.bits rest s (omega arith) h, halved_double false imm.bits, wrapped_low 2048 imm.bits h) (ap (λ x. Some (x, rest)) (short_is imm))
+-- a target, which is read by its steps
+pub target_back : (d : Layout) (half n : ℕ) (rest : List ℕ) → stops rest ≡ true → half ≤ 524288 → n < 2 * half → target_at half d (offset_text half n ++ rest) ≡ Some (n, rest)
+unfolding target_at steps_of
+target_back d half n rest s small k =
+    elim (cases_lt n half) [
+      | inl h ↦ rw (offset_low d half n rest s small h, halved_double false n, wrapped_low half n h) refl
+      | inr h ↦ rw (offset_high d half n rest s small h k, halved_double true (2 * half - n), wrapped_high half n h k) refl
+    ]
 
-branch_high : (d : Layout) (imm : Short) (rest : List ℕ) → stops rest ≡ true → 2048 ≤ imm.bits → branch_at d (offset_text 2048 imm.bits ++ rest) ≡ Some (imm, rest)
-unfolding branch_at branch_of short_of
-branch_high d imm rest s h =
-    let k : imm.bits < 2 * 2048 = omega (arith, imm.in_range) in
-    rw (offset_high d 2048 imm.bits rest s (omega arith) h k, halved_double true (2 * 2048 - imm.bits), wrapped_high 2048 imm.bits h k) (ap (λ x. Some (x, rest)) (short_is imm))
+pub upper_no_mark : (n : ℕ) (rest : List ℕ) → n < 2 ^ 20 → mark_at 37 (upper_text n ++ rest) ≡ None
+upper_no_mark n rest h =
+    let facts = numerals n (omega (arith, h)) (omega (arith, h)) in
+    no_mark (decimal n) rest facts.digits facts.some
 
-pub branch_back : (d : Layout) (imm : Short) (rest : List ℕ) → stops rest ≡ true → branch_at d (offset_text 2048 imm.bits ++ rest) ≡ Some (imm, rest)
-branch_back d imm rest s = elim (cases_lt imm.bits 2048) [ inl h ↦ branch_low d imm rest s h | inr h ↦ branch_high d imm rest s h ]
+below_back : (most n : ℕ) (rest : List ℕ) → n < most → n < 2 ^ 32 → stops rest ≡ true → number_below most (upper_text n ++ rest) ≡ Some (n, rest)
+unfolding number_below
+below_back most n rest h k s =
+    let fits : nat_lt n most ≡ true = le-leb (suc n) most h in
+    rw (spaced_number_back n rest k s, fits) refl
 
-jump_low : (d : Layout) (imm : Long) (rest : List ℕ) → stops rest ≡ true → imm.bits < 524288 → jump_at d (offset_text 524288 imm.bits ++ rest) ≡ Some (imm, rest)
-unfolding jump_at jump_of
-jump_low d imm rest s h =
-    rw (offset_low d 524288 imm.bits rest s (omega arith) h, halved_double false imm.bits, wrapped_low 524288 imm.bits h) (ap (λ x. Some (x, rest)) (long_is imm))
+pub upper_back : (d : Layout) (n : ℕ) (rest : List ℕ) → n < 2 ^ 20 → stops rest ≡ true → upper_at d (upper_text n ++ rest) ≡ Some (n, rest)
+unfolding upper_at
+upper_back d n rest h s = rw (upper_no_mark n rest h) (below_back (2 ^ 20) n rest h (omega (arith, h)) s)
 
-jump_high : (d : Layout) (imm : Long) (rest : List ℕ) → stops rest ≡ true → 524288 ≤ imm.bits → jump_at d (offset_text 524288 imm.bits ++ rest) ≡ Some (imm, rest)
-unfolding jump_at jump_of
-jump_high d imm rest s h =
-    let k : imm.bits < 2 * 524288 = omega (arith, imm.in_range) in
-    rw (offset_high d 524288 imm.bits rest s (omega arith) h k, halved_double true (2 * 524288 - imm.bits), wrapped_high 524288 imm.bits h k) (ap (λ x. Some (x, rest)) (long_is imm))
-
-pub jump_back : (d : Layout) (imm : Long) (rest : List ℕ) → stops rest ≡ true → jump_at d (offset_text 524288 imm.bits ++ rest) ≡ Some (imm, rest)
-jump_back d imm rest s = elim (cases_lt imm.bits 524288) [ inl h ↦ jump_low d imm rest s h | inr h ↦ jump_high d imm rest s h ]
-
-pub upper_no_mark : (imm : Long) (rest : List ℕ) → mark_at 37 (upper_text imm ++ rest) ≡ None
-upper_no_mark imm rest =
-    let facts = numerals imm.bits (omega (arith, imm.in_range)) (omega (arith, imm.in_range)) in
-    no_mark (decimal imm.bits) rest facts.digits facts.some
-
-pub upper_back : (d : Layout) (imm : Long) (rest : List ℕ) → stops rest ≡ true → upper_at d (upper_text imm ++ rest) ≡ Some (imm, rest)
-unfolding upper_at number_upper_at upper_of
-upper_back d imm rest s =
-    let fits : nat_lt imm.bits (2 ^ 20) ≡ true = le-leb (suc imm.bits) (2 ^ 20) (omega (arith, imm.in_range)) in
-    rw (upper_no_mark imm rest, spaced_number_back imm.bits rest (omega (arith, imm.in_range)) s, fits) (ap (λ x. Some (x, rest)) (long_is imm))
-
-pub amount_back : (a : ShiftAmount) (rest : List ℕ) → stops rest ≡ true → amount_at (32 ∷ (decimal a.bits ++ rest)) ≡ Some (a, rest)
-unfolding amount_at amount_of
-amount_back a rest s =
-    let fits : nat_lt a.bits 32 ≡ true = le-leb (suc a.bits) 32 (omega (arith, a.in_range)) in
-    rw (spaced_number_back a.bits rest (omega (arith, a.in_range)) s, fits) (ap (λ x. Some (x, rest)) (amount_is a))
+pub amount_back : (n : ℕ) (rest : List ℕ) → n < 32 → stops rest ≡ true → number_below 32 (upper_text n ++ rest) ≡ Some (n, rest)
+amount_back n rest h s = below_back 32 n rest h (omega (arith, h)) s

@@ -6,9 +6,9 @@ use Rattle.svc_rv32i.specs.Meaning.{register}
 use Rattle.svc_image.specs.declared.version.Version.{Version}
 use Rattle.svc_image.specs.declared.version.Version.TheVariants as version
 use Rattle.svc_image.specs.Image.{Image}
-use Rattle.svc_draft.specs.declared.section.Section.TheVariants as section
+use Rattle.svc_draft.specs.declared.statement.Section.TheVariants as section
 use Rattle.svc_draft.specs.declared.statement.Statement.TheVariants as say
-use Rattle.svc_list.specs.Listings.{label_text, Labels, Line, bare, line_of, text_of, coded, Starts, labels, is_labelled, datum, setting, settings, own_limit, marks, code, data_lines, all_data, head_lines, lines_of, listing_of}
+use Rattle.svc_list.specs.Listings.{Labels, Line, bare, line_of, text_of, coded, Starts, labels, is_labelled, datum, setting, settings, own_limit, marks, code, data_lines, all_data, head_lines, lines_of, listing_of}
 
 -- what is put, and what is left to put, is the whole
 pub goes_on : (out new line part rest whole : List ℕ) → new ≡ out ++ line → part ≡ line ++ rest → out ++ part ≡ whole → new ++ rest ≡ whole
@@ -195,11 +195,10 @@ word_put count is v n pc word entries limits words before o o₁ same other put 
     ∙ ap (λ (xs : List ℕ). before ++ xs) (sym whole)
 
 -- the line of a label, and none
-pub label_put : (is : ℕ → Bool) (n address : ℕ) (o o₁ o₂ : List ℕ) → address ≡ 4 * n → is n ≡ true → o₁ ≡ o ++ label_text address → o₂ ≡ o₁ ++ (58 ∷ 10 ∷ []) → o₂ ≡ o ++ text_of (labels is n)
+pub label_put : (is : ℕ → Bool) (n address : ℕ) (o new : List ℕ) → address ≡ 4 * n → is n ≡ true → new ≡ o ++ line_of (Labels address) → new ≡ o ++ text_of (labels is n)
 unfolding text_of labels
-label_put is n address o o₁ o₂ at holds e₁ e₂ =
-    rw holds (e₂ ∙ ap (λ (xs : List ℕ). xs ++ (58 ∷ 10 ∷ [])) e₁ ∙ append_assoc o (label_text address) (58 ∷ 10 ∷ [])
-    ∙ ap (λ (a : ℕ). o ++ (label_text a ++ (58 ∷ 10 ∷ []))) at ∙ ap (λ (xs : List ℕ). o ++ xs) (sym (append-nil (line_of (Labels (4 * n))))))
+label_put is n address o new at holds e =
+    rw holds (e ∙ ap (λ (a : ℕ). o ++ line_of (Labels a)) at ∙ ap (λ (xs : List ℕ). o ++ xs) (sym (append-nil (line_of (Labels (4 * n))))))
 
 pub no_label_put : (is : ℕ → Bool) (n : ℕ) (o : List ℕ) → is n ≡ false → o ≡ o ++ text_of (labels is n)
 unfolding text_of labels

@@ -15,7 +15,7 @@ use Rattle.svc_image.specs.declared.version.Version.TheVariants as version
 use Rattle.svc_image.specs.Version.{read_only_by}
 use Rattle.svc_image.specs.Image.{Image, IsImage, IsLimit, AreWords, StartsWord, is_entry}
 use Rattle.svc_image.specs.Format.{bytes_of_words}
-use Rattle.svc_draft.specs.declared.section.Section.TheVariants as section
+use Rattle.svc_draft.specs.declared.statement.Section.TheVariants as section
 use Rattle.svc_draft.specs.declared.statement.Next.TheVariants as go
 use Rattle.svc_draft.specs.declared.statement.Statement.TheVariants as say
 use Rattle.svc_draft.specs.Areas.{filled, data_of, some_word}
@@ -24,8 +24,7 @@ use Rattle.svc_image.proofs.Wordwise.{length-bytes_of_words}
 use Rattle.svc_operands.specs.Characters.{is_name, past_name, behind}
 use Rattle.svc_operands.specs.Values.{value_at}
 use Rattle.svc_operands.specs.Names.{padded}
-use Rattle.svc_asm.specs.Directives.{said_by}
-use Rattle.svc_asm.specs.Statements.{said_at, start_at, directive_at, statement_at, line_at}
+use Rattle.svc_asm.specs.Statements.{said_by, said_at, directive_at, statement_at, line_at}
 use Rattle.svc_asm.specs.Programs.{IsProgramOf}
 use Rattle.svc_list.specs.Listings.{label_text, HasText, Line, Starts, bare, line_of, text_of, led_along, target_by, target_of, is_at, is_target, is_labelled, setting, settings, own_limit, marks, code, data_lines, all_data, head_lines, listing_of}
 use Rattle.svc_list.proofs.LinesBack.{IsRead, by_directive, directive_stops, unlabelled, next_back, ended_back}
@@ -145,7 +144,7 @@ start_value : (d : Layout) (a x : ℕ) (tail : List ℕ) → address_of d (label
 start_value d a x tail e = label_value d a x (10 ∷ tail) tail (bare_ends tail) e
 
 start_said : (d : Layout) (a x : ℕ) (tail : List ℕ) → address_of d (label_text a) ≡ Some x → statement_at d (codes ".svc_start " ++ (label_text a ++ (10 ∷ tail))) ≡ Some (say.Start x, 10 ∷ tail)
-unfolding is_name directive_at said_by padded said_at start_at
+unfolding is_name directive_at said_by padded said_at
 start_said d a x tail e = by_directive d (codes "svc_start") (32 ∷ (label_text a ++ (10 ∷ tail))) refl refl ∙ rw (start_value d a x tail e) refl
 
 start_stops : (a : ℕ) (tail : List ℕ) → behind 58 (past_name (codes ".svc_start " ++ (label_text a ++ (10 ∷ tail)))) ≡ None

@@ -1,31 +1,30 @@
 -- What is written of a word by its row is read back, by its numbers or by the label that it leads to.
-use Rattle.std.proofs.Common.{◌≡◌, ℕ, suc, ◌%◌, ◌^◌, ◌<◌, ◌⊎◌, Bool, true, false, List, [], ◌∷◌, ◌++◌, Option, Some, None, refl, ap, sym, ◌∙◌, arith, decimal, inl, inr, subst, if◌then◌else◌, codes}
+use Rattle.std.proofs.Common.{◌≡◌, ℕ, suc, ◌*◌, ◌%◌, ◌^◌, ◌<◌, ◌≤◌, ◌⊎◌, Bool, true, false, List, [], ◌∷◌, ◌++◌, Option, Some, None, refl, ap, sym, ◌∙◌, arith, inl, inr, subst, if◌then◌else◌, codes}
 use Rattle.std.specs.Prelude.{option_map}
 use Rattle.std.specs.List.{AllByRecursion, find}
 use Rattle.std.specs.Str.{bytes_eq}
 use Rattle.std.proofs.lemmas.Bool.{eqb-true, cases_lt, cases_Bool, le-leb, lt-leb}
 use Rattle.std.proofs.lemmas.List.{append_assoc, append-nil}
-use Rattle.svc_rv32i.specs.Meaning.{register, short, long}
+use Rattle.svc_rv32i.specs.Meaning.{register}
 use Rattle.svc_draft.specs.declared.statement.Statement.TheVariants as say
 use Rattle.svc_draft.specs.Options.{◌>>=◌}
 use Rattle.svc_draft.specs.Layouts.{Layout, here, address_of}
 use Rattle.svc_operands.specs.Characters.{is_name, past_blanks, name_at, past_name, behind, found}
 use Rattle.svc_operands.specs.Names.{padded}
-use Rattle.svc_operands.specs.Operands.{first_register_at, base_at, amount_at, amount}
-use Rattle.svc_operands.specs.Targets.{reach, branch_at, jump_at}
+use Rattle.svc_operands.specs.Operands.{first_register_at, base_at}
+use Rattle.svc_operands.specs.Values.{reach, target_at}
 use Rattle.svc_instructions.specs.declared.table.Part.{Part}
 use Rattle.svc_instructions.specs.declared.table.Part.TheVariants as part
 use Rattle.svc_instructions.specs.declared.table.Row.{Row}
 use Rattle.svc_instructions.specs.declared.table.TheConstants.{ROWS, ALIASES, COUPLES}
 use Rattle.svc_instructions.specs.Instructions.{taken, part_at, joined, parts_at, over, row_at, rows_at, alone_at, fixed, is_of, row_of}
-use Rattle.svc_instructions.specs.Couples.{has_name, couple_at, set_at, relative_upper_at}
-use Rattle.svc_instructions.specs.Statements.{relative_named, single_at, lettered_at, instruction_at}
+use Rattle.svc_instructions.specs.Couples.{has_name, couple_at, set_at, relative_upper_at, relative_named, single_at, lettered_at, instruction_at}
 use Rattle.svc_asm.specs.Statements.{statement_at}
-use Rattle.svc_list.specs.Listings.{register_text, last_text, offset_text, upper_text, label_text, reach_text, part_text, parts_text, row_text, led, led_along}
+use Rattle.svc_list.specs.Listings.{register_text, last_text, upper_text, label_text, reach_text, part_text, parts_text, row_text, led, led_by, led_along}
 use Rattle.svc_list.proofs.NamesBack.{stops, Ends, ends_over, no_slash}
-use Rattle.svc_list.proofs.OperandsBack.{register_back, spaced_register_back, short_back, branch_back, jump_back, upper_back, upper_no_mark, amount_back}
+use Rattle.svc_list.proofs.OperandsBack.{register_back, spaced_register_back, short_back, target_back, upper_back, upper_no_mark, amount_back}
 use Rattle.svc_list.proofs.LinesBack.{names, by_name, names_stop}
-use Rattle.svc_list.proofs.AimsBack.{label_offset, branch_by, jump_by, branch_aims, jump_aims, branch_known, jump_known, branch_unknown, jump_unknown}
+use Rattle.svc_list.proofs.AimsBack.{label_offset, target_by, aims, known_aims, unknown_aims}
 use Rattle.svc_list.proofs.FilledBack.{filled, upper_fills, jump_fills, register_fills, shift_fills, immediate_fills, load_fills, store_fills, branch_fills, system_fills, lui_fixed, auipc_fixed, load_fixed, jalr_fixed}
 use Rattle.svc_list.proofs.Parts.{limit, taken_fits, branch_fits, jump_fits}
 
@@ -89,18 +88,6 @@ register_reads : (n : ℕ) → n < 2 ^ 5 → (register (n % 2 ^ 5)).number ≡ n
 unfolding register
 register_reads n h = omega arith
 
-short_reads : (n : ℕ) → n < 2 ^ 12 → (short n).bits ≡ n
-unfolding short
-short_reads n h = omega arith
-
-long_reads : (n : ℕ) → n < 2 ^ 20 → (long n).bits ≡ n
-unfolding long
-long_reads n h = omega arith
-
-amount_reads : (n : ℕ) → n < 2 ^ 5 → (amount n).bits ≡ n
-unfolding amount
-amount_reads n h = omega arith
-
 -- nothing is written behind a target, and nothing leads further
 last_text_none : (to : Option ℕ) (ps : List Part) (w : ℕ) → is_last ps ≡ true → parts_text to ps w ≡ []
 unfolding part_text
@@ -117,38 +104,43 @@ last_led : (o : Option ℕ) (t : ℕ) → found o (λ target. Some target) None 
 last_led None t e = e
 last_led (Some x) t e = e
 
+-- where labels are known, so many steps lead to the label
+abbrev pub AimsAt : Bool → Layout → (t half n : ℕ) → Type 0
+AimsAt true d t half n = (d.known ≡ true) × (address_of d (label_text t) ≡ Some t) × (led half (here d) n ≡ Some t)
+AimsAt false d t half n = (d.known ≡ false) × (address_of d (label_text t) ≡ Some (here d))
+
+abbrev pub Aims : Bool → Layout → Option ℕ → (half n : ℕ) → Type 0
+Aims known d None half n = Unit {0}
+Aims known d (Some t) half n = AimsAt known d t half n
+
+its_aims : (known : Bool) (d : Layout) (to : Option ℕ) (p : Part) (more : List Part) (w half n : ℕ) → is_last more ≡ true → led_by (here d) w p ≡ led half (here d) n → Reaches known d to (p ∷ more) w → Aims known d to half n
+its_aims known d None p more w half n last e reaches = tt
+its_aims true d (Some t) p more w half n last e reaches =
+    (reaches.0, reaches.1, sym e ∙ last_led (led_by (here d) w p) t (ap (λ o. found (led_by (here d) w p) (λ target. Some target) o) (sym (last_leads_none (here d) w more last)) ∙ reaches.2))
+its_aims false d (Some t) p more w half n last e reaches = reaches
+
+-- a target, of which half of the numbers are forward, by its numbers or by its label
+target_reads : (known : Bool) (d : Layout) (to : Option ℕ) (half n : ℕ) (rest tail : List ℕ) → half ≤ 524288 → 0 < half → n < 2 * half → Ends rest tail → Aims known d to half n
+    → target_at half d (reach_text to half n ++ rest) ≡ Some (passed known to n, rest)
+target_reads known d None half n rest tail small some fits ends aim = target_back d half n rest ends.stop small fits
+target_reads true d (Some t) half n rest tail small some fits ends aim =
+    target_by d half (32 ∷ (label_text t ++ rest)) rest (reach d t) n (label_offset d t t rest tail ends aim.1) (known_aims d half t n aim.0 (aims half (here d) t n fits aim.2))
+target_reads false d (Some t) half n rest tail small some fits ends aim =
+    target_by d half (32 ∷ (label_text t ++ rest)) rest (reach d (here d)) 0 (label_offset d t (here d) rest tail ends aim.1) (unknown_aims d half (here d) some aim.0)
+
 branch_reads : (known : Bool) (d : Layout) (to : Option ℕ) (more : List Part) (w : ℕ) (rest tail : List ℕ) → is_last more ≡ true → Ends rest tail → Reaches known d to (part.Branch ∷ more) w
-    → branch_at d (reach_text to 2048 (taken part.Branch w % 2 ^ 12) ++ rest) ≡ Some (short (passed known to (taken part.Branch w)), rest)
-branch_reads known d None more w rest tail last ends reaches =
+    → target_at 2048 d (reach_text to 2048 (taken part.Branch w % 2 ^ 12) ++ rest) ≡ Some (passed known to (taken part.Branch w), rest)
+branch_reads known d to more w rest tail last ends reaches =
     let n = taken part.Branch w in
-    ap (λ k. branch_at d (offset_text 2048 k ++ rest)) (small12 n (branch_fits w) ∙ sym (short_reads n (branch_fits w))) ∙ branch_back d (short n) rest ends.stop
-branch_reads true d (Some t) more w rest tail last ends reaches =
-    let n = taken part.Branch w in
-    let leads : led 2048 (here d) n ≡ Some t =
-    last_led (led 2048 (here d) n) t (ap (λ o. found (led 2048 (here d) n) (λ target. Some target) o) (sym (last_leads_none (here d) w more last)) ∙ reaches.2) in
-    let its : led 2048 (here d) (short n).bits ≡ Some t = ap (led 2048 (here d)) (short_reads n (branch_fits w)) ∙ leads in
-    branch_by d (32 ∷ (label_text t ++ rest)) rest (reach d t) (short n) (label_offset d t t rest tail ends reaches.1) (branch_known d t (short n) reaches.0 (branch_aims (here d) t (short n) its))
-branch_reads false d (Some t) more w rest tail last ends reaches =
-    branch_by d (32 ∷ (label_text t ++ rest)) rest (reach d (here d)) (short 0) (label_offset d t (here d) rest tail ends reaches.1) (branch_unknown d (here d) reaches.0)
+    ap (λ k. target_at 2048 d (reach_text to 2048 k ++ rest)) (small12 n (branch_fits w))
+    ∙ target_reads known d to 2048 n rest tail (omega arith) (omega arith) (branch_fits w) ends (its_aims known d to part.Branch more w 2048 n last refl reaches)
 
 jump_reads : (known : Bool) (d : Layout) (to : Option ℕ) (more : List Part) (w : ℕ) (rest tail : List ℕ) → is_last more ≡ true → Ends rest tail → Reaches known d to (part.Jump ∷ more) w
-    → jump_at d (reach_text to 524288 (taken part.Jump w % 2 ^ 20) ++ rest) ≡ Some (long (passed known to (taken part.Jump w)), rest)
-jump_reads known d None more w rest tail last ends reaches =
+    → target_at 524288 d (reach_text to 524288 (taken part.Jump w % 2 ^ 20) ++ rest) ≡ Some (passed known to (taken part.Jump w), rest)
+jump_reads known d to more w rest tail last ends reaches =
     let n = taken part.Jump w in
-    ap (λ k. jump_at d (offset_text 524288 k ++ rest)) (small20 n (jump_fits w) ∙ sym (long_reads n (jump_fits w))) ∙ jump_back d (long n) rest ends.stop
-jump_reads true d (Some t) more w rest tail last ends reaches =
-    let n = taken part.Jump w in
-    let leads : led 524288 (here d) n ≡ Some t =
-    last_led (led 524288 (here d) n) t (ap (λ o. found (led 524288 (here d) n) (λ target. Some target) o) (sym (last_leads_none (here d) w more last)) ∙ reaches.2) in
-    let its : led 524288 (here d) (long n).bits ≡ Some t = ap (led 524288 (here d)) (long_reads n (jump_fits w)) ∙ leads in
-    jump_by d (32 ∷ (label_text t ++ rest)) rest (reach d t) (long n) (label_offset d t t rest tail ends reaches.1) (jump_known d t (long n) reaches.0 (jump_aims (here d) t (long n) its))
-jump_reads false d (Some t) more w rest tail last ends reaches =
-    jump_by d (32 ∷ (label_text t ++ rest)) rest (reach d (here d)) (long 0) (label_offset d t (here d) rest tail ends reaches.1) (jump_unknown d (here d) reaches.0)
-
-passed_fits : (known : Bool) (to : Option ℕ) (n most : ℕ) → n < most → passed known to n < most
-passed_fits known None n most h = h
-passed_fits true (Some t) n most h = h
-passed_fits false (Some t) n most h = omega (arith, h)
+    ap (λ k. target_at 524288 d (reach_text to 524288 k ++ rest)) (small20 n (jump_fits w))
+    ∙ target_reads known d to 524288 n rest tail (omega arith) (omega arith) (jump_fits w) ends (its_aims known d to part.Jump more w 524288 n last refl reaches)
 
 -- an operand that is no target is read back from its text
 part_back : (d : Layout) (to : Option ℕ) (p : Part) (n : ℕ) (rest : List ℕ) → is_shown (p ∷ part.Rd ∷ []) ≡ true → n < limit p → stops rest ≡ true → part_at d p (part_text to p n ++ rest) ≡ Some (n, rest)
@@ -162,11 +154,10 @@ part_back d to part.Base n rest k h s =
     let r = register (n % 2 ^ 5) in
     rw (append_assoc (register_text r) (41 ∷ []) rest, no_slash 40 (register_text r ++ (41 ∷ rest)) refl, register_back r (41 ∷ rest) refl, no_slash 41 rest refl)
     (ap (λ x. Some (x, rest)) (register_reads n h))
-part_back d to part.Immediate n rest k h s = rw (short_back d (short n) rest s) (ap (λ x. Some (x, rest)) (short_reads n h))
-part_back d to part.StoreOffset n rest k h s = rw (short_back d (short n) rest s) (ap (λ x. Some (x, rest)) (short_reads n h))
-part_back d to part.Amount n rest k h s =
-    rw (ap (λ k. amount_at (32 ∷ (decimal k ++ rest))) (small5 n h ∙ sym (amount_reads n h)), amount_back (amount n) rest s) (ap (λ x. Some (x, rest)) (amount_reads n h))
-part_back d to part.Upper n rest k h s = rw (upper_back d (long n) rest s) (ap (λ x. Some (x, rest)) (long_reads n h))
+part_back d to part.Immediate n rest k h s = rw (small12 n h) (short_back d n rest s h)
+part_back d to part.StoreOffset n rest k h s = rw (small12 n h) (short_back d n rest s h)
+part_back d to part.Amount n rest k h s = rw (small5 n h) (amount_back n rest h s)
+part_back d to part.Upper n rest k h s = rw (small20 n h) (upper_back d n rest h s)
 part_back d to part.Order n rest k h s = absurd (cc)
 part_back d to part.Branch n rest k h s = absurd (cc)
 part_back d to part.Jump n rest k h s = absurd (cc)
@@ -203,16 +194,12 @@ step known d to p more w word rest read next =
 branch_part : (known : Bool) (d : Layout) (to : Option ℕ) (more : List Part) (w : ℕ) (rest tail : List ℕ) → is_last more ≡ true → Ends rest tail → Reaches known d to (part.Branch ∷ more) w
     → part_at d part.Branch (part_text to part.Branch (taken part.Branch w) ++ (parts_text to more w ++ rest)) ≡ Some (passed known to (taken part.Branch w), parts_text to more w ++ rest)
 unfolding part_at part_text
-branch_part known d to more w rest tail last ends reaches =
-    rw (last_text_none to more w last, branch_reads known d to more w rest tail last ends reaches)
-    (ap (λ x. Some (x, rest)) (short_reads (passed known to (taken part.Branch w)) (passed_fits known to (taken part.Branch w) 4096 (branch_fits w))))
+branch_part known d to more w rest tail last ends reaches = rw (last_text_none to more w last) (branch_reads known d to more w rest tail last ends reaches)
 
 jump_part : (known : Bool) (d : Layout) (to : Option ℕ) (more : List Part) (w : ℕ) (rest tail : List ℕ) → is_last more ≡ true → Ends rest tail → Reaches known d to (part.Jump ∷ more) w
     → part_at d part.Jump (part_text to part.Jump (taken part.Jump w) ++ (parts_text to more w ++ rest)) ≡ Some (passed known to (taken part.Jump w), parts_text to more w ++ rest)
 unfolding part_at part_text
-jump_part known d to more w rest tail last ends reaches =
-    rw (last_text_none to more w last, jump_reads known d to more w rest tail last ends reaches)
-    (ap (λ x. Some (x, rest)) (long_reads (passed known to (taken part.Jump w)) (passed_fits known to (taken part.Jump w) 1048576 (jump_fits w))))
+jump_part known d to more w rest tail last ends reaches = rw (last_text_none to more w last) (jump_reads known d to more w rest tail last ends reaches)
 
 -- operands behind which no target stands reach any
 none_reached : (known : Bool) (d : Layout) (to : Option ℕ) (ps : List Part) (w : ℕ) → is_last ps ≡ true → (word : ℕ) (rest tail : List ℕ) → Ends rest tail → parts_at d ps (parts_text to ps w ++ rest) word ≡ Some (refilled known to ps w word, rest)
@@ -317,10 +304,11 @@ upper_plain : (d : Layout) (to : Option ℕ) (ps : List Part) (w : ℕ) (rest : 
 unfolding relative_upper_at first_register_at part_text past_blanks is_name
 upper_plain d to ps w rest e =
     let r = register (taken part.Rd w % 2 ^ 5) in
-    let u = upper_text (long (taken part.Upper w)) in
+    let fits : taken part.Upper w % 2 ^ 20 < 2 ^ 20 = omega arith in
+    let u = upper_text (taken part.Upper w % 2 ^ 20) in
     let text : parts_text to ps w ++ rest ≡ last_text r ++ (44 ∷ (u ++ rest)) =
     ap (λ qs. parts_text to qs w ++ rest) e ∙ append_assoc (last_text r) (44 ∷ (u ++ [])) rest ∙ ap (λ x. last_text r ++ (44 ∷ (x ++ rest))) (append-nil u) in
-    ap (relative_upper_at d) text ∙ rw (spaced_register_back r (44 ∷ (u ++ rest)) refl, no_slash 44 (u ++ rest) refl, upper_no_mark (long (taken part.Upper w)) rest) refl
+    ap (relative_upper_at d) text ∙ rw (spaced_register_back r (44 ∷ (u ++ rest)) refl, no_slash 44 (u ++ rest) refl, upper_no_mark (taken part.Upper w % 2 ^ 20) rest fits) refl
 
 plain : (d : Layout) (to : Option ℕ) (r : Row) (w : ℕ) (rest : List ℕ) → IsApart r → relative_named d (name_at r.0) (parts_text to r.2 w ++ rest) ≡ None
 plain d to r w rest (inl other) = rw other refl

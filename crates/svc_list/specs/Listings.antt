@@ -2,18 +2,16 @@
 use Rattle.std.specs.Prelude.{◌≡◌, Bool, false, ◌&&◌, ◌||◌, nat_le, length, ℕ, suc, ◌+◌, ◌*◌, ◌-◌, ◌/◌, ◌%◌, ◌^◌, ◌<◌, nat_lt, ◌==◌, List, [], ◌∷◌, ◌++◌, take, drop, length, slice_index, flat_map, Option, Some, None, if◌then◌else◌, codes, decimal}
 use Rattle.std.specs.List.{list_any}
 use Rattle.svc_rv32i.specs.declared.instr.Register.{Register}
-use Rattle.svc_rv32i.specs.declared.instr.Short.{Short}
-use Rattle.svc_rv32i.specs.declared.instr.Long.{Long}
 use Rattle.svc_rv32i.specs.declared.instr.Instr.{Instr}
 use Rattle.svc_rv32i.specs.declared.instr.Instr.TheVariants as i
-use Rattle.svc_rv32i.specs.Meaning.{register, short, long}
+use Rattle.svc_rv32i.specs.Meaning.{register}
 use Rattle.svc_image.specs.declared.version.Version.{Version}
 use Rattle.svc_image.specs.declared.version.Version.TheVariants as version
 use Rattle.svc_image.specs.declared.layout.TheConstants.{DATA_START}
 use Rattle.svc_image.specs.Version.{version_number}
 use Rattle.svc_image.specs.Image.{Image}
-use Rattle.svc_draft.specs.declared.section.Section.{Section}
-use Rattle.svc_draft.specs.declared.section.Section.TheVariants as section
+use Rattle.svc_draft.specs.declared.statement.Section.{Section}
+use Rattle.svc_draft.specs.declared.statement.Section.TheVariants as section
 use Rattle.svc_draft.specs.declared.statement.Width.TheVariants as wide
 use Rattle.svc_draft.specs.declared.statement.Next.TheVariants as go
 use Rattle.svc_draft.specs.declared.statement.Statement.{Statement}
@@ -38,15 +36,15 @@ last_text r = 32 ∷ register_text r
 abbrev pub signed_text : ℕ → ℕ → List ℕ
 signed_text half n = if nat_lt n half then decimal n else 45 ∷ decimal (2 * half - n)
 
-abbrev pub short_text : Short → List ℕ
-short_text imm = 32 ∷ signed_text 2048 imm.bits
+abbrev pub short_text : ℕ → List ℕ
+short_text n = 32 ∷ signed_text 2048 n
 
 -- an offset from here, which is twice a number of so many
 abbrev pub offset_text : ℕ → ℕ → List ℕ
 offset_text half n = if nat_lt n half then codes " . + " ++ decimal (2 * n) else codes " . - " ++ decimal (2 * (2 * half - n))
 
-abbrev pub upper_text : Long → List ℕ
-upper_text imm = 32 ∷ decimal imm.bits
+abbrev pub upper_text : ℕ → List ℕ
+upper_text n = 32 ∷ decimal n
 
 -- a word in eight hexadecimal digits
 abbrev pub hex_digit : ℕ → ℕ
@@ -74,10 +72,10 @@ part_text to part.Rd n = last_text (register (n % 2 ^ 5))
 part_text to part.Rs1 n = last_text (register (n % 2 ^ 5))
 part_text to part.Rs2 n = last_text (register (n % 2 ^ 5))
 part_text to part.Base n = 40 ∷ (register_text (register (n % 2 ^ 5)) ++ (41 ∷ []))
-part_text to part.Immediate n = short_text (short n)
-part_text to part.StoreOffset n = short_text (short n)
-part_text to part.Amount n = 32 ∷ decimal (n % 2 ^ 5)
-part_text to part.Upper n = upper_text (long n)
+part_text to part.Immediate n = short_text (n % 2 ^ 12)
+part_text to part.StoreOffset n = short_text (n % 2 ^ 12)
+part_text to part.Amount n = upper_text (n % 2 ^ 5)
+part_text to part.Upper n = upper_text (n % 2 ^ 20)
 part_text to part.Order n = []
 part_text to part.Branch n = reach_text to 2048 (n % 2 ^ 12)
 part_text to part.Jump n = reach_text to 524288 (n % 2 ^ 20)

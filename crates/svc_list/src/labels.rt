@@ -1,14 +1,16 @@
 // The labels of a text: at its entries, and at the targets of its branches and jumps.
 
-ghost use Rattle.std.specs.Prelude.{◌≡◌, ℕ, ◌+◌, ◌*◌, ◌-◌, ◌<◌, ◌≤◌, ◌%◌, ◌||◌, ◌==◌, false, length, slice_index_or, All, IfOk, IfSome};
+ghost use Rattle.std.specs.Prelude.{◌≡◌, ℕ, ◌+◌, ◌*◌, ◌-◌, ◌<◌, ◌≤◌, ◌%◌, ◌||◌, ◌==◌, false, length, slice_index_or, All, IfOk, IfSome, None};
 ghost use Rattle.std.specs.List.{list_any};
 ghost use Rattle.svc_image.specs.Image.{StartsWord};
-ghost use Rattle.svc_list.specs.Listings.{led, placed, led_by, led_along, target_by, target_of, is_at, is_target, is_labelled};
+ghost use Rattle.svc_list.specs.Listings.{led, placed, led_by, led_along, target_by, target_of, is_at, is_target, is_labelled, IsShown};
+ghost use Rattle.svc_rv32i.specs.declared.instr.Instr.{Instr};
+ghost use Rattle.svc_rv32i.specs.Words.{word_of};
+ghost use Rattle.svc_instructions.specs.Instructions.{row_of};
 
 use std::alloc::{AllocError, Global};
 use svc_instructions::{Part, Row, row_of, taken};
 
-// The address that so many steps of two bytes lead to: `half` of the numbers of their bits are forward.
 fn led(half: u32, address: u32, steps: u32) -> Option<u32>
     requires half { half ≤ 524288 }
     requires address { address < 262144 }
@@ -25,7 +27,6 @@ fn led(half: u32, address: u32, steps: u32) -> Option<u32>
     None
 }
 
-// An address at which a word of the text begins, which has so many.
 fn placed(count: u32, target: Option<u32>) -> Option<u32>
     requires { count ≤ 65536 }
     ensures value { result ≡ placed count target }
@@ -37,7 +38,6 @@ fn placed(count: u32, target: Option<u32>) -> Option<u32>
     }
 }
 
-// Where an operand of the word at an address leads.
 #[tactic(auto, using(crate::proofs::Parts::branch_fits, crate::proofs::Parts::jump_fits))]
 fn led_by(part: Part, address: u32, word: u32) -> Option<u32>
     requires { address < 262144 }
@@ -62,7 +62,6 @@ fn led_along(row: Row, address: u32, word: u32) -> Option<u32>
     None
 }
 
-/// Where in the text, which has `count` words, the word at an address leads that is of this row.
 pub fn target_by(count: u32, address: u32, word: u32, row: Row) -> Option<u32>
     requires count { count ≤ 65536 }
     requires address { address < 262144 }
@@ -72,7 +71,6 @@ pub fn target_by(count: u32, address: u32, word: u32, row: Row) -> Option<u32>
     placed(count, led_along(row, address, word))
 }
 
-// Where in the text the word at an address leads.
 fn target_of(count: u32, address: u32, word: u32) -> Option<u32>
     requires count { count ≤ 65536 }
     requires address { address < 262144 }
@@ -139,7 +137,6 @@ fn mark_all(table: &mut [bool], entries: &[u32], text: &[u32])
     mark_targets(table, text);
 }
 
-/// For each word of a text, whether it has a label.
 pub fn labels_of(alloc: Global, entries: &[u32], text: &[u32]) -> Result<Vec<bool>, AllocError>
     requires few { length text.now ≤ 65536 }
     requires placed { All (StartsWord (length text.now)) entries.now }
@@ -151,3 +148,8 @@ pub fn labels_of(alloc: Global, entries: &[u32], text: &[u32]) -> Result<Vec<boo
     mark_all(&mut table, entries, text);
     Ok(table)
 }
+
+/// Each instruction but FENCE has a row, by which a listing shows it.
+pub fn each_is_listed()
+    ensures { (instr : Instr) → IsShown instr → row_of (word_of instr) ≡ None → ⊥ }
+{}

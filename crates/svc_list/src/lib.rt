@@ -2,9 +2,8 @@
 #![tactic(auto)]
 
 mod labels;
-mod laws;
 mod listing;
 mod text;
 
-pub use laws::each_is_listed;
+pub use labels::each_is_listed;
 pub use listing::list;

@@ -2,10 +2,10 @@
 
 ghost use Rattle.std.specs.Prelude.{Bool, false, slice_index_or, [], ◌≡◌, ℕ, suc, ◌++◌, ◌∷◌, List, codes, ◌<◌, ◌≤◌, ◌*◌, ◌^◌, length, slice_index, decimal, IfOk, IfSome, IfNone, OnOk};
 ghost use Rattle.svc_asm.specs.Programs.{IsProgramOf};
-ghost use Rattle.svc_list.specs.Listings.{first_text, own_text, section_text, statement_text, address_note, word_note, Starts, bare, line_of, text_of, coded, datum, labels, setting, settings, own_limit, marks, code, data_lines, all_data, head_lines, listing_of};
+ghost use Rattle.svc_list.specs.Listings.{first_text, own_text, section_text, statement_text, word_note, Labels, Starts, bare, line_of, text_of, coded, datum, labels, setting, settings, own_limit, marks, code, data_lines, all_data, head_lines, listing_of};
 
 use crate::labels::{labels_of, target_by};
-use crate::text::{put_hex, put_label, put_register, put_row};
+use crate::text::{Hex, put_register, put_row};
 use std::alloc::{AllocError, Global};
 use svc_draft::{Next, Section, Statement, Width};
 use svc_image::{DATA_START, Image, Version};
@@ -14,7 +14,6 @@ use svc_operands::register;
 use svc_rv32i::Register;
 use svc_text::{Piece, put};
 
-// A directive and its number.
 fn put_numbered(out: &mut Vec<u8>, name: &str, number: u32) -> Result<(), AllocError>
     ensures { OnOk result (out.new.items ≡ out.old.items ++ (name.now ++ decimal number)) }
 {
@@ -22,7 +21,6 @@ fn put_numbered(out: &mut Vec<u8>, name: &str, number: u32) -> Result<(), AllocE
     Ok(())
 }
 
-// An entry, and the limit that it has of its own.
 fn put_entry(out: &mut Vec<u8>, limit: Option<u32>) -> Result<(), AllocError>
     ensures { OnOk result (out.new.items ≡ out.old.items ++ (codes ".svc_entry" ++ own_text limit)) }
 {
@@ -32,7 +30,6 @@ fn put_entry(out: &mut Vec<u8>, limit: Option<u32>) -> Result<(), AllocError>
     }
 }
 
-// A directive, a register and its value.
 fn put_setting(
     out: &mut Vec<u8>,
     name: &str,
@@ -84,25 +81,13 @@ fn put_line(out: &mut Vec<u8>, statement: Statement) -> Result<(), AllocError>
     "\n".put(out)
 }
 
-// A comment that tells an address.
-fn put_address_note(out: &mut Vec<u8>, address: u32) -> Result<(), AllocError>
-    ensures { OnOk result (out.new.items ≡ out.old.items ++ address_note address) }
-{
-    "\t# 0x".put(out)?;
-    put_hex(out, address)
-}
-
-// A comment that tells an address and the bits of its word, and the end of the line.
 fn end_coded(out: &mut Vec<u8>, address: u32, word: u32) -> Result<(), AllocError>
     ensures { OnOk result (out.new.items ≡ out.old.items ++ (word_note address word ++ (10 ∷ []))) }
 {
-    put_address_note(out, address)?;
-    " ".put(out)?;
-    put_hex(out, word)?;
-    "\n".put(out)
+    put!(out; "\t# 0x", Hex(address), " ", Hex(word), "\n");
+    Ok(())
 }
 
-// A word of a text of so many words, with its address and its bits behind it.
 fn put_coded(out: &mut Vec<u8>, count: u32, address: u32, word: u32) -> Result<(), AllocError>
     requires count { count ≤ 65536 }
     requires address { address < 262144 }
@@ -115,14 +100,19 @@ fn put_coded(out: &mut Vec<u8>, count: u32, address: u32, word: u32) -> Result<(
     end_coded(out, address, word)
 }
 
-// The line of a word's label, if it has one.
+fn put_label(out: &mut Vec<u8>, address: u32) -> Result<(), AllocError>
+    ensures { OnOk result (out.new.items ≡ out.old.items ++ line_of (Labels address)) }
+{
+    put!(out; "at_", Hex(address), ":\n");
+    Ok(())
+}
+
 fn put_labels(out: &mut Vec<u8>, address: u32, labelled: bool) -> Result<(), AllocError>
     ensures { OnOk result ((n : ℕ) (is : ℕ → Bool) → address ≡ 4 * n → is n ≡ labelled
         → out.new.items ≡ out.old.items ++ text_of (labels is n)) }
 {
     if labelled {
         put_label(out, address)?;
-        ":\n".put(out)?;
     }
     Ok(())
 }
@@ -130,21 +120,18 @@ fn put_labels(out: &mut Vec<u8>, address: u32, labelled: bool) -> Result<(), All
 fn put_start(out: &mut Vec<u8>, start: u32) -> Result<(), AllocError>
     ensures { OnOk result (out.new.items ≡ out.old.items ++ line_of (Starts start)) }
 {
-    ".svc_start ".put(out)?;
-    put_label(out, start)?;
-    "\n".put(out)
+    put!(out; ".svc_start ", "at_", Hex(start), "\n");
+    Ok(())
 }
 
-// A word of the data, with its address behind it.
 fn put_datum(out: &mut Vec<u8>, address: u32, word: u32) -> Result<(), AllocError>
     ensures { OnOk result (out.new.items ≡ out.old.items ++ line_of (datum address word)) }
 {
     put_statement(out, Statement::Value(Width::Word, word, Next::Line))?;
-    put_address_note(out, address)?;
-    "\n".put(out)
+    put!(out; "\t# 0x", Hex(address), "\n");
+    Ok(())
 }
 
-// A register's line, where its value isn't 0.
 fn put_nonzero(out: &mut Vec<u8>, number: u32, value: u32) -> Result<(), AllocError>
     requires { number < 32 }
     ensures { OnOk result (out.new.items ≡ out.old.items ++ text_of (setting number value)) }
@@ -182,7 +169,6 @@ fn behind<'a>(entries: &'a [u32], limits: &'a [u32], pc: u32) -> Option<(u32, &'
     }
 }
 
-// The limit that the line of an entry gives it.
 fn own_limit(version: Version, limit: u32) -> Option<u32>
     ensures { result ≡ own_limit version limit }
 {
@@ -254,7 +240,6 @@ fn put_code(
     Ok(())
 }
 
-// Words of the data, from this address on.
 fn put_data(out: &mut Vec<u8>, address: u32, words: &[u32]) -> Result<(), AllocError>
     requires address { address ≤ 2 ^ 31 }
     requires few { length words.now ≤ 65536 }
@@ -268,7 +253,6 @@ fn put_data(out: &mut Vec<u8>, address: u32, words: &[u32]) -> Result<(), AllocE
     Ok(())
 }
 
-// The data of an image of version 2, whose first words are read-only.
 fn put_split(out: &mut Vec<u8>, read_only: usize, words: &[u32]) -> Result<(), AllocError>
     requires fixed { read_only ≤ length words.now }
     requires few { length words.now ≤ 65536 }
@@ -306,7 +290,6 @@ fn first_limit(limits: &[u32]) -> u32
     }
 }
 
-// The lines before the registers.
 fn put_head(out: &mut Vec<u8>, version: Version, limit: u32, start: u32) -> Result<(), AllocError>
     ensures { OnOk result (out.new.items ≡ out.old.items ++ text_of (head_lines version limit start)) }
 {

@@ -1,15 +1,14 @@
 // Numbers, registers, labels and instructions as text.
 
-ghost use Rattle.std.specs.Prelude.{◌≡◌, ◌++◌, ◌∷◌, ◌*◌, ◌<◌, ◌≤◌, OnOk};
-ghost use Rattle.svc_list.specs.Listings.{register_text, short_text, offset_text, hex_digit, hex_text, label_text, reach_text, part_text, parts_text, row_text};
+ghost use Rattle.std.specs.Prelude.{◌≡◌, ◌++◌, ◌*◌, ◌<◌, ◌≤◌, OnOk};
+ghost use Rattle.svc_list.specs.Listings.{register_text, short_text, offset_text, hex_digit, hex_text, reach_text, part_text, parts_text, row_text};
 
 use std::alloc::AllocError;
 use svc_instructions::{Part, Row, taken};
-use svc_operands::{long, register, short, split_name};
-use svc_rv32i::{Register, Short};
+use svc_operands::{register, split_name};
+use svc_rv32i::Register;
 use svc_text::{Piece, put};
 
-/// A register, by its number.
 pub fn put_register(out: &mut Vec<u8>, register: Register) -> Result<(), AllocError>
     ensures { OnOk result (out.new.items ≡ out.old.items ++ register_text register) }
 {
@@ -17,18 +16,18 @@ pub fn put_register(out: &mut Vec<u8>, register: Register) -> Result<(), AllocEr
     Ok(())
 }
 
-fn put_short(out: &mut Vec<u8>, imm: Short) -> Result<(), AllocError>
-    ensures { OnOk result (out.new.items ≡ out.old.items ++ short_text imm) }
+fn put_short(out: &mut Vec<u8>, n: u32) -> Result<(), AllocError>
+    requires { n < 4096 }
+    ensures { OnOk result (out.new.items ≡ out.old.items ++ short_text n) }
 {
-    if imm.bits < 2048 {
-        put!(out; " ", imm.bits as u32);
+    if n < 2048 {
+        put!(out; " ", n);
     } else {
-        put!(out; " -", 4096 - imm.bits as u32);
+        put!(out; " -", 4096 - n);
     }
     Ok(())
 }
 
-// How far from here, in steps of two bytes: `half` of the numbers of its bits are forward.
 fn put_offset(out: &mut Vec<u8>, half: u32, steps: u32) -> Result<(), AllocError>
     requires half { half ≤ 524288 }
     requires steps { steps < 2 * half }
@@ -42,7 +41,6 @@ fn put_offset(out: &mut Vec<u8>, half: u32, steps: u32) -> Result<(), AllocError
     Ok(())
 }
 
-// The digit that is worth so much.
 fn hex_digit(value: u32) -> u8
     requires { value < 16 }
     ensures { result ≡ hex_digit value }
@@ -70,21 +68,17 @@ fn hex_digits(word: u32) -> [u8; 8]
 }
 
 /// A word in eight hexadecimal digits.
-pub fn put_hex(out: &mut Vec<u8>, word: u32) -> Result<(), AllocError>
-    ensures { OnOk result (out.new.items ≡ out.old.items ++ hex_text word) }
-{
-    out.extend_from_slice(&hex_digits(word))
+#[derive(Clone, Copy)]
+pub struct Hex(pub u32);
+
+impl Piece for Hex {
+    ghost bytes = { λ hex. hex_text hex.0 };
+
+    fn put(self, text: &mut Vec<u8>) -> Result<(), AllocError> {
+        text.extend_from_slice(&hex_digits(self.0))
+    }
 }
 
-/// The label of an address.
-pub fn put_label(out: &mut Vec<u8>, address: u32) -> Result<(), AllocError>
-    ensures { OnOk result (out.new.items ≡ out.old.items ++ label_text address) }
-{
-    "at_".put(out)?;
-    put_hex(out, address)
-}
-
-// How far a branch or a jump goes: to a label, where one is given.
 fn put_reach(out: &mut Vec<u8>, to: Option<u32>, half: u32, steps: u32) -> Result<(), AllocError>
     requires half { half ≤ 524288 }
     requires steps { steps < 2 * half }
@@ -92,8 +86,8 @@ fn put_reach(out: &mut Vec<u8>, to: Option<u32>, half: u32, steps: u32) -> Resul
 {
     match to {
         Some(target) => {
-            " ".put(out)?;
-            put_label(out, target)
+            put!(out; " at_", Hex(target));
+            Ok(())
         }
         None => put_offset(out, half, steps),
     }
@@ -116,13 +110,13 @@ fn put_part(out: &mut Vec<u8>, to: Option<u32>, part: Part, n: u32) -> Result<()
             put_register(out, register(n % 32))?;
             ")".put(out)
         }
-        Part::Immediate | Part::StoreOffset => put_short(out, short(n)),
+        Part::Immediate | Part::StoreOffset => put_short(out, n % 4096),
         Part::Amount => {
             put!(out; " ", n % 32);
             Ok(())
         }
         Part::Upper => {
-            put!(out; " ", long(n).bits);
+            put!(out; " ", n % 1_048_576);
             Ok(())
         }
         Part::Branch => put_reach(out, to, 2048, n % 4096),
@@ -139,7 +133,6 @@ fn put_parts(out: &mut Vec<u8>, to: Option<u32>, row: Row, word: u32) -> Result<
     Ok(())
 }
 
-/// The instruction of a word that is of this row, to a label, where one is given.
 pub fn put_row(out: &mut Vec<u8>, to: Option<u32>, row: Row, word: u32) -> Result<(), AllocError>
     ensures { OnOk result (out.new.items ≡ out.old.items ++ row_text to row word) }
 {

@@ -1,14 +1,15 @@
 -- The operands of instructions and directives.
-use Rattle.std.specs.Prelude.{ℕ, ◌*◌, ◌-◌, ◌/◌, ◌%◌, ◌^◌, Bool, true, false, ◌==◌, nat_le, nat_lt, List, [], ◌∷◌, Option, Some, None, if◌then◌else◌, option_map}
+use Rattle.std.specs.Prelude.{◌≡◌, Option, Some, None, Result, Ok, Err, ℕ, ◌*◌, ◌-◌, ◌/◌, ◌%◌, Bool, true, false, ◌==◌, nat_le, nat_lt, List, [], ◌∷◌, if◌then◌else◌}
 use Rattle.svc_rv32i.specs.declared.instr.Register.{Register}
-use Rattle.svc_rv32i.specs.declared.instr.Short.{Short}
-use Rattle.svc_rv32i.specs.declared.instr.Long.{Long}
-use Rattle.svc_rv32i.specs.declared.instr.ShiftAmount.{ShiftAmount}
-use Rattle.svc_rv32i.specs.Meaning.{short, long, mod5}
 use Rattle.svc_operands.specs.declared.operands.Signed.{Signed}
 use Rattle.svc_draft.specs.Options.{◌>>=◌}
 use Rattle.svc_operands.specs.Characters.{found, past_spaces, name_at, past_name, mark_at, number_of, character_at}
 use Rattle.svc_operands.specs.Names.{register_named}
+
+-- what was read, as the definition sees it, or an error where the definition reads nothing
+abbrev pub Gives : {X Y E : Type 0} → (X → Y) → Result X E → Option Y → Type 0
+Gives view (Ok x) read = read ≡ Some (view x)
+Gives view (Err e) read = read ≡ None
 
 -- what is read first, and what is left behind it
 abbrev pub Read : Type 0 → Type 0
@@ -62,48 +63,28 @@ wrapped half s =
     if s.negative then if nat_le s.magnitude half then Some (2 * half - s.magnitude) else None
     else if nat_lt s.magnitude half then Some s.magnitude else None
 
--- the immediate of 12 bits that a number is
-unfoldable pub short_of : Signed → Option Short
-short_of s = option_map short (wrapped 2048 s)
-
 -- half of an offset, which is even
 abbrev pub halved : Signed → Option Signed
 halved s = if s.magnitude % 2 == 0 then Some (record { negative = s.negative; magnitude = s.magnitude / 2 }) else None
 
-unfoldable pub branch_of : Signed → Option Short
-branch_of s = do
+-- how many steps of two bytes an offset has, as such a number
+unfoldable pub steps_of : (half : ℕ) → Signed → Option ℕ
+steps_of half s = do
   h ← halved s
-  short_of h
+  wrapped half h
 
-unfoldable pub jump_of : Signed → Option Long
-jump_of s = do
-  h ← halved s
-  option_map long (wrapped 524288 h)
-
-unfoldable pub upper_of : ℕ → Option Long
-upper_of n = if nat_lt n (2 ^ 20) then Some (long n) else None
-
-unfoldable pub amount : ℕ → ShiftAmount
-amount n = record { bits = n % 2 ^ 5; in_range = mod5 n }
-
-unfoldable pub amount_of : ℕ → Option ShiftAmount
-amount_of n = if nat_lt n 32 then Some (amount n) else None
-
--- these numbers where operands stand
-unfoldable pub number_short_at : List ℕ → Read Short
+-- a number of 12 bits with its sign
+unfoldable pub number_short_at : List ℕ → Read ℕ
 number_short_at text = do
   s ← signed_at text
-  n ← short_of s.0
+  n ← wrapped 2048 s.0
   Some (n, s.1)
 
-unfoldable pub number_upper_at : List ℕ → Read Long
-number_upper_at text = do
-  n ← number_at text
-  u ← upper_of n.0
-  Some (u, n.1)
+-- a number below a bound
+abbrev pub below : ℕ → ℕ × List ℕ → Read ℕ
+below most n = if nat_lt n.0 most then Some n else None
 
-unfoldable pub amount_at : List ℕ → Read ShiftAmount
-amount_at text = do
+unfoldable pub number_below : ℕ → List ℕ → Read ℕ
+number_below most text = do
   n ← number_at text
-  a ← amount_of n.0
-  Some (a, n.1)
+  below most n

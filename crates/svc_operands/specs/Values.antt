@@ -1,40 +1,49 @@
--- Values, which may name labels, and the immediates that are made of them.
-use Rattle.std.specs.Prelude.{ℕ, ◌+◌, ◌-◌, ◌/◌, ◌%◌, ◌^◌, Bool, true, false, ◌==◌, List, [], ◌∷◌, Option, Some, None, if◌then◌else◌, codes, option_map}
+-- Values, which may name labels, the immediates that are made of them, and how far branches and jumps go.
+use Rattle.std.specs.Prelude.{ℕ, ◌*◌, nat_le, nat_lt, Bool, List, Option, Some, None, if◌then◌else◌, codes, option_map, ◌+◌, ◌-◌, ◌/◌, ◌%◌, ◌^◌, true, false, ◌==◌, [], ◌∷◌}
 use Rattle.std.specs.Str.{bytes_eq}
-use Rattle.svc_rv32i.specs.declared.instr.Short.{Short}
-use Rattle.svc_rv32i.specs.declared.instr.Long.{Long}
-use Rattle.svc_rv32i.specs.Meaning.{short, long}
+use Rattle.std.specs.List.{take_while}
+use Rattle.svc_draft.specs.Layouts.{Layout, address_back, address_ahead, here, address_of, distance_from}
+use Rattle.svc_operands.specs.declared.values.Reference.{Reference}
+use Rattle.svc_operands.specs.declared.values.Reference.TheVariants as label
+use Rattle.svc_operands.specs.Characters.{is_from_to, past, value_of, past_spaces, found, name_at, past_name, mark_at}
 use Rattle.svc_operands.specs.declared.operands.Signed.{Signed}
 use Rattle.svc_draft.specs.Options.{◌>>=◌}
-use Rattle.svc_operands.specs.Characters.{past_spaces, found, name_at, past_name, mark_at}
-use Rattle.svc_operands.specs.References.{reference_named, referred}
-use Rattle.svc_draft.specs.Layouts.{Layout, here, address_of, distance_from}
-use Rattle.svc_operands.specs.Operands.{Read, number_at, behind_sign, distance, number_short_at, number_upper_at}
+use Rattle.svc_operands.specs.Operands.{Read, number_at, behind_sign, distance, number_short_at, number_below, steps_of}
+
+abbrev pub is_decimal : ℕ → Bool
+is_decimal c = is_from_to 48 57 c
+
+-- a decimal number, and b for the last label of this number before here, or f for the next one
+unfoldable pub reference_named : List ℕ → Option Reference
+reference_named name =
+    if bytes_eq (past is_decimal name) (codes "b") then option_map (λ n. label.Back n) (value_of 10 (take_while is_decimal name)) else
+    if bytes_eq (past is_decimal name) (codes "f") then option_map (λ n. label.Ahead n) (value_of 10 (take_while is_decimal name)) else
+    None
+
+abbrev pub referred : Layout → Reference → Option ℕ
+referred d (label.Back n) = address_back d n
+referred d (label.Ahead n) = address_ahead d n
 
 -- what a name stands for: a dot for the address of what comes next, and a label for its own
 unfoldable pub place_of : Layout → List ℕ → Option ℕ
 place_of d name = if bytes_eq name (codes ".") then Some (here d) else found (reference_named name) (λ r. referred d r) (address_of d name)
 
-unfoldable pub place_at : Layout → List ℕ → Read ℕ
-place_at d text = do
-  n ← place_of d (name_at text)
-  Some (n, past_name text)
-
 unfoldable pub plain_term_at : Layout → List ℕ → Read ℕ
-plain_term_at d text = found (number_at text) (λ n. Some n) (place_at d text)
+plain_term_at d text = found (number_at text) (λ n. Some n) (option_map (λ n. (n, past_name text)) (place_of d (name_at text)))
 
 -- a number with its sign, as 32 bits
 abbrev pub bits_of : Signed → ℕ
 bits_of s = if s.negative then (2 ^ 32 - s.magnitude) % 2 ^ 32 else s.magnitude
 
-unfoldable pub opposite_at : List ℕ → Read ℕ
-opposite_at text = do
-  n ← number_at text
-  Some (bits_of (record { negative = true; magnitude = n.0 }), n.1)
+-- the 32 bits of a number of so many that has room, of which half may be below 0
+unfoldable pub fitted : (half : ℕ) → Signed → Option ℕ
+fitted half s =
+    if s.negative then if nat_le s.magnitude half then Some (bits_of s) else None
+    else if nat_lt s.magnitude (2 * half) then Some s.magnitude else None
 
 abbrev pub term_from : Layout → List ℕ → Read ℕ
 term_from d [] = None
-term_from d (c ∷ rest) = if c == 45 then opposite_at rest else plain_term_at d (c ∷ rest)
+term_from d (c ∷ rest) = if c == 45 then option_map (λ s. (bits_of s.0, s.1)) (behind_sign true rest) else plain_term_at d (c ∷ rest)
 
 -- what a sum begins with: a number, which may have a minus sign, a dot or a label
 unfoldable pub term_at : Layout → List ℕ → Read ℕ
@@ -61,11 +70,8 @@ value_at d text = do
   sum_from n.0 n.1 (past_spaces n.1)
 
 -- a value of 32 bits in two parts, for two instructions: its low part counts with a sign, so the high part is one more where that is below 0
-abbrev pub high_part : ℕ → Long
-high_part n = long ((n + 2048) / 4096)
-
-abbrev pub low_part : ℕ → Short
-low_part n = short n
+abbrev pub high_part : ℕ → ℕ
+high_part n = (n + 2048) / 4096 % 2 ^ 20
 
 -- how far it is from here to an address, as 32 bits
 abbrev pub from_here : Layout → ℕ → ℕ
@@ -84,7 +90,7 @@ unfoldable pub relative_at : Layout → List ℕ → Read ℕ
 relative_at d text = if bytes_eq (name_at text) (codes "pcrel_hi") then option_map (λ n. (from_here d n.0, n.1)) (enclosed_at d (past_name text)) else None
 
 -- behind a percent sign: hi(VALUE), or pcrel_hi(VALUE)
-unfoldable pub high_at : Layout → List ℕ → Read Long
+unfoldable pub high_at : Layout → List ℕ → Read ℕ
 high_at d text =
     if bytes_eq (name_at text) (codes "hi") then option_map (λ n. (high_part n.0, n.1)) (enclosed_at d (past_name text)) else
     option_map (λ n. (high_part n.0, n.1)) (relative_at d text)
@@ -95,29 +101,52 @@ distance_named d name = do
   place ← place_of d name
   distance_from d place
 
-unfoldable pub distance_at : Layout → List ℕ → Read ℕ
-distance_at d text = do
-  n ← distance_named d (name_at text)
-  Some (n, past_name text)
-
 -- such a label in parentheses
 unfoldable pub completed_at : Layout → List ℕ → Read ℕ
 completed_at d text = do
   inside ← mark_at 40 text
-  n ← distance_at d inside
-  rest ← mark_at 41 n.1
-  Some (n.0, rest)
+  n ← distance_named d (name_at inside)
+  rest ← mark_at 41 (past_name inside)
+  Some (n, rest)
 
 -- behind a percent sign: lo(VALUE), or pcrel_lo(LABEL)
-unfoldable pub low_at : Layout → List ℕ → Read Short
+unfoldable pub low_at : Layout → List ℕ → Read ℕ
 low_at d text =
-    if bytes_eq (name_at text) (codes "lo") then option_map (λ n. (low_part n.0, n.1)) (enclosed_at d (past_name text)) else
-    if bytes_eq (name_at text) (codes "pcrel_lo") then option_map (λ n. (low_part n.0, n.1)) (completed_at d (past_name text)) else
+    if bytes_eq (name_at text) (codes "lo") then option_map (λ n. (n.0 % 2 ^ 12, n.1)) (enclosed_at d (past_name text)) else
+    if bytes_eq (name_at text) (codes "pcrel_lo") then option_map (λ n. (n.0 % 2 ^ 12, n.1)) (completed_at d (past_name text)) else
     None
 
 -- an immediate: a number that fits, or the part of a value
-unfoldable pub short_at : Layout → List ℕ → Read Short
+unfoldable pub short_at : Layout → List ℕ → Read ℕ
 short_at d text = found (mark_at 37 text) (λ part. low_at d part) (number_short_at text)
 
-unfoldable pub upper_at : Layout → List ℕ → Read Long
-upper_at d text = found (mark_at 37 text) (λ part. high_at d part) (number_upper_at text)
+unfoldable pub upper_at : Layout → List ℕ → Read ℕ
+upper_at d text = found (mark_at 37 text) (λ part. high_at d part) (number_below (2 ^ 20) text)
+
+-- how far it is to an address; in the first pass, which knows no label's, it isn't far
+abbrev pub reach : Layout → ℕ → Signed
+reach d n = if d.known then distance (here d) n else record { negative = false; magnitude = 0 }
+
+unfoldable pub reach_at : Layout → List ℕ → Read Signed
+reach_at d text = do
+  n ← value_at d text
+  Some (reach d n.0, n.1)
+
+-- behind a dot: a sign and a number, or nothing
+abbrev pub offset_from : List ℕ → List ℕ → Read Signed
+offset_from rest [] = Some (record { negative = false; magnitude = 0 }, rest)
+offset_from rest (c ∷ more) =
+    if c == 43 then behind_sign false more else
+    if c == 45 then behind_sign true more else
+    Some (record { negative = false; magnitude = 0 }, rest)
+
+-- how far it is from the instruction's own address: . + N or . - N, or to a value
+unfoldable pub offset_at : Layout → List ℕ → Read Signed
+offset_at d text = if bytes_eq (name_at text) (codes ".") then offset_from (past_name text) (past_spaces (past_name text)) else reach_at d text
+
+-- how many steps of two bytes it is, as a number of which half is forward
+unfoldable pub target_at : (half : ℕ) → Layout → List ℕ → Read ℕ
+target_at half d text = do
+  s ← offset_at d text
+  n ← steps_of half s.0
+  Some (n, s.1)

@@ -1,13 +1,7 @@
-// The characters of a program's text: spaces, names, marks and numbers.
+// The characters of a program's text: spaces, names, marks, numbers, and characters between single quotes.
 
-ghost use Rattle.std.specs.Prelude.{◌≡◌, ◌<◌, ◌≤◌, ◌^◌, length, Some, IfSome, option_map};
-ghost use Rattle.svc_operands.specs.Characters.{is_space, opens, blank_behind, past_spaces, is_over, is_name, past, name_at, past_name, mark_at, digit, push_digit, value_of, behind_zero, number_of};
-
-fn is_space(c: u8) -> bool
-    ensures { result ≡ is_space c }
-{
-    matches!(c, b' ' | b'\t' | b'\r')
-}
+ghost use Rattle.std.specs.Prelude.{◌≡◌, ◌<◌, ◌≤◌, Some, IfSome, option_map};
+ghost use Rattle.svc_operands.specs.Characters.{opens, blank_behind, past_spaces, is_over, is_name, past, name_at, past_name, mark_at, digit, push_digit, value_of, behind_zero, number_of, escaped, quoted_escape, closed_at, escape_in_quotes, in_quotes, character_at};
 
 #[tactic(auto, unfolding(crate::specs::Characters::is_name))]
 fn is_name(c: u8) -> bool
@@ -35,30 +29,16 @@ pub fn opens(c: u8, rest: &[u8]) -> bool
     }
 }
 
-// What stands before the next character, where this one is a space or a part of a comment.
 fn blank_behind(blank: Blank, c: u8, rest: &[u8]) -> Option<Blank>
     ensures { result ≡ blank_behind blank c rest.now }
 {
-    match blank {
-        Blank::Outside => {
-            if is_space(c) {
-                return Some(Blank::Outside);
-            }
-            if opens(c, rest) {
-                return Some(Blank::Opening);
-            }
-            None
-        }
-        Blank::Opening => Some(Blank::Inside),
-        Blank::Inside => match c {
-            b'*' => Some(Blank::Star),
-            _ => Some(Blank::Inside),
-        },
-        Blank::Star => match c {
-            b'/' => Some(Blank::Outside),
-            b'*' => Some(Blank::Star),
-            _ => Some(Blank::Inside),
-        },
+    match (blank, c) {
+        (Blank::Outside, b' ' | b'\t' | b'\r') | (Blank::Star, b'/') => Some(Blank::Outside),
+        (Blank::Outside, _) if opens(c, rest) => Some(Blank::Opening),
+        (Blank::Outside, _) => None,
+        (Blank::Opening, _) => Some(Blank::Inside),
+        (Blank::Inside | Blank::Star, b'*') => Some(Blank::Star),
+        (Blank::Inside | Blank::Star, _) => Some(Blank::Inside),
     }
 }
 
@@ -150,6 +130,7 @@ fn push_digit(radix: u32, value: u32, c: u8) -> Option<u32>
     value.checked_mul(radix)?.checked_add(digit)
 }
 
+/// The number of these digits.
 #[tactic(auto, unfolding(crate::specs::Characters::value_on))]
 pub fn value_of(radix: u32, digits: &[u8]) -> Option<u32>
     requires { radix ≤ 16 }
@@ -165,14 +146,6 @@ pub fn value_of(radix: u32, digits: &[u8]) -> Option<u32>
     Some(value)
 }
 
-/// The number of these decimal digits.
-pub fn decimal_of(digits: &[u8]) -> Option<u32>
-    ensures { result ≡ value_of 10 digits.now }
-{
-    value_of(10, digits)
-}
-
-// The number that 0 and these digits are.
 #[tactic(auto, unfolding(crate::specs::Characters::behind_zero))]
 fn behind_zero(digits: &[u8]) -> Option<u32>
     ensures { result ≡ behind_zero digits.now }
@@ -194,4 +167,68 @@ pub fn number_of(name: &[u8]) -> Option<u32>
         [b'0', digits @ ..] => behind_zero(digits),
         _ => value_of(10, name),
     }
+}
+
+/// What a letter behind a backslash stands for.
+#[tactic(auto, unfolding(crate::specs::Characters::escaped))]
+pub fn escaped(letter: u8) -> Option<u8>
+    ensures { result ≡ escaped letter }
+{
+    match letter {
+        b'n' => Some(10),
+        b't' => Some(9),
+        b'"' => Some(34),
+        b'\\' => Some(92),
+        b'b' => Some(8),
+        b'f' => Some(12),
+        b'r' => Some(13),
+        _ => None,
+    }
+}
+
+fn quoted_escape(letter: u8) -> Option<u8>
+    ensures { result ≡ quoted_escape letter }
+{
+    match letter {
+        b'\'' => Some(39),
+        _ => escaped(letter),
+    }
+}
+
+#[tactic(auto, unfolding(crate::specs::Characters::closed_at))]
+fn split_closed(character: u8, text: &[u8]) -> Option<(u8, &[u8])>
+    ensures { option_map (λ x. (x.0, x.1.now)) result ≡ closed_at character text.now }
+{
+    match text {
+        [b'\'', rest @ ..] => Some((character, rest)),
+        _ => None,
+    }
+}
+
+#[tactic(auto, unfolding(crate::specs::Characters::escape_in_quotes))]
+fn split_escape(text: &[u8]) -> Option<(u8, &[u8])>
+    ensures { option_map (λ x. (x.0, x.1.now)) result ≡ escape_in_quotes text.now }
+{
+    match text {
+        [letter, rest @ ..] => split_closed(quoted_escape(*letter)?, rest),
+        [] => None,
+    }
+}
+
+#[tactic(auto, unfolding(crate::specs::Characters::in_quotes))]
+fn split_inside(text: &[u8]) -> Option<(u8, &[u8])>
+    ensures { option_map (λ x. (x.0, x.1.now)) result ≡ in_quotes text.now }
+{
+    match text {
+        [] | [b'\n', ..] => None,
+        [b'\\', rest @ ..] => split_escape(rest),
+        [character, rest @ ..] => split_closed(*character, rest),
+    }
+}
+
+#[tactic(auto, unfolding(crate::specs::Characters::character_at))]
+pub fn split_character(text: &[u8]) -> Option<(u8, &[u8])>
+    ensures { option_map (λ x. (x.0, x.1.now)) result ≡ character_at text.now }
+{
+    split_inside(skip_mark(b'\'', text)?)
 }

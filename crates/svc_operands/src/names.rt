@@ -3,7 +3,7 @@
 ghost use Rattle.std.specs.Prelude.{◌≡◌, ◌<◌, IfSome};
 ghost use Rattle.std.specs.Str.{bytes_eq};
 ghost use Rattle.svc_rv32i.specs.Meaning.{register};
-ghost use Rattle.svc_operands.specs.Names.{padded, named_in, number_named, numbered, register_named};
+ghost use Rattle.svc_operands.specs.Names.{padded, number_named, numbered, register_named};
 
 use crate::characters::value_of;
 use svc_rv32i::Register;
@@ -72,27 +72,20 @@ pub fn padded(name: &[u8]) -> Option<Name>
     Some(letters)
 }
 
-// The number beside a name.
-fn find_number(rows: &[Named], name: Name) -> Option<u32>
-    ensures { result ≡ named_in rows.now name }
+/// The number of the first of these rows that has this name.
+#[tactic(auto, unfolding(crate::specs::Names::number_named))]
+pub fn number_named(rows: &[Named], name: &[u8]) -> Option<u32>
+    ensures { result ≡ number_named rows.now name.now }
 {
+    let letters = padded(name)?;
     for row in rows {
-        if name == row.0 {
+        if letters == row.0 {
             return Some(row.1);
         }
     }
     None
 }
 
-/// The number of the first of these rows that has this name.
-#[tactic(auto, unfolding(crate::specs::Names::number_named))]
-pub fn number_named(rows: &[Named], name: &[u8]) -> Option<u32>
-    ensures { result ≡ number_named rows.now name.now }
-{
-    find_number(rows, padded(name)?)
-}
-
-// The number of the register that has this name in the calling convention.
 fn abi_named(name: &[u8]) -> Option<u32>
     ensures value { result ≡ number_named REGISTERS name.now }
     ensures small { IfSome result (λ n. n < 32) }
@@ -100,7 +93,6 @@ fn abi_named(name: &[u8]) -> Option<u32>
     number_named(&REGISTERS, name)
 }
 
-/// The number of the register of this name, x0 to x31.
 #[tactic(auto, unfolding(crate::specs::Names::numbered))]
 fn numbered(name: &[u8]) -> Option<u32>
     ensures value { result ≡ numbered name.now }
@@ -125,7 +117,6 @@ pub fn register(number: u32) -> Register
     }
 }
 
-/// The register of this name: x0 to x31, or its name in the calling convention.
 #[tactic(auto, unfolding(crate::specs::Names::register_named))]
 pub fn register_named(name: &[u8]) -> Option<Register>
     ensures { result ≡ register_named name.now }

@@ -1,22 +1,78 @@
-// Values, which may name labels, and the immediates that are made of them.
+// Values, which may name labels, the immediates that are made of them, and how far branches and jumps go.
 
-ghost use Rattle.std.specs.Prelude.{◌≡◌};
+ghost use Rattle.std.specs.Prelude.{◌≡◌, ◌-◌, ◌≤◌};
+ghost use Rattle.std.specs.List.{take_while};
 ghost use Rattle.svc_draft.specs.Layouts.{layout_of};
-ghost use Rattle.svc_operands.specs.Reading.{Gives};
-ghost use Rattle.svc_operands.specs.Values.{place_of, place_at, plain_term_at, bits_of, opposite_at, term_at, sum, sum_with, value_at, high_part, low_part, from_here, enclosed_at, relative_at, high_at, distance_named, distance_at, completed_at, low_at, short_at, upper_at};
+ghost use Rattle.svc_operands.specs.Characters.{past};
+ghost use Rattle.svc_operands.specs.Values.{is_decimal, reference_named, referred, place_of, plain_term_at, bits_of, fitted, term_at, sum_with, value_at, high_part, from_here, enclosed_at, relative_at, high_at, distance_named, completed_at, low_at, short_at, upper_at, reach, reach_at, offset_at, target_at};
+ghost use Rattle.svc_operands.specs.Operands.{Gives};
 
-use crate::characters::{skip_mark, skip_spaces, split_name};
+use crate::characters::{skip_mark, skip_spaces, split_name, value_of};
 use crate::names::is_word;
 use crate::operands::{
-    Signed, distance, long, read_behind_sign, read_mark, read_number, read_number_short,
-    read_number_upper, short,
+    Signed, distance, read_behind_sign, read_below, read_mark, read_number, read_number_short,
+    steps_of,
 };
-use crate::references::{reference_named, referred};
-use crate::unread::{Unread, Wanted, stopped_at};
+use crate::unread::{Read, Wanted, stopped_at};
 use svc_draft::Draft;
-use svc_rv32i::{Long, Short};
 
-// What a name stands for: `.` for the address of what comes next, and a label for its own.
+/// A local label.
+#[derive(Clone, Copy)]
+pub enum Reference {
+    /// The last one of this number before here: `1b`.
+    Back(u32),
+    /// The next one of this number: `1f`.
+    Ahead(u32),
+}
+
+#[tactic(auto, unfolding(crate::specs::Characters::past))]
+fn skip_digits(text: &[u8]) -> &[u8]
+    ensures { result.now ≡ past is_decimal text.now }
+{
+    let mut rest = text;
+    while let [first, after @ ..] = rest {
+        if !matches!(*first, b'0'..=b'9') {
+            return rest;
+        }
+        rest = after;
+    }
+    rest
+}
+
+// The digits that a name begins with, and what follows them.
+#[tactic(auto, using(crate::proofs::Past::past_within, crate::proofs::Past::front_of_past))]
+fn split_digits(name: &[u8]) -> (&[u8], &[u8])
+    ensures digits { result.0.now ≡ take_while is_decimal name.now }
+    ensures rest { result.1.now ≡ past is_decimal name.now }
+{
+    let rest = skip_digits(name);
+    let (digits, _) = name.split_at(name.len() - rest.len());
+    (digits, rest)
+}
+
+#[tactic(auto, unfolding(crate::specs::Values::reference_named))]
+pub fn reference_named(name: &[u8]) -> Option<Reference>
+    ensures { result ≡ reference_named name.now }
+{
+    let (digits, letter) = split_digits(name);
+    if is_word(letter, "b") {
+        return Some(Reference::Back(value_of(10, digits)?));
+    }
+    if is_word(letter, "f") {
+        return Some(Reference::Ahead(value_of(10, digits)?));
+    }
+    None
+}
+
+pub fn referred(draft: &Draft, reference: Reference) -> Option<u32>
+    ensures { result ≡ referred (layout_of draft.now) reference }
+{
+    match reference {
+        Reference::Back(number) => draft.address_back(number),
+        Reference::Ahead(number) => draft.address_ahead(number),
+    }
+}
+
 #[tactic(auto, unfolding(crate::specs::Values::place_of))]
 fn place_of(draft: &Draft, name: &[u8]) -> Option<u32>
     ensures { result ≡ place_of (layout_of draft.now) name.now }
@@ -30,25 +86,19 @@ fn place_of(draft: &Draft, name: &[u8]) -> Option<u32>
     draft.address_of(name)
 }
 
-#[tactic(auto, unfolding(crate::specs::Values::place_at))]
-fn read_place<'a>(draft: &Draft, text: &'a [u8]) -> Result<(u32, &'a [u8]), Unread>
-    ensures { Gives (λ x. (x.0, x.1.now)) result (place_at (layout_of draft.now) text.now) }
-{
-    let (name, rest) = split_name(text);
-    match place_of(draft, name) {
-        Some(address) => Ok((address, rest)),
-        None => Err(stopped_at(text, Wanted::Value)),
-    }
-}
-
-// A number, `.`, or a label.
 #[tactic(auto, unfolding(crate::specs::Values::plain_term_at))]
-fn read_plain_term<'a>(draft: &Draft, text: &'a [u8]) -> Result<(u32, &'a [u8]), Unread>
+fn read_plain_term<'a>(draft: &Draft, text: &'a [u8]) -> Read<'a, u32>
     ensures { Gives (λ x. (x.0, x.1.now)) result (plain_term_at (layout_of draft.now) text.now) }
 {
     match read_number(text) {
         Ok(read) => Ok(read),
-        Err(_) => read_place(draft, text),
+        Err(_) => {
+            let (name, rest) = split_name(text);
+            match place_of(draft, name) {
+                Some(address) => Ok((address, rest)),
+                None => Err(stopped_at(text, Wanted::Value)),
+            }
+        }
     }
 }
 
@@ -63,33 +113,40 @@ pub fn bits_of(number: Signed) -> u32
     }
 }
 
-// A number whose minus sign was read before it.
-#[tactic(auto, unfolding(crate::specs::Values::opposite_at))]
-fn read_opposite(text: &[u8]) -> Result<(u32, &[u8]), Unread>
-    ensures { Gives (λ x. (x.0, x.1.now)) result (opposite_at text.now) }
+/// The 32 bits of a number of so many that has room, of which half may be below 0.
+#[tactic(auto, unfolding(crate::specs::Values::fitted))]
+pub fn fitted(half: u32, number: Signed) -> Option<u32>
+    ensures { result ≡ fitted half number }
 {
-    let (magnitude, rest) = read_number(text)?;
-    let number = Signed {
-        negative: true,
-        magnitude,
-    };
-    Ok((bits_of(number), rest))
+    if number.negative {
+        if number.magnitude <= half {
+            return Some(bits_of(number));
+        }
+        return None;
+    }
+    if (number.magnitude as u64) < 2 * half as u64 {
+        return Some(number.magnitude);
+    }
+    None
 }
 
 #[tactic(auto, unfolding(crate::specs::Values::term_at))]
-fn read_term<'a>(draft: &Draft, text: &'a [u8]) -> Result<(u32, &'a [u8]), Unread>
+fn read_term<'a>(draft: &Draft, text: &'a [u8]) -> Read<'a, u32>
     ensures { Gives (λ x. (x.0, x.1.now)) result (term_at (layout_of draft.now) text.now) }
 {
     let rest = skip_spaces(text);
     match rest {
         [] => Err(stopped_at(text, Wanted::Value)),
-        [b'-', number @ ..] => read_opposite(number),
+        [b'-', number @ ..] => {
+            let (number, rest) = read_behind_sign(true, number)?;
+            Ok((bits_of(number), rest))
+        }
         _ => read_plain_term(draft, rest),
     }
 }
 
 #[tactic(auto, unfolding(crate::specs::Values::sum_with))]
-fn read_sum(term: u32, negative: bool, text: &[u8]) -> Result<(u32, &[u8]), Unread>
+fn read_sum(term: u32, negative: bool, text: &[u8]) -> Read<'_, u32>
     ensures { Gives (λ x. (x.0, x.1.now)) result (sum_with term negative text.now) }
 {
     let (number, rest) = read_behind_sign(negative, text)?;
@@ -97,10 +154,8 @@ fn read_sum(term: u32, negative: bool, text: &[u8]) -> Result<(u32, &[u8]), Unre
 }
 
 /// A value of 32 bits: a number, `.`, a label, or one of them and a number that is added or taken away.
-///
-/// Errors: what stands where none can be read, and what may stand there.
 #[tactic(auto, unfolding(crate::specs::Values::value_at))]
-pub fn read_value<'a>(draft: &Draft, text: &'a [u8]) -> Result<(u32, &'a [u8]), Unread>
+pub fn read_value<'a>(draft: &Draft, text: &'a [u8]) -> Read<'a, u32>
     ensures { Gives (λ x. (x.0, x.1.now)) result (value_at (layout_of draft.now) text.now) }
 {
     let (term, rest) = read_term(draft, text)?;
@@ -111,18 +166,11 @@ pub fn read_value<'a>(draft: &Draft, text: &'a [u8]) -> Result<(u32, &'a [u8]), 
     }
 }
 
-/// The high part of a value, which makes it together with its low part.
-pub fn high_part(value: u32) -> Long
+/// The high part of a value, which makes it together with its low 12 bits, which count with a sign.
+pub fn high_part(value: u32) -> u32
     ensures { result ≡ high_part value }
 {
-    long(((value as u64 + 2048) / 4096) as u32)
-}
-
-/// The low 12 bits of a value, which count with a sign.
-pub fn low_part(value: u32) -> Short
-    ensures { result ≡ low_part value }
-{
-    short(value)
+    ((value as u64 + 2048) / 4096 % 1_048_576) as u32
 }
 
 /// How far it is from the address of what comes next to this one, as 32 bits.
@@ -132,9 +180,8 @@ pub fn from_here(draft: &Draft, address: u32) -> u32
     bits_of(distance(draft.here(), address))
 }
 
-// A value in parentheses.
 #[tactic(auto, unfolding(crate::specs::Values::enclosed_at))]
-fn read_enclosed<'a>(draft: &Draft, text: &'a [u8]) -> Result<(u32, &'a [u8]), Unread>
+fn read_enclosed<'a>(draft: &Draft, text: &'a [u8]) -> Read<'a, u32>
     ensures { Gives (λ x. (x.0, x.1.now)) result (enclosed_at (layout_of draft.now) text.now) }
 {
     let inside = read_mark(b'(', Wanted::Open, text)?;
@@ -144,10 +191,8 @@ fn read_enclosed<'a>(draft: &Draft, text: &'a [u8]) -> Result<(u32, &'a [u8]), U
 }
 
 /// What follows a percent sign, `pcrel_hi(VALUE)`, as how far it is from here to the value.
-///
-/// Errors: what stands where none can be read, and what may stand there.
 #[tactic(auto, unfolding(crate::specs::Values::relative_at))]
-pub fn read_relative<'a>(draft: &Draft, text: &'a [u8]) -> Result<(u32, &'a [u8]), Unread>
+pub fn read_relative<'a>(draft: &Draft, text: &'a [u8]) -> Read<'a, u32>
     ensures { Gives (λ x. (x.0, x.1.now)) result (relative_at (layout_of draft.now) text.now) }
 {
     let (name, rest) = split_name(text);
@@ -158,9 +203,8 @@ pub fn read_relative<'a>(draft: &Draft, text: &'a [u8]) -> Result<(u32, &'a [u8]
     Err(stopped_at(text, Wanted::High))
 }
 
-// What follows a percent sign where a high part is wanted: `hi(VALUE)` or `pcrel_hi(VALUE)`.
 #[tactic(auto, unfolding(crate::specs::Values::high_at))]
-fn read_high<'a>(draft: &Draft, text: &'a [u8]) -> Result<(Long, &'a [u8]), Unread>
+fn read_high<'a>(draft: &Draft, text: &'a [u8]) -> Read<'a, u32>
     ensures { Gives (λ x. (x.0, x.1.now)) result (high_at (layout_of draft.now) text.now) }
 {
     let (name, rest) = split_name(text);
@@ -172,7 +216,6 @@ fn read_high<'a>(draft: &Draft, text: &'a [u8]) -> Result<(Long, &'a [u8]), Unre
     Ok((high_part(distance), rest))
 }
 
-// How far it is to the value of the instruction with `%pcrel_hi` that a name is the label of.
 #[tactic(auto, unfolding(crate::specs::Values::distance_named))]
 fn distance_named(draft: &Draft, name: &[u8]) -> Option<u32>
     ensures { result ≡ distance_named (layout_of draft.now) name.now }
@@ -180,50 +223,39 @@ fn distance_named(draft: &Draft, name: &[u8]) -> Option<u32>
     draft.distance_from(place_of(draft, name)?)
 }
 
-#[tactic(auto, unfolding(crate::specs::Values::distance_at))]
-fn read_distance<'a>(draft: &Draft, text: &'a [u8]) -> Result<(u32, &'a [u8]), Unread>
-    ensures { Gives (λ x. (x.0, x.1.now)) result (distance_at (layout_of draft.now) text.now) }
-{
-    let (name, rest) = split_name(text);
-    match distance_named(draft, name) {
-        Some(distance) => Ok((distance, rest)),
-        None => Err(stopped_at(text, Wanted::Relative)),
-    }
-}
-
-// Such a label in parentheses.
 #[tactic(auto, unfolding(crate::specs::Values::completed_at))]
-fn read_completed<'a>(draft: &Draft, text: &'a [u8]) -> Result<(u32, &'a [u8]), Unread>
+fn read_completed<'a>(draft: &Draft, text: &'a [u8]) -> Read<'a, u32>
     ensures { Gives (λ x. (x.0, x.1.now)) result (completed_at (layout_of draft.now) text.now) }
 {
     let inside = read_mark(b'(', Wanted::Open, text)?;
-    let (distance, rest) = read_distance(draft, inside)?;
+    let (name, rest) = split_name(inside);
+    let distance = match distance_named(draft, name) {
+        Some(distance) => distance,
+        None => return Err(stopped_at(inside, Wanted::Relative)),
+    };
     let rest = read_mark(b')', Wanted::Close, rest)?;
     Ok((distance, rest))
 }
 
-// What follows a percent sign where a low part is wanted: `lo(VALUE)` or `pcrel_lo(LABEL)`.
 #[tactic(auto, unfolding(crate::specs::Values::low_at))]
-fn read_low<'a>(draft: &Draft, text: &'a [u8]) -> Result<(Short, &'a [u8]), Unread>
+fn read_low<'a>(draft: &Draft, text: &'a [u8]) -> Read<'a, u32>
     ensures { Gives (λ x. (x.0, x.1.now)) result (low_at (layout_of draft.now) text.now) }
 {
     let (name, rest) = split_name(text);
     if is_word(name, "lo") {
         let (value, rest) = read_enclosed(draft, rest)?;
-        return Ok((low_part(value), rest));
+        return Ok((value % 4096, rest));
     }
     if is_word(name, "pcrel_lo") {
         let (distance, rest) = read_completed(draft, rest)?;
-        return Ok((low_part(distance), rest));
+        return Ok((distance % 4096, rest));
     }
     Err(stopped_at(text, Wanted::Low))
 }
 
 /// An immediate of 12 bits: a number that fits, `%lo(VALUE)` or `%pcrel_lo(LABEL)`.
-///
-/// Errors: what stands where none can be read, and what may stand there.
 #[tactic(auto, unfolding(crate::specs::Values::short_at))]
-pub fn read_short<'a>(draft: &Draft, text: &'a [u8]) -> Result<(Short, &'a [u8]), Unread>
+pub fn read_short<'a>(draft: &Draft, text: &'a [u8]) -> Read<'a, u32>
     ensures { Gives (λ x. (x.0, x.1.now)) result (short_at (layout_of draft.now) text.now) }
 {
     match skip_mark(b'%', text) {
@@ -233,14 +265,66 @@ pub fn read_short<'a>(draft: &Draft, text: &'a [u8]) -> Result<(Short, &'a [u8])
 }
 
 /// An immediate of 20 bits: a number that fits, `%hi(VALUE)` or `%pcrel_hi(VALUE)`.
-///
-/// Errors: what stands where none can be read, and what may stand there.
 #[tactic(auto, unfolding(crate::specs::Values::upper_at))]
-pub fn read_upper<'a>(draft: &Draft, text: &'a [u8]) -> Result<(Long, &'a [u8]), Unread>
+pub fn read_upper<'a>(draft: &Draft, text: &'a [u8]) -> Read<'a, u32>
     ensures { Gives (λ x. (x.0, x.1.now)) result (upper_at (layout_of draft.now) text.now) }
 {
     match skip_mark(b'%', text) {
         Some(part) => read_high(draft, part),
-        None => read_number_upper(text),
+        None => read_below(1_048_576, Wanted::Upper, text),
+    }
+}
+
+/// No way at all.
+const NOWHERE: Signed = Signed {
+    negative: false,
+    magnitude: 0,
+};
+
+fn reach(draft: &Draft, address: u32) -> Signed
+    ensures { result ≡ reach (layout_of draft.now) address }
+{
+    if draft.is_known() {
+        distance(draft.here(), address)
+    } else {
+        NOWHERE
+    }
+}
+
+#[tactic(auto, unfolding(crate::specs::Values::reach_at))]
+fn read_reach<'a>(draft: &Draft, text: &'a [u8]) -> Read<'a, Signed>
+    ensures { Gives (λ x. (x.0, x.1.now)) result (reach_at (layout_of draft.now) text.now) }
+{
+    match read_value(draft, text) {
+        Ok((address, rest)) => Ok((reach(draft, address), rest)),
+        Err(_) => Err(stopped_at(text, Wanted::Target)),
+    }
+}
+
+#[tactic(auto, unfolding(crate::specs::Values::offset_at))]
+fn read_offset<'a>(draft: &Draft, text: &'a [u8]) -> Read<'a, Signed>
+    ensures { Gives (λ x. (x.0, x.1.now)) result (offset_at (layout_of draft.now) text.now) }
+{
+    let (name, rest) = split_name(text);
+    match name {
+        b"." => match skip_spaces(rest) {
+            [b'+', magnitude @ ..] => read_behind_sign(false, magnitude),
+            [b'-', magnitude @ ..] => read_behind_sign(true, magnitude),
+            _ => Ok((NOWHERE, rest)),
+        },
+        _ => read_reach(draft, text),
+    }
+}
+
+/// How far a branch or a jump goes, in steps of two bytes, as a number of which so many are forward.
+#[tactic(auto, unfolding(crate::specs::Values::target_at))]
+pub fn read_target<'a>(draft: &Draft, half: u32, wanted: Wanted, text: &'a [u8]) -> Read<'a, u32>
+    requires { half ≤ 524288 }
+    ensures { Gives (λ x. (x.0, x.1.now)) result (target_at half (layout_of draft.now) text.now) }
+{
+    let (offset, rest) = read_offset(draft, text)?;
+    match steps_of(half, offset) {
+        Some(steps) => Ok((steps, rest)),
+        None => Err(stopped_at(text, wanted)),
     }
 }

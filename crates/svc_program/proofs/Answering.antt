@@ -1,6 +1,9 @@
 -- What a request comes to, put together of what its parts say.
 use Rattle.std.specs.Prelude.{IfOk, IfErr}
-use Rattle.std.proofs.Common.{◌≡◌, ◌⊎◌, ℕ, List, false, Option, Some, None, Result, Ok, Err, inl, inr, refl}
+use Rattle.std.proofs.Common.{◌≡◌, ◌⊎◌, ℕ, List, false, Option, Some, None, Result, Ok, Err, inl, inr, refl, subst, sym}
+use denote.Ref.{Bor}
+use Rattle.std.specs.Option.{option_copied}
+use Rattle.svc_names.specs.declared.names.Names.{Names}
 use Rattle.svc_image.specs.Image.{Image}
 use Rattle.svc_plain.specs.Tasks.{tasks_run}
 use Rattle.svc_history_laws.specs.declared.entry.Entry.{Entry}
@@ -12,11 +15,14 @@ use Rattle.svc_request.specs.declared.request.Request.TheVariants as request
 use Rattle.svc_report.specs.declared.script.Step.{Step}
 use Rattle.svc_request.specs.declared.request.Run.{Run}
 use Rattle.svc_request.specs.declared.request.Scripted.{Scripted}
+use Rattle.svc_request.specs.declared.request.Depended.{Depended}
 use Rattle.svc_request.specs.declared.request.Tasks.{Tasks}
 use Rattle.svc_request.specs.declared.request.Traced.{Traced}
 use Rattle.svc_request.specs.Faults.{IsEarly, IsOutputFault, IsReportFault}
 use Rattle.svc_request.specs.Held.{Held, KeepsAllBut}
 use Rattle.svc_request.specs.Names.{written_by}
+use Rattle.svc_program.specs.Named.{AreNamesIn, IsNamedIn}
+use Rattle.svc_program.specs.Needs.{TellsNeeds}
 use Rattle.svc_program.specs.Requests.{Does, HasImage, IsAnswered, IsOfSource, IsQuiet, IsReady, IsScriptIn, IsTracedIn, IsTraceIn, KeepsFiles, SavesAlone, SavesAnyTrace, Spares}
 use Rattle.svc_program.specs.Runs.{GoesBy, IsRunOf, Reports, ReportsRun}
 use Rattle.svc_program.specs.Scripts.{PlaysScript}
@@ -87,6 +93,22 @@ pub of_loaded : (r : Result ℕ Fault) (held : Held) (traced : Traced) (img : Im
     → IfOk r (λ exit. IsTracedIn held traced (λ i xs. Holds i xs exit))
 of_loaded (Ok exit) held traced img es Holds image trace holds = (img, image, es, trace, holds)
 of_loaded (Err f) held traced img es Holds image trace holds = tt
+
+-- what is done with the names that were loaded
+pub of_named : (r : Result ℕ Fault) (held : Held) (asked : Option (Bor (List ℕ))) (loaded : Option Names) (given : Option (Bor Names)) (Tells : Option (Bor Names) → ℕ → Type 0)
+    → AreNamesIn held asked loaded → option_copied given ≡ loaded → IfOk r (Tells given) → IfOk r (λ exit. IsNamedIn held asked (λ names. Tells names exit))
+of_named (Ok exit) held asked loaded given Tells are same holds = (given, subst (AreNamesIn held asked) (sym same) are, holds)
+of_named (Err f) held asked loaded given Tells are same holds = tt
+
+-- the needs of tasks, with the names that were loaded
+pub needs_answered : {O : Type 0} (contents : O → Option (List ℕ)) (depended : Depended) (held : Held) (old new : O) (r : Result ℕ Fault) (img : Image)
+    → IsOfSource held depended.image img
+    → IfOk r (λ exit. IsNamedIn held depended.names (λ names. TellsNeeds depended.by names img depended.most (contents old) (contents new) exit))
+    → IfErr r (IsQuiet old new) → IsAnswered contents (request.Depend depended) held held old new r
+needs_answered contents depended held old new (Ok exit) img image tells silent =
+    record { done = (img, image, tells); silent = tt; order = tt; kept = refl; spared = tt }
+needs_answered contents depended held old new (Err f) img image tells silent =
+    record { done = tt; silent = silent; order = inr (img, image); kept = refl; spared = inl refl }
 
 -- a run: its trace is saved where a file is named for it, and its report printed
 pub run_answered : {O : Type 0} (contents : O → Option (List ℕ)) (run : Run) (held saved : Held) (old new : O) (r : Result ℕ Fault) (img : Image) (recorded : Recorded)

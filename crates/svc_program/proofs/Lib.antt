@@ -4,5 +4,5 @@ pub mod Playing
 pub mod Reading
 pub mod Reported
 pub mod WholeScript
-pub mod Showing
+pub mod Fronting
 pub mod Needed

@@ -26,7 +26,9 @@ use Rattle.svc_request.specs.declared.faults.Fault.TheVariants as fault
 use Rattle.svc_program.specs.Assembly.{Assembles, Lists, MakesImage}
 use Rattle.svc_program.specs.Costs.{TellsCost}
 use Rattle.svc_program.specs.Drawings.{IsDrawn}
+use Rattle.svc_program.specs.Explored.{TellsSchedules}
 use Rattle.svc_request.specs.Faults.{IsEarly, IsOutputFault, IsReportFault}
+use Rattle.svc_program.specs.Named.{IsNamedIn}
 use Rattle.svc_program.specs.Needs.{TellsNeeds}
 use Rattle.svc_program.specs.Runs.{FindsSound, GoesBy, IsRunOf, Reports, ReportsRun}
 use Rattle.svc_program.specs.Scripts.{PlaysScript}
@@ -89,16 +91,20 @@ Does (request.Run run) held saved old new exit =
 Does (request.Sequential tasks) held saved old new exit =
     (img : Image) × IsOfSource held tasks.image img × Reports img tasks.most (tasks_run img tasks.most) false None old new exit
 Does (request.Depend depended) held saved old new exit =
-    (img : Image) × IsOfSource held depended.image img × TellsNeeds depended.by img depended.most old new exit
+    (img : Image) × IsOfSource held depended.image img × IsNamedIn held depended.names (λ names. TellsNeeds depended.by names img depended.most old new exit)
+Does (request.Explore explored) held saved old new exit =
+    (img : Image) × IsOfSource held explored.image img × TellsSchedules img explored.config explored.burst old new exit
 Does (request.Script scripted) held saved old new exit =
     (img : Image) × IsOfSource held scripted.image img
     × (steps : List Step) × IsScriptIn held scripted.events.now steps
     × PlaysScript img scripted.config steps (SavesAnyTrace saved scripted.trace) old new exit
 Does (request.Check traced) held saved old new exit = IsTracedIn held traced (λ img es. FindsSound img traced.config es old new exit)
-Does (request.Profile traced by) held saved old new exit = IsTracedIn held traced (λ img es. TellsCost by img traced.config es old new exit)
-Does (request.Show traced at) held saved old new exit = IsTracedIn held traced (λ img es. TellsMachine at img traced.config es old new exit)
+Does (request.Profile traced to by named) held saved old new exit =
+    IsTracedIn held traced (λ img es. IsNamedIn held named (λ names. TellsCost to by names img traced.config es old new exit))
+Does (request.Show traced at named) held saved old new exit =
+    IsTracedIn held traced (λ img es. IsNamedIn held named (λ names. TellsMachine at names img traced.config es old new exit))
 Does (request.Draw traced picture) held saved old new exit =
-    IsTracedIn held traced (λ img es. IsDrawn img traced.config es picture.from) × (new ≡ old) × (exit ≡ 0)
+    IsTracedIn held traced (λ img es. IsDrawn img traced.config es picture.from picture.count) × (new ≡ old) × (exit ≡ 0)
 Does (request.Assemble assembly) held saved old new exit = Assembles (held assembly.text.now) (saved assembly.image.now) exit × (new ≡ old)
 Does (request.List image) held saved old new exit = (img : Image) × IsOfSource held image img × Lists img old new exit
 

@@ -13,7 +13,7 @@ use crate::load::load_traced;
 use std::alloc::Global;
 use std::io::Write;
 use svc_base::Config;
-use svc_history::{Entry, check_trace};
+use svc_history::{Entry, Recorder, check_trace};
 use svc_history_laws::history_leads_on;
 use svc_image::Image;
 use svc_request::{Fault, Files, Traced};
@@ -50,17 +50,25 @@ fn check_entries<O: Write>(
     Ok(0)
 }
 
-/// Replays the entries from before any event.
+/// Replays the entries from before any event, and gives the recorder to which they lead.
 ///
 /// Errors: the trace's first fault.
-pub fn replay(alloc: Global, image: Image, config: Config, entries: &[Entry]) -> Result<(), Fault>
+pub fn replay(
+    alloc: Global,
+    image: Image,
+    config: Config,
+    entries: &[Entry],
+) -> Result<Recorder, Fault>
+    ensures image { IfOk result (λ r. r.machine.image ≡ image) }
+    ensures config { IfOk result (λ r. r.machine.config ≡ config) }
+    ensures entries { IfOk result (λ r. r.entries ≡ entries.now) }
     ensures legal { IfOk result (λ _. LegalHistory image config entries.now) }
     ensures few { IfOk result (λ _. length entries.now ≤ MAX_EVENTS) }
     ensures fault { IfErr result (TellsOfTrace image config entries.now) }
 {
     // a legal history has no more entries than the configuration allows
     let _start = image.start();
-    let _recorder = check_trace(alloc, image, config, entries)?;
+    let recorder = check_trace(alloc, image, config, entries)?;
     history_leads_on();
-    Ok(())
+    Ok(recorder)
 }

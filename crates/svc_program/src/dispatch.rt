@@ -9,6 +9,7 @@ use crate::assembly::{assemble, list};
 use crate::check::check;
 use crate::depend::depend;
 use crate::draw::draw;
+use crate::explore::explore;
 use crate::profile::profile;
 use crate::run::run;
 use crate::script::script;
@@ -21,7 +22,7 @@ use std::thread::Threads;
 use svc_request::{Fault, Files, Request, VERSION};
 
 /// Does what is asked for. It returns the exit status: 0 if the run reached the program's exit, a trace was sound, an
-/// image was assembled or listed, or help or the version was asked for, and 2 at any other ending.
+/// image was assembled or listed, an exploration was whole, or help or the version was asked for, and 2 otherwise.
 ///
 /// Errors: the first fault, looked for in this order: a file that would be written over one that is read, the image,
 /// the script or trace, the opening of the machine, the run, the output. Nothing is printed before a fault, unless it
@@ -62,10 +63,13 @@ fn dispatch<R: Threads + Wait + Sync, F: Files, O: Write>(
         Request::Run(asked) => run(rt, alloc, asked, files, out),
         Request::Sequential(tasks) => sequential(alloc, tasks, files, out),
         Request::Depend(depended) => depend(alloc, depended, files, out),
+        Request::Explore(explored) => explore(alloc, explored, files, out),
         Request::Script(scripted) => script(alloc, scripted, files, out),
         Request::Check(traced) => check(alloc, traced, files, out),
-        Request::Profile(traced, by) => profile(alloc, traced, by, files, out),
-        Request::Show(traced, at) => show(alloc, traced, at, files, out),
+        Request::Profile(traced, to, by, names) => profile(
+            alloc, traced, to, by, names, files, out,
+        ),
+        Request::Show(traced, at, names) => show(alloc, traced, at, names, files, out),
         Request::Draw(traced, picture) => draw(alloc, traced, picture, files, out),
         Request::Assemble(assembly) => assemble(alloc, assembly, files, out),
         Request::List(image) => list(alloc, image, files, out),

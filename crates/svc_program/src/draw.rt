@@ -1,13 +1,15 @@
 //! `draw`: a picture of a trace.
 
-ghost use Rattle.std.specs.Prelude.{◌≡◌, ◌⊎◌, IfOk, IfErr};
+ghost use Rattle.std.specs.Prelude.{◌≡◌, ◌+◌, ◌⊎◌, Some, IfOk, IfErr};
 ghost use Rattle.svc_request.specs.declared.faults.Fault.TheVariants.{File};
 ghost use Rattle.svc_request.specs.declared.request.Request.TheVariants as request;
 ghost use Rattle.svc_program.specs.Drawings.{IsDrawn};
+ghost use Rattle.svc_program.specs.Fronts.{front};
 ghost use Rattle.svc_program.specs.Requests.{IsAnswered};
 ghost use Rattle.svc_request.specs.Faults.{IsReportFault, TellsOfTrace};
 
 use crate::check::replay;
+use crate::fronts::first;
 use crate::load::load_traced;
 use std::alloc::Global;
 use std::io::Write;
@@ -16,7 +18,7 @@ use svc_history::Entry;
 use svc_image::Image;
 use svc_request::{Fault, Files, Picture, Traced};
 
-/// Replays a trace, and saves a picture of it. Nothing is printed.
+/// Replays a trace up to the last entry that is shown, and saves a picture of it. Nothing is printed.
 pub fn draw<F: Files, O: Write>(
     alloc: Global,
     traced: Traced<'_>,
@@ -34,9 +36,9 @@ pub fn draw<F: Files, O: Write>(
     Ok(0)
 }
 
-// Replays the entries, and draws those that the picture shows.
+// Replays the entries up to the last that the picture shows, and draws it.
 //
-// Errors: the trace's first fault; [`Fault::File`] if the trace has fewer entries than precede the picture's first;
+// Errors: the first fault of these entries; [`Fault::File`] if the trace has fewer entries than precede the picture's first;
 // lack of memory.
 fn draw_entries(
     alloc: Global,
@@ -45,20 +47,18 @@ fn draw_entries(
     entries: &[Entry],
     picture: Picture<'_>,
 ) -> Result<Vec<u8>, Fault>
-    ensures drawn { IfOk result (λ _. IsDrawn image config entries.now picture.entry.from) }
-    ensures fault { IfErr result (λ fault. (fault ≡ File) ⊎ IsReportFault fault
-        ⊎ TellsOfTrace image config entries.now fault) }
+    ensures drawn { IfOk result (λ _. IsDrawn image config entries.now picture.entry.from picture.entry.count) }
+    ensures fault { let last = picture.entry.from + picture.entry.count in
+        IfErr result (λ fault. (fault ≡ File) ⊎ IsReportFault fault
+        ⊎ TellsOfTrace image config (front (Some last) entries.now) fault) }
 {
-    replay(alloc, image, config, entries)?;
-    if picture.from as usize > entries.len() {
+    let from = u64::from(picture.from);
+    let count = u64::from(picture.count);
+    let drawn = first(entries, Some(from + count));
+    replay(alloc, image, config, drawn)?;
+    if from > entries.len() as u64 {
         return Err(Fault::File);
     }
-    let text = svc_draw::draw(
-        alloc,
-        entries,
-        config.units,
-        u64::from(picture.from),
-        u64::from(picture.count),
-    )?;
+    let text = svc_draw::draw(alloc, drawn, config.units, from, count)?;
     Ok(text)
 }

@@ -6,7 +6,9 @@ mod check;
 mod depend;
 mod dispatch;
 mod draw;
+mod explore;
 mod front;
+mod fronts;
 mod load;
 mod output;
 mod profile;
@@ -19,6 +21,6 @@ mod summary;
 pub use dispatch::perform;
 pub use svc_report::TableRow;
 pub use svc_request::{
-    Assembly, Depended, Fault, FileFault, Files, NeedsTable, Order, Picture, Request, Run,
-    Schedule, Scripted, Source, Table, Tasks, Traced, VERSION, tell,
+    Assembly, Depended, Explored, Fault, FileFault, Files, NeedsTable, Order, Picture, Request,
+    Run, Schedule, Scripted, Source, Table, Tasks, Traced, VERSION, tell,
 };

@@ -3,6 +3,7 @@
 ghost use Rattle.std.specs.Prelude.{◌≡◌, ◌⊎◌, IfOk, IfErr, IfSome, option_map};
 ghost use Rattle.svc_image.specs.Format.{file_of};
 ghost use Rattle.svc_request.specs.Faults.{IsEarly};
+ghost use Rattle.svc_program.specs.Named.{AreNamesIn};
 ghost use Rattle.svc_program.specs.Requests.{IsOfSource, IsScriptIn, IsThere, IsTraceIn, SavesAlone, SavesAnyTrace};
 
 use crate::front::front_of;
@@ -10,6 +11,7 @@ use std::alloc::Global;
 use std::io::Read;
 use svc_history::Entry;
 use svc_image::{Image, ImageError, MOST_BYTES, samples};
+use svc_names::Names;
 use svc_report::{ReportError, Step, read_script, read_trace, write_trace};
 use svc_request::{Fault, Files, Source, Traced};
 
@@ -60,6 +62,25 @@ pub fn load_trace<F: Files>(alloc: Global, name: &str, files: &F) -> Result<Vec<
     let reader = files.open(name)?;
     let entries = read_trace(alloc, reader)?;
     Ok(entries)
+}
+
+/// The names of a table's file, if one is named.
+pub fn load_names<F: Files>(
+    alloc: Global,
+    named: Option<&str>,
+    files: &F,
+) -> Result<Option<Names>, Fault>
+    ensures { IfOk result (AreNamesIn (F.held files.now) named.entry) }
+{
+    let Some(name) = named else {
+        return Ok(None);
+    };
+    let reader = files.open(name)?;
+    match Names::read(alloc, reader) {
+        Ok(names) => Ok(Some(names)),
+        Err(ReportError::Row { row, column }) => Err(Fault::BadNames { row, column }),
+        Err(error) => Err(Fault::Report(error)),
+    }
 }
 
 /// The image of a trace, and then the trace's entries.

@@ -18,6 +18,8 @@ mod words;
 pub use counts::{COUNT_NAMES, Counts};
 pub use error::ReportError;
 pub use legal_rows::legal_history_has_rows;
+pub use numbers::number_of;
+pub use records::{check_names, field, next_row, open};
 pub use script::{Step, StepKind, read_script};
 pub use summary::write_summary;
 pub use summary_row::write_summary_row;

@@ -62,7 +62,7 @@ fn is_padded(field: &[u8]) -> bool
 }
 
 /// The number whose text this is.
-pub(crate) fn number_of(field: &[u8]) -> Option<u32>
+pub fn number_of(field: &[u8]) -> Option<u32>
     ensures { Reads (λ n. n < 2 ^ 32) decimal field.now result }
 {
     if is_padded(field) {

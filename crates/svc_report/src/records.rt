@@ -17,7 +17,7 @@ use svc_record_limit::Limited;
 
 /// A reader of records with the usual settings, which reads no record past the most bytes that one may have. A record
 /// may have any number of fields: it is up to the caller to report a wrong number.
-pub(crate) fn open<R: Read>(alloc: Global, reader: R) -> Reader<Limited<R>>
+pub fn open<R: Read>(alloc: Global, reader: R) -> Reader<Limited<R>>
     ensures open { IsOpen result }
     ensures state { reader_state result ≡ st.StartRecord }
     ensures source { source_of (known_through R.remaining) result ≡ option_map readable (R.remaining reader) }
@@ -29,10 +29,7 @@ pub(crate) fn open<R: Read>(alloc: Global, reader: R) -> Reader<Limited<R>>
 }
 
 /// Reads the next record, and says whether there was one.
-pub(crate) fn next_row<R: Read>(
-    reader: &mut Reader<R>,
-    row: &mut ByteRecord,
-) -> Result<bool, ReportError>
+pub fn next_row<R: Read>(reader: &mut Reader<R>, row: &mut ByteRecord) -> Result<bool, ReportError>
     requires { IsOpen reader.old }
     ensures reads { IfOk result (λ found. IsOpen reader.new
         × ReadRecord R.remaining reader.old reader.new found (fields_of row.new)) }
@@ -48,7 +45,7 @@ pub(crate) fn next_row<R: Read>(
 }
 
 /// A field of a record, which is empty past the record's end.
-pub(crate) fn field(row: &ByteRecord, place: usize) -> &[u8]
+pub fn field(row: &ByteRecord, place: usize) -> &[u8]
     ensures { result.now ≡ get_or (fields_of row.now) place [] }
 {
     match row.get(place) {
@@ -58,7 +55,7 @@ pub(crate) fn field(row: &ByteRecord, place: usize) -> &[u8]
 }
 
 /// Compares a record with names, and returns the first column that differs.
-pub(crate) fn check_names(row: &ByteRecord, names: &[&[u8]]) -> Result<(), u8>
+pub fn check_names(row: &ByteRecord, names: &[&[u8]]) -> Result<(), u8>
     requires { length names.now ≤ 100 }
     ensures { MatchResult result (λ _. fields_of row.now ≡ map (λ n. n.now) names.now)
         (λ c. FirstOther (fields_of row.now) (map (λ n. n.now) names.now) c) }

@@ -15,10 +15,11 @@ abbrev pub source_of : Request → Option Source
 source_of (request.Run run) = Some run.image
 source_of (request.Sequential tasks) = Some tasks.image
 source_of (request.Depend depended) = Some depended.image
+source_of (request.Explore explored) = Some explored.image
 source_of (request.Script scripted) = Some scripted.image
 source_of (request.Check traced) = Some traced.image
-source_of (request.Profile traced by) = Some traced.image
-source_of (request.Show traced at) = Some traced.image
+source_of (request.Profile traced to by names) = Some traced.image
+source_of (request.Show traced at names) = Some traced.image
 source_of (request.Draw traced picture) = Some traced.image
 source_of (request.List image) = Some image
 source_of _ = None

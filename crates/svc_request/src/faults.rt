@@ -33,6 +33,9 @@ pub enum Fault {
     /// A trace has a bad record: the first one, counted from 1, and its first bad column.
     #[error("report fault 4 row {row} column {column}")]
     BadTrace { row: u64, column: u8 },
+    /// A table of names has a bad record: the first one, counted from 1, and its first bad column.
+    #[error("names fault row {row} column {column}")]
+    BadNames { row: u64, column: u8 },
     /// A text makes no image: its name, and where and why.
     #[error("{0}")]
     Assembly(String),

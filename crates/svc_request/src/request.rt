@@ -112,22 +112,47 @@ pub struct Depended<'a> {
     pub most: u32,
     /// The table that is printed instead of the totals.
     pub by: Option<NeedsTable>,
+    /// The table of names by which entries and words are told, too.
+    pub names: Option<&'a str>,
     pub ghost few: { most ≤ 1000000 },
 }
 
 impl<'a> Depended<'a> {
-    /// The needs of an image's first tasks, by this table; none if more than [`MAX_TASKS`] are asked for.
-    pub fn new(image: Source<'a>, most: u32, by: Option<NeedsTable>) -> Option<Depended<'a>>
+    /// The needs of an image's first tasks, by this table and with these names; none if more than [`MAX_TASKS`] are
+    /// asked for.
+    pub fn new(
+        image: Source<'a>,
+        most: u32,
+        by: Option<NeedsTable>,
+        names: Option<&'a str>,
+    ) -> Option<Depended<'a>>
         ensures given { IsSome result ↔ (most ≤ 1000000) }
         ensures image { IfSome result (λ it. it.image ≡ image.entry) }
         ensures most { IfSome result (λ it. it.most ≡ most) }
         ensures by { IfSome result (λ it. it.by ≡ by) }
+        ensures names { IfSome result (λ it. it.names ≡ names.entry) }
     {
         if u64::from(most) > MAX_TASKS {
             return None;
         }
-        Some(Depended { image, most, by })
+        Some(Depended {
+            image,
+            most,
+            by,
+            names,
+        })
     }
+}
+
+/// All schedules of an image, on a machine of a configuration.
+#[derive(Clone, Copy)]
+pub struct Explored<'a> {
+    pub image: Source<'a>,
+    pub config: Config,
+    /// The most turns in a burst.
+    pub burst: u32,
+    /// How many standings to explore at most.
+    pub states: u32,
 }
 
 /// The events of a script, on a machine of a configuration.
@@ -183,15 +208,19 @@ pub enum Request<'a> {
     Sequential(Tasks<'a>),
     /// To run tasks in order, and to print what they need of one another, in total or by a table.
     Depend(Depended<'a>),
+    /// To follow all schedules of an image, and to print what can be seen.
+    Explore(Explored<'a>),
     /// To do the events of a script, and to print a line for each, and the summary.
     Script(Scripted<'a>),
     /// To replay a trace, and to print whether it is sound.
     Check(Traced<'a>),
-    /// To replay a trace, and to print what its speculation cost, in total or by a table.
-    Profile(Traced<'a>, Option<Table<'a>>),
-    /// To replay a trace, and to print the machine after this many of its entries, or after all.
-    Show(Traced<'a>, Option<u64>),
-    /// To replay a trace, and to save a picture of it.
+    /// To replay this many entries of a trace, or all, and to print what their speculation cost, in total or by a table, with
+    /// the names of this table.
+    Profile(Traced<'a>, Option<u64>, Option<Table<'a>>, Option<&'a str>),
+    /// To replay this many entries of a trace, or all, and to print the machine to which they lead, with the names of this
+    /// table.
+    Show(Traced<'a>, Option<u64>, Option<&'a str>),
+    /// To replay a trace up to the last entry that is shown, and to save a picture of it.
     Draw(Traced<'a>, Picture<'a>),
     /// To assemble a text, and to save its image.
     Assemble(Assembly<'a>),

@@ -72,7 +72,9 @@ const OPTIONS: [&str; 11] = [
 
 /// The help of each subcommand that opens a machine explains the numbers of its configuration.
 fn explains_each_option<R: Threads + Wait + Sync + AllocGlobal>(rt: &R) -> Attempt {
-    for subcommand in ["run", "script", "check", "profile", "show", "draw"] {
+    for subcommand in [
+        "run", "explore", "script", "check", "profile", "show", "draw",
+    ] {
         if !explains(rt, subcommand, &OPTIONS)? {
             return Ok(false);
         }
@@ -80,10 +82,11 @@ fn explains_each_option<R: Threads + Wait + Sync + AllocGlobal>(rt: &R) -> Attem
     Ok(true)
 }
 
-const EXAMPLES: [(&str, &str); 10] = [
+const EXAMPLES: [(&str, &str); 11] = [
     ("run", "Example: svcsim run "),
     ("seq", "Example: svcsim seq "),
     ("depend", "Example: svcsim depend "),
+    ("explore", "Example: svcsim explore "),
     ("script", "Example: svcsim script "),
     ("check", "Example: svcsim check "),
     ("profile", "Example: svcsim profile "),

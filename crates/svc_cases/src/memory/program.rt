@@ -4,11 +4,11 @@ ghost use Rattle.std.specs.Prelude.{◌≡◌, nat_eq, true, Ok, IfErr};
 ghost use Rattle.std.specs.List.{starts_with};
 
 use super::attempt::{Attempt, Refused, ready};
-use super::texts::TEXT;
+use super::texts::{NAMES, TEXT};
 use super::wanted::{
-    CHECK, DEPEND, DEPEND_AS_GRAPH, DEPEND_BY_PAIR, DEPEND_BY_TASK, DEPEND_BY_WORD, LIST, PROFILE,
-    PROFILE_BY_TASK, PROFILE_BY_UNIT, PROFILE_BY_WORD, PROFILE_ROW, RUN, RUN_ROW, SCHEDULE, SCRIPT,
-    SEQ, SHOW, SHOW_AT,
+    CHECK, DEPEND, DEPEND_AS_GRAPH, DEPEND_BY_PAIR, DEPEND_BY_TASK, DEPEND_BY_WORD, DEPEND_NAMED,
+    EXPLORE, LIST, PROFILE, PROFILE_BY_TASK, PROFILE_BY_UNIT, PROFILE_BY_WORD, PROFILE_NAMED,
+    PROFILE_ROW, RUN, RUN_ROW, SCHEDULE, SCRIPT, SEQ, SHOW, SHOW_AT, SHOW_NAMED,
 };
 use std::alloc::{AllocError, Global};
 use std::sync::Wait;
@@ -16,8 +16,8 @@ use std::thread::Threads;
 use svc_base::Config;
 use svc_command::execute;
 use svc_program::{
-    Assembly, Depended, FileFault, Files, NeedsTable, Order, Picture, Request, Run, Schedule,
-    Scripted, Source, Table, TableRow, Traced, perform, tell,
+    Assembly, Depended, Explored, FileFault, Files, NeedsTable, Order, Picture, Request, Run,
+    Schedule, Scripted, Source, Table, TableRow, Traced, perform, tell,
 };
 use svc_samples::{P, TRACE};
 
@@ -30,11 +30,13 @@ pub fn attempt<R: Threads + Wait + Sync + AllocGlobal>(rt: &R, name: &str) -> Op
 fn attempt_image<R: Threads + Wait + Sync + AllocGlobal>(rt: &R, name: &str) -> Option<Attempt> {
     match name {
         "seq" => Some(seq(rt)),
-        "depend" => Some(depend(rt, None, DEPEND)),
-        "depend_by_task" => Some(depend(rt, Some(NeedsTable::Tasks), DEPEND_BY_TASK)),
-        "depend_by_word" => Some(depend(rt, Some(NeedsTable::Words), DEPEND_BY_WORD)),
-        "depend_by_pair" => Some(depend(rt, Some(NeedsTable::Pairs), DEPEND_BY_PAIR)),
-        "depend_as_graph" => Some(depend(rt, Some(NeedsTable::Graph), DEPEND_AS_GRAPH)),
+        "depend" => Some(depend(rt, None, None, DEPEND)),
+        "depend_by_task" => Some(depend(rt, Some(NeedsTable::Tasks), None, DEPEND_BY_TASK)),
+        "depend_by_word" => Some(depend(rt, Some(NeedsTable::Words), None, DEPEND_BY_WORD)),
+        "depend_by_pair" => Some(depend(rt, Some(NeedsTable::Pairs), None, DEPEND_BY_PAIR)),
+        "depend_as_graph" => Some(depend(rt, Some(NeedsTable::Graph), None, DEPEND_AS_GRAPH)),
+        "depend_named" => Some(depend(rt, Some(NeedsTable::Graph), NAMED, DEPEND_NAMED)),
+        "explore" => Some(explore(rt)),
         "script" => Some(script(rt, None)),
         "script_saved" => Some(script(rt, Some("saved"))),
         "script_line" => Some(script_line(rt)),
@@ -51,13 +53,15 @@ fn attempt_image<R: Threads + Wait + Sync + AllocGlobal>(rt: &R, name: &str) -> 
 fn attempt_trace<R: Threads + Wait + Sync + AllocGlobal>(rt: &R, name: &str) -> Option<Attempt> {
     match name {
         "check" => Some(check(rt)),
-        "profile" => Some(profile(rt, None, PROFILE)),
-        "profile_by_task" => Some(profile(rt, Some(Table::Tasks), PROFILE_BY_TASK)),
-        "profile_by_unit" => Some(profile(rt, Some(Table::Units), PROFILE_BY_UNIT)),
-        "profile_by_word" => Some(profile(rt, Some(Table::Words), PROFILE_BY_WORD)),
-        "profile_row" => Some(profile(rt, Some(Table::Row(HEADED)), PROFILE_ROW)),
-        "show" => Some(show(rt, None, SHOW)),
-        "show_at" => Some(show(rt, Some(4), SHOW_AT)),
+        "profile" => Some(profile(rt, None, None, PROFILE)),
+        "profile_by_task" => Some(profile(rt, Some(Table::Tasks), None, PROFILE_BY_TASK)),
+        "profile_by_unit" => Some(profile(rt, Some(Table::Units), None, PROFILE_BY_UNIT)),
+        "profile_by_word" => Some(profile(rt, Some(Table::Words), None, PROFILE_BY_WORD)),
+        "profile_row" => Some(profile(rt, Some(Table::Row(HEADED)), None, PROFILE_ROW)),
+        "profile_named" => Some(profile(rt, Some(Table::Words), NAMED, PROFILE_NAMED)),
+        "show" => Some(show(rt, None, None, SHOW)),
+        "show_at" => Some(show(rt, Some(4), None, SHOW_AT)),
+        "show_named" => Some(show(rt, Some(4), NAMED, SHOW_NAMED)),
         "draw" => Some(draw(rt)),
         _ => None,
     }
@@ -66,6 +70,9 @@ fn attempt_trace<R: Threads + Wait + Sync + AllocGlobal>(rt: &R, name: &str) -> 
 /// The files that the words name. Saving always succeeds, as if on a disk.
 #[derive(Drop)]
 pub struct Samples;
+
+// The table of names, as it is named.
+const NAMED: Option<&str> = Some("names");
 
 // The image of two tasks.
 static IMAGE: [u8; 200] = P;
@@ -79,6 +86,7 @@ impl Files for Samples {
             "events" => Ok(svc_samples::SCRIPT.as_bytes()),
             "trace" => Ok(TRACE.as_bytes()),
             "text" => Ok(TEXT.as_bytes()),
+            "names" => Ok(NAMES.as_bytes()),
             _ => Err(FileFault),
         }
     }
@@ -174,16 +182,28 @@ fn asked<R: Threads + Wait + Sync + AllocGlobal>(
     judged(status, &out, &err, wanted)
 }
 
-/// What both tasks need of one another is printed, by this table or in total.
+/// What both tasks need of one another is printed, by this table or in total, and with names if a table is named.
 fn depend<R: Threads + Wait + Sync + AllocGlobal>(
     rt: &R,
     by: Option<NeedsTable>,
+    names: Option<&str>,
     wanted: &str,
 ) -> Attempt {
-    match Depended::new(Source::File("p"), 2, by) {
+    match Depended::new(Source::File("p"), 2, by, names) {
         Some(depended) => asked(rt, Request::Depend(depended), wanted),
         None => Ok(false),
     }
+}
+
+/// All schedules of one unit are followed.
+fn explore<R: Threads + Wait + Sync + AllocGlobal>(rt: &R) -> Attempt {
+    let explored = Explored {
+        image: Source::File("p"),
+        config: ready(Config::new(1, 16, 2, 100, 1000))?,
+        burst: 63,
+        states: 100,
+    };
+    asked(rt, Request::Explore(explored), EXPLORE)
 }
 
 /// Ten events are done, and their trace is saved where a file is named for it.
@@ -260,18 +280,29 @@ const HEADED: TableRow<'static> = TableRow {
     header: true,
 };
 
-/// What the trace of ten events cost is printed, by this table or in total.
+/// What the trace of ten events cost is printed, by this table or in total, and with names if a table is named.
 fn profile<R: Threads + Wait + Sync + AllocGlobal>(
     rt: &R,
     by: Option<Table<'_>>,
+    names: Option<&str>,
     wanted: &str,
 ) -> Attempt {
-    asked(rt, Request::Profile(ten_entries()?, by), wanted)
+    asked(
+        rt,
+        Request::Profile(ten_entries()?, None, by, names),
+        wanted,
+    )
 }
 
-/// The machine to which the trace of ten events leads is shown, after this many of them or after all.
-fn show<R: Threads + Wait + Sync + AllocGlobal>(rt: &R, at: Option<u64>, wanted: &str) -> Attempt {
-    asked(rt, Request::Show(ten_entries()?, at), wanted)
+/// The machine to which the trace of ten events leads is shown, after this many of them or after all, and with names if
+/// a table is named.
+fn show<R: Threads + Wait + Sync + AllocGlobal>(
+    rt: &R,
+    at: Option<u64>,
+    names: Option<&str>,
+    wanted: &str,
+) -> Attempt {
+    asked(rt, Request::Show(ten_entries()?, at, names), wanted)
 }
 
 /// A picture of the ten events is made, and saved.

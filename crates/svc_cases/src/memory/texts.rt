@@ -20,6 +20,13 @@ pub fn attempt(alloc: Global, name: &str) -> Option<Attempt> {
     }
 }
 
+/// A table of names: of the entries of both tasks, and of the word of data.
+pub const NAMES: &str = "name,address
+first,0
+second,12
+shared,1048576
+";
+
 /// A program with each section, names and local labels.
 pub const TEXT: &str = ".svc_register x2, 256
 .svc_entry

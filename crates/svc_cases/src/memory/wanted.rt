@@ -112,6 +112,26 @@ pub const DEPEND_AS_GRAPH: &str = "digraph depend {
 }
 ";
 
+/// The same with names.
+pub const DEPEND_NAMED: &str = "digraph depend {
+  1 -> 0 [label=\"shared\"];
+}
+";
+
+/// For what can be seen in all schedules of one unit.
+pub const EXPLORE: &str = "states,9
+moves,8
+deepest,8
+whole,yes
+seen,begin,0,,0,,1
+seen,begin,1,,12,,4
+seen,load,1,0,5,committed,5
+seen,store,0,0,5,,2
+seen,output,1,,5,,6
+seen,commit,0,,,,3
+seen,commit,1,,,,8
+";
+
 /// For the check of the trace of ten events.
 pub const CHECK: &str = "sound,10\n";
 
@@ -168,6 +188,11 @@ pub const PROFILE_BY_WORD: &str = "word,loads,stores,versions,violations,squashe
 0,2,1,0,1,1,2
 ";
 
+/// The same with names.
+pub const PROFILE_NAMED: &str = "word,loads,stores,versions,violations,squashed,turns-squashed,name
+0,2,1,0,1,1,2,shared
+";
+
 /// For the machine after ten events.
 pub const SHOW: &str = "at,10
 tasks,2
@@ -187,6 +212,17 @@ open,0
 task,0,0,0,3,next
 line,0,0,5,VS---
 memory,0,0,0
+";
+
+/// The same with names.
+pub const SHOW_NAMED: &str = "at,4,
+tasks,0,
+due,0,first
+guess,12,second
+open,0,first
+task,0,0,0,3,next,first
+line,0,0,5,VS---,shared
+memory,0,0,0,shared
 ";
 
 /// For the listing of the sample of two tasks.

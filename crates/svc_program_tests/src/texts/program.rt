@@ -156,9 +156,9 @@ fn request_of<'a>(kind: Printing, config: Config) -> Request<'a> {
             trace: None,
         }),
         Printing::Check => Request::Check(traced),
-        Printing::Profile => Request::Profile(traced, None),
-        Printing::Tasks => Request::Profile(traced, Some(Table::Tasks)),
-        Printing::Show => Request::Show(traced, None),
+        Printing::Profile => Request::Profile(traced, None, None, None),
+        Printing::Tasks => Request::Profile(traced, None, Some(Table::Tasks), None),
+        Printing::Show => Request::Show(traced, None, None),
         Printing::List => Request::List(image),
         Printing::Version => Request::Version,
     }

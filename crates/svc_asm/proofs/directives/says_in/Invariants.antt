@@ -1,5 +1,5 @@
 use Rattle.std.proofs.Common.{◌≡◌, drop}
-use Rattle.svc_asm.specs.Directives.{says_in}
+use Rattle.svc_asm.specs.Statements.{says_in}
 use Rattle.svc_asm.proofs.directives.says_in.Given as goal
 
 abbrev pub invariant-loop-row : goal.invariant-loop-row

@@ -1,15 +1,18 @@
-use Rattle.std.proofs.Common.{◌≡◌, ◌∙◌, ◌-◌, ◌++◌, ℕ, List, ap, append_assoc, drop, get_or, length, sym, take, take_all}
-use Rattle.std.specs.Prelude.{decimal, flat_map}
+use Rattle.std.proofs.Common.{◌≡◌, ◌∙◌, ◌-◌, ◌++◌, ℕ, List, Option, ap, append_assoc, drop, get_or, length, sym, take, take_all}
+use Rattle.std.specs.Prelude.{flat_map}
 use Rattle.std.proofs.lemmas.List.{take_rest}
+use Rattle.svc_names.specs.declared.name.Name.{Name}
+use Rattle.svc_names.specs.Given.{listed, word_text}
 use Rattle.svc_depend.specs.declared.links.Link.{Link}
 use Rattle.svc_depend.proofs.Spaced.{after_space, no_link, spaced_is}
 use Rattle.svc_depend.proofs.pairs.put_spaced.Goals as goal
 
-pub returns-2 : goal.returns-2
-returns-2 c =
+pub returns : goal.returns
+returns c =
     let links : List Link = c.args.links.now in
     let old : List ℕ = c.args.text.now.items in
-    let first : List ℕ = decimal (get_or links 0 no_link).word in
+    let names : Option (List Name) = listed c.args.names in
+    let first : List ℕ = word_text names (get_or links 0 no_link).word in
     let whole : take c.loop-link.link-index (take (length links - 1) (drop 1 links)) ≡ drop 1 links = take_all c.loop-link.link-index (take (length links - 1) (drop 1 links)) c.loop-link-test.false ∙ take_rest links 1 in
-    c.loop-link.invariant ∙ append_assoc old first (flat_map after_space (take c.loop-link.link-index (take (length links - 1) (drop 1 links))))
-    ∙ ap (λ (x : List ℕ). old ++ x) (ap (λ (l : List Link). first ++ flat_map after_space l) whole ∙ sym (spaced_is links no_link c.requires))
+    c.loop-link.invariant ∙ append_assoc old first (flat_map (after_space names) (take c.loop-link.link-index (take (length links - 1) (drop 1 links))))
+    ∙ ap (λ (x : List ℕ). old ++ x) (ap (λ (l : List Link). first ++ flat_map (after_space names) l) whole ∙ sym (spaced_is names links no_link c.requires))

@@ -24,4 +24,4 @@ returns-clause-tried c =
 pub returns-clause-shown : goal.returns-clause-shown
 returns-clause-shown c =
     let r : Recorded = c.args.recorder.now in
-    if_ok c.try_move.result (IsTried c.args.most r c.args.unit.0) _ (λ t told path leads. shows_it c.args.most r c.args.unit.0 path leads t told) c.try_move.ensures
+    if_ok c.try_move.result (IsTried c.args.most r c.args.unit.0) _ (λ t told path leads. shows_it c.args.most r c.args.unit path leads t told) c.try_move.ensures

@@ -30,5 +30,5 @@ returns-in-Some-clause-shown c =
     let config_is : r.machine.config ≡ config = subst (λ o. IfSome o (λ (r : Recorded). r.machine.config ≡ config)) c.in-Some.is c.in_ok-recorder.ensures.config in
     let leads : Leads img config c.args.most (opened_at img config 0) c.args.path.now (standing_of r) =
     subst (λ o. IfSome o (λ (r : Recorded). Leads img config c.args.most (opened_at img config 0) c.args.path.now (standing_of r))) c.in-Some.is c.in_ok-recorder.ensures.leads in
-    if_ok c.try_at.result _ (ShowsIt img config c.args.most c.args.path.now c.args.unit.0)
-    (shown_as img config c.args.most r c.args.unit.0 image config_is c.args.path.now leads) c.try_at.ensures.shown
+    if_ok c.try_at.result _ (ShowsIt img config c.args.most c.args.path.now c.args.unit)
+    (shown_as img config c.args.most r c.args.unit image config_is c.args.path.now leads) c.try_at.ensures.shown

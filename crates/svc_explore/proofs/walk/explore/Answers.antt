@@ -1,12 +1,43 @@
+use Rattle.std.proofs.Common.{List, ℕ, ◌≡◌, ◌≤◌, ◌*◌, arith, length, subst, sym}
+use Rattle.svc_base.specs.declared.config.Config.{Config}
+use Rattle.svc_image.specs.Image.{Image}
+use Rattle.svc_explore.specs.Counts.{Place}
 use Rattle.svc_explore.specs.Found.{are_seen}
-use Rattle.svc_explore.proofs.Founding.{none_witnessed}
-use Rattle.svc_explore.proofs.Growing.{closed_shows}
+use Rattle.svc_explore.specs.Search.{are_keys, image_key}
+use Rattle.svc_explore.proofs.Growing.{closed_shows, closed_whole}
+use Rattle.svc_explore.proofs.Permuting.{closed_permuted, nothing_else_permuted, witnessed_permuted}
 use Rattle.svc_explore.proofs.walk.explore.Goals as goal
 
-pub run-requires-clause-witnessed : goal.run-requires-clause-witnessed
-run-requires-clause-witnessed c = none_witnessed c.args.image.now c.args.config c.args.burst c.in_ok-search.search.found.items c.in_ok-search.ensures.nothing
+pub run-requires-clause-sound : goal.run-requires-clause-sound
+run-requires-clause-sound c = c.in_ok-search.ensures.sound c.args.burst
 
 pub returns-clause-whole : goal.returns-clause-whole
 returns-clause-whole c = λ whole.
-    closed_shows c.args.image.now c.args.config c.args.burst c.start-start.ensures.sound c.run.new.self.keys.entries (are_seen c.run.new.self.found.items)
-    (c.in_ok-whole.ensures.closed whole)
+    let img : Image = c.args.image.now in
+    nothing_else_permuted img c.args.config c.args.burst c.run.new.self.found.items c.put_in_order.new.found.items c.put_in_order.ensures.same
+    (closed_shows img c.args.config c.args.burst c.start-start.ensures.sound c.run.new.self.keys.entries (are_seen c.run.new.self.found.items)
+    (c.in_ok-whole.ensures.closed whole))
+
+pub returns-clause-witnessed : goal.returns-clause-witnessed
+returns-clause-witnessed c =
+    witnessed_permuted c.args.image.now c.args.config c.args.burst c.run.new.self.found.items c.put_in_order.new.found.items c.put_in_order.ensures.same
+    c.in_ok-whole.ensures.sound.witnessed
+
+pub returns-clause-told : goal.returns-clause-told
+returns-clause-told c =
+    let img : Image = c.args.image.now in
+    let config : Config = c.args.config in
+    let places : List Place = c.run.new.self.keys.entries in
+    let says = c.in_ok-whole.ensures in
+    let states : c.len.result ≡ length places = c.len.ensures.len in
+    record {
+      places = places;
+      met = says.sound.met;
+      closed = λ whole.
+          closed_permuted img config c.args.burst c.run.new.self.found.items c.put_in_order.new.found.items c.put_in_order.ensures.same (image_key img config) (are_keys places)
+          (closed_whole img config c.args.burst places (are_seen c.run.new.self.found.items) (says.closed whole));
+      states = states;
+      deepest = c.deepest-deepest.ensures;
+      least_moves = let m = says.sound.moved in omega (arith, m, states);
+      most_moves = subst (λ (n : ℕ). c.run.new.self.moves ≤ n * config.units) (sym states) says.moves;
+    }

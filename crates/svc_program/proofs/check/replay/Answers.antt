@@ -8,8 +8,8 @@ use Rattle.svc_program.proofs.check.replay.Goals as goal
 
 pub returns-clause-few : goal.returns-clause-few
 returns-clause-few c =
-    let r = c.in_ok-_recorder._recorder in
-    let told = c.in_ok-_recorder.ensures in
+    let r = c.in_ok-recorder.recorder in
+    let told = c.in_ok-recorder.ensures in
     let img = c.args.image in
     let legal : LegalHistory img r.machine.config r.entries = subst (λ (i : Image). LegalHistory i r.machine.config r.entries) told.image told.legal.legal in
     let leads : LeadsOn img r.machine.config r.entries = c.history_leads_on.ensures img c.start-start.ensures.sound r.machine.config r.entries legal in

@@ -26,7 +26,7 @@ returns g c =
           c.in_ok-image.ensures.image,
           c.in_ok-image.entries.items,
           c.in_ok-image.ensures.trace,
-          subst (λ (es : List Entry). IsDrawn c.in_ok-image.image c.args.traced.config es c.args.picture.from) c.deref.ensures.value c.in_ok-text.ensures.drawn,
+          subst (λ (es : List Entry). IsDrawn c.in_ok-image.image c.args.traced.config es c.args.picture.from c.args.picture.count) c.deref.ensures.value c.in_ok-text.ensures.drawn,
         ),
         refl,
         refl,

@@ -1,5 +1,5 @@
 use Rattle.std.proofs.Common.{rules, ◌∙◌, refl, ap, map, unwrap_or, List}
-use Rattle.svc_draft.specs.declared.marks.Mark.{Mark}
+use Rattle.svc_draft.specs.declared.making.Mark.{Mark}
 use Rattle.svc_draft.proofs.Made.{own-limits}
 use Rattle.svc_draft.proofs.draft.Draft.own.Goals as goal
 

@@ -20,5 +20,6 @@ loop-unit-preserved c =
       keys = grows_trans (are_keys c.args.self.now.keys.entries) (are_keys old.keys.entries) (are_keys new.keys.entries) inv.keys says.keys;
       longer = omega (arith, inv.longer, says.longer);
       found = grows_trans (are_seen c.args.self.now.found.items) (are_seen old.found.items) (are_seen new.found.items) inv.found says.found;
-      witnessed = says.witnessed;
+      moves = omega (arith, inv.moves, says.moves);
+      sound = says.sound;
     }

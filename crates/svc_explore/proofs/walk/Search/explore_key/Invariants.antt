@@ -1,5 +1,6 @@
-use Rattle.std.proofs.Common.{ℕ, ◌<◌, ◌≤◌, length}
-use Rattle.svc_explore.specs.Found.{AreWitnessed, are_seen}
+use Rattle.std.proofs.Common.{ℕ, ◌<◌, ◌≤◌, ◌+◌, length}
+use Rattle.svc_explore.specs.Counts.{IsSound}
+use Rattle.svc_explore.specs.Found.{are_seen}
 use Rattle.svc_explore.specs.Search.{GrowsTo, IsExploredAt, are_keys}
 use Rattle.svc_explore.proofs.walk.Search.explore_key.Given as goal
 
@@ -9,5 +10,6 @@ invariant-loop-unit l = record {
   keys : GrowsTo (are_keys l.fn.self.keys.entries) (are_keys l.self.keys.entries);
   longer : length l.fn.self.keys.entries ≤ length l.self.keys.entries;
   found : GrowsTo (are_seen l.fn.self.found.items) (are_seen l.self.found.items);
-  witnessed : AreWitnessed l.image l.config l.most l.self.found.items;
+  moves : l.self.moves ≤ l.fn.self.moves + l.unit;
+  sound : IsSound l.image l.config l.most l.self;
 }

@@ -1,4 +1,4 @@
-use Rattle.std.proofs.Common.{◌≡◌, ◌∙◌, List, ℕ, Some, ap, subst, sym, slice_get, option_map, option_to_list}
+use Rattle.std.proofs.Common.{◌≡◌, ◌∙◌, List, ℕ, Some, ap, arith, subst, sym, slice_get, option_map, option_to_list, vec_items}
 use Rattle.std.specs.Map.Iter.{deref_pair}
 use Rattle.svc_base.specs.declared.config.Config.{Config}
 use Rattle.svc_image.specs.Image.{Image}
@@ -6,9 +6,11 @@ use Rattle.svc_explore_laws.specs.declared.observation.Observation.{Observation}
 use Rattle.svc_explore_laws.specs.Closed.{IsExplored}
 use Rattle.svc_explore.specs.Found.{are_seen}
 use Rattle.svc_explore.specs.Search.{are_keys, image_key}
-use Rattle.svc_explore.specs.Tries.{Shows, ShowsIt, TriedAt}
+use Rattle.svc_explore.specs.Tries.{LeadsToKey, Shows, ShowsIt, TriedAt}
 use Rattle.svc_explore.proofs.Founding.{adds_grows, adds_witnessed, all_left, all_right, both_in}
-use Rattle.svc_explore.proofs.Growing.{Place, grows_trans, key_stays, length_keys, same_key}
+use Rattle.svc_explore.specs.Counts.{Place}
+use Rattle.svc_explore.proofs.Counting.{adds_met, adds_one}
+use Rattle.svc_explore.proofs.Growing.{grows_trans, key_stays, length_keys, same_key}
 use Rattle.svc_explore.proofs.walk.Search.explore_unit.Goals as goal
 
 pub returns-in-Rests-clause-explored : goal.returns-in-Rests-clause-explored
@@ -49,15 +51,29 @@ returns-in_ok-note_key-in-Moves-clause-found c =
     (adds_grows c.args.self.now.found.items c.note_seen.new.found.items c.in-Moves.happened c.as_slice-path.result.now c.args.unit c.in_ok-note_seen-in-Moves.ensures.adds)
     (adds_grows c.note_seen.new.found.items c.note_seen-in-Moves.new.found.items c.in-Moves.squashed c.as_slice-path.result.now c.args.unit c.in_ok-note_seen-in-Moves-2.ensures.adds)
 
-pub returns-in_ok-note_key-in-Moves-clause-witnessed : goal.returns-in_ok-note_key-in-Moves-clause-witnessed
-returns-in_ok-note_key-in-Moves-clause-witnessed c =
+pub returns-in_ok-note_key-in-Moves-clause-sound : goal.returns-in_ok-note_key-in-Moves-clause-sound
+returns-in_ok-note_key-in-Moves-clause-sound c =
     let img : Image = c.args.image.now in
     let config : Config = c.args.config in
-    let shown = subst (ShowsIt img config c.args.most c.as_slice-path.result.now c.args.unit.0) c.in-Moves.is c.in_ok-try_unit.ensures.shown in
+    let most = c.args.most in
     let path = c.as_slice-path.result.now in
+    let told = subst (ShowsIt img config most path c.args.unit) c.in-Moves.is c.in_ok-try_unit.ensures.shown in
+    let shown = told.0 in
     let happened : List Observation = option_to_list c.in-Moves.happened in
     let squashed : List Observation = option_to_list c.in-Moves.squashed in
-    let P : Observation → Type 0 = Shows img config c.args.most path c.args.unit.0 in
-    adds_witnessed img config c.args.most c.note_seen.new.found.items c.note_seen-in-Moves.new.found.items c.in-Moves.squashed path c.args.unit c.in_ok-note_seen-in-Moves-2.ensures.adds (all_right P happened squashed shown)
-    (adds_witnessed img config c.args.most c.args.self.now.found.items c.note_seen.new.found.items c.in-Moves.happened path c.args.unit c.in_ok-note_seen-in-Moves.ensures.adds (all_left P happened squashed shown)
-    c.requires.witnessed)
+    let P : Observation → Type 0 = Shows img config most path c.args.unit.0 in
+    let leads : LeadsToKey img config most (vec_items c.in_ok-next-in-Moves.next) (vec_items c.in-Moves.key) =
+    subst (λ p. LeadsToKey img config most p (vec_items c.in-Moves.key)) (sym c.in_ok-next-in-Moves.ensures) told.1 in
+    let adds = c.in_ok-note_key-in-Moves.ensures.adds in
+    let old = c.args.self.now.keys.entries in
+    let new = c.note_key.new.keys.entries in
+    let one = adds_one old new c.in-Moves.key c.in_ok-next-in-Moves.next adds in
+    record {
+      witnessed =
+          adds_witnessed img config most c.note_seen.new.found.items c.note_seen-in-Moves.new.found.items c.in-Moves.squashed path c.args.unit c.in_ok-note_seen-in-Moves-2.ensures.adds
+          (all_right P happened squashed shown)
+          (adds_witnessed img config most c.args.self.now.found.items c.note_seen.new.found.items c.in-Moves.happened path c.args.unit c.in_ok-note_seen-in-Moves.ensures.adds
+          (all_left P happened squashed shown) c.requires.sound.witnessed);
+      met = adds_met img config most old new c.in-Moves.key c.in_ok-next-in-Moves.next adds leads c.requires.sound.met;
+      moved = let was = c.requires.sound.moved in omega (arith, was, one);
+    }

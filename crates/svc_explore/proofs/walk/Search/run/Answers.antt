@@ -1,6 +1,7 @@
 use Rattle.std.proofs.Common.{◌<◌, arith, length}
 use Rattle.svc_explore.specs.Found.{are_seen}
 use Rattle.svc_explore.specs.Search.{are_keys}
+use Rattle.svc_explore.proofs.Counting.{more_times, some_keys}
 use Rattle.svc_explore.proofs.Growing.{closed_none, closed_more}
 use Rattle.svc_explore.proofs.walk.Search.run.Goals as goal
 
@@ -8,7 +9,9 @@ pub loop-index-init : goal.loop-index-init
 loop-index-init c = record {
   closed = closed_none c.args.image.now c.args.config c.args.most (are_keys c.args.self.now.keys.entries) (are_seen c.args.self.now.found.items) c.requires.opening;
   inside = omega arith;
-  witnessed = c.requires.witnessed;
+  some = some_keys _ c.args.self.now.keys.entries c.requires.opening;
+  moves = omega (arith, c.requires.unmoved);
+  sound = c.requires.sound;
 }
 
 pub loop-index-preserved : goal.loop-index-preserved
@@ -22,5 +25,7 @@ loop-index-preserved c =
       closed = closed_more c.args.image.now c.args.config c.args.most old.keys.entries new.keys.entries (are_seen old.found.items) (are_seen new.found.items) says.keys says.found c.loop-index.index inside inv.closed
           (says.explored c.if-not-branch.false);
       inside = omega (arith, inside, says.longer);
-      witnessed = says.witnessed;
+      some = omega (arith, inv.some, says.longer);
+      moves = more_times c.loop-index.index c.args.config.units old.moves new.moves inv.moves says.moves;
+      sound = says.sound;
     }

@@ -1,0 +1,96 @@
+#!/usr/bin/env bash
+# Makes the cases of `explore` anew: what they want by the twin in unproved Rust, and their list in svc_cases.
+#
+#   bench/explore_cases.sh
+#
+# Needs rustc, Python and Debian's binutils-riscv64-unknown-elf, which assemble the programs that are texts. It prints how many cases
+# there are, which crates/svc_cases/stdout says too.
+set -euo pipefail
+
+root=$(cd "$(dirname "${BASH_SOURCE[0]}")/.." && pwd)
+data=$root/crates/svc_cases/data
+folder=$(mktemp -d)
+trap 'rm -rf "$folder"' EXIT
+rustc -O --edition 2024 -o "$folder/explore_twin" "$root/bench/explore_twin.rs"
+rm -rf "$data/explore"
+mkdir "$data/explore"
+: > "$folder/cases"
+
+# The file of an image, or of one that is a text below programs/.
+image_of() {
+    case $1 in
+        programs/*) "$root/bench/example_image.py" "$data/${1%.svci}.s" "$folder/image" "$folder/listing" ;;
+        *) cp "$data/$1" "$folder/image" ;;
+    esac
+}
+
+# A case: name, image, the options that differ from their defaults (units=2 burst=1 ..), and the image that the twin reads where it is
+# another of the same program.
+case_of() {
+    local name=explore_$1 image=$2 options=$3 program=${4:-$2} status=2
+    local units=4 sets=16 ways=2 events=100000 burst=63 states=1000000 words="explore $image" option
+    for option in $options; do
+        local "${option?}"
+        words="$words --${option%=*} ${option#*=}"
+    done
+    image_of "$program"
+    "$folder/explore_twin" "$folder/image" "$units" "$sets" "$ways" "$events" "$burst" "$states" > "$data/explore/$name.txt"
+    if grep -q '^whole,yes$' "$data/explore/$name.txt"; then status=0; fi
+    echo "$name,$status,explore/$name.txt,,,$words" >> "$folder/cases"
+}
+
+# A case by hand: its line, and what it wants.
+by_hand() {
+    echo "explore_$1" >> "$folder/cases"
+    if [ $# -gt 1 ]; then printf '%b' "$2" > "$data/explore/explore_${1%%,*}.txt"; fi
+}
+
+# The samples, one in the byte form, and one of version 2, whose program is the first one's.
+for burst in 1 2 63; do
+    for image in p p1 r; do
+        case_of "${image}_on_2_by_$burst" "$image.svci" "units=2 burst=$burst"
+    done
+    case_of "p_in_version_2_on_2_by_$burst" programs/upgraded.svci "units=2 burst=$burst" p.svci
+done
+case_of p_on_1 p.svci units=1
+case_of p_on_3 p.svci units=3
+
+# The teaching programs.
+for program in violation handed_on wrong_guess full_set lost_stack; do
+    for burst in 1 2 63; do
+        case_of "${program}_on_2_by_$burst" "examples/$program.svci" "units=2 burst=$burst"
+    done
+done
+case_of violation_on_3 examples/violation.svci units=3
+
+# A set of one line.
+case_of violation_over_one_line examples/violation.svci "units=2 sets=1 ways=1"
+case_of handed_on_over_one_line examples/handed_on.svci "units=2 sets=1 ways=1"
+case_of full_set_of_one_line examples/full_set.svci "units=2 sets=1 ways=1 burst=2"
+
+# Tasks of which none needs another within two: no violation is seen. A trap in a task. Parts of words.
+case_of every_third_on_2 programs/every_third.svci units=2
+case_of a_task_that_traps programs/break.svci units=2
+case_of trap_in_the_middle programs/trap_in_the_middle.svci units=2
+case_of part_stores programs/part_stores.svci units=2
+
+# Limits: of standings, met and just kept; of events, met and just kept.
+for states in 1 72 73 74; do
+    case_of "p_of_${states}_states" p.svci "units=2 states=$states"
+done
+for events in 1 10 11 12; do
+    case_of "p_of_${events}_events" p.svci "units=2 events=$events"
+done
+
+by_hand "without_a_file,1,,error: the following required arguments were not provided:...,,explore"
+by_hand "of_a_file_that_is_not_there,1,,svcsim: file fault,,explore missing.svci"
+by_hand "of_no_image,1,,svcsim: image fault 2,,explore p_magic.svci --units 2"
+by_hand "on_17_units,1,,svcsim: config fault 1,,explore p.svci --units 17"
+by_hand "by_no_turns,1,,error: invalid value '0'...,,explore p.svci --burst 0"
+by_hand "by_64_turns,1,,error: invalid value '64'...,,explore p.svci --burst 64"
+by_hand "of_no_state,1,,error: invalid value '0'...,,explore p.svci --states 0"
+by_hand "by_a_schedule,1,,error: unexpected argument '--schedule'...,,explore p.svci --schedule rotate"
+by_hand "has_help,0,wanted/help_explore.txt,,,explore --help"
+
+{ echo name,status,out,err,saved,words; cat "$folder/cases"; } > "$data/cases/explore.csv"
+echo "explore: $(wc -l < "$folder/cases") cases"

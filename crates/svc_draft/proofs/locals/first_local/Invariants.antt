@@ -1,6 +1,0 @@
-use Rattle.std.proofs.Common.{◌≡◌, drop}
-use Rattle.svc_draft.specs.Locals.{first_local}
-use Rattle.svc_draft.proofs.locals.first_local.Given as goal
-
-abbrev pub invariant-loop-local : goal.invariant-loop-local
-invariant-loop-local l = first_local l.number (drop l.local-index l.locals) ≡ first_local l.number l.locals

@@ -1,6 +1,0 @@
-use Rattle.std.proofs.Common.{◌≡◌, drop, None}
-use Rattle.svc_draft.specs.Locals.{last_local}
-use Rattle.svc_draft.proofs.locals.last_local.Given as goal
-
-abbrev pub invariant-loop-local : goal.invariant-loop-local
-invariant-loop-local l = last_local l.number l.found (drop l.local-index l.locals) ≡ last_local l.number None l.locals

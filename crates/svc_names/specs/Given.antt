@@ -1,0 +1,29 @@
+-- What names tell, if any are given.
+use Rattle.std.specs.Prelude.{◌≡◌, ℕ, List, Option, Some, None, IfSome, decimal, option_map}
+use denote.Ref.{Bor}
+use Rattle.svc_report.specs.Records.{IsText}
+use Rattle.svc_names.specs.declared.name.Name.{Name}
+use Rattle.svc_names.specs.declared.names.Names.{Names}
+use Rattle.svc_names.specs.declared.rows.Rows.{Rows}
+use Rattle.svc_names.specs.Near.{label, nearest}
+use Rattle.svc_names.specs.Rows.{data_address, with_names}
+use Rattle.svc_names.specs.Table.{IsTable, table_records}
+
+-- the names that are given
+abbrev pub listed : Option (Bor Names) → Option (List Name)
+listed given = option_map (λ (n : Bor Names). n.now.list.items) given
+
+-- a word of data by the name found for it, or by its number
+abbrev pub word_label : (word : ℕ) → Option Name → List ℕ
+word_label word None = decimal word
+word_label word (Some n) = label (data_address word) n
+
+-- a word of data by its name, if names are given and it has one
+abbrev pub word_text : Option (List Name) → (word : ℕ) → List ℕ
+word_text None word = decimal word
+word_text (Some names) word = word_label word (nearest (data_address word) names)
+
+-- the rows of a text: with names, if any are given, each has one field more
+abbrev pub told_with : Option (List Name) → Rows → List ℕ → List ℕ
+told_with None rows text = text
+told_with (Some names) rows text = with_names names rows text

@@ -1,0 +1,4 @@
+pub mod Given
+pub mod Near
+pub mod Rows
+pub mod Table

@@ -1,0 +1,10 @@
+use Rattle.std.proofs.Common.{◌≡◌, length}
+use Rattle.svc_operands.specs.Characters.{past}
+use Rattle.svc_operands.specs.Values.{is_decimal}
+use Rattle.svc_operands.proofs.values.skip_digits.Given as goal
+
+abbrev pub invariant-loop-rest : goal.invariant-loop-rest
+invariant-loop-rest l = past is_decimal l.rest ≡ past is_decimal l.text
+
+abbrev pub decreases-loop-rest : goal.decreases-loop-rest
+decreases-loop-rest l = length l.rest

@@ -1,0 +1,54 @@
+//! `explore`: all schedules of an image.
+
+ghost use Rattle.std.specs.Prelude.{◌≡◌, IfOk, IfErr, cond};
+ghost use Rattle.svc_request.specs.declared.request.Request.TheVariants as request;
+ghost use Rattle.svc_program.specs.Explored.{TellsSchedules};
+ghost use Rattle.svc_program.specs.Requests.{IsAnswered, IsQuiet};
+
+use crate::load::load_image;
+use crate::output::print_text;
+use std::alloc::Global;
+use std::io::Write;
+use svc_explore::put_exploration;
+use svc_image::Image;
+use svc_request::{Explored, Fault, Files};
+
+/// Follows all schedules of an image, and prints what can be seen.
+pub fn explore<F: Files, O: Write>(
+    alloc: Global,
+    explored: Explored<'_>,
+    files: &F,
+    out: &mut O,
+) -> Result<u8, Fault>
+    ensures { IsAnswered O.contents (request.Explore explored.entry)
+        (F.held files.now) (F.held files.now) out.old out.new result }
+{
+    let image = load_image(alloc, explored.image, files)?;
+    tell_schedules(alloc, &image, explored, out)
+}
+
+// Follows all schedules of an image, and prints what was found.
+fn tell_schedules<O: Write>(
+    alloc: Global,
+    image: &Image,
+    explored: Explored<'_>,
+    out: &mut O,
+) -> Result<u8, Fault>
+    ensures told { IfOk result (TellsSchedules image.now explored.entry.config explored.entry.burst
+        (O.contents out.old) (O.contents out.new)) }
+    ensures silent { IfErr result (IsQuiet out.old out.new) }
+{
+    let limit = explored.states as usize;
+    let exploration = svc_explore::explore(alloc, image, explored.config, explored.burst, limit)?;
+    let mut text = Vec::new(alloc);
+    put_exploration(&mut text, &exploration)?;
+    print_text(&text, out)?;
+    Ok(whole_status(exploration.whole))
+}
+
+// The exit status of an exploration: 0 if it met no limit.
+fn whole_status(whole: bool) -> u8
+    ensures { result ≡ cond whole 0 2 }
+{
+    if whole { 0 } else { 2 }
+}
