@@ -24,19 +24,32 @@ image_of() {
     esac
 }
 
-# A case: name, image, the options that differ from their defaults (units=2 burst=1 ..), and the image that the twin reads where it is
-# another of the same program.
+# A case: name, image, the options that differ from their defaults (units=2 burst=1 find=load,1 ..), and the image that the twin
+# reads where it is another of the same program. What a trace is saved as is named by `trace=`.
 case_of() {
-    local name=explore_$1 image=$2 options=$3 program=${4:-$2} status=2
-    local units=4 sets=16 ways=2 events=100000 burst=63 states=1000000 words="explore $image" option
+    local name=explore_$1 image=$2 options=$3 program=${4:-$2} status=0 wanted err="" saved=""
+    local units=4 sets=16 ways=2 events=100000 burst=63 states=1000000 find=- trace=- words="explore $image" option
     for option in $options; do
         local "${option?}"
-        words="$words --${option%=*} ${option#*=}"
+        words="$words --${option%%=*} ${option#*=}"
     done
     image_of "$program"
-    "$folder/explore_twin" "$folder/image" "$units" "$sets" "$ways" "$events" "$burst" "$states" > "$data/explore/$name.txt"
-    if grep -q '^whole,yes$' "$data/explore/$name.txt"; then status=0; fi
-    echo "$name,$status,explore/$name.txt,,,$words" >> "$folder/cases"
+    wanted=explore/$name.txt
+    "$folder/explore_twin" "$folder/image" "$units" "$sets" "$ways" "$events" "$burst" "$states" "$find" "$folder/trace" \
+        > "$data/$wanted" || status=$?
+    if [ "$status" = 1 ]; then
+        err="svcsim: explore limit"
+        wanted=""
+        rm "$data/explore/$name.txt"
+    fi
+    if [ "$trace" != - ] && [ "$status" = 0 ]; then
+        saved=$trace=explore/$name.csv
+        cp "$folder/trace" "$data/explore/$name.csv"
+    fi
+    case $words in
+        *,*) words="\"$words\"" ;;
+    esac
+    echo "$name,$status,$wanted,$err,$saved,$words" >> "$folder/cases"
 }
 
 # A case by hand: its line, and what it wants.
@@ -81,6 +94,41 @@ done
 for events in 1 10 11 12; do
     case_of "p_of_${events}_events" p.svci "units=2 events=$events"
 done
+
+# What is looked for: each kind of observation, by the task and the word, with its trace; and what isn't seen.
+case_of find_begin p.svci "units=2 find=begin"
+case_of find_a_load p.svci "units=2 find=load"
+case_of find_a_load_of_a_task p.svci "units=2 find=load,1 trace=trace.csv"
+case_of find_a_load_of_a_task_and_a_word p.svci "units=2 find=load,1,0 trace=trace.csv"
+case_of find_a_store_of_any_task p.svci "units=2 find=store,,0 trace=trace.csv"
+case_of find_a_store_of_a_later_task p.svci "units=2 burst=1 find=store,2 trace=trace.csv"
+case_of find_an_output examples/violation.svci "units=2 find=output,1 trace=trace.csv"
+case_of find_a_trap examples/lost_stack.svci "units=2 find=trap trace=trace.csv"
+case_of find_a_replacement examples/full_set.svci "units=2 sets=1 ways=1 burst=2 find=replace trace=trace.csv"
+case_of find_a_commit p.svci "units=2 find=commit,1 trace=trace.csv"
+case_of find_a_violation examples/violation.svci "units=2 find=squash,1,0 trace=trace.csv"
+case_of find_a_wrong_guess p.svci "units=2 find=squash,2 trace=trace.csv"
+case_of find_a_squash_on_3 p.svci "units=3 find=squash,2 trace=trace.csv"
+case_of find_no_trap p.svci "units=2 find=trap trace=trace.csv"
+case_of find_no_load_of_a_task p.svci "units=2 find=load,0"
+case_of find_no_load_of_a_word p.svci "units=2 find=load,1,1"
+case_of find_no_begin_of_a_word p.svci "units=2 find=begin,,0"
+case_of find_no_violation programs/every_third.svci "units=2 find=squash,,0"
+case_of find_before_a_limit p.svci "units=2 states=6 find=load trace=trace.csv"
+case_of find_after_a_limit p.svci "units=2 states=6 find=squash trace=trace.csv"
+case_of find_after_a_limit_of_events p.svci "units=2 events=4 find=commit,1"
+case_of find_with_the_last_event p.svci "units=2 events=8 find=commit,1 trace=trace.csv"
+
+by_hand "find_nothing_at_all,1,,\"error: a value is required for '--find <WHAT[,TASK[,WORD]]>' but none was supplied...\",,explore p.svci --find"
+by_hand "find_no_such_thing,1,,error: the value of '--find' is not WHAT...,,explore p.svci --find cancel"
+by_hand "find_by_an_empty_word,1,,error: the value of '--find' is not WHAT...,,\"explore p.svci --find load,1,\""
+by_hand "find_by_a_leading_zero,1,,error: the value of '--find' is not WHAT...,,\"explore p.svci --find load,01\""
+by_hand "find_by_a_fourth_field,1,,error: the value of '--find' is not WHAT...,,\"explore p.svci --find load,1,0,5\""
+by_hand "find_past_the_words,1,,error: the value of '--find' is not WHAT...,,\"explore p.svci --find load,1,4294967296\""
+by_hand "saves_what_is_not_looked_for,1,,error: the following required arguments were not provided:...,,explore p.svci --trace trace.csv"
+by_hand "saves_over_its_image,1,,svcsim: file fault,,explore p.svci --units 2 --find load --trace p.svci"
+by_hand "saves_where_it_cannot,1,,svcsim: file fault,,explore p.svci --units 2 --find load --trace missing/trace.csv"
+by_hand "of_no_image_saves_nothing,1,,svcsim: image fault 2,,explore p_magic.svci --units 2 --find load --trace trace.csv"
 
 by_hand "without_a_file,1,,error: the following required arguments were not provided:...,,explore"
 by_hand "of_a_file_that_is_not_there,1,,svcsim: file fault,,explore missing.svci"

@@ -1,8 +1,10 @@
 //! All schedules of an image, in Rust without proofs: the measure that `svc_explore` is held against. It has the machine of the
 //! threads' twin, and copies it at each move.
 //!
-//! `explore_twin IMAGE UNITS SETS WAYS EVENTS BURST STATES` prints how many standings there are, the moves that they have and how
-//! deep they lie, whether a limit was met, and what can be seen.
+//! `explore_twin IMAGE UNITS SETS WAYS EVENTS BURST STATES FIND TRACE` prints how many standings there are, the moves that they have
+//! and how deep they lie, whether a limit was met, and what can be seen: all, or where FIND isn't `-` the first row that it matches,
+//! and writes the trace of a schedule that shows that where TRACE isn't `-`. It ends as the program does: with 2 where a limit
+//! was met, or where FIND is given and matches nothing; with 1 where it matches nothing and a limit was met.
 
 #[allow(dead_code, reason = "what other twins need")]
 mod history;
@@ -17,6 +19,7 @@ use interpreter::{Image, arguments};
 use recorder::{Cause, Config, Entry, Event, Recorder, Refusal, Reply};
 use std::collections::{BTreeMap, HashSet, VecDeque};
 use std::fs;
+use std::process::ExitCode;
 use versioned_bus::Served;
 
 /// What is seen, in the order of its rows: what happened (by its place in the list), the task, the word, the value, by what (its
@@ -103,24 +106,30 @@ fn print_seen(seen: &Seen, steps: usize) {
     println!("seen,{},{task},{},{},{by},{steps}", HAPPENINGS[what], told(word), told(value));
 }
 
+/// Whether the row is the first of those with this `WHAT`, `WHAT,TASK` or `WHAT,TASK,WORD`.
+fn matches(find: &str, seen: &Seen) -> bool {
+    let told = [HAPPENINGS[seen.0].to_string(), seen.1.to_string(), told(seen.2)];
+    find.split(',').zip(told).all(|(asked, told)| asked.is_empty() || asked == told)
+}
+
 fn number<N: std::str::FromStr>(text: &str) -> N {
     text.parse().unwrap_or_else(|_| panic!("{text} is a number"))
 }
 
-fn main() {
-    let [path, units, sets, ways, events, burst, states] =
-        arguments("explore_twin IMAGE UNITS SETS WAYS EVENTS BURST STATES");
+fn main() -> ExitCode {
+    let [path, units, sets, ways, events, burst, states, find, trace] =
+        arguments("explore_twin IMAGE UNITS SETS WAYS EVENTS BURST STATES FIND TRACE");
     let config = Config { units: number(&units), sets: number(&sets), ways: number(&ways), events: number(&events) };
     let (burst, states): (u32, usize) = (number(&burst), number(&states));
     let image = Image::read(&fs::read(path).expect("the image is read")).expect("a sound image");
     // each history is of one entry: how many events may be accepted is counted by depths
     let first = Recorder::new(&image, Config { events: 2, ..config });
     let mut keys = HashSet::from([first.key()]);
-    let mut queue = VecDeque::from([(first, 0)]);
-    let mut found: BTreeMap<Seen, usize> = BTreeMap::new();
+    let mut queue = VecDeque::from([(first, Vec::new())]);
+    let mut found: BTreeMap<Seen, Vec<Entry>> = BTreeMap::new();
     let (mut explored, mut moves, mut deepest, mut whole) = (0, 0_u64, 0, true);
-    while let Some((there, depth)) = queue.pop_front() {
-        if explored == states || depth >= config.events {
+    while let Some((there, path)) = queue.pop_front() {
+        if explored == states || path.len() >= config.events {
             whole = false;
             break;
         }
@@ -130,18 +139,33 @@ fn main() {
             let mut next = there.clone();
             let Some(entry) = move_of(&mut next, &image, unit, burst) else { continue };
             moves += 1;
+            let mut path = path.clone();
+            path.push(entry);
             for seen in sights(&entry, &numbers, there.commits) {
-                found.entry(seen).or_insert(depth + 1);
+                found.entry(seen).or_insert_with(|| path.clone());
             }
             next.entries.clear();
             if keys.insert(next.key()) {
-                deepest = depth + 1;
-                queue.push_back((next, depth + 1));
+                deepest = path.len();
+                queue.push_back((next, path));
             }
         }
     }
-    println!("states,{}\nmoves,{moves}\ndeepest,{deepest}\nwhole,{}", keys.len(), if whole { "yes" } else { "no" });
-    for (seen, steps) in &found {
-        print_seen(seen, *steps);
+    if find != "-" {
+        found.retain(|seen, _| matches(&find, seen));
+        if found.is_empty() && !whole {
+            return ExitCode::from(1);
+        }
     }
+    println!("states,{}\nmoves,{moves}\ndeepest,{deepest}\nwhole,{}", keys.len(), if whole { "yes" } else { "no" });
+    for (seen, path) in &found {
+        print_seen(seen, path.len());
+        if find != "-" {
+            if trace != "-" {
+                fs::write(trace, history::trace(path)).expect("the trace is written");
+            }
+            return ExitCode::SUCCESS;
+        }
+    }
+    ExitCode::from(if whole && find == "-" { 0 } else { 2 })
 }

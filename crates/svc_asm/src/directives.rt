@@ -5,7 +5,8 @@ ghost use Rattle.std.specs.List.{starts_with};
 ghost use Rattle.svc_asm.specs.Statements.{says_in, said_by, section_in, section_by, said_of, numbered_at};
 ghost use Rattle.svc_operands.specs.Operands.{Gives};
 
-use svc_draft::{Ending, Next, Section, Statement, Width};
+use svc_draft::Ending::{Bare, Zero};
+use svc_draft::{Next, Section, Statement, Width};
 use svc_image::Version;
 use svc_operands::{Name, Read, Wanted, padded, read_number, split_name, stopped_at};
 
@@ -39,7 +40,7 @@ pub enum Says {
 pub struct Directive(pub Name, pub Says);
 
 /// The directives that are read as a whole.
-pub const DIRECTIVES: [Directive; 31] = [
+pub static DIRECTIVES: [Directive; 31] = [
     Directive(*b".word           ", Says::Word),
     Directive(*b".text           ", Says::Section(Section::Text)),
     Directive(*b".data           ", Says::Section(Section::Data)),
@@ -74,25 +75,16 @@ pub const DIRECTIVES: [Directive; 31] = [
 ];
 
 /// The directives that are read part by part.
-pub const OPENED: [Directive; 13] = [
+pub static OPENED: [Directive; 13] = [
     Directive(*b".word           ", Says::Open(Next::Value(Width::Word))),
     Directive(*b".4byte          ", Says::Open(Next::Value(Width::Word))),
     Directive(*b".half           ", Says::Open(Next::Value(Width::Half))),
     Directive(*b".2byte          ", Says::Open(Next::Value(Width::Half))),
     Directive(*b".short          ", Says::Open(Next::Value(Width::Half))),
     Directive(*b".byte           ", Says::Open(Next::Value(Width::Byte))),
-    Directive(
-        *b".ascii          ",
-        Says::Open(Next::Character(Ending::Bare)),
-    ),
-    Directive(
-        *b".asciz          ",
-        Says::Open(Next::Character(Ending::Zero)),
-    ),
-    Directive(
-        *b".string         ",
-        Says::Open(Next::Character(Ending::Zero)),
-    ),
+    Directive(*b".ascii          ", Says::Open(Next::Character(Bare))),
+    Directive(*b".asciz          ", Says::Open(Next::Character(Zero))),
+    Directive(*b".string         ", Says::Open(Next::Character(Zero))),
     Directive(*b".set            ", Says::Open(Next::Symbol)),
     Directive(*b".equ            ", Says::Open(Next::Symbol)),
     Directive(*b".comm           ", Says::Open(Next::Common)),
@@ -104,7 +96,7 @@ pub const OPENED: [Directive; 13] = [
 pub struct Beginning(pub Name, pub Section);
 
 /// The sections, by how their names begin.
-pub const SECTIONS: [Beginning; 7] = [
+pub static SECTIONS: [Beginning; 7] = [
     Beginning(*b".text           ", Section::Text),
     Beginning(*b".rodata         ", Section::Rodata),
     Beginning(*b".srodata        ", Section::Rodata),
@@ -197,20 +189,14 @@ fn said_of(number: Number, n: u32) -> Option<Statement>
     }
 }
 
-fn wanted_by(number: Number) -> Wanted {
-    match number {
-        Number::Version => Wanted::Version,
-        _ => Wanted::Power,
-    }
-}
-
 #[tactic(auto, unfolding(crate::specs::Statements::numbered_at))]
 pub fn read_numbered(number: Number, text: &[u8]) -> Read<'_, Statement>
     ensures { Gives (λ x. (x.0, x.1.now)) result (numbered_at number text.now) }
 {
     let (n, rest) = read_number(text)?;
-    match said_of(number, n) {
-        Some(statement) => Ok((statement, rest)),
-        None => Err(stopped_at(text, wanted_by(number))),
+    match (said_of(number, n), number) {
+        (Some(statement), _) => Ok((statement, rest)),
+        (None, Number::Version) => Err(stopped_at(text, Wanted::Version)),
+        (None, _) => Err(stopped_at(text, Wanted::Power)),
     }
 }

@@ -11,7 +11,7 @@ use crate::directives::{Number, Says, read_numbered, said_by, section_by};
 use svc_draft::{Draft, Next, Statement, Width};
 use svc_instructions::read_instruction;
 use svc_operands::{
-    Read, Unread, Wanted, opens, read_first_register, read_mark, read_value, skip_spaces,
+    Radix, Read, Unread, Wanted, opens, read_first_register, read_mark, read_value, skip_spaces,
     split_name, stopped_at, stopped_at_name, value_of,
 };
 
@@ -223,7 +223,7 @@ fn label_with<'a>(name: &[u8], rest: &'a [u8]) -> Option<(Statement, &'a [u8])>
     if is_label(name) {
         return Some((Statement::Label, rest));
     }
-    Some((Statement::Local(value_of(10, name)?), rest))
+    Some((Statement::Local(value_of(Radix::Decimal, name)?), rest))
 }
 
 #[tactic(auto, unfolding(crate::specs::Statements::line_at))]

@@ -1,4 +1,5 @@
 -- The exit status of what was done is 2 at most.
+use Rattle.std.specs.Prelude.{is_some}
 use Rattle.std.proofs.Common.{◌≡◌, ◌≤◌, ℕ, Bool, true, false, cond, List, Option, Some, None, arith}
 use Rattle.svc_core_laws.specs.declared.end.Ending.{Ending}
 use Rattle.svc_core_laws.specs.declared.end.Ending.TheVariants as ending
@@ -34,8 +35,9 @@ two_at_most (request.Run run) held saved old new exit (img, image, r, is_run, go
 two_at_most (request.Sequential tasks) held saved old new exit (img, image, report) = of_ending _ exit report.status
 two_at_most (request.Depend depended) held saved old new exit (img, image, (names, named, tells)) = of_ending _ exit tells.status
 two_at_most (request.Explore explored) held saved old new exit (img, image, tells) = of_whole tells.exploration.whole exit tells.status
+two_at_most (request.Find explored sought trace) held saved old new exit (img, image, finds) = of_whole (is_some finds.seen) exit finds.status
 two_at_most (request.Script scripted) held saved old new exit (img, image, steps, script, plays) = of_ending _ exit plays.report.status
-two_at_most (request.Check traced) held saved old new exit (img, image, es, trace, sound) = of_nothing exit sound.status
+two_at_most (request.Check traced script) held saved old new exit (img, image, es, trace, (sound, saves, leads)) = of_nothing exit sound.status
 two_at_most (request.Profile traced to by asked) held saved old new exit (img, image, es, trace, (names, named, told)) = of_nothing exit told.status
 two_at_most (request.Show traced at asked) held saved old new exit (img, image, es, trace, (names, named, told)) = of_nothing exit told.status
 two_at_most (request.Draw traced picture) held saved old new exit (drawn, quiet, zero) = of_nothing exit zero

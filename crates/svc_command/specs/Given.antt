@@ -2,6 +2,8 @@
 use Rattle.std.specs.Prelude.{◌≡◌, ⊤, ℕ, true, List, Option, None, Some, IfSome, codes}
 use denote.Ref.{Bor}
 use Rattle.svc_base.specs.declared.config.Config.{Config}
+use Rattle.svc_explore.specs.declared.sought.Sought.{Sought}
+use Rattle.svc_explore.specs.Sought.{sought_text}
 use Rattle.svc_report.specs.declared.table.TableRow.{TableRow}
 use Rattle.svc_request.specs.declared.request.Depended.{Depended}
 use Rattle.svc_request.specs.declared.request.Explored.{Explored}
@@ -98,6 +100,14 @@ pub record GivesExplored (words : List (List ℕ)) (explored : Explored) : Type 
   pub burst : IsNumberOf (codes "burst") 63 explored.burst words
   pub states : IsNumberOf (codes "states") 1000000 explored.states words
 
+-- what is looked for is the value of its option
+abbrev pub GivesSought : List (List ℕ) → Sought → Type 0
+GivesSought words sought = IsValueOf (codes "find") (sought_text sought) words
+
+-- the trace is saved in the file that the line names
+abbrev pub GivesTrace : List (List ℕ) → Option (Bor (List ℕ)) → Type 0
+GivesTrace words trace = IfSome trace (λ name. IsValueOf (codes "trace") name.now words)
+
 pub record GivesScripted (words : List (List ℕ)) (scripted : Scripted) : Type 0 where
   pub image : GivesImage words scripted.image
   pub config_is : GivesConfig words scripted.config
@@ -113,8 +123,10 @@ Gives words (request.Run run) = GivesRun words run
 Gives words (request.Sequential tasks) = GivesImage words tasks.image × IsGivenNumber (codes "tasks") tasks.most words
 Gives words (request.Depend depended) = GivesDepended words depended
 Gives words (request.Explore explored) = GivesExplored words explored
+Gives words (request.Find explored sought trace) = GivesExplored words explored × GivesSought words sought × GivesTrace words trace
 Gives words (request.Script scripted) = GivesScripted words scripted
-Gives words (request.Check traced) = GivesTraced words traced
+Gives words (request.Check traced script) =
+    GivesTraced words traced × IfSome script (λ name. IsValueOf (codes "script") name.now words)
 Gives words (request.Profile traced to by names) =
     GivesTraced words traced × IfSome to (λ n. IsGivenNumber (codes "to") n words) × IfSome by (GivesTable words) × GivesNames words names
 Gives words (request.Show traced at names) =

@@ -105,6 +105,12 @@ pub(crate) const TRACE: Argument = Argument {
     ..OPTION
 };
 
+pub(crate) const SCRIPT_FILE: Argument = Argument {
+    name: "script",
+    help: "Saves the script that leads to the trace in this file: a CSV text with a row for each step",
+    ..TRACE
+};
+
 pub(crate) const ROW: Argument = Argument {
     name: "row",
     takes: Takes::Word,
@@ -247,6 +253,21 @@ pub(crate) const STATES: Argument = Argument {
     default: Some("1000000"),
     help: "How many standings are followed at most: 1 to 4294967295",
     ..OPTION
+};
+
+pub(crate) const FIND: Argument = Argument {
+    name: "find",
+    takes: Takes::Word,
+    value: "WHAT[,TASK[,WORD]]",
+    help: "Looks for one observation instead, and prints its row",
+    ..OPTION
+};
+
+// The trace of a schedule that shows it.
+pub(crate) const TRACE_OF_FINDING: Argument = Argument {
+    needs: Some("find"),
+    help: "Saves the trace of a schedule that shows it in this file",
+    ..TRACE
 };
 
 pub(crate) const UNITS: Argument = Argument {

@@ -1,10 +1,10 @@
 //! The command line, as `clap` reads it: its subcommands and their arguments.
 
 use crate::arguments::{
-    AT, Argument, BURST, BURST_OF_MOVES, BY, BY_OF_NEEDS, COUNT, DOT, EVENTS, EVENTS_FILE, FROM,
-    HEADER, IMAGE, MADE_IMAGE, NAMES, NAMES_OF_PROFILE, PICTURE, ROW, ROW_OF_PROFILE, SCHEDULE,
-    SEED, SETS, STATES, TASKS, TASKS_FOLLOWED, TEXT, TO, TRACE, TRACE_FILE, TURNS, Takes, UNITS,
-    WAYS,
+    AT, Argument, BURST, BURST_OF_MOVES, BY, BY_OF_NEEDS, COUNT, DOT, EVENTS, EVENTS_FILE, FIND,
+    FROM, HEADER, IMAGE, MADE_IMAGE, NAMES, NAMES_OF_PROFILE, PICTURE, ROW, ROW_OF_PROFILE,
+    SCHEDULE, SCRIPT_FILE, SEED, SETS, STATES, TASKS, TASKS_FOLLOWED, TEXT, TO, TRACE, TRACE_FILE,
+    TRACE_OF_FINDING, TURNS, Takes, UNITS, WAYS,
 };
 use crate::helps::{
     ABOUT, ASSEMBLE, CHECK, DEPEND, DRAW, EXPLORE, FAULTS, LIST, PROFILE, RUN, SCRIPT, SEQ, SHOW,
@@ -60,6 +60,8 @@ const SUBCOMMANDS: [Subcommand; 11] = [
             IMAGE,
             BURST_OF_MOVES,
             STATES,
+            FIND,
+            TRACE_OF_FINDING,
             UNITS,
             SETS,
             WAYS,
@@ -79,7 +81,16 @@ const SUBCOMMANDS: [Subcommand; 11] = [
         about: "Replays a trace, and says whether it is sound",
         help: CHECK,
         statuses: STATUSES,
-        arguments: &[IMAGE, TRACE_FILE, UNITS, SETS, WAYS, EVENTS, TURNS],
+        arguments: &[
+            IMAGE,
+            TRACE_FILE,
+            UNITS,
+            SETS,
+            WAYS,
+            EVENTS,
+            TURNS,
+            SCRIPT_FILE,
+        ],
     },
     Subcommand {
         name: "profile",

@@ -58,6 +58,7 @@ which standard error names in one line:
                   a script's, likewise
   names fault row R column C
                   that of a table of names, likewise
+  explore limit   an exploration met a limit, --states or --events, before it found what --find names
   trace fault 1 at entry 0
                   memory was refused for the replay of a trace
   trace fault 2 at entry I
@@ -74,7 +75,8 @@ pub(crate) const STATUSES_OF_ASSEMBLE: &str =
 /// The end of the help of `explore`.
 pub(crate) const STATUSES_OF_EXPLORE: &str =
     "Exit status: 0 if the exploration was whole, 2 if a limit was met, --states or --events, and 1 at a fault,
-which standard error names.";
+which standard error names. With --find 0 if it was found, 2 if no schedule shows it, and 1 if a limit was met
+before.";
 
 /// The end of the help of `list`.
 pub(crate) const STATUSES_OF_LIST: &str =
@@ -160,7 +162,10 @@ read (hit, reuse, version:T of task T, spill, committed, memory), or why tasks w
 
 How many standings there are grows fast with the units: begin with two.
 
-Example: svcsim explore sum.svci --units 2";
+With --find only the first row is printed that has this WHAT, and this TASK and WORD where they are given; an
+empty TASK is any. The trace of a schedule that shows it can be saved, for check, show and draw.
+
+Example: svcsim explore sum.svci --units 2 --find squash --trace squash.csv";
 
 /// The help of `script`.
 pub(crate) const SCRIPT: &str =
@@ -193,7 +198,11 @@ It prints sound,N for the N rows of a sound trace. Otherwise it names the first 
 as trace fault K at entry I. K is 1 if memory ran out, 2 if the row's event is refused there, and 3 if the
 event has another answer. Give the options that the trace was made with.
 
-Example: svcsim check sum.svci sum.csv --units 8";
+With --script FILE it saves the script that leads to a sound trace, before anything is printed: a step for each
+row, a submit with as many turns as the row has, local ones and the one that asked. The subcommand script makes
+the same trace of it. For a faulty trace it saves nothing.
+
+Example: svcsim check sum.svci sum.csv --units 8 --script sum.events.csv";
 
 /// The help of `profile`.
 pub(crate) const PROFILE: &str =

@@ -1,16 +1,21 @@
 //! What the options of several subcommands give.
 
 ghost use Rattle.std.specs.Prelude.{◌≡◌, IfOk, IfSome, codes};
-ghost use Rattle.svc_command.specs.Given.{GivesConfig, GivesImage, GivesNeedsTable, GivesOrder, GivesRow, GivesSchedule, GivesTable};
+ghost use Rattle.svc_command.specs.Given.{GivesConfig, GivesImage, GivesNeedsTable, GivesOrder, GivesRow, GivesSchedule, GivesSought, GivesTable};
 ghost use Rattle.svc_command.specs.Line.{IsValueOf, texts};
 
 use crate::line::Line;
 use std::alloc::Global;
 use svc_base::Config;
 use svc_core::MAX_BURST_TURNS;
-use svc_program::{Fault, NeedsTable, Order, Schedule, Source, Table, TableRow};
+use svc_program::{Fault, NeedsTable, Order, Schedule, Sought, Source, Table, TableRow};
 
 const SEED_ALONE: &str = "error: the argument '--seed <N>' is of '--schedule random' alone
+
+For more information, try '--help'.
+";
+
+const NOT_SOUGHT: &str = "error: the value of '--find' is not WHAT, WHAT,TASK or WHAT,TASK,WORD
 
 For more information, try '--help'.
 ";
@@ -108,6 +113,19 @@ fn order(alloc: Global, name: &str, line: Line<'_, '_>) -> Result<Order, Fault>
         "youngest" => Ok(Order::Youngest),
         // The parser accepts no other name.
         _ => Err(Fault::File),
+    }
+}
+
+/// What is looked for, if anything is.
+pub(crate) fn sought(alloc: Global, line: Line<'_, '_>) -> Result<Option<Sought>, Fault>
+    ensures { IfOk result (λ given. IfSome given (GivesSought (texts line.entry.words.now))) }
+{
+    let Some(text) = line.option("find")? else {
+        return Ok(None);
+    };
+    match Sought::read(alloc, text)? {
+        Some(sought) => Ok(Some(sought)),
+        None => Err(Fault::CommandLine(String::from_str(alloc, NOT_SOUGHT)?)),
     }
 }
 

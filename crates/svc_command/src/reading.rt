@@ -109,7 +109,7 @@ fn asked<'a>(
     }
 }
 
-// What the subcommand of this name asks for.
+// What the subcommand of this name asks for. A match of all names in one function would cost several times as much to prove.
 fn asked_by<'a>(alloc: Global, name: &str, line: Line<'_, 'a>) -> Result<Request<'a>, Fault>
     ensures named { IsNamed name.now (texts line.entry.words.now)
         → IfOk result (Names (texts line.entry.words.now)) }
@@ -119,12 +119,34 @@ fn asked_by<'a>(alloc: Global, name: &str, line: Line<'_, 'a>) -> Result<Request
         "run" => run(alloc, line),
         "seq" => sequential(line),
         "depend" => depend(line),
-        "explore" => explore(line),
+        "explore" => explore(alloc, line),
+        _ => asked_by_files(name, line),
+    }
+}
+
+// What a subcommand asks for that plays a script or replays a trace.
+fn asked_by_files<'a>(name: &str, line: Line<'_, 'a>) -> Result<Request<'a>, Fault>
+    ensures named { IsNamed name.now (texts line.entry.words.now)
+        → IfOk result (Names (texts line.entry.words.now)) }
+    ensures gives { IfOk result (Gives (texts line.entry.words.now)) }
+{
+    match name {
         "script" => script(line),
         "check" => check(line),
         "profile" => profile(line),
         "show" => show(line),
         "draw" => draw(line),
+        _ => asked_by_text(name, line),
+    }
+}
+
+// What a subcommand asks for that makes an image or lists one.
+fn asked_by_text<'a>(name: &str, line: Line<'_, 'a>) -> Result<Request<'a>, Fault>
+    ensures named { IsNamed name.now (texts line.entry.words.now)
+        → IfOk result (Names (texts line.entry.words.now)) }
+    ensures gives { IfOk result (Gives (texts line.entry.words.now)) }
+{
+    match name {
         "assemble" => assemble(line),
         "list" => list(line),
         // The parser accepts no other subcommand.

@@ -6,7 +6,7 @@ ghost use Rattle.svc_command.specs.Given.{Gives, GivesTraced};
 ghost use Rattle.svc_command.specs.Line.{IsNamed, texts};
 
 use crate::line::Line;
-use crate::options::{configuration, image, needs_table, row, schedule, table};
+use crate::options::{configuration, image, needs_table, row, schedule, sought, table};
 use std::alloc::Global;
 use svc_core::MAX_BURST_TURNS;
 use svc_program::{
@@ -56,18 +56,22 @@ pub(crate) fn depend<'a>(line: Line<'_, 'a>) -> Result<Request<'a>, Fault>
     Ok(Request::Depend(depended))
 }
 
-/// The schedules that `explore` asks for.
-pub(crate) fn explore<'a>(line: Line<'_, 'a>) -> Result<Request<'a>, Fault>
+/// The schedules that `explore` asks for, and what is looked for.
+pub(crate) fn explore<'a>(alloc: Global, line: Line<'_, 'a>) -> Result<Request<'a>, Fault>
     ensures named { IsNamed (codes "explore") (texts line.entry.words.now)
         → IfOk result (Names (texts line.entry.words.now)) }
     ensures gives { IfOk result (Gives (texts line.entry.words.now)) }
 {
-    Ok(Request::Explore(Explored {
+    let explored = Explored {
         image: image(line)?,
         config: configuration(line)?,
         burst: line.number("burst", MAX_BURST_TURNS)?,
         states: line.number("states", 1_000_000)?,
-    }))
+    };
+    match sought(alloc, line)? {
+        Some(sought) => Ok(Request::Find(explored, sought, line.option("trace")?)),
+        None => Ok(Request::Explore(explored)),
+    }
 }
 
 /// The script that `script` asks for.
@@ -84,13 +88,14 @@ pub(crate) fn script<'a>(line: Line<'_, 'a>) -> Result<Request<'a>, Fault>
     }))
 }
 
-/// The trace that `check` asks for.
+/// The trace that `check` asks for, and the script's file.
 pub(crate) fn check<'a>(line: Line<'_, 'a>) -> Result<Request<'a>, Fault>
     ensures named { IsNamed (codes "check") (texts line.entry.words.now)
         → IfOk result (Names (texts line.entry.words.now)) }
     ensures gives { IfOk result (Gives (texts line.entry.words.now)) }
 {
-    Ok(Request::Check(traced(line)?))
+    let traced = traced(line)?;
+    Ok(Request::Check(traced, line.option("script")?))
 }
 
 /// The trace that `profile` asks for, how many of its entries, the table, and the names.

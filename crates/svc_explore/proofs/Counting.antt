@@ -1,19 +1,19 @@
 -- The keys that were met, each once and with its schedule, and how many moves were made.
-use Rattle.std.proofs.Common.{ℕ, zero, suc, ◌≡◌, ◌⊎◌, ◌+◌, ◌*◌, ◌<◌, ◌≤◌, Bool, true, false, cond, true≢false, is_some, List, [], ◌∷◌, ◌++◌, length, Some, inl, inr, Vec, vec_items, refl, sym, ap, ◌∙◌, subst, arith, slice_get}
+use Rattle.std.proofs.Common.{ℕ, zero, suc, ◌≡◌, ◌⊎◌, ◌+◌, ◌*◌, ◌<◌, ◌≤◌, ◌^◌, Bool, true, false, cond, true≢false, is_some, List, [], ◌∷◌, ◌++◌, length, Some, inl, inr, Vec, vec_items, refl, sym, ap, ◌∙◌, subst, arith, slice_get}
 use Rattle.std.specs.declared.alloc.Global.{Global}
 use Rattle.std.specs.List.{AllByRecursion}
 use Rattle.std.specs.Map.{lookup}
 use Rattle.std.specs.Str.{bytes_eq}
 use Rattle.std.proofs.lemmas.Slice.Eq.{bytes_eq-Decides}
 use Rattle.std.proofs.lemmas.Option.{none-some, same_Some, slice_get_within}
-use Rattle.std.proofs.Math.Nat.{mul-le-mul_right, suc-mul}
+use Rattle.std.proofs.Math.Nat.{mul-le-mul_left, mul-le-mul_right, suc-mul}
 use Rattle.std.proofs.lemmas.List.{length-append}
 use Rattle.svc_base.specs.declared.config.Config.{Config}
 use Rattle.svc_base.specs.declared.ids.UnitId.{UnitId}
 use Rattle.svc_image.specs.Image.{Image}
 use Rattle.svc_explore_laws.specs.Closed.{IsIn}
 use Rattle.svc_machine_laws.proofs.Places.{some_at}
-use Rattle.svc_explore.specs.Counts.{AddsPlace, AreMet, IsDepth, IsLongest, IsMet, Place, path_at}
+use Rattle.svc_explore.specs.Counts.{AddsPlace, AreMet, HasFull, IsDepth, IsLongest, IsMet, Place, path_at}
 use Rattle.svc_explore.specs.Found.{AreOnce}
 use Rattle.svc_explore.specs.Search.{are_keys, key_at}
 use Rattle.svc_explore.specs.Tries.{LeadsToKey}
@@ -103,3 +103,13 @@ longest_of es index deepest all some bound found =
           record { bound = within; index = 0; place = first.0; there = first.1; is = omega (arith, low, none) }
       | inr at ↦ record { bound = within; index = at.0; place = at.1; there = at.2; is = at.3 }
     ]
+
+-- ---- limits
+
+-- so few moves are counted that one for each unit more can be
+pub few_moves : (index units moves : ℕ) → moves ≤ index * units → units ≤ 16 → index < 2 ^ 32 → moves + 16 < 2 ^ 63
+few_moves index units moves h few below = let e = mul-le-mul_left index few in omega (arith, h, e, below)
+
+-- a schedule with as many moves as events may be accepted is no longer than the longest
+pub deep_enough : (config : Config) (places : List Place) (deepest : ℕ) → IsLongest deepest places → HasFull config places → config.events ≤ deepest
+deep_enough config places deepest longest full = let h = longest.bound full.index full.place full.there in let e = full.full in omega (arith, h, e)

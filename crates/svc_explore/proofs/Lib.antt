@@ -1,4 +1,5 @@
 pub mod Moving
+pub mod OnePath
 pub mod KeyLists
 pub mod KeyTells
 pub mod Leading
@@ -10,3 +11,5 @@ pub mod Permuting
 pub mod Counting
 pub mod PlayEnds
 pub mod Scheduled
+pub mod NoMatch
+pub mod Witnessing

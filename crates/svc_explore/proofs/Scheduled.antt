@@ -16,10 +16,10 @@ use Rattle.svc_schedule.specs.Moves.{IsMade, IsMove}
 use Rattle.svc_schedule.specs.Steps.{FirstMoves, IsScheduled, Steps, asked}
 use Rattle.svc_explore_laws.specs.Moves.{Asks, Moves, Plays}
 use Rattle.svc_explore_laws.proofs.ClosedPlays.{moves_event}
-use Rattle.svc_explore.specs.Recorders.{HasMoved}
+use Rattle.svc_explore.specs.Recorders.{HasMoved, PlaysTo}
 use Rattle.svc_explore.proofs.Leading.{opened_standing}
 use Rattle.svc_explore.proofs.Moving.{begin_asks, commit_asks, lease_unit, run_asks}
-use Rattle.svc_explore.proofs.PlayEnds.{PlaysTo, is_play, recorder_plays}
+use Rattle.svc_explore.proofs.PlayEnds.{is_play, recorder_plays}
 
 -- the move of a unit, as a step tells it, is its move
 module _ (r : Recorded) (legal : IsLegal r) (most unit : ℕ) where

@@ -1,5 +1,5 @@
 -- How far a search went, told by the keys that it met.
-use Rattle.std.specs.Prelude.{◌≡◌, ◌⊎◌, ℕ, ◌+◌, ◌*◌, ◌≤◌, [], ◌∷◌, ◌++◌, IsTrue, Some, List, Vec, length, vec_items, slice_get}
+use Rattle.std.specs.Prelude.{◌≡◌, ◌⊎◌, ℕ, ◌+◌, ◌*◌, ◌≤◌, ◌<◌, [], ◌∷◌, ◌++◌, IsTrue, IsFalse, Some, List, Vec, length, vec_items, slice_get}
 use Rattle.std.specs.declared.alloc.Global.{Global}
 use Rattle.std.specs.List.{AllByRecursion}
 use Rattle.svc_base.specs.declared.config.Config.{Config}
@@ -59,3 +59,16 @@ pub record IsTold (img : Image) (config : Config) (most : ℕ) (x : Exploration)
   pub deepest : IsLongest x.deepest places
   pub least_moves : x.states ≤ x.moves + 1
   pub most_moves : x.moves ≤ x.states * config.units
+
+-- one of the schedules has as many moves as events may be accepted
+pub record HasFull (config : Config) (places : List Place) : Type 0 where
+  pub index : ℕ
+  pub place : Place
+  pub there : slice_get places index ≡ Some place
+  pub full : config.events ≤ length (path_at place)
+
+-- a whole exploration is of no more standings than may be explored; and one that isn't whole has met a limit: it told more
+-- standings apart than that, or one of its schedules has as many moves as events may be accepted
+pub record KeepsLimits (config : Config) (limit : ℕ) (x : Exploration) : Type 0 where
+  pub within : IsTrue x.whole → x.states ≤ limit
+  pub met : IsFalse x.whole → (limit < x.states) ⊎ (config.events ≤ x.deepest)

@@ -7,3 +7,4 @@ pub mod Found
 pub mod Order
 pub mod Counts
 pub mod Rows
+pub mod Sought

@@ -4,14 +4,15 @@ use Rattle.svc_base.specs.declared.config.Config.{Config}
 use Rattle.svc_base.specs.declared.ids.UnitId.{UnitId}
 use Rattle.svc_image.specs.Image.{Image}
 use Rattle.svc_machine_laws.specs.Events.{Event}
-use Rattle.svc_machine_laws.specs.Standing.{Standing, stepped, reply_to}
+use Rattle.svc_machine_laws.specs.Standing.{Standing, opened_at, stepped, reply_to}
+use Rattle.svc_history_laws.specs.declared.entry.Entry.{Entry}
 use Rattle.svc_history_laws.specs.Entries.{entry_of}
 use Rattle.svc_history.specs.Recorded.{Recorded, standing_of}
 use Rattle.svc_core.specs.declared.burst.Lease.{Lease}
 use Rattle.svc_core_laws.specs.Bursts.{Advance, IsAdvance}
 use Rattle.svc_history.specs.Moves.{RunOn, move_of}
 use Rattle.svc_core_laws.specs.Turns.{data_words}
-use Rattle.svc_explore_laws.specs.Moves.{Moves}
+use Rattle.svc_explore_laws.specs.Moves.{IsTurn, Moves}
 use Rattle.svc_explore.specs.KeyWords.{key_of}
 
 -- the unit's move was accepted
@@ -27,6 +28,19 @@ pub record HasMoved (most : ℕ) (old new : Recorded) (unit : ℕ) : Type 0 wher
 abbrev pub Leads : Image → Config → (most : ℕ) → Standing → List UnitId → Standing → Type 0
 Leads img config most s [] t = t ≡ s
 Leads img config most s (unit ∷ units) t = (x : Event) × Moves img config most s unit.0 x × Leads img config most (stepped img s x) units t
+
+-- the schedule leads from the opening to no other standing
+abbrev pub LeadsOnly : Image → Config → (most : ℕ) → List UnitId → Standing → Type 0
+LeadsOnly img config most path s = (t : Standing) → Leads img config most (opened_at img config 0) path t → t ≡ s
+
+-- nor to any
+abbrev pub LeadsNowhere : Image → Config → (most : ℕ) → List UnitId → Type 0
+LeadsNowhere img config most path = (t : Standing) → Leads img config most (opened_at img config 0) path t → ⊥
+
+-- a play and where it ends
+abbrev pub PlaysTo : Image → Config → (most : ℕ) → Standing → List Entry → Standing → Type 0
+PlaysTo img config most s [] u = u ≡ s
+PlaysTo img config most s (e ∷ es) u = (t : Standing) × IsTurn img config most s t e × PlaysTo img config most t es u
 
 -- the unit's move is to run its task on, and the burst does that
 abbrev pub RunsOnBy : (most : ℕ) → Recorded → UnitId → Advance → Type 0

@@ -1,5 +1,6 @@
 -- The rows of an exploration.
 use Rattle.std.specs.Prelude.{ℕ, ◌+◌, List, [], ◌∷◌, ◌++◌, Bool, if◌then◌else◌, Option, None, Some, codes, decimal, flat_map, length, vec_items}
+use denote.Ref.{Bor}
 use Rattle.svc_text.specs.Rows.{row}
 use Rattle.svc_explore_laws.specs.declared.observation.Happening.{Happening}
 use Rattle.svc_explore_laws.specs.declared.observation.Happening.TheVariants as what
@@ -74,6 +75,15 @@ totals_text states moves deepest whole =
     row (codes "states") (states ∷ []) ++ row (codes "moves") (moves ∷ []) ++ row (codes "deepest") (deepest ∷ [])
     ++ (codes "whole," ++ yes_or_no whole ++ codes "\n")
 
+-- the row of an observation, if there is one
+abbrev pub found_row : Option (Bor Seen) → List ℕ
+found_row None = []
+found_row (Some seen) = row_of seen.now
+
 -- all that is told: the observations in this order
 abbrev pub exploration_text : Exploration → List ℕ
 exploration_text x = totals_text x.states x.moves x.deepest x.whole ++ rows_of x.found.items
+
+-- what is told of one observation that was looked for, if it was found
+abbrev pub finding_text : Exploration → Option (Bor Seen) → List ℕ
+finding_text x seen = totals_text x.states x.moves x.deepest x.whole ++ found_row seen

@@ -34,6 +34,12 @@ IsTried most r unit tried.Off = Unit {0}
 IsTried most r unit tried.Rests = HasNoMove r.machine.image r.machine.config most (standing_of r) unit
 IsTried most r unit (tried.Moves happened squashed next) = IsMovedTo most r unit (both happened squashed) (vec_items next)
 
+-- the schedule was not followed to its end
+abbrev pub IsOff : Tried → Type 0
+IsOff tried.Off = Unit {0}
+IsOff tried.Rests = ⊥
+IsOff (tried.Moves happened squashed next) = ⊥
+
 -- the unit was explored at the key, in each list of observations that has what its move shows, and each of keys that has where that leads
 abbrev pub TriedAt : Image → Config → (most : ℕ) → (key : List ℕ) → (unit : ℕ) → Tried → Type 0
 TriedAt img config most key unit tried.Off = Unit {0}

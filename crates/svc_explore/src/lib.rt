@@ -9,11 +9,15 @@ mod roster;
 mod rows;
 mod runs;
 mod search;
+mod shown;
 mod sight;
+mod sought;
 mod walk;
 
 pub use found::Seen;
 pub use moves::make_move;
-pub use rows::put_exploration;
+pub use rows::{put_exploration, put_finding};
 pub use runs::scheduled_runs_play;
+pub use shown::witness;
+pub use sought::{Sought, find};
 pub use walk::{Exploration, explore};

@@ -1,7 +1,7 @@
 // The rows of an exploration.
 
 ghost use Rattle.std.specs.Prelude.{◌≡◌, ◌++◌, OnOk, codes, decimal};
-ghost use Rattle.svc_explore.specs.Rows.{exploration_text, name_of, number_told, numbers_text, reason_of, reason_told, row_of, rows_of, seen_row, sight_text, task_text, totals_text, yes_or_no};
+ghost use Rattle.svc_explore.specs.Rows.{exploration_text, finding_text, name_of, number_told, numbers_text, reason_of, reason_told, row_of, rows_of, seen_row, sight_text, task_text, totals_text, yes_or_no};
 
 use crate::found::Seen;
 use crate::walk::Exploration;
@@ -9,7 +9,7 @@ use std::alloc::AllocError;
 use svc_explore_laws::{By, Happening, Observation};
 use svc_text::{Piece, put_row};
 
-fn name_of(what: Happening) -> &'static str
+pub(crate) fn name_of(what: Happening) -> &'static str
     ensures { result.now ≡ name_of what }
 {
     match what {
@@ -153,4 +153,21 @@ pub fn put_exploration(text: &mut Vec<u8>, exploration: &Exploration) -> Result<
 {
     put_totals(text, exploration)?;
     put_found(text, exploration.found.as_slice())
+}
+
+/// Adds how far an exploration went, and the row of the observation that was looked for, if one was found.
+///
+/// Errors: [`AllocError`], if memory runs out.
+pub fn put_finding(
+    text: &mut Vec<u8>,
+    exploration: &Exploration,
+    seen: Option<&Seen>,
+) -> Result<(), AllocError>
+    ensures { OnOk result (text.new.items ≡ text.old.items ++ finding_text exploration.now seen.entry) }
+{
+    put_totals(text, exploration)?;
+    match seen {
+        Some(seen) => put_one(text, seen),
+        None => Ok(()),
+    }
 }

@@ -1,13 +1,13 @@
 // One step of the search: a unit's move where a schedule leads.
 
-ghost use Rattle.std.specs.Prelude.{◌≡◌, ◌<◌, ◌++◌, ◌∷◌, [], List, IfOk, IfSome, IsTrue, length};
-ghost use Rattle.svc_machine_laws.specs.Standing.{opened_at};
+ghost use Rattle.std.specs.Prelude.{◌≡◌, ◌↔◌, ◌<◌, ◌≤◌, ◌++◌, ◌∷◌, [], List, IfOk, IfSome, IsNone, IsTrue, length};
+ghost use Rattle.svc_machine_laws.specs.Standing.{Standing, opened_at};
 ghost use Rattle.svc_history.specs.Recorded.{standing_of};
 ghost use Rattle.svc_base.specs.declared.ids.UnitId.{UnitId};
 ghost use Rattle.svc_explore_laws.specs.Moves.{HasRoom};
-ghost use Rattle.svc_explore.specs.Recorders.{GaveFew, Leads};
+ghost use Rattle.svc_explore.specs.Recorders.{GaveFew, Leads, LeadsNowhere, LeadsOnly, PlaysTo, key_in};
 ghost use Rattle.svc_explore.specs.Search.{image_key};
-ghost use Rattle.svc_explore.specs.Tries.{IsTried, ShowsIt, TriedAt};
+ghost use Rattle.svc_explore.specs.Tries.{IsOff, IsTried, LeadsToKey, ShowsIt, TriedAt};
 ghost use Rattle.svc_history_laws.specs.declared.entry.Entry.{Entry};
 
 use crate::key::key_of;
@@ -24,6 +24,7 @@ use svc_image::Image;
 fn open_recorder(alloc: Global, image: &Image, config: Config) -> Result<Recorder, AllocError>
     ensures image { IfOk result (λ r. r.machine.image ≡ image.now) }
     ensures config { IfOk result (λ r. r.machine.config ≡ config) }
+    ensures none { IfOk result (λ r. r.entries ≡ []) }
     ensures opened { IfOk result (λ r. standing_of r ≡ opened_at image.now config 0) }
 {
     let Ok(own) = image.copy(alloc) else {
@@ -47,7 +48,7 @@ pub(crate) fn opening_key(
     key_of(alloc, &recorder)
 }
 
-// The machine where a schedule leads, if each of its moves is accepted.
+// The machine where a schedule leads, if it leads anywhere.
 pub(crate) fn replay(
     alloc: Global,
     image: &Image,
@@ -59,6 +60,10 @@ pub(crate) fn replay(
     ensures config { IfOk result (λ o. IfSome o (λ r. r.machine.config ≡ config)) }
     ensures few { IfOk result (λ o. IfSome o (λ r. GaveFew (standing_of r))) }
     ensures leads { IfOk result (λ o. IfSome o (λ r. Leads image.now config most (opened_at image.now config 0) path.now (standing_of r))) }
+    ensures only { IfOk result (λ o. IfSome o (λ r. LeadsOnly image.now config most path.now (standing_of r))) }
+    ensures short { IfOk result (λ o. IfSome o (λ r. (standing_of r).plain.accepted ≤ length path.now)) }
+    ensures plays { IfOk result (λ o. IfSome o (λ r. PlaysTo image.now config most (opened_at image.now config 0) r.entries (standing_of r))) }
+    ensures none { IfOk result (λ o. IsNone o → LeadsNowhere image.now config most path.now) }
 {
     let mut recorder = open_recorder(alloc, image, config)?;
     for unit in path {
@@ -75,14 +80,14 @@ pub(crate) fn replay(
 
 // Whether two keys are one.
 fn is_same(a: &[u64], b: &[u64]) -> bool
-    ensures { IsTrue result → a.now ≡ b.now }
+    ensures { IsTrue result ↔ (a.now ≡ b.now) }
 {
     a == b
 }
 
 // What trying a unit at a key came to.
 pub(crate) enum Tried {
-    // The schedule doesn't lead to the key, or the history is full there.
+    // The history is full there, or the schedule doesn't lead to the key.
     Off,
     // The unit has no move that is accepted.
     Rests,
@@ -102,7 +107,8 @@ fn try_move(
     unit: UnitId,
 ) -> Result<Tried, AllocError>
     requires room { HasRoom recorder.old.machine.config (standing_of recorder.old).plain }
-    ensures { IfOk result (IsTried most recorder.old unit.0) }
+    ensures tried { IfOk result (IsTried most recorder.old unit.0) }
+    ensures on { IfOk result (λ tried. IsOff tried → ⊥) }
 {
     let roster = roster_of(alloc, recorder)?;
     if !make_move(recorder, unit, most) {
@@ -131,6 +137,8 @@ fn try_at(
         → Leads recorder.old.machine.image recorder.old.machine.config most
         (opened_at recorder.old.machine.image recorder.old.machine.config 0) path (standing_of recorder.old)
         → ShowsIt recorder.old.machine.image recorder.old.machine.config most path unit tried) }
+    ensures off { IfOk result (λ tried. IsOff tried → key_in recorder.old ≡ key.now
+        → recorder.old.machine.config.events ≤ (standing_of recorder.old).plain.accepted) }
 {
     keeps(recorder);
     if recorder.machine().is_full() {
@@ -155,6 +163,8 @@ pub(crate) fn try_unit(
 ) -> Result<Tried, AllocError>
     ensures tried { IfOk result (TriedAt image.now config most key.now unit.0) }
     ensures shown { IfOk result (ShowsIt image.now config most path.now unit) }
+    // It is off only where the history is full.
+    ensures off { IfOk result (λ tried. IsOff tried → LeadsToKey image.now config most path.now key.now → config.events ≤ length path.now) }
 {
     match replay(alloc, image, config, path, most)? {
         Some(mut recorder) => try_at(alloc, &mut recorder, most, key, unit),

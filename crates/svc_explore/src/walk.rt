@@ -1,9 +1,9 @@
 // All schedules of an image.
 
-ghost use Rattle.std.specs.Prelude.{◌≡◌, ◌<◌, ◌≤◌, ◌+◌, ◌*◌, ◌++◌, ◌∷◌, [], ℕ, IfOk, IfSome, IsTrue, OnOk, length, slice_get};
+ghost use Rattle.std.specs.Prelude.{◌≡◌, ◌⊎◌, ◌<◌, ◌≤◌, ◌+◌, ◌*◌, ◌^◌, ◌++◌, ◌∷◌, [], ℕ, IfOk, IfSome, IsFalse, IsTrue, OnOk, length, slice_get};
 ghost use Rattle.svc_machine_laws.specs.Standing.{opened_at};
 ghost use Rattle.svc_explore_laws.specs.Closed.{IsIn, ShowNothingElse};
-ghost use Rattle.svc_explore.specs.Counts.{AddsPlace, IsDepth, IsLongest, IsSound, IsTold};
+ghost use Rattle.svc_explore.specs.Counts.{AddsPlace, HasFull, IsDepth, IsLongest, IsSound, IsTold, KeepsLimits};
 ghost use Rattle.svc_explore.specs.Found.{AreWitnessed, are_seen};
 ghost use Rattle.svc_explore.specs.Order.{AreInOrder};
 ghost use Rattle.svc_explore.specs.Search.{GrowsTo, IsExploredAt, IsPartlyClosed, are_keys, image_key};
@@ -78,7 +78,9 @@ impl Search {
     ) -> Result<bool, AllocError>
         requires inside { index < length self.old.keys.entries }
         requires sound { IsSound image.now config most self.old }
+        requires few { self.old.moves < 2 ^ 63 }
         ensures explored { IfOk result (λ ok. IsTrue ok → IsExploredAt image.now config most (are_keys self.new.keys.entries) (are_seen self.new.found.items) index unit.0) }
+        ensures stopped { IfOk result (λ ok. IsFalse ok → HasFull config self.new.keys.entries) }
         ensures moves { OnOk result (self.new.moves ≤ self.old.moves + 1) }
         ensures keys { OnOk result (GrowsTo (are_keys self.old.keys.entries) (are_keys self.new.keys.entries)) }
         ensures longer { OnOk result (length self.old.keys.entries ≤ length self.new.keys.entries) }
@@ -95,14 +97,11 @@ impl Search {
                 squashed,
                 key,
             } => {
-                let Some(moves) = self.moves.checked_add(1) else {
-                    return Ok(false);
-                };
                 let next = longer(alloc, path, unit)?;
                 note_seen(alloc, &mut self.found, happened, path, unit)?;
                 note_seen(alloc, &mut self.found, squashed, path, unit)?;
                 note_key(&mut self.keys, key, next)?;
-                self.moves = moves;
+                self.moves += 1;
                 Ok(true)
             }
         }
@@ -119,7 +118,9 @@ impl Search {
     ) -> Result<bool, AllocError>
         requires inside { index < length self.old.keys.entries }
         requires sound { IsSound image.now config most self.old }
+        requires few { self.old.moves + 16 < 2 ^ 63 }
         ensures explored { IfOk result (λ ok. IsTrue ok → (unit : ℕ) → unit < config.units → IsExploredAt image.now config most (are_keys self.new.keys.entries) (are_seen self.new.found.items) index unit) }
+        ensures stopped { IfOk result (λ ok. IsFalse ok → HasFull config self.new.keys.entries) }
         ensures moves { OnOk result (self.new.moves ≤ self.old.moves + config.units) }
         ensures keys { OnOk result (GrowsTo (are_keys self.old.keys.entries) (are_keys self.new.keys.entries)) }
         ensures longer { OnOk result (length self.old.keys.entries ≤ length self.new.keys.entries) }
@@ -141,17 +142,19 @@ impl Search {
         image: &Image,
         config: Config,
         most: u32,
-        limit: usize,
+        limit: u32,
     ) -> Result<bool, AllocError>
         requires opening { IsIn (image_key image.now config (opened_at image.now config 0)) (are_keys self.old.keys.entries) }
         requires unmoved { self.old.moves ≡ 0 }
         requires sound { IsSound image.now config most self.old }
         ensures closed { IfOk result (λ ok. IsTrue ok → IsPartlyClosed image.now config most (are_keys self.new.keys.entries) (are_seen self.new.found.items) (length self.new.keys.entries)) }
+        ensures within { IfOk result (λ ok. IsTrue ok → length self.new.keys.entries ≤ limit) }
+        ensures stopped { IfOk result (λ ok. IsFalse ok → (limit < length self.new.keys.entries) ⊎ HasFull config self.new.keys.entries) }
         ensures moves { OnOk result (self.new.moves ≤ length self.new.keys.entries * config.units) }
         ensures opening { OnOk result (0 < length self.new.keys.entries) }
         ensures sound { OnOk result (IsSound image.now config most self.new) }
     {
-        for index in 0..limit {
+        for index in 0..limit as usize {
             if index == self.keys.len() {
                 return Ok(true);
             }
@@ -159,7 +162,7 @@ impl Search {
                 return Ok(false);
             }
         }
-        Ok(self.keys.len() == limit)
+        Ok(self.keys.len() == limit as usize)
     }
 
     // How many moves the schedule of a key has.
@@ -212,10 +215,12 @@ pub fn explore(
     image: &Image,
     config: Config,
     burst: u32,
-    limit: usize,
+    limit: u32,
 ) -> Result<Exploration, AllocError>
     // Where no limit was met, whichever units make their moves, in whatever order and however long, nothing is seen but what was found.
     ensures whole { IfOk result (λ r. IsTrue r.whole → ShowNothingElse image.now config burst (are_seen r.found.items)) }
+    // It is not whole only if a limit was met: that of standings, or that of events.
+    ensures limits { IfOk result (KeepsLimits config limit) }
     // Each observation was found once, and its schedule shows it, whether a limit was met or not.
     ensures witnessed { IfOk result (λ r. AreWitnessed image.now config burst r.found.items) }
     // They stand in the order of their rows.

@@ -95,12 +95,16 @@ abbrev pub parts_at : Layout → List Part → List ℕ → ℕ → Read ℕ
 parts_at d [] text word = Some (word, text)
 parts_at d (p ∷ more) text word = part_at d p text >>= (λ n. parts_at d more n.1 (joined word p n.0))
 
+-- the parts of a row's operands
+abbrev pub parts_of : Row → List Part
+parts_of r = r.2.0 ∷ r.2.1 ∷ r.2.2 ∷ r.2.3 ∷ r.2.4 ∷ []
+
 -- a row's word and operands, behind which the line ends
 abbrev pub over : ℕ × List ℕ → Read ℕ
 over read = if is_over read.1 then Some read else None
 
 unfoldable pub row_at : Layout → Row → List ℕ → Read ℕ
-row_at d r text = parts_at d r.2 text r.1 >>= over
+row_at d r text = parts_at d (parts_of r) text r.1 >>= over
 
 -- the first of these rows that has this name and is read
 abbrev pub rows_at : Layout → List Row → List ℕ → List ℕ → Read ℕ

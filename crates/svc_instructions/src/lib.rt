@@ -7,4 +7,4 @@ mod table;
 
 pub use couple::read_instruction;
 pub use reading::{ORDERS, row_of, taken};
-pub use table::{ALIASES, COUPLES, Couple, Part, ROWS, Row};
+pub use table::{ALIASES, COUPLES, Couple, Operands, Part, ROWS, Row, parts_of};

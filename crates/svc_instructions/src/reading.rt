@@ -3,19 +3,19 @@
 ghost use Rattle.std.specs.Prelude.{◌≡◌, ◌<◌, IfSome, IfOk};
 ghost use Rattle.svc_operands.specs.Names.{number_named};
 ghost use Rattle.svc_operands.specs.Operands.{Gives};
-ghost use Rattle.svc_instructions.specs.Instructions.{order_at, orders_at, fence_at, placed, part_at, joined, parts_at, row_at, rows_at, either_at, alone_at, taken, with_funct3, with_funct7, fixed, is_of, row_of};
+ghost use Rattle.svc_instructions.specs.Instructions.{order_at, orders_at, fence_at, placed, part_at, joined, parts_of, parts_at, row_at, rows_at, either_at, alone_at, taken, with_funct3, with_funct7, fixed, is_of, row_of};
 ghost use Rattle.svc_draft.specs.Layouts.{layout_of};
 ghost use Rattle.std.specs.List.{find};
 
-use crate::table::{ALIASES, Part, ROWS, Row};
+use crate::table::{ALIASES, Part, ROWS, Row, parts_of};
 use svc_draft::{Draft, Statement};
 use svc_operands::{
-    Name, Named, Read, Unread, Wanted, is_over, number_named, read_base, read_below, read_mark,
-    read_register, read_short, read_target, read_upper, split_name, stopped_at,
+    Name, Named, Read, Target, Unread, Wanted, is_over, number_named, read_base, read_below,
+    read_mark, read_register, read_short, read_target, read_upper, split_name, stopped_at,
 };
 
 /// Sets of accesses by their letters, as four bits: input, output, reads and writes.
-pub const ORDERS: [Named; 15] = [
+pub static ORDERS: [Named; 15] = [
     Named(*b"w               ", 1),
     Named(*b"r               ", 2),
     Named(*b"rw              ", 3),
@@ -125,17 +125,17 @@ fn read_part<'a>(draft: &Draft, part: Part, text: &'a [u8]) -> Read<'a, u32>
         Part::Amount => read_below(32, Wanted::Amount, text),
         Part::Upper => read_upper(draft, text),
         Part::Order => read_fence(text),
-        Part::Branch => read_target(draft, 2048, Wanted::BranchOffset, text),
-        Part::Jump => read_target(draft, 524_288, Wanted::JumpOffset, text),
+        Part::Branch => read_target(draft, Target::Branch, text),
+        Part::Jump => read_target(draft, Target::Jump, text),
     }
 }
 
 fn read_parts<'a>(draft: &Draft, row: &Row, text: &'a [u8]) -> Read<'a, u32>
-    ensures { Gives (λ x. (x.0, x.1.now)) result (parts_at (layout_of draft.now) row.now.2 text.now row.now.1) }
+    ensures { Gives (λ x. (x.0, x.1.now)) result (parts_at (layout_of draft.now) (parts_of row.now) text.now row.now.1) }
 {
     let mut word = row.1;
     let mut rest = text;
-    for part in row.2.iter() {
+    for part in parts_of(*row).iter() {
         let (number, behind) = read_part(draft, *part, rest)?;
         word = joined(word, *part, number);
         rest = behind;

@@ -1,5 +1,8 @@
 // The table of instructions: what each name and its operands make, and how each word is written.
 
+ghost use Rattle.std.specs.Prelude.{◌≡◌};
+ghost use Rattle.svc_instructions.specs.Instructions.{parts_of};
+
 use Part::{
     Amount, Base, Branch, Comma, End, Immediate, Jump, Order, Rd, Rs1, Rs2, StoreOffset, Upper,
 };
@@ -36,46 +39,58 @@ pub enum Part {
     Jump,
 }
 
+/// The parts of an instruction's operands.
+#[derive(Clone, Copy)]
+pub struct Operands(pub Part, pub Part, pub Part, pub Part, pub Part);
+
 /// An instruction: its name, its word where each of these operands is 0, and its operands.
 #[derive(Clone, Copy)]
-pub struct Row(pub Name, pub u32, pub [Part; 5]);
+pub struct Row(pub Name, pub u32, pub Operands);
 
-const NONE: [Part; 5] = [End, End, End, End, End];
+/// The parts of a row's operands.
+pub fn parts_of(row: Row) -> [Part; 5]
+    ensures { result ≡ parts_of row }
+{
+    let Operands(first, second, third, fourth, fifth) = row.2;
+    [first, second, third, fourth, fifth]
+}
 
-const THREE: [Part; 5] = [Rd, Comma, Rs1, Comma, Rs2];
+const NONE: Operands = Operands(End, End, End, End, End);
 
-const SHORT: [Part; 5] = [Rd, Comma, Rs1, Comma, Immediate];
+const THREE: Operands = Operands(Rd, Comma, Rs1, Comma, Rs2);
 
-const SHIFT: [Part; 5] = [Rd, Comma, Rs1, Comma, Amount];
+const SHORT: Operands = Operands(Rd, Comma, Rs1, Comma, Immediate);
 
-const LOAD: [Part; 5] = [Rd, Comma, Immediate, Base, End];
+const SHIFT: Operands = Operands(Rd, Comma, Rs1, Comma, Amount);
 
-const STORE: [Part; 5] = [Rs2, Comma, StoreOffset, Base, End];
+const LOAD: Operands = Operands(Rd, Comma, Immediate, Base, End);
 
-const BRANCH: [Part; 5] = [Rs1, Comma, Rs2, Comma, Branch];
+const STORE: Operands = Operands(Rs2, Comma, StoreOffset, Base, End);
 
-const SWAPPED: [Part; 5] = [Rs2, Comma, Rs1, Comma, Branch];
+const BRANCH: Operands = Operands(Rs1, Comma, Rs2, Comma, Branch);
 
-const UPPER: [Part; 5] = [Rd, Comma, Upper, End, End];
+const SWAPPED: Operands = Operands(Rs2, Comma, Rs1, Comma, Branch);
 
-const JUMP: [Part; 5] = [Rd, Comma, Jump, End, End];
+const MOVE: Operands = Operands(Rd, Comma, Rs1, End, End);
 
-const MOVE: [Part; 5] = [Rd, Comma, Rs1, End, End];
+const TEST: Operands = Operands(Rs1, Comma, Branch, End, End);
 
-const MOVE_SECOND: [Part; 5] = [Rd, Comma, Rs2, End, End];
+const UPPER: Operands = Operands(Rd, Comma, Upper, End, End);
 
-const TEST: [Part; 5] = [Rs1, Comma, Branch, End, End];
+const JUMP: Operands = Operands(Rd, Comma, Jump, End, End);
 
-const TEST_SECOND: [Part; 5] = [Rs2, Comma, Branch, End, End];
+const MOVE_SECOND: Operands = Operands(Rd, Comma, Rs2, End, End);
 
-const TARGET: [Part; 5] = [Jump, End, End, End, End];
+const TEST_SECOND: Operands = Operands(Rs2, Comma, Branch, End, End);
 
-const SOURCE: [Part; 5] = [Rs1, End, End, End, End];
+const TARGET: Operands = Operands(Jump, End, End, End, End);
 
-const FENCE: [Part; 5] = [Order, End, End, End, End];
+const SOURCE: Operands = Operands(Rs1, End, End, End, End);
+
+const FENCE: Operands = Operands(Order, End, End, End, End);
 
 /// The instructions that a listing shows: those of RV32I (RV32/64G Instruction Set Listings) but for FENCE.
-pub const ROWS: [Row; 39] = [
+pub static ROWS: [Row; 39] = [
     Row(*b"lui             ", 0x0000_0037, UPPER),
     Row(*b"auipc           ", 0x0000_0017, UPPER),
     Row(*b"jal             ", 0x0000_006f, JUMP),
@@ -118,7 +133,7 @@ pub const ROWS: [Row; 39] = [
 ];
 
 /// FENCE, other names of instructions, and names with fewer operands.
-pub const ALIASES: [Row; 25] = [
+pub static ALIASES: [Row; 25] = [
     Row(*b"mv              ", 0x0000_0013, MOVE),
     Row(*b"not             ", 0xfff0_4013, MOVE),
     Row(*b"neg             ", 0x4000_0033, MOVE_SECOND),
@@ -152,7 +167,7 @@ pub const ALIASES: [Row; 25] = [
 pub struct Couple(pub Name, pub u32, pub u32, pub bool);
 
 /// The names that stand for two instructions, but for `li`.
-pub const COUPLES: [Couple; 4] = [
+pub static COUPLES: [Couple; 4] = [
     Couple(*b"call            ", 0x0000_0097, 0x0000_80e7, false),
     Couple(*b"tail            ", 0x0000_0317, 0x0003_0067, false),
     Couple(*b"la              ", 0x0000_0017, 0x0000_0013, true),

@@ -15,7 +15,7 @@ use Rattle.svc_draft.specs.Layouts.{Layout, Names, place, here, address_of, spot
 use Rattle.svc_operands.specs.Characters.{name_at, found}
 use Rattle.svc_instructions.specs.declared.table.Part.{Part}
 use Rattle.svc_instructions.specs.declared.table.Row.{Row}
-use Rattle.svc_instructions.specs.Instructions.{row_of}
+use Rattle.svc_instructions.specs.Instructions.{parts_of, row_of}
 use Rattle.svc_asm.specs.Statements.{statement_at, line_at}
 use Rattle.svc_list.specs.Listings.{HasText, statement_text, label_text, row_text, code_text, word_note, Line, Says, Labels, Codes, bare, line_of, text_of, led_along, placed, target_by, target_of, coded, labels, code}
 use Rattle.svc_list.proofs.NamesBack.{Ends}
@@ -34,7 +34,7 @@ two false = inr refl
 -- the word that a pass lays
 abbrev pub laid_as : Option Row → Option ℕ → Bool → ℕ → ℕ
 laid_as None to known w = w
-laid_as (Some r) to known w = refilled known to r.2 w r.1
+laid_as (Some r) to known w = refilled known to (parts_of r) w r.1
 
 abbrev pub laid_word : Bool → (count address w : ℕ) → ℕ
 laid_word known count address w = laid_as (row_of w) (target_of count address w) known w
@@ -203,9 +203,9 @@ coded_row known count labelled n d w None to row leads fit low few at good marke
 coded_row known count labelled n d w (Some r) to row leads fit low few at good marked =
     let four : 4 * length d.text ≡ 4 * n = ap (λ (x : ℕ). 4 * x) at.words in
     let place = here_is d (4 * n) at.text four (omega (arith, low, few)) in
-    let aims = λ (t : ℕ) (e : to ≡ Some t). let it = placed_is count (led_along (4 * n) w r.2) t (leads ∙ e) in aimable known count labelled (suc n) d t at.pass few it.1 it.2 (marked t e) good in
-    let reached = reaches known count d r.2 w (4 * n) to leads place aims in
-    let read = refilled known to r.2 w r.1 in
+    let aims = λ (t : ℕ) (e : to ≡ Some t). let it = placed_is count (led_along (4 * n) w (parts_of r)) t (leads ∙ e) in aimable known count labelled (suc n) d t at.pass few it.1 it.2 (marked t e) good in
+    let reached = reaches known count d (parts_of r) w (4 * n) to leads place aims in
+    let read = refilled known to (parts_of r) w r.1 in
     row_leads d (worded d read) to w read r (word_note (4 * n) w) at.line row (word_ends (4 * n) w)
     (λ rest tail ends. row_back known d to w r rest tail row ends reached)
     (instruction_laid d read at.text (omega (arith, at.words, low, few)))

@@ -9,7 +9,7 @@ use Rattle.std.proofs.lemmas.List.Elements.{All-head, All-tail, recursion_from_A
 use Rattle.svc_rv32i.specs.Meaning.{register}
 use Rattle.svc_operands.specs.Characters.{found}
 use Rattle.svc_instructions.specs.declared.table.Row.{Row}
-use Rattle.svc_instructions.specs.Instructions.{row_of}
+use Rattle.svc_instructions.specs.Instructions.{parts_of, row_of}
 use Rattle.svc_image.specs.declared.version.Version.{Version}
 use Rattle.svc_image.specs.declared.version.Version.TheVariants as version
 use Rattle.svc_image.specs.Version.{read_only_by}
@@ -200,7 +200,7 @@ head_leads version.Two limit start names known from fit begins =
 -- each target has a label
 found_whole : (count address w : ℕ) (row : Option Row) (t : ℕ) → found row (λ r. target_by count address w r) None ≡ Some t → t % 4 ≡ 0
 found_whole count address w None t e = absurd (cc)
-found_whole count address w (Some r) t e = (placed_is count (led_along address w r.2) t e).1
+found_whole count address w (Some r) t e = (placed_is count (led_along address w (parts_of r)) t e).1
 
 target_whole : (count address w : ℕ) (t : ℕ) → target_of count address w ≡ Some t → t % 4 ≡ 0
 target_whole count address w t e = found_whole count address w (row_of w) t e

@@ -17,7 +17,7 @@ use Rattle.svc_instructions.specs.declared.table.Part.{Part}
 use Rattle.svc_instructions.specs.declared.table.Part.TheVariants as part
 use Rattle.svc_instructions.specs.declared.table.Row.{Row}
 use Rattle.svc_instructions.specs.declared.table.TheConstants.{ROWS, ALIASES, COUPLES}
-use Rattle.svc_instructions.specs.Instructions.{taken, part_at, joined, parts_at, over, row_at, rows_at, alone_at, fixed, is_of, row_of}
+use Rattle.svc_instructions.specs.Instructions.{parts_of, taken, part_at, joined, parts_at, over, row_at, rows_at, alone_at, fixed, is_of, row_of}
 use Rattle.svc_instructions.specs.Couples.{has_name, couple_at, set_at, relative_upper_at, relative_named, single_at, lettered_at, instruction_at}
 use Rattle.svc_asm.specs.Statements.{statement_at}
 use Rattle.svc_list.specs.Listings.{register_text, last_text, upper_text, label_text, reach_text, part_text, parts_text, row_text, led, led_by, led_along}
@@ -260,17 +260,17 @@ named name rows = find (λ r. bytes_eq name r.0) rows
 
 -- auipc alone may have %pcrel_hi behind it
 abbrev pub IsApart : Row → Type 0
-IsApart r = (bytes_eq (name_at r.0) (codes "auipc") ≡ false) ⊎ (r.2 ≡ part.Rd ∷ part.Comma ∷ part.Upper ∷ part.End ∷ part.End ∷ [])
+IsApart r = (bytes_eq (name_at r.0) (codes "auipc") ≡ false) ⊎ ((parts_of r) ≡ part.Rd ∷ part.Comma ∷ part.Upper ∷ part.End ∷ part.End ∷ [])
 
 -- a word that has the bits of a row is its word with operands
 abbrev pub Fills : Row → Type 0
-Fills r = (w : ℕ) → w < 2 ^ 32 → fixed w ≡ r.1 → filled r.2 w r.1 ≡ w
+Fills r = (w : ℕ) → w < 2 ^ 32 → fixed w ≡ r.1 → filled (parts_of r) w r.1 ≡ w
 
 -- what is to hold of each row: its name can be read, finds it, and stands for no other thing; and its operands can be read
 abbrev pub Good : Row → Type 0
 Good r =
     (names (name_at r.0) ≡ true) × (padded (name_at r.0) ≡ Some r.0) × (bytes_eq (name_at r.0) (codes "li") ≡ false) × (find (has_name r.0) COUPLES ≡ None)
-    × (named r.0 ROWS ≡ Some r) × (is_shown r.2 ≡ true) × IsApart r × Fills r
+    × (named r.0 ROWS ≡ Some r) × (is_shown (parts_of r) ≡ true) × IsApart r × Fills r
 
 each_good : AllByRecursion Good ROWS
 unfolding is_name past_blanks padded
@@ -310,24 +310,24 @@ upper_plain d to ps w rest e =
     ap (λ qs. parts_text to qs w ++ rest) e ∙ append_assoc (last_text r) (44 ∷ (u ++ [])) rest ∙ ap (λ x. last_text r ++ (44 ∷ (x ++ rest))) (append-nil u) in
     ap (relative_upper_at d) text ∙ rw (spaced_register_back r (44 ∷ (u ++ rest)) refl, no_slash 44 (u ++ rest) refl, upper_no_mark (taken part.Upper w % 2 ^ 20) rest fits) refl
 
-plain : (d : Layout) (to : Option ℕ) (r : Row) (w : ℕ) (rest : List ℕ) → IsApart r → relative_named d (name_at r.0) (parts_text to r.2 w ++ rest) ≡ None
+plain : (d : Layout) (to : Option ℕ) (r : Row) (w : ℕ) (rest : List ℕ) → IsApart r → relative_named d (name_at r.0) (parts_text to (parts_of r) w ++ rest) ≡ None
 plain d to r w rest (inl other) = rw other refl
 plain d to r w rest (inr upper) =
-    elim (cases_Bool (bytes_eq (name_at r.0) (codes "auipc"))) [ inl is ↦ rw is (upper_plain d to r.2 w rest upper) | inr other ↦ rw other refl ]
+    elim (cases_Bool (bytes_eq (name_at r.0) (codes "auipc"))) [ inl is ↦ rw is (upper_plain d to (parts_of r) w rest upper) | inr other ↦ rw other refl ]
 
 over_is : (w : ℕ) (rest tail : List ℕ) → Ends rest tail → over (w, rest) ≡ Some (w, rest)
 over_is w rest tail ends = rw (ends_over rest tail ends) refl
 
 -- what is written of a word of any row is read back as the word that the pass sees
-pub row_back : (known : Bool) (d : Layout) (to : Option ℕ) (w : ℕ) (r : Row) (rest tail : List ℕ) → row_of w ≡ Some r → Ends rest tail → Reaches known d to r.2 w
-    → statement_at d (row_text to r w ++ rest) ≡ Some (say.Instruction (refilled known to r.2 w r.1), rest)
+pub row_back : (known : Bool) (d : Layout) (to : Option ℕ) (w : ℕ) (r : Row) (rest tail : List ℕ) → row_of w ≡ Some r → Ends rest tail → Reaches known d to (parts_of r) w
+    → statement_at d (row_text to r w ++ rest) ≡ Some (say.Instruction (refilled known to (parts_of r) w r.1), rest)
 unfolding row_of row_at alone_at single_at instruction_at
 row_back known d to w r rest tail e ends reaches =
     let good = (found_good Good (is_of (fixed w)) ROWS r each_good e).0 in
-    let operands = parts_text to r.2 w ++ rest in
+    let operands = parts_text to (parts_of r) w ++ rest in
     let name = name_at r.0 in
-    let word = refilled known to r.2 w r.1 in
-    let read : row_at d r operands ≡ Some (word, rest) = ap (λ o. o >>= over) (parts_back known d to r.2 w r.1 rest tail good.5 ends reaches) ∙ over_is word rest tail ends in
+    let word = refilled known to (parts_of r) w r.1 in
+    let read : row_at d r operands ≡ Some (word, rest) = ap (λ o. o >>= over) (parts_back known d to (parts_of r) w r.1 rest tail good.5 ends reaches) ∙ over_is word rest tail ends in
     let rows : rows_at d ROWS r.0 operands ≡ Some (word, rest) = named_reads d r.0 operands ROWS r (word, rest) good.4 read in
     let alone : alone_at d r.0 operands ≡ Some (say.Instruction word, rest) =
     ap (λ o. option_map (λ x. (say.Instruction x.0, x.1)) (found o (λ x. Some x) (rows_at d ALIASES r.0 operands))) rows in
@@ -336,11 +336,11 @@ row_back known d to w r rest tail e ends reaches =
     ap (λ (b : Bool). if b then set_at operands else padded name >>= (λ letters. lettered_at d name letters operands)) good.2
     ∙ ap (λ o. o >>= (λ letters. lettered_at d name letters operands)) good.1
     ∙ ap (λ o. found o (λ c. couple_at d c operands) (single_at d name r.0 operands)) good.3 ∙ single in
-    ap (statement_at d) (append_assoc name (parts_text to r.2 w) rest) ∙ by_name d name operands good.0 (parts_stop to r.2 w rest ends.stop) ∙ whole
+    ap (statement_at d) (append_assoc name (parts_text to (parts_of r) w) rest) ∙ by_name d name operands good.0 (parts_stop to (parts_of r) w rest ends.stop) ∙ whole
 
 pub row_stops : (to : Option ℕ) (w : ℕ) (r : Row) (rest : List ℕ) → row_of w ≡ Some r → stops rest ≡ true → behind 58 (past_name (row_text to r w ++ rest)) ≡ None
 unfolding row_of
-row_stops to w r rest e s = names_stop (name_at r.0) (parts_text to r.2 w) rest (found_good Good (is_of (fixed w)) ROWS r each_good e).0.0 (parts_stop to r.2 w rest s)
+row_stops to w r rest e s = names_stop (name_at r.0) (parts_text to (parts_of r) w) rest (found_good Good (is_of (fixed w)) ROWS r each_good e).0.0 (parts_stop to (parts_of r) w rest s)
 
 -- where labels are known, or none is meant, that is the word itself
 seen_none : (known : Bool) (p : Part) (n : ℕ) → seen known None p n ≡ n
@@ -379,9 +379,9 @@ refilled_known : (to : Option ℕ) (ps : List Part) (w word : ℕ) → refilled 
 refilled_known to [] w word = refl
 refilled_known to (p ∷ more) w word = ap (λ n. refilled true to more w (joined word p n)) (seen_true to p (taken p w)) ∙ refilled_known to more w (joined word p (taken p w))
 
-row_fills : (w : ℕ) (r : Row) → w < 2 ^ 32 → row_of w ≡ Some r → filled r.2 w r.1 ≡ w
+row_fills : (w : ℕ) (r : Row) → w < 2 ^ 32 → row_of w ≡ Some r → filled (parts_of r) w r.1 ≡ w
 unfolding row_of
 row_fills w r fit e = let it = found_good Good (is_of (fixed w)) ROWS r each_good e in it.0.7 w fit (eqb-true (fixed w) r.1 it.1)
 
-pub known_same : (to : Option ℕ) (w : ℕ) (r : Row) → w < 2 ^ 32 → row_of w ≡ Some r → refilled true to r.2 w r.1 ≡ w
-known_same to w r fit e = refilled_known to r.2 w r.1 ∙ row_fills w r fit e
+pub known_same : (to : Option ℕ) (w : ℕ) (r : Row) → w < 2 ^ 32 → row_of w ≡ Some r → refilled true to (parts_of r) w r.1 ≡ w
+known_same to w r fit e = refilled_known to (parts_of r) w r.1 ∙ row_fills w r fit e

@@ -20,7 +20,7 @@ use Rattle.svc_operands.specs.Characters.{found, name_at}
 use Rattle.svc_instructions.specs.declared.table.Part.{Part}
 use Rattle.svc_instructions.specs.declared.table.Part.TheVariants as part
 use Rattle.svc_instructions.specs.declared.table.Row.{Row}
-use Rattle.svc_instructions.specs.Instructions.{taken, row_of}
+use Rattle.svc_instructions.specs.Instructions.{taken, parts_of, row_of}
 
 -- an operand behind its space, and the comma behind it
 abbrev pub register_text : Register → List ℕ
@@ -86,7 +86,7 @@ parts_text to [] w = []
 parts_text to (p ∷ more) w = part_text to p (taken p w) ++ parts_text to more w
 
 abbrev pub row_text : Option ℕ → Row → ℕ → List ℕ
-row_text to r w = name_at r.0 ++ parts_text to r.2 w
+row_text to r w = name_at r.0 ++ parts_text to (parts_of r) w
 
 -- a word of the text: its instruction, or, where it has none that is shown, its number
 abbrev pub code_text : Option ℕ → ℕ → List ℕ
@@ -183,7 +183,7 @@ led_along address w (p ∷ more) = found (led_by address w p) (λ target. Some t
 
 -- where in the text the word at an address leads
 abbrev pub target_by : (count address w : ℕ) → Row → Option ℕ
-target_by count address w r = placed count (led_along address w r.2)
+target_by count address w r = placed count (led_along address w (parts_of r))
 
 abbrev pub target_of : (count address w : ℕ) → Option ℕ
 target_of count address w = found (row_of w) (λ r. target_by count address w r) None

@@ -6,10 +6,10 @@ ghost use Rattle.svc_image.specs.Image.{StartsWord};
 ghost use Rattle.svc_list.specs.Listings.{led, placed, led_by, led_along, target_by, target_of, is_at, is_target, is_labelled, IsShown};
 ghost use Rattle.svc_rv32i.specs.declared.instr.Instr.{Instr};
 ghost use Rattle.svc_rv32i.specs.Words.{word_of};
-ghost use Rattle.svc_instructions.specs.Instructions.{row_of};
+ghost use Rattle.svc_instructions.specs.Instructions.{parts_of, row_of};
 
 use std::alloc::{AllocError, Global};
-use svc_instructions::{Part, Row, row_of, taken};
+use svc_instructions::{Part, Row, parts_of, row_of, taken};
 
 fn led(half: u32, address: u32, steps: u32) -> Option<u32>
     requires half { half ≤ 524288 }
@@ -52,9 +52,9 @@ fn led_by(part: Part, address: u32, word: u32) -> Option<u32>
 
 fn led_along(row: Row, address: u32, word: u32) -> Option<u32>
     requires { address < 262144 }
-    ensures { result ≡ led_along address word row.2 }
+    ensures { result ≡ led_along address word (parts_of row) }
 {
-    for part in row.2.iter() {
+    for part in parts_of(row).iter() {
         if let Some(target) = led_by(*part, address, word) {
             return Some(target);
         }

@@ -2,9 +2,10 @@
 
 ghost use Rattle.std.specs.Prelude.{◌≡◌, ◌++◌, ◌*◌, ◌<◌, ◌≤◌, OnOk};
 ghost use Rattle.svc_list.specs.Listings.{register_text, short_text, offset_text, hex_digit, hex_text, reach_text, part_text, parts_text, row_text};
+ghost use Rattle.svc_instructions.specs.Instructions.{parts_of};
 
 use std::alloc::AllocError;
-use svc_instructions::{Part, Row, taken};
+use svc_instructions::{Part, Row, parts_of, taken};
 use svc_operands::{register, split_name};
 use svc_rv32i::Register;
 use svc_text::{Piece, put};
@@ -125,9 +126,9 @@ fn put_part(out: &mut Vec<u8>, to: Option<u32>, part: Part, n: u32) -> Result<()
 }
 
 fn put_parts(out: &mut Vec<u8>, to: Option<u32>, row: Row, word: u32) -> Result<(), AllocError>
-    ensures { OnOk result (out.new.items ≡ out.old.items ++ parts_text to row.2 word) }
+    ensures { OnOk result (out.new.items ≡ out.old.items ++ parts_text to (parts_of row) word) }
 {
-    for part in row.2.iter() {
+    for part in parts_of(row).iter() {
         put_part(out, to, *part, taken(*part, word))?;
     }
     Ok(())

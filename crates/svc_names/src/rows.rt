@@ -7,7 +7,7 @@ use crate::fields::field;
 use crate::names::Names;
 use std::alloc::AllocError;
 use svc_image::DATA_START;
-use svc_operands::{is_word, value_of};
+use svc_operands::{Radix, is_word, value_of};
 use svc_text::{Piece, put};
 
 /// Which field of a row, counted from 0, tells an address.
@@ -35,7 +35,7 @@ fn is_header(rows: Rows, row: &[u8]) -> bool
     ensures { result ≡ is_header rows row.now }
 {
     match rows {
-        Rows::Table(_) => value_of(10, field(row, 0)).is_none(),
+        Rows::Table(_) => value_of(Radix::Decimal, field(row, 0)).is_none(),
         Rows::Shown | Rows::Counts => false,
     }
 }
@@ -93,8 +93,8 @@ fn address_in(column: Column, row: &[u8]) -> Option<u64>
     ensures { result ≡ address_in column row.now }
 {
     match column {
-        Column::Text(place) => value_of(10, field(row, place)).map(u64::from),
-        Column::Word(place) => value_of(10, field(row, place)).map(data_address),
+        Column::Text(place) => value_of(Radix::Decimal, field(row, place)).map(u64::from),
+        Column::Word(place) => value_of(Radix::Decimal, field(row, place)).map(data_address),
     }
 }
 

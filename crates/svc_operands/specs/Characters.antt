@@ -4,6 +4,8 @@ use Rattle.std.specs.List.{take_while}
 use Rattle.svc_draft.specs.Options.{◌>>=◌}
 use Rattle.svc_operands.specs.declared.characters.Blank.{Blank}
 use Rattle.svc_operands.specs.declared.characters.Blank.TheVariants as blank
+use Rattle.svc_operands.specs.declared.characters.Radix.{Radix}
+use Rattle.svc_operands.specs.declared.characters.Radix.TheVariants as radices
 
 -- what is read by what is found, or else
 abbrev pub found : {A B : Type 0} → Option A → (A → B) → B → B
@@ -76,6 +78,13 @@ digit c =
     if is_from_to 97 102 c then Some (c - 87) else
     if is_from_to 65 70 c then Some (c - 55) else
     None
+
+-- what digits count in
+abbrev pub base_of : Radix → ℕ
+base_of radices.Binary = 2
+base_of radices.Octal = 8
+base_of radices.Decimal = 10
+base_of radices.Hexadecimal = 16
 
 -- the number so far and one digit more, where it still has 32 bits
 abbrev pub push_value : ℕ → ℕ → ℕ → Option ℕ

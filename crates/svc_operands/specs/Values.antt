@@ -5,6 +5,8 @@ use Rattle.std.specs.List.{take_while}
 use Rattle.svc_draft.specs.Layouts.{Layout, address_back, address_ahead, here, address_of, distance_from}
 use Rattle.svc_operands.specs.declared.values.Reference.{Reference}
 use Rattle.svc_operands.specs.declared.values.Reference.TheVariants as label
+use Rattle.svc_operands.specs.declared.values.Target.{Target}
+use Rattle.svc_operands.specs.declared.values.Target.TheVariants as goes
 use Rattle.svc_operands.specs.Characters.{is_from_to, past, value_of, past_spaces, found, name_at, past_name, mark_at}
 use Rattle.svc_operands.specs.declared.operands.Signed.{Signed}
 use Rattle.svc_draft.specs.Options.{◌>>=◌}
@@ -143,6 +145,11 @@ offset_from rest (c ∷ more) =
 -- how far it is from the instruction's own address: . + N or . - N, or to a value
 unfoldable pub offset_at : Layout → List ℕ → Read Signed
 offset_at d text = if bytes_eq (name_at text) (codes ".") then offset_from (past_name text) (past_spaces (past_name text)) else reach_at d text
+
+-- how many steps a branch and a jump can go forward
+abbrev pub half_of : Target → ℕ
+half_of goes.Branch = 2048
+half_of goes.Jump = 524288
 
 -- how many steps of two bytes it is, as a number of which half is forward
 unfoldable pub target_at : (half : ℕ) → Layout → List ℕ → Read ℕ

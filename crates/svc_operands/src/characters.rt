@@ -1,13 +1,13 @@
 // The characters of a program's text: spaces, names, marks, numbers, and characters between single quotes.
 
-ghost use Rattle.std.specs.Prelude.{◌≡◌, ◌<◌, ◌≤◌, Some, IfSome, option_map};
-ghost use Rattle.svc_operands.specs.Characters.{opens, blank_behind, past_spaces, is_over, is_name, past, name_at, past_name, mark_at, digit, push_digit, value_of, behind_zero, number_of, escaped, quoted_escape, closed_at, escape_in_quotes, in_quotes, character_at};
+ghost use Rattle.std.specs.Prelude.{◌≡◌, ◌<◌, ◌≤◌, IfSome, option_map};
+ghost use Rattle.svc_operands.specs.Characters.{opens, blank_behind, past_spaces, is_over, is_name, past, name_at, past_name, mark_at, digit, base_of, push_digit, value_of, behind_zero, number_of, escaped, quoted_escape, closed_at, escape_in_quotes, in_quotes, character_at};
 
 #[tactic(auto, unfolding(crate::specs::Characters::is_name))]
 fn is_name(c: u8) -> bool
     ensures { result ≡ is_name c }
 {
-    matches!(c, b'a'..=b'z' | b'A'..=b'Z' | b'0'..=b'9' | b'.' | b'_' | b'$')
+    matches!(c, b'a'..=b'z' | b'0'..=b'9') || matches!(c, b'A'..=b'Z' | b'.' | b'_' | b'$')
 }
 
 // What stands before a character: no comment, its slash, something of it, or a star that may end it.
@@ -130,18 +130,39 @@ fn push_digit(radix: u32, value: u32, c: u8) -> Option<u32>
     value.checked_mul(radix)?.checked_add(digit)
 }
 
+/// What a number's digits count in.
+#[derive(Clone, Copy)]
+pub enum Radix {
+    Binary,
+    Octal,
+    Decimal,
+    Hexadecimal,
+}
+
+fn base_of(radix: Radix) -> u32
+    ensures value { result ≡ base_of radix }
+    ensures small { result ≤ 16 }
+{
+    match radix {
+        Radix::Binary => 2,
+        Radix::Octal => 8,
+        Radix::Decimal => 10,
+        Radix::Hexadecimal => 16,
+    }
+}
+
 /// The number of these digits.
 #[tactic(auto, unfolding(crate::specs::Characters::value_on))]
-pub fn value_of(radix: u32, digits: &[u8]) -> Option<u32>
-    requires { radix ≤ 16 }
-    ensures { result ≡ value_of radix digits.now }
+pub fn value_of(radix: Radix, digits: &[u8]) -> Option<u32>
+    ensures { result ≡ value_of (base_of radix) digits.now }
 {
     if digits.is_empty() {
         return None;
     }
+    let base = base_of(radix);
     let mut value = 0;
     for &c in digits {
-        value = push_digit(radix, value, c)?;
+        value = push_digit(base, value, c)?;
     }
     Some(value)
 }
@@ -152,9 +173,9 @@ fn behind_zero(digits: &[u8]) -> Option<u32>
 {
     match digits {
         [] => Some(0),
-        [b'x' | b'X', digits @ ..] => value_of(16, digits),
-        [b'b' | b'B', digits @ ..] => value_of(2, digits),
-        _ => value_of(8, digits),
+        [b'x' | b'X', digits @ ..] => value_of(Radix::Hexadecimal, digits),
+        [b'b' | b'B', digits @ ..] => value_of(Radix::Binary, digits),
+        _ => value_of(Radix::Octal, digits),
     }
 }
 
@@ -165,7 +186,7 @@ pub fn number_of(name: &[u8]) -> Option<u32>
 {
     match name {
         [b'0', digits @ ..] => behind_zero(digits),
-        _ => value_of(10, name),
+        _ => value_of(Radix::Decimal, name),
     }
 }
 

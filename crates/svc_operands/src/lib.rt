@@ -8,7 +8,9 @@ mod operands;
 mod unread;
 mod values;
 
-pub use characters::{escaped, is_over, opens, skip_mark, skip_spaces, split_name, value_of};
+pub use characters::{
+    Radix, escaped, is_over, opens, skip_mark, skip_spaces, split_name, value_of,
+};
 pub use names::{Name, Named, REGISTERS, is_word, number_named, padded, register};
 pub use operands::{
     Signed, distance, read_base, read_behind_sign, read_below, read_first_register, read_mark,
@@ -16,6 +18,6 @@ pub use operands::{
 };
 pub use unread::{Read, Unread, Wanted, stopped_at, stopped_at_name};
 pub use values::{
-    bits_of, fitted, from_here, high_part, read_relative, read_short, read_target, read_upper,
-    read_value,
+    Target, bits_of, fitted, from_here, high_part, read_relative, read_short, read_target,
+    read_upper, read_value,
 };

@@ -1,11 +1,11 @@
-// Names as the rows of tables have them, and the names of registers.
+// Names as the rows of tables have them, and the names of registers. Tables are static: a constant's use copies it.
 
 ghost use Rattle.std.specs.Prelude.{◌≡◌, ◌<◌, IfSome};
 ghost use Rattle.std.specs.Str.{bytes_eq};
 ghost use Rattle.svc_rv32i.specs.Meaning.{register};
 ghost use Rattle.svc_operands.specs.Names.{padded, number_named, numbered, register_named};
 
-use crate::characters::value_of;
+use crate::characters::{Radix, value_of};
 use svc_rv32i::Register;
 
 /// A name as a table has it, with spaces behind it.
@@ -16,7 +16,7 @@ pub type Name = [u8; 16];
 pub struct Named(pub Name, pub u32);
 
 /// The registers by the names of the calling convention.
-pub const REGISTERS: [Named; 33] = [
+pub static REGISTERS: [Named; 33] = [
     Named(*b"zero            ", 0),
     Named(*b"ra              ", 1),
     Named(*b"sp              ", 2),
@@ -99,7 +99,7 @@ fn numbered(name: &[u8]) -> Option<u32>
     ensures small { IfSome result (λ n. n < 32) }
 {
     match name {
-        [b'x', digits @ ..] => match value_of(10, digits) {
+        [b'x', digits @ ..] => match value_of(Radix::Decimal, digits) {
             Some(number) if number < 32 => Some(number),
             _ => None,
         },

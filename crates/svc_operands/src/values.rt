@@ -4,10 +4,10 @@ ghost use Rattle.std.specs.Prelude.{◌≡◌, ◌-◌, ◌≤◌};
 ghost use Rattle.std.specs.List.{take_while};
 ghost use Rattle.svc_draft.specs.Layouts.{layout_of};
 ghost use Rattle.svc_operands.specs.Characters.{past};
-ghost use Rattle.svc_operands.specs.Values.{is_decimal, reference_named, referred, place_of, plain_term_at, bits_of, fitted, term_at, sum_with, value_at, high_part, from_here, enclosed_at, relative_at, high_at, distance_named, completed_at, low_at, short_at, upper_at, reach, reach_at, offset_at, target_at};
+ghost use Rattle.svc_operands.specs.Values.{is_decimal, reference_named, referred, place_of, plain_term_at, bits_of, fitted, term_at, sum_with, value_at, high_part, from_here, enclosed_at, relative_at, high_at, distance_named, completed_at, low_at, short_at, upper_at, reach, reach_at, offset_at, half_of, target_at};
 ghost use Rattle.svc_operands.specs.Operands.{Gives};
 
-use crate::characters::{skip_mark, skip_spaces, split_name, value_of};
+use crate::characters::{Radix, skip_mark, skip_spaces, split_name, value_of};
 use crate::names::is_word;
 use crate::operands::{
     Signed, distance, read_behind_sign, read_below, read_mark, read_number, read_number_short,
@@ -56,10 +56,10 @@ pub fn reference_named(name: &[u8]) -> Option<Reference>
 {
     let (digits, letter) = split_digits(name);
     if is_word(letter, "b") {
-        return Some(Reference::Back(value_of(10, digits)?));
+        return Some(Reference::Back(value_of(Radix::Decimal, digits)?));
     }
     if is_word(letter, "f") {
-        return Some(Reference::Ahead(value_of(10, digits)?));
+        return Some(Reference::Ahead(value_of(Radix::Decimal, digits)?));
     }
     None
 }
@@ -316,15 +316,32 @@ fn read_offset<'a>(draft: &Draft, text: &'a [u8]) -> Read<'a, Signed>
     }
 }
 
-/// How far a branch or a jump goes, in steps of two bytes, as a number of which so many are forward.
+/// What goes to a target.
+#[derive(Clone, Copy)]
+pub enum Target {
+    Branch,
+    Jump,
+}
+
+fn half_of(target: Target) -> u32
+    ensures value { result ≡ half_of target }
+    ensures small { result ≤ 524288 }
+{
+    match target {
+        Target::Branch => 2048,
+        Target::Jump => 524_288,
+    }
+}
+
+/// How far a branch or a jump goes, in steps of two bytes, as a number of which half are forward.
 #[tactic(auto, unfolding(crate::specs::Values::target_at))]
-pub fn read_target<'a>(draft: &Draft, half: u32, wanted: Wanted, text: &'a [u8]) -> Read<'a, u32>
-    requires { half ≤ 524288 }
-    ensures { Gives (λ x. (x.0, x.1.now)) result (target_at half (layout_of draft.now) text.now) }
+pub fn read_target<'a>(draft: &Draft, target: Target, text: &'a [u8]) -> Read<'a, u32>
+    ensures { Gives (λ x. (x.0, x.1.now)) result (target_at (half_of target) (layout_of draft.now) text.now) }
 {
     let (offset, rest) = read_offset(draft, text)?;
-    match steps_of(half, offset) {
-        Some(steps) => Ok((steps, rest)),
-        None => Err(stopped_at(text, wanted)),
+    match (steps_of(half_of(target), offset), target) {
+        (Some(steps), _) => Ok((steps, rest)),
+        (None, Target::Branch) => Err(stopped_at(text, Wanted::BranchOffset)),
+        (None, Target::Jump) => Err(stopped_at(text, Wanted::JumpOffset)),
     }
 }

@@ -1,18 +1,20 @@
 -- What a request comes to, put together of what its parts say.
 use Rattle.std.specs.Prelude.{IfOk, IfErr}
-use Rattle.std.proofs.Common.{◌≡◌, ◌⊎◌, ℕ, List, false, Option, Some, None, Result, Ok, Err, inl, inr, refl, subst, sym}
+use Rattle.std.proofs.Common.{◌≡◌, ◌⊎◌, ℕ, List, length, false, Option, Some, None, Result, Ok, Err, inl, inr, refl, subst, sym}
 use denote.Ref.{Bor}
 use Rattle.std.specs.Option.{option_copied}
 use Rattle.svc_names.specs.declared.names.Names.{Names}
 use Rattle.svc_image.specs.Image.{Image}
 use Rattle.svc_plain.specs.Tasks.{tasks_run}
+use Rattle.svc_base.specs.declared.config.Config.{Config}
 use Rattle.svc_history_laws.specs.declared.entry.Entry.{Entry}
+use Rattle.svc_history_laws.specs.Legal.{LegalHistory}
 use Rattle.svc_history.specs.Recorded.{Recorded}
 use Rattle.svc_request.specs.declared.faults.Fault.{Fault}
 use Rattle.svc_request.specs.declared.faults.Fault.TheVariants as fault
 use Rattle.svc_request.specs.declared.request.Request.{Request}
 use Rattle.svc_request.specs.declared.request.Request.TheVariants as request
-use Rattle.svc_report.specs.declared.script.Step.{Step}
+use Rattle.svc_script.specs.declared.script.Step.{Step}
 use Rattle.svc_request.specs.declared.request.Run.{Run}
 use Rattle.svc_request.specs.declared.request.Scripted.{Scripted}
 use Rattle.svc_request.specs.declared.request.Depended.{Depended}
@@ -23,8 +25,9 @@ use Rattle.svc_request.specs.Held.{Held, KeepsAllBut}
 use Rattle.svc_request.specs.Names.{written_by}
 use Rattle.svc_program.specs.Named.{AreNamesIn, IsNamedIn}
 use Rattle.svc_program.specs.Needs.{TellsNeeds}
-use Rattle.svc_program.specs.Requests.{Does, HasImage, IsAnswered, IsOfSource, IsQuiet, IsReady, IsScriptIn, IsTracedIn, IsTraceIn, KeepsFiles, SavesAlone, SavesAnyTrace, Spares}
-use Rattle.svc_program.specs.Runs.{GoesBy, IsRunOf, Reports, ReportsRun}
+use Rattle.svc_program.specs.Requests.{Does, HasImage, IsAnswered, IsOfSource, IsQuiet, IsReady, IsScriptIn, IsTracedIn, IsTraceIn, KeepsFiles, SavesAlone, SavesAnyScript, SavesAnyTrace, Shows, Spares}
+use Rattle.svc_program.specs.Runs.{FindsSound, GoesBy, IsRunOf, Reports, ReportsRun, sound_row}
+use Rattle.svc_script.proofs.LeadingBack.{led_back}
 use Rattle.svc_program.specs.Scripts.{PlaysScript}
 
 -- where no file is changed, none is but the one that is to be written
@@ -161,3 +164,40 @@ run_in_order contents tasks held old new (Err f) img image report silent =
       kept = refl;
       spared = inl refl;
     }
+
+sound_told : (r : Result ℕ Fault) (img : Image) (config : Config) (es : List Entry) (old new : Option (List ℕ)) → IfOk r (λ _. LegalHistory img config es) → IfOk r (Shows (sound_row (length es)) old new)
+    → IfOk r (FindsSound img config es old new)
+sound_told (Ok exit) img config es old new legal shown = record { legal = legal; text = shown.text; status = shown.status }
+sound_told (Err f) img config es old new legal shown = tt
+
+-- a check: the script that leads to the trace is saved where a file is named for it, and the trace's row printed
+pub check_answered : {O : Type 0} (contents : O → Option (List ℕ)) (traced : Traced) (script : Option (Bor (List ℕ))) (held saved : Held) (old new : O) (r : Result ℕ Fault) (img : Image) (es : List Entry)
+    → IsOfSource held traced.image img → IsTraceIn held traced.trace.now es
+    → IfOk r (λ _. LegalHistory img traced.config es) → IfOk r (Shows (sound_row (length es)) (contents old) (contents new))
+    → IfOk r (λ _. SavesAnyScript saved script es)
+    → IfErr r (IsQuiet old new) → SavesAlone (written_by (request.Check traced script)) held saved r
+    → IsAnswered contents (request.Check traced script) held saved old new r
+check_answered contents traced script held saved old new (Ok exit) img es image trace legal shown saves silent alone = record {
+  done = (
+    img,
+    image,
+    es,
+    trace,
+    (
+      sound_told (Ok exit) img traced.config es (contents old) (contents new) legal shown,
+      saves,
+      led_back img image.sound traced.config es legal trace.rows,
+    ),
+  );
+  silent = tt;
+  order = tt;
+  kept = alone.kept;
+  spared = tt;
+}
+check_answered contents traced script held saved old new (Err f) img es image trace legal shown saves silent alone = record {
+  done = tt;
+  silent = silent;
+  order = inr (img, image);
+  kept = alone.kept;
+  spared = elim (alone.spared) [ inl late ↦ inr (late, (img, image)) | inr keeps ↦ inl keeps ];
+}

@@ -4,10 +4,11 @@ use Rattle.std.proofs.Common.{◌≡◌, ◌∙◌, ◌++◌, ℕ, List, [], Opt
 use Rattle.svc_base.specs.declared.config.Config.{Config}
 use Rattle.svc_image.specs.Image.{Image}
 use Rattle.svc_history.specs.Recorded.{Recorded, IsLegal}
-use Rattle.svc_report.specs.declared.script.Step.{Step}
+use Rattle.svc_script.specs.declared.script.Step.{Step}
 use Rattle.std.specs.Io.KnownBytes.{Appends}
 use Rattle.svc_history_laws.specs.declared.entry.Entry.{Entry}
-use Rattle.svc_program.specs.Scripts.{HasPlayedAll, Kept, PlaysScript}
+use Rattle.svc_script.specs.Playing.{Kept}
+use Rattle.svc_program.specs.Scripts.{HasPlayedAll, PlaysScript}
 
 pub scripted : {E : Type 0} (r : Result ℕ E) (img : Image) (config : Config) (steps : List Step) (Holds : List Entry → Type 0) (start last : Recorded) (kept after : Kept) (old new : Option (List ℕ))
     → start.machine.image ≡ img → start.machine.config ≡ config → start.entries ≡ [] → IsLegal start → kept ≡ replicate config.units None → OnOk r (IsLegal last)

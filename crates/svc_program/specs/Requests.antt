@@ -9,9 +9,10 @@ use Rattle.svc_image.specs.declared.samples.TheConstants.{P1}
 use Rattle.svc_plain.specs.Tasks.{tasks_run}
 use Rattle.svc_history_laws.specs.declared.entry.Entry.{Entry}
 use Rattle.svc_history.specs.Recorded.{Recorded}
-use Rattle.svc_report.specs.declared.script.Step.{Step}
+use Rattle.svc_script.specs.declared.script.Step.{Step}
 use Rattle.svc_report.specs.Records.{IsText}
-use Rattle.svc_report.specs.Script.{HasStepRow, script_records}
+use Rattle.svc_script.specs.Leading.{LeadsBack, script_of}
+use Rattle.svc_script.specs.Script.{HasStepRow, script_records, script_text}
 use Rattle.svc_report.specs.Trace.{HasRow, text_of, trace_records}
 use Rattle.svc_request.specs.Held.{Held, KeepsAllBut}
 use Rattle.svc_request.specs.Names.{source_of, written_by}
@@ -26,7 +27,7 @@ use Rattle.svc_request.specs.declared.faults.Fault.TheVariants as fault
 use Rattle.svc_program.specs.Assembly.{Assembles, Lists, MakesImage}
 use Rattle.svc_program.specs.Costs.{TellsCost}
 use Rattle.svc_program.specs.Drawings.{IsDrawn}
-use Rattle.svc_program.specs.Explored.{TellsSchedules}
+use Rattle.svc_program.specs.Explored.{FindsSight, TellsSchedules}
 use Rattle.svc_request.specs.Faults.{IsEarly, IsOutputFault, IsReportFault}
 use Rattle.svc_program.specs.Named.{IsNamedIn}
 use Rattle.svc_program.specs.Needs.{TellsNeeds}
@@ -66,6 +67,10 @@ SavesTrace held name es = IfSome (held name) (λ text. text ≡ text_of es)
 abbrev pub SavesAnyTrace : Held → Option (Bor (List ℕ)) → List Entry → Type 0
 SavesAnyTrace held named es = IfSome named (λ name. SavesTrace held name.now es)
 
+-- the file that is named for a script, if one is and what it holds is known, is the text of the script of this history
+abbrev pub SavesAnyScript : Held → Option (Bor (List ℕ)) → List Entry → Type 0
+SavesAnyScript held named es = IfSome named (λ name. IfSome (held name.now) (λ text. text ≡ script_text (script_of es)))
+
 -- a writer's text has grown by this one, and the exit status is 0
 pub record Shows (shown : List ℕ) (old new : Option (List ℕ)) (exit : ℕ) : Type 0 where
   pub text : Appends old new shown
@@ -93,12 +98,15 @@ Does (request.Sequential tasks) held saved old new exit =
 Does (request.Depend depended) held saved old new exit =
     (img : Image) × IsOfSource held depended.image img × IsNamedIn held depended.names (λ names. TellsNeeds depended.by names img depended.most old new exit)
 Does (request.Explore explored) held saved old new exit =
-    (img : Image) × IsOfSource held explored.image img × TellsSchedules img explored.config explored.burst old new exit
+    (img : Image) × IsOfSource held explored.image img × TellsSchedules img explored.config explored.burst explored.states old new exit
+Does (request.Find explored sought trace) held saved old new exit =
+    (img : Image) × IsOfSource held explored.image img × FindsSight img explored sought (SavesAnyTrace saved trace) old new exit
 Does (request.Script scripted) held saved old new exit =
     (img : Image) × IsOfSource held scripted.image img
     × (steps : List Step) × IsScriptIn held scripted.events.now steps
     × PlaysScript img scripted.config steps (SavesAnyTrace saved scripted.trace) old new exit
-Does (request.Check traced) held saved old new exit = IsTracedIn held traced (λ img es. FindsSound img traced.config es old new exit)
+Does (request.Check traced script) held saved old new exit =
+    IsTracedIn held traced (λ img es. FindsSound img traced.config es old new exit × SavesAnyScript saved script es × LeadsBack img traced.config es)
 Does (request.Profile traced to by named) held saved old new exit =
     IsTracedIn held traced (λ img es. IsNamedIn held named (λ names. TellsCost to by names img traced.config es old new exit))
 Does (request.Show traced at named) held saved old new exit =

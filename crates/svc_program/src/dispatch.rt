@@ -10,6 +10,7 @@ use crate::check::check;
 use crate::depend::depend;
 use crate::draw::draw;
 use crate::explore::explore;
+use crate::find::find;
 use crate::profile::profile;
 use crate::run::run;
 use crate::script::script;
@@ -22,7 +23,8 @@ use std::thread::Threads;
 use svc_request::{Fault, Files, Request, VERSION};
 
 /// Does what is asked for. It returns the exit status: 0 if the run reached the program's exit, a trace was sound, an
-/// image was assembled or listed, an exploration was whole, or help or the version was asked for, and 2 otherwise.
+/// image was assembled or listed, an exploration was whole or found what was looked for, or help or the version was asked
+/// for, and 2 otherwise.
 ///
 /// Errors: the first fault, looked for in this order: a file that would be written over one that is read, the image,
 /// the script or trace, the opening of the machine, the run, the output. Nothing is printed before a fault, unless it
@@ -64,8 +66,11 @@ fn dispatch<R: Threads + Wait + Sync, F: Files, O: Write>(
         Request::Sequential(tasks) => sequential(alloc, tasks, files, out),
         Request::Depend(depended) => depend(alloc, depended, files, out),
         Request::Explore(explored) => explore(alloc, explored, files, out),
+        Request::Find(explored, sought, trace) => {
+            find(alloc, explored, sought, trace, files, out)
+        }
         Request::Script(scripted) => script(alloc, scripted, files, out),
-        Request::Check(traced) => check(alloc, traced, files, out),
+        Request::Check(traced, script) => check(alloc, traced, script, files, out),
         Request::Profile(traced, to, by, names) => profile(
             alloc, traced, to, by, names, files, out,
         ),

@@ -2,14 +2,14 @@
 
 ghost use Rattle.std.specs.Prelude.{◌≡◌, IfOk, IfErr, cond};
 ghost use Rattle.svc_request.specs.declared.request.Request.TheVariants as request;
-ghost use Rattle.svc_program.specs.Explored.{TellsSchedules};
+ghost use Rattle.svc_program.specs.Explored.{IsExplorationOf, TellsSchedules};
 ghost use Rattle.svc_program.specs.Requests.{IsAnswered, IsQuiet};
 
 use crate::load::load_image;
 use crate::output::print_text;
-use std::alloc::Global;
+use std::alloc::{AllocError, Global};
 use std::io::Write;
-use svc_explore::put_exploration;
+use svc_explore::{Exploration, put_exploration};
 use svc_image::Image;
 use svc_request::{Explored, Fault, Files};
 
@@ -27,6 +27,21 @@ pub fn explore<F: Files, O: Write>(
     tell_schedules(alloc, &image, explored, out)
 }
 
+/// Follows all schedules of an image.
+///
+/// Errors: [`AllocError`], if memory runs out.
+pub fn all_schedules(
+    alloc: Global,
+    image: &Image,
+    explored: Explored<'_>,
+) -> Result<Exploration, AllocError>
+    ensures { IfOk result (IsExplorationOf image.now explored.entry.config explored.entry.burst explored.entry.states) }
+{
+    let limit = explored.states;
+    let exploration = svc_explore::explore(alloc, image, explored.config, explored.burst, limit)?;
+    Ok(exploration)
+}
+
 // Follows all schedules of an image, and prints what was found.
 fn tell_schedules<O: Write>(
     alloc: Global,
@@ -34,12 +49,11 @@ fn tell_schedules<O: Write>(
     explored: Explored<'_>,
     out: &mut O,
 ) -> Result<u8, Fault>
-    ensures told { IfOk result (TellsSchedules image.now explored.entry.config explored.entry.burst
+    ensures told { IfOk result (TellsSchedules image.now explored.entry.config explored.entry.burst explored.entry.states
         (O.contents out.old) (O.contents out.new)) }
     ensures silent { IfErr result (IsQuiet out.old out.new) }
 {
-    let limit = explored.states as usize;
-    let exploration = svc_explore::explore(alloc, image, explored.config, explored.burst, limit)?;
+    let exploration = all_schedules(alloc, image, explored)?;
     let mut text = Vec::new(alloc);
     put_exploration(&mut text, &exploration)?;
     print_text(&text, out)?;

@@ -7,6 +7,7 @@ mod depend;
 mod dispatch;
 mod draw;
 mod explore;
+mod find;
 mod front;
 mod fronts;
 mod load;
@@ -19,6 +20,7 @@ mod show;
 mod summary;
 
 pub use dispatch::perform;
+pub use svc_explore::Sought;
 pub use svc_report::TableRow;
 pub use svc_request::{
     Assembly, Depended, Explored, Fault, FileFault, Files, NeedsTable, Order, Picture, Request,

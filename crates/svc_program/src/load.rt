@@ -4,7 +4,7 @@ ghost use Rattle.std.specs.Prelude.{◌≡◌, ◌⊎◌, IfOk, IfErr, IfSome, o
 ghost use Rattle.svc_image.specs.Format.{file_of};
 ghost use Rattle.svc_request.specs.Faults.{IsEarly};
 ghost use Rattle.svc_program.specs.Named.{AreNamesIn};
-ghost use Rattle.svc_program.specs.Requests.{IsOfSource, IsScriptIn, IsThere, IsTraceIn, SavesAlone, SavesAnyTrace};
+ghost use Rattle.svc_program.specs.Requests.{IsOfSource, IsScriptIn, IsThere, IsTraceIn, SavesAlone, SavesAnyScript, SavesAnyTrace};
 
 use crate::front::front_of;
 use std::alloc::Global;
@@ -12,8 +12,9 @@ use std::io::Read;
 use svc_history::Entry;
 use svc_image::{Image, ImageError, MOST_BYTES, samples};
 use svc_names::Names;
-use svc_report::{ReportError, Step, read_script, read_trace, write_trace};
+use svc_report::{ReportError, read_trace, write_trace};
 use svc_request::{Fault, Files, Source, Traced};
+use svc_script::{Step, read_script, script_of, write_script};
 
 /// The image of a source.
 pub fn load_image<F: Files>(alloc: Global, source: Source<'_>, files: &F) -> Result<Image, Fault>
@@ -113,6 +114,26 @@ pub fn save_trace<F: Files>(
     };
     let mut text = Vec::new(alloc);
     write_trace(alloc, entries, &mut text)?;
+    files.save(name, &text)?;
+    Ok(())
+}
+
+/// Makes the text of the script that leads to these entries the whole content of the named file, if one is named.
+pub fn save_script<F: Files>(
+    alloc: Global,
+    entries: &[Entry],
+    name: Option<&str>,
+    files: &mut F,
+) -> Result<(), Fault>
+    ensures saved { IfOk result (λ _. SavesAnyScript (F.held files.new) name.entry entries.now) }
+    ensures alone { SavesAlone (option_map (λ name. name.now) name.entry) (F.held files.old) (F.held files.new) result }
+{
+    let Some(name) = name else {
+        return Ok(());
+    };
+    let steps = script_of(alloc, entries)?;
+    let mut text = Vec::new(alloc);
+    write_script(alloc, &steps, &mut text)?;
     files.save(name, &text)?;
     Ok(())
 }

@@ -1,13 +1,12 @@
 pub mod CountRows
 pub mod Counting
-pub mod Pending
+pub mod PendingLines
 pub mod PlainLines
 pub mod Rows
 pub mod Whole
 pub mod Short
 pub mod SameColumns
 pub mod RoundTrip
-pub mod Steps
 pub mod Tracks
 pub mod Numerals
 pub mod LegalRows

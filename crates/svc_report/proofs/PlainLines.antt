@@ -88,7 +88,7 @@ plain_ask None = refl
 plain_ask (Some true) = refl
 plain_ask (Some false) = refl
 
-plain_optional : (n : Option ℕ) → IfSome n (λ x. x < 2 ^ 64) → IsPlain (optional decimal n)
+pub plain_optional : (n : Option ℕ) → IfSome n (λ x. x < 2 ^ 64) → IsPlain (optional decimal n)
 plain_optional None h = refl
 plain_optional (Some n) h = plain_decimal n h
 
@@ -101,7 +101,7 @@ plain_address None h = refl
 plain_address (Some a) h = plain_decimal a.0 (omega arith)
 
 -- what holds below one bound holds below a greater one
-below : (k m : ℕ) → k ≤ m → (n : Option ℕ) → IfSome n (λ x. x < k) → IfSome n (λ x. x < m)
+pub below : (k m : ℕ) → k ≤ m → (n : Option ℕ) → IfSome n (λ x. x < k) → IfSome n (λ x. x < m)
 below k m le None h = tt
 below k m le (Some n) h = omega arith
 

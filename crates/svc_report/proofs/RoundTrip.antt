@@ -59,7 +59,7 @@ text_read : (h : List Entry) → AllByRecursion HasRow h → ReadsAs (trace_reco
 unfolding strip_bom joined
 text_read h all = (flat_map row_of h, header_read (flat_map row_of h), entries_read h all)
 
-all_read : (rows : List (List (List ℕ))) (xs : List ℕ) → AllByRecursion IsShort rows → ReadsAs rows xs → readable_from st.StartRecord 0 xs ≡ xs
+pub all_read : (rows : List (List (List ℕ))) (xs : List ℕ) → AllByRecursion IsShort rows → ReadsAs rows xs → readable_from st.StartRecord 0 xs ≡ xs
 unfolding readable_from
 all_read [] xs short r = rw r refl
 all_read (f ∷ rows) xs short r =
@@ -73,7 +73,7 @@ text_readable h all =
     subst (λ (t : List ℕ). ReadsAs (trace_records h) t) (sym (all_read (trace_records h) (strip_bom (text_of h)) (trace_short h all) read)) read
 
 -- records that were taken from the front are the first ones, and the others follow
-unique : (rows rs : List (List (List ℕ))) (xs ys : List ℕ) (s : State) → ReadsAs rows xs → Reached default_config st.StartRecord xs rs s ys
+pub unique : (rows rs : List (List (List ℕ))) (xs ys : List ℕ) (s : State) → ReadsAs rows xs → Reached default_config st.StartRecord xs rs s ys
     → (s ≡ st.StartRecord) × (more : List (List (List ℕ))) × (rows ≡ rs ++ more) × ReadsAs more ys
 unfolding Reached next_record
 unique rows [] xs ys s h r = (sym r.0, rows, refl, subst (λ (t : List ℕ). ReadsAs rows t) r.1 h)
@@ -87,7 +87,7 @@ unique (a ∷ rows) (q ∷ qs) xs ys s h r =
     let head : a ≡ q = sym (same ∙ ap (λ (z : Read). z.0) both) in
     (end, more, ap (λ (z : List (List ℕ)). z ∷ rows) head ∙ ap (λ (z : List (List (List ℕ))). q ∷ z) split, after)
 
-no_more : (more : List (List (List ℕ))) (ys : List ℕ) (s : State) → s ≡ st.StartRecord → ReadsAs more ys → next_record default_config s [] [] ys ≡ None → more ≡ []
+pub no_more : (more : List (List (List ℕ))) (ys : List ℕ) (s : State) → s ≡ st.StartRecord → ReadsAs more ys → next_record default_config s [] [] ys ≡ None → more ≡ []
 no_more [] ys s start after none = refl
 no_more (r ∷ rs) ys s start after none = let h = rw start at none in cc (h, after.1)
 
@@ -109,7 +109,7 @@ read_back h es p q text =
     let whole : header ∷ map columns h ≡ header ∷ map columns es = split ∙ ap (λ (m : List (List (List ℕ))). trace_records es ++ m) end ∙ append-nil (trace_records es) in
     same_entries h es p q (cc whole)
 
-not_other : (names : List (List ℕ)) (c : ℕ) → FirstOther names names c → ⊥
+pub not_other : (names : List (List ℕ)) (c : ℕ) → FirstOther names names c → ⊥
 unfolding FirstOther
 not_other names zero bad = bad refl
 not_other names (suc k) bad = bad.2 refl

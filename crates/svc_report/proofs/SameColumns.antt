@@ -105,7 +105,7 @@ small : (most : ℕ) → most ≤ 255 → (n : Option ℕ) → IfSome n (λ x. x
 small most low None h = tt
 small most low (Some n) h = omega arith
 
-unit_one : (u v : UnitId) → u.0 < 2 ^ 64 → v.0 < 2 ^ 64 → unit_text u ≡ unit_text v → u ≡ v
+pub unit_one : (u v : UnitId) → u.0 < 2 ^ 64 → v.0 < 2 ^ 64 → unit_text u ≡ unit_text v → u ≡ v
 unit_one u v p q h = let n = decimal_injective u.0 v.0 p q h in λ i. record { 0 = n i }
 
 unit_same : (a b : Option UnitId) → IfSome a (λ u. u.0 ≤ 255) → IfSome b (λ u. u.0 ≤ 255) → optional unit_text a ≡ optional unit_text b → a ≡ b

@@ -1,4 +1,4 @@
--- The records of traces and of scripts are short, so a text of them is what is read of it.
+-- The records of traces are short, so a text of them is what is read of it.
 use Rattle.std.proofs.Common.{◌∷◌, ◌<◌, ◌≤◌, ◌^◌, [], ℕ, List, Option, Some, None, Bool, true, false, refl, arith, length, map, zero-le, Result, Ok, Err}
 use Rattle.std.specs.Prelude.{IfOk, IfSome, Vec, decimal}
 use Rattle.std.specs.List.{AllByRecursion}
@@ -19,12 +19,8 @@ use Rattle.svc_history_laws.specs.declared.entry.ServedKind.TheVariants as serve
 use Rattle.svc_report.specs.Fields.{address_text, ask_word, cause_word, kind_word, optional, reply_word, served_word, unit_text}
 use Rattle.svc_record_limit.specs.Limit.{most_bytes}
 use Rattle.svc_report.specs.Records.{IsRead, IsText}
-use Rattle.svc_report.specs.Script.{HasStepRow, arg_of, script_header, script_records, step_columns, word_of, word_text}
 use Rattle.svc_report.specs.Trace.{HasRow, columns, header, trace_records}
 use Rattle.svc_report.specs.declared.error.ReportError.{ReportError}
-use Rattle.svc_report.specs.declared.script.Step.{Step}
-use Rattle.svc_report.specs.declared.script.StepWord.{StepWord}
-use Rattle.svc_report.specs.declared.script.StepWord.TheVariants as word
 use Rattle.svc_report.proofs.Whole.{IsShort, weight, whole_text}
 
 kind_length : (k : Kind) → length (kind_word k) ≤ 10
@@ -65,19 +61,10 @@ ask_length None = zero-le
 ask_length (Some true) = leb-true _ _ refl
 ask_length (Some false) = leb-true _ _ refl
 
-word_length : (w : StepWord) → length (word_text w) ≤ 10
-word_length word.Assign = leb-true _ _ refl
-word_length word.Submit = leb-true _ _ refl
-word_length word.Replace = leb-true _ _ refl
-word_length word.Cancel = leb-true _ _ refl
-word_length word.Commit = leb-true _ _ refl
-word_length word.Take = leb-true _ _ refl
-word_length word.Give = leb-true _ _ refl
-
-decimal_length : (n : ℕ) → n < 2 ^ 32 → length (decimal n) ≤ 10
+pub decimal_length : (n : ℕ) → n < 2 ^ 32 → length (decimal n) ≤ 10
 decimal_length n low = length-decimal-le 10 n (omega arith) (omega (arith, low)) (omega (arith, low))
 
-number_length : (n : Option ℕ) → IfSome n (λ x. x < 2 ^ 32) → length (optional decimal n) ≤ 10
+pub number_length : (n : Option ℕ) → IfSome n (λ x. x < 2 ^ 32) → length (optional decimal n) ≤ 10
 number_length None low = zero-le
 number_length (Some n) low = decimal_length n low
 
@@ -114,13 +101,7 @@ short_entry e row =
       number_length e.squashed row.squashed,
     )
 
-short_step : (s : Step) → HasStepRow s → IsShort (step_columns s)
-unfolding step_columns
-short_step s row =
-    let unit = decimal_length s.unit.0 (omega (arith, row.unit)) in
-    omega (arith, word_length (word_of s.kind), unit, number_length (arg_of s.kind) row.arg)
-
-all_short : {A : Type 0} (of : A → List (List ℕ)) (P : A → Type 0) → ((x : A) → P x → IsShort (of x)) → (items : List A) → AllByRecursion P items → AllByRecursion IsShort (map of items)
+pub all_short : {A : Type 0} (of : A → List (List ℕ)) (P : A → Type 0) → ((x : A) → P x → IsShort (of x)) → (items : List A) → AllByRecursion P items → AllByRecursion IsShort (map of items)
 all_short of P short [] all = tt
 all_short of P short (x ∷ xs) all = (short x all.0, all_short of P short xs all.1)
 
@@ -133,11 +114,3 @@ pub whole_trace : (known : Option (List ℕ)) (r : Result (Vec Entry Global) Rep
 whole_trace known (Err e) ok = tt
 whole_trace None (Ok v) ok = (ok.0, tt)
 whole_trace (Some text) (Ok v) ok = (ok.0, whole_text text (trace_records v.items) (trace_short v.items ok.0) ok.1)
-
--- and so is a script
-pub whole_script : (known : Option (List ℕ)) (r : Result (Vec Step Global) ReportError) → IfOk r (λ v. AllByRecursion HasStepRow v.items × IfSome known (λ text. IsRead text (script_records v.items)))
-    → IfOk r (λ v. AllByRecursion HasStepRow v.items × IfSome known (λ text. IsText text (script_records v.items)))
-whole_script known (Err e) ok = tt
-whole_script None (Ok v) ok = (ok.0, tt)
-whole_script (Some text) (Ok v) ok =
-    (ok.0, whole_text text (script_records v.items) (ltb-true (weight script_header) most_bytes refl, all_short step_columns HasStepRow short_step v.items ok.0) ok.1)

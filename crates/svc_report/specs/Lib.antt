@@ -4,7 +4,6 @@ pub mod Fields
 pub mod Lines
 pub mod Records
 pub mod Rows
-pub mod Script
 pub mod Summary
 pub mod Trace
 pub mod Table

@@ -16,7 +16,7 @@ use svc_text::{ENOUGH, write_text};
 
 /// Lines still to be written. They are gathered, since a new writer of `csv` for each would cost more than the line.
 #[derive(Drop)]
-pub(crate) struct Pending {
+pub struct Pending {
     alloc: Global,
     lines: Writer<Vec<u8>>,
 }
@@ -44,7 +44,7 @@ fn renew(lines: &mut Writer<Vec<u8>>, alloc: Global)
 
 impl Pending {
     /// No lines.
-    pub(crate) fn new(alloc: Global) -> Pending
+    pub fn new(alloc: Global) -> Pending
         ensures { result ≡ [] }
     {
         Pending {
@@ -81,11 +81,9 @@ impl Pending {
     }
 
     /// Adds a line of these fields, and writes all lines once there is enough.
-    pub(crate) fn write_line<W: Write>(
-        &mut self,
-        fields: &[&[u8]],
-        w: &mut W,
-    ) -> Result<(), ReportError>
+    ///
+    /// Errors: [`ReportError::Memory`], [`ReportError::Write`].
+    pub fn write_line<W: Write>(&mut self, fields: &[&[u8]], w: &mut W) -> Result<(), ReportError>
         ensures ok { OnOk result (Appends (append_known (W.contents w.old) self.old)
             (append_known (W.contents w.new) self.new) (row_text default_writer (map (λ f. f.now) fields.now))) }
         ensures err { IfErr result IsWriteFault }
@@ -98,7 +96,9 @@ impl Pending {
     }
 
     /// Writes all lines.
-    pub(crate) fn write_all<W: Write>(&mut self, w: &mut W) -> Result<(), ReportError>
+    ///
+    /// Errors: [`ReportError::Memory`], [`ReportError::Write`].
+    pub fn write_all<W: Write>(&mut self, w: &mut W) -> Result<(), ReportError>
         ensures ok { OnOk result (Keeps (append_known (W.contents w.old) self.old) (W.contents w.new)) }
         ensures empty { OnOk result (self.new ≡ []) }
         ensures err { IfErr result IsWriteFault }

@@ -8,7 +8,7 @@ use std::str;
 use svc_base::{UnitId, WordAddr};
 
 /// The text of a number that may not apply.
-pub(crate) fn number_text(buffer: &mut Buffer, number: Option<u32>) -> &str
+pub fn number_text(buffer: &mut Buffer, number: Option<u32>) -> &str
     ensures text { result.now ≡ optional decimal number }
     ensures small { IfSome number (λ n. n < 2 ^ 32) }
 {
@@ -30,7 +30,7 @@ pub(crate) fn small_text(buffer: &mut Buffer, number: Option<u8>) -> &str
 }
 
 /// The text of a unit that may not apply.
-pub(crate) fn unit_text(buffer: &mut Buffer, unit: Option<UnitId>) -> &str
+pub fn unit_text(buffer: &mut Buffer, unit: Option<UnitId>) -> &str
     ensures text { result.now ≡ optional unit_text unit }
     ensures small { IfSome unit (λ u. u.0 < 2 ^ 8) }
 {
@@ -87,7 +87,7 @@ pub(crate) fn small_of(field: &[u8], most: u8) -> Option<u8>
 }
 
 /// The unit whose text this is.
-pub(crate) fn unit_of(field: &[u8]) -> Option<UnitId>
+pub fn unit_of(field: &[u8]) -> Option<UnitId>
     ensures { Reads (λ u. u.0 ≤ 255) unit_text field.now result }
 {
     let number = small_of(field, u8::MAX)?;
@@ -95,7 +95,7 @@ pub(crate) fn unit_of(field: &[u8]) -> Option<UnitId>
 }
 
 /// The number whose text this is, or no number.
-pub(crate) fn optional_number_of(field: &[u8]) -> Option<Option<u32>>
+pub fn optional_number_of(field: &[u8]) -> Option<Option<u32>>
     ensures { Reads (λ o. IfSome o (λ n. n < 2 ^ 32)) (optional decimal) field.now result }
 {
     if field.is_empty() {

@@ -18,7 +18,7 @@ use std::io::Read;
 use svc_record_limit::Limited;
 
 /// An item that has a row in a text.
-pub(crate) trait Row: Drop {
+pub trait Row: Drop {
     // The columns of an item.
     ghost columns: { Self → List (List ℕ) };
 
@@ -35,7 +35,7 @@ pub(crate) trait Row: Drop {
 }
 
 /// Reads a text with these names of columns.
-pub(crate) fn read_rows<T: Row, R: Read + Drop>(
+pub fn read_rows<T: Row, R: Read + Drop>(
     alloc: Global,
     reader: R,
     names: &[&[u8]],

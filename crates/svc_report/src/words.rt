@@ -30,7 +30,7 @@ pub(crate) fn text_or_none<W: Word>(value: Option<W>) -> &'static str
 }
 
 /// The one whose word this is.
-pub(crate) fn named<W: Word>(field: &[u8]) -> Option<W>
+pub fn named<W: Word>(field: &[u8]) -> Option<W>
     ensures { Reads IsAny W.word field.now result }
 {
     for word in W::all() {

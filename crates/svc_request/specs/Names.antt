@@ -16,8 +16,9 @@ source_of (request.Run run) = Some run.image
 source_of (request.Sequential tasks) = Some tasks.image
 source_of (request.Depend depended) = Some depended.image
 source_of (request.Explore explored) = Some explored.image
+source_of (request.Find explored sought trace) = Some explored.image
 source_of (request.Script scripted) = Some scripted.image
-source_of (request.Check traced) = Some traced.image
+source_of (request.Check traced script) = Some traced.image
 source_of (request.Profile traced to by names) = Some traced.image
 source_of (request.Show traced at names) = Some traced.image
 source_of (request.Draw traced picture) = Some traced.image
@@ -27,7 +28,9 @@ source_of _ = None
 -- the name of the file to write, if there is one
 abbrev pub written_by : Request → Option (List ℕ)
 written_by (request.Run run) = option_map (λ name. name.now) run.trace
+written_by (request.Find explored sought trace) = option_map (λ name. name.now) trace
 written_by (request.Script scripted) = option_map (λ name. name.now) scripted.trace
+written_by (request.Check traced script) = option_map (λ name. name.now) script
 written_by (request.Draw traced picture) = Some picture.file.now
 written_by (request.Assemble assembly) = Some assembly.image.now
 written_by _ = None
@@ -35,7 +38,9 @@ written_by _ = None
 -- the file to write is also one to read
 abbrev pub IsOverItself : Request → Type 0
 IsOverItself (request.Run run) = IsSomeAnd run.trace (λ name. IsNameOf name.now run.image)
+IsOverItself (request.Find explored sought trace) = IsSomeAnd trace (λ name. IsNameOf name.now explored.image)
 IsOverItself (request.Script scripted) = IsSomeAnd scripted.trace (λ name. (scripted.events.now ≡ name.now) ⊎ IsNameOf name.now scripted.image)
+IsOverItself (request.Check traced script) = IsSomeAnd script (λ name. (traced.trace.now ≡ name.now) ⊎ IsNameOf name.now traced.image)
 IsOverItself (request.Draw traced picture) = (traced.trace.now ≡ picture.file.now) ⊎ IsNameOf picture.file.now traced.image
 IsOverItself (request.Assemble assembly) = assembly.text.now ≡ assembly.image.now
 IsOverItself _ = ⊥

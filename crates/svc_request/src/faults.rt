@@ -51,6 +51,9 @@ pub enum Fault {
     /// A trace isn't a history of the machine: its first faulty entry, counted from 0.
     #[error("trace fault {} at entry {}", number_of(.0.kind), .0.index)]
     Trace(TraceFault),
+    /// An exploration met a limit before it found what was looked for.
+    #[error("explore limit")]
+    Limit,
     /// A text couldn't be read or written.
     #[error("report fault {}", .0.number())]
     Report(ReportError),

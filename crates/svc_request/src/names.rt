@@ -17,9 +17,19 @@ impl Request<'_> {
                 Some(trace) => is_source(run.image, trace, files),
                 None => false,
             },
+            Request::Find(explored, _, trace) => match *trace {
+                Some(trace) => is_source(explored.image, trace, files),
+                None => false,
+            },
             Request::Script(scripted) => match scripted.trace {
                 Some(trace) => {
                     files.is_same(scripted.events, trace) || is_source(scripted.image, trace, files)
+                }
+                None => false,
+            },
+            Request::Check(traced, script) => match script {
+                Some(script) => {
+                    files.is_same(traced.trace, script) || is_source(traced.image, script, files)
                 }
                 None => false,
             },

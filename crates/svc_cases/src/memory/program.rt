@@ -7,7 +7,7 @@ use super::attempt::{Attempt, Refused, ready};
 use super::texts::{NAMES, TEXT};
 use super::wanted::{
     CHECK, DEPEND, DEPEND_AS_GRAPH, DEPEND_BY_PAIR, DEPEND_BY_TASK, DEPEND_BY_WORD, DEPEND_NAMED,
-    EXPLORE, LIST, PROFILE, PROFILE_BY_TASK, PROFILE_BY_UNIT, PROFILE_BY_WORD, PROFILE_NAMED,
+    EXPLORE, FIND, LIST, PROFILE, PROFILE_BY_TASK, PROFILE_BY_UNIT, PROFILE_BY_WORD, PROFILE_NAMED,
     PROFILE_ROW, RUN, RUN_ROW, SCHEDULE, SCRIPT, SEQ, SHOW, SHOW_AT, SHOW_NAMED,
 };
 use std::alloc::{AllocError, Global};
@@ -37,6 +37,7 @@ fn attempt_image<R: Threads + Wait + Sync + AllocGlobal>(rt: &R, name: &str) -> 
         "depend_as_graph" => Some(depend(rt, Some(NeedsTable::Graph), None, DEPEND_AS_GRAPH)),
         "depend_named" => Some(depend(rt, Some(NeedsTable::Graph), NAMED, DEPEND_NAMED)),
         "explore" => Some(explore(rt)),
+        "find_line" => Some(find_line(rt)),
         "script" => Some(script(rt, None)),
         "script_saved" => Some(script(rt, Some("saved"))),
         "script_line" => Some(script_line(rt)),
@@ -52,7 +53,8 @@ fn attempt_image<R: Threads + Wait + Sync + AllocGlobal>(rt: &R, name: &str) -> 
 // The calls that read one.
 fn attempt_trace<R: Threads + Wait + Sync + AllocGlobal>(rt: &R, name: &str) -> Option<Attempt> {
     match name {
-        "check" => Some(check(rt)),
+        "check" => Some(check(rt, None)),
+        "check_saved" => Some(check(rt, Some("saved"))),
         "profile" => Some(profile(rt, None, None, PROFILE)),
         "profile_by_task" => Some(profile(rt, Some(Table::Tasks), None, PROFILE_BY_TASK)),
         "profile_by_unit" => Some(profile(rt, Some(Table::Units), None, PROFILE_BY_UNIT)),
@@ -206,6 +208,20 @@ fn explore<R: Threads + Wait + Sync + AllocGlobal>(rt: &R) -> Attempt {
     asked(rt, Request::Explore(explored), EXPLORE)
 }
 
+/// The commit of the second task is looked for, as the words of a command line say.
+fn find_line<R: Threads + Wait + Sync + AllocGlobal>(rt: &R) -> Attempt {
+    let words = [
+        "svcsim",
+        "explore",
+        "p",
+        "--units=1",
+        "--find",
+        "commit,1",
+        "--trace=saved",
+    ];
+    told_by(rt, &words, FIND)
+}
+
 /// Ten events are done, and their trace is saved where a file is named for it.
 fn script<R: Threads + Wait + Sync + AllocGlobal>(rt: &R, trace: Option<&str>) -> Attempt {
     let scripted = Scripted {
@@ -240,9 +256,9 @@ fn ten_entries() -> Result<Traced<'static>, Refused> {
     })
 }
 
-/// The trace of ten events is checked.
-fn check<R: Threads + Wait + Sync + AllocGlobal>(rt: &R) -> Attempt {
-    asked(rt, Request::Check(ten_entries()?), CHECK)
+/// The trace of ten events is checked, and its script is saved where a file is named for it.
+fn check<R: Threads + Wait + Sync + AllocGlobal>(rt: &R, script: Option<&str>) -> Attempt {
+    asked(rt, Request::Check(ten_entries()?, script), CHECK)
 }
 
 /// One task is run by a unit in a thread, and its trace is saved.

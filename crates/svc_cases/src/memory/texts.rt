@@ -3,10 +3,9 @@
 use super::attempt::{Attempt, Refused, ready};
 use std::alloc::Global;
 use svc_core_laws::Ending;
-use svc_report::{
-    Counts, ReportError, read_script, read_trace, write_entry, write_summary, write_trace,
-};
+use svc_report::{Counts, ReportError, read_trace, write_entry, write_summary, write_trace};
 use svc_samples::{SCRIPT, SUMMARY, TEN_ENTRIES, TRACE};
+use svc_script::read_script;
 
 /// Makes the call of this name, if it is one of these.
 pub fn attempt(alloc: Global, name: &str) -> Option<Attempt> {

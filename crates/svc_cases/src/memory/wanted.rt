@@ -132,6 +132,14 @@ seen,commit,0,,,,3
 seen,commit,1,,,,8
 ";
 
+/// For the commit of the second task, on one unit.
+pub const FIND: &str = "states,9
+moves,8
+deepest,8
+whole,yes
+seen,commit,1,,,,8
+";
+
 /// For the check of the trace of ten events.
 pub const CHECK: &str = "sound,10\n";
 

@@ -155,7 +155,7 @@ fn request_of<'a>(kind: Printing, config: Config) -> Request<'a> {
             events: "events",
             trace: None,
         }),
-        Printing::Check => Request::Check(traced),
+        Printing::Check => Request::Check(traced, None),
         Printing::Profile => Request::Profile(traced, None, None, None),
         Printing::Tasks => Request::Profile(traced, None, Some(Table::Tasks), None),
         Printing::Show => Request::Show(traced, None, None),

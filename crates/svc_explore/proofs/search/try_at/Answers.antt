@@ -17,11 +17,11 @@ pub returns-clause-tried : goal.returns-clause-tried
 returns-clause-tried c =
     let r : Recorded = c.args.recorder.now in
     let full : is_full r.machine ≡ false = ap is_full (sym c.machine.ensures.machine) ∙ sym (c.if-is_full.ensures {u = tt}).full in
-    let key : key_in r ≡ c.args.key.now = sym c.in_ok-here.ensures ∙ sym c.as_slice.ensures.value ∙ c.if-not-is_same.ensures {u = tt} refl in
+    let key : key_in r ≡ c.args.key.now = sym c.in_ok-here.ensures ∙ sym c.as_slice.ensures.value ∙ (c.if-not-is_same.ensures {u = tt}).0 refl in
     if_ok c.try_move.result (IsTried c.args.most r c.args.unit.0) (TriedAt r.machine.image r.machine.config c.args.most c.args.key.now c.args.unit.0)
-    (tried_at c.args.most r c.args.unit.0 c.keeps.ensures.reached (has_room r c.keeps.ensures.legal.here c.requires.few full) c.args.key.now key) c.try_move.ensures
+    (tried_at c.args.most r c.args.unit.0 c.keeps.ensures.reached (has_room r c.keeps.ensures.legal.here c.requires.few full) c.args.key.now key) c.try_move.ensures.tried
 
 pub returns-clause-shown : goal.returns-clause-shown
 returns-clause-shown c =
     let r : Recorded = c.args.recorder.now in
-    if_ok c.try_move.result (IsTried c.args.most r c.args.unit.0) _ (λ t told path leads. shows_it c.args.most r c.args.unit path leads t told) c.try_move.ensures
+    if_ok c.try_move.result (IsTried c.args.most r c.args.unit.0) _ (λ t told path leads. shows_it c.args.most r c.args.unit path leads t told) c.try_move.ensures.tried

@@ -9,8 +9,8 @@ use Rattle.svc_explore.specs.Tries.{both}
 use Rattle.svc_explore.proofs.Rosters.{same_numbers}
 use Rattle.svc_explore.proofs.search.try_move.Goals as goal
 
-pub returns : goal.returns
-returns c =
+pub returns-clause-tried : goal.returns-clause-tried
+returns-clause-tried c =
     let old : Recorded = c.args.recorder.now in
     let plain : Plain = (standing_of old).plain in
     let moved : HasMoved c.args.most old c.make_move.new.recorder c.args.unit.0 = (c.if-not-make_move.ensures {u = tt}).made refl in

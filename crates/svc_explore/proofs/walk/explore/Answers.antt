@@ -1,9 +1,10 @@
-use Rattle.std.proofs.Common.{List, ℕ, ◌≡◌, ◌≤◌, ◌*◌, arith, length, subst, sym}
+use Rattle.std.proofs.Common.{List, inl, inr, ℕ, ◌≡◌, ◌≤◌, ◌*◌, arith, length, subst, sym}
 use Rattle.svc_base.specs.declared.config.Config.{Config}
 use Rattle.svc_image.specs.Image.{Image}
 use Rattle.svc_explore.specs.Counts.{Place}
 use Rattle.svc_explore.specs.Found.{are_seen}
 use Rattle.svc_explore.specs.Search.{are_keys, image_key}
+use Rattle.svc_explore.proofs.Counting.{deep_enough}
 use Rattle.svc_explore.proofs.Growing.{closed_shows, closed_whole}
 use Rattle.svc_explore.proofs.Permuting.{closed_permuted, nothing_else_permuted, witnessed_permuted}
 use Rattle.svc_explore.proofs.walk.explore.Goals as goal
@@ -40,4 +41,16 @@ returns-clause-told c =
       deepest = c.deepest-deepest.ensures;
       least_moves = let m = says.sound.moved in omega (arith, m, states);
       most_moves = subst (λ (n : ℕ). c.run.new.self.moves ≤ n * config.units) (sym states) says.moves;
+    }
+
+pub returns-clause-limits : goal.returns-clause-limits
+returns-clause-limits c =
+    let says = c.in_ok-whole.ensures in
+    let states : c.len.result ≡ length c.run.new.self.keys.entries = c.len.ensures.len in
+    record {
+      within = λ whole. let h = says.within whole in omega (arith, h, states);
+      met = λ part. elim (says.stopped part) [
+        | inl more ↦ inl (omega (arith, more, states))
+        | inr full ↦ inr (deep_enough c.args.config c.run.new.self.keys.entries c.deepest-deepest.result c.deepest-deepest.ensures full)
+      ];
     }

@@ -3,4 +3,4 @@ use Rattle.svc_operands.specs.Characters.{value_on}
 use Rattle.svc_operands.proofs.characters.value_of.Given as goal
 
 abbrev pub invariant-loop-c : goal.invariant-loop-c
-invariant-loop-c l = value_on l.radix l.value (drop l.c-index l.digits) ≡ value_on l.radix 0 l.digits
+invariant-loop-c l = value_on l.base l.value (drop l.c-index l.digits) ≡ value_on l.base 0 l.digits

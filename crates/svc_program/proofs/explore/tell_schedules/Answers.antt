@@ -11,7 +11,7 @@ returns-clause-told g c =
     c.deref.ensures.value ∙ c.in_ok-put_exploration.ensures ∙ ap (λ (l : List ℕ). l ++ exploration_text found) c.new-text.ensures.items in
     record {
       exploration = found;
-      is = record { whole = says.whole; witnessed = says.witnessed; order = says.order; told = says.told };
+      is = says;
       text = subst (λ (t : List ℕ). Appends (g.O.Write.contents c.args.out.now) (g.O.Write.contents c.print_text.new.out) t) text c.in_ok-print_text.ensures.ok;
       status = c.whole_status.ensures;
     }

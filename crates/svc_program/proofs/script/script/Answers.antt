@@ -1,6 +1,6 @@
 use Rattle.std.specs.Prelude.{IfOk}
 use Rattle.std.proofs.Common.{List, subst}
-use Rattle.svc_report.specs.declared.script.Step.{Step}
+use Rattle.svc_script.specs.declared.script.Step.{Step}
 use Rattle.svc_program.specs.Requests.{SavesAnyTrace}
 use Rattle.svc_program.specs.Scripts.{PlaysScript}
 use Rattle.svc_program.proofs.Answering.{script_answered}

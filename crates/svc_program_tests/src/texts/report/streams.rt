@@ -5,8 +5,9 @@ use crate::texts::failing::{FailingReader, FailingWriter};
 use std::alloc::{AllocError, Global};
 use svc_core_laws::Ending;
 use svc_history_laws::Entry;
-use svc_report::{Counts, ReportError, read_script, read_trace, write_summary, write_trace};
+use svc_report::{Counts, ReportError, read_trace, write_summary, write_trace};
 use svc_samples::{SUMMARY, TEN_ENTRIES, TRACE};
+use svc_script::read_script;
 
 // Whether writing a trace fails when the writer does, after this many bytes of its text.
 fn trace_breaks(alloc: Global, history: &[Entry], text: &str, left: usize) -> bool {

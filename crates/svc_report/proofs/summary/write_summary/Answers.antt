@@ -1,7 +1,7 @@
 use Rattle.std.specs.Io.KnownBytes.{append_known}
 use Rattle.std.proofs.KnownBytes.{Appends-kept}
 use Rattle.svc_report.specs.Summary.{summary_of}
-use Rattle.svc_report.proofs.Pending.{before_any}
+use Rattle.svc_report.proofs.PendingLines.{before_any}
 use Rattle.svc_report.proofs.PlainLines.{on_ok}
 use Rattle.svc_report.proofs.summary.write_summary.Goals as goal
 

@@ -1,15 +1,16 @@
-use Rattle.std.proofs.Common.{◌≡◌, ◌∙◌, List, ℕ, Some, ap, arith, subst, sym, slice_get, option_map, option_to_list, vec_items}
+use Rattle.std.proofs.Common.{◌≡◌, ◌≤◌, ◌∙◌, List, ℕ, length, Some, ap, arith, subst, sym, slice_get, option_map, option_to_list, vec_items}
 use Rattle.std.specs.Map.Iter.{deref_pair}
 use Rattle.svc_base.specs.declared.config.Config.{Config}
 use Rattle.svc_image.specs.Image.{Image}
 use Rattle.svc_explore_laws.specs.declared.observation.Observation.{Observation}
 use Rattle.svc_explore_laws.specs.Closed.{IsExplored}
 use Rattle.svc_explore.specs.Found.{are_seen}
-use Rattle.svc_explore.specs.Search.{are_keys, image_key}
-use Rattle.svc_explore.specs.Tries.{LeadsToKey, Shows, ShowsIt, TriedAt}
+use Rattle.svc_explore.specs.Search.{are_keys, image_key, key_at}
+use Rattle.svc_explore.specs.Tries.{IsOff, LeadsToKey, Shows, ShowsIt, TriedAt}
 use Rattle.svc_explore.proofs.Founding.{adds_grows, adds_witnessed, all_left, all_right, both_in}
-use Rattle.svc_explore.specs.Counts.{Place}
+use Rattle.svc_explore.specs.Counts.{IsMet, Place, path_at}
 use Rattle.svc_explore.proofs.Counting.{adds_met, adds_one}
+use Rattle.svc_explore.proofs.Permuting.{all_get}
 use Rattle.svc_explore.proofs.Growing.{grows_trans, key_stays, length_keys, same_key}
 use Rattle.svc_explore.proofs.walk.Search.explore_unit.Goals as goal
 
@@ -76,4 +77,23 @@ returns-in_ok-note_key-in-Moves-clause-sound c =
           (all_left P happened squashed shown) c.requires.sound.witnessed);
       met = adds_met img config most old new c.in-Moves.key c.in_ok-next-in-Moves.next adds leads c.requires.sound.met;
       moved = let was = c.requires.sound.moved in omega (arith, was, one);
+    }
+
+pub returns-in-Off-clause-stopped : goal.returns-in-Off-clause-stopped
+returns-in-Off-clause-stopped c = λ _.
+    let img : Image = c.args.image.now in
+    let config : Config = c.args.config in
+    let es : List Place = c.args.self.now.keys.entries in
+    let place : Place = deref_pair c.unwrap.result in
+    let here : slice_get es c.args.index ≡ Some place = sym c.get_index.ensures.entry ∙ ap (option_map deref_pair) c.unwrap.ensures in
+    let met : LeadsToKey img config c.args.most (path_at place) (key_at place) = all_get (IsMet img config c.args.most) es c.requires.sound.met.each c.args.index place here in
+    let met_so : LeadsToKey img config c.args.most c.as_slice-path.result.now c.as_slice.result.now =
+    subst (λ k. LeadsToKey img config c.args.most c.as_slice-path.result.now k) (sym c.as_slice.ensures.value)
+    (subst (λ p. LeadsToKey img config c.args.most p (key_at place)) (sym c.as_slice-path.ensures.value) met) in
+    let off = subst (λ t. IsOff t → LeadsToKey img config c.args.most c.as_slice-path.result.now c.as_slice.result.now → config.events ≤ length c.as_slice-path.result.now) c.in-Off.is c.in_ok-try_unit.ensures.off in
+    record {
+      index = c.args.index;
+      place = place;
+      there = here;
+      full = subst (λ p. config.events ≤ length p) c.as_slice-path.ensures.value (off tt met_so);
     }

@@ -1,7 +1,7 @@
 use Rattle.std.proofs.Common.{◌<◌, arith, length}
 use Rattle.svc_explore.specs.Found.{are_seen}
 use Rattle.svc_explore.specs.Search.{are_keys}
-use Rattle.svc_explore.proofs.Counting.{more_times, some_keys}
+use Rattle.svc_explore.proofs.Counting.{few_moves, more_times, some_keys}
 use Rattle.svc_explore.proofs.Growing.{closed_none, closed_more}
 use Rattle.svc_explore.proofs.walk.Search.run.Goals as goal
 
@@ -29,3 +29,6 @@ loop-index-preserved c =
       moves = more_times c.loop-index.index c.args.config.units old.moves new.moves inv.moves says.moves;
       sound = says.sound;
     }
+
+pub explore_key-requires-clause-few : goal.explore_key-requires-clause-few
+explore_key-requires-clause-few c = few_moves c.loop-index.index c.args.config.units c.loop-index.self.moves c.loop-index.invariant.moves (omega arith) (omega arith)

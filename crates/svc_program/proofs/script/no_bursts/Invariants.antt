@@ -1,5 +1,0 @@
-use Rattle.std.specs.Prelude.{◌≡◌, replicate, None}
-use Rattle.svc_program.proofs.script.no_bursts.Given as goal
-
-abbrev pub invariant-loop-unit : goal.invariant-loop-unit
-invariant-loop-unit l = l.kept.items ≡ replicate l._unit None

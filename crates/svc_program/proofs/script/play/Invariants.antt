@@ -1,5 +1,0 @@
-use Rattle.svc_program.specs.Scripts.{HasPlayed}
-use Rattle.svc_program.proofs.script.play.Given as goal
-
-abbrev pub invariant-loop-step : goal.invariant-loop-step
-invariant-loop-step g l = HasPlayed l.steps l.step-index l.fn.recorder l.fn.kept.items l.recorder l.kept.items (g.O.Write.contents l.fn.out) (g.O.Write.contents l.out)
