@@ -34,7 +34,6 @@ const HAPPENINGS: [Happening; 8] = [
     Happening::Squash,
 ];
 
-// What has this name.
 fn happening_named(name: &str) -> Option<Happening> {
     for what in HAPPENINGS {
         if name_of(what) == name {
@@ -85,7 +84,6 @@ fn put_number(text: &mut Vec<u8>, number: u64) -> Result<(), AllocError>
     number.put(text)
 }
 
-// Adds the text of what is looked for.
 fn put_sought(text: &mut Vec<u8>, sought: Sought) -> Result<(), AllocError>
     ensures { OnOk result (text.new.items ≡ text.old.items ++ sought_text sought) }
 {
@@ -122,7 +120,6 @@ impl Sought {
     }
 }
 
-// Whether it is the task, if one is given.
 fn is_task(sought: Option<u64>, task: u64) -> bool
     ensures { IsTrue result ↔ IfSome sought (λ it. task ≡ it) }
 {
@@ -132,7 +129,6 @@ fn is_task(sought: Option<u64>, task: u64) -> bool
     }
 }
 
-// Whether it is the word, if one is given.
 fn is_word(sought: Option<u32>, word: Option<u32>) -> bool
     ensures { IsTrue result ↔ IfSome sought (λ it. word ≡ Some it) }
 {
