@@ -5,7 +5,8 @@ assemble` and `list` are held against.
     bench/example_image.py TEXT IMAGE LISTING
 
 Knows images of version 1, and of this project's directives .svc_entry, .svc_limit and .svc_register. Sections become four: text,
-read-only data, data, and zeros, of which the last three are the image's data. Needs Debian's binutils-riscv64-unknown-elf.
+read-only data, data, and zeros, of which the last three are the image's data; what `.comm` names stands in the zeros where the
+line does. Passes over what this version of GNU's doesn't know. Needs Debian's binutils-riscv64-unknown-elf.
 """
 import re
 import struct
@@ -15,7 +16,8 @@ import tempfile
 from image_listing import listing_of, tool
 
 ABI = "zero ra sp gp tp t0 t1 t2 s0 s1 a0 a1 a2 a3 a4 a5 a6 a7 s2 s3 s4 s5 s6 s7 s8 s9 s10 s11 t3 t4 t5 t6".split()
-SECTIONS = {".text": ".text", ".rodata": ".section .rodata", ".srodata": ".section .rodata", ".data": ".data", ".sdata": ".data", ".bss": ".bss", ".sbss": ".bss"}
+SECTIONS = ((".text", ".text"), (".init.text", ".text"), (".rodata", ".section .rodata"), (".srodata", ".section .rodata"), (".data", ".data"),
+            (".sdata", ".data"), (".init_array", ".data"), (".bss", ".bss"), (".sbss", ".bss"))
 PLACES = """SECTIONS {
     .text 0 : { *(.text) }
     .data 0x100000 : { *(.rodata) . = ALIGN(4); *(.data) . = ALIGN(4); *(.bss) . = ALIGN(4); }
@@ -25,8 +27,8 @@ PLACES = """SECTIONS {
 
 def section(words):
     """The line that begins the section which these words begin, or None where they begin none."""
-    name = words[1] if words[:1] == [".section"] else words[0] if words else ""
-    return SECTIONS.get("." + name.split(".")[1]) if name.startswith(".") else None
+    name = words[1].strip('"') if words[:1] == [".section"] else words[0] if words else ""
+    return next((line for beginning, line in SECTIONS if name.startswith(beginning)), None)
 
 
 def main(text, image, listing):
@@ -40,6 +42,11 @@ def main(text, image, listing):
             limit = int(words[1], 0)
         elif words[:1] == [".svc_register"]:
             registers[ABI.index(words[1])] = words[2]
+        elif words[:1] in ([".comm"], [".lcomm"]):
+            name, size, step = [*words[1:], "4"][:3]
+            plain.append(f".pushsection .bss\n.balign {step}\n{name}: .zero {size}\n.popsection\n")
+        elif words[:1] in ([".loc"], [".addrsig"], [".addrsig_sym"]):
+            pass
         elif section(words):
             plain.append(section(words) + "\n")
         else:

@@ -14,7 +14,8 @@ trap 'rm -rf "$folder"' EXIT
 rustc -O --edition 2024 -o "$folder/explore_twin" "$root/bench/explore_twin.rs"
 rm -rf "$data/explore"
 mkdir "$data/explore"
-: > "$folder/cases"
+cases=$folder/cases
+: > "$cases"
 
 # The file of an image, or of one that is a text below programs/.
 image_of() {
@@ -49,13 +50,20 @@ case_of() {
     case $words in
         *,*) words="\"$words\"" ;;
     esac
-    echo "$name,$status,$wanted,$err,$saved,$words" >> "$folder/cases"
+    echo "$name,$status,$wanted,$err,$saved,$words" >> "$cases"
 }
 
 # A case by hand: its line, and what it wants.
 by_hand() {
-    echo "explore_$1" >> "$folder/cases"
+    echo "explore_$1" >> "$cases"
     if [ $# -gt 1 ]; then printf '%b' "$2" > "$data/explore/explore_${1%%,*}.txt"; fi
+}
+
+# What a trace shows: name, image, trace, its folder, and the options of its machine.
+of_trace() {
+    local folder=${4:-traces} name=explore_of_$1
+    "$root/bench/sightings_twin.py" < "$data/$folder/$3.csv" > "$data/explore/$name.txt"
+    echo "$name,0,explore/$name.txt,,,explore $2 --of $folder/$3.csv${5:-}" >> "$cases"
 }
 
 # The samples, one in the byte form, and one of version 2, whose program is the first one's.
@@ -130,6 +138,27 @@ by_hand "saves_over_its_image,1,,svcsim: file fault,,explore p.svci --units 2 --
 by_hand "saves_where_it_cannot,1,,svcsim: file fault,,explore p.svci --units 2 --find load --trace missing/trace.csv"
 by_hand "of_no_image_saves_nothing,1,,svcsim: image fault 2,,explore p_magic.svci --units 2 --find load --trace trace.csv"
 
+# What a trace shows.
+of_trace ten_events p.svci ten_events
+of_trace no_event p.svci the_first_0_entries_are_sound
+of_trace a_spill p.svci a_trace_of_a_spill_is_sound
+of_trace a_reuse programs/load_in_both_tasks.svci a_trace_of_a_reuse_is_sound
+of_trace a_version p.svci a_trace_of_a_version_is_sound
+of_trace a_trap programs/store_past_data.svci a_trace_of_a_trap_is_sound
+of_trace a_cancel p.svci a_trace_of_a_cancel_is_sound
+of_trace a_wrong_guess p.svci a_trace_of_a_wrong_guess_is_sound
+of_trace a_replacement p.svci a_trace_of_a_replacement_is_sound
+of_trace a_chain_on_3 chain.svci schedule_of_a_chain_on_3_by_bursts_of_5 schedules " --units 3"
+of_trace a_chain_over_one_line chain.svci schedule_of_a_chain_over_one_line_by_random schedules " --sets 1 --ways 1"
+
+by_hand "of_an_unsound_trace,1,,svcsim: trace fault 3 at entry 6,,explore p.svci --of traces/a_trace_with_another_loaded_word.csv"
+by_hand "of_a_bad_record,1,,svcsim: report fault 4 row 4 column 7,,explore p.svci --of traces/a_trace_with_a_plus_sign.csv"
+by_hand "of_a_trace_that_is_not_there,1,,svcsim: file fault,,explore p.svci --of missing.csv"
+by_hand "of_a_trace_of_no_image,1,,svcsim: image fault 2,,explore p_magic.svci --of traces/ten_events.csv"
+by_hand "of_a_trace_and_a_search,1,,error: the argument '--of <TRACE>' cannot be used with '--find...,,explore p.svci --of traces/ten_events.csv --find load"
+by_hand "of_a_trace_by_bursts,1,,error: the argument '--of <TRACE>' cannot be used with '--burst...,,explore p.svci --of traces/ten_events.csv --burst 3"
+by_hand "of_a_trace_of_states,1,,error: the argument '--of <TRACE>' cannot be used with '--states...,,explore p.svci --of traces/ten_events.csv --states 3"
+
 by_hand "without_a_file,1,,error: the following required arguments were not provided:...,,explore"
 by_hand "of_a_file_that_is_not_there,1,,svcsim: file fault,,explore missing.svci"
 by_hand "of_no_image,1,,svcsim: image fault 2,,explore p_magic.svci --units 2"
@@ -140,5 +169,5 @@ by_hand "of_no_state,1,,error: invalid value '0'...,,explore p.svci --states 0"
 by_hand "by_a_schedule,1,,error: unexpected argument '--schedule'...,,explore p.svci --schedule rotate"
 by_hand "has_help,0,wanted/help_explore.txt,,,explore --help"
 
-{ echo name,status,out,err,saved,words; cat "$folder/cases"; } > "$data/cases/explore.csv"
-echo "explore: $(wc -l < "$folder/cases") cases"
+{ echo name,status,out,err,saved,words; cat "$cases"; } > "$data/cases/explore.csv"
+echo "explore: $(wc -l < "$cases") cases"

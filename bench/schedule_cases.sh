@@ -19,14 +19,18 @@ mkdir -p "$data/schedules"
 "$folder/images" chain "$data/chain.svci"
 echo name,status,out,err,saved,words > "$data/cases/schedules.csv"
 
-# A case: name, image, units, sets, ways, events, order, seed, burst, and `saved` where its trace is wanted too.
+# A case: name, image, units, sets, ways, events, order, seed, burst, `saved` where its trace is wanted too, the script that
+# comes first, and the number of steps.
 case_of() {
-    local name=schedule_$1 image=$2 units=$3 sets=$4 ways=$5 events=$6 order=$7 seed=$8 burst=$9 saved=${10:-}
+    local name=schedule_$1 image=$2 units=$3 sets=$4 ways=$5 events=$6 order=$7 seed=$8 burst=$9 saved=${10:-} after=${11:-} turns=${12:-}
+    local script=-
     local words="run $image --units $units --sets $sets --ways $ways --events $events --schedule $order --burst $burst"
     local status=2 kept=
     if [ "$order" = random ]; then words="$words --seed $seed"; fi
-    "$folder/schedule_twin" "$data/$image" "$units" "$sets" "$ways" "$events" 1000000 "$order" "$seed" "$burst" \
-        "$folder/trace" > "$data/schedules/$name.txt"
+    if [ -n "$turns" ]; then words="$words --turns $turns"; fi
+    if [ -n "$after" ]; then words="$words --after $after" script=$data/$after; fi
+    "$folder/schedule_twin" "$data/$image" "$units" "$sets" "$ways" "$events" "${turns:-1000000}" "$order" "$seed" "$burst" \
+        "$folder/trace" "$script" > "$data/schedules/$name.txt"
     if grep -q '^exit,' "$data/schedules/$name.txt"; then status=0; fi
     if [ -n "$saved" ]; then
         cp "$folder/trace" "$data/schedules/$name.csv"
@@ -65,3 +69,28 @@ done
 for ((events = 1; events <= 40; events++)); do
     case_of "of_p_with_room_for_$events" p.svci 4 16 2 "$events" rotate 0 1
 done
+
+# Scripts that come first: each order goes on from where one leads, refused events are passed over, and the steps are counted
+# from there.
+for order in rotate oldest youngest random; do
+    case_of "after_a_load_too_early_by_$order" p.svci 4 16 2 100000 "$order" 7 63 saved scripts/first/load_too_early.csv
+    case_of "after_refused_events_by_$order" chain.svci 3 1 1 100000 "$order" 9 5 saved scripts/first/refused.csv
+done
+case_of after_one_step p.svci 4 16 2 100000 youngest 0 63 saved scripts/first/load_too_early.csv 1
+case_of after_no_event p.svci 4 16 2 100000 rotate 0 63 saved scripts/first/none.csv
+case_of after_a_full_history p.svci 4 16 2 2 rotate 0 63 saved scripts/first/load_too_early.csv
+case_of after_the_whole_program p1.svci 2 16 2 100000 rotate 0 63 saved scripts/first/whole.csv
+
+# By hand: a cancel of the second task leaves the machine as it was before that, so `oldest` goes on as from the first task.
+name=schedule_after_a_cancel
+(echo kind,unit,arg; echo assign,0,0; echo assign,1,12; echo cancel,1,) > "$data/scripts/first/cancelled.csv"
+(
+    head -n 2 "$data/schedules/schedule_of_p_by_oldest.csv"
+    echo assign,1,12,,,assigned,,12,,,,,
+    echo cancel,1,,,,cancelled,,,,,cancel,1,1
+    tail -n +3 "$data/schedules/schedule_of_p_by_oldest.csv"
+) > "$data/schedules/$name.csv"
+awk -F, -v OFS=, '$1 == "kind-assign" { $2++ } $1 == "kind-cancel" || $1 == "cut-cancel" { $2 = 1 } { print }' \
+    "$data/schedules/schedule_of_p_by_oldest.txt" > "$data/schedules/$name.txt"
+echo "$name,0,schedules/$name.txt,,trace.csv=schedules/$name.csv,run p.svci --units 4 --schedule oldest --after scripts/first/cancelled.csv --trace trace.csv" \
+    >> "$data/cases/schedules.csv"

@@ -1,8 +1,9 @@
 //! A plain simulator of SVCI images by schedules, in Rust without proofs: the measure that the proved `run --schedule` is
 //! held against, and the maker of what its cases want. It has the machine of the threads' twin, and one thread.
 //!
-//! `schedule_twin IMAGE UNITS SETS WAYS EVENTS TURNS POLICY SEED BURST TRACE` runs an image by the policy, by bursts of so
-//! many turns at most, and writes the trace where it isn't `-`. The seed is that of `random`.
+//! `schedule_twin IMAGE UNITS SETS WAYS EVENTS TURNS POLICY SEED BURST TRACE SCRIPT` runs an image by the policy, by bursts of
+//! so many turns at most, and writes the trace where it isn't `-`. The seed is that of `random`. The events of the script come
+//! first where it isn't `-`; it has no cancel.
 
 mod history;
 #[allow(dead_code, reason = "what the sequential twin alone needs")]
@@ -115,8 +116,28 @@ impl Units<'_> {
     }
 }
 
-fn run<'a>(image: &'a Image, config: Config, turns: u32, mut policy: Policy, most: u32) -> Recorder<'a> {
+/// Applies the event of a script's row. A refused one is passed over.
+fn apply_row(recorder: &mut Recorder, image: &Image, row: &str) {
+    let [kind, unit, arg] = row.split(',').collect::<Vec<_>>()[..] else { panic!("{row} has three fields") };
+    let unit = number(unit);
+    let event = match kind {
+        "assign" => Event::Assign(number(arg)),
+        "submit" => match recorder.lease(unit) {
+            Some(lease) => Event::Submit(lease.advance(image, number(arg))),
+            None => return,
+        },
+        "replace" => Event::Replace(number(arg)),
+        "commit" => Event::Commit,
+        _ => panic!("{kind} is an event of this twin"),
+    };
+    let _answer = recorder.apply(unit, event);
+}
+
+fn run<'a>(image: &'a Image, config: Config, script: &str, turns: u32, mut policy: Policy, most: u32) -> Recorder<'a> {
     let mut recorder = Recorder::new(image, config);
+    for row in script.lines().skip(1) {
+        apply_row(&mut recorder, image, row);
+    }
     let mut units = Units { image, most, pinned: [None; MOST_UNITS] };
     let mut order = [0; MOST_UNITS];
     for _ in 0..turns {
@@ -135,12 +156,13 @@ fn number<N: std::str::FromStr>(text: &str) -> N {
 }
 
 fn main() {
-    let [path, units, sets, ways, events, turns, policy, seed, burst, trace] =
-        arguments("schedule_twin IMAGE UNITS SETS WAYS EVENTS TURNS POLICY SEED BURST TRACE");
+    let [path, units, sets, ways, events, turns, policy, seed, burst, trace, script] =
+        arguments("schedule_twin IMAGE UNITS SETS WAYS EVENTS TURNS POLICY SEED BURST TRACE SCRIPT");
     let config = Config { units: number(&units), sets: number(&sets), ways: number(&ways), events: number(&events) };
     let policy = Policy::named(&policy, number(&seed)).expect("a policy");
     let image = Image::read(&fs::read(path).expect("the image is read")).expect("a sound image");
-    let recorder = run(&image, config, number(&turns), policy, number(&burst));
+    let script = if script == "-" { String::new() } else { fs::read_to_string(script).expect("the script is read") };
+    let recorder = run(&image, config, &script, number(&turns), policy, number(&burst));
     if trace != "-" {
         fs::write(trace, history::trace(&recorder.entries)).expect("the trace is written");
     }

@@ -14,11 +14,11 @@ use Rattle.svc_draft.specs.declared.statement.Statement.TheVariants as say
 use Rattle.svc_draft.specs.Options.{◌>>=◌}
 use Rattle.svc_draft.specs.Layouts.{Layout, spot_here}
 use Rattle.svc_operands.specs.declared.operands.Signed.{Signed}
-use Rattle.svc_operands.specs.Characters.{is_from_to, past_spaces, found, name_at, past_name, mark_at, escaped}
+use Rattle.svc_operands.specs.Characters.{is_from_to, past_spaces, found, name_at, past_name, mark_at, digit, escaped}
 use Rattle.svc_operands.specs.Operands.{Read, number_at, behind_sign}
 use Rattle.svc_operands.specs.Values.{value_at, bits_of, fitted, sum}
 use Rattle.svc_asm.specs.declared.directives.TheConstants.{OPENED}
-use Rattle.svc_asm.specs.Statements.{said_by, begun_at, some_left, said_at, end_at, is_label, line_at}
+use Rattle.svc_asm.specs.Statements.{said_by, begun_at, some_left, said_at, end_at, is_label, line_at, passed_at}
 
 -- a directive that begins what has parts, up to the first of them
 unfoldable pub opened_at : Layout → List ℕ → Read Statement
@@ -74,9 +74,21 @@ octal_at e text = do
   d ← octal_digit text
   put_at e ((octal_on (octal_on d.0 d.1).0 (octal_on d.0 d.1).1).0 % 256) (octal_on (octal_on d.0 d.1).0 (octal_on d.0 d.1).1).1
 
+-- a byte and the hexadecimal digits that follow, of which the last two count
+unfoldable pub hex_on : ℕ → List ℕ → ℕ × List ℕ
+hex_on n [] = (n, [])
+hex_on n (c ∷ rest) = found (digit c) (λ d. hex_on ((16 * n + d) % 256) rest) (n, c ∷ rest)
+
+-- a character by one or more hexadecimal digits
+unfoldable pub hex_at : Ending → List ℕ → Read Statement
+hex_at e [] = None
+hex_at e (c ∷ rest) = do
+  d ← digit c
+  put_at e (hex_on d rest).0 (hex_on d rest).1
+
 unfoldable pub escape_at : Ending → List ℕ → Read Statement
 escape_at e [] = None
-escape_at e (c ∷ rest) = found (escaped c) (λ b. put_at e b rest) (octal_at e (c ∷ rest))
+escape_at e (c ∷ rest) = if c == 120 then hex_at e rest else found (escaped c) (λ b. put_at e b rest) (octal_at e (c ∷ rest))
 
 -- a character of a string, or the quote behind its last one; a string ends on its line
 unfoldable pub character_at : Ending → List ℕ → Read Statement
@@ -141,6 +153,7 @@ part_at go.Line d text = first_at d text
 part_at (go.Value w) d text = item_at d w text
 part_at (go.Character e) d text = character_at e text
 part_at go.Symbol d text = symbol_at d text
+part_at go.Passed d text = passed_at d text
 part_at go.Common d text = common_at text
 
 unfoldable pub next_at : Layout → List ℕ → Read Statement

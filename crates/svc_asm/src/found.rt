@@ -64,7 +64,7 @@ fn first_word(text: &[u8]) -> Word {
 pub fn found_in(text: &[u8]) -> Found {
     match text {
         [] => Found::TextEnd,
-        [b'\n' | b'#', ..] => Found::LineEnd,
+        [b'\n' | b'#' | b';', ..] => Found::LineEnd,
         [first, ..] if goes_on(*first) => Found::Word(first_word(text)),
         _ => Found::Word(first_word(&text[..1])),
     }

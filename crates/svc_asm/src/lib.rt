@@ -8,5 +8,5 @@ mod line;
 mod parts;
 
 pub use assembling::{AssembleError, Expected, assemble};
-pub use directives::{Beginning, DIRECTIVES, Directive, Number, OPENED, SECTIONS, Says};
+pub use directives::{Beginning, DIRECTIVES, Directive, Kept, Number, OPENED, SECTIONS, Says};
 pub use found::{Found, Word};

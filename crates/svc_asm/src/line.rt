@@ -2,17 +2,19 @@
 
 ghost use Rattle.std.specs.Prelude.{◌≡◌, option_map};
 ghost use Rattle.svc_asm.specs.declared.line.Passed.TheVariants as passed;
-ghost use Rattle.svc_asm.specs.Statements.{rest_behind, past_rest, section_at, some_left, behind_name, begun_at, said_at, directive_at, statement_at, is_inside, end_at, ended_at, is_label, label_with, line_at};
+ghost use Rattle.svc_asm.specs.Statements.{rest_behind, past_rest, past_quote, kept_as, section_at, some_left, behind_name, begun_at, said_at, directive_at, named, is_inside, end_at, ended_with, is_label, label_with, line_at, is_passed, is_kept, passed_at};
 ghost use Rattle.svc_operands.specs.Characters.{past};
 ghost use Rattle.svc_draft.specs.Layouts.{layout_of};
 ghost use Rattle.svc_operands.specs.Operands.{Gives};
 
-use crate::directives::{Number, Says, read_numbered, said_by, section_by};
+use crate::directives::{
+    Kept, Number, Says, read_fill, read_numbered, read_zeros, said_by, section_by,
+};
 use svc_draft::{Draft, Next, Statement, Width};
 use svc_instructions::read_instruction;
 use svc_operands::{
-    Radix, Read, Unread, Wanted, opens, read_first_register, read_mark, read_value, skip_spaces,
-    split_name, stopped_at, stopped_at_name, value_of,
+    Radix, Read, Unread, Wanted, opens, read_first_register, read_mark, read_value, skip_mark,
+    skip_spaces, split_name, stopped_at, stopped_at_name, value_of,
 };
 
 /// Where in the rest of a line a character stands.
@@ -39,6 +41,7 @@ fn rest_behind(place: Passed, c: u8, rest: &[u8]) -> Option<Passed>
 {
     match (place, c) {
         (Passed::Plain | Passed::Quoted | Passed::Escaped | Passed::Remark, b'\n') => None,
+        (Passed::Plain, b';') => None,
         (Passed::Plain, b'"') => Some(Passed::Quoted),
         (Passed::Plain, b'#') | (Passed::Remark, _) => Some(Passed::Remark),
         (Passed::Plain, _) if opens(c, rest) => Some(Passed::Opening),
@@ -80,19 +83,37 @@ fn skip_inside(text: &[u8]) -> &[u8]
     rest
 }
 
+fn skip_quote(text: &[u8]) -> &[u8]
+    ensures { result.now ≡ past_quote text.now }
+{
+    match skip_mark(b'"', text) {
+        Some(rest) => rest,
+        None => text,
+    }
+}
+
+fn kept_as(kept: Kept) -> Statement
+    ensures { result ≡ kept_as kept }
+{
+    match kept {
+        Kept::In(section) => Statement::Section(section),
+        Kept::Nowhere => Statement::Open(Next::Passed),
+    }
+}
+
 fn read_section(text: &[u8]) -> Read<'_, Statement>
     ensures { Gives (λ x. (x.0, x.1.now)) result (section_at text.now) }
 {
-    let (name, rest) = split_name(text);
+    let (name, _) = split_name(skip_quote(text));
     match section_by(name) {
-        Some(section) => Ok((Statement::Section(section), skip_rest(rest))),
+        Some(kept) => Ok((kept_as(kept), skip_rest(text))),
         None => Err(stopped_at(text, Wanted::Section)),
     }
 }
 
 fn wanted_by(next: Next) -> Wanted {
     match next {
-        Next::Line => Wanted::Statement,
+        Next::Line | Next::Passed => Wanted::Statement,
         Next::Value(_) => Wanted::Value,
         Next::Character(_) => Wanted::Quote,
         Next::Symbol | Next::Common => Wanted::Label,
@@ -137,6 +158,8 @@ pub fn read_said<'a>(draft: &Draft, says: Says, text: &'a [u8]) -> Read<'a, Stat
             Ok((Statement::Value(Width::Word, number, Next::Line), rest))
         }
         Says::Number(number) => read_numbered(number, text),
+        Says::Zeros => read_zeros(text),
+        Says::Fill => read_fill(text),
         Says::ReadOnly => Ok((Statement::ReadOnly, text)),
         Says::Entry => match split_name(text) {
             ([], _) => Ok((Statement::Entry(None), text)),
@@ -152,10 +175,19 @@ pub fn read_said<'a>(draft: &Draft, says: Says, text: &'a [u8]) -> Read<'a, Stat
             Ok((Statement::Register(register, value), rest))
         }
         Says::Passed => Ok((Statement::Nothing, skip_rest(text))),
+        Says::Unread => Err(stopped_at(text, Wanted::Statement)),
         Says::Open(next) => {
             let rest = read_begun(next, text)?;
             Ok((Statement::Open(next), rest))
         }
+    }
+}
+
+// The fault of a directive: of one that isn't read, at its name.
+fn fault_of(says: Says, name: &[u8], text: &[u8], unread: Unread) -> Unread {
+    match says {
+        Says::Unread => stopped_at_name(name, text, Wanted::Statement),
+        _ => unread,
     }
 }
 
@@ -164,7 +196,10 @@ fn read_directive<'a>(draft: &Draft, name: &[u8], text: &'a [u8]) -> Read<'a, St
     ensures { Gives (λ x. (x.0, x.1.now)) result (directive_at (layout_of draft.now) name.now text.now) }
 {
     if let Some(says) = said_by(name) {
-        return read_said(draft, says, text);
+        return match read_said(draft, says, text) {
+            Ok(read) => Ok(read),
+            Err(unread) => Err(fault_of(says, name, text, unread)),
+        };
     }
     if name.starts_with(".cfi_".as_bytes()) {
         return Ok((Statement::Nothing, skip_rest(text)));
@@ -172,15 +207,14 @@ fn read_directive<'a>(draft: &Draft, name: &[u8], text: &'a [u8]) -> Read<'a, St
     Err(stopped_at_name(name, text, Wanted::Statement))
 }
 
-#[tactic(auto, unfolding(crate::specs::Statements::statement_at))]
-fn read_statement<'a>(draft: &Draft, text: &'a [u8]) -> Read<'a, Statement>
-    ensures { Gives (λ x. (x.0, x.1.now)) result (statement_at (layout_of draft.now) text.now) }
+// What a name and what follows it say.
+fn read_named<'a>(draft: &Draft, name: &[u8], text: &'a [u8]) -> Read<'a, Statement>
+    ensures { Gives (λ x. (x.0, x.1.now)) result (named (layout_of draft.now) name.now text.now) }
 {
-    let (name, rest) = split_name(text);
     match name {
-        [] => Ok((Statement::Nothing, rest)),
-        [b'.', ..] => read_directive(draft, name, rest),
-        _ => read_instruction(draft, name, rest),
+        [] => Ok((Statement::Nothing, text)),
+        [b'.', ..] => read_directive(draft, name, text),
+        _ => read_instruction(draft, name, text),
     }
 }
 
@@ -190,7 +224,7 @@ pub fn read_end(text: &[u8]) -> Result<&[u8], Unread>
 {
     match skip_spaces(text) {
         [] => Ok(b""),
-        [b'\n', rest @ ..] => Ok(rest),
+        [b'\n' | b';', rest @ ..] => Ok(rest),
         [b'#', comment @ ..] => match skip_inside(comment) {
             [] => Ok(b""),
             [_, rest @ ..] => Ok(rest),
@@ -199,11 +233,11 @@ pub fn read_end(text: &[u8]) -> Result<&[u8], Unread>
     }
 }
 
-#[tactic(auto, unfolding(crate::specs::Statements::ended_at))]
-fn read_ended<'a>(draft: &Draft, text: &'a [u8]) -> Read<'a, Statement>
-    ensures { Gives (λ x. (x.0, x.1.now)) result (ended_at (layout_of draft.now) text.now) }
+// What a name and what follows it say, up to the end of the line.
+fn read_ended<'a>(draft: &Draft, name: &[u8], text: &'a [u8]) -> Read<'a, Statement>
+    ensures { Gives (λ x. (x.0, x.1.now)) result (ended_with (layout_of draft.now) name.now text.now) }
 {
-    let (statement, rest) = read_statement(draft, text)?;
+    let (statement, rest) = read_named(draft, name, text)?;
     let rest = read_end(rest)?;
     Ok((statement, rest))
 }
@@ -226,7 +260,7 @@ fn label_with<'a>(name: &[u8], rest: &'a [u8]) -> Option<(Statement, &'a [u8])>
     Some((Statement::Local(value_of(Radix::Decimal, name)?), rest))
 }
 
-#[tactic(auto, unfolding(crate::specs::Statements::line_at))]
+#[tactic(auto, unfolding(crate::specs::Statements::line_at, crate::specs::Statements::ended_at, crate::specs::Statements::statement_at))]
 pub fn read_line<'a>(draft: &Draft, text: &'a [u8]) -> Read<'a, Statement>
     ensures { Gives (λ x. (x.0, x.1.now)) result (line_at (layout_of draft.now) text.now) }
 {
@@ -236,6 +270,43 @@ pub fn read_line<'a>(draft: &Draft, text: &'a [u8]) -> Read<'a, Statement>
             Some(read) => Ok(read),
             None => Err(stopped_at(text, Wanted::Label)),
         },
-        _ => read_ended(draft, text),
+        _ => read_ended(draft, name, rest),
+    }
+}
+
+fn is_passed(says: Says) -> bool
+    ensures { result ≡ is_passed says }
+{
+    match says {
+        Says::Word | Says::Zeros | Says::Fill | Says::Passed => true,
+        Says::Number(Number::Power | Number::Step) => true,
+        _ => false,
+    }
+}
+
+fn is_kept(name: &[u8]) -> bool
+    ensures { result ≡ is_kept name.now }
+{
+    match said_by(name) {
+        Some(says) => !is_passed(says),
+        None => false,
+    }
+}
+
+/// A line of a section that is passed over: a label, a directive that is read, or what says nothing.
+#[tactic(auto, unfolding(crate::specs::Statements::passed_at, crate::specs::Statements::ended_at, crate::specs::Statements::statement_at))]
+pub fn read_passed<'a>(draft: &Draft, text: &'a [u8]) -> Read<'a, Statement>
+    ensures { Gives (λ x. (x.0, x.1.now)) result (passed_at (layout_of draft.now) text.now) }
+{
+    let (name, rest) = split_name(text);
+    match rest {
+        [b':', rest @ ..] => Ok((Statement::Nothing, rest)),
+        _ => {
+            if is_kept(name) {
+                return read_ended(draft, name, rest);
+            }
+            let rest = read_end(skip_rest(text))?;
+            Ok((Statement::Nothing, rest))
+        }
     }
 }

@@ -2,15 +2,15 @@
 
 ghost use Rattle.std.specs.Prelude.{◌≡◌, ◌+◌, ◌*◌, ◌<◌, IfSome, option_map};
 ghost use Rattle.svc_operands.specs.Operands.{Gives};
-ghost use Rattle.svc_asm.specs.DataLines.{closed, put_at, octal_digit, octal_on, octal_at, escape_at, character_at, moved_by, moved_from, spot_named, first_spot_at, spot_at, named_at, symbol_at, step_at, common_at, opened_at, datum_at, half, going_at, item_at, first_at, next_at};
+ghost use Rattle.svc_asm.specs.DataLines.{closed, put_at, octal_digit, octal_on, octal_at, hex_on, hex_at, escape_at, character_at, moved_by, moved_from, spot_named, first_spot_at, spot_at, named_at, symbol_at, step_at, common_at, opened_at, datum_at, half, going_at, item_at, first_at, next_at};
 ghost use Rattle.svc_operands.specs.Characters.{past_spaces};
 ghost use Rattle.svc_draft.specs.Layouts.{layout_of};
 
 use crate::directives::opened_by;
-use crate::line::{is_label, read_begun, read_end, read_left, read_line, read_said};
+use crate::line::{is_label, read_begun, read_end, read_left, read_line, read_passed, read_said};
 use svc_draft::{Draft, Ending, Next, Section, Spot, Statement, Width};
 use svc_operands::{
-    Read, Signed, Unread, Wanted, bits_of, escaped, fitted, read_behind_sign, read_mark,
+    Read, Signed, Unread, Wanted, bits_of, digit, escaped, fitted, read_behind_sign, read_mark,
     read_number, read_value, skip_mark, skip_spaces, split_name, stopped_at, stopped_at_name,
 };
 
@@ -78,12 +78,49 @@ fn read_octal(ending: Ending, text: &[u8]) -> Read<'_, Statement>
     }
 }
 
+// A byte and the hexadecimal digits that follow, of which the last two count.
+#[tactic(auto, unfolding(crate::specs::DataLines::hex_on))]
+fn hex_on(first: u32, text: &[u8]) -> (u32, &[u8])
+    requires { first < 256 }
+    ensures number { result.0 ≡ (hex_on first text.now).0 }
+    ensures rest { result.1.now ≡ (hex_on first text.now).1 }
+    ensures small { result.0 < 256 }
+{
+    let mut number = first;
+    let mut rest = text;
+    while let [letter, after @ ..] = rest {
+        match digit(*letter) {
+            Some(digit) => number = (16 * number + digit) % 256,
+            None => return (number, rest),
+        }
+        rest = after;
+    }
+    (number, rest)
+}
+
+#[tactic(auto, unfolding(crate::specs::DataLines::hex_at))]
+fn read_hex(ending: Ending, text: &[u8]) -> Read<'_, Statement>
+    ensures { Gives (λ x. (x.0, x.1.now)) result (hex_at ending text.now) }
+{
+    match text {
+        [] => Err(stopped_behind_backslash(text)),
+        [letter, rest @ ..] => match digit(*letter) {
+            Some(first) => {
+                let (number, rest) = hex_on(first, rest);
+                read_on(ending, number as u8, rest)
+            }
+            None => Err(stopped_behind_backslash(text)),
+        },
+    }
+}
+
 #[tactic(auto, unfolding(crate::specs::DataLines::escape_at))]
 fn read_escape(ending: Ending, text: &[u8]) -> Read<'_, Statement>
     ensures { Gives (λ x. (x.0, x.1.now)) result (escape_at ending text.now) }
 {
     match text {
         [] => Err(stopped_behind_backslash(text)),
+        [b'x', rest @ ..] => read_hex(ending, rest),
         [letter, rest @ ..] => match escaped(*letter) {
             Some(character) => read_on(ending, character, rest),
             None => read_octal(ending, text),
@@ -310,5 +347,6 @@ pub fn read_next<'a>(draft: &Draft, text: &'a [u8]) -> Read<'a, Statement>
         Next::Character(ending) => read_character(ending, text),
         Next::Symbol => read_symbol(draft, text),
         Next::Common => read_common(text),
+        Next::Passed => read_passed(draft, text),
     }
 }

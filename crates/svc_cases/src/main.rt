@@ -8,20 +8,19 @@ mod error;
 mod folder;
 mod images;
 mod list;
-mod memory;
 
 use case::Case;
 use csv::StringRecord;
 use error::CaseError;
 use folder::Folder;
 use list::rows;
-use memory::answer;
 use std::rt::Files;
 use std::sync::Wait;
 use std::thread::Threads;
 use std::{fs, str};
 use svc_case_outcome::{Outcome, Part};
 use svc_command::execute;
+use svc_refused_memory::answer;
 
 fn main(rt: HostRuntime) -> Result<(), CaseError> {
     for line in rt.lines(rt.alloc()) {

@@ -8,8 +8,8 @@ use Rattle.svc_report.specs.declared.table.TableRow.{TableRow}
 use Rattle.svc_request.specs.Held.{Held}
 use Rattle.svc_request.specs.declared.request.Request.{Request}
 use Rattle.svc_request.specs.declared.request.Request.TheVariants as request
-use Rattle.svc_program.specs.Requests.{Does}
-use Rattle.svc_program.specs.Runs.{ReportsRun, status_of}
+use Rattle.svc_answer.specs.Requests.{Does}
+use Rattle.svc_answer.specs.Runs.{ReportsRun, status_of}
 
 of_ending : (e : Ending) (exit : ℕ) → exit ≡ status_of e → exit ≤ 2
 of_ending (ending.Exit code) exit is = omega (arith, is)
@@ -36,8 +36,9 @@ two_at_most (request.Sequential tasks) held saved old new exit (img, image, repo
 two_at_most (request.Depend depended) held saved old new exit (img, image, (names, named, tells)) = of_ending _ exit tells.status
 two_at_most (request.Explore explored) held saved old new exit (img, image, tells) = of_whole tells.exploration.whole exit tells.status
 two_at_most (request.Find explored sought trace) held saved old new exit (img, image, finds) = of_whole (is_some finds.seen) exit finds.status
+two_at_most (request.Observe traced) held saved old new exit (img, image, es, trace, tells) = of_nothing exit tells.status
 two_at_most (request.Script scripted) held saved old new exit (img, image, steps, script, plays) = of_ending _ exit plays.report.status
-two_at_most (request.Check traced script) held saved old new exit (img, image, es, trace, (sound, saves, leads)) = of_nothing exit sound.status
+two_at_most (request.Check traced compared script) held saved old new exit (img, image, es, trace, (found, same, sound, saves, leads)) = of_nothing exit sound.status
 two_at_most (request.Profile traced to by asked) held saved old new exit (img, image, es, trace, (names, named, told)) = of_nothing exit told.status
 two_at_most (request.Show traced at asked) held saved old new exit (img, image, es, trace, (names, named, told)) = of_nothing exit told.status
 two_at_most (request.Draw traced picture) held saved old new exit (drawn, quiet, zero) = of_nothing exit zero

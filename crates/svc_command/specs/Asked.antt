@@ -6,7 +6,7 @@ use Rattle.svc_request.specs.declared.request.Source.TheVariants as source
 use Rattle.svc_request.specs.declared.request.Run.{Run}
 use Rattle.svc_request.specs.declared.request.Request.{Request}
 use Rattle.svc_request.specs.declared.request.Request.TheVariants as request
-use Rattle.svc_program.specs.Requests.{KeepsFiles}
+use Rattle.svc_answer.specs.Requests.{KeepsFiles}
 use Rattle.svc_command.specs.Given.{Gives}
 use Rattle.svc_command.specs.Line.{Has, IsNamed}
 
@@ -48,8 +48,9 @@ Names words (request.Sequential tasks) = IsNamed (codes "seq") words
 Names words (request.Depend depended) = IsNamed (codes "depend") words
 Names words (request.Explore explored) = IsNamed (codes "explore") words
 Names words (request.Find explored sought trace) = IsNamed (codes "explore") words
+Names words (request.Observe traced) = IsNamed (codes "explore") words
 Names words (request.Script scripted) = IsNamed (codes "script") words
-Names words (request.Check traced script) = IsNamed (codes "check") words
+Names words (request.Check traced compared script) = IsNamed (codes "check") words
 Names words (request.Profile traced to by names) = IsNamed (codes "profile") words
 Names words (request.Show traced at names) = IsNamed (codes "show") words
 Names words (request.Draw traced picture) = IsNamed (codes "draw") words

@@ -2,8 +2,8 @@
 use Rattle.std.specs.Prelude.{◌≡◌, ⊤, ℕ, true, List, Option, None, Some, IfSome, codes}
 use denote.Ref.{Bor}
 use Rattle.svc_base.specs.declared.config.Config.{Config}
-use Rattle.svc_explore.specs.declared.sought.Sought.{Sought}
-use Rattle.svc_explore.specs.Sought.{sought_text}
+use Rattle.svc_observations.specs.declared.sought.Sought.{Sought}
+use Rattle.svc_observations.specs.Sought.{sought_text}
 use Rattle.svc_report.specs.declared.table.TableRow.{TableRow}
 use Rattle.svc_request.specs.declared.request.Depended.{Depended}
 use Rattle.svc_request.specs.declared.request.Explored.{Explored}
@@ -16,6 +16,8 @@ use Rattle.svc_request.specs.declared.request.Schedule.{Schedule}
 use Rattle.svc_request.specs.declared.request.Scripted.{Scripted}
 use Rattle.svc_request.specs.declared.request.Source.{Source}
 use Rattle.svc_request.specs.declared.request.Source.TheVariants as source
+use Rattle.svc_request.specs.declared.request.Compared.{Compared}
+use Rattle.svc_request.specs.declared.request.Compared.TheVariants as compared
 use Rattle.svc_request.specs.declared.request.Table.{Table}
 use Rattle.svc_request.specs.declared.request.Table.TheVariants as table
 use Rattle.svc_request.specs.declared.request.Traced.{Traced}
@@ -48,6 +50,12 @@ GivesOrder words (order.Random seed) =
 pub record GivesSchedule (words : List (List ℕ)) (schedule : Schedule) : Type 0 where
   pub order : GivesOrder words schedule.order
   pub burst : IsNumberOf (codes "burst") 63 schedule.burst words
+  pub after : IfSome schedule.after (λ name. IsValueOf (codes "after") name.now words)
+
+-- columns are ignored only if the line names them
+abbrev pub GivesCompared : List (List ℕ) → Compared → Type 0
+GivesCompared words compared.All = ⊤
+GivesCompared words compared.ButSuppliers = IsValueOf (codes "ignore") (codes "served") words
 
 -- the row of a table has the label that the line gives, and the names of the columns only if they are asked for
 pub record GivesRow (words : List (List ℕ)) (row : TableRow) : Type 0 where
@@ -100,6 +108,12 @@ pub record GivesExplored (words : List (List ℕ)) (explored : Explored) : Type 
   pub burst : IsNumberOf (codes "burst") 63 explored.burst words
   pub states : IsNumberOf (codes "states") 1000000 explored.states words
 
+-- the trace whose observations are told is the value of its option
+pub record GivesObserved (words : List (List ℕ)) (traced : Traced) : Type 0 where
+  pub image : GivesImage words traced.image
+  pub config_is : GivesConfig words traced.config
+  pub trace : IsValueOf (codes "of") traced.trace.now words
+
 -- what is looked for is the value of its option
 abbrev pub GivesSought : List (List ℕ) → Sought → Type 0
 GivesSought words sought = IsValueOf (codes "find") (sought_text sought) words
@@ -124,9 +138,10 @@ Gives words (request.Sequential tasks) = GivesImage words tasks.image × IsGiven
 Gives words (request.Depend depended) = GivesDepended words depended
 Gives words (request.Explore explored) = GivesExplored words explored
 Gives words (request.Find explored sought trace) = GivesExplored words explored × GivesSought words sought × GivesTrace words trace
+Gives words (request.Observe traced) = GivesObserved words traced
 Gives words (request.Script scripted) = GivesScripted words scripted
-Gives words (request.Check traced script) =
-    GivesTraced words traced × IfSome script (λ name. IsValueOf (codes "script") name.now words)
+Gives words (request.Check traced compared script) =
+    GivesTraced words traced × GivesCompared words compared × IfSome script (λ name. IsValueOf (codes "script") name.now words)
 Gives words (request.Profile traced to by names) =
     GivesTraced words traced × IfSome to (λ n. IsGivenNumber (codes "to") n words) × IfSome by (GivesTable words) × GivesNames words names
 Gives words (request.Show traced at names) =
@@ -134,5 +149,6 @@ Gives words (request.Show traced at names) =
 Gives words (request.Draw traced picture) =
     GivesTraced words traced × HasWord picture.file.now words
     × IsNumberOf (codes "from") 0 picture.from words × IsNumberOf (codes "count") 400 picture.count words
+    × (picture.rows ≡ true → HasWord (option_word (codes "rows")) words)
 Gives words (request.Assemble assembly) = HasWord assembly.text.now words × HasWord assembly.image.now words
 Gives words (request.List image) = GivesImage words image

@@ -2,10 +2,7 @@
 //! files that the system gives.
 #![tactic(auto)]
 
-mod arguments;
-mod command;
 mod disk;
-mod helps;
 mod line;
 mod options;
 mod program;
@@ -14,5 +11,5 @@ mod requests;
 mod words;
 
 pub use disk::Disk;
-pub use program::execute;
+pub use program::{execute, execute_alone};
 pub use words::words_of;

@@ -1,14 +1,14 @@
 //! What the options of several subcommands give.
 
 ghost use Rattle.std.specs.Prelude.{◌≡◌, IfOk, IfSome, codes};
-ghost use Rattle.svc_command.specs.Given.{GivesConfig, GivesImage, GivesNeedsTable, GivesOrder, GivesRow, GivesSchedule, GivesSought, GivesTable};
+ghost use Rattle.svc_command.specs.Given.{GivesCompared, GivesConfig, GivesImage, GivesNeedsTable, GivesOrder, GivesRow, GivesSchedule, GivesSought, GivesTable};
 ghost use Rattle.svc_command.specs.Line.{IsValueOf, texts};
 
 use crate::line::Line;
 use std::alloc::Global;
 use svc_base::Config;
 use svc_core::MAX_BURST_TURNS;
-use svc_program::{Fault, NeedsTable, Order, Schedule, Sought, Source, Table, TableRow};
+use svc_program::{Compared, Fault, NeedsTable, Order, Schedule, Sought, Source, Table, TableRow};
 
 const SEED_ALONE: &str = "error: the argument '--seed <N>' is of '--schedule random' alone
 
@@ -81,7 +81,7 @@ fn graph(line: Line<'_, '_>) -> Option<NeedsTable>
 }
 
 /// The schedule that the options give, if any.
-pub(crate) fn schedule(alloc: Global, line: Line<'_, '_>) -> Result<Option<Schedule>, Fault>
+pub(crate) fn schedule<'a>(alloc: Global, line: Line<'_, 'a>) -> Result<Option<Schedule<'a>>, Fault>
     ensures { IfOk result (λ schedule. IfSome schedule (GivesSchedule (texts line.entry.words.now))) }
 {
     let Some(name) = line.option("schedule")? else {
@@ -90,8 +90,20 @@ pub(crate) fn schedule(alloc: Global, line: Line<'_, '_>) -> Result<Option<Sched
     let order = order(alloc, name, line)?;
     let burst = line.number("burst", MAX_BURST_TURNS)?;
     // The parser accepts no other burst.
-    let schedule = Schedule::new(order, burst).ok_or(Fault::File)?;
+    let schedule = Schedule::new(order, burst, line.option("after")?).ok_or(Fault::File)?;
     Ok(Some(schedule))
+}
+
+/// The columns that are compared: all, unless the options name some to ignore.
+pub(crate) fn compared(line: Line<'_, '_>) -> Result<Compared, Fault>
+    ensures { IfOk result (GivesCompared (texts line.entry.words.now)) }
+{
+    match line.option("ignore")? {
+        None => Ok(Compared::All),
+        Some("served") => Ok(Compared::ButSuppliers),
+        // The parser accepts no other name.
+        Some(_) => Err(Fault::File),
+    }
 }
 
 // The order of this name. A seed is that of a random order alone.

@@ -1,7 +1,7 @@
 //! The program over any words, files and streams.
 
 ghost use Rattle.std.specs.Prelude.{◌≡◌, ◌≢◌, ◌⊎◌, ◌≤◌, IfOk, IfErr};
-ghost use Rattle.svc_program.specs.Requests.{Does, IsQuiet};
+ghost use Rattle.svc_answer.specs.Requests.{Does, IsQuiet};
 ghost use Rattle.svc_command.specs.Asked.{KeepsAsked, MayAsk};
 ghost use Rattle.svc_command.specs.Line.{texts};
 
@@ -10,7 +10,7 @@ use std::alloc::Global;
 use std::io::Write;
 use std::sync::Wait;
 use std::thread::Threads;
-use svc_program::{Fault, Files, Request, perform, tell};
+use svc_program::{Fault, Files, Request, perform, perform_alone, tell};
 
 /// Does what the words of a command line ask for; the first word is the program's name. It answers the exit status: 0
 /// if the run reached the program's exit, a trace was sound, or help or the version was asked for; 1 at a fault, which
@@ -33,6 +33,42 @@ pub fn execute<R: Threads + Wait + Sync, F: Files, O: Write, E: Write>(
         Ok(status) => status,
         Err(fault) => tell(&fault, err),
     }
+}
+
+/// Does what the words of a command line ask for where there are no threads: as [`execute`], but a run without a schedule is run
+/// fault 2.
+pub fn execute_alone<F: Files, O: Write, E: Write>(
+    alloc: Global,
+    words: &[String],
+    files: &mut F,
+    out: &mut O,
+    err: &mut E,
+) -> u8
+    ensures done { result ≢ 1 → (request : Request) × MayAsk (texts words.now) request
+        × Does request (F.held files.old) (F.held files.new) (O.contents out.old) (O.contents out.new) result }
+    ensures status { result ≤ 2 }
+    ensures kept { KeepsAsked (texts words.now) (F.held files.old) (F.held files.new) }
+{
+    match answer_alone(alloc, words, files, out) {
+        Ok(status) => status,
+        Err(why) => tell(&why, err),
+    }
+}
+
+// Does what the words ask for where there are no threads.
+fn answer_alone<F: Files, O: Write>(
+    alloc: Global,
+    words: &[String],
+    files: &mut F,
+    out: &mut O,
+) -> Result<u8, Fault>
+    ensures done { IfOk result (λ status. (request : Request) × MayAsk (texts words.now) request
+        × Does request (F.held files.old) (F.held files.new) (O.contents out.old) (O.contents out.new) status) }
+    ensures silent { IfErr result (IsQuiet out.old out.new) }
+    ensures kept { KeepsAsked (texts words.now) (F.held files.old) (F.held files.new) }
+{
+    let request = request_of(alloc, words)?;
+    perform_alone(alloc, request, files, out)
 }
 
 // Does what the words ask for.

@@ -5,7 +5,6 @@ ghost use Rattle.svc_command.specs.Asked.{IsBuiltInRun, IsHelpWord, IsVersionWor
 ghost use Rattle.svc_command.specs.Given.{Gives};
 ghost use Rattle.svc_command.specs.Line.{Has, IsNamed, texts};
 
-use crate::command::command;
 use crate::line::Line;
 use crate::requests::{
     assemble, check, depend, draw, explore, list, profile, run, script, sequential, show,
@@ -13,6 +12,7 @@ use crate::requests::{
 use clap::error::ErrorKind;
 use clap::{ArgMatches, Error};
 use std::alloc::Global;
+use svc_arguments::command::command;
 use svc_base::Config;
 use svc_program::{Fault, Request, Run, Source};
 

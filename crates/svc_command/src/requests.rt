@@ -6,7 +6,7 @@ ghost use Rattle.svc_command.specs.Given.{Gives, GivesTraced};
 ghost use Rattle.svc_command.specs.Line.{IsNamed, texts};
 
 use crate::line::Line;
-use crate::options::{configuration, image, needs_table, row, schedule, sought, table};
+use crate::options::{compared, configuration, image, needs_table, row, schedule, sought, table};
 use std::alloc::Global;
 use svc_core::MAX_BURST_TURNS;
 use svc_program::{
@@ -62,9 +62,18 @@ pub(crate) fn explore<'a>(alloc: Global, line: Line<'_, 'a>) -> Result<Request<'
         → IfOk result (Names (texts line.entry.words.now)) }
     ensures gives { IfOk result (Gives (texts line.entry.words.now)) }
 {
+    let image = image(line)?;
+    let config = configuration(line)?;
+    if let Some(trace) = line.option("of")? {
+        return Ok(Request::Observe(Traced {
+            image,
+            config,
+            trace,
+        }));
+    }
     let explored = Explored {
-        image: image(line)?,
-        config: configuration(line)?,
+        image,
+        config,
         burst: line.number("burst", MAX_BURST_TURNS)?,
         states: line.number("states", 1_000_000)?,
     };
@@ -88,14 +97,15 @@ pub(crate) fn script<'a>(line: Line<'_, 'a>) -> Result<Request<'a>, Fault>
     }))
 }
 
-/// The trace that `check` asks for, and the script's file.
+/// The trace that `check` asks for, the columns that are compared, and the script's file.
 pub(crate) fn check<'a>(line: Line<'_, 'a>) -> Result<Request<'a>, Fault>
     ensures named { IsNamed (codes "check") (texts line.entry.words.now)
         → IfOk result (Names (texts line.entry.words.now)) }
     ensures gives { IfOk result (Gives (texts line.entry.words.now)) }
 {
     let traced = traced(line)?;
-    Ok(Request::Check(traced, line.option("script")?))
+    let compared = compared(line)?;
+    Ok(Request::Check(traced, compared, line.option("script")?))
 }
 
 /// The trace that `profile` asks for, how many of its entries, the table, and the names.
@@ -134,6 +144,7 @@ pub(crate) fn draw<'a>(line: Line<'_, 'a>) -> Result<Request<'a>, Fault>
             file: line.file("FILE.svg")?,
             from: line.number("from", 0)?,
             count: line.number("count", 400)?,
+            rows: line.flag("rows"),
         },
     ))
 }

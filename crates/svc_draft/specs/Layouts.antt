@@ -1,5 +1,5 @@
 -- Where the lines of a program put what they say, and the image that this makes.
-use Rattle.std.specs.Prelude.{Bool, false, not, ◌==◌, Option, Some, None, ℕ, List, [], ◌∷◌, if◌then◌else◌, ◌≡◌, ◌+◌, ◌*◌, ◌-◌, ◌/◌, ◌%◌, ◌^◌, true, nat_eq, nat_le, nat_lt, is_some, ◌++◌, length, map, unwrap_or, slice_set, slice_get, option_map, take, drop, ◌&&◌}
+use Rattle.std.specs.Prelude.{Bool, false, not, replicate, ◌==◌, Option, Some, None, ℕ, List, [], ◌∷◌, if◌then◌else◌, ◌≡◌, ◌+◌, ◌*◌, ◌-◌, ◌/◌, ◌%◌, ◌^◌, true, nat_eq, nat_le, nat_lt, is_some, ◌++◌, length, map, unwrap_or, slice_set, slice_get, option_map, take, drop, ◌&&◌, ◌||◌}
 use Rattle.svc_image.specs.declared.version.Version.{Version}
 use Rattle.svc_image.specs.declared.version.Version.TheVariants as version
 use Rattle.svc_image.specs.Version.{version_number, read_only_by, limits_by}
@@ -25,7 +25,7 @@ use Rattle.svc_draft.specs.declared.statement.Statement.{Statement}
 use Rattle.svc_draft.specs.declared.statement.Statement.TheVariants as say
 use Rattle.svc_draft.specs.declared.draft.Draft.{Draft}
 use Rattle.svc_draft.specs.Options.{◌>>=◌}
-use Rattle.svc_draft.specs.Areas.{padding, with_more, with_zeros, bytes_in, data_of}
+use Rattle.svc_draft.specs.Areas.{padding, with_more, with_zeros, with_copies, sized, bytes_in, data_of}
 
 -- another version is said than this one
 abbrev pub has_other : Version → Option Version → Bool
@@ -61,7 +61,7 @@ Distances = ℕ → Option ℕ
 abbrev pub no_distances : Distances
 no_distances place = None
 
--- what an image is made of so far: the version where it is said; the limit of the entries that have none of their own; how many of the first data words are read-only; the start where it is said; the registers; the entries, and the limit that each has of its own; the words of the text, the bytes of each section of data, the section of what follows, and what is read next; the names, whether these are all the names of the program, as they are in the second pass, and how far behind the data's beginning .data and .bss begin then; the local labels, which the second pass has from the first one, and how many of them it has passed; the distances of the instructions with %pcrel_hi so far
+-- what an image is made of so far: the version where it is said; the limit of the entries that have none of their own; how many of the first data words are read-only; the start where it is said; the registers; the entries, and the limit that each has of its own; the words of the text, the bytes of each section of data, of which step .data and .bss begin at a multiple, the section of what follows, and what is read next; the names, whether these are all the names of the program, as they are in the second pass, and how far behind the data's beginning .data and .bss begin then; the local labels, which the second pass has from the first one, and how many of them it has passed; the distances of the instructions with %pcrel_hi so far
 pub record Layout : Type 0 where
   pub version : Option Version
   pub limit : ℕ
@@ -74,6 +74,8 @@ pub record Layout : Type 0 where
   pub rodata_bytes : List ℕ
   pub data_bytes : List ℕ
   pub bss_bytes : List ℕ
+  pub data_step : ℕ
+  pub bss_step : ℕ
   pub section : Section
   pub next : Next
   pub names : Names
@@ -97,6 +99,8 @@ layout_of d = record {
   rodata_bytes = d.rodata_bytes.items;
   data_bytes = d.data_bytes.items;
   bss_bytes = d.bss_bytes.items;
+  data_step = d.data_step;
+  bss_step = d.bss_step;
   section = d.section;
   next = d.next;
   names = λ name. get_by (λ key. bytes_eq name key.now) d.names;
@@ -125,6 +129,8 @@ empty names known data_from bss_from = record {
   rodata_bytes = [];
   data_bytes = [];
   bss_bytes = [];
+  data_step = 4;
+  bss_step = 4;
   section = section.Text;
   next = go.Line;
   names = names;
@@ -136,16 +142,26 @@ empty names known data_from bss_from = record {
   distances = no_distances;
 }
 
--- a section in whole words
-abbrev pub whole_size : List ℕ → ℕ
-whole_size bytes = length bytes + padding 4 (length bytes)
+-- a number of bytes and how far it is from there to a multiple of a step
+abbrev pub multiple : (step size : ℕ) → ℕ
+multiple step size = size + padding step size
+
+-- how far behind the data's beginning .data and .bss begin, and how many bytes the image's data has so far
+abbrev pub data_begin : Layout → ℕ
+data_begin d = multiple d.data_step (length d.rodata_bytes)
+
+abbrev pub bss_begin : Layout → ℕ
+bss_begin d = multiple d.bss_step (data_begin d + length d.data_bytes)
+
+abbrev pub data_size : Layout → ℕ
+data_size d = multiple 4 (bss_begin d + length d.bss_bytes)
 
 -- no lines yet, in the first pass, and in the second pass behind such a first one
 abbrev pub first_pass : Layout
 first_pass = empty no_names false 0 0
 
 abbrev pub second_pass : Layout → Layout
-second_pass d = record (empty d.names true (whole_size d.rodata_bytes) (whole_size d.rodata_bytes + whole_size d.data_bytes)) { locals = d.locals }
+second_pass d = record (empty d.names true (data_begin d) (bss_begin d)) { data_step = d.data_step; bss_step = d.bss_step; locals = d.locals }
 
 -- how many bytes of the section of what follows there are so far
 abbrev pub size_in : Section → Layout → ℕ
@@ -200,10 +216,6 @@ in_section change section.Rodata d = change d.rodata_bytes >>= (λ bytes. Some (
 in_section change section.Data d = change d.data_bytes >>= (λ bytes. Some (record d { data_bytes = bytes }))
 in_section change section.Bss d = change d.bss_bytes >>= (λ bytes. Some (record d { bss_bytes = bytes }))
 
--- how many bytes the image's data has so far, each section in whole words
-abbrev pub data_size : Layout → ℕ
-data_size d = whole_size d.rodata_bytes + whole_size d.data_bytes + whole_size d.bss_bytes
-
 -- an image has at most 65,536 words of data
 abbrev pub with_room : Layout → Option Layout
 with_room d = if nat_le (data_size d) 262144 then Some d else None
@@ -214,9 +226,32 @@ with_bytes more d = in_section (with_more more) d.section d >>= with_room
 unfoldable pub with_blank : ℕ → Layout → Option Layout
 with_blank count d = if count == 0 then Some d else in_section (with_zeros count) d.section d >>= with_room
 
--- zeros up to the next multiple of a step
+-- so many copies of a number of so many bytes
+unfoldable pub with_fill : (count size value : ℕ) → Layout → Option Layout
+with_fill count size value d = if count == 0 || size == 0 then Some d else in_section (with_copies count (sized size value)) d.section d >>= with_room
+
+-- so many instructions that do nothing, addi x0, x0, 0 (0x13)
+unfoldable pub with_nops : ℕ → Layout → Option Layout
+with_nops count d = if nat_le (length d.text + count) 65536 then Some (record d { text = d.text ++ replicate count 19 }) else None
+
+-- so many bytes that say nothing: zeros, and in the text instructions that do nothing
+abbrev pub with_filling : Section → ℕ → Layout → Option Layout
+with_filling section.Text count d = if count % 4 == 0 then with_nops (count / 4) d else None
+with_filling _ count d = with_blank count d
+
+-- the greatest of the steps, powers of two up to 2^16, that are asked for
+abbrev pub greater_step : (old step : ℕ) → ℕ
+greater_step old step = if nat_lt old step && 65536 % step == 0 then step else old
+
+-- the section of what follows begins at a multiple of a step; the text begins at 0, and .rodata where the data does
+abbrev pub with_step : Section → ℕ → Layout → Layout
+with_step section.Data step d = record d { data_step = greater_step d.data_step step }
+with_step section.Bss step d = record d { bss_step = greater_step d.bss_step step }
+with_step _ step d = d
+
+-- nothing that is said up to the next multiple of a step
 unfoldable pub with_align : ℕ → Layout → Option Layout
-with_align step d = with_blank (padding step (size d)) d
+with_align step d = with_filling d.section (padding step (size d)) (with_step d.section step d) >>= with_room
 
 -- a number of so many bytes; the text takes words
 abbrev pub with_number : Section → Width → ℕ → Layout → Option Layout
@@ -330,8 +365,8 @@ after name (say.Entry limit) d = with_entry limit d
 after name (say.Start n) d = Some (record d { start = Some n })
 after name (say.Limit n) d = with_limit n d
 after name (say.Register r n) d = with_register r n d
-after name (say.Section s) d = Some (record d { section = s })
-after name (say.Zeros n) d = with_blank n d
+after name (say.Section s) d = Some (record d { section = s; next = go.Line })
+after name (say.Fill count size value) d = with_fill count size value d
 after name (say.Align step) d = with_align step d
 after name (say.Open n) d = going_on n d
 after name (say.Value width n next) d = with_value width n d >>= going_on next
@@ -356,7 +391,7 @@ limits_in limit own = map (λ o. unwrap_or o limit) own
 
 -- the data of a layout: its sections, one behind the other
 abbrev pub data_in : Layout → List ℕ
-data_in d = data_of d.rodata_bytes d.data_bytes d.bss_bytes
+data_in d = data_of d.data_step d.bss_step d.rodata_bytes d.data_bytes d.bss_bytes
 
 -- what the version of a layout has in its own way
 abbrev pub IsOwnOf : Own → Layout → Type 0

@@ -1,10 +1,10 @@
 // The words of the text, and the bytes of the sections of data.
 
-ghost use Rattle.std.specs.Prelude.{◌≡◌, ◌++◌, ◌+◌, ◌%◌, ◌<◌, ◌≤◌, length, OnOk, IfOk, IfErr};
+ghost use Rattle.std.specs.Prelude.{◌≡◌, ◌+◌, ◌%◌, ◌≤◌, ◌++◌, ◌∷◌, [], take, length, OnOk, IfOk, IfErr};
 ghost use Rattle.svc_image.specs.declared.error.ImageError.TheVariants as image_error;
 ghost use Rattle.svc_image.specs.Format.{bytes_of_half, bytes_of_word};
-ghost use Rattle.svc_draft.specs.Areas.{padding, with_more, with_zeros, filled, data_of, bytes_in};
-ghost use Rattle.svc_draft.specs.Layouts.{whole_size, layout_of, in_section, with_room, data_size, with_bytes, with_blank, with_align, with_value, with_common, with_word, with_instruction, with_relative};
+ghost use Rattle.svc_draft.specs.Areas.{padding, with_more, with_zeros, with_copies, filled, data_of, bytes_in};
+ghost use Rattle.svc_draft.specs.Layouts.{multiple, greater_step, data_begin, bss_begin, data_size, layout_of, in_section, with_room, with_bytes, with_blank, with_fill, with_nops, with_filling, with_step, with_align, with_value, with_common, with_word, with_instruction, with_relative};
 ghost use Rattle.svc_draft.specs.Refusals.{Changes};
 
 use crate::draft::Draft;
@@ -13,6 +13,9 @@ use crate::statement::{Next, Section, Width};
 use byteorder::{ByteOrder, LittleEndian};
 use std::alloc::Global;
 use svc_image::{ImageError, MOST_WORDS};
+
+// The instruction that does nothing: addi x0, x0, 0.
+const NOP: u32 = 0x13;
 
 // The most bytes of a section.
 const MOST_BYTES: usize = 4 * MOST_WORDS as usize;
@@ -26,13 +29,25 @@ pub fn padding(step: u32, size: u32) -> u32
     (step - size % step) % step
 }
 
-pub fn whole_size(bytes: &[u8]) -> u32
-    requires { length bytes.now ≤ 262144 }
-    ensures size { result ≡ whole_size bytes.now }
-    ensures few { result ≤ 262144 }
+pub fn multiple(step: u32, size: u32) -> u32
+    requires step { step ≤ 65536 }
+    requires size { size ≤ 1048576 }
+    ensures size { result ≡ multiple step size }
+    ensures near { result ≤ size + 65536 }
 {
-    let size = bytes.len() as u32;
-    size + padding(4, size)
+    size + padding(step, size)
+}
+
+// The greatest of the steps, powers of two up to 2^16, that are asked for.
+fn greater_step(old: u32, step: u32) -> u32
+    requires { old ≤ 65536 }
+    ensures step { result ≡ greater_step old step }
+    ensures few { result ≤ 65536 }
+{
+    if step > old && 65536 % step == 0 {
+        return step;
+    }
+    old
 }
 
 #[tactic(auto, unfolding(crate::specs::Areas::with_more))]
@@ -62,37 +77,64 @@ pub fn put_zeros(bytes: &mut Vec<u8>, count: u32) -> Result<(), Refusal>
     Ok(())
 }
 
-// Puts a section behind others, and zeros up to a whole word.
-#[tactic(auto, unfolding(crate::specs::Areas::filled))]
-fn put_filled(all: &mut Vec<u8>, section: &[u8]) -> Result<(), ImageError>
-    requires section { length section.now ≤ 262144 }
-    requires all { length all.old.items ≤ 524288 }
-    ensures ok { OnOk result (all.new.items ≡ all.old.items ++ filled section.now) }
-    ensures few { length all.new.items ≤ length all.old.items + 262144 }
-    ensures whole { OnOk result (length all.old.items % 4 ≡ 0 → length all.new.items % 4 ≡ 0) }
-    ensures err { IfErr result (λ e. e ≡ image_error.Memory) }
+// Puts so many copies of bytes behind others.
+#[tactic(auto, using(crate::proofs::Copies::copies_on, crate::proofs::Copies::copies_refused, crate::proofs::Copies::copies_done))]
+fn put_copies(bytes: &mut Vec<u8>, count: u32, unit: &[u8]) -> Result<(), Refusal>
+    requires { length bytes.old.items ≤ 262144 }
+    ensures done { Changes result (with_copies count unit.now bytes.old.items) bytes.new.items }
+    ensures few { length bytes.new.items ≤ 262144 }
 {
-    all.extend_from_slice(section)?;
-    let zeros = padding(4, section.len() as u32);
-    let size = all.len() + zeros as usize;
-    all.resize(size, 0)?;
+    let mut left = count;
+    while left > 0 {
+        put_more(bytes, unit)?;
+        left -= 1;
+    }
     Ok(())
 }
 
-/// The data of an image: the sections one behind the other, each in whole words, and at least one word.
+// Puts zeros behind bytes up to a multiple of a step.
+#[tactic(auto, unfolding(crate::specs::Areas::filled))]
+fn fill(all: &mut Vec<u8>, step: u32) -> Result<(), ImageError>
+    requires step { step ≤ 65536 }
+    requires all { length all.old.items ≤ 1048576 }
+    ensures ok { OnOk result (all.new.items ≡ filled step all.old.items) }
+    ensures few { length all.new.items ≤ length all.old.items + 65536 }
+    ensures whole { OnOk result (step ≡ 4 → length all.new.items % 4 ≡ 0) }
+    ensures err { IfErr result (λ e. e ≡ image_error.Memory) }
+{
+    let size = all.len();
+    let zeros = padding(step, size as u32);
+    all.resize(size + zeros as usize, 0)?;
+    Ok(())
+}
+
+/// The data of an image: the sections one behind the other, the last two each from a multiple of a step on, in whole
+/// words, and at least one word.
 #[tactic(auto, unfolding(crate::specs::Areas::data_of))]
-pub fn join(alloc: Global, rodata: &[u8], middle: &[u8], bss: &[u8]) -> Result<Vec<u8>, ImageError>
+pub fn join(
+    alloc: Global,
+    middle_step: u32,
+    bss_step: u32,
+    rodata: &[u8],
+    middle: &[u8],
+    bss: &[u8],
+) -> Result<Vec<u8>, ImageError>
+    requires middle_step { middle_step ≤ 65536 }
+    requires bss_step { bss_step ≤ 65536 }
     requires rodata { length rodata.now ≤ 262144 }
     requires middle { length middle.now ≤ 262144 }
     requires bss { length bss.now ≤ 262144 }
-    ensures ok { IfOk result (λ all. all.items ≡ data_of rodata.now middle.now bss.now) }
+    ensures ok { IfOk result (λ all. all.items ≡ data_of middle_step bss_step rodata.now middle.now bss.now) }
     ensures whole { IfOk result (λ all. length all.items % 4 ≡ 0) }
     ensures err { IfErr result (λ e. e ≡ image_error.Memory) }
 {
     let mut all = Vec::new(alloc);
-    put_filled(&mut all, rodata)?;
-    put_filled(&mut all, middle)?;
-    put_filled(&mut all, bss)?;
+    all.extend_from_slice(rodata)?;
+    fill(&mut all, middle_step)?;
+    all.extend_from_slice(middle)?;
+    fill(&mut all, bss_step)?;
+    all.extend_from_slice(bss)?;
+    fill(&mut all, 4)?;
     if all.is_empty() {
         all.extend_from_slice(&[0, 0, 0, 0])?;
     }
@@ -117,11 +159,44 @@ pub fn word_bytes(number: u32) -> [u8; 4]
     four
 }
 
+// A number in eight bytes.
+fn eight_bytes(number: u32) -> [u8; 8]
+    ensures { result ≡ bytes_of_word number ++ (0 ∷ 0 ∷ 0 ∷ 0 ∷ []) }
+{
+    let mut eight = [0; 8];
+    eight[..4].copy_from_slice(&word_bytes(number));
+    eight
+}
+
+fn first_bytes(bytes: &[u8], size: u32) -> &[u8]
+    ensures { result.now ≡ take size bytes.now }
+{
+    let (first, _) = bytes.split_at(bytes.len().min(size as usize));
+    first
+}
+
 impl<'a> Draft<'a> {
+    pub(crate) fn data_begin(&self) -> u32
+        ensures value { result ≡ data_begin (layout_of self.now) }
+        ensures near { result ≤ 327680 }
+    {
+        multiple(self.data_step, self.rodata_bytes.len() as u32)
+    }
+
+    pub(crate) fn bss_begin(&self) -> u32
+        ensures value { result ≡ bss_begin (layout_of self.now) }
+        ensures near { result ≤ 655360 }
+    {
+        multiple(
+            self.bss_step,
+            self.data_begin() + self.data_bytes.len() as u32,
+        )
+    }
+
     pub(crate) fn data_size(&self) -> u32
         ensures { result ≡ data_size (layout_of self.now) }
     {
-        whole_size(&self.rodata_bytes) + whole_size(&self.data_bytes) + whole_size(&self.bss_bytes)
+        multiple(4, self.bss_begin() + self.bss_bytes.len() as u32)
     }
 
     pub(crate) fn check_room(&self) -> Result<(), Refusal>
@@ -176,11 +251,71 @@ impl<'a> Draft<'a> {
         self.check_room()
     }
 
+    pub(crate) fn copy_into_section(&mut self, count: u32, unit: &[u8]) -> Result<(), Refusal>
+        ensures { Changes result
+            (in_section (with_copies count unit.now) (layout_of self.old).section (layout_of self.old)) (layout_of self.new) }
+    {
+        match self.section {
+            Section::Text => Err(Refusal::InText),
+            Section::Rodata => put_copies(&mut self.rodata_bytes, count, unit),
+            Section::Data => put_copies(&mut self.data_bytes, count, unit),
+            Section::Bss => put_copies(&mut self.bss_bytes, count, unit),
+        }
+    }
+
+    #[tactic(auto, unfolding(crate::specs::Layouts::with_fill))]
+    pub(crate) fn push_fill(&mut self, count: u32, size: u32, value: u32) -> Result<(), Refusal>
+        ensures { Changes result (with_fill count size value (layout_of self.old)) (layout_of self.new) }
+    {
+        if count == 0 || size == 0 {
+            return Ok(());
+        }
+        let bytes = eight_bytes(value);
+        self.copy_into_section(count, first_bytes(&bytes, size))?;
+        self.check_room()
+    }
+
+    #[tactic(auto, unfolding(crate::specs::Layouts::with_nops))]
+    pub(crate) fn push_nops(&mut self, count: u32) -> Result<(), Refusal>
+        ensures { Changes result (with_nops count (layout_of self.old)) (layout_of self.new) }
+    {
+        let words = self.text.len();
+        if count as usize > MOST_WORDS as usize - words {
+            return Err(Refusal::FullText);
+        }
+        self.text.resize(words + count as usize, NOP)?;
+        Ok(())
+    }
+
+    pub(crate) fn push_filling(&mut self, count: u32) -> Result<(), Refusal>
+        ensures { Changes result
+            (with_filling (layout_of self.old).section count (layout_of self.old)) (layout_of self.new) }
+    {
+        match self.section {
+            Section::Text if count % 4 == 0 => self.push_nops(count / 4),
+            Section::Text => Err(Refusal::InText),
+            _ => self.push_blank(count),
+        }
+    }
+
+    pub(crate) fn keep_step(&mut self, step: u32)
+        ensures { layout_of self.new ≡ with_step (layout_of self.old).section step (layout_of self.old) }
+    {
+        match self.section {
+            Section::Text | Section::Rodata => {}
+            Section::Data => self.data_step = greater_step(self.data_step, step),
+            Section::Bss => self.bss_step = greater_step(self.bss_step, step),
+        }
+    }
+
     #[tactic(auto, unfolding(crate::specs::Layouts::with_align))]
     pub(crate) fn align(&mut self, step: u32) -> Result<(), Refusal>
         ensures { Changes result (with_align step (layout_of self.old)) (layout_of self.new) }
     {
-        self.push_blank(padding(step, self.size()))
+        let filling = padding(step, self.size());
+        self.keep_step(step);
+        self.push_filling(filling)?;
+        self.check_room()
     }
 
     pub(crate) fn push_number(&mut self, width: Width, number: u32) -> Result<(), Refusal>

@@ -1,10 +1,9 @@
 // An image in the making, and the names of its labels.
 
-ghost use Rattle.std.specs.Prelude.{◌≡◌, ◌≤◌, length, IfErr, OnOk};
+ghost use Rattle.std.specs.Prelude.{◌≡◌, ◌≤◌, false, length, IfErr, OnOk};
 ghost use Rattle.std.specs.Str.{bytes_eq};
 ghost use Rattle.std.specs.HashMap.{get_by};
 
-use crate::data::whole_size;
 use crate::making::Mark;
 use crate::refusal::Refusal;
 use crate::statement::{Local, Next, Section, Spot, Statement};
@@ -25,6 +24,8 @@ pub struct Draft<'a> {
     pub(crate) rodata_bytes: Vec<u8>,
     pub(crate) data_bytes: Vec<u8>,
     pub(crate) bss_bytes: Vec<u8>,
+    pub(crate) data_step: u32,
+    pub(crate) bss_step: u32,
     pub(crate) section: Section,
     pub(crate) next: Next,
     pub(crate) names: HashMap<&'a [u8], Spot>,
@@ -38,8 +39,10 @@ pub struct Draft<'a> {
     ghost rodata_few: { length rodata_bytes.items ≤ 262144 },
     ghost data_few: { length data_bytes.items ≤ 262144 },
     ghost bss_few: { length bss_bytes.items ≤ 262144 },
-    ghost data_near: { data_from ≤ 262144 },
-    ghost bss_near: { bss_from ≤ 524288 },
+    ghost data_step_few: { data_step ≤ 65536 },
+    ghost bss_step_few: { bss_step ≤ 65536 },
+    ghost data_near: { data_from ≤ 327680 },
+    ghost bss_near: { bss_from ≤ 655360 },
     ghost passed_few: { passed ≤ length locals.items },
 }
 
@@ -52,31 +55,27 @@ impl<'a> Draft<'a> {
     pub fn new(alloc: Global) -> Draft<'a>
         ensures { layout_of result ≡ first_pass }
     {
-        Draft::with_names(HashMap::new(alloc), Vec::new(alloc), false, 0, 0, alloc)
+        Draft::with_names(HashMap::new(alloc), alloc)
     }
 
     /// No lines yet, in the second pass, behind a first one that ended so.
     pub fn again(self, alloc: Global) -> Draft<'a>
         ensures { layout_of result ≡ second_pass (layout_of self.entry) }
     {
-        let data_from = whole_size(&self.rodata_bytes);
-        let bss_from = data_from + whole_size(&self.data_bytes);
-        Draft::with_names(self.names, self.locals, true, data_from, bss_from, alloc)
+        let data_from = self.data_begin();
+        let bss_from = self.bss_begin();
+        let mut again = Draft::with_names(self.names, alloc);
+        again.known = true;
+        again.data_from = data_from;
+        again.bss_from = bss_from;
+        again.data_step = self.data_step;
+        again.bss_step = self.bss_step;
+        again.locals = self.locals;
+        again
     }
 
-    fn with_names(
-        names: HashMap<&'a [u8], Spot>,
-        locals: Vec<Local>,
-        known: bool,
-        data_from: u32,
-        bss_from: u32,
-        alloc: Global,
-    ) -> Draft<'a>
-        requires data_near { data_from ≤ 262144 }
-        requires bss_near { bss_from ≤ 524288 }
-        ensures { layout_of result
-            ≡ record (empty (λ name. get_by (λ key. bytes_eq name key.now) names.entry) known data_from bss_from)
-            { locals = locals.items } }
+    fn with_names(names: HashMap<&'a [u8], Spot>, alloc: Global) -> Draft<'a>
+        ensures { layout_of result ≡ empty (λ name. get_by (λ key. bytes_eq name key.now) names.entry) false 0 0 }
     {
         Draft {
             version: None,
@@ -89,13 +88,15 @@ impl<'a> Draft<'a> {
             rodata_bytes: Vec::new(alloc),
             data_bytes: Vec::new(alloc),
             bss_bytes: Vec::new(alloc),
+            data_step: 4,
+            bss_step: 4,
             section: Section::Text,
             next: Next::Line,
             names,
-            known,
-            data_from,
-            bss_from,
-            locals,
+            known: false,
+            data_from: 0,
+            bss_from: 0,
+            locals: Vec::new(alloc),
             passed: 0,
             distances: HashMap::new(alloc),
         }
@@ -177,8 +178,11 @@ impl<'a> Draft<'a> {
             Statement::Start(start) => self.start = Some(start),
             Statement::Limit(limit) => return self.set_limit(limit),
             Statement::Register(register, value) => return self.set_register(register, value),
-            Statement::Section(section) => self.section = section,
-            Statement::Zeros(count) => return self.push_blank(count),
+            Statement::Section(section) => {
+                self.section = section;
+                self.next = Next::Line;
+            }
+            Statement::Fill(count, size, value) => return self.push_fill(count, size, value),
             Statement::Align(step) => return self.align(step),
             Statement::Open(next) => self.next = next,
             Statement::Value(width, value, next) => {

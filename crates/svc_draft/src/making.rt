@@ -87,7 +87,14 @@ impl Draft<'_> {
         ensures err { IfErr result (λ e. e ≡ image_error.Memory) }
     {
         let start = self.start_place();
-        let data = join(alloc, &self.rodata_bytes, &self.data_bytes, &self.bss_bytes)?;
+        let data = join(
+            alloc,
+            self.data_step,
+            self.bss_step,
+            &self.rodata_bytes,
+            &self.data_bytes,
+            &self.bss_bytes,
+        )?;
         let words = read_words(alloc, &data, data.len() / 4)?;
         let entries = places_of(alloc, &self.entries)?;
         let own = self.own(alloc)?;

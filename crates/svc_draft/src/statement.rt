@@ -68,6 +68,8 @@ pub enum Next {
     Symbol,
     /// A name, and the size and the alignment of the zeros that it is to name.
     Common,
+    /// A line of a section that is passed over.
+    Passed,
 }
 
 /// What a line says that needs no other line.
@@ -91,11 +93,11 @@ pub enum Statement {
     Limit(u32),
     /// `.svc_register xN, VALUE`: the value with which every task finds the register.
     Register(Register, u32),
-    /// `.text`, `.data` and their like: what follows stands in this section.
+    /// `.text`, `.data` and their like: what follows is lines of this section.
     Section(Section),
-    /// `.zero N`: N zero bytes of the section.
-    Zeros(u32),
-    /// `.align N`: zeros up to the next address that this number divides.
+    /// `.fill COUNT, SIZE, VALUE`: so many copies of a number of so many bytes, 8 at most. `.zero N` is `.fill N, 1, 0`.
+    Fill(u32, u32, u32),
+    /// `.align N`: zeros, or instructions that do nothing, up to the next address that this number divides.
     Align(u32),
     /// The beginning of a list, a string or a name with its value, which this begins.
     Open(Next),

@@ -1,130 +1,172 @@
 // The bars and marks of a picture, as they are drawn.
 
-ghost use Rattle.std.specs.Prelude.{◌≤◌};
+ghost use Rattle.std.specs.Prelude.{◌≡◌, ◌++◌, ◌≤◌, OnOk, codes, decimal, flat_map, length};
+ghost use Rattle.svc_report.specs.Trace.{row_of};
+ghost use Rattle.svc_draw.specs.Drawing.{bar_name, bar_text, element_of, fill_of, layer, layer_text, mark_in, mark_shape, mark_text, name_of, name_words, title};
+ghost use Rattle.svc_draw.specs.Shapes.{label};
 
 use crate::bars::Bar;
-use crate::defs::{fill_of, name_of};
-use crate::frame::{BOTTOM, Frame, Point, TOP};
+use crate::frame::Frame;
 use crate::marks::{Mark, MarkKind};
-use crate::rows::Rows;
-use crate::shapes::{diamond, ring, square};
+use crate::parts::Part;
+use crate::shapes::{
+    bar_box, bold_arrow, box_title, close, commit_line, diamond, label, ring, square, thin_arrow,
+    title_open,
+};
 use itoa::Buffer;
-use std::alloc::AllocError;
-use svc_text::put;
+use std::alloc::{AllocError, Global};
+use svc_history_laws::Entry;
+use svc_report::write_entry;
+use svc_task_runs::Fate;
+use svc_text::Piece;
 
-// The style of a text: black on a white rim.
-const RIM: &str = "paint-order='stroke' stroke='#fff' stroke-width='4' stroke-linejoin='round'";
+/// How a fate's bars are filled.
+pub(crate) fn fill_of(fate: Fate) -> &'static str
+    ensures { result.now ≡ fill_of fate }
+{
+    match fate {
+        Fate::Active => "url(#active)",
+        Fate::Committed => "#d3ead0",
+        Fate::Violation => "url(#violation)",
+        Fate::Guess => "url(#guess)",
+        Fate::Cancel => "url(#cancel)",
+    }
+}
 
-const THIN: &str = "stroke='#14508c' stroke-width='2' marker-end='url(#thin)'";
+/// What a fate is called.
+pub(crate) fn name_of(fate: Fate) -> &'static str
+    ensures { result.now ≡ name_of fate }
+{
+    match fate {
+        Fate::Active => "still active",
+        Fate::Committed => "committed",
+        Fate::Violation => "squashed: read too early",
+        Fate::Guess => "squashed: wrong guess",
+        Fate::Cancel => "squashed: cancelled",
+    }
+}
 
-const BOLD: &str = "stroke='#b01010' stroke-width='4' marker-end='url(#bold)'";
-
-/// Writes a bar.
-pub(crate) fn write_bar(frame: &Frame, bar: &Bar, text: &mut Vec<u8>) -> Result<(), AllocError> {
+// Writes a bar, with its title.
+#[tactic(auto, unfolding(crate::specs::Drawing::bar_text))]
+fn write_bar(frame: &Frame, bar: &Bar, text: &mut Vec<u8>) -> Result<(), AllocError>
+    ensures { OnOk result (text.new.items ≡ text.old.items ++ bar_text frame.now.sheet bar.now) }
+{
     let x = frame.bar_left(bar);
     let y = frame.bar_top(bar.task.unit.0);
     let width = frame.bar_width(bar);
     let height = frame.bar_height();
-    let fill = fill_of(bar.task.fate);
-    let fate = name_of(bar.task.fate);
-    let number = bar.task.number;
-    let entry = bar.task.entry;
-    let first = bar.task.first;
-    let turns = bar.task.turns;
-    put!(
-        text;
-        "<rect x='", x, "' y='", y, "' width='", width, "' height='", height, "' rx='3' fill='", fill,
-        "' stroke='#333'>",
-    );
-    put!(
-        text;
-        "<title>task ", number, " at address ", entry, ", begun by entry ", first, ": ", fate, "; turns: ", turns,
-        "</title></rect>\n",
-    );
+    bar_box(text, x, y, width, height, fill_of(bar.task.fate))?;
+    let task = &bar.task;
+    let entry = u64::from(task.entry);
+    let fate = name_of(task.fate);
+    box_title(text, task.number, entry, task.first, fate, task.turns)?;
     Ok(())
 }
 
-/// Writes a bar's text, the task's number and entry, as far as there is room.
-pub(crate) fn write_name(frame: &Frame, bar: &Bar, text: &mut Vec<u8>) -> Result<(), AllocError> {
-    let x = frame.bar_left(bar) + 4;
-    let y = frame.bar_top(bar.task.unit.0) + 12;
-    let letters = frame.bar_width(bar).saturating_sub(8) as usize / 7;
-    let mut number = Buffer::new();
-    let mut entry = Buffer::new();
-    let number = number.format(bar.task.number);
-    let entry = entry.format(bar.task.entry);
-    if number.len() > letters {
+/// Writes the bars.
+pub(crate) fn write_bars(frame: &Frame, bars: &[Bar], text: &mut Vec<u8>) -> Result<(), AllocError>
+    ensures { OnOk result (text.new.items ≡ text.old.items ++ flat_map (bar_text frame.now.sheet) bars.now) }
+{
+    for bar in bars {
+        write_bar(frame, bar, text)?;
+    }
+    Ok(())
+}
+
+// How many digits a number has.
+fn digits(number: u64) -> u64
+    ensures value { result ≡ length (decimal number) }
+    ensures few { result ≤ 20 }
+{
+    let mut digits = Buffer::new();
+    digits.format(number).len() as u64
+}
+
+// Writes a task's number and entry at a place, as far as there is room for so many letters.
+fn write_name_at(
+    text: &mut Vec<u8>,
+    x: u64,
+    y: u64,
+    letters: u64,
+    number: u64,
+    entry: u64,
+) -> Result<(), AllocError>
+    ensures { OnOk result (text.new.items
+        ≡ text.old.items ++ label x y (codes "font-size='12'") (name_words letters number entry)) }
+{
+    let style = "font-size='12'";
+    let both = digits(number) + digits(entry);
+    if both + 8 <= letters {
+        let words = [
+            Part::Text("task "),
+            Part::Number(number),
+            Part::Text(" @ "),
+            Part::Number(entry),
+        ];
+        label(text, x, y, style, &words)
+    } else if both + 1 <= letters {
+        let words = [Part::Number(number), Part::Text("@"), Part::Number(entry)];
+        label(text, x, y, style, &words)
+    } else {
+        label(text, x, y, style, &[Part::Number(number)])
+    }
+}
+
+// Writes a bar's words, if there is room for any.
+#[tactic(auto, unfolding(crate::specs::Drawing::bar_name))]
+fn write_name(frame: &Frame, bar: &Bar, text: &mut Vec<u8>) -> Result<(), AllocError>
+    ensures { OnOk result (text.new.items ≡ text.old.items ++ bar_name frame.now.sheet bar.now) }
+{
+    let letters = frame.bar_width(bar).saturating_sub(8) / 7;
+    let number = bar.task.number;
+    if digits(number) > letters {
         return Ok(());
     }
-    put!(text; "<text x='", x, "' y='", y, "' font-size='12' ", RIM, ">");
-    if number.len() + entry.len() + 8 <= letters {
-        put!(text; "task ", number, " @ ", entry);
-    } else if number.len() + entry.len() + 1 <= letters {
-        put!(text; number, "@", entry);
-    } else {
-        put!(text; number);
+    let x = frame.bar_left(bar) + 4;
+    let y = frame.bar_top(bar.task.unit.0) + 12;
+    write_name_at(text, x, y, letters, number, u64::from(bar.task.entry))
+}
+
+/// Writes the words of the bars.
+pub(crate) fn write_names(frame: &Frame, bars: &[Bar], text: &mut Vec<u8>) -> Result<(), AllocError>
+    ensures { OnOk result (text.new.items ≡ text.old.items ++ flat_map (bar_name frame.now.sheet) bars.now) }
+{
+    for bar in bars {
+        write_name(frame, bar, text)?;
     }
-    put!(text; "</text>\n");
     Ok(())
 }
 
-// Writes a mark's row of the trace, which shows at the pointer.
+// Writes an entry's row of the trace.
+fn write_row(alloc: Global, entry: &Entry, text: &mut Vec<u8>) -> Result<(), AllocError>
+    ensures { OnOk result (text.new.items ≡ text.old.items ++ row_of entry.now) }
+{
+    match write_entry(alloc, entry, text) {
+        Ok(()) => Ok(()),
+        Err(_) => Err(AllocError),
+    }
+}
+
+// Writes the title of a mark: its entry's number, and that entry's row of the trace.
+#[tactic(auto, unfolding(crate::specs::Drawing::title))]
 fn write_title(
-    frame: &Frame,
-    rows: &Rows,
-    mark: &Mark,
+    alloc: Global,
+    place: u64,
+    entry: &Entry,
     text: &mut Vec<u8>,
-) -> Result<(), AllocError> {
-    let place = mark.place;
-    let index = place.saturating_sub(frame.window.from);
-    put!(text; "<title>entry ", place, ": ", rows.row(index as usize), "</title>");
-    Ok(())
-}
-
-// Writes a commit's line.
-fn commit(text: &mut Vec<u8>, x: u64) -> Result<(), AllocError> {
-    put!(
-        text;
-        "<path d='M", x, " ", TOP, "V", BOTTOM,
-        "' fill='none' stroke='#2e7d32' stroke-width='2' stroke-dasharray='6 4'>",
-    );
-    Ok(())
-}
-
-// Writes an arrow of this form.
-fn arrow(text: &mut Vec<u8>, from: Point, to: Point, form: &str) -> Result<(), AllocError> {
-    let Point { x, y } = from;
-    let right = to.x;
-    let down = to.y;
-    put!(text; "<path d='M", x, " ", y, "L", right, " ", down, "' fill='none' ", form, ">");
-    Ok(())
-}
-
-/// Writes a mark: its element, and its row of the trace.
-pub(crate) fn write_mark(
-    frame: &Frame,
-    rows: &Rows,
-    mark: &Mark,
-    text: &mut Vec<u8>,
-) -> Result<(), AllocError> {
-    let middle = frame.at(mark);
-    let size = frame.radius();
-    match mark.kind {
-        MarkKind::Load => ring(text, middle, size)?,
-        MarkKind::Store => square(text, middle, size)?,
-        MarkKind::PutOut => diamond(text, middle, size)?,
-        MarkKind::Commit => commit(text, middle.x)?,
-        MarkKind::Handed => arrow(text, frame.other_end(mark), middle, THIN)?,
-        MarkKind::Squash => arrow(text, middle, frame.other_end(mark), BOLD)?,
-    }
-    write_title(frame, rows, mark, text)?;
-    let close = close_of(mark.kind);
-    put!(text; "</", close, ">\n");
+) -> Result<(), AllocError>
+    ensures { OnOk result (text.new.items ≡ text.old.items ++ title place entry.now) }
+{
+    title_open(text, place)?;
+    write_row(alloc, entry, text)?;
+    "</title>".put(text)?;
     Ok(())
 }
 
 // The element of a mark.
-fn close_of(kind: MarkKind) -> &'static str {
+fn element_of(kind: MarkKind) -> &'static str
+    ensures { result.now ≡ element_of kind }
+{
     match kind {
         MarkKind::Load => "circle",
         MarkKind::Store => "rect",
@@ -132,54 +174,79 @@ fn close_of(kind: MarkKind) -> &'static str {
     }
 }
 
-// Writes an arrow's text, at its middle.
-fn write_saying(
-    from: Point,
-    to: Point,
-    saying: &str,
-    text: &mut Vec<u8>,
-) -> Result<(), AllocError> {
-    let x = (from.x + to.x) / 2 + 12;
-    let y = (from.y + to.y) / 2 + 2;
-    put!(text; "<text x='", x, "' y='", y, "' font-style='italic' ", RIM, ">", saying, "</text>\n");
-    Ok(())
-}
-
-// Writes the value of a shape before it.
-fn write_value(frame: &Frame, mark: &Mark, text: &mut Vec<u8>) -> Result<(), AllocError> {
+// Writes the shape of a mark.
+fn write_shape(frame: &Frame, mark: &Mark, text: &mut Vec<u8>) -> Result<(), AllocError>
+    ensures { OnOk result (text.new.items ≡ text.old.items ++ mark_shape frame.now.sheet mark.now mark.now.kind) }
+{
     let middle = frame.at(mark);
-    let x = middle.x - frame.radius() - 6;
-    let y = middle.y + 5;
-    let word = mark.entry.word.unwrap_or(0);
-    put!(text; "<text x='", x, "' y='", y, "' text-anchor='end' ", RIM, ">");
-    if let Some(addr) = mark.entry.addr {
-        put!(text; "word ", addr.0, " = ");
+    let size = frame.radius();
+    match mark.kind {
+        MarkKind::Load => ring(text, middle, size),
+        MarkKind::Store => square(text, middle, size),
+        MarkKind::PutOut => diamond(text, middle, size),
+        MarkKind::Commit => commit_line(text, middle.x),
+        MarkKind::Handed => thin_arrow(text, frame.other_end(mark), middle),
+        MarkKind::Squash => bold_arrow(text, middle, frame.other_end(mark)),
     }
-    put!(text; word, "</text>\n");
-    Ok(())
 }
 
-// Writes the text of a commit's line, at its top.
-fn write_committed(frame: &Frame, mark: &Mark, text: &mut Vec<u8>) -> Result<(), AllocError> {
-    let x = frame.x(mark.place) - 6;
-    let y = TOP + 18;
-    let number = mark.entry.word.unwrap_or(0);
-    put!(text; "<text x='", x, "' y='", y, "' text-anchor='end' ", RIM, ">task ", number, " is committed</text>\n");
-    Ok(())
-}
-
-/// Writes a mark's text.
-pub(crate) fn write_words(
+// Writes a mark, with its title.
+#[tactic(auto, unfolding(crate::specs::Drawing::mark_text))]
+fn write_mark(
+    alloc: Global,
     frame: &Frame,
     mark: &Mark,
     text: &mut Vec<u8>,
-) -> Result<(), AllocError> {
-    let middle = frame.at(mark);
-    let end = frame.other_end(mark);
-    match mark.kind {
-        MarkKind::Load | MarkKind::Store | MarkKind::PutOut => write_value(frame, mark, text),
-        MarkKind::Commit => write_committed(frame, mark, text),
-        MarkKind::Handed => write_saying(middle, end, "the version goes to a reader", text),
-        MarkKind::Squash => write_saying(middle, end, "read too early", text),
+) -> Result<(), AllocError>
+    ensures { OnOk result (text.new.items ≡ text.old.items ++ mark_text frame.now.sheet mark.now) }
+{
+    write_shape(frame, mark, text)?;
+    write_title(alloc, mark.place, &mark.entry, text)?;
+    close(text, element_of(mark.kind))?;
+    Ok(())
+}
+
+// Which marks lie below which: lines of commits, then arrows, then shapes.
+fn layer(kind: MarkKind) -> u8
+    ensures { result ≡ layer kind }
+{
+    match kind {
+        MarkKind::Commit => 0,
+        MarkKind::Handed | MarkKind::Squash => 1,
+        MarkKind::Load | MarkKind::Store | MarkKind::PutOut => 2,
     }
+}
+
+// Writes a mark, if it is of a layer.
+fn write_mark_in(
+    alloc: Global,
+    frame: &Frame,
+    wanted: u8,
+    mark: &Mark,
+    text: &mut Vec<u8>,
+) -> Result<(), AllocError>
+    ensures { OnOk result (text.new.items ≡ text.old.items ++ mark_in frame.now.sheet wanted mark.now) }
+{
+    if layer(mark.kind) == wanted {
+        write_mark(alloc, frame, mark, text)
+    } else {
+        Ok(())
+    }
+}
+
+/// Writes the marks of a layer.
+#[tactic(auto, unfolding(crate::specs::Drawing::layer_text))]
+pub(crate) fn write_layer(
+    alloc: Global,
+    frame: &Frame,
+    wanted: u8,
+    marks: &[Mark],
+    text: &mut Vec<u8>,
+) -> Result<(), AllocError>
+    ensures { OnOk result (text.new.items ≡ text.old.items ++ layer_text frame.now.sheet wanted marks.now) }
+{
+    for mark in marks {
+        write_mark_in(alloc, frame, wanted, mark, text)?;
+    }
+    Ok(())
 }

@@ -1,30 +1,12 @@
 // Where things stand in a picture, in its units of length.
 
-ghost use Rattle.std.specs.Prelude.{◌≡◌, ◌+◌, ◌≤◌, ◌<◌, ◌/◌};
+ghost use Rattle.std.specs.Prelude.{◌+◌, ◌≤◌, ◌<◌, ◌/◌};
 ghost use Rattle.svc_base.specs.declared.config.TheConstants.{MAX_EVENTS};
-ghost use Rattle.svc_draw.specs.declared.frame.TheConstants.{BOTTOM, HEIGHT, LEFT, RIGHT, TOP};
 
-use crate::bars::{Bar, Window};
+use crate::bars::Bar;
 use crate::marks::Mark;
+use crate::sheet::{BOTTOM, HEIGHT, LEFT, RIGHT, Sheet, TOP, WIDTH};
 use svc_base::UnitId;
-
-/// Where the entries begin, from the left.
-pub(crate) const LEFT: u64 = 90;
-
-/// How wide the entries are.
-pub(crate) const WIDTH: u64 = 1_490;
-
-/// Where they end.
-pub(crate) const RIGHT: u64 = 1_580;
-
-/// Where the lanes begin, from the top.
-pub(crate) const TOP: u64 = 118;
-
-/// How high they are together.
-pub(crate) const HEIGHT: u64 = 720;
-
-/// Where they end.
-pub(crate) const BOTTOM: u64 = 838;
 
 /// A place of a picture that isn't at its left or upper edge, so that a mark has room there.
 #[derive(Clone, Copy)]
@@ -37,65 +19,84 @@ pub(crate) struct Point {
     pub ghost in_height: { y ≤ 2000 },
 }
 
-/// What a picture shows, and how large things are in it.
+/// A sheet on which things can be placed.
 #[derive(Clone, Copy)]
 pub(crate) struct Frame {
-    pub(crate) window: Window,
-    pub(crate) units: u8,
-    pub ghost ordered: { window.from ≤ window.to },
-    pub ghost few: { window.to ≤ MAX_EVENTS },
-    pub ghost some_units: { 0 < units },
+    pub(crate) sheet: Sheet,
+    pub ghost ordered: { sheet.window.from ≤ sheet.window.to },
+    pub ghost few: { sheet.window.to ≤ MAX_EVENTS },
+    pub ghost some_units: { 0 < sheet.units },
 }
 
 impl Frame {
+    ghost use Rattle.std.specs.Prelude.{◌≡◌};
+    ghost use Rattle.svc_draw.specs.declared.sheet.TheConstants.{BOTTOM, HEIGHT, LEFT, RIGHT, TOP};
+    ghost use Rattle.svc_draw.specs.Frame.{bar_height, bar_left, bar_right, bar_top, bar_width, end_x, end_y, is_wide, lane_height, lane_top, mark_x, mark_y, place_x, place_y, radius, shown, slot, x_of};
+
     /// How many entries are shown; 1 if there are none.
-    pub(crate) fn count(&self) -> u64
+    #[tactic(auto, unfolding(crate::specs::Frame::shown))]
+    pub(crate) fn shown(&self) -> u64
+        ensures value { result ≡ shown self.now.sheet }
         ensures some { 0 < result }
         ensures few { result ≤ MAX_EVENTS }
     {
-        (self.window.to - self.window.from).max(1)
+        (self.sheet.window.to - self.sheet.window.from).max(1)
     }
 
     /// How wide an entry is.
-    pub(crate) fn slot(&self) -> u64 {
-        WIDTH / self.count()
+    #[tactic(auto, unfolding(crate::specs::Frame::slot))]
+    pub(crate) fn slot(&self) -> u64
+        ensures { result ≡ slot self.now.sheet }
+    {
+        WIDTH / self.shown()
     }
 
     /// The middle of an entry; an edge if it isn't shown.
+    #[tactic(auto, unfolding(crate::specs::Frame::x_of))]
     pub(crate) fn x(&self, place: u64) -> u64
+        ensures value { result ≡ x_of self.now.sheet place }
         ensures left { LEFT ≤ result }
         ensures right { result ≤ RIGHT }
     {
-        let before = place.min(self.window.to).saturating_sub(self.window.from);
-        LEFT + ((2 * before + 1) * WIDTH / (2 * self.count())).min(WIDTH)
+        let window = &self.sheet.window;
+        let before = place.min(window.to).saturating_sub(window.from);
+        LEFT + ((2 * before + 1) * WIDTH / (2 * self.shown())).min(WIDTH)
     }
 
     /// How high a lane is.
+    #[tactic(auto, unfolding(crate::specs::Frame::lane_height))]
     pub(crate) fn lane_height(&self) -> u64
-        ensures value { result ≡ HEIGHT / self.now.units }
+        ensures value { result ≡ lane_height self.now.sheet }
+        ensures of_all { result ≡ HEIGHT / self.now.sheet.units }
         ensures small { result ≤ HEIGHT }
     {
-        HEIGHT / u64::from(self.units)
+        HEIGHT / u64::from(self.sheet.units)
     }
 
     /// Where a lane begins.
+    #[tactic(auto, unfolding(crate::specs::Frame::lane_top))]
     pub(crate) fn lane_top(&self, lane: u8) -> u64
+        ensures value { result ≡ lane_top self.now.sheet lane }
         ensures top { TOP ≤ result }
         ensures bottom { result ≤ BOTTOM }
     {
-        TOP + (u64::from(lane) * HEIGHT / u64::from(self.units)).min(HEIGHT)
+        TOP + (u64::from(lane) * HEIGHT / u64::from(self.sheet.units)).min(HEIGHT)
     }
 
     /// How high a bar is.
+    #[tactic(auto, unfolding(crate::specs::Frame::bar_height))]
     pub(crate) fn bar_height(&self) -> u64
-        ensures fits { result ≤ HEIGHT / self.now.units }
+        ensures value { result ≡ bar_height self.now.sheet }
+        ensures fits { result ≤ HEIGHT / self.now.sheet.units }
         ensures small { result ≤ 130 }
     {
         (self.lane_height() * 4 / 5).min(130)
     }
 
     /// Where a lane's bars begin, from the top.
+    #[tactic(auto, unfolding(crate::specs::Frame::bar_top))]
     pub(crate) fn bar_top(&self, lane: u8) -> u64
+        ensures value { result ≡ bar_top self.now.sheet lane }
         ensures top { TOP ≤ result }
         ensures bottom { result ≤ BOTTOM + HEIGHT }
     {
@@ -103,59 +104,97 @@ impl Frame {
     }
 
     /// Half the size of a mark.
+    #[tactic(auto, unfolding(crate::specs::Frame::radius))]
     pub(crate) fn radius(&self) -> u64
-        ensures { result ≤ 10 }
+        ensures value { result ≡ radius self.now.sheet }
+        ensures small { result ≤ 10 }
     {
         (self.slot() / 3).max(4).min(10).min(self.bar_height() / 4)
     }
 
     /// Whether a mark has room for its value beside it.
-    pub(crate) fn is_wide(&self) -> bool {
+    #[tactic(auto, unfolding(crate::specs::Frame::is_wide))]
+    pub(crate) fn is_wide(&self) -> bool
+        ensures { result ≡ is_wide self.now.sheet }
+    {
         self.slot() >= 100 && self.bar_height() >= 60
     }
 
     /// Where a bar begins, from the left.
+    #[tactic(auto, unfolding(crate::specs::Frame::bar_left))]
     pub(crate) fn bar_left(&self, bar: &Bar) -> u64
-        ensures { result ≤ RIGHT }
+        ensures value { result ≡ bar_left self.now.sheet bar.now }
+        ensures inside { result ≤ RIGHT }
     {
-        if bar.task.first < self.window.from {
+        if bar.task.first < self.sheet.window.from {
             LEFT
         } else {
             self.x(bar.start)
         }
     }
 
-    /// How wide a bar is.
-    pub(crate) fn bar_width(&self, bar: &Bar) -> u64
-        ensures { result ≤ RIGHT }
+    // Where it ends.
+    #[tactic(auto, unfolding(crate::specs::Frame::bar_right))]
+    fn bar_right(&self, bar: &Bar) -> u64
+        ensures value { result ≡ bar_right self.now.sheet bar.now }
+        ensures inside { result ≤ RIGHT }
     {
-        let right = if bar.end >= self.window.to {
+        if bar.end >= self.sheet.window.to {
             RIGHT
         } else {
             self.x(bar.end)
-        };
-        right.saturating_sub(self.bar_left(bar)).max(2)
+        }
+    }
+
+    /// How wide a bar is.
+    #[tactic(auto, unfolding(crate::specs::Frame::bar_width))]
+    pub(crate) fn bar_width(&self, bar: &Bar) -> u64
+        ensures value { result ≡ bar_width self.now.sheet bar.now }
+        ensures inside { result ≤ RIGHT }
+    {
+        self.bar_right(bar)
+            .saturating_sub(self.bar_left(bar))
+            .max(2)
     }
 
     /// The middle of an entry's mark.
-    pub(crate) fn at(&self, mark: &Mark) -> Point {
+    pub(crate) fn at(&self, mark: &Mark) -> Point
+        ensures x { result.x ≡ mark_x self.now.sheet mark.now }
+        ensures y { result.y ≡ mark_y self.now.sheet mark.now }
+    {
         self.point(mark.entry.unit, Some(mark.place))
     }
 
     /// The other end of a mark's arrow; the mark itself if there is none.
-    pub(crate) fn other_end(&self, mark: &Mark) -> Point {
+    pub(crate) fn other_end(&self, mark: &Mark) -> Point
+        ensures x { result.x ≡ end_x self.now.sheet mark.now mark.now.other }
+        ensures y { result.y ≡ end_y self.now.sheet mark.now mark.now.other }
+    {
         match mark.other {
             Some(spot) => self.point(spot.lane, spot.place),
             None => self.at(mark),
         }
     }
 
-    // The middle of a place; the left edge if it comes before what is shown.
-    fn point(&self, lane: UnitId, place: Option<u64>) -> Point {
-        let x = match place {
+    // Where a place stands, from the left: at the edge if it comes before what is shown.
+    fn place_x(&self, place: Option<u64>) -> u64
+        ensures value { result ≡ place_x self.now.sheet place }
+        ensures left { LEFT ≤ result }
+        ensures right { result ≤ RIGHT }
+    {
+        match place {
             Some(place) => self.x(place),
             None => LEFT,
-        };
+        }
+    }
+
+    // The middle of a place.
+    #[tactic(auto, unfolding(crate::specs::Frame::place_y))]
+    fn point(&self, lane: UnitId, place: Option<u64>) -> Point
+        ensures x { result.x ≡ place_x self.now.sheet place }
+        ensures y { result.y ≡ place_y self.now.sheet lane.0 }
+    {
+        let x = self.place_x(place);
         let y = self.bar_top(lane.0) + self.bar_height() * 18 / 25;
         Point { x, y }
     }

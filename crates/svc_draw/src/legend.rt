@@ -1,187 +1,246 @@
 // What surrounds the bars and marks of a picture: its legend, its lanes and its axis.
 
-ghost use Rattle.std.specs.Prelude.{◌≤◌, ◌<◌};
+ghost use Rattle.std.specs.Prelude.{◌≡◌, ◌++◌, ◌≤◌, ◌<◌, ◌^◌, OnOk};
+ghost use Rattle.std.specs.List.{find};
+ghost use Rattle.svc_base.specs.declared.config.TheConstants.{MAX_EVENTS};
+ghost use Rattle.svc_draw.specs.Frame.{shown};
+ghost use Rattle.svc_draw.specs.Legend.{arrow_samples, axis, diamond_sample, fate_samples, has_room, hatchings, head, lane_fill, lane_text, lanes, legend, mark_samples, number_at, ring_sample, sample_of, square_sample, step_for};
 
-use crate::defs::{fill_of, name_of};
-use crate::frame::{BOTTOM, Frame, HEIGHT, LEFT, Point, RIGHT, TOP, WIDTH};
+use crate::around::{
+    axis_words, bold_sample, border, commit_sample, fate_sample, hatching, headline, lane, opening,
+    paper_text, sample_end, thin_sample, tick,
+};
+use crate::drawing::{fill_of, name_of};
+use crate::frame::{Frame, Point};
 use crate::shapes::{diamond, ring, square};
+use crate::sheet::WIDTH;
 use std::alloc::AllocError;
 use svc_task_runs::Fate;
-use svc_text::put;
-
-const FATES: [Fate; 5] = [
-    Fate::Committed,
-    Fate::Violation,
-    Fate::Guess,
-    Fate::Cancel,
-    Fate::Active,
-];
 
 // The steps between two numbers of the axis.
 const STEPS: [u32; 16] = [
     1, 2, 5, 10, 20, 50, 100, 200, 500, 1_000, 2_000, 5_000, 10_000, 20_000, 50_000, 100_000,
 ];
 
-// A sample of a fate, from the left.
-fn write_fate(fate: Fate, x: u64, text: &mut Vec<u8>) -> Result<(), AllocError>
+// Writes the hatchings of the fates that have one.
+#[tactic(auto, unfolding(crate::specs::Legend::hatchings))]
+fn write_hatchings(text: &mut Vec<u8>) -> Result<(), AllocError>
+    ensures { OnOk result (text.new.items ≡ text.old.items ++ hatchings) }
+{
+    let turned = " patternTransform='rotate(45)'";
+    let stripe = "<rect width='2' height='8' fill='#d9655a'/>";
+    hatching(text, "violation", turned, "#fbd5d0", stripe)?;
+    let turned = " patternTransform='rotate(135)'";
+    let stripe = "<rect width='2' height='8' fill='#c9922e'/>";
+    hatching(text, "guess", turned, "#fdeac3", stripe)?;
+    let dot = "<circle cx='4' cy='4' r='2' fill='#7a5bb0'/>";
+    hatching(text, "cancel", "", "#e6ddf3", dot)?;
+    let line = "<rect width='8' height='1' y='4' fill='#9ab4d0'/>";
+    hatching(text, "active", "", "#ffffff", line)?;
+    Ok(())
+}
+
+/// Writes what each picture begins with.
+#[tactic(auto, unfolding(crate::specs::Legend::head))]
+pub(crate) fn write_head(text: &mut Vec<u8>) -> Result<(), AllocError>
+    ensures { OnOk result (text.new.items ≡ text.old.items ++ head) }
+{
+    opening(text)?;
+    write_hatchings(text)?;
+    paper_text(text)?;
+    Ok(())
+}
+
+// Writes a sample of a fate.
+#[tactic(auto, unfolding(crate::specs::Legend::sample_of))]
+fn write_fate(text: &mut Vec<u8>, x: u64, fate: Fate) -> Result<(), AllocError>
     requires inside { x ≤ 1600 }
+    ensures { OnOk result (text.new.items ≡ text.old.items ++ sample_of x fate) }
 {
-    let fill = fill_of(fate);
-    let name = name_of(fate);
-    let after = x + 40;
-    put!(
-        text;
-        "<rect x='", x, "' y='48' width='32' height='18' fill='", fill, "' stroke='#111'/><text x='", after,
-        "' y='62'>", name, "</text>\n",
-    );
+    fate_sample(text, x, fill_of(fate), name_of(fate))
+}
+
+// Writes a sample of each fate.
+#[tactic(auto, unfolding(crate::specs::Legend::fate_samples))]
+fn write_fates(text: &mut Vec<u8>) -> Result<(), AllocError>
+    ensures { OnOk result (text.new.items ≡ text.old.items ++ fate_samples) }
+{
+    write_fate(text, 90, Fate::Committed)?;
+    write_fate(text, 320, Fate::Violation)?;
+    write_fate(text, 550, Fate::Guess)?;
+    write_fate(text, 780, Fate::Cancel)?;
+    write_fate(text, 1010, Fate::Active)?;
     Ok(())
 }
 
-// A sample of each fate.
-fn write_fates(text: &mut Vec<u8>) -> Result<(), AllocError> {
-    for (index, fate) in FATES.iter().enumerate() {
-        write_fate(*fate, LEFT + 230 * index as u64, text)?;
-    }
+// Writes a sample of a load, with a name after it.
+#[tactic(auto, unfolding(crate::specs::Legend::ring_sample))]
+fn write_ring(
+    text: &mut Vec<u8>,
+    x: u64,
+    size: u64,
+    after: u64,
+    name: &str,
+) -> Result<(), AllocError>
+    requires left { 40 ≤ x }
+    requires right { x ≤ 1600 }
+    ensures { OnOk result (text.new.items ≡ text.old.items ++ ring_sample x size after name.now) }
+{
+    ring(text, Point { x, y: 90 }, size)?;
+    sample_end(text, "circle", after, name)?;
     Ok(())
 }
 
-// A sample of each shape, with its meaning.
-fn write_shapes(text: &mut Vec<u8>) -> Result<(), AllocError> {
-    ring(text, Point { x: 106, y: 90 }, 8)?;
-    put!(text; "</circle><text x='130' y='95'>load</text>\n");
+// Writes a sample of a store.
+#[tactic(auto, unfolding(crate::specs::Legend::square_sample))]
+fn write_square(text: &mut Vec<u8>) -> Result<(), AllocError>
+    ensures { OnOk result (text.new.items ≡ text.old.items ++ square_sample) }
+{
     square(text, Point { x: 226, y: 90 }, 8)?;
-    put!(text; "</rect><text x='250' y='95'>store</text>\n");
-    diamond(text, Point { x: 346, y: 90 }, 8)?;
-    put!(text; "</path><text x='370' y='95'>word put out</text>\n");
-    put!(
-        text;
-        "<path d='M550 80V100' stroke='#2e7d32' stroke-width='2' stroke-dasharray='6 4'/><text x='562' ",
-        "y='95'>commit</text>\n",
-    );
+    sample_end(text, "rect", 250, "store")?;
     Ok(())
 }
 
-// A sample of each arrow, whose head ends at the rim of a mark of this size.
-fn write_arrows(size: u64, text: &mut Vec<u8>) -> Result<(), AllocError> {
-    put!(text; "<path d='M670 90H735' stroke='#14508c' stroke-width='2' marker-end='url(#thin)'/>");
-    ring(text, Point { x: 735, y: 90 }, size)?;
-    put!(text; "</circle><text x='755' y='95'>a version goes from its store to a reader</text>\n");
-    put!(text; "<path d='M1090 90H1160' stroke='#b01010' stroke-width='4' marker-end='url(#bold)'/>");
-    ring(text, Point { x: 1160, y: 90 }, size)?;
-    put!(text; "</circle><text x='1180' y='95'>a store finds a read too early, and squashes its task</text>\n");
-    Ok(())
-}
-
-/// Writes the heads of arrows, which end at the rim of a mark of this size.
-pub(crate) fn write_heads(size: u64, text: &mut Vec<u8>) -> Result<(), AllocError>
-    requires small { size ≤ 10 }
+// Writes a sample of an output word.
+#[tactic(auto, unfolding(crate::specs::Legend::diamond_sample))]
+fn write_diamond(text: &mut Vec<u8>) -> Result<(), AllocError>
+    ensures { OnOk result (text.new.items ≡ text.old.items ++ diamond_sample) }
 {
-    let thin = 11 + size;
-    let bold = 18 + size;
-    put!(
-        text;
-        "<defs><marker id='thin' markerWidth='12' markerHeight='10' refX='", thin,
-        "' refY='5' orient='auto' markerUnits='userSpaceOnUse'><path d='M0 0L11 5L0 10Z' ",
-        "fill='#14508c'/></marker>",
-    );
-    put!(
-        text;
-        "<marker id='bold' markerWidth='18' markerHeight='16' refX='", bold,
-        "' refY='8' orient='auto' markerUnits='userSpaceOnUse'><path d='M0 0L17 8L0 16Z' ",
-        "fill='#b01010'/></marker></defs>\n",
-    );
+    diamond(text, Point { x: 346, y: 90 }, 8)?;
+    sample_end(text, "path", 370, "word put out")?;
+    Ok(())
+}
+
+// Writes a sample of each shape.
+#[tactic(auto, unfolding(crate::specs::Legend::mark_samples))]
+fn write_shapes(text: &mut Vec<u8>) -> Result<(), AllocError>
+    ensures { OnOk result (text.new.items ≡ text.old.items ++ mark_samples) }
+{
+    write_ring(text, 106, 8, 130, "load")?;
+    write_square(text)?;
+    write_diamond(text)?;
+    commit_sample(text)?;
+    Ok(())
+}
+
+// Writes a sample of each arrow, whose head ends at the rim of a mark of this size.
+#[tactic(auto, unfolding(crate::specs::Legend::arrow_samples))]
+fn write_arrows(size: u64, text: &mut Vec<u8>) -> Result<(), AllocError>
+    ensures { OnOk result (text.new.items ≡ text.old.items ++ arrow_samples size) }
+{
+    let thin = "a version goes from its store to a reader";
+    let bold = "a store finds a read too early, and squashes its task";
+    thin_sample(text)?;
+    write_ring(text, 735, size, 755, thin)?;
+    bold_sample(text)?;
+    write_ring(text, 1160, size, 1180, bold)?;
     Ok(())
 }
 
 /// Writes the legend.
-pub(crate) fn write_legend(
-    frame: &Frame,
-    total: u64,
-    text: &mut Vec<u8>,
-) -> Result<(), AllocError> {
-    let units = frame.units;
-    let from = frame.window.from;
-    let count = frame.window.to - from;
-    put!(
-        text;
-        "<text x='", LEFT, "' y='30' font-size='18' font-weight='bold'>", count, " of ", total,
-        " entries, from entry ", from, "; units: ", units, "</text>\n",
-    );
+#[tactic(auto, unfolding(crate::specs::Legend::legend))]
+pub(crate) fn write_legend(frame: &Frame, total: u64, text: &mut Vec<u8>) -> Result<(), AllocError>
+    ensures { OnOk result (text.new.items ≡ text.old.items ++ legend frame.now.sheet total) }
+{
+    let from = frame.sheet.window.from;
+    let count = frame.sheet.window.to - from;
+    headline(text, count, total, from, u64::from(frame.sheet.units))?;
     write_fates(text)?;
     write_shapes(text)?;
-    write_arrows(frame.radius(), text)
+    write_arrows(frame.radius(), text)?;
+    Ok(())
+}
+
+// The colour of a lane: every second one is darker.
+fn lane_fill(number: u8) -> &'static str
+    ensures { result.now ≡ lane_fill number }
+{
+    if number % 2 == 0 { "#f4f5f7" } else { "#fff" }
 }
 
 // Writes a lane.
-fn write_lane(frame: &Frame, lane: u8, text: &mut Vec<u8>) -> Result<(), AllocError>
-    requires inside { lane < frame.now.units }
+#[tactic(auto, unfolding(crate::specs::Legend::lane_text))]
+fn write_lane(frame: &Frame, number: u8, text: &mut Vec<u8>) -> Result<(), AllocError>
+    requires few { number < 255 }
+    ensures { OnOk result (text.new.items ≡ text.old.items ++ lane_text frame.now.sheet number) }
 {
-    let top = frame.lane_top(lane);
-    let height = frame.lane_top(lane + 1).saturating_sub(top);
-    let fill = if lane % 2 == 0 { "#f4f5f7" } else { "#fff" };
+    let top = frame.lane_top(number);
+    let height = frame.lane_top(number + 1).saturating_sub(top);
     let middle = top + height / 2 + 5;
-    put!(
-        text;
-        "<rect x='", LEFT, "' y='", top, "' width='", WIDTH, "' height='", height, "' fill='", fill,
-        "'/><text x='20' y='", middle, "'>unit ", lane, "</text>\n",
-    );
-    Ok(())
+    let fill = lane_fill(number);
+    lane(text, u64::from(number), top, height, fill, middle)
 }
 
 /// Writes the lanes.
-pub(crate) fn write_lanes(frame: &Frame, text: &mut Vec<u8>) -> Result<(), AllocError> {
-    for lane in 0..frame.units {
-        write_lane(frame, lane, text)?;
+#[tactic(auto, unfolding(crate::specs::Legend::lanes))]
+pub(crate) fn write_lanes(frame: &Frame, text: &mut Vec<u8>) -> Result<(), AllocError>
+    ensures { OnOk result (text.new.items ≡ text.old.items ++ lanes frame.now.sheet) }
+{
+    for number in 0..frame.sheet.units {
+        write_lane(frame, number, text)?;
     }
-    put!(
-        text;
-        "<rect x='", LEFT, "' y='", TOP, "' width='", WIDTH, "' height='", HEIGHT,
-        "' fill='none' stroke='#888'/>\n",
-    );
+    border(text)?;
     Ok(())
+}
+
+// The numbers of an axis with this step have room.
+#[tactic(auto, unfolding(crate::specs::Legend::has_room))]
+fn has_room(shown: u64, step: u64) -> bool
+    requires shown { shown ≤ MAX_EVENTS }
+    requires step { step < 2 ^ 32 }
+    ensures { result ≡ has_room shown step }
+{
+    44 * shown <= step * WIDTH
+}
+
+// The first of these steps with room.
+#[tactic(auto, using(crate::proofs::Texts::step_found))]
+fn first_step(steps: &[u32], shown: u64) -> Option<u64>
+    requires { shown ≤ MAX_EVENTS }
+    ensures { result ≡ find (has_room shown) steps.now }
+{
+    for step in steps {
+        let step = u64::from(*step);
+        if has_room(shown, step) {
+            return Some(step);
+        }
+    }
+    None
 }
 
 // Every how many entries the axis has a number: as often as there is room.
-fn step_of(frame: &Frame) -> u64
-    ensures { 0 < result }
+#[tactic(auto, unfolding(crate::specs::Legend::step_for))]
+fn step_for(shown: u64) -> u64
+    requires { shown ≤ MAX_EVENTS }
+    ensures value { result ≡ step_for shown }
+    ensures some { 0 < result }
 {
-    let count = frame.count();
-    for step in STEPS {
-        let step = u64::from(step);
-        if step * WIDTH >= 44 * count {
-            return step;
-        }
-    }
-    100_000
+    first_step(&STEPS, shown).unwrap_or(100_000).max(1)
 }
 
-// Writes a number of the axis.
-fn write_place(frame: &Frame, place: u64, text: &mut Vec<u8>) -> Result<(), AllocError> {
-    let x = frame.x(place);
-    let end = BOTTOM + 7;
-    let below = BOTTOM + 22;
-    put!(
-        text;
-        "<path d='M", x, " ", BOTTOM, "V", end, "' stroke='#111'/><text x='", x, "' y='", below,
-        "' text-anchor='middle'>", place, "</text>\n",
-    );
-    Ok(())
+// Writes an entry's number, if it is a multiple of the step.
+#[tactic(auto, unfolding(crate::specs::Legend::number_at))]
+fn write_number(frame: &Frame, step: u64, place: u64, text: &mut Vec<u8>) -> Result<(), AllocError>
+    requires step { step ≡ step_for (shown frame.now.sheet) }
+    requires some { 0 < step }
+    ensures { OnOk result (text.new.items ≡ text.old.items ++ number_at frame.now.sheet place) }
+{
+    if place % step == 0 {
+        tick(text, frame.x(place), place)
+    } else {
+        Ok(())
+    }
 }
 
 /// Writes the axis.
-pub(crate) fn write_axis(frame: &Frame, text: &mut Vec<u8>) -> Result<(), AllocError> {
-    let step = step_of(frame);
-    for place in frame.window.from..frame.window.to {
-        if place % step == 0 {
-            write_place(frame, place, text)?;
-        }
+#[tactic(auto, unfolding(crate::specs::Legend::axis))]
+pub(crate) fn write_axis(frame: &Frame, text: &mut Vec<u8>) -> Result<(), AllocError>
+    ensures { OnOk result (text.new.items ≡ text.old.items ++ axis frame.now.sheet) }
+{
+    let step = step_for(frame.shown());
+    for place in frame.sheet.window.from..frame.sheet.window.to {
+        write_number(frame, step, place, text)?;
     }
-    let title = BOTTOM + 46;
-    put!(
-        text;
-        "<text x='", LEFT, "' y='", title,
-        "'>in a bar: the number of its task @ the address where that began</text>\n",
-    );
-    put!(text; "<text x='", RIGHT, "' y='", title, "' text-anchor='end'>entry of the trace, counted from 0</text>\n");
+    axis_words(text)?;
     Ok(())
 }

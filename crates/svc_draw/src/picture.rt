@@ -1,101 +1,107 @@
 // The picture of a history.
 
-ghost use Rattle.std.specs.Prelude.{◌≤◌, IfErr, length};
+ghost use Rattle.std.specs.Prelude.{◌≡◌, ◌++◌, ◌≤◌, IfErr, IfOk, OnOk, length};
 ghost use Rattle.svc_base.specs.declared.config.TheConstants.{MAX_EVENTS, MAX_UNITS};
 ghost use Rattle.svc_report.specs.Faults.{IsMemoryFault};
+ghost use Rattle.svc_draw.specs.Picture.{picture_of, picture_text, surroundings, things, words};
 
+use crate::around::{arrow_heads, closing};
 use crate::bars::{Bar, Window, bars_of};
-use crate::defs::HEAD;
-use crate::drawing::{write_bar, write_mark, write_name, write_words};
+use crate::drawing::{write_bars, write_layer, write_names};
 use crate::frame::Frame;
-use crate::legend::{write_axis, write_heads, write_lanes, write_legend};
-use crate::marks::{Mark, MarkKind, marks_of};
-use crate::rows::Rows;
+use crate::legend::{write_axis, write_head, write_lanes, write_legend};
+use crate::marks::{Mark, marks_of};
+use crate::sheet::Sheet;
+use crate::values::write_values;
 use std::alloc::{AllocError, Global};
 use svc_history_laws::Entry;
 use svc_report::ReportError;
-use svc_text::put;
 
-// Which marks lie below which: lines of commits, then arrows, then shapes.
-fn layer(kind: MarkKind) -> u8 {
-    match kind {
-        MarkKind::Commit => 0,
-        MarkKind::Handed | MarkKind::Squash => 1,
-        MarkKind::Load | MarkKind::Store | MarkKind::PutOut => 2,
-    }
-}
-
-// Writes the marks of a layer.
-fn write_layer(
-    frame: &Frame,
-    rows: &Rows,
-    marks: &[Mark],
-    wanted: u8,
-    text: &mut Vec<u8>,
-) -> Result<(), AllocError> {
-    for mark in marks {
-        if layer(mark.kind) == wanted {
-            write_mark(frame, rows, mark, text)?;
-        }
-    }
+// Writes what lies below: the heads of arrows, the legend and the lanes.
+#[tactic(auto, unfolding(crate::specs::Picture::surroundings))]
+fn write_surroundings(frame: &Frame, total: u64, text: &mut Vec<u8>) -> Result<(), AllocError>
+    ensures { OnOk result (text.new.items ≡ text.old.items ++ surroundings frame.now.sheet total) }
+{
+    write_head(text)?;
+    arrow_heads(text, frame.radius())?;
+    write_legend(frame, total, text)?;
+    write_lanes(frame, text)?;
     Ok(())
 }
 
-// Writes the texts of the marks, if there is room.
-fn write_values(frame: &Frame, marks: &[Mark], text: &mut Vec<u8>) -> Result<(), AllocError> {
-    if !frame.is_wide() {
-        return Ok(());
-    }
-    for mark in marks {
-        write_words(frame, mark, text)?;
-    }
-    Ok(())
-}
-
-// Writes the bars.
-fn write_bars(frame: &Frame, bars: &[Bar], text: &mut Vec<u8>) -> Result<(), AllocError> {
-    for bar in bars {
-        write_bar(frame, bar, text)?;
-    }
-    Ok(())
-}
-
-// Writes the texts of the bars.
-fn write_names(frame: &Frame, bars: &[Bar], text: &mut Vec<u8>) -> Result<(), AllocError> {
-    for bar in bars {
-        write_name(frame, bar, text)?;
-    }
-    Ok(())
-}
-
-// The text of a picture with these rows, bars and marks, of a history of this many entries.
-fn text_of(
+// Writes the bars, and on them the marks, layer by layer.
+#[tactic(auto, unfolding(crate::specs::Picture::things))]
+fn write_things(
     alloc: Global,
     frame: &Frame,
-    total: usize,
-    rows: &Rows,
     bars: &[Bar],
     marks: &[Mark],
-) -> Result<Vec<u8>, AllocError> {
+    text: &mut Vec<u8>,
+) -> Result<(), AllocError>
+    ensures { OnOk result (text.new.items ≡ text.old.items ++ things frame.now.sheet bars.now marks.now) }
+{
+    write_bars(frame, bars, text)?;
+    write_layer(alloc, frame, 0, marks, text)?;
+    write_layer(alloc, frame, 1, marks, text)?;
+    write_layer(alloc, frame, 2, marks, text)?;
+    Ok(())
+}
+
+// Writes the words on these.
+#[tactic(auto, unfolding(crate::specs::Picture::words))]
+fn write_words(
+    frame: &Frame,
+    bars: &[Bar],
+    marks: &[Mark],
+    text: &mut Vec<u8>,
+) -> Result<(), AllocError>
+    ensures { OnOk result (text.new.items ≡ text.old.items ++ words frame.now.sheet bars.now marks.now) }
+{
+    write_values(frame, marks, text)?;
+    write_names(frame, bars, text)?;
+    write_axis(frame, text)?;
+    Ok(())
+}
+
+// Writes a picture of these bars and marks, of a history of so many entries.
+#[tactic(auto, unfolding(crate::specs::Picture::picture_text))]
+fn write_picture(
+    alloc: Global,
+    frame: &Frame,
+    total: u64,
+    bars: &[Bar],
+    marks: &[Mark],
+    text: &mut Vec<u8>,
+) -> Result<(), AllocError>
+    ensures { OnOk result (text.new.items
+        ≡ text.old.items ++ picture_text frame.now.sheet total bars.now marks.now) }
+{
+    write_surroundings(frame, total, text)?;
+    write_things(alloc, frame, bars, marks, text)?;
+    write_words(frame, bars, marks, text)?;
+    closing(text)?;
+    Ok(())
+}
+
+// The picture of these bars and marks.
+fn picture(
+    alloc: Global,
+    frame: &Frame,
+    total: u64,
+    bars: &[Bar],
+    marks: &[Mark],
+) -> Result<Vec<u8>, AllocError>
+    ensures { IfOk result (λ text. text.items ≡ picture_text frame.now.sheet total bars.now marks.now) }
+{
     let mut text = Vec::new(alloc);
-    put!(&mut text; HEAD);
-    write_heads(frame.radius(), &mut text)?;
-    write_legend(frame, total as u64, &mut text)?;
-    write_lanes(frame, &mut text)?;
-    write_bars(frame, bars, &mut text)?;
-    for wanted in 0..3 {
-        write_layer(frame, rows, marks, wanted, &mut text)?;
-    }
-    write_values(frame, marks, &mut text)?;
-    write_names(frame, bars, &mut text)?;
-    write_axis(frame, &mut text)?;
-    put!(&mut text; "</svg>\n");
+    write_picture(alloc, frame, total, bars, marks, &mut text)?;
     Ok(text)
 }
 
 /// The picture of `count` of a history's entries, from an index on: one SVG that needs no other file.
 ///
 /// Errors: [`ReportError::Memory`].
+#[tactic(auto, unfolding(crate::specs::Picture::picture_of))]
 pub fn draw(
     alloc: Global,
     entries: &[Entry],
@@ -106,16 +112,19 @@ pub fn draw(
     requires few { length entries.now ≤ MAX_EVENTS }
     requires some_units { 1 ≤ units }
     requires few_units { units ≤ MAX_UNITS }
+    ensures ok { IfOk result (λ text. text.items ≡ picture_of entries.now units from count) }
     ensures err { IfErr result IsMemoryFault }
 {
     let window = Window::of(entries, from, count);
     let bars = bars_of(alloc, entries, &window)?;
     let marks = marks_of(alloc, entries, &window, &bars)?;
-    let rows = Rows::of(alloc, &entries[window.from as usize..window.to as usize])?;
     let frame = Frame {
-        window,
-        units: units as u8,
+        sheet: Sheet {
+            window,
+            units: units as u8,
+        },
     };
-    let text = text_of(alloc, &frame, entries.len(), &rows, &bars, &marks)?;
+    let total = entries.len() as u64;
+    let text = picture(alloc, &frame, total, &bars, &marks)?;
     Ok(text)
 }

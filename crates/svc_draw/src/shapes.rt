@@ -1,43 +1,276 @@
-// The shapes of marks, each around a point and with half its size.
+// The shapes of bars and marks.
 
-ghost use Rattle.std.specs.Prelude.{◌≤◌};
+ghost use Rattle.std.specs.Prelude.{◌≡◌, ◌≤◌, ◌++◌, OnOk, flat_map};
+ghost use Rattle.svc_draw.specs.Parts.{part_text};
+ghost use Rattle.svc_draw.specs.Shapes.{label, ring, square, diamond, commit_line, thin_arrow, bold_arrow, close, title_open, bar_box, box_title, label_open, label_close};
 
 use crate::frame::Point;
+use crate::parts::{Part, put_parts};
+use crate::sheet::{BOTTOM, TOP};
 use std::alloc::AllocError;
-use svc_text::put;
 
 /// A ring: a load.
-pub(crate) fn ring(text: &mut Vec<u8>, middle: Point, size: u64) -> Result<(), AllocError> {
-    let Point { x, y } = middle;
-    put!(text; "<circle cx='", x, "' cy='", y, "' r='", size, "' fill='#fff' stroke='#111' stroke-width='2'>");
-    Ok(())
+#[tactic(auto, unfolding(crate::specs::Shapes::ring))]
+pub(crate) fn ring(text: &mut Vec<u8>, middle: Point, size: u64) -> Result<(), AllocError>
+    ensures { OnOk result (text.new.items ≡ text.old.items ++ ring middle.x middle.y size) }
+{
+    put_parts(
+        text,
+        &[
+            Part::Text("<circle cx='"),
+            Part::Number(middle.x),
+            Part::Text("' cy='"),
+            Part::Number(middle.y),
+            Part::Text("' r='"),
+            Part::Number(size),
+            Part::Text("' fill='#fff' stroke='#111' stroke-width='2'>"),
+        ],
+    )
 }
 
 /// A full square: a store.
+#[tactic(auto, unfolding(crate::specs::Shapes::square))]
 pub(crate) fn square(text: &mut Vec<u8>, middle: Point, size: u64) -> Result<(), AllocError>
     requires small { size ≤ 10 }
+    ensures { OnOk result (text.new.items ≡ text.old.items ++ square middle.x middle.y size) }
 {
-    let left = middle.x - size;
-    let top = middle.y - size;
-    let side = 2 * size;
-    put!(text; "<rect x='", left, "' y='", top, "' width='", side, "' height='", side, "' fill='#111'>");
-    Ok(())
+    put_parts(
+        text,
+        &[
+            Part::Text("<rect x='"),
+            Part::Number(middle.x - size),
+            Part::Text("' y='"),
+            Part::Number(middle.y - size),
+            Part::Text("' width='"),
+            Part::Number(2 * size),
+            Part::Text("' height='"),
+            Part::Number(2 * size),
+            Part::Text("' fill='#111'>"),
+        ],
+    )
 }
 
 /// A diamond: an output word.
+#[tactic(auto, unfolding(crate::specs::Shapes::diamond))]
 pub(crate) fn diamond(text: &mut Vec<u8>, middle: Point, size: u64) -> Result<(), AllocError>
     requires small { size ≤ 10 }
+    ensures { OnOk result (text.new.items ≡ text.old.items ++ diamond middle.x middle.y size) }
 {
     let Point { x, y } = middle;
     let half = size + 2;
-    let left = x - half;
-    let right = x + half;
-    let top = y - half;
-    let bottom = y + half;
-    put!(
-        text;
-        "<path d='M", left, " ", y, "L", x, " ", top, "L", right, " ", y, "L", x, " ", bottom,
-        "Z' fill='#ffe04a' stroke='#111' stroke-width='2'>",
-    );
+    put_parts(
+        text,
+        &[
+            Part::Text("<path d='M"),
+            Part::Number(x - half),
+            Part::Text(" "),
+            Part::Number(y),
+            Part::Text("L"),
+            Part::Number(x),
+            Part::Text(" "),
+            Part::Number(y - half),
+            Part::Text("L"),
+            Part::Number(x + half),
+            Part::Text(" "),
+            Part::Number(y),
+            Part::Text("L"),
+            Part::Number(x),
+            Part::Text(" "),
+            Part::Number(y + half),
+            Part::Text("Z' fill='#ffe04a' stroke='#111' stroke-width='2'>"),
+        ],
+    )
+}
+
+/// A broken line across all lanes: a commit.
+#[tactic(auto, unfolding(crate::specs::Shapes::commit_line))]
+pub(crate) fn commit_line(text: &mut Vec<u8>, x: u64) -> Result<(), AllocError>
+    ensures { OnOk result (text.new.items ≡ text.old.items ++ commit_line x) }
+{
+    put_parts(
+        text,
+        &[
+            Part::Text("<path d='M"),
+            Part::Number(x),
+            Part::Text(" "),
+            Part::Number(TOP),
+            Part::Text("V"),
+            Part::Number(BOTTOM),
+            Part::Text("' fill='none' stroke='#2e7d32' stroke-width='2' stroke-dasharray='6 4'>"),
+        ],
+    )
+}
+
+/// A thin arrow: a version goes to its reader.
+#[tactic(auto, unfolding(crate::specs::Shapes::thin_arrow))]
+pub(crate) fn thin_arrow(text: &mut Vec<u8>, from: Point, to: Point) -> Result<(), AllocError>
+    ensures { OnOk result (text.new.items ≡ text.old.items ++ thin_arrow from.x from.y to.x to.y) }
+{
+    put_parts(
+        text,
+        &[
+            Part::Text("<path d='M"),
+            Part::Number(from.x),
+            Part::Text(" "),
+            Part::Number(from.y),
+            Part::Text("L"),
+            Part::Number(to.x),
+            Part::Text(" "),
+            Part::Number(to.y),
+            Part::Text("' fill='none' stroke='#14508c' stroke-width='2' marker-end='url(#thin)'>"),
+        ],
+    )
+}
+
+/// A bold arrow: a store squashes a reader.
+#[tactic(auto, unfolding(crate::specs::Shapes::bold_arrow))]
+pub(crate) fn bold_arrow(text: &mut Vec<u8>, from: Point, to: Point) -> Result<(), AllocError>
+    ensures { OnOk result (text.new.items ≡ text.old.items ++ bold_arrow from.x from.y to.x to.y) }
+{
+    put_parts(
+        text,
+        &[
+            Part::Text("<path d='M"),
+            Part::Number(from.x),
+            Part::Text(" "),
+            Part::Number(from.y),
+            Part::Text("L"),
+            Part::Number(to.x),
+            Part::Text(" "),
+            Part::Number(to.y),
+            Part::Text("' fill='none' stroke='#b01010' stroke-width='4' marker-end='url(#bold)'>"),
+        ],
+    )
+}
+
+/// The end of a mark's element.
+#[tactic(auto, unfolding(crate::specs::Shapes::close))]
+pub(crate) fn close(text: &mut Vec<u8>, element: &str) -> Result<(), AllocError>
+    ensures { OnOk result (text.new.items ≡ text.old.items ++ close element.now) }
+{
+    put_parts(
+        text,
+        &[Part::Text("</"), Part::Text(element), Part::Text(">\n")],
+    )
+}
+
+/// The beginning of the title that shows at the pointer.
+#[tactic(auto, unfolding(crate::specs::Shapes::title_open))]
+pub(crate) fn title_open(text: &mut Vec<u8>, place: u64) -> Result<(), AllocError>
+    ensures { OnOk result (text.new.items ≡ text.old.items ++ title_open place) }
+{
+    put_parts(
+        text,
+        &[
+            Part::Text("<title>entry "),
+            Part::Number(place),
+            Part::Text(": "),
+        ],
+    )
+}
+
+/// A box: a bar.
+#[tactic(auto, unfolding(crate::specs::Shapes::bar_box))]
+pub(crate) fn bar_box(
+    text: &mut Vec<u8>,
+    x: u64,
+    y: u64,
+    width: u64,
+    height: u64,
+    fill: &str,
+) -> Result<(), AllocError>
+    ensures { OnOk result (text.new.items ≡ text.old.items ++ bar_box x y width height fill.now) }
+{
+    put_parts(
+        text,
+        &[
+            Part::Text("<rect x='"),
+            Part::Number(x),
+            Part::Text("' y='"),
+            Part::Number(y),
+            Part::Text("' width='"),
+            Part::Number(width),
+            Part::Text("' height='"),
+            Part::Number(height),
+            Part::Text("' rx='3' fill='"),
+            Part::Text(fill),
+            Part::Text("' stroke='#333'>"),
+        ],
+    )
+}
+
+/// The title of a bar, and its end.
+#[tactic(auto, unfolding(crate::specs::Shapes::box_title))]
+pub(crate) fn box_title(
+    text: &mut Vec<u8>,
+    number: u64,
+    entry: u64,
+    first: u64,
+    fate: &str,
+    turns: u64,
+) -> Result<(), AllocError>
+    ensures { OnOk result (text.new.items ≡ text.old.items ++ box_title number entry first fate.now turns) }
+{
+    put_parts(
+        text,
+        &[
+            Part::Text("<title>task "),
+            Part::Number(number),
+            Part::Text(" at address "),
+            Part::Number(entry),
+            Part::Text(", begun by entry "),
+            Part::Number(first),
+            Part::Text(": "),
+            Part::Text(fate),
+            Part::Text("; turns: "),
+            Part::Number(turns),
+            Part::Text("</title></rect>\n"),
+        ],
+    )
+}
+
+/// The beginning of words in black on a white rim.
+#[tactic(auto, unfolding(crate::specs::Shapes::label_open))]
+pub(crate) fn label_open(text: &mut Vec<u8>, x: u64, y: u64, style: &str) -> Result<(), AllocError>
+    ensures { OnOk result (text.new.items ≡ text.old.items ++ label_open x y style.now) }
+{
+    put_parts(
+        text,
+        &[
+            Part::Text("<text x='"),
+            Part::Number(x),
+            Part::Text("' y='"),
+            Part::Number(y),
+            Part::Text("' "),
+            Part::Text(style),
+            Part::Text(
+                " paint-order='stroke' stroke='#fff' stroke-width='4' stroke-linejoin='round'>",
+            ),
+        ],
+    )
+}
+
+/// The end of such words.
+#[tactic(auto, unfolding(crate::specs::Shapes::label_close))]
+pub(crate) fn label_close(text: &mut Vec<u8>) -> Result<(), AllocError>
+    ensures { OnOk result (text.new.items ≡ text.old.items ++ label_close) }
+{
+    put_parts(text, &[Part::Text("</text>\n")])
+}
+
+/// Words in black on a white rim.
+#[tactic(auto, unfolding(crate::specs::Shapes::label))]
+pub(crate) fn label(
+    text: &mut Vec<u8>,
+    x: u64,
+    y: u64,
+    style: &str,
+    words: &[Part<'_>],
+) -> Result<(), AllocError>
+    ensures { OnOk result (text.new.items ≡ text.old.items ++ label x y style.now (flat_map part_text words.now)) }
+{
+    label_open(text, x, y, style)?;
+    put_parts(text, words)?;
+    label_close(text)?;
     Ok(())
 }

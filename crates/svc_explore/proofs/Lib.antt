@@ -3,7 +3,6 @@ pub mod OnePath
 pub mod KeyLists
 pub mod KeyTells
 pub mod Leading
-pub mod Rosters
 pub mod Exploring
 pub mod Growing
 pub mod Founding

@@ -12,10 +12,11 @@ use Rattle.svc_explore_laws.specs.Closed.{AreIn, IsIn, ShowNothingElse, ShowsFou
 use Rattle.svc_explore_laws.specs.Moves.{IsTurn, Plays}
 use Rattle.svc_explore_laws.specs.Observations.{observations}
 use Rattle.svc_explore.specs.declared.found.Seen.{Seen}
-use Rattle.svc_explore.specs.declared.sought.Sought.{Sought}
+use Rattle.svc_observations.specs.declared.sought.Sought.{Sought}
 use Rattle.svc_explore.specs.Found.{are_seen}
 use Rattle.svc_explore.specs.Recorders.{PlaysTo}
-use Rattle.svc_explore.specs.Sought.{Matches, ShowNoMatch, ShowsSight}
+use Rattle.svc_observations.specs.Sought.{Matches}
+use Rattle.svc_explore.specs.Witnesses.{ShowNoMatch, ShowsSight}
 use Rattle.svc_explore.proofs.Growing.{map_append}
 use Rattle.svc_explore.proofs.Permuting.{all_get}
 use Rattle.svc_explore.proofs.PlayEnds.{is_play}

@@ -18,7 +18,7 @@ use Rattle.svc_explore_laws.specs.Closed.{AreIn, IsClosed, IsExplored, IsIn, Sho
 use Rattle.svc_explore_laws.specs.Moves.{Plays}
 use Rattle.svc_explore.specs.declared.found.Seen.{Seen}
 use Rattle.svc_explore.specs.Found.{AreOnce, AreWitnessed, IsShown, are_seen}
-use Rattle.svc_explore.specs.Order.{AreInOrder, places_of}
+use Rattle.svc_observations.specs.Order.{AreInOrder, places_of}
 use Rattle.svc_explore.proofs.Exploring.{all_at}
 
 -- ---- lists that hold the same

@@ -22,7 +22,7 @@ use Rattle.svc_explore_laws.proofs.FutureMoves.{only_alike}
 use Rattle.svc_explore_laws.proofs.FutureSteps.{future_step}
 use Rattle.svc_explore_laws.proofs.Keys.{future_refl}
 use Rattle.svc_explore.specs.Recorders.{GaveFew, HasMoved, LeadsOnly, PlaysTo}
-use Rattle.svc_explore.specs.Sought.{IsWitness, ShowsSight}
+use Rattle.svc_explore.specs.Witnesses.{IsWitness, ShowsSight}
 use Rattle.svc_explore.specs.Tries.{Shows}
 use Rattle.svc_explore.proofs.Leading.{has_room}
 use Rattle.svc_explore.proofs.NoMatch.{shown_last}

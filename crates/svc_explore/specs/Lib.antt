@@ -1,10 +1,8 @@
 pub mod Recorders
 pub mod KeyWords
-pub mod Sights
 pub mod Search
 pub mod Tries
 pub mod Found
-pub mod Order
 pub mod Counts
 pub mod Rows
-pub mod Sought
+pub mod Witnesses

@@ -12,13 +12,13 @@ ghost use Rattle.svc_history_laws.specs.declared.entry.Entry.{Entry};
 
 use crate::key::key_of;
 use crate::moves::{keeps, make_move};
-use crate::sight::{happened, roster_of, squashed};
 use std::alloc::{AllocError, Global};
 use svc_base::{Config, UnitId};
 use svc_explore_laws::Observation;
 use svc_history::Recorder;
 use svc_history_laws::Entry;
 use svc_image::Image;
+use svc_observations::{happened, roster_of, squashed};
 
 // A machine of the image before any event.
 fn open_recorder(alloc: Global, image: &Image, config: Config) -> Result<Recorder, AllocError>

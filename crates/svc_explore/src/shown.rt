@@ -2,7 +2,7 @@
 
 ghost use Rattle.std.specs.Prelude.{IfOk};
 ghost use Rattle.svc_explore.specs.Found.{IsShown};
-ghost use Rattle.svc_explore.specs.Sought.{IsWitness};
+ghost use Rattle.svc_explore.specs.Witnesses.{IsWitness};
 
 use crate::found::Seen;
 use crate::moves::{keeps, make_move};

@@ -5,7 +5,7 @@ ghost use Rattle.svc_machine_laws.specs.Standing.{opened_at};
 ghost use Rattle.svc_explore_laws.specs.Closed.{IsIn, ShowNothingElse};
 ghost use Rattle.svc_explore.specs.Counts.{AddsPlace, HasFull, IsDepth, IsLongest, IsSound, IsTold, KeepsLimits};
 ghost use Rattle.svc_explore.specs.Found.{AreWitnessed, are_seen};
-ghost use Rattle.svc_explore.specs.Order.{AreInOrder};
+ghost use Rattle.svc_observations.specs.Order.{AreInOrder};
 ghost use Rattle.svc_explore.specs.Search.{GrowsTo, IsExploredAt, IsPartlyClosed, are_keys, image_key};
 
 use crate::found::{Seen, note_seen};

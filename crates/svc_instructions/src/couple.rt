@@ -5,15 +5,19 @@ ghost use Rattle.std.specs.List.{find};
 ghost use Rattle.svc_draft.specs.Layouts.{layout_of};
 ghost use Rattle.svc_operands.specs.Operands.{Gives};
 ghost use Rattle.svc_instructions.specs.Instructions.{joined};
-ghost use Rattle.svc_instructions.specs.Couples.{has_name, with_high, with_low, apart, destination_at, couple_at, set_to, set_at, relative_upper_at, single_at, instruction_at};
+ghost use Rattle.svc_instructions.specs.Couples.{has_name, with_high, with_low, apart, past_plt, pair_at, linked_at, couple_at, label_at, load_at, with_store, store_at, access_at, other_at, set_to, set_at, relative_upper_at, single_at, instruction_at};
 
-use crate::reading::{joined, read_alone};
-use crate::table::{COUPLES, Couple, Part};
+use crate::reading::{further, joined, read_alone};
+use crate::table::{COUPLES, Couple, LOADS, Part, STORES, Through};
 use svc_draft::{Draft, Statement};
 use svc_operands::{
-    Name, Read, Wanted, fitted, from_here, high_part, is_word, padded, read_first_register,
-    read_mark, read_relative, read_signed, read_value, stopped_at, stopped_at_name,
+    Name, Read, Unread, Wanted, fitted, from_here, high_part, is_over, is_word, number_named,
+    padded, read_first_register, read_mark, read_register, read_relative, read_signed, read_value,
+    skip_mark, split_name, stopped_at, stopped_at_name,
 };
+
+// The word of auipc where each operand is 0.
+const AUIPC: u32 = 0x17;
 
 pub fn couple_named(couples: &[Couple], name: Name) -> Option<Couple>
     ensures { result ≡ find (has_name name) couples.now }
@@ -48,27 +52,113 @@ fn apart(first: u32, second: u32, rd: u32, number: u32) -> Statement
     Statement::Pair(with_high(first, rd, number), with_low(second, rd, number))
 }
 
-#[tactic(auto, unfolding(crate::specs::Couples::destination_at))]
-fn read_destination(named: bool, text: &[u8]) -> Read<'_, u32>
-    ensures { Gives (λ x. (x.0, x.1.now)) result (destination_at named text.now) }
+// What is left behind `@plt`.
+fn skip_plt(text: &[u8]) -> &[u8]
+    ensures { result.now ≡ past_plt text.now }
 {
-    if !named {
-        return Ok((0, text));
+    if let Some(rest) = skip_mark(b'@', text) {
+        let (name, behind) = split_name(rest);
+        if is_word(name, "plt") {
+            return behind;
+        }
     }
-    let (register, rest) = read_first_register(text)?;
-    Ok((register.number as u32, rest))
+    text
+}
+
+#[tactic(auto, unfolding(crate::specs::Couples::pair_at))]
+fn read_pair<'a>(
+    draft: &Draft,
+    first: u32,
+    second: u32,
+    rd: u32,
+    text: &'a [u8],
+) -> Read<'a, Statement>
+    ensures { Gives (λ x. (x.0, x.1.now)) result (pair_at (layout_of draft.now) first second rd text.now) }
+{
+    let (address, rest) = read_value(draft, text)?;
+    let words = apart(first, second, rd, from_here(draft, address));
+    Ok((words, skip_plt(rest)))
+}
+
+// A call that leaves in this register where it returns, through `t1`.
+fn read_linked<'a>(draft: &Draft, rd: u32, text: &'a [u8]) -> Read<'a, Statement>
+    ensures { Gives (λ x. (x.0, x.1.now)) result (linked_at (layout_of draft.now) rd text.now) }
+{
+    read_pair(draft, 0x0317, joined(0x0003_0067, Part::Rd, rd), 0, text)
 }
 
 #[tactic(auto, unfolding(crate::specs::Couples::couple_at))]
 pub fn read_couple<'a>(draft: &Draft, couple: Couple, text: &'a [u8]) -> Read<'a, Statement>
     ensures { Gives (λ x. (x.0, x.1.now)) result (couple_at (layout_of draft.now) couple text.now) }
 {
-    let (rd, rest) = read_destination(couple.3, text)?;
-    let (address, rest) = read_value(draft, rest)?;
-    Ok((
-        apart(couple.1, couple.2, rd, from_here(draft, address)),
-        rest,
-    ))
+    let Couple(_, first, second, through) = couple;
+    match (through, read_first_register(text)) {
+        (Through::Own, _) | (Through::Link, Err(_)) => read_pair(draft, first, second, 0, text),
+        (Through::First, Ok((rd, rest))) => {
+            read_pair(draft, first, second, rd.number as u32, rest)
+        }
+        (Through::First, Err(unread)) => Err(unread),
+        (Through::Link, Ok((rd, rest))) => read_linked(draft, rd.number as u32, rest),
+    }
+}
+
+// A value that no number begins.
+#[tactic(auto, unfolding(crate::specs::Couples::label_at))]
+fn read_label<'a>(draft: &Draft, text: &'a [u8]) -> Read<'a, u32>
+    ensures { Gives (λ x. (x.0, x.1.now)) result (label_at (layout_of draft.now) text.now) }
+{
+    match read_signed(text) {
+        Ok(_) => Err(stopped_at(text, Wanted::Value)),
+        Err(_) => read_value(draft, text),
+    }
+}
+
+#[tactic(auto, unfolding(crate::specs::Couples::load_at))]
+fn read_load<'a>(draft: &Draft, word: u32, text: &'a [u8]) -> Read<'a, Statement>
+    ensures { Gives (λ x. (x.0, x.1.now)) result (load_at (layout_of draft.now) word text.now) }
+{
+    let (rd, rest) = read_first_register(text)?;
+    let (address, rest) = read_label(draft, rest)?;
+    let words = apart(AUIPC, word, rd.number as u32, from_here(draft, address));
+    Ok((words, rest))
+}
+
+fn with_store(word: u32, rs2: u32, rs1: u32, number: u32) -> u32
+    ensures { result ≡ with_store word rs2 rs1 number }
+{
+    joined(
+        joined(joined(word, Part::Rs2, rs2), Part::Rs1, rs1),
+        Part::StoreOffset,
+        number,
+    )
+}
+
+#[tactic(auto, unfolding(crate::specs::Couples::store_at))]
+fn read_store<'a>(draft: &Draft, word: u32, text: &'a [u8]) -> Read<'a, Statement>
+    ensures { Gives (λ x. (x.0, x.1.now)) result (store_at (layout_of draft.now) word text.now) }
+{
+    let (rs, rest) = read_first_register(text)?;
+    let (address, rest) = read_label(draft, rest)?;
+    let rest = read_mark(b',', Wanted::Comma, rest)?;
+    let (through, rest) = read_register(rest)?;
+    let distance = from_here(draft, address);
+    let high = with_high(AUIPC, through.number as u32, distance);
+    let store = with_store(word, rs.number as u32, through.number as u32, distance);
+    Ok((Statement::Pair(high, store), rest))
+}
+
+// An access by a label, or this fault where the name is no access's.
+#[tactic(auto, unfolding(crate::specs::Couples::access_at))]
+fn read_access<'a>(draft: &Draft, name: &[u8], text: &'a [u8], fault: Unread) -> Read<'a, Statement>
+    ensures { Gives (λ x. (x.0, x.1.now)) result (access_at (layout_of draft.now) name.now text.now) }
+{
+    if let Some(word) = number_named(&LOADS, name) {
+        return read_load(draft, word, text);
+    }
+    match number_named(&STORES, name) {
+        Some(word) => read_store(draft, word, text),
+        None => Err(fault),
+    }
 }
 
 fn set_to(rd: u32, number: u32) -> Statement
@@ -102,7 +192,7 @@ pub fn read_relative_upper<'a>(draft: &Draft, text: &'a [u8]) -> Read<'a, Statem
     let (rd, rest) = read_first_register(text)?;
     let part = read_mark(b'%', Wanted::High, rest)?;
     let (distance, rest) = read_relative(draft, part)?;
-    let word = with_high(0x17, rd.number as u32, distance);
+    let word = with_high(AUIPC, rd.number as u32, distance);
     Ok((Statement::Relative(word, distance), rest))
 }
 
@@ -123,6 +213,25 @@ fn read_single<'a>(draft: &Draft, name: &[u8], letters: Name, text: &'a [u8]) ->
     )
 }
 
+#[tactic(auto, unfolding(crate::specs::Couples::other_at))]
+fn read_other<'a>(draft: &Draft, name: &[u8], letters: Name, text: &'a [u8]) -> Read<'a, Statement>
+    ensures { Gives (λ x. (x.0, x.1.now)) result (other_at (layout_of draft.now) name.now letters text.now) }
+{
+    match read_single(draft, name, letters, text) {
+        Ok(read) => Ok(read),
+        Err(fault) => match read_access(draft, name, text, fault) {
+            Ok((statement, rest)) => {
+                if is_over(rest) {
+                    Ok((statement, rest))
+                } else {
+                    Err(fault)
+                }
+            }
+            Err(later) => Err(further(fault, later)),
+        },
+    }
+}
+
 /// The instruction, or the two, that a name and its operands stand for.
 #[tactic(auto, unfolding(crate::specs::Couples::instruction_at))]
 pub fn read_instruction<'a>(draft: &Draft, name: &[u8], text: &'a [u8]) -> Read<'a, Statement>
@@ -137,6 +246,6 @@ pub fn read_instruction<'a>(draft: &Draft, name: &[u8], text: &'a [u8]) -> Read<
     };
     match couple_named(&COUPLES, letters) {
         Some(couple) => read_couple(draft, couple, text),
-        None => read_single(draft, name, letters, text),
+        None => read_other(draft, name, letters, text),
     }
 }

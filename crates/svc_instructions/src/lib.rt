@@ -7,4 +7,6 @@ mod table;
 
 pub use couple::read_instruction;
 pub use reading::{ORDERS, row_of, taken};
-pub use table::{ALIASES, COUPLES, Couple, Operands, Part, ROWS, Row, parts_of};
+pub use table::{
+    ALIASES, COUPLES, Couple, LOADS, Operands, Part, ROWS, Row, STORES, Through, parts_of,
+};

@@ -155,10 +155,12 @@ fn read_row<'a>(draft: &Draft, row: &Row, text: &'a [u8]) -> Read<'a, u32>
     }
 }
 
-// Of the faults of two rows the one that is further on, or the later row's. Where only a comma was wanted, the earlier
-// row isn't what was meant.
-fn further(fault: Unread, later: Unread) -> Unread {
-    if later.left <= fault.left || matches!(fault.wanted, Wanted::Comma) {
+/// Of the faults of two rows the one that is further on, or at one place the later row's, unless that only wants a
+/// number or a parenthesis. Where only a comma was wanted, the earlier row isn't what was meant.
+pub fn further(fault: Unread, later: Unread) -> Unread {
+    let replaces = later.left < fault.left
+        || (later.left == fault.left && !matches!(later.wanted, Wanted::Number | Wanted::Open));
+    if replaces || matches!(fault.wanted, Wanted::Comma) {
         later
     } else {
         fault

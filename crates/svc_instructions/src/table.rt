@@ -6,7 +6,8 @@ ghost use Rattle.svc_instructions.specs.Instructions.{parts_of};
 use Part::{
     Amount, Base, Branch, Comma, End, Immediate, Jump, Order, Rd, Rs1, Rs2, StoreOffset, Upper,
 };
-use svc_operands::Name;
+use Through::{First, Link, Own};
+use svc_operands::{Name, Named};
 
 /// A part of an instruction's operands, in the order of the text.
 #[derive(Clone, Copy)]
@@ -89,6 +90,18 @@ const SOURCE: Operands = Operands(Rs1, End, End, End, End);
 
 const FENCE: Operands = Operands(Order, End, End, End, End);
 
+const REVERSED: Operands = Operands(Rd, Comma, Rs2, Comma, Rs1);
+
+const LOAD_AT: Operands = Operands(Rd, Comma, Base, End, End);
+
+const STORE_AT: Operands = Operands(Rs2, Comma, Base, End, End);
+
+const JUMP_FROM: Operands = Operands(Immediate, Base, End, End, End);
+
+const JUMP_AT: Operands = Operands(Base, End, End, End, End);
+
+const JUMP_BY: Operands = Operands(Rs1, Comma, Immediate, End, End);
+
 /// The instructions that a listing shows: those of RV32I (RV32/64G Instruction Set Listings) but for FENCE.
 pub static ROWS: [Row; 39] = [
     Row(*b"lui             ", 0x0000_0037, UPPER),
@@ -133,14 +146,17 @@ pub static ROWS: [Row; 39] = [
 ];
 
 /// FENCE, other names of instructions, and names with fewer operands.
-pub static ALIASES: [Row; 25] = [
+pub static ALIASES: [Row; 54] = [
     Row(*b"mv              ", 0x0000_0013, MOVE),
+    Row(*b"move            ", 0x0000_0013, MOVE),
     Row(*b"not             ", 0xfff0_4013, MOVE),
     Row(*b"neg             ", 0x4000_0033, MOVE_SECOND),
     Row(*b"seqz            ", 0x0010_3013, MOVE),
     Row(*b"snez            ", 0x0000_3033, MOVE_SECOND),
     Row(*b"sltz            ", 0x0000_2033, MOVE),
     Row(*b"sgtz            ", 0x0000_2033, MOVE_SECOND),
+    Row(*b"sgt             ", 0x0000_2033, REVERSED),
+    Row(*b"sgtu            ", 0x0000_3033, REVERSED),
     Row(*b"beqz            ", 0x0000_0063, TEST),
     Row(*b"bnez            ", 0x0000_1063, TEST),
     Row(*b"blez            ", 0x0000_5063, TEST_SECOND),
@@ -159,17 +175,70 @@ pub static ALIASES: [Row; 25] = [
     Row(*b"jalr            ", 0x0000_00e7, SOURCE),
     Row(*b"fence           ", 0x0000_000f, FENCE),
     Row(*b"fence.tso       ", 0x8330_000f, NONE),
+    Row(*b"add             ", 0x0000_0013, SHORT),
+    Row(*b"slt             ", 0x0000_2013, SHORT),
+    Row(*b"sltu            ", 0x0000_3013, SHORT),
+    Row(*b"xor             ", 0x0000_4013, SHORT),
+    Row(*b"or              ", 0x0000_6013, SHORT),
+    Row(*b"and             ", 0x0000_7013, SHORT),
+    Row(*b"sll             ", 0x0000_1013, SHIFT),
+    Row(*b"srl             ", 0x0000_5013, SHIFT),
+    Row(*b"sra             ", 0x4000_5013, SHIFT),
+    Row(*b"lb              ", 0x0000_0003, LOAD_AT),
+    Row(*b"lh              ", 0x0000_1003, LOAD_AT),
+    Row(*b"lw              ", 0x0000_2003, LOAD_AT),
+    Row(*b"lbu             ", 0x0000_4003, LOAD_AT),
+    Row(*b"lhu             ", 0x0000_5003, LOAD_AT),
+    Row(*b"sb              ", 0x0000_0023, STORE_AT),
+    Row(*b"sh              ", 0x0000_1023, STORE_AT),
+    Row(*b"sw              ", 0x0000_2023, STORE_AT),
+    Row(*b"jalr            ", 0x0000_0067, SHORT),
+    Row(*b"jalr            ", 0x0000_0067, MOVE),
+    Row(*b"jalr            ", 0x0000_0067, LOAD_AT),
+    Row(*b"jalr            ", 0x0000_00e7, JUMP_FROM),
+    Row(*b"jalr            ", 0x0000_00e7, JUMP_AT),
+    Row(*b"jalr            ", 0x0000_00e7, JUMP_BY),
+    Row(*b"jr              ", 0x0000_0067, JUMP_FROM),
+    Row(*b"jr              ", 0x0000_0067, JUMP_AT),
+    Row(*b"jr              ", 0x0000_0067, JUMP_BY),
 ];
 
-/// Two instructions that one name stands for, and that reach any distance from here: the name, the words of both where
-/// each of their operands is 0, and whether a register is named before the value.
+/// Which register two instructions go through.
 #[derive(Clone, Copy)]
-pub struct Couple(pub Name, pub u32, pub u32, pub bool);
+pub enum Through {
+    /// None that is named: their words have it.
+    Own,
+    /// The one that is named before the value.
+    First,
+    /// Another one, `t1`, where one is named in which a call leaves where it returns.
+    Link,
+}
 
-/// The names that stand for two instructions, but for `li`.
+/// Two instructions that one name stands for, and that reach any distance from here: the name, the words of both where
+/// each of their operands is 0, and which register they go through.
+#[derive(Clone, Copy)]
+pub struct Couple(pub Name, pub u32, pub u32, pub Through);
+
+/// The names that stand for two instructions, but for `li` and accesses by name.
 pub static COUPLES: [Couple; 4] = [
-    Couple(*b"call            ", 0x0000_0097, 0x0000_80e7, false),
-    Couple(*b"tail            ", 0x0000_0317, 0x0003_0067, false),
-    Couple(*b"la              ", 0x0000_0017, 0x0000_0013, true),
-    Couple(*b"lla             ", 0x0000_0017, 0x0000_0013, true),
+    Couple(*b"call            ", 0x0000_0097, 0x0000_80e7, Link),
+    Couple(*b"tail            ", 0x0000_0317, 0x0003_0067, Own),
+    Couple(*b"la              ", 0x0000_0017, 0x0000_0013, First),
+    Couple(*b"lla             ", 0x0000_0017, 0x0000_0013, First),
+];
+
+/// Loads by a label, in the second of two instructions: their words where each operand is 0.
+pub static LOADS: [Named; 5] = [
+    Named(*b"lb              ", 0x0000_0003),
+    Named(*b"lh              ", 0x0000_1003),
+    Named(*b"lw              ", 0x0000_2003),
+    Named(*b"lbu             ", 0x0000_4003),
+    Named(*b"lhu             ", 0x0000_5003),
+];
+
+/// Stores by a label, through a register that is named behind it.
+pub static STORES: [Named; 3] = [
+    Named(*b"sb              ", 0x0000_0023),
+    Named(*b"sh              ", 0x0000_1023),
+    Named(*b"sw              ", 0x0000_2023),
 ];

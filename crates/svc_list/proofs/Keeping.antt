@@ -1,5 +1,5 @@
 -- A line of a listing leaves what is read next: a line.
-use Rattle.std.proofs.Common.{◌≡◌, ℕ, ◌*◌, ◌-◌, ◌%◌, Bool, true, false, ◌==◌, [], ◌∷◌, ◌++◌, length, Option, Some, None, subst, if◌then◌else◌, slice_set}
+use Rattle.std.proofs.Common.{◌≡◌, ℕ, ◌*◌, ◌-◌, ◌%◌, Bool, true, false, ◌==◌, [], ◌∷◌, ◌++◌, length, Option, Some, None, refl, subst, if◌then◌else◌, slice_set}
 use Rattle.svc_rv32i.specs.declared.instr.Register.{Register}
 use Rattle.svc_image.specs.declared.version.Version.{Version}
 use Rattle.svc_image.specs.declared.version.Version.TheVariants as version
@@ -73,7 +73,7 @@ line_keeps (say.Entry limit) d h k = entry_keeps go.Line limit d k
 line_keeps (say.Start m) d h k = k
 line_keeps (say.Limit m) d h k = limit_keeps go.Line m d k
 line_keeps (say.Register r m) d h k = register_keeps go.Line r m d k
-line_keeps (say.Section s) d h k = k
+line_keeps (say.Section s) d h k = refl
 line_keeps _ d h k = absurd h
 
 -- so it does where the layout behind it is known

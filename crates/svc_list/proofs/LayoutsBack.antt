@@ -50,6 +50,8 @@ layout_for names known from img = record {
   rodata_bytes = [];
   data_bytes = bytes_of_words img.words;
   bss_bytes = [];
+  data_step = 4;
+  bss_step = 4;
   section = section.Data;
   next = go.Line;
   names = names;
@@ -241,9 +243,13 @@ length-bytes_of_word : (word : ℕ) → length (bytes_of_word word) ≡ 4
 unfolding bytes_of_words
 length-bytes_of_word word = ap length (sym (append-nil (bytes_of_word word))) ∙ length-bytes_of_words (word ∷ [])
 
--- .data is the only section of data
+-- .data is the only section of data, and no alignment is asked for
 abbrev pub IsAlone : Layout → Type 0
-IsAlone d = (d.rodata_bytes ≡ []) × (d.bss_bytes ≡ [])
+IsAlone d = (d.rodata_bytes ≡ []) × (d.bss_bytes ≡ []) × (d.data_step ≡ 4) × (d.bss_step ≡ 4)
+
+-- it has few bytes where it is in words
+alone_few : (d : Layout) (bytes : List ℕ) → IsAlone d → length bytes ≤ 262144 → data_size (holding d bytes) ≤ 262144
+alone_few d bytes alone room = rw (alone.0, alone.1, alone.2, alone.3) (omega (arith, room))
 
 one_datum : (d : Layout) (bytes : List ℕ) (w : ℕ) → d.section ≡ section.Data → IsAlone d → length bytes + 4 ≤ 262144 → with_bytes (bytes_of_word w) (holding d bytes) ≡ Some (holding d (bytes ++ bytes_of_word w))
 unfolding with_bytes with_more
@@ -252,7 +258,7 @@ one_datum d bytes w inside alone room =
     let fits : nat_le (length bytes + length (bytes_of_word w)) 262144 ≡ true = le-leb (length bytes + length (bytes_of_word w)) 262144 (omega (arith, room, four)) in
     let next = holding d (bytes ++ bytes_of_word w) in
     let left : nat_le (data_size next) 262144 ≡ true =
-    le-leb (data_size next) 262144 (omega (arith, room, four, length-append bytes (bytes_of_word w), ap length alone.0, ap length alone.1)) in
+    le-leb (data_size next) 262144 (alone_few d (bytes ++ bytes_of_word w) alone (omega (arith, room, four, length-append bytes (bytes_of_word w)))) in
     rw (inside, fits, left) refl
 
 -- a line follows where one was to follow

@@ -81,7 +81,11 @@ over_behind (c ∷ rest) tail h =
       | inr other ↦
           elim (cases_Bool (c == 35)) [
             | inl hash ↦ rw (other, hash) refl
-            | inr none ↦ absurd (let gone : None ≡ Some tail = sym (rw (other, none) refl) ∙ h in cc)
+            | inr none ↦
+                elim (cases_Bool (c == 59)) [
+                  | inl more ↦ rw (other, none, more) refl
+                  | inr last ↦ absurd (let gone : None ≡ Some tail = sym (rw (other, none, last) refl) ∙ h in cc)
+                ]
           ]
     ]
 

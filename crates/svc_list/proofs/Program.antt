@@ -19,7 +19,7 @@ use Rattle.svc_draft.specs.declared.statement.Section.TheVariants as section
 use Rattle.svc_draft.specs.declared.statement.Next.TheVariants as go
 use Rattle.svc_draft.specs.declared.statement.Statement.TheVariants as say
 use Rattle.svc_draft.specs.Areas.{filled, data_of, some_word}
-use Rattle.svc_draft.specs.Layouts.{Layout, Names, no_names, zeros, address_of, empty, whole_size, with_version, IsMadeOf}
+use Rattle.svc_draft.specs.Layouts.{Layout, Names, no_names, zeros, address_of, empty, multiple, with_version, IsMadeOf}
 use Rattle.svc_image.proofs.Wordwise.{length-bytes_of_words}
 use Rattle.svc_operands.specs.Characters.{is_name, past_name, behind}
 use Rattle.svc_operands.specs.Values.{value_at}
@@ -113,7 +113,7 @@ start_placed n s (e ∷ es) placed any =
 no_zeros : (words : List ℕ) → (4 - length (bytes_of_words words) % 4) % 4 ≡ 0
 no_zeros words = omega (arith, length-bytes_of_words words)
 
-filled_words : (words : List ℕ) → filled (bytes_of_words words) ≡ bytes_of_words words
+filled_words : (words : List ℕ) → filled 4 (bytes_of_words words) ≡ bytes_of_words words
 unfolding filled
 filled_words words = ap (λ (n : ℕ). bytes_of_words words ++ replicate n 0) (no_zeros words) ∙ append-nil (bytes_of_words words)
 
@@ -121,15 +121,15 @@ some_is : (bytes : List ℕ) → 1 ≤ length bytes → some_word bytes ≡ byte
 some_is [] some = absurd (omega (arith, some))
 some_is (b ∷ bytes) some = refl
 
-none_filled : filled [] ≡ []
+none_filled : filled 4 [] ≡ []
 unfolding filled
 none_filled = refl
 
-words_are_data : (words : List ℕ) → 1 ≤ length words → data_of [] (bytes_of_words words) [] ≡ bytes_of_words words
+words_are_data : (words : List ℕ) → 1 ≤ length words → data_of 4 4 [] (bytes_of_words words) [] ≡ bytes_of_words words
 unfolding data_of
 words_are_data words some =
     let bytes = bytes_of_words words in
-    rw (none_filled, filled_words words, append-nil bytes) (some_is bytes (omega (arith, some, length-bytes_of_words words)))
+    rw (none_filled, filled_words words, append-nil bytes, filled_words words) (some_is bytes (omega (arith, some, length-bytes_of_words words)))
 
 made_image : (names : Names) (known : Bool) (from : ℕ) (img : Image) → IsImage img → IsMadeOf (layout_for names known from img) img
 made_image names known from img sound =
@@ -137,7 +137,7 @@ made_image names known from img sound =
 
 -- how far behind the data's beginning .bss begins, by the first pass
 abbrev bss_behind : Image → ℕ
-bss_behind img = whole_size [] + whole_size (bytes_of_words img.words)
+bss_behind img = multiple 4 (0 + length (bytes_of_words img.words))
 
 -- the start, by its label
 start_value : (d : Layout) (a x : ℕ) (tail : List ℕ) → address_of d (label_text a) ≡ Some x → value_at d (32 ∷ (label_text a ++ (10 ∷ tail))) ≡ Some (x, 10 ∷ tail)
@@ -251,7 +251,7 @@ pass_leads names known from img sound begins good =
     let second = lines_lead (settings 1 img.registers) d₁ d₂ refl (settings_text 1 img.registers (fits img.registers sound.registers_fit)) (settings_laid d₁ [] img.registers zeros 1 refl (sym sound.registers_all) (are_zeros zeros refl) (omega (arith, sound.registers_all))) in
     let third = code_leads known count labelled sound.text_few ms img.text 0 d₂ (omega arith) (fits img.text sound.text_fits) (marks_text v img.entries img.limits limits) placed (record { text = refl; words = refl; pass = refl; line = refl }) (omega (arith, marks_few v img.entries img.limits, sound.entries_few)) (λ k above. refl) good (image_labels img) in
     let fourth = line_leads (say.Section section.Data) [] d₃ d₄ refl tt bare_ends refl in
-    let fifth = lines_lead (all_data v img.read_only img.words) d₄ d₅ refl (all_data_text v img.read_only img.words (fits img.words sound.words_fit)) (all_data_laid v img.read_only img.words d₄ refl refl refl (refl, refl) refl refl refl sound.read_only_few sound.words_few) in
+    let fifth = lines_lead (all_data v img.read_only img.words) d₄ d₅ refl (all_data_text v img.read_only img.words (fits img.words sound.words_fit)) (all_data_laid v img.read_only img.words d₄ refl refl refl (refl, refl, refl, refl) refl refl refl sound.read_only_few sound.words_few) in
     let body = text_of (all_data v img.read_only img.words) in
     let words = text_of (code count labelled 0 ms img.text) in
     let sets = text_of (settings 1 img.registers) in

@@ -18,7 +18,7 @@ use Rattle.svc_instructions.specs.declared.table.Part.TheVariants as part
 use Rattle.svc_instructions.specs.declared.table.Row.{Row}
 use Rattle.svc_instructions.specs.declared.table.TheConstants.{ROWS, ALIASES, COUPLES}
 use Rattle.svc_instructions.specs.Instructions.{parts_of, taken, part_at, joined, parts_at, over, row_at, rows_at, alone_at, fixed, is_of, row_of}
-use Rattle.svc_instructions.specs.Couples.{has_name, couple_at, set_at, relative_upper_at, relative_named, single_at, lettered_at, instruction_at}
+use Rattle.svc_instructions.specs.Couples.{has_name, couple_at, set_at, relative_upper_at, relative_named, single_at, access_at, alone_on_line, other_at, lettered_at, instruction_at}
 use Rattle.svc_asm.specs.Statements.{statement_at}
 use Rattle.svc_list.specs.Listings.{register_text, last_text, upper_text, label_text, reach_text, part_text, parts_text, row_text, led, led_by, led_along}
 use Rattle.svc_list.proofs.NamesBack.{stops, Ends, ends_over, no_slash}
@@ -321,7 +321,7 @@ over_is w rest tail ends = rw (ends_over rest tail ends) refl
 -- what is written of a word of any row is read back as the word that the pass sees
 pub row_back : (known : Bool) (d : Layout) (to : Option ℕ) (w : ℕ) (r : Row) (rest tail : List ℕ) → row_of w ≡ Some r → Ends rest tail → Reaches known d to (parts_of r) w
     → statement_at d (row_text to r w ++ rest) ≡ Some (say.Instruction (refilled known to (parts_of r) w r.1), rest)
-unfolding row_of row_at alone_at single_at instruction_at
+unfolding row_of row_at alone_at single_at other_at instruction_at
 row_back known d to w r rest tail e ends reaches =
     let good = (found_good Good (is_of (fixed w)) ROWS r each_good e).0 in
     let operands = parts_text to (parts_of r) w ++ rest in
@@ -335,7 +335,8 @@ row_back known d to w r rest tail e ends reaches =
     let whole : instruction_at d name operands ≡ Some (say.Instruction word, rest) =
     ap (λ (b : Bool). if b then set_at operands else padded name >>= (λ letters. lettered_at d name letters operands)) good.2
     ∙ ap (λ o. o >>= (λ letters. lettered_at d name letters operands)) good.1
-    ∙ ap (λ o. found o (λ c. couple_at d c operands) (single_at d name r.0 operands)) good.3 ∙ single in
+    ∙ ap (λ o. found o (λ c. couple_at d c operands) (other_at d name r.0 operands)) good.3
+    ∙ ap (λ o. found o (λ x. Some x) (access_at d name operands >>= alone_on_line)) single in
     ap (statement_at d) (append_assoc name (parts_text to (parts_of r) w) rest) ∙ by_name d name operands good.0 (parts_stop to (parts_of r) w rest ends.stop) ∙ whole
 
 pub row_stops : (to : Option ℕ) (w : ℕ) (r : Row) (rest : List ℕ) → row_of w ≡ Some r → stops rest ≡ true → behind 58 (past_name (row_text to r w ++ rest)) ≡ None

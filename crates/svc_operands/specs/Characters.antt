@@ -39,10 +39,10 @@ past_blanks b (c ∷ rest) = found (blank_behind b c rest) (λ next. past_blanks
 abbrev pub past_spaces : List ℕ → List ℕ
 past_spaces text = past_blanks blank.Outside text
 
--- the line ends here, maybe behind a comment
+-- the line ends here, maybe behind a comment, or another one follows a semicolon
 abbrev pub begins_over : List ℕ → Bool
 begins_over [] = true
-begins_over (c ∷ rest) = c == 10 || c == 35
+begins_over (c ∷ rest) = c == 10 || c == 35 || c == 59
 
 abbrev pub is_over : List ℕ → Bool
 is_over text = begins_over (past_spaces text)

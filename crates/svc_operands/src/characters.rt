@@ -59,12 +59,12 @@ pub fn skip_spaces(text: &[u8]) -> &[u8]
     rest
 }
 
-/// Whether the line ends here, maybe behind a comment.
+/// Whether the line ends here, maybe behind a comment, or another one follows a semicolon.
 pub fn is_over(text: &[u8]) -> bool
     ensures { result ≡ is_over text.now }
 {
     match skip_spaces(text) {
-        [] | [b'\n' | b'#', ..] => true,
+        [] | [b'\n' | b'#' | b';', ..] => true,
         _ => false,
     }
 }
@@ -105,8 +105,9 @@ pub fn skip_mark(mark: u8, text: &[u8]) -> Option<&[u8]>
     }
 }
 
+/// The value of a digit of any radix up to 16.
 #[tactic(auto, unfolding(crate::specs::Characters::digit))]
-fn digit(c: u8) -> Option<u32>
+pub fn digit(c: u8) -> Option<u32>
     ensures value { result ≡ digit c }
     ensures small { IfSome result (λ d. d < 16) }
 {

@@ -9,7 +9,7 @@ mod unread;
 mod values;
 
 pub use characters::{
-    Radix, escaped, is_over, opens, skip_mark, skip_spaces, split_name, value_of,
+    Radix, digit, escaped, is_over, opens, skip_mark, skip_spaces, split_name, value_of,
 };
 pub use names::{Name, Named, REGISTERS, is_word, number_named, padded, register};
 pub use operands::{

@@ -65,6 +65,8 @@ pub enum Wanted {
     Power,
     #[error("a number, a dot or a name that stands above")]
     Symbol,
+    #[error("a size from 0 to 8")]
+    Size,
 }
 
 /// The place where a text could not be read further.

@@ -8,10 +8,11 @@ use Rattle.svc_history_laws.specs.declared.entry.Entry.{Entry}
 use Rattle.svc_explore_laws.specs.declared.observation.Observation.{Observation}
 use Rattle.svc_explore_laws.specs.Closed.{IsIn}
 use Rattle.svc_explore.specs.declared.found.Seen.{Seen}
-use Rattle.svc_explore.specs.declared.sought.Sought.{Sought}
+use Rattle.svc_observations.specs.declared.sought.Sought.{Sought}
 use Rattle.svc_explore.specs.declared.walk.Exploration.{Exploration}
 use Rattle.svc_explore.specs.Found.{IsShown, are_seen}
-use Rattle.svc_explore.specs.Sought.{IsWitness, Matches}
+use Rattle.svc_explore.specs.Witnesses.{IsWitness}
+use Rattle.svc_observations.specs.Sought.{Matches}
 use Rattle.svc_explore.proofs.NoMatch.{no_match}
 use Rattle.svc_explore.proofs.Permuting.{all_get}
 use Rattle.svc_request.specs.declared.faults.Fault.{Fault}
@@ -19,8 +20,8 @@ use Rattle.svc_request.specs.declared.request.Explored.{Explored}
 use Rattle.svc_request.specs.declared.request.Request.TheVariants as request
 use Rattle.svc_request.specs.Held.{Held}
 use Rattle.svc_request.specs.Names.{written_by}
-use Rattle.svc_program.specs.Explored.{FindsSight, HasWitness, IsAnswerTo, IsExplorationOf}
-use Rattle.svc_program.specs.Requests.{IsAnswered, IsOfSource, IsQuiet, SavesAlone, SavesAnyTrace}
+use Rattle.svc_answer.specs.Explored.{FindsSight, HasWitness, IsAnswerTo, IsExplorationOf}
+use Rattle.svc_answer.specs.Requests.{IsAnswered, IsOfSource, IsQuiet, SavesAlone, SavesAnyTrace}
 
 -- what was found is shown by its schedule
 pub shown_if : (img : Image) (explored : Explored) (found : List Seen) → AllByRecursion (IsShown img explored.config explored.burst) found → (seen : Option (Bor Seen))
@@ -42,11 +43,12 @@ pub find_answered : {O : Type 0} (contents : O → Option (List ℕ)) (explored 
     → IfErr r (IsQuiet old new) → SavesAlone (written_by (request.Find explored sought trace)) held saved r
     → IsAnswered contents (request.Find explored sought trace) held saved old new r
 find_answered contents explored sought trace held saved old new (Ok exit) img image finds silent alone =
-    record { done = (img, image, finds); silent = tt; order = tt; kept = alone.kept; spared = tt }
+    record { done = (img, image, finds); silent = tt; order = tt; machine = tt; kept = alone.kept; spared = tt }
 find_answered contents explored sought trace held saved old new (Err f) img image finds silent alone = record {
   done = tt;
   silent = silent;
   order = inr (img, image);
+  machine = λ run. tt;
   kept = alone.kept;
   spared = elim (alone.spared) [ inl late ↦ inr (late, (img, image)) | inr keeps ↦ inl keeps ];
 }

@@ -1,8 +1,5 @@
-pub mod Answering
 pub mod Assembled
-pub mod Reading
-pub mod Reported
 pub mod WholeScript
-pub mod Fronting
 pub mod Needed
+pub mod Continuing
 pub mod Finding

@@ -9,7 +9,7 @@ use Rattle.svc_depend_laws.specs.Over.{listed}
 use Rattle.svc_depend.specs.declared.run.Needs.{Needs}
 use Rattle.svc_depend.specs.Tables.{totals_text}
 use Rattle.svc_depend.specs.Told.{task_needs}
-use Rattle.svc_program.specs.Needs.{AreOf, needs_text}
+use Rattle.svc_answer.specs.Needs.{AreOf, needs_text}
 
 length_listed : {A : Type 0} (item : ℕ → A) (n : ℕ) → length (listed item n) ≡ n
 length_listed item zero = refl

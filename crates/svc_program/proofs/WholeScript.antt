@@ -8,7 +8,7 @@ use Rattle.svc_script.specs.declared.script.Step.{Step}
 use Rattle.std.specs.Io.KnownBytes.{Appends}
 use Rattle.svc_history_laws.specs.declared.entry.Entry.{Entry}
 use Rattle.svc_script.specs.Playing.{Kept}
-use Rattle.svc_program.specs.Scripts.{HasPlayedAll, PlaysScript}
+use Rattle.svc_answer.specs.Scripts.{HasPlayedAll, PlaysScript}
 
 pub scripted : {E : Type 0} (r : Result ℕ E) (img : Image) (config : Config) (steps : List Step) (Holds : List Entry → Type 0) (start last : Recorded) (kept after : Kept) (old new : Option (List ℕ))
     → start.machine.image ≡ img → start.machine.config ≡ config → start.entries ≡ [] → IsLegal start → kept ≡ replicate config.units None → OnOk r (IsLegal last)

@@ -3,14 +3,14 @@
 ghost use Rattle.std.specs.Prelude.{◌≡◌, ◌⊎◌, IfOk, IfErr, IfSome};
 ghost use Rattle.svc_request.specs.declared.request.Request.TheVariants as request;
 ghost use Rattle.svc_request.specs.Faults.{IsReportFault};
-ghost use Rattle.svc_program.specs.Assembly.{Lists};
-ghost use Rattle.svc_program.specs.Requests.{IsAnswered};
+ghost use Rattle.svc_answer.specs.Assembly.{Lists};
+ghost use Rattle.svc_answer.specs.Requests.{IsAnswered};
 
-use crate::front::front_of;
-use crate::load::load_image;
-use crate::output::print_text;
 use std::alloc::Global;
 use std::io::Write;
+use svc_answer::front::front_of;
+use svc_answer::load::load_image;
+use svc_answer::output::print_text;
 use svc_asm::AssembleError;
 use svc_image::Image;
 use svc_request::{Assembly, Fault, Files, Source};

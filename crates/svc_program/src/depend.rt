@@ -3,14 +3,14 @@
 ghost use Rattle.std.specs.Prelude.{◌≡◌, ◌≤◌, Some, None, IfOk, IfErr};
 ghost use Rattle.svc_request.specs.declared.request.NeedsTable.TheVariants as table;
 ghost use Rattle.svc_request.specs.declared.request.Request.TheVariants as request;
-ghost use Rattle.svc_program.specs.Needs.{IsNamed, IsTold, TellsNeeds, needs_rows};
-ghost use Rattle.svc_program.specs.Requests.{IsAnswered, IsQuiet};
+ghost use Rattle.svc_answer.specs.Needs.{IsNamed, IsTold, TellsNeeds, needs_rows};
+ghost use Rattle.svc_answer.specs.Requests.{IsAnswered, IsQuiet};
 
-use crate::load::{load_image, load_names};
-use crate::output::{flush, write_named};
-use crate::summary::exit_status;
 use std::alloc::Global;
 use std::io::Write;
+use svc_answer::load::{load_image, load_names};
+use svc_answer::output::{flush, write_named};
+use svc_answer::summary::exit_status;
 use svc_core::Ending;
 use svc_depend::{
     MAX_TASKS, PairForm, find_needs, write_pairs, write_task_needs, write_totals, write_word_needs,

@@ -1,26 +1,28 @@
 //! Does what is asked for, over any files and streams.
 
-ghost use Rattle.std.specs.Prelude.{◌≡◌, ◌⊎◌, Err, IfOk, IfErr};
+ghost use Rattle.std.specs.Prelude.{◌≡◌, ◌⊎◌, Err, IfOk, IfErr, IfSome};
+ghost use Rattle.svc_request.specs.declared.request.Request.TheVariants as request;
 ghost use Rattle.svc_request.specs.Faults.{IsOutputFault};
 ghost use Rattle.svc_request.specs.Names.{IsOverItself};
-ghost use Rattle.svc_program.specs.Requests.{IsAnswered, Shows, version_row};
+ghost use Rattle.svc_answer.specs.Requests.{IsAnswered, Shows, version_row};
 
 use crate::assembly::{assemble, list};
-use crate::check::check;
 use crate::depend::depend;
-use crate::draw::draw;
 use crate::explore::explore;
 use crate::find::find;
-use crate::profile::profile;
-use crate::run::run;
+use crate::run::{run, run_alone};
 use crate::script::script;
 use crate::sequential::sequential;
-use crate::show::show;
 use std::alloc::Global;
 use std::io::Write;
 use std::sync::Wait;
 use std::thread::Threads;
-use svc_request::{Fault, Files, Request, VERSION};
+use svc_replay::check::check;
+use svc_replay::draw::draw;
+use svc_replay::observe::observe;
+use svc_replay::profile::profile;
+use svc_replay::show::show;
+use svc_request::{Fault, Files, Request, Run, VERSION};
 
 /// Does what is asked for. It returns the exit status: 0 if the run reached the program's exit, a trace was sound, an
 /// image was assembled or listed, an exploration was whole or found what was looked for, or help or the version was asked
@@ -46,12 +48,45 @@ pub fn perform<R: Threads + Wait + Sync, F: Files, O: Write>(
     if request.is_over_itself(files) {
         return Err(Fault::File);
     }
-    dispatch(rt, alloc, request, files, out)
+    match run_of(&request) {
+        Some(asked) => run(rt, alloc, asked, files, out),
+        None => dispatch(alloc, request, files, out),
+    }
 }
 
-// Does what is asked for, with one function per subcommand.
-fn dispatch<R: Threads + Wait + Sync, F: Files, O: Write>(
-    rt: &R,
+// The run that is asked for, if one is.
+fn run_of<'a>(asked: &Request<'a>) -> Option<Run<'a>>
+    ensures { IfSome result (λ run. asked.now ≡ request.Run run) }
+{
+    match asked {
+        Request::Run(run) => Some(*run),
+        _ => None,
+    }
+}
+
+/// Does what is asked for where there are no threads: as [`perform`], but a run without a schedule is run fault 2.
+///
+/// Errors: as [`perform`].
+pub fn perform_alone<F: Files, O: Write>(
+    alloc: Global,
+    request: Request<'_>,
+    files: &mut F,
+    out: &mut O,
+) -> Result<u8, Fault>
+    ensures answered { IsAnswered O.contents request.entry (F.held files.old) (F.held files.new) out.old out.new
+        result }
+    ensures apart { IsOverItself request.entry → (result ≡ Err Fault.File) × (F.held files.new ≡ F.held files.old)
+        × (out.new ≡ out.old) }
+{
+    let is_over = request.is_over_itself(files);
+    if is_over {
+        return Err(Fault::File);
+    }
+    dispatch(alloc, request, files, out)
+}
+
+// Does what is asked for without threads, with one function per subcommand.
+fn dispatch<F: Files, O: Write>(
     alloc: Global,
     request: Request<'_>,
     files: &mut F,
@@ -62,15 +97,18 @@ fn dispatch<R: Threads + Wait + Sync, F: Files, O: Write>(
     match request {
         Request::Help(text) => show_help(&text, out),
         Request::Version => show_version(out),
-        Request::Run(asked) => run(rt, alloc, asked, files, out),
+        Request::Run(asked) => run_alone(alloc, asked, files, out),
         Request::Sequential(tasks) => sequential(alloc, tasks, files, out),
         Request::Depend(depended) => depend(alloc, depended, files, out),
         Request::Explore(explored) => explore(alloc, explored, files, out),
         Request::Find(explored, sought, trace) => {
             find(alloc, explored, sought, trace, files, out)
         }
+        Request::Observe(traced) => observe(alloc, traced, files, out),
         Request::Script(scripted) => script(alloc, scripted, files, out),
-        Request::Check(traced, script) => check(alloc, traced, script, files, out),
+        Request::Check(traced, compared, script) => {
+            check(alloc, traced, compared, script, files, out)
+        }
         Request::Profile(traced, to, by, names) => profile(
             alloc, traced, to, by, names, files, out,
         ),

@@ -2,13 +2,13 @@
 
 ghost use Rattle.std.specs.Prelude.{◌≡◌, IfOk, IfErr, cond};
 ghost use Rattle.svc_request.specs.declared.request.Request.TheVariants as request;
-ghost use Rattle.svc_program.specs.Explored.{IsExplorationOf, TellsSchedules};
-ghost use Rattle.svc_program.specs.Requests.{IsAnswered, IsQuiet};
+ghost use Rattle.svc_answer.specs.Explored.{IsExplorationOf, TellsSchedules};
+ghost use Rattle.svc_answer.specs.Requests.{IsAnswered, IsQuiet};
 
-use crate::load::load_image;
-use crate::output::print_text;
 use std::alloc::{AllocError, Global};
 use std::io::Write;
+use svc_answer::load::load_image;
+use svc_answer::output::print_text;
 use svc_explore::{Exploration, put_exploration};
 use svc_image::Image;
 use svc_request::{Explored, Fault, Files};

@@ -6,16 +6,17 @@ ghost use Rattle.svc_explore.specs.Found.{IsShown};
 ghost use Rattle.svc_explore.specs.Rows.{finding_text};
 ghost use Rattle.svc_request.specs.declared.faults.Fault.TheVariants.{Limit};
 ghost use Rattle.svc_request.specs.declared.request.Request.TheVariants as request;
-ghost use Rattle.svc_program.specs.Explored.{FindsSight, HasWitness};
-ghost use Rattle.svc_program.specs.Requests.{IsAnswered, IsLate, IsQuiet, SavesAlone, SavesAnyTrace};
+ghost use Rattle.svc_answer.specs.Explored.{FindsSight, HasWitness};
+ghost use Rattle.svc_answer.specs.Requests.{IsAnswered, IsLate, IsQuiet, SavesAlone, SavesAnyTrace};
 
 use crate::explore::all_schedules;
-use crate::load::{load_image, save_trace};
-use crate::output::print_text;
 use std::alloc::Global;
 use std::io::Write;
-use svc_explore::{Exploration, Seen, Sought, put_finding, witness};
+use svc_answer::load::{load_image, save_trace};
+use svc_answer::output::print_text;
+use svc_explore::{Exploration, Seen, put_finding, witness};
 use svc_image::Image;
+use svc_observations::Sought;
 use svc_request::{Explored, Fault, Files};
 
 /// Follows all schedules of an image, saves the trace of one that shows what is looked for if a file is named for it, and

@@ -2,27 +2,18 @@
 #![tactic(auto)]
 
 mod assembly;
-mod check;
 mod depend;
 mod dispatch;
-mod draw;
 mod explore;
 mod find;
-mod front;
-mod fronts;
-mod load;
-mod output;
-mod profile;
 mod run;
 mod script;
 mod sequential;
-mod show;
-mod summary;
 
-pub use dispatch::perform;
-pub use svc_explore::Sought;
+pub use dispatch::{perform, perform_alone};
+pub use svc_observations::Sought;
 pub use svc_report::TableRow;
 pub use svc_request::{
-    Assembly, Depended, Explored, Fault, FileFault, Files, NeedsTable, Order, Picture, Request,
-    Run, Schedule, Scripted, Source, Table, Tasks, Traced, VERSION, tell,
+    Assembly, Compared, Depended, Explored, Fault, FileFault, Files, NeedsTable, Order, Picture,
+    Request, Run, Schedule, Scripted, Source, Table, Tasks, Traced, VERSION, tell,
 };

@@ -3,13 +3,13 @@
 ghost use Rattle.std.specs.Prelude.{false, None, IfOk, IfErr};
 ghost use Rattle.svc_plain.specs.Tasks.{tasks_run};
 ghost use Rattle.svc_request.specs.declared.request.Request.TheVariants as request;
-ghost use Rattle.svc_program.specs.Requests.{IsAnswered, IsQuiet};
-ghost use Rattle.svc_program.specs.Runs.{Reports};
+ghost use Rattle.svc_answer.specs.Requests.{IsAnswered, IsQuiet};
+ghost use Rattle.svc_answer.specs.Runs.{Reports};
 
-use crate::load::load_image;
-use crate::summary::print;
 use std::alloc::Global;
 use std::io::Write;
+use svc_answer::load::load_image;
+use svc_answer::summary::print;
 use svc_image::Image;
 use svc_plain::run_tasks;
 use svc_request::{Fault, Files, Tasks};

@@ -1,5 +1,6 @@
 -- The names of files in a request.
 use Rattle.std.specs.Prelude.{◌≡◌, ◌⊎◌, ℕ, List, Option, None, Some, IsSomeAnd, option_map}
+use Rattle.svc_request.specs.declared.request.Schedule.{Schedule}
 use Rattle.svc_request.specs.declared.request.Source.{Source}
 use Rattle.svc_request.specs.declared.request.Source.TheVariants as source
 use Rattle.svc_request.specs.declared.request.Request.{Request}
@@ -10,6 +11,10 @@ abbrev pub IsNameOf : List ℕ → Source → Type 0
 IsNameOf name source.BuiltIn = ⊥
 IsNameOf name (source.File file) = file.now ≡ name
 
+-- the script whose events come before the schedule has this name
+abbrev pub IsScriptOf : List ℕ → Option Schedule → Type 0
+IsScriptOf name schedule = IsSomeAnd schedule (λ s. IsSomeAnd s.after (λ script. script.now ≡ name))
+
 -- the image that a request is about, if that is an existing one
 abbrev pub source_of : Request → Option Source
 source_of (request.Run run) = Some run.image
@@ -17,8 +22,9 @@ source_of (request.Sequential tasks) = Some tasks.image
 source_of (request.Depend depended) = Some depended.image
 source_of (request.Explore explored) = Some explored.image
 source_of (request.Find explored sought trace) = Some explored.image
+source_of (request.Observe traced) = Some traced.image
 source_of (request.Script scripted) = Some scripted.image
-source_of (request.Check traced script) = Some traced.image
+source_of (request.Check traced compared script) = Some traced.image
 source_of (request.Profile traced to by names) = Some traced.image
 source_of (request.Show traced at names) = Some traced.image
 source_of (request.Draw traced picture) = Some traced.image
@@ -30,17 +36,17 @@ abbrev pub written_by : Request → Option (List ℕ)
 written_by (request.Run run) = option_map (λ name. name.now) run.trace
 written_by (request.Find explored sought trace) = option_map (λ name. name.now) trace
 written_by (request.Script scripted) = option_map (λ name. name.now) scripted.trace
-written_by (request.Check traced script) = option_map (λ name. name.now) script
+written_by (request.Check traced compared script) = option_map (λ name. name.now) script
 written_by (request.Draw traced picture) = Some picture.file.now
 written_by (request.Assemble assembly) = Some assembly.image.now
 written_by _ = None
 
 -- the file to write is also one to read
 abbrev pub IsOverItself : Request → Type 0
-IsOverItself (request.Run run) = IsSomeAnd run.trace (λ name. IsNameOf name.now run.image)
+IsOverItself (request.Run run) = IsSomeAnd run.trace (λ name. IsScriptOf name.now run.schedule ⊎ IsNameOf name.now run.image)
 IsOverItself (request.Find explored sought trace) = IsSomeAnd trace (λ name. IsNameOf name.now explored.image)
 IsOverItself (request.Script scripted) = IsSomeAnd scripted.trace (λ name. (scripted.events.now ≡ name.now) ⊎ IsNameOf name.now scripted.image)
-IsOverItself (request.Check traced script) = IsSomeAnd script (λ name. (traced.trace.now ≡ name.now) ⊎ IsNameOf name.now traced.image)
+IsOverItself (request.Check traced compared script) = IsSomeAnd script (λ name. (traced.trace.now ≡ name.now) ⊎ IsNameOf name.now traced.image)
 IsOverItself (request.Draw traced picture) = (traced.trace.now ≡ picture.file.now) ⊎ IsNameOf picture.file.now traced.image
 IsOverItself (request.Assemble assembly) = assembly.text.now ≡ assembly.image.now
 IsOverItself _ = ⊥

@@ -1,10 +1,10 @@
 // Files that would be written over files that are read.
 
 ghost use Rattle.std.specs.Prelude.{IsTrue};
-ghost use Rattle.svc_request.specs.Names.{IsNameOf, IsOverItself};
+ghost use Rattle.svc_request.specs.Names.{IsNameOf, IsOverItself, IsScriptOf};
 
 use crate::files::Files;
-use crate::request::{Request, Source};
+use crate::request::{Request, Schedule, Source};
 
 impl Request<'_> {
     /// Whether the file that would be written is one that is read, as far as `files` can tell from the names. Files of
@@ -14,7 +14,9 @@ impl Request<'_> {
     {
         match self {
             Request::Run(run) => match run.trace {
-                Some(trace) => is_source(run.image, trace, files),
+                Some(trace) => {
+                    is_script(run.schedule, trace, files) || is_source(run.image, trace, files)
+                }
                 None => false,
             },
             Request::Find(explored, _, trace) => match *trace {
@@ -27,7 +29,7 @@ impl Request<'_> {
                 }
                 None => false,
             },
-            Request::Check(traced, script) => match script {
+            Request::Check(traced, _, script) => match script {
                 Some(script) => {
                     files.is_same(traced.trace, script) || is_source(traced.image, script, files)
                 }
@@ -50,5 +52,18 @@ fn is_source<F: Files>(image: Source<'_>, name: &str, files: &F) -> bool
     match image {
         Source::BuiltIn => false,
         Source::File(file) => files.is_same(file, name),
+    }
+}
+
+// Whether the file of this name is the script that comes before the schedule, as far as `files` can tell.
+fn is_script<F: Files>(schedule: Option<Schedule<'_>>, name: &str, files: &F) -> bool
+    ensures { IsScriptOf name.now schedule.entry → IsTrue result }
+{
+    match schedule {
+        Some(schedule) => match schedule.after {
+            Some(script) => files.is_same(script, name),
+            None => false,
+        },
+        None => false,
     }
 }

@@ -5,7 +5,7 @@ ghost use Rattle.std.specs.Prelude.{◌≡◌, ◌<◌, ◌≤◌, ◌↔◌, If
 use svc_base::Config;
 use svc_core::MAX_BURST_TURNS;
 use svc_depend::MAX_TASKS;
-use svc_explore::Sought;
+use svc_observations::Sought;
 use svc_report::TableRow;
 
 /// The program's version.
@@ -35,26 +35,34 @@ pub enum Order {
 
 /// How a run in one host thread goes.
 #[derive(Clone, Copy)]
-pub struct Schedule {
+pub struct Schedule<'a> {
     /// In which order the units are asked.
     pub order: Order,
     /// The most turns in a burst, 1 to [`MAX_BURST_TURNS`].
     pub burst: u32,
+    /// The script's file whose events come before the first step.
+    pub after: Option<&'a str>,
     pub ghost some: { 0 < burst },
     pub ghost few: { burst ≤ 63 },
 }
 
-impl Schedule {
-    /// The schedule of these; none if the turns of a burst are not 1 to [`MAX_BURST_TURNS`].
-    pub fn new(order: Order, burst: u32) -> Option<Schedule>
+impl<'a> Schedule<'a> {
+    /// The schedule of these, after the script of this file; none if the turns of a burst are not 1 to
+    /// [`MAX_BURST_TURNS`].
+    pub fn new(order: Order, burst: u32, after: Option<&'a str>) -> Option<Schedule<'a>>
         ensures given { IsSome result ↔ ((0 < burst) × (burst ≤ 63)) }
         ensures order { IfSome result (λ s. s.order ≡ order) }
         ensures burst { IfSome result (λ s. s.burst ≡ burst) }
+        ensures after { IfSome result (λ s. s.after ≡ after.entry) }
     {
         if burst == 0 || burst > MAX_BURST_TURNS {
             return None;
         }
-        Some(Schedule { order, burst })
+        Some(Schedule {
+            order,
+            burst,
+            after,
+        })
     }
 }
 
@@ -77,7 +85,7 @@ pub struct Run<'a> {
     pub image: Source<'a>,
     pub config: Config,
     /// The order of its steps; without one each unit has a thread of its own.
-    pub schedule: Option<Schedule>,
+    pub schedule: Option<Schedule<'a>>,
     /// The file in which its trace is saved.
     pub trace: Option<&'a str>,
     /// The row of a table that is printed instead of the summary.
@@ -176,6 +184,15 @@ pub struct Traced<'a> {
     pub trace: &'a str,
 }
 
+/// Which columns of a trace are compared with what the machine answers.
+#[derive(Clone, Copy)]
+pub enum Compared {
+    /// All of them.
+    All,
+    /// All but those that name the supplier of a read.
+    ButSuppliers,
+}
+
 /// A picture of a trace.
 #[derive(Clone, Copy)]
 pub struct Picture<'a> {
@@ -185,6 +202,8 @@ pub struct Picture<'a> {
     pub from: u32,
     /// How many entries it shows at most.
     pub count: u32,
+    /// Whether what it shows is saved as rows.
+    pub rows: bool,
 }
 
 /// A text that is assembled.
@@ -214,11 +233,13 @@ pub enum Request<'a> {
     /// To follow all schedules of an image, to save the trace of one that shows what is looked for if a file is named for it, and
     /// to print what it shows.
     Find(Explored<'a>, Sought, Option<&'a str>),
+    /// To replay a trace, and to print what it shows.
+    Observe(Traced<'a>),
     /// To do the events of a script, and to print a line for each, and the summary.
     Script(Scripted<'a>),
-    /// To replay a trace, to save the script that leads to it if a file is named for it, and to print whether it is
-    /// sound.
-    Check(Traced<'a>, Option<&'a str>),
+    /// To replay a trace, to compare these columns of it, to save the script that leads to it if a file is named for it,
+    /// and to print whether it is sound.
+    Check(Traced<'a>, Compared, Option<&'a str>),
     /// To replay this many entries of a trace, or all, and to print what their speculation cost, in total or by a table, with
     /// the names of this table.
     Profile(Traced<'a>, Option<u64>, Option<Table<'a>>, Option<&'a str>),

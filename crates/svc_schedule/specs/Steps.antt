@@ -1,5 +1,5 @@
 -- Steps of a run, and what a run of steps is.
-use Rattle.std.specs.Prelude.{◌≡◌, ◌⊎◌, ℕ, zero, suc, ◌≤◌, Bool, true, false, List, [], ◌∷◌, ◌++◌, length}
+use Rattle.std.specs.Prelude.{◌≡◌, ◌⊎◌, ℕ, zero, suc, ◌+◌, ◌≤◌, Bool, true, false, List, [], ◌∷◌, ◌++◌, length}
 use Rattle.svc_base.specs.declared.config.Config.{Config}
 use Rattle.svc_base.specs.declared.ids.UnitId.{UnitId}
 use Rattle.svc_image.specs.Image.{Image}
@@ -39,6 +39,19 @@ is_over (ending.Exit code) = true
 is_over (ending.Trap number) = true
 is_over (ending.Full due) = true
 is_over (ending.Open due) = false
+
+-- a schedule goes on from one history to another of the same machine, which is legal: each entry that it adds is that of
+-- one step of the policy; the ending is an exit, a trap or a full history, or the steps are as many as the configuration
+-- has turns
+pub record GoesOn {P : Type 0} (Gives : P → Recorded → List UnitId → P → Type 0) (most : ℕ) (old new : P) (start r : Recorded) : Type 0 where
+  pub image : r.machine.image ≡ start.machine.image
+  pub config_is : r.machine.config ≡ start.machine.config
+  pub legal : IsLegal r
+  pub count : ℕ
+  pub added : length r.entries ≡ length start.entries + count
+  pub steps : Steps Gives most count old new start r
+  pub few : count ≤ start.machine.config.turns
+  pub gets_on : (is_over (ending_at r.machine) ≡ true) ⊎ (count ≡ start.machine.config.turns)
 
 -- a scheduled run of this image and configuration: its history is legal, and each entry is that of one step of the
 -- policy; its ending is an exit, a trap or a full history, or it has as many steps as the configuration has turns

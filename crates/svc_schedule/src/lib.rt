@@ -10,4 +10,4 @@ mod step;
 
 pub use policies::{Oldest, Random, Rotate, Youngest};
 pub use policy::Policy;
-pub use run::run_schedule;
+pub use run::{continue_schedule, run_schedule};

@@ -81,7 +81,7 @@ gave_as r x y e a next k named same tries =
     (subst (λ (z : Event). e ≡ entry_of z (reply_to r.machine.image (standing_of r) z)) same named.entry) tries
 
 -- the seat of a unit's task is that unit's
-seat_of_unit : (m : Machine State) (unit : ℕ) (seat : Seat State) → seat_at m unit ≡ Some seat → seat.unit ≡ unit
+pub seat_of_unit : (m : Machine State) (unit : ℕ) (seat : Seat State) → seat_at m unit ≡ Some seat → seat.unit ≡ unit
 seat_of_unit m unit seat h = of (seat_place m unit) refl h
   where
     of : (o : Option ℕ) → seat_place m unit ≡ o → unwrap_or (option_map (slice_get m.seats) o) None ≡ Some seat → seat.unit ≡ unit

@@ -1,4 +1,6 @@
+pub mod Following
 pub mod LeadingBack
+pub mod LeadingOn
 pub mod PlainSteps
 pub mod Played
 pub mod ShortSteps

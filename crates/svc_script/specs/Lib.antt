@@ -1,3 +1,5 @@
+pub mod Events
 pub mod Leading
 pub mod Playing
 pub mod Script
+pub mod Suppliers

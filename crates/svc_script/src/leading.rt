@@ -27,7 +27,7 @@ fn turns(entry: &Entry) -> u32
 }
 
 // The step that leads to an entry.
-fn step_to(entry: &Entry) -> Step
+pub(crate) fn step_to(entry: &Entry) -> Step
     ensures { result ≡ step_to entry.now }
 {
     let arg = entry.arg.unwrap_or(0);

@@ -71,7 +71,7 @@ pub fn play<O: Write>(
 }
 
 // Does a step.
-fn do_step(recorder: &mut Recorder, kept: &mut Kept, step: &Step) -> Answer
+pub(crate) fn do_step(recorder: &mut Recorder, kept: &mut Kept, step: &Step) -> Answer
     ensures step { DoesKind step.now.kind step.now.unit recorder.old kept.old.items result recorder.new kept.new.items }
     ensures image { recorder.new.machine.image ≡ recorder.old.machine.image }
     ensures config { recorder.new.machine.config ≡ recorder.old.machine.config }

@@ -1,3 +1,3 @@
 .svc_entry
-.section .comment,"MS",@progbits,1
+.section .tdata,"awT",@progbits
  ecall

@@ -7,8 +7,8 @@ use std::sync::Wait;
 use std::thread::Threads;
 use svc_base::Config;
 use svc_program::{
-    Assembly, Fault, FileFault, Files, Request, Run, Scripted, Source, Table, Tasks, Traced,
-    perform, tell,
+    Assembly, Compared, Fault, FileFault, Files, Request, Run, Scripted, Source, Table, Tasks,
+    Traced, perform, tell,
 };
 use svc_report::ReportError;
 use svc_samples::P;
@@ -155,7 +155,7 @@ fn request_of<'a>(kind: Printing, config: Config) -> Request<'a> {
             events: "events",
             trace: None,
         }),
-        Printing::Check => Request::Check(traced, None),
+        Printing::Check => Request::Check(traced, Compared::All, None),
         Printing::Profile => Request::Profile(traced, None, None, None),
         Printing::Tasks => Request::Profile(traced, None, Some(Table::Tasks), None),
         Printing::Show => Request::Show(traced, None, None),

@@ -1,7 +1,7 @@
 use Rattle.std.proofs.Common.{rules}
 use Rattle.std.proofs.lemmas.List.Sorted.{answers_always}
 use Rattle.svc_explore.specs.declared.found.Seen.{Seen}
-use Rattle.svc_explore.specs.Order.{places_of}
+use Rattle.svc_observations.specs.Order.{places_of}
 use Rattle.svc_explore.proofs.Permuting.{ordered}
 use Rattle.svc_explore.proofs.order.put_in_order.Goals as goal
 

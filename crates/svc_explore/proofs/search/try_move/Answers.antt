@@ -6,7 +6,6 @@ use Rattle.svc_history.specs.Recorded.{Recorded, standing_of}
 use Rattle.svc_explore_laws.specs.Observations.{Numbers, observations, observed}
 use Rattle.svc_explore.specs.Recorders.{HasMoved}
 use Rattle.svc_explore.specs.Tries.{both}
-use Rattle.svc_explore.proofs.Rosters.{same_numbers}
 use Rattle.svc_explore.proofs.search.try_move.Goals as goal
 
 pub returns-clause-tried : goal.returns-clause-tried
@@ -20,7 +19,7 @@ returns-clause-tried c =
       moved = moved;
       sights_are =
           (λ i. both (c.happened.ensures i) (c.squashed.ensures i))
-          ∙ ap (λ (n : Numbers). observed n entry) (same_numbers plain c.in_ok-roster.roster c.in_ok-roster.ensures)
+          ∙ ap (λ (n : Numbers). observed n entry) c.in_ok-roster.ensures
           ∙ ap (observations plain) (c.last_entry-entry.ensures old.entries (entry_of moved.event (reply_to old.machine.image (standing_of old) moved.event)) moved.entries);
       key_is = c.in_ok-key.ensures;
     }

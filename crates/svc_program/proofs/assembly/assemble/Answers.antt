@@ -1,7 +1,7 @@
 use Rattle.std.specs.Prelude.{IfSome}
 use Rattle.std.proofs.Common.{◌≡◌, ◌∙◌, ℕ, List, inl, inr, refl, rules, subst}
 use Rattle.svc_request.specs.declared.request.Request.TheVariants as request
-use Rattle.svc_program.proofs.Answering.{failed_save}
+use Rattle.svc_answer.proofs.Answering.{failed_save}
 use Rattle.svc_program.proofs.Assembled.{program_of}
 use Rattle.svc_program.proofs.assembly.assemble.Goals as goal
 
@@ -26,6 +26,7 @@ returns g c =
       );
       silent = tt;
       order = tt;
+      machine = tt;
       kept = c.in_ok-save.ensures.others;
       spared = tt;
     }
@@ -41,6 +42,7 @@ returns-in_err-save g c =
       done = search rules;
       silent = search rules;
       order = search rules;
+      machine = search rules;
       kept = c.save.ensures.others;
       spared = failed_save (request.Assemble c.args.assembly) held saved c.from_residual-in_err-save.result (search rules) (image, c.start-start.ensures.sound, program);
     }
@@ -48,4 +50,4 @@ returns-in_err-save g c =
 -- nothing is saved before the image's own file is
 pub returns-in-Err : goal.returns-in-Err
 returns-in-Err g c =
-    record { done = tt; silent = inr refl; order = inr tt; kept = λ other differs. refl; spared = inl refl }
+    record { done = tt; silent = inr refl; order = inr tt; machine = λ run. tt; kept = λ other differs. refl; spared = inl refl }

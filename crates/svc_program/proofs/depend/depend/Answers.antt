@@ -1,8 +1,8 @@
 use Rattle.std.proofs.Common.{Option}
 use denote.Ref.{Bor}
 use Rattle.svc_names.specs.declared.names.Names.{Names}
-use Rattle.svc_program.specs.Needs.{TellsNeeds}
-use Rattle.svc_program.proofs.Answering.{needs_answered, of_named}
+use Rattle.svc_answer.specs.Needs.{TellsNeeds}
+use Rattle.svc_answer.proofs.Answering.{needs_answered, of_named}
 use Rattle.svc_program.proofs.depend.depend.Goals as goal
 
 pub returns : goal.returns

@@ -7,8 +7,8 @@ use Rattle.svc_explore_laws.specs.Closed.{IsIn}
 use Rattle.svc_explore.specs.declared.found.Seen.{Seen}
 use Rattle.svc_explore.specs.declared.walk.Exploration.{Exploration}
 use Rattle.svc_explore.specs.Found.{are_seen}
-use Rattle.svc_explore.specs.Sought.{Matches}
-use Rattle.svc_program.specs.Requests.{SavesAnyTrace}
+use Rattle.svc_observations.specs.Sought.{Matches}
+use Rattle.svc_answer.specs.Requests.{SavesAnyTrace}
 use Rattle.svc_program.proofs.Finding.{answer_of, shown_if}
 use Rattle.svc_program.proofs.find.look_for.Goals as goal
 

@@ -1,4 +1,4 @@
-use Rattle.svc_program.specs.Requests.{SavesAnyTrace}
+use Rattle.svc_answer.specs.Requests.{SavesAnyTrace}
 use Rattle.svc_program.proofs.Finding.{saved_by}
 use Rattle.svc_program.proofs.find.save_witness.Goals as goal
 

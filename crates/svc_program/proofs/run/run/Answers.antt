@@ -1,4 +1,4 @@
-use Rattle.svc_program.proofs.Answering.{run_answered}
+use Rattle.svc_answer.proofs.Answering.{run_answered}
 use Rattle.svc_program.proofs.run.run.Goals as goal
 
 pub returns : goal.returns

@@ -1,4 +1,4 @@
-use Rattle.svc_program.specs.Requests.{SavesAnyTrace}
+use Rattle.svc_answer.specs.Requests.{SavesAnyTrace}
 use Rattle.svc_program.proofs.WholeScript.{always, scripted}
 use Rattle.svc_program.proofs.script.play_script.Goals as goal
 

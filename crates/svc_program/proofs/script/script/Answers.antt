@@ -1,9 +1,9 @@
 use Rattle.std.specs.Prelude.{IfOk}
 use Rattle.std.proofs.Common.{List, subst}
 use Rattle.svc_script.specs.declared.script.Step.{Step}
-use Rattle.svc_program.specs.Requests.{SavesAnyTrace}
-use Rattle.svc_program.specs.Scripts.{PlaysScript}
-use Rattle.svc_program.proofs.Answering.{script_answered}
+use Rattle.svc_answer.specs.Requests.{SavesAnyTrace}
+use Rattle.svc_answer.specs.Scripts.{PlaysScript}
+use Rattle.svc_answer.proofs.Answering.{script_answered}
 use Rattle.svc_program.proofs.script.script.Goals as goal
 
 pub returns : goal.returns

@@ -1,6 +1,6 @@
 use Rattle.std.proofs.Common.{None, false}
 use Rattle.svc_plain.specs.Tasks.{tasks_run}
-use Rattle.svc_program.proofs.Reported.{reported}
+use Rattle.svc_answer.proofs.Reported.{reported}
 use Rattle.svc_program.proofs.sequential.run_in_order.Goals as goal
 
 pub returns-clause-report : goal.returns-clause-report

@@ -1,4 +1,4 @@
-use Rattle.svc_program.proofs.Answering.{run_in_order}
+use Rattle.svc_answer.proofs.Answering.{run_in_order}
 use Rattle.svc_program.proofs.sequential.sequential.Goals as goal
 
 pub returns : goal.returns

@@ -1,62 +1,9 @@
-use Rattle.std.proofs.Common.{ℕ, suc, ◌≡◌, ◌+◌, ◌∙◌, List, subst, sym, arith, inl, inr}
-use Rattle.svc_base.specs.declared.ids.UnitId.{UnitId}
-use Rattle.svc_image.specs.Image.{Image}
-use Rattle.svc_schedule.specs.Bursts.{AreReady}
-use Rattle.svc_schedule.specs.Steps.{FirstMoves, Steps, asked}
-use Rattle.svc_core_laws.specs.Bursts.{Advance}
-use Rattle.svc_schedule.proofs.Ending.{ended_is_over}
-use Rattle.svc_schedule.proofs.Making.{ready_back}
-use Rattle.svc_schedule.proofs.Stepping.{one_more}
+use Rattle.std.proofs.Common.{◌∙◌}
+use Rattle.svc_schedule.proofs.Opening.{scheduled}
 use Rattle.svc_schedule.proofs.run.run_schedule.Goals as goal
-use Rattle.svc_schedule.proofs.run.run_schedule.Goals.{else-loop-test, then-loop-test+then-has_ended}
-
-pub take_step-requires-clause-going : goal.take_step-requires-clause-going
-take_step-requires-clause-going g c = sym c.has_ended.ensures.ended ∙ c.if-has_ended.false
-
-pub take_step-requires-clause-ready : goal.take_step-requires-clause-ready
-take_step-requires-clause-ready g c =
-    let i = c.loop.invariant in
-    subst (λ (bs : List Advance). AreReady c.loop.recorder.machine.image c.args.burst bs) (sym c.deref_mut.ensures.value)
-    (subst (λ (img : Image). AreReady img c.args.burst c.loop.bursts.items) (sym i.image) i.ready)
-
-pub loop-preserved : goal.loop-preserved
-loop-preserved g c =
-    let i = c.loop.invariant in
-    let from = c.loop.recorder in
-    let to = c.take_step.new.recorder in
-    let one = one_more c.args.burst from to (asked c.as_slice.result.now) c.take_step.ensures.moves in
-    let next : suc c.loop.counter ≡ c.loop.counter + 1 = omega arith in
-    record {
-      image = one.image ∙ i.image;
-      config = one.config ∙ i.config;
-      count = omega (arith, one.count, i.count);
-      none = i.none;
-      ready = ready_back _ _ _ _ _ c.loop.bursts.ok.0 i.ready (subst (λ (img : Image). AreReady img c.args.burst c.take_step.new.bursts) i.image c.take_step.ensures.ready);
-      steps =
-          subst (λ (n : ℕ). Steps g.P.Policy.gives c.args.burst n c.args.policy.now c.order-order.new.self c.in_ok-recorder.recorder to) next (
-            c.loop.policy,
-            from,
-            c.order-order.result.items,
-            i.steps,
-            c.has_ended.ensures.legal,
-            c.order-order.ensures,
-            subst (λ (us : List UnitId). FirstMoves c.args.burst from to (asked us)) c.as_slice.ensures.value c.take_step.ensures.moves,
-          );
-    }
 
 pub returns-clause-run : goal.returns-clause-run
 returns-clause-run g c =
-    let i = c.loop.invariant in
-    record {
-      image = i.image;
-      config_is = i.config;
-      legal = c.keeps.ensures.legal;
-      opened = c.in_ok-recorder.recorder;
-      no_entries = i.none;
-      steps = subst (λ (n : ℕ). Steps g.P.Policy.gives c.args.burst n c.args.policy.now c.loop.policy c.in_ok-recorder.recorder c.loop.recorder) (sym i.count) i.steps;
-      few = omega (arith, i.count);
-      gets_on = elim c.loop-test.branch [
-        | else-loop-test w ↦ inr (omega (arith, w.loop-test.false, i.count))
-        | then-loop-test+then-has_ended w ↦ inl (ended_is_over c.loop.recorder.machine (sym (w.if-has_ended.ensures {u = tt}).ended))
-      ];
-    }
+    let opened = c.in_ok-recorder.ensures {u = tt} in
+    scheduled g.P.Policy.gives c.args.burst c.args.policy.now c.continue_schedule.new.policy c.in_ok-recorder.recorder c.continue_schedule.new.recorder c.in_ok-continue_schedule.ensures.goes opened.entries
+    c.args.image.now c.args.config (opened.image ∙ c.in-Ok.ensures.ok) opened.config

@@ -1,9 +1,11 @@
-use Rattle.std.proofs.Common.{◌≡◌, ◌∙◌, refl}
-use Rattle.svc_draft.specs.Layouts.{whole_size}
+use Rattle.std.proofs.Common.{◌≡◌, ◌∙◌, ap, true}
+use Rattle.svc_draft.specs.Layouts.{Layout, layout_of, empty}
 use Rattle.svc_draft.proofs.draft.Draft.again.Goals as goal
 
 pub returns : goal.returns
 returns c =
-    let rodata : c.whole_size-data_from.result ≡ whole_size c.args.self.rodata_bytes.items = cc (c.whole_size-data_from.ensures.size, c.deref.ensures.value) in
-    let middle : c.whole_size.result ≡ whole_size c.args.self.data_bytes.items = cc (c.whole_size.ensures.size, c.deref-2.ensures.value) in
-    c.with_names.ensures ∙ rw (rodata, middle) refl
+    let d = layout_of c.args.self in
+    let begun = λ (x : Layout). record x { known = true; data_from = c.data_begin-data_from.result; bss_from = c.bss_begin-bss_from.result; data_step = d.data_step; bss_step = d.bss_step; locals = d.locals } in
+    let data_from = c.data_begin-data_from.ensures.value in
+    let bss_from = c.bss_begin-bss_from.ensures.value in
+    ap begun c.with_names-again.ensures ∙ (λ i. record (empty d.names true (data_from i) (bss_from i)) { data_step = d.data_step; bss_step = d.bss_step; locals = d.locals })

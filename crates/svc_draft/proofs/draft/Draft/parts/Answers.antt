@@ -16,7 +16,7 @@ are c =
     let rodata = c.deref.ensures.value in
     let middle = c.deref-2.ensures.value in
     let bss = c.deref-3.ensures.value in
-    let whole : c.in_ok-data.data.items ≡ data_in (layout_of c.args.self) = c.in_ok-data.ensures.ok ∙ (λ i. data_of (rodata i) (middle i) (bss i)) in
+    let whole : c.in_ok-data.data.items ≡ data_in (layout_of c.args.self) = c.in_ok-data.ensures.ok ∙ (λ i. data_of c.args.self.data_step c.args.self.bss_step (rodata i) (middle i) (bss i)) in
     let count : c.len.result ≡ length c.in_ok-data.data.items = c.len.ensures ∙ c.in_ok-data.data.ok.0 in
     let place = c.deref-4.ensures.value in
     record {

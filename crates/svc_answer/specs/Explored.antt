@@ -1,0 +1,53 @@
+-- What the program prints of all schedules of an image.
+use Rattle.std.specs.Prelude.{◌≡◌, ℕ, List, Option, None, Some, IsTrue, cond, is_some}
+use denote.Ref.{Bor}
+use Rattle.std.specs.Io.KnownBytes.{Appends}
+use Rattle.svc_base.specs.declared.config.Config.{Config}
+use Rattle.svc_image.specs.Image.{Image}
+use Rattle.svc_history_laws.specs.declared.entry.Entry.{Entry}
+use Rattle.svc_explore_laws.specs.declared.observation.Observation.{Observation}
+use Rattle.svc_explore_laws.specs.Closed.{IsIn, ShowNothingElse}
+use Rattle.svc_explore.specs.declared.found.Seen.{Seen}
+use Rattle.svc_observations.specs.declared.sought.Sought.{Sought}
+use Rattle.svc_explore.specs.declared.walk.Exploration.{Exploration}
+use Rattle.svc_explore.specs.Counts.{IsTold, KeepsLimits}
+use Rattle.svc_explore.specs.Found.{AreWitnessed, are_seen}
+use Rattle.svc_observations.specs.Order.{AreInOrder}
+use Rattle.svc_explore.specs.Rows.{exploration_text, finding_text}
+use Rattle.svc_explore.specs.Witnesses.{IsWitness, ShowNoMatch}
+use Rattle.svc_observations.specs.Sought.{Matches}
+use Rattle.svc_request.specs.declared.request.Explored.{Explored}
+
+-- an exploration of all schedules by bursts of at most so many turns: each observation is in its place with a schedule that shows
+-- it; where it is whole no schedule shows anything else, and where it isn't, it has met the limit of standings or that of events
+pub record IsExplorationOf (img : Image) (config : Config) (burst limit : ℕ) (found : Exploration) : Type 0 where
+  pub whole : IsTrue found.whole → ShowNothingElse img config burst (are_seen found.found.items)
+  pub witnessed : AreWitnessed img config burst found.found.items
+  pub order : AreInOrder (are_seen found.found.items)
+  pub told : IsTold img config burst found
+  pub limits : KeepsLimits config limit found
+
+-- the rows of one were printed, and the exit status says whether it was whole
+pub record TellsSchedules (img : Image) (config : Config) (burst limit : ℕ) (old new : Option (List ℕ)) (exit : ℕ) : Type 0 where
+  pub exploration : Exploration
+  pub is : IsExplorationOf img config burst limit exploration
+  pub text : Appends old new (exploration_text exploration)
+  pub status : exit ≡ cond exploration.whole 0 2
+
+-- a history for which something holds is a play that shows the observation
+abbrev pub HasWitness : Image → Explored → Observation → (saves : List Entry → Type 0) → Type 0
+HasWitness img explored o saves = (es : List Entry) × IsWitness img explored.config explored.burst o es × saves es
+
+-- one of what was found is what is looked for, and has such a witness; or no play shows anything that is
+abbrev pub IsAnswerTo : Image → Explored → Sought → Exploration → (saves : List Entry → Type 0) → Option (Bor Seen) → Type 0
+IsAnswerTo img explored sought x saves None = ShowNoMatch img explored.config explored.burst sought
+IsAnswerTo img explored sought x saves (Some seen) = IsIn seen.now x.found.items × Matches sought seen.now.what × HasWitness img explored seen.now.what saves
+
+-- what was found is told, and the exit status says whether anything was
+pub record FindsSight (img : Image) (explored : Explored) (sought : Sought) (saves : List Entry → Type 0) (old new : Option (List ℕ)) (exit : ℕ) : Type 0 where
+  pub exploration : Exploration
+  pub is : IsExplorationOf img explored.config explored.burst explored.states exploration
+  pub seen : Option (Bor Seen)
+  pub answer : IsAnswerTo img explored sought exploration saves seen
+  pub text : Appends old new (finding_text exploration seen)
+  pub status : exit ≡ cond (is_some seen) 0 2

@@ -1,0 +1,12 @@
+pub mod Requests
+pub mod Runs
+pub mod Costs
+pub mod Shown
+pub mod Scripts
+pub mod Assembly
+pub mod Drawings
+pub mod Fronts
+pub mod Explored
+pub mod Observed
+pub mod Named
+pub mod Needs

@@ -1,0 +1,339 @@
+//! The arguments of the subcommands.
+
+use svc_base::limits::MAX_BURST_TURNS;
+
+/// The greatest number of tasks that may be asked of the plain runner.
+const MAX_TASKS: u32 = 1_000_000;
+
+/// What an argument takes.
+#[derive(Clone, Copy)]
+pub(crate) enum Takes {
+    /// A file, by its place among the words. It has to be named.
+    File,
+    /// Any word.
+    Word,
+    /// One of these names.
+    Name(&'static [&'static str]),
+    /// A number from the first of these to the second.
+    Number(u32, u32),
+    /// A number of 64 bits.
+    Index,
+    /// Nothing: it is given or not.
+    Nothing,
+}
+
+/// An argument of a subcommand.
+#[derive(Clone, Copy)]
+pub(crate) struct Argument {
+    /// Its name: for an option the word after `--`, for a file what help calls it.
+    pub(crate) name: &'static str,
+    /// What it takes.
+    pub(crate) takes: Takes,
+    /// What help calls its value.
+    pub(crate) value: &'static str,
+    /// Its value if none is given.
+    pub(crate) default: Option<&'static str>,
+    /// Whether it has to be given.
+    pub(crate) is_required: bool,
+    /// The option without which it is a mistake.
+    pub(crate) needs: Option<&'static str>,
+    /// The options beside which it is a mistake.
+    pub(crate) excludes: &'static [&'static str],
+    /// Its line of help.
+    pub(crate) help: &'static str,
+}
+
+// An option that takes a number, and may be left out.
+const OPTION: Argument = Argument {
+    name: "",
+    takes: Takes::Number(0, u32::MAX),
+    value: "N",
+    default: None,
+    is_required: false,
+    needs: None,
+    excludes: &[],
+    help: "",
+};
+
+// A file.
+const FILE: Argument = Argument {
+    takes: Takes::File,
+    ..OPTION
+};
+
+pub(crate) const IMAGE: Argument = Argument {
+    name: "IMAGE",
+    help: "The image's file",
+    ..FILE
+};
+
+pub(crate) const EVENTS_FILE: Argument = Argument {
+    name: "EVENTS",
+    help: "The script's file",
+    ..FILE
+};
+
+pub(crate) const TRACE_FILE: Argument = Argument {
+    name: "TRACE",
+    help: "The trace's file",
+    ..FILE
+};
+
+pub(crate) const PICTURE: Argument = Argument {
+    name: "FILE.svg",
+    help: "The file that the picture is saved in",
+    ..FILE
+};
+
+pub(crate) const TEXT: Argument = Argument {
+    name: "FILE",
+    help: "The text's file",
+    ..FILE
+};
+
+pub(crate) const MADE_IMAGE: Argument = Argument {
+    name: "IMAGE",
+    help: "The file that the image is saved in",
+    ..FILE
+};
+
+pub(crate) const TRACE: Argument = Argument {
+    name: "trace",
+    takes: Takes::Word,
+    value: "FILE",
+    help: "Saves the trace in this file: a CSV text with a row for each event",
+    ..OPTION
+};
+
+pub(crate) const SCRIPT_FILE: Argument = Argument {
+    name: "script",
+    help: "Saves the script that leads to the trace in this file: a CSV text with a row for each step",
+    ..TRACE
+};
+
+pub(crate) const IGNORE: Argument = Argument {
+    name: "ignore",
+    takes: Takes::Name(&["served"]),
+    value: "COLUMNS",
+    help: "Takes any supplier of a read, in the columns served and from, and compares the others",
+    ..OPTION
+};
+
+pub(crate) const ROW: Argument = Argument {
+    name: "row",
+    takes: Takes::Word,
+    value: "LABEL",
+    help: "Prints one row of a table instead, beginning with this label",
+    ..OPTION
+};
+
+// The same row, beside the tables of a profile.
+pub(crate) const ROW_OF_PROFILE: Argument = Argument {
+    excludes: &["by"],
+    ..ROW
+};
+
+pub(crate) const HEADER: Argument = Argument {
+    name: "header",
+    takes: Takes::Nothing,
+    needs: Some("row"),
+    help: "Prints the names of the columns before the row",
+    ..OPTION
+};
+
+pub(crate) const ROWS: Argument = Argument {
+    name: "rows",
+    takes: Takes::Nothing,
+    help: "Saves what the picture shows as rows instead",
+    ..OPTION
+};
+
+pub(crate) const BY: Argument = Argument {
+    name: "by",
+    takes: Takes::Name(&["task", "unit", "word"]),
+    value: "TABLE",
+    help: "Prints a table instead, with a row for each task that was begun, for each unit, or for each word that was touched",
+    ..OPTION
+};
+
+pub(crate) const NAMES: Argument = Argument {
+    name: "names",
+    takes: Takes::Word,
+    value: "FILE",
+    help: "Puts the names of this table at the ends of rows, by the address that a row has",
+    ..OPTION
+};
+
+// The same names, beside the row of a profile.
+pub(crate) const NAMES_OF_PROFILE: Argument = Argument {
+    excludes: &["row"],
+    ..NAMES
+};
+
+pub(crate) const AT: Argument = Argument {
+    name: "at",
+    takes: Takes::Index,
+    help: "Shows the machine after this many of the trace's entries; without it, after all",
+    ..OPTION
+};
+
+pub(crate) const TO: Argument = Argument {
+    name: "to",
+    takes: Takes::Index,
+    help: "Counts this many of the trace's entries; without it, all",
+    ..OPTION
+};
+
+pub(crate) const FROM: Argument = Argument {
+    name: "from",
+    default: Some("0"),
+    help: "The first entry to show, counted from 0",
+    ..OPTION
+};
+
+pub(crate) const COUNT: Argument = Argument {
+    name: "count",
+    takes: Takes::Number(1, u32::MAX),
+    default: Some("400"),
+    help: "How many entries to show at most: 1 to 4294967295",
+    ..OPTION
+};
+
+pub(crate) const TASKS: Argument = Argument {
+    name: "tasks",
+    takes: Takes::Number(0, MAX_TASKS),
+    value: "K",
+    is_required: true,
+    help: "How many tasks to run at most, from the first on: 0 to 1000000",
+    ..OPTION
+};
+
+// The same number, for tasks that are followed.
+pub(crate) const TASKS_FOLLOWED: Argument = Argument {
+    default: Some("1000000"),
+    is_required: false,
+    help: "How many tasks to follow at most, from the first on: 0 to 1000000",
+    ..TASKS
+};
+
+// The tables of needs.
+pub(crate) const BY_OF_NEEDS: Argument = Argument {
+    takes: Takes::Name(&["task", "pair", "word"]),
+    help: "Prints a table instead, with a row for each task, for each task and one that it needs, or for each word that a task needs or writes",
+    ..BY
+};
+
+pub(crate) const DOT: Argument = Argument {
+    name: "dot",
+    takes: Takes::Nothing,
+    excludes: &["by"],
+    help: "Prints the graph of tasks instead, for Graphviz, with an edge for each task and one that it needs",
+    ..OPTION
+};
+
+pub(crate) const SCHEDULE: Argument = Argument {
+    name: "schedule",
+    takes: Takes::Name(&["rotate", "oldest", "youngest", "random"]),
+    value: "ORDER",
+    help: "Runs all units in one thread, in this order, so that the run can be repeated",
+    ..OPTION
+};
+
+pub(crate) const SEED: Argument = Argument {
+    name: "seed",
+    needs: Some("schedule"),
+    help: "The seed of a random order: 0 to 4294967295; without it, 0",
+    ..OPTION
+};
+
+pub(crate) const BURST: Argument = Argument {
+    name: "burst",
+    takes: Takes::Number(1, MAX_BURST_TURNS),
+    needs: Some("schedule"),
+    help: "The most turns of a unit in a step of a schedule: 1 to 63; without it, 63",
+    ..OPTION
+};
+
+pub(crate) const AFTER: Argument = Argument {
+    name: "after",
+    takes: Takes::Word,
+    value: "FILE",
+    needs: Some("schedule"),
+    help: "Does the events of this script first, and goes on by the schedule from there",
+    ..OPTION
+};
+
+// The same number, for a unit's move in any schedule.
+pub(crate) const BURST_OF_MOVES: Argument = Argument {
+    needs: None,
+    default: Some("63"),
+    help: "The most turns of a unit in a move: 1 to 63",
+    ..BURST
+};
+
+pub(crate) const STATES: Argument = Argument {
+    name: "states",
+    takes: Takes::Number(1, u32::MAX),
+    default: Some("1000000"),
+    help: "How many standings are followed at most: 1 to 4294967295",
+    ..OPTION
+};
+
+pub(crate) const FIND: Argument = Argument {
+    name: "find",
+    takes: Takes::Word,
+    value: "WHAT[,TASK[,WORD]]",
+    help: "Looks for one observation instead, and prints its row",
+    ..OPTION
+};
+
+pub(crate) const OF: Argument = Argument {
+    name: "of",
+    takes: Takes::Word,
+    value: "TRACE",
+    excludes: &["find", "states", "burst"],
+    help: "Prints what this trace shows instead, with the number of the entry",
+    ..OPTION
+};
+
+// The trace of a schedule that shows it.
+pub(crate) const TRACE_OF_FINDING: Argument = Argument {
+    needs: Some("find"),
+    help: "Saves the trace of a schedule that shows it in this file",
+    ..TRACE
+};
+
+pub(crate) const UNITS: Argument = Argument {
+    name: "units",
+    default: Some("4"),
+    help: "How many processing units there are: 1 to 16",
+    ..OPTION
+};
+
+pub(crate) const SETS: Argument = Argument {
+    name: "sets",
+    default: Some("16"),
+    help: "How many sets each unit's cache has: a power of two, 1 to 256",
+    ..OPTION
+};
+
+pub(crate) const WAYS: Argument = Argument {
+    name: "ways",
+    default: Some("2"),
+    help: "How many lines a set holds: 1 to 4",
+    ..OPTION
+};
+
+pub(crate) const EVENTS: Argument = Argument {
+    name: "events",
+    default: Some("100000"),
+    help: "How many events are accepted at most: 1 to 1000000",
+    ..OPTION
+};
+
+pub(crate) const TURNS: Argument = Argument {
+    name: "turns",
+    default: Some("1000000"),
+    help: "How many turns each unit takes at most, with an event or two in each: 1 to 10000000",
+    ..OPTION
+};

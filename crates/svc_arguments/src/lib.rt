@@ -1,0 +1,6 @@
+//! The command line as its parser is told of it: the subcommands, their arguments, and the help of each.
+#![tactic(auto)]
+
+mod arguments;
+pub mod command;
+mod helps;

@@ -1,0 +1,3 @@
+.svc_entry
+    ecall
+    .balign 6

@@ -1,0 +1,4 @@
+.svc_entry
+    ecall
+    .data
+    .fill 1, 9, 1

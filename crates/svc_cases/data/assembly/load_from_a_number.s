@@ -1,0 +1,2 @@
+.svc_entry
+    lw a0, 8

@@ -1,0 +1,5 @@
+.svc_entry
+    ecall
+    .section .debug_line,"",@progbits
+    .frob 1
+    .previous

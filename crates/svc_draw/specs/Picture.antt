@@ -1,0 +1,39 @@
+-- The picture of a history: its text, of the bars and marks that are shown.
+use Rattle.std.specs.Prelude.{ℕ, List, ◌++◌, length, flat_map}
+use Rattle.svc_history_laws.specs.declared.entry.Entry.{Entry}
+use Rattle.svc_draw.specs.declared.bars.Bar.{Bar}
+use Rattle.svc_draw.specs.declared.marks.Mark.{Mark}
+use Rattle.svc_draw.specs.declared.sheet.Sheet.{Sheet}
+use Rattle.svc_draw.specs.Bars.{bars_of, window_of}
+use Rattle.svc_draw.specs.Drawing.{bar_name, bar_text, layer_text, values_text}
+use Rattle.svc_draw.specs.Frame.{radius}
+use Rattle.svc_draw.specs.Legend.{axis, head, lanes, legend}
+use Rattle.svc_draw.specs.Marks.{marks_of}
+use Rattle.svc_draw.specs.Shapes.{arrow_heads, closing}
+
+-- what lies below: the heads of arrows, the legend and the lanes
+unfoldable pub surroundings : Sheet → (total : ℕ) → List ℕ
+surroundings s total = head ++ arrow_heads (radius s) ++ legend s total ++ lanes s
+
+-- the bars, and on them the marks, layer by layer
+unfoldable pub things : Sheet → List Bar → List Mark → List ℕ
+things s bs ms = flat_map (bar_text s) bs ++ layer_text s 0 ms ++ layer_text s 1 ms ++ layer_text s 2 ms
+
+-- and on these the words
+unfoldable pub words : Sheet → List Bar → List Mark → List ℕ
+words s bs ms = values_text s ms ++ flat_map (bar_name s) bs ++ axis s
+
+-- a picture of these bars and marks, of a history of so many entries
+unfoldable pub picture_text : Sheet → (total : ℕ) → List Bar → List Mark → List ℕ
+picture_text s total bs ms = surroundings s total ++ things s bs ms ++ words s bs ms ++ closing
+
+-- so many of a history's entries, from one on
+abbrev pub sheet_of : List Entry → (units from count : ℕ) → Sheet
+sheet_of es units from count = record { window = window_of es from count; units = units }
+
+-- the picture of these
+abbrev pub picture_on : Sheet → List Entry → List ℕ
+picture_on s es = picture_text s (length es) (bars_of es s.window) (marks_of es s.window (bars_of es s.window))
+
+unfoldable pub picture_of : List Entry → (units from count : ℕ) → List ℕ
+picture_of es units from count = picture_on (sheet_of es units from count) es

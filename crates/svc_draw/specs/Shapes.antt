@@ -1,0 +1,159 @@
+-- The shapes of a picture, as elements of SVG. Numbers and fixed words are all that they hold, so nothing needs an escape.
+use Rattle.std.specs.Prelude.{ℕ, ◌+◌, ◌-◌, ◌*◌, List, [], ◌∷◌, ◌++◌, codes, decimal}
+use Rattle.std.specs.List.{concat}
+use Rattle.svc_draw.specs.declared.sheet.TheConstants.{BOTTOM, TOP}
+
+-- ---- marks: elements that stay open for a title
+
+-- a ring: a load
+unfoldable pub ring : (x y size : ℕ) → List ℕ
+ring x y size =
+    concat (codes "<circle cx='" ∷ decimal x ∷ codes "' cy='" ∷ decimal y ∷ codes "' r='" ∷ decimal size
+    ∷ codes "' fill='#fff' stroke='#111' stroke-width='2'>" ∷ [])
+
+-- a full square: a store
+unfoldable pub square : (x y size : ℕ) → List ℕ
+square x y size =
+    concat (codes "<rect x='" ∷ decimal (x - size) ∷ codes "' y='" ∷ decimal (y - size) ∷ codes "' width='" ∷ decimal (2 * size)
+    ∷ codes "' height='" ∷ decimal (2 * size) ∷ codes "' fill='#111'>" ∷ [])
+
+-- a diamond: an output word
+unfoldable pub diamond : (x y size : ℕ) → List ℕ
+diamond x y size =
+    concat (codes "<path d='M" ∷ decimal (x - (size + 2)) ∷ codes " " ∷ decimal y ∷ codes "L" ∷ decimal x ∷ codes " " ∷ decimal (y - (size + 2))
+    ∷ codes "L" ∷ decimal (x + (size + 2)) ∷ codes " " ∷ decimal y ∷ codes "L" ∷ decimal x ∷ codes " " ∷ decimal (y + (size + 2))
+    ∷ codes "Z' fill='#ffe04a' stroke='#111' stroke-width='2'>" ∷ [])
+
+-- a broken line across all lanes: a commit
+unfoldable pub commit_line : (x : ℕ) → List ℕ
+commit_line x =
+    concat (codes "<path d='M" ∷ decimal x ∷ codes " " ∷ decimal TOP ∷ codes "V" ∷ decimal BOTTOM
+    ∷ codes "' fill='none' stroke='#2e7d32' stroke-width='2' stroke-dasharray='6 4'>" ∷ [])
+
+-- an arrow from one place to another: thin where a version goes to its reader, bold where a store squashes one
+unfoldable pub thin_arrow : (x y right down : ℕ) → List ℕ
+thin_arrow x y right down =
+    concat (codes "<path d='M" ∷ decimal x ∷ codes " " ∷ decimal y ∷ codes "L" ∷ decimal right ∷ codes " " ∷ decimal down
+    ∷ codes "' fill='none' stroke='#14508c' stroke-width='2' marker-end='url(#thin)'>" ∷ [])
+
+unfoldable pub bold_arrow : (x y right down : ℕ) → List ℕ
+bold_arrow x y right down =
+    concat (codes "<path d='M" ∷ decimal x ∷ codes " " ∷ decimal y ∷ codes "L" ∷ decimal right ∷ codes " " ∷ decimal down
+    ∷ codes "' fill='none' stroke='#b01010' stroke-width='4' marker-end='url(#bold)'>" ∷ [])
+
+-- the end of such an element
+unfoldable pub close : (element : List ℕ) → List ℕ
+close element = concat (codes "</" ∷ element ∷ codes ">\n" ∷ [])
+
+-- the beginning of the title that shows at the pointer
+unfoldable pub title_open : (place : ℕ) → List ℕ
+title_open place = concat (codes "<title>entry " ∷ decimal place ∷ codes ": " ∷ [])
+
+-- ---- whole elements
+
+-- a box, which stays open for a title: a bar
+unfoldable pub bar_box : (x y width height : ℕ) → (fill : List ℕ) → List ℕ
+bar_box x y width height fill =
+    concat (codes "<rect x='" ∷ decimal x ∷ codes "' y='" ∷ decimal y ∷ codes "' width='" ∷ decimal width ∷ codes "' height='" ∷ decimal height
+    ∷ codes "' rx='3' fill='" ∷ fill ∷ codes "' stroke='#333'>" ∷ [])
+
+-- the title of a bar, and its end
+unfoldable pub box_title : (number entry first : ℕ) → (fate : List ℕ) → (turns : ℕ) → List ℕ
+box_title number entry first fate turns =
+    concat (codes "<title>task " ∷ decimal number ∷ codes " at address " ∷ decimal entry ∷ codes ", begun by entry " ∷ decimal first
+    ∷ codes ": " ∷ fate ∷ codes "; turns: " ∷ decimal turns ∷ codes "</title></rect>\n" ∷ [])
+
+-- words in black on a white rim
+unfoldable pub label_open : (x y : ℕ) → (style : List ℕ) → List ℕ
+label_open x y style =
+    concat (codes "<text x='" ∷ decimal x ∷ codes "' y='" ∷ decimal y ∷ codes "' " ∷ style
+    ∷ codes " paint-order='stroke' stroke='#fff' stroke-width='4' stroke-linejoin='round'>" ∷ [])
+
+unfoldable pub label_close : List ℕ
+label_close = codes "</text>\n"
+
+unfoldable pub label : (x y : ℕ) → (style words : List ℕ) → List ℕ
+label x y style words = label_open x y style ++ words ++ label_close
+
+-- ---- the legend
+
+-- what is shown
+unfoldable pub headline : (count total from units : ℕ) → List ℕ
+headline count total from units =
+    concat (codes "<text x='90' y='30' font-size='18' font-weight='bold'>" ∷ decimal count ∷ codes " of " ∷ decimal total
+    ∷ codes " entries, from entry " ∷ decimal from ∷ codes "; units: " ∷ decimal units ∷ codes "</text>\n" ∷ [])
+
+-- a sample of a fate
+unfoldable pub fate_sample : (x : ℕ) → (fill name : List ℕ) → List ℕ
+fate_sample x fill name =
+    concat (codes "<rect x='" ∷ decimal x ∷ codes "' y='48' width='32' height='18' fill='" ∷ fill ∷ codes "' stroke='#111'/><text x='"
+    ∷ decimal (x + 40) ∷ codes "' y='62'>" ∷ name ∷ codes "</text>\n" ∷ [])
+
+-- the end of a sample of a mark, and what it is
+unfoldable pub sample_end : (element : List ℕ) → (x : ℕ) → (name : List ℕ) → List ℕ
+sample_end element x name =
+    concat (codes "</" ∷ element ∷ codes "><text x='" ∷ decimal x ∷ codes "' y='95'>" ∷ name ∷ codes "</text>\n" ∷ [])
+
+-- the heads of arrows, which end at the rim of a mark of this size
+unfoldable pub arrow_heads : (size : ℕ) → List ℕ
+arrow_heads size =
+    concat (codes "<defs><marker id='thin' markerWidth='12' markerHeight='10' refX='" ∷ decimal (11 + size)
+    ∷ codes "' refY='5' orient='auto' markerUnits='userSpaceOnUse'><path d='M0 0L11 5L0 10Z' fill='#14508c'/></marker>"
+    ∷ codes "<marker id='bold' markerWidth='18' markerHeight='16' refX='" ∷ decimal (18 + size)
+    ∷ codes "' refY='8' orient='auto' markerUnits='userSpaceOnUse'><path d='M0 0L17 8L0 16Z' fill='#b01010'/></marker></defs>\n" ∷ [])
+
+-- ---- lanes and the axis
+
+-- a lane, with its name before it
+unfoldable pub lane : (number top height : ℕ) → (fill : List ℕ) → (middle : ℕ) → List ℕ
+lane number top height fill middle =
+    concat (codes "<rect x='90' y='" ∷ decimal top ∷ codes "' width='1490' height='" ∷ decimal height ∷ codes "' fill='" ∷ fill
+    ∷ codes "'/><text x='20' y='" ∷ decimal middle ∷ codes "'>unit " ∷ decimal number ∷ codes "</text>\n" ∷ [])
+
+-- an entry's number, below its place
+unfoldable pub tick : (x place : ℕ) → List ℕ
+tick x place =
+    concat (codes "<path d='M" ∷ decimal x ∷ codes " 838V845' stroke='#111'/><text x='" ∷ decimal x
+    ∷ codes "' y='860' text-anchor='middle'>" ∷ decimal place ∷ codes "</text>\n" ∷ [])
+
+-- ---- what every picture has
+
+-- its size
+unfoldable pub opening : List ℕ
+opening =
+    concat (codes "<?xml version='1.0' encoding='UTF-8'?>\n<svg xmlns='http://www.w3.org/2000/svg' width='1600' height='900' "
+    ∷ codes "viewBox='0 0 1600 900' font-family='Helvetica, Arial, sans-serif' font-size='14' fill='#111'>\n<defs>\n" ∷ [])
+
+-- a hatching of 8 by 8
+unfoldable pub hatching : (name turn paper lines : List ℕ) → List ℕ
+hatching name turn paper lines =
+    concat (codes "<pattern id='" ∷ name ∷ codes "' width='8' height='8' patternUnits='userSpaceOnUse'" ∷ turn
+    ∷ codes "><rect width='8' height='8' fill='" ∷ paper ∷ codes "'/>" ∷ lines ∷ codes "</pattern>\n" ∷ [])
+
+-- the paper, after the hatchings
+unfoldable pub paper_text : List ℕ
+paper_text = codes "</defs>\n<rect width='1600' height='900' fill='#fff'/>\n"
+
+-- samples of the lines that marks have
+unfoldable pub commit_sample : List ℕ
+commit_sample = codes "<path d='M550 80V100' stroke='#2e7d32' stroke-width='2' stroke-dasharray='6 4'/><text x='562' y='95'>commit</text>\n"
+
+unfoldable pub thin_sample : List ℕ
+thin_sample = codes "<path d='M670 90H735' stroke='#14508c' stroke-width='2' marker-end='url(#thin)'/>"
+
+unfoldable pub bold_sample : List ℕ
+bold_sample = codes "<path d='M1090 90H1160' stroke='#b01010' stroke-width='4' marker-end='url(#bold)'/>"
+
+-- the end of a picture
+unfoldable pub closing : List ℕ
+closing = codes "</svg>\n"
+
+-- the rim of the lanes
+unfoldable pub border : List ℕ
+border = codes "<rect x='90' y='118' width='1490' height='720' fill='none' stroke='#888'/>\n"
+
+-- the words below the axis
+unfoldable pub axis_words : List ℕ
+axis_words =
+    concat (codes "<text x='90' y='884'>in a bar: the number of its task @ the address where that began</text>\n"
+    ∷ codes "<text x='1580' y='884' text-anchor='end'>entry of the trace, counted from 0</text>\n" ∷ [])

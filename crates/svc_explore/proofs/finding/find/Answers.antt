@@ -1,0 +1,8 @@
+use Rattle.std.proofs.Common.{◌<◌, arith, length}
+use Rattle.svc_explore.proofs.NoMatch.{match_none}
+use Rattle.svc_explore.proofs.finding.find.Goals as goal
+
+pub loop-seen-preserved : goal.loop-seen-preserved
+loop-seen-preserved c =
+    let inside : c.loop-seen.seen-index < length c.args.found.now = omega (arith, c.loop-seen-test.true) in
+    match_none c.args.sought c.args.found.now c.loop-seen.seen-index c.seen-item.result inside c.seen-item.is c.loop-seen.invariant c.matches.result c.matches.ensures.1 c.if-matches.false

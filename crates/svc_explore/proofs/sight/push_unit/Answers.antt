@@ -1,7 +1,0 @@
-use Rattle.std.proofs.Common.{◌∙◌, ◌∷◌, [], ap}
-use Rattle.svc_explore.specs.Sights.{unit_numbers}
-use Rattle.svc_explore.proofs.Rosters.{units_append}
-use Rattle.svc_explore.proofs.sight.push_unit.Goals as goal
-
-pub returns : goal.returns
-returns c = ap unit_numbers c.in_ok-push.ensures.items ∙ units_append c.args.units.now.items (c.args.unit ∷ [])

@@ -1,0 +1,4 @@
+pub mod Rosters
+pub mod Listing
+pub mod Ordering
+pub mod Firsts

@@ -1,0 +1,5 @@
+pub mod Rosters
+pub mod Order
+pub mod Rows
+pub mod Sought
+pub mod Sightings

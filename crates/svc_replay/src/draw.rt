@@ -1,0 +1,89 @@
+//! `draw`: a picture of a trace.
+
+ghost use Rattle.std.specs.Prelude.{◌≡◌, ◌≤◌, ◌+◌, ◌⊎◌, Some, IfOk, IfErr, length};
+ghost use Rattle.svc_base.specs.declared.config.TheConstants.{MAX_EVENTS};
+ghost use Rattle.svc_request.specs.declared.faults.Fault.TheVariants.{File};
+ghost use Rattle.svc_request.specs.declared.request.Request.TheVariants as request;
+ghost use Rattle.svc_answer.specs.Drawings.{IsDrawn, drawing_of, shown_as};
+ghost use Rattle.svc_report.specs.Faults.{IsMemoryFault};
+ghost use Rattle.svc_answer.specs.Fronts.{front};
+ghost use Rattle.svc_answer.specs.Requests.{IsAnswered};
+ghost use Rattle.svc_request.specs.Faults.{IsReportFault, TellsOfTrace};
+
+use crate::check::replay;
+use crate::fronts::first;
+use std::alloc::Global;
+use std::io::Write;
+use svc_answer::load::load_traced;
+use svc_base::Config;
+use svc_history::Entry;
+use svc_image::Image;
+use svc_report::ReportError;
+use svc_request::{Fault, Files, Picture, Traced};
+
+/// Replays a trace up to the last entry that is shown, and saves a picture of it. Nothing is printed.
+pub fn draw<F: Files, O: Write>(
+    alloc: Global,
+    traced: Traced<'_>,
+    picture: Picture<'_>,
+    files: &mut F,
+    out: &O,
+) -> Result<u8, Fault>
+    ensures { IsAnswered O.contents (request.Draw traced.entry picture.entry)
+        (F.held files.old) (F.held files.new) out.now out.now result }
+{
+    let _nothing_is_printed = out;
+    let (image, entries) = load_traced(alloc, traced, files)?;
+    let text = draw_entries(alloc, image, traced.config, &entries, picture)?;
+    files.save(picture.file, &text)?;
+    Ok(0)
+}
+
+// Replays the entries up to the last that the picture shows, and draws it.
+//
+// Errors: the first fault of these entries; [`Fault::File`] if the trace has fewer entries than precede the picture's first;
+// lack of memory.
+fn draw_entries(
+    alloc: Global,
+    image: Image,
+    config: Config,
+    entries: &[Entry],
+    picture: Picture<'_>,
+) -> Result<Vec<u8>, Fault>
+    ensures drawn { IfOk result (λ _. IsDrawn image config entries.now picture.entry.from picture.entry.count) }
+    ensures text { IfOk result (λ text.
+        text.items ≡ drawing_of picture.entry.rows config.units entries.now picture.entry.from picture.entry.count) }
+    ensures fault { let last = picture.entry.from + picture.entry.count in
+        IfErr result (λ fault. (fault ≡ File) ⊎ IsReportFault fault
+        ⊎ TellsOfTrace image config (front (Some last) entries.now) fault) }
+{
+    let from = u64::from(picture.from);
+    let count = u64::from(picture.count);
+    let drawn = first(entries, Some(from + count));
+    replay(alloc, image, config, drawn)?;
+    if from > entries.len() as u64 {
+        return Err(Fault::File);
+    }
+    let text = text_of(alloc, drawn, config, picture.rows, from, count)?;
+    Ok(text)
+}
+
+// What is shown of these entries, as rows or as a picture.
+fn text_of(
+    alloc: Global,
+    entries: &[Entry],
+    config: Config,
+    rows: bool,
+    from: u64,
+    count: u64,
+) -> Result<Vec<u8>, ReportError>
+    requires few { length entries.now ≤ MAX_EVENTS }
+    ensures ok { IfOk result (λ text. text.items ≡ shown_as rows config.units entries.now from count) }
+    ensures err { IfErr result IsMemoryFault }
+{
+    if rows {
+        svc_draw::draw_rows(alloc, entries, from, count)
+    } else {
+        svc_draw::draw(alloc, entries, config.units, from, count)
+    }
+}
