@@ -64,6 +64,7 @@ const SUBCOMMANDS: [Subcommand; 11] = [
             FIND,
             TRACE_OF_FINDING,
             OF,
+            NAMES,
             UNITS,
             SETS,
             WAYS,
