@@ -17,8 +17,9 @@ use svc_program::{Fault, Files, Request, perform, perform_alone, tell};
 
 /// Does what the words of a command line ask for; the first word is the program's name. It answers the exit status: 0
 /// if the run reached the program's exit, a trace was sound, or help or the version was asked for; 1 at a fault, which
-/// is printed on `err`, with what explains it where a word is `--explain`; and 2 at any other ending. The fault is the first, looked for in this order: the words, the
-/// configuration, the image, the script or trace, the opening of the machine, the run, the output.
+/// is printed on `err`, with what explains it where a word is `--explain`; and 2 at any other ending. The fault is the
+/// first, looked for in this order: the words, the configuration, the image, the script or trace, the opening of the
+/// machine, the run, the output.
 pub fn execute<R: Threads + Wait + Sync, F: Files, O: Write, E: Write>(
     rt: &R,
     alloc: Global,

@@ -27,7 +27,7 @@ sentence words = codes "svcsim: " ++ words ++ codes "\n"
 
 -- the trace that is replayed, and which columns of it are compared
 abbrev pub replayed_by : Request → Option (Traced × Compared)
-replayed_by (request.Observe traced) = Some (traced, All)
+replayed_by (request.Observe traced named) = Some (traced, All)
 replayed_by (request.Check traced compared script) = Some (traced, compared)
 replayed_by (request.Profile traced to by named) = Some (traced, All)
 replayed_by (request.Show traced at named) = Some (traced, All)
@@ -61,9 +61,9 @@ abbrev pub read_by : Request → List (Option (Bor (List ℕ)))
 read_by (request.Run run) = name_of run.image ∷ script_of run.schedule ∷ None ∷ []
 read_by (request.Sequential tasks) = name_of tasks.image ∷ None ∷ None ∷ []
 read_by (request.Depend depended) = name_of depended.image ∷ depended.names ∷ None ∷ []
-read_by (request.Explore explored) = name_of explored.image ∷ None ∷ None ∷ []
-read_by (request.Find explored sought trace) = name_of explored.image ∷ None ∷ None ∷ []
-read_by (request.Observe traced) = name_of traced.image ∷ Some traced.trace ∷ None ∷ []
+read_by (request.Explore explored) = name_of explored.image ∷ explored.names ∷ None ∷ []
+read_by (request.Find explored sought trace) = name_of explored.image ∷ explored.names ∷ None ∷ []
+read_by (request.Observe traced named) = name_of traced.image ∷ Some traced.trace ∷ named ∷ []
 read_by (request.Script scripted) = name_of scripted.image ∷ Some scripted.events ∷ None ∷ []
 read_by (request.Check traced compared script) = name_of traced.image ∷ Some traced.trace ∷ None ∷ []
 read_by (request.Profile traced to by named) = name_of traced.image ∷ Some traced.trace ∷ named ∷ []

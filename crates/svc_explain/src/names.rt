@@ -35,15 +35,15 @@ pub(crate) fn read_by<'a>(request: &Request<'a>) -> [Option<&'a str>; 3]
         Request::Sequential(tasks) => [name_of(tasks.image), None, None],
         Request::Depend(depended) => [name_of(depended.image), depended.names, None],
         Request::Explore(explored) | Request::Find(explored, _, _) => {
-            [name_of(explored.image), None, None]
+            [name_of(explored.image), explored.names, None]
         }
         Request::Script(scripted) => [name_of(scripted.image), Some(scripted.events), None],
-        Request::Observe(traced) | Request::Check(traced, _, _) | Request::Draw(traced, _) => {
+        Request::Check(traced, _, _) | Request::Draw(traced, _) => {
             [name_of(traced.image), Some(traced.trace), None]
         }
-        Request::Profile(traced, _, _, names) | Request::Show(traced, _, names) => {
-            [name_of(traced.image), Some(traced.trace), *names]
-        }
+        Request::Observe(traced, names)
+        | Request::Profile(traced, _, _, names)
+        | Request::Show(traced, _, names) => { [name_of(traced.image), Some(traced.trace), *names] }
         Request::Assemble(assembly) => [Some(assembly.text), None, None],
         Request::List(image) => [name_of(*image), None, None],
         Request::Help(_) | Request::Version => [None, None, None],

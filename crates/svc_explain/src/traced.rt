@@ -17,7 +17,7 @@ fn replayed_by<'a>(request: &Request<'a>) -> Option<(Traced<'a>, Compared)>
 {
     match request {
         Request::Check(traced, compared, _) => Some((*traced, *compared)),
-        Request::Observe(traced)
+        Request::Observe(traced, _)
         | Request::Profile(traced, _, _, _)
         | Request::Show(traced, _, _)
         | Request::Draw(traced, _) => Some((*traced, Compared::All)),
