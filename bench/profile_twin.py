@@ -1,5 +1,7 @@
 #!/usr/bin/env python3
-"""The profile of a trace, by another way than the program's: python3 profile_twin.py TRACE.csv [task|unit|word [UNITS]]
+"""The profile of a trace, by another way than the program's: python3 profile_twin.py TRACE.csv [TABLE [UNITS]]
+
+TABLE is task, unit, word, pair or supplier.
 
 It keeps the queue of active tasks as a list of units, and counts each squash from the queue's end by the row's number
 of squashed tasks, where the program goes by the tasks' numbers.
@@ -21,6 +23,7 @@ def settle(task, fate, last=""):
 queue, tasks = [], []
 served = {}
 words = {}
+pairs, supplies = {}, {}
 events = begun = replaced = committed = 0
 for at, row in enumerate(csv.DictReader(open(sys.argv[1], newline=""))):
     events += 1
@@ -48,6 +51,16 @@ for at, row in enumerate(csv.DictReader(open(sys.argv[1], newline=""))):
     elif kind == "commit":
         settle(queue.pop(0), "committed", at)
         committed += 1
+    if row["served"] == "version":
+        places = [next(i for i, t in enumerate(queue) if t["unit"] == row[name]) for name in ("from", "unit")]
+        met = (*(committed + place for place in places), int(row["addr"]))
+        supplies[met] = supplies.get(met, 0) + 1
+    if row["cause"] == "violation":
+        storer = next(t for t in queue if t["unit"] == row["unit"])
+        victims = queue[-int(row["squashed"]):]
+        pair = pairs.setdefault((storer["number"], victims[0]["number"], int(row["addr"])), [0, 0])
+        pair[0] += 1
+        pair[1] += sum(t["turns"] for t in victims)
     for _ in range(int(row["squashed"] or 0)):
         if row["cause"] == "violation":
             word[4] += 1
@@ -86,9 +99,22 @@ def by_word():
         print(",".join(map(str, [word, *words[word]])))
 
 
+def by_pair():
+    print("storer,victim,word,squashes,turns-squashed")
+    for pair in sorted(pairs):
+        print(",".join(map(str, [*pair, *pairs[pair]])))
+
+
+def by_supplier():
+    print("supplier,reader,word,reads")
+    for met in sorted(supplies):
+        print(",".join(map(str, [*met, supplies[met]])))
+
+
 table = sys.argv[2] if len(sys.argv) > 2 else None
 if table:
-    {"task": by_task, "unit": lambda: by_unit(int(sys.argv[3])), "word": by_word}[table]()
+    tables = {"task": by_task, "unit": lambda: by_unit(int(sys.argv[3])), "word": by_word}
+    (tables | {"pair": by_pair, "supplier": by_supplier})[table]()
     sys.exit()
 print(f"events,{events}")
 print(f"tasks-begun,{begun}")

@@ -22,7 +22,7 @@ part_few t r light = by (is_of t.group r.fate) (measured_few t.measure r light)
     by true few = few
     by false few = omega arith
 
-total_few : (t : Total) (rs : List TaskRun) → AllByRecursion (IsLight 1000000) rs → total rs t ≤ 514000000 * length rs
+pub total_few : (t : Total) (rs : List TaskRun) → AllByRecursion (IsLight 1000000) rs → total rs t ≤ 514000000 * length rs
 total_few t [] all = omega arith
 total_few t (r ∷ rs) all =
     let first = part_few t r all.0 in

@@ -15,3 +15,5 @@ pub mod Blamed
 pub mod AddingWords
 pub mod Done
 pub mod Naming
+pub mod Meeting
+pub mod MetRows

@@ -1,6 +1,6 @@
 -- The rows of a table of counts are those of the words that entries name.
 use Rattle.std.proofs.Common.{◌≡◌, ◌∙◌, ◌+◌, ◌<◌, ◌≤◌, ◌++◌, ◌∷◌, [], ℕ, zero, suc, List, Bool, true, false, Option, None, Some, cond, refl, ap, ap₂, subst, sym, arith, ne_eqb}
-use Rattle.std.specs.Prelude.{◌==◌, ◌||◌, codes, decimal, flat_map, nat_lt}
+use Rattle.std.specs.Prelude.{◌==◌, ◌||◌, decimal, flat_map, nat_lt}
 use Rattle.std.specs.BTreeMap.{BTreeMap, IsOrdered, get}
 use Rattle.std.specs.List.{AllByRecursion, filter, list_any, range_with_len}
 use Rattle.std.specs.Map.{keys_of}

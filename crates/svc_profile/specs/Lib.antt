@@ -7,3 +7,5 @@ pub mod Words
 pub mod Counts
 pub mod Named
 pub mod OneTask
+pub mod Meetings
+pub mod Met

@@ -29,8 +29,8 @@ pub(crate) struct Counts {
     pub(crate) turns: u64,
 }
 
-// The read was served by an earlier task's version.
-fn is_version(by: Option<ServedKind>) -> bool
+/// The read was served by an earlier task's version.
+pub(crate) fn is_version(by: Option<ServedKind>) -> bool
     ensures { result ≡ is_supplier served.Version by }
 {
     match by {
@@ -39,8 +39,8 @@ fn is_version(by: Option<ServedKind>) -> bool
     }
 }
 
-// The entry squashed tasks because they had read a word too early.
-fn is_violation(why: Option<CutKind>) -> bool
+/// The entry squashed tasks because they had read a word too early.
+pub(crate) fn is_violation(why: Option<CutKind>) -> bool
     ensures { result ≡ is_cause cause.Violation why }
 {
     match why {

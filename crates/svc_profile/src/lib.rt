@@ -3,6 +3,9 @@
 
 mod counts;
 mod laws;
+mod meetings;
+mod met;
+mod met_laws;
 mod profile;
 mod profile_row;
 mod shares;
@@ -14,6 +17,8 @@ mod word_laws;
 mod words;
 
 pub use laws::{task_rows_add_up, unit_rows_add_up};
+pub use met::{write_pairs, write_suppliers};
+pub use met_laws::{pair_rows_add_up, supplier_rows_add_up};
 pub use profile::write_profile;
 pub use profile_row::write_profile_row;
 pub use tasks::write_tasks;

@@ -4,5 +4,5 @@
 mod runs;
 mod task_run;
 
-pub use runs::tasks_of;
+pub use runs::{TaskRuns, tasks_of};
 pub use task_run::{Fate, TaskRun, loads_in, stores_in};

@@ -13,13 +13,15 @@ use crate::task_run::{Fate, TaskRun, turns_in};
 use std::alloc::{AllocError, Global};
 use svc_history_laws::{Entry, Kind};
 
-/// The tasks of a history so far: those whose fate is decided, in the order of the decisions, and the active ones,
-/// oldest first.
+/// The tasks of a history so far, entry by entry.
 #[derive(Drop)]
-pub(crate) struct TaskRuns {
-    pub(crate) commits: u64,
-    pub(crate) settled: Vec<TaskRun>,
-    pub(crate) active: Vec<TaskRun>,
+pub struct TaskRuns {
+    /// How many were committed.
+    pub commits: u64,
+    /// Those whose fate is decided, in the order of the decisions.
+    pub settled: Vec<TaskRun>,
+    /// The active ones, oldest first.
+    pub active: Vec<TaskRun>,
 }
 
 // Adds a task to a list, if there is one.
@@ -75,8 +77,8 @@ fn settle(active: &mut Vec<TaskRun>, settled: &mut Vec<TaskRun>) -> Result<(), A
 }
 
 impl TaskRuns {
-    // No tasks.
-    fn none(alloc: Global) -> TaskRuns
+    /// No tasks, before any entry.
+    pub fn none(alloc: Global) -> TaskRuns
         ensures { seen result ≡ no_runs }
     {
         TaskRuns {
@@ -122,6 +124,21 @@ impl TaskRuns {
         }
         push_some(begun, &mut self.active)?;
         self.commits += commits_in(entry.kind);
+        Ok(())
+    }
+
+    /// Takes in the entry at an index.
+    ///
+    /// Errors: [`AllocError`], if memory runs out.
+    pub fn take_in(&mut self, at: u64, entry: &Entry) -> Result<(), AllocError>
+        requires few { AreFew at (seen self.old) }
+        requires inside { at < MAX_EVENTS }
+        ensures tasks { OnOk result (seen self.new ≡ step at entry.now (seen self.old)) }
+        ensures few { OnOk result (AreFew (at + 1) (seen self.new)) }
+    {
+        // what the entry's type guarantees: it took over few turns
+        let _turns = turns_in(entry);
+        self.step(at, entry)?;
         Ok(())
     }
 

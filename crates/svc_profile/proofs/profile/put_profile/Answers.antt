@@ -1,4 +1,4 @@
-use Rattle.std.proofs.Common.{List, Some, ◌++◌, ◌∙◌, codes, subst}
+use Rattle.std.proofs.Common.{List, Some, ◌++◌, codes, subst}
 use Rattle.std.specs.Prelude.{flat_map, length}
 use Rattle.std.specs.Io.KnownBytes.{Appends}
 use Rattle.svc_report.specs.declared.counts.Counts.{Counts}

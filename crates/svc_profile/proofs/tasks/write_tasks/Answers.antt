@@ -1,4 +1,4 @@
-use Rattle.std.proofs.Common.{◌≡◌, ◌∙◌}
+use Rattle.std.proofs.Common.{◌∙◌}
 use Rattle.std.specs.Prelude.{flat_map}
 use Rattle.svc_text.proofs.Gathered.{all_written}
 use Rattle.svc_profile.specs.Tasks.{task_header, task_row, tasks_in_order}
