@@ -48,6 +48,8 @@ COLUMNS = [
     ("--by task", ["profile"], ["--by", "task"]),
     ("--by unit", ["profile"], ["--by", "unit"]),
     ("--by word", ["profile"], ["--by", "word"]),
+    ("--by pair", ["profile"], ["--by", "pair"]),
+    ("--by supplier", ["profile"], ["--by", "supplier"]),
     ("draw, 400", ["draw"], ["--count", "400"]),
     ("draw, 1,000", ["draw"], ["--count", "1000"]),
 ]

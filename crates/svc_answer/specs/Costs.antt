@@ -5,6 +5,7 @@ use Rattle.std.specs.Io.KnownBytes.{Appends}
 use Rattle.svc_base.specs.declared.config.Config.{Config}
 use Rattle.svc_image.specs.Image.{Image}
 use Rattle.svc_history_laws.specs.declared.entry.Entry.{Entry}
+use Rattle.svc_profile.specs.Met.{pair_table, supplier_table}
 use Rattle.svc_profile.specs.Profile.{profile_of}
 use Rattle.svc_profile.specs.ProfileRow.{profile_row}
 use Rattle.svc_profile.specs.Tasks.{task_table}
@@ -20,13 +21,15 @@ use Rattle.svc_request.specs.declared.request.Table.{Table}
 use Rattle.svc_request.specs.declared.request.Table.TheVariants as table
 use Rattle.svc_answer.specs.Fronts.{IsSoundFront, front}
 
--- what is printed of a history: its profile, or a table of its tasks, of the configuration's units or of the words that
--- it touches, or the profile as a row of a table
+-- what is printed of a history: its profile, or a table of its tasks, of the configuration's units, of the words that
+-- it touches, of its squashes or of the versions that served reads, or the profile as a row of a table
 abbrev pub cost_text : Option Table → Config → List Entry → List ℕ
 cost_text None config es = profile_of es
 cost_text (Some table.Tasks) config es = task_table es
 cost_text (Some table.Units) config es = unit_table config.units es
 cost_text (Some table.Words) config es = word_table es
+cost_text (Some table.Pairs) config es = pair_table es
+cost_text (Some table.Suppliers) config es = supplier_table es
 cost_text (Some (table.Row row)) config es = profile_row row es
 
 -- the rows of each, and where they have an address
@@ -35,6 +38,8 @@ cost_rows None = Some rows.Counts
 cost_rows (Some table.Tasks) = Some (rows.Table (Some (column.Text 2)))
 cost_rows (Some table.Units) = Some (rows.Table None)
 cost_rows (Some table.Words) = Some (rows.Table (Some (column.Word 0)))
+cost_rows (Some table.Pairs) = Some (rows.Table (Some (column.Word 2)))
+cost_rows (Some table.Suppliers) = Some (rows.Table (Some (column.Word 2)))
 cost_rows (Some (table.Row row)) = None
 
 -- the entries that are asked for are a legal history, and what a writer holds has grown by what is printed of it, with the

@@ -150,9 +150,9 @@ pub(crate) const ROWS: Argument = Argument {
 
 pub(crate) const BY: Argument = Argument {
     name: "by",
-    takes: Takes::Name(&["task", "unit", "word"]),
+    takes: Takes::Name(&["task", "unit", "word", "pair", "supplier"]),
     value: "TABLE",
-    help: "Prints a table instead, with a row for each task that was begun, for each unit, or for each word that was touched",
+    help: "Prints a table instead: by task, unit or word, by who squashed whom, or by whose version was read",
     ..OPTION
 };
 

@@ -225,7 +225,9 @@ each supplier served; and how many lines were replaced. For a faulty trace it re
 check does, and no count. Give the options that the trace was made with.
 
 With --by it prints a table instead, with a row for each task that was begun, squashed ones included, for
-each unit, or for each word of data that was touched. With --row it prints the counts as one row of a table,
+each unit, or for each word of data that was touched; --by pair has one for each task whose store squashed
+another, that task and the word, and --by supplier one for each task whose version another read, that task
+and the word. With --row it prints the counts as one row of a table,
 after a label, so that the rows of many traces join. With --to N it covers the first N entries, and those after
 them may be faulty. With --names a row ends with the name of its entry or word, by a table: a CSV text with the
 header name,address, in order of address and then name.

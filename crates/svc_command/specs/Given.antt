@@ -67,6 +67,8 @@ abbrev pub GivesTable : List (List ℕ) → Table → Type 0
 GivesTable words table.Tasks = IsValueOf (codes "by") (codes "task") words
 GivesTable words table.Units = IsValueOf (codes "by") (codes "unit") words
 GivesTable words table.Words = IsValueOf (codes "by") (codes "word") words
+GivesTable words table.Pairs = IsValueOf (codes "by") (codes "pair") words
+GivesTable words table.Suppliers = IsValueOf (codes "by") (codes "supplier") words
 GivesTable words (table.Row row) = GivesRow words row
 
 -- the table of needs is the one that the line names

@@ -50,6 +50,8 @@ pub(crate) fn table<'a>(line: Line<'_, 'a>) -> Result<Option<Table<'a>>, Fault>
         Some("task") => Ok(Some(Table::Tasks)),
         Some("unit") => Ok(Some(Table::Units)),
         Some("word") => Ok(Some(Table::Words)),
+        Some("pair") => Ok(Some(Table::Pairs)),
+        Some("supplier") => Ok(Some(Table::Suppliers)),
         // The parser accepts no other name.
         Some(_) => Err(Fault::File),
     }

@@ -6,8 +6,9 @@ ghost use Rattle.std.specs.List.{starts_with};
 use crate::samples::Samples;
 use crate::wanted::{
     CHECK, DEPEND, DEPEND_AS_GRAPH, DEPEND_BY_PAIR, DEPEND_BY_TASK, DEPEND_BY_WORD, DEPEND_NAMED,
-    EXPLORE, FIND, LIST, PROFILE, PROFILE_BY_TASK, PROFILE_BY_UNIT, PROFILE_BY_WORD, PROFILE_NAMED,
-    PROFILE_ROW, RUN, RUN_ROW, SCHEDULE, SCHEDULE_AFTER, SCRIPT, SEQ, SHOW, SHOW_AT, SHOW_NAMED,
+    EXPLORE, FIND, LIST, PROFILE, PROFILE_BY_PAIR, PROFILE_BY_SUPPLIER, PROFILE_BY_TASK,
+    PROFILE_BY_UNIT, PROFILE_BY_WORD, PROFILE_NAMED, PROFILE_ROW, RUN, RUN_ROW, SCHEDULE,
+    SCHEDULE_AFTER, SCRIPT, SEQ, SHOW, SHOW_AT, SHOW_NAMED,
 };
 use std::alloc::{AllocError, Global};
 use std::sync::Wait;
@@ -60,6 +61,13 @@ fn attempt_trace<R: Threads + Wait + Sync + AllocGlobal>(rt: &R, name: &str) -> 
         "profile_by_task" => Some(profile(rt, Some(Table::Tasks), None, PROFILE_BY_TASK)),
         "profile_by_unit" => Some(profile(rt, Some(Table::Units), None, PROFILE_BY_UNIT)),
         "profile_by_word" => Some(profile(rt, Some(Table::Words), None, PROFILE_BY_WORD)),
+        "profile_by_pair" => Some(profile(rt, Some(Table::Pairs), None, PROFILE_BY_PAIR)),
+        "profile_by_supplier" => Some(profile(
+            rt,
+            Some(Table::Suppliers),
+            None,
+            PROFILE_BY_SUPPLIER,
+        )),
         "profile_row" => Some(profile(rt, Some(Table::Row(HEADED)), None, PROFILE_ROW)),
         "profile_named" => Some(profile(rt, Some(Table::Words), NAMED, PROFILE_NAMED)),
         "show" => Some(show(rt, None, None, SHOW)),

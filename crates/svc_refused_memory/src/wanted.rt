@@ -216,7 +216,16 @@ pub const PROFILE_BY_WORD: &str = "word,loads,stores,versions,violations,squashe
 0,2,1,0,1,1,2
 ";
 
-/// The same with names.
+/// The same cost, by two tasks of which one squashed the other.
+pub const PROFILE_BY_PAIR: &str = "storer,victim,word,squashes,turns-squashed
+0,1,0,1,2
+";
+
+/// The same cost, by two tasks of which one read the other's version.
+pub const PROFILE_BY_SUPPLIER: &str = "supplier,reader,word,reads
+";
+
+/// The cost by word with names.
 pub const PROFILE_NAMED: &str = "word,loads,stores,versions,violations,squashed,turns-squashed,name
 0,2,1,0,1,1,2,shared
 ";

@@ -21,7 +21,10 @@ use svc_base::Config;
 use svc_history::Entry;
 use svc_image::Image;
 use svc_names::{Column, Names, Rows};
-use svc_profile::{write_profile, write_profile_row, write_tasks, write_units, write_words};
+use svc_profile::{
+    write_pairs, write_profile, write_profile_row, write_suppliers, write_tasks, write_units,
+    write_words,
+};
 use svc_report::ReportError;
 use svc_request::{Fault, Files, Table, Traced};
 
@@ -85,6 +88,7 @@ fn cost_rows(by: Option<Table<'_>>) -> Option<Rows>
         Some(Table::Tasks) => Some(Rows::Table(Some(Column::Text(2)))),
         Some(Table::Units) => Some(Rows::Table(None)),
         Some(Table::Words) => Some(Rows::Table(Some(Column::Word(0)))),
+        Some(Table::Pairs | Table::Suppliers) => Some(Rows::Table(Some(Column::Word(2)))),
         Some(Table::Row(_)) => None,
     }
 }
@@ -131,6 +135,8 @@ fn write_cost<O: Write>(
         Some(Table::Tasks) => write_tasks(alloc, entries, out),
         Some(Table::Units) => write_units(alloc, config.units, entries, out),
         Some(Table::Words) => write_words(alloc, entries, out),
+        Some(Table::Pairs) => write_pairs(alloc, entries, out),
+        Some(Table::Suppliers) => write_suppliers(alloc, entries, out),
         Some(Table::Row(row)) => write_profile_row(alloc, row, entries, out),
     }
 }

@@ -75,6 +75,10 @@ pub enum Table<'a> {
     Units,
     /// A row for each word that was touched.
     Words,
+    /// A row for each task that squashed another, that task and the word.
+    Pairs,
+    /// A row for each task whose version another read, that task and the word.
+    Suppliers,
     /// All counts, as one row of a table of many traces.
     Row(TableRow<'a>),
 }
