@@ -1,3 +1,4 @@
 pub mod Explained
+pub mod Fields
 pub mod Reasons
 pub mod Words

@@ -3,7 +3,7 @@ use Rattle.std.specs.Prelude.{◌≡◌, ◌≢◌, ℕ, ◌+◌, ◌-◌, ◌<�
 use Rattle.svc_base.specs.declared.refusal.Refusal.{Refusal}
 use Rattle.svc_base.specs.Refusals.{number_of}
 use Rattle.svc_history_laws.specs.declared.entry.Entry.{Entry}
-use Rattle.svc_names.specs.Rows.{field}
+use Rattle.svc_reasons.specs.Fields.{field}
 use Rattle.svc_report.specs.Trace.{row_of, text_of}
 use Rattle.svc_script.specs.declared.playing.Answer.{Answer}
 use Rattle.svc_script.specs.declared.playing.Answer.TheVariants as answer

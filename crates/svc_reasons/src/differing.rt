@@ -1,10 +1,10 @@
 // The first column in which two rows differ.
 
 ghost use Rattle.std.specs.Prelude.{◌≡◌, ◌↔◌, ◌-◌, IsTrue, length, take};
-ghost use Rattle.svc_names.specs.Rows.{field};
+ghost use Rattle.svc_reasons.specs.Fields.{field};
 ghost use Rattle.svc_reasons.specs.Reasons.{IsFirstOther, bare};
 
-use svc_names::field;
+use crate::fields::field;
 
 // The number of columns of a trace.
 const COLUMNS: usize = 13;

@@ -3,6 +3,7 @@
 
 mod differing;
 mod explained;
+mod fields;
 mod reason;
 mod sentences;
 mod told;

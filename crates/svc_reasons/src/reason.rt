@@ -9,7 +9,7 @@ use crate::told::{an_event, missing_column, put_replace_first, refusal_words};
 use std::alloc::{AllocError, Global};
 use svc_base::Refusal;
 use svc_history_laws::Entry;
-use svc_names::field;
+use crate::fields::field;
 use svc_report::{ReportError, write_entry, write_trace};
 use svc_script::Answer;
 use svc_text::{Piece, put};
