@@ -1,1 +1,2 @@
 pub mod FirstField
+pub mod Sound

@@ -5,11 +5,11 @@ ghost use Rattle.svc_report.specs.Trace.{row_of, text_of};
 ghost use Rattle.svc_reasons.specs.Reasons.{IsReason, TellsDifference, bare, difference_line, missing_line, refusal_line, row_start, sound_line};
 
 use crate::differing::{bare, first_other};
+use crate::fields::field;
 use crate::told::{an_event, missing_column, put_replace_first, refusal_words};
 use std::alloc::{AllocError, Global};
 use svc_base::Refusal;
 use svc_history_laws::Entry;
-use crate::fields::field;
 use svc_report::{ReportError, write_entry, write_trace};
 use svc_script::Answer;
 use svc_text::{Piece, put};
@@ -30,7 +30,8 @@ pub fn reason(
         None => missing(alloc, row, entry),
         Some(Answer::Accepted(found)) => differing(alloc, row, entry, &found),
         Some(Answer::Refused(why)) => refused(alloc, row, why),
-        Some(_) => Ok(Vec::new(alloc)),
+        Some(Answer::Taken { local: _, ask: _ }) => Ok(Vec::new(alloc)),
+        Some(Answer::Nothing) => Ok(Vec::new(alloc)),
     }
 }
 
