@@ -3,7 +3,7 @@
 ghost use Rattle.std.specs.Prelude.{◌≡◌, IfOk};
 ghost use Rattle.svc_reasons.specs.Explained.{AreSound, Explains, compared_entry, supplied};
 
-use crate::reason::reason;
+use crate::reasons::reason;
 use std::alloc::Global;
 use svc_base::Config;
 use svc_history::{Entry, Recorder, TraceFault, check_trace};
