@@ -61,6 +61,8 @@ pub(crate) fn written_by<'a>(request: &Request<'a>) -> Option<&'a str>
         Request::Check(_, _, script) => *script,
         Request::Draw(_, picture) => Some(picture.file),
         Request::Assemble(assembly) => Some(assembly.image),
-        _ => None,
+        Request::Sequential(_) | Request::Depend(_) | Request::Explore(_) => None,
+        Request::Observe(_) | Request::Profile(_, _, _, _) | Request::Show(_, _, _) => None,
+        Request::List(_) | Request::Help(_) | Request::Version => None,
     }
 }

@@ -21,7 +21,9 @@ fn replayed_by<'a>(request: &Request<'a>) -> Option<(Traced<'a>, Compared)>
         | Request::Profile(traced, _, _, _)
         | Request::Show(traced, _, _)
         | Request::Draw(traced, _) => Some((*traced, Compared::All)),
-        _ => None,
+        Request::Run(_) | Request::Sequential(_) | Request::Depend(_) => None,
+        Request::Explore(_) | Request::Find(_, _, _) | Request::Script(_) => None,
+        Request::Assemble(_) | Request::List(_) | Request::Help(_) | Request::Version => None,
     }
 }
 

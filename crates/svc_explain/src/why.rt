@@ -20,7 +20,12 @@ pub fn explain_alone(alloc: Global, fault: &Fault) -> Result<Vec<u8>, AllocError
         Fault::Config(error) => line(alloc, "", config_sentence(*error)),
         Fault::Image(error) => line(alloc, "", image_sentence(*error)),
         Fault::Output => line(alloc, "", "standard output can't be written"),
-        _ => Ok(Vec::new(alloc)),
+        Fault::CommandLine(_) | Fault::Assembly(_) | Fault::File => Ok(Vec::new(alloc)),
+        Fault::BadScript { row: _, column: _ }
+        | Fault::BadTrace { row: _, column: _ }
+        | Fault::BadNames { row: _, column: _ } => Ok(Vec::new(alloc)),
+        Fault::Plain(_) | Fault::Open(_) | Fault::Run(_) => Ok(Vec::new(alloc)),
+        Fault::Trace(_) | Fault::Limit | Fault::Report(_) => Ok(Vec::new(alloc)),
     }
 }
 
@@ -39,6 +44,12 @@ pub fn explain<F: Files>(
     match fault {
         Fault::File => Ok(explain_files(alloc, request, files)?),
         Fault::Trace(fault) => explain_fault(alloc, request, *fault, files),
-        _ => Ok(explain_alone(alloc, fault)?),
+        Fault::Config(_) | Fault::Image(_) | Fault::Output => Ok(explain_alone(alloc, fault)?),
+        Fault::CommandLine(_) | Fault::Assembly(_) => Ok(explain_alone(alloc, fault)?),
+        Fault::BadScript { row: _, column: _ }
+        | Fault::BadTrace { row: _, column: _ }
+        | Fault::BadNames { row: _, column: _ } => Ok(explain_alone(alloc, fault)?),
+        Fault::Plain(_) | Fault::Open(_) | Fault::Run(_) => Ok(explain_alone(alloc, fault)?),
+        Fault::Limit | Fault::Report(_) => Ok(explain_alone(alloc, fault)?),
     }
 }

@@ -17,11 +17,15 @@ abbrev pub AreSound : Compared → Image → Config → List Entry → (found : 
 AreSound All img config es found = (found ≡ es) × LegalHistory img config found
 AreSound ButSuppliers img config es found = IsSoundWith img config es found
 
+-- an entry with the supplier of the machine's answer, if that is an entry
+abbrev pub supplied : Option Answer → Entry → Entry
+supplied (Some (answer.Accepted found)) e = supplied_as e found
+supplied _ e = e
+
 -- an entry whose columns that aren't compared are those of the machine's answer
 abbrev pub compared_entry : Compared → Option Answer → Entry → Entry
-compared_entry ButSuppliers (Some (answer.Accepted found)) e = supplied_as e found
-compared_entry ButSuppliers _ e = e
-compared_entry All _ e = e
+compared_entry All a e = e
+compared_entry ButSuppliers a e = supplied a e
 
 -- the entries before the one at this index are sound, and what is told is what the machine answers behind them to the
 -- event that the entry there names. A row is counted from 1 with the header.

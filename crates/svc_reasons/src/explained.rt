@@ -1,9 +1,9 @@
 //! What is told of the fault of a trace.
 
 ghost use Rattle.std.specs.Prelude.{◌≡◌, IfOk};
-ghost use Rattle.svc_reasons.specs.Explained.{AreSound, Explains, compared_entry};
+ghost use Rattle.svc_reasons.specs.Explained.{AreSound, Explains, compared_entry, supplied};
 
-use crate::reason::reason;
+use crate::reasons::reason;
 use std::alloc::Global;
 use svc_base::Config;
 use svc_history::{Entry, Recorder, TraceFault, check_trace};
@@ -54,16 +54,29 @@ fn replay_before(
     }
 }
 
-// An entry whose columns that aren't compared are those of the machine's answer.
-fn entry_compared(compared: Compared, answer: Option<Answer>, entry: &Entry) -> Entry
-    ensures { result ≡ compared_entry compared answer entry.now }
+// An entry with the supplier of the machine's answer, if that is an entry.
+fn supplied(answer: Option<Answer>, entry: &Entry) -> Entry
+    ensures { result ≡ supplied answer entry.now }
 {
-    match (compared, answer) {
-        (Compared::ButSuppliers, Some(Answer::Accepted(found))) => Entry {
+    match answer {
+        Some(Answer::Accepted(found)) => Entry {
             served: found.served,
             from: found.from,
             ..*entry
         },
-        _ => *entry,
+        Some(Answer::Refused(_)) => *entry,
+        Some(Answer::Taken { local: _, ask: _ }) => *entry,
+        Some(Answer::Nothing) => *entry,
+        None => *entry,
+    }
+}
+
+// An entry whose columns that aren't compared are those of the machine's answer.
+fn entry_compared(compared: Compared, answer: Option<Answer>, entry: &Entry) -> Entry
+    ensures { result ≡ compared_entry compared answer entry.now }
+{
+    match compared {
+        Compared::All => *entry,
+        Compared::ButSuppliers => supplied(answer, entry),
     }
 }

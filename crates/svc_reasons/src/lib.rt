@@ -3,10 +3,10 @@
 
 mod differing;
 mod explained;
-mod reason;
+mod reasons;
 mod sentences;
 mod told;
 
 pub use explained::explain_entries;
-pub use reason::reason;
+pub use reasons::reason;
 pub use sentences::{config_sentence, image_sentence};

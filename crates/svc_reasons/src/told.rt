@@ -6,7 +6,7 @@ ghost use Rattle.svc_reasons.specs.Words.{an_event, missing_column, refusal_word
 use std::alloc::AllocError;
 use svc_base::Refusal;
 use svc_history_laws::{Entry, Kind};
-use svc_text::put;
+use svc_text::{Part, put_parts};
 
 /// The words of a refusal.
 #[tactic(auto, unfolding(crate::specs::Words::refusal_words))]
@@ -38,10 +38,17 @@ pub(crate) fn refusal_words(why: Refusal) -> &'static str
 pub(crate) fn put_replace_first(text: &mut Vec<u8>, why: Refusal) -> Result<(), AllocError>
     ensures { OnOk result (text.new.items ≡ text.old.items ++ replace_first why) }
 {
-    if let Refusal::SetFull(word) = why {
-        put!(text; "; replace word ", word.0, " first");
-    }
-    Ok(())
+    let Refusal::SetFull(word) = why else {
+        return Ok(());
+    };
+    put_parts(
+        text,
+        &[
+            Part::Text("; replace word "),
+            Part::Number(u64::from(word.0)),
+            Part::Text(" first"),
+        ],
+    )
 }
 
 /// The first column that its event needs and that is empty in an entry which lacks one.

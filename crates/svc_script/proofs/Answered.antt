@@ -7,8 +7,9 @@ use Rattle.svc_history_laws.specs.Legal.{LegalHistory}
 use Rattle.svc_history.specs.Recorded.{IsLegal, Recorded}
 use Rattle.svc_script.specs.declared.playing.Answer.{Answer}
 use Rattle.svc_script.specs.declared.playing.Answer.TheVariants as answer
+use Rattle.svc_script.specs.declared.script.Step.{Step}
 use Rattle.svc_script.specs.Answering.{HasNoTask, IsAnswerTo, RefusesEvent}
-use Rattle.svc_script.specs.Leading.{kind_to}
+use Rattle.svc_script.specs.Leading.{kind_to, step_to}
 use Rattle.svc_script.specs.Playing.{DoesKind, Kept}
 use Rattle.svc_script.specs.Suppliers.{has_numbers}
 use Rattle.svc_script.proofs.Following.{Did, did}
@@ -33,7 +34,13 @@ told r e (answer.Accepted found) next (inr (is, none)) image config_is = absurd 
 told r e (answer.Taken local ask) next (inr (is, none)) image config_is = absurd (cc is)
 told r e answer.Nothing next (inr (is, none)) image config_is = absurd (cc is)
 
-pub answer_told : (r : Recorded) (e : Entry) (a : Answer) (next : Recorded) (kept after : Kept) → IsLegal r → has_numbers e.kind e ≡ true
+answer_told : (r : Recorded) (e : Entry) (a : Answer) (next : Recorded) (kept after : Kept) → IsLegal r → has_numbers e.kind e ≡ true
     → DoesKind (kind_to e.kind e) e.unit r kept a next after → next.machine.image ≡ r.machine.image → next.machine.config ≡ r.machine.config
     → IsAnswerTo r.machine.image r.machine.config r.entries e a
 answer_told r e a next kept after legal is does image config_is = told r e a next (did e.kind r e a next kept after legal is does) image config_is
+
+pub step_answered : (r : Recorded) (e : Entry) (s : Step) (a : Answer) (next : Recorded) (kept after : Kept) → IsLegal r → has_numbers e.kind e ≡ true → s ≡ step_to e
+    → DoesKind s.kind s.unit r kept a next after → next.machine.image ≡ r.machine.image → next.machine.config ≡ r.machine.config
+    → IsAnswerTo r.machine.image r.machine.config r.entries e a
+step_answered r e s a next kept after legal is same does image config_is =
+    answer_told r e a next kept after legal is (subst (λ (t : Step). DoesKind t.kind t.unit r kept a next after) same does) image config_is

@@ -12,7 +12,7 @@ use svc_history_laws::Entry;
 use svc_names::field;
 use svc_report::{ReportError, write_entry, write_trace};
 use svc_script::Answer;
-use svc_text::{Piece, put};
+use svc_text::{Part, Piece, put, put_parts};
 
 /// What is told of the entry in a row of a trace, by what the machine answers there to the event that it names. The row
 /// is counted from 1 with the header.
@@ -30,7 +30,8 @@ pub fn reason(
         None => missing(alloc, row, entry),
         Some(Answer::Accepted(found)) => differing(alloc, row, entry, &found),
         Some(Answer::Refused(why)) => refused(alloc, row, why),
-        Some(_) => Ok(Vec::new(alloc)),
+        Some(Answer::Taken { local: _, ask: _ }) => Ok(Vec::new(alloc)),
+        Some(Answer::Nothing) => Ok(Vec::new(alloc)),
     }
 }
 
@@ -38,8 +39,14 @@ pub fn reason(
 fn put_start(text: &mut Vec<u8>, row: u64) -> Result<(), AllocError>
     ensures { OnOk result (text.new.items ≡ text.old.items ++ row_start row) }
 {
-    put!(text; "svcsim: row ", row, ": ");
-    Ok(())
+    put_parts(
+        text,
+        &[
+            Part::Text("svcsim: row "),
+            Part::Number(row),
+            Part::Text(": "),
+        ],
+    )
 }
 
 // The line about a number that is missing.
