@@ -1,10 +1,12 @@
 -- A text has one layout, which its lines make.
-use Rattle.std.proofs.Common.{◌≡◌, ℕ, ◌<◌, List, [], ◌∷◌, length, Option, Some, None, ap, sym, ◌∙◌, subst, arith}
+use Rattle.std.proofs.Common.{◌≡◌, ℕ, ◌<◌, ◌==◌, true, false, refl, List, [], ◌∷◌, length, Option, Some, None, ap, sym, ◌∙◌, subst, arith}
+use Rattle.std.proofs.lemmas.Bool.{eqb-true}
 use Rattle.svc_image.specs.Image.{Image}
 use Rattle.svc_draft.specs.declared.statement.Statement.{Statement}
 use Rattle.svc_draft.specs.Layouts.{Layout, after, first_pass, second_pass, IsMadeOf}
 use Rattle.svc_operands.specs.Characters.{name_at}
 use Rattle.svc_asm.specs.DataLines.{next_at}
+use Rattle.svc_asm.specs.Labels.{Gives, HasLabels}
 use Rattle.svc_asm.specs.Programs.{Takes, Makes, IsLaid, IsProgramOf}
 
 -- what is read and laid is one
@@ -29,6 +31,15 @@ advance (t ∷ ts) rest tail d next made s takes h =
 pub refuted : (todo : List Statement) (rest : List ℕ) (d made : Layout) → 0 < length rest → ((s : Statement) (tail : List ℕ) (next : Layout) → Takes rest d s tail next → ⊥) → Makes todo rest d made → ⊥
 refuted [] rest d made some none h = absurd (omega (arith, some, ap length h.0))
 refuted (s ∷ ss) rest d made some none h = none s h.0 h.1 h.2
+
+-- what is left where a text is empty, and where it isn't
+pub empty_is : (xs : List ℕ) → (length xs == 0) ≡ true → xs ≡ []
+empty_is [] h = refl
+empty_is (x ∷ xs) h = absurd (omega (arith, eqb-true (length (x ∷ xs)) 0 h))
+
+pub some_left : (xs : List ℕ) → (length xs == 0) ≡ false → 0 < length xs
+some_left [] h = absurd (cc)
+some_left (x ∷ xs) h = omega arith
 
 -- a text makes one layout
 pub one_made : (ss ts : List Statement) (text : List ℕ) (d made other : Layout) → Makes ss text d made → Makes ts text d other → made ≡ other
@@ -56,6 +67,18 @@ laid_by text ss ts a b c d e finds f makes = record {
   finds = subst (λ (x : Layout). Makes ss text x b) e finds;
   lines = ts;
   makes = subst (λ (x : Layout). Makes ts text x d) f makes;
+}
+
+-- two passes that go through, of which the second gives labels
+pub labels_by : (text : List ℕ) (ss ts : List Statement) (a b c d : Layout) (labels : List (List ℕ × ℕ))
+    → a ≡ first_pass → Makes ss text a b → c ≡ second_pass b → Gives ts text c d labels → HasLabels text labels
+labels_by text ss ts a b c d labels e finds f gives = record {
+  first_lines = ss;
+  first = b;
+  finds = subst (λ (x : Layout). Makes ss text x b) e finds;
+  lines = ts;
+  layout = d;
+  gives = subst (λ (x : Layout). Gives ts text x d labels) f gives;
 }
 
 -- a first pass that doesn't go through, and a second one

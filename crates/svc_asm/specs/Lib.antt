@@ -1,3 +1,4 @@
 pub mod Statements
 pub mod DataLines
 pub mod Programs
+pub mod Labels

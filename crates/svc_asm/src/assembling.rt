@@ -48,7 +48,7 @@ pub enum Expected {
 
 // Why reading stops: something else is expected where so many bytes of the text are left, or there is no memory.
 #[derive(Clone, Copy)]
-enum Stop {
+pub(crate) enum Stop {
     Fault(usize, Expected),
     Memory,
 }
@@ -73,7 +73,10 @@ fn refused_at(next: Next, text: &[u8], refusal: Refusal) -> usize {
 }
 
 // Adds what the first line says, and answers that and what follows it.
-fn take_line<'a>(text: &'a [u8], draft: &mut Draft<'a>) -> Result<(Statement, &'a [u8]), Stop>
+pub(crate) fn take_line<'a>(
+    text: &'a [u8],
+    draft: &mut Draft<'a>,
+) -> Result<(Statement, &'a [u8]), Stop>
     ensures ok { IfOk result (λ said.
         Takes text.now (layout_of draft.old) said.0 said.1.now (layout_of draft.new)) }
     ensures err { IfErr result (λ e. (e ≡ halt.Memory)
@@ -108,7 +111,7 @@ fn start_behind(said: Statement, line: &[u8], before: usize) -> usize {
 }
 
 // Adds what every line says, and answers how many bytes are left from the value of the last `.svc_start` on.
-fn take_lines<'a>(text: &'a [u8], draft: &mut Draft<'a>) -> Result<usize, Stop>
+pub(crate) fn take_lines<'a>(text: &'a [u8], draft: &mut Draft<'a>) -> Result<usize, Stop>
     ensures ok { IfOk result (λ _.
         (ss : List Statement) × Makes ss text.now (layout_of draft.old) (layout_of draft.new)) }
     ensures err { IfErr result (λ e. (e ≡ halt.Memory)
@@ -152,7 +155,7 @@ fn place(text: &[u8], left: usize) -> (usize, usize) {
     (line, column)
 }
 
-fn told(text: &[u8], stop: Stop) -> AssembleError
+pub(crate) fn told(text: &[u8], stop: Stop) -> AssembleError
     ensures { (stop ≡ halt.Memory) → result ≡ error.Memory }
 {
     match stop {

@@ -4,9 +4,11 @@
 mod assembling;
 mod directives;
 mod found;
+mod labels;
 mod line;
 mod parts;
 
 pub use assembling::{AssembleError, Expected, assemble};
 pub use directives::{Beginning, DIRECTIVES, Directive, Kept, Number, OPENED, SECTIONS, Says};
 pub use found::{Found, Word};
+pub use labels::{Label, labels_of};

@@ -1,5 +1,8 @@
+pub mod Back
 pub mod FirstField
 pub mod Last
+pub mod Made
+pub mod NameText
 pub mod Nearest
 pub mod Order
 pub mod Read

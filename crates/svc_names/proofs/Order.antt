@@ -2,6 +2,7 @@
 use Rattle.std.proofs.Common.{◌≡◌, ◌∙◌, ◌≤◌, ◌<◌, ◌∷◌, ◌++◌, [], ℕ, zero, suc, List, Bool, true, false, refl, ap, get_or, length, arith}
 use Rattle.std.specs.Prelude.{◌&&◌, ◌==◌, cond, nat_lt}
 use Rattle.std.specs.Cmp.Lexicographic.{slice_cmp}
+use Rattle.std.specs.List.{AllByRecursion}
 use Rattle.std.specs.List.Sorted.{IsNonDecreasingBy}
 use Rattle.std.specs.Ordering.{is_lt, nat_cmp, ordering_then}
 use Rattle.std.specs.declared.cmp.Ordering.{Ordering}
@@ -9,7 +10,7 @@ use Rattle.std.specs.declared.cmp.Ordering.TheVariants as ordering
 use Rattle.std.proofs.lemmas.Bool.{eqb-true, ltb-true}
 use Rattle.svc_report.proofs.Tracks.{all_more}
 use Rattle.svc_names.specs.declared.name.Name.{Name}
-use Rattle.svc_names.specs.Table.{HasRow, IsTable, are_in_order, comes_next, is_before}
+use Rattle.svc_names.specs.Table.{HasRow, IsTable, are_in_order, are_named, comes_next, is_before, is_name_text}
 
 both_true : (b c : Bool) → b ≡ true → c ≡ true → (b && c) ≡ true
 both_true b c e f = ap (λ (x : Bool). x && c) e ∙ f
@@ -21,6 +22,11 @@ first_of false c e = cc e
 pub second_of : (b c : Bool) → (b && c) ≡ true → c ≡ true
 second_of true c e = e
 second_of false c e = cc e
+
+-- the names of a table are names
+pub named_rows : (names : List Name) → AllByRecursion HasRow names → are_named names ≡ true
+named_rows [] all = refl
+named_rows (n ∷ names) all = both_true (is_name_text n.text.items) (are_named names) all.0.name (named_rows names all.1)
 
 order_more : (names : List Name) (n : Name) → are_in_order names ≡ true → comes_next names n.text.items n.address ≡ true → are_in_order (names ++ (n ∷ [])) ≡ true
 order_more [] n h next = refl

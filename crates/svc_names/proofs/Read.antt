@@ -57,7 +57,7 @@ short_row n row =
     let size = name_size n.text.items row.name in
     omega (arith, digits, size)
 
-all_short : (names : List Name) → AllByRecursion HasRow names → AllByRecursion IsShort (map columns names)
+pub all_short : (names : List Name) → AllByRecursion HasRow names → AllByRecursion IsShort (map columns names)
 all_short [] all = tt
 all_short (n ∷ names) all = (short_row n all.0, all_short names all.1)
 

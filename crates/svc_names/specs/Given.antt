@@ -1,5 +1,5 @@
 -- What names tell, if any are given.
-use Rattle.std.specs.Prelude.{◌≡◌, ℕ, List, Option, Some, None, IfSome, decimal, option_map}
+use Rattle.std.specs.Prelude.{◌≡◌, ◌∷◌, [], ℕ, List, Option, Some, None, IfSome, decimal, option_map}
 use denote.Ref.{Bor}
 use Rattle.svc_report.specs.Records.{IsText}
 use Rattle.svc_names.specs.declared.name.Name.{Name}
@@ -22,6 +22,16 @@ word_label word (Some n) = label (data_address word) n
 abbrev pub word_text : Option (List Name) → (word : ℕ) → List ℕ
 word_text None word = decimal word
 word_text (Some names) word = word_label word (nearest (data_address word) names)
+
+-- the name found for an address, behind a space
+abbrev pub spaced_label : (address : ℕ) → Option Name → List ℕ
+spaced_label address None = []
+spaced_label address (Some n) = 32 ∷ label address n
+
+-- the name of an address behind a space, if names are given and it has one
+abbrev pub noted_by : Option (List Name) → (address : ℕ) → List ℕ
+noted_by None address = []
+noted_by (Some names) address = spaced_label address (nearest address names)
 
 -- the rows of a text: with names, if any are given, each has one field more
 abbrev pub told_with : Option (List Name) → Rows → List ℕ → List ℕ

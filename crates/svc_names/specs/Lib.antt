@@ -1,4 +1,5 @@
 pub mod Given
+pub mod Made
 pub mod Near
 pub mod Rows
 pub mod Table

@@ -33,6 +33,11 @@ are_in_order [] = true
 are_in_order (n ∷ []) = true
 are_in_order (n ∷ m ∷ names) = is_before n m.text.items m.address && are_in_order (m ∷ names)
 
+-- each of these is a name
+abbrev pub are_named : List Name → Bool
+are_named [] = true
+are_named (n ∷ names) = is_name_text n.text.items && are_named names
+
 -- ---- the text of a table
 
 -- the names of the columns

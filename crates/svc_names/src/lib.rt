@@ -2,6 +2,7 @@
 #![tactic(auto)]
 
 mod fields;
+mod making;
 mod name;
 mod names;
 mod near;
@@ -11,5 +12,5 @@ mod rows;
 pub use fields::field;
 pub use name::Name;
 pub use names::Names;
-pub use near::Near;
+pub use near::{Near, put_note};
 pub use rows::{Column, Rows, data_address};

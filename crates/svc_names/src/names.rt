@@ -1,10 +1,11 @@
 // A table of names.
 
-ghost use Rattle.std.specs.Prelude.{◌≡◌, ◌≤◌, ◌<◌, length, option_map};
+ghost use Rattle.std.specs.Prelude.{◌≡◌, ◌≤◌, ◌<◌, length, option_map, true};
 ghost use Rattle.std.specs.List.{AllWithin};
 ghost use Rattle.std.specs.List.Sorted.{IsNonDecreasingBy};
 ghost use Rattle.svc_names.specs.declared.name.Name.{Name};
 ghost use Rattle.svc_names.specs.Near.{kind_start};
+ghost use Rattle.svc_names.specs.Table.{are_named};
 
 use crate::name::Name;
 use crate::near::Near;
@@ -15,6 +16,7 @@ use svc_image::DATA_START;
 pub struct Names {
     /// The names.
     pub(crate) list: Vec<Name>,
+    pub ghost named: { are_named list.items ≡ true },
     pub ghost order: { IsNonDecreasingBy (λ (n : Name). n.address) list.items },
 }
 

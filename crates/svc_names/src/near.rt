@@ -1,8 +1,10 @@
 // The name nearest to an address.
 
 ghost use Rattle.std.specs.Prelude.{◌≡◌, ◌++◌, OnOk, length, take};
+ghost use Rattle.svc_names.specs.Given.{listed, noted_by};
 ghost use Rattle.svc_names.specs.Near.{near_text};
 
+use crate::names::Names;
 use std::alloc::AllocError;
 use svc_text::{Piece, put};
 
@@ -38,4 +40,19 @@ impl Piece for Near<'_> {
         }
         put
     }
+}
+
+/// Adds a space and the name of an address, if names are given and it has one.
+///
+/// Errors: [`AllocError`], if memory runs out.
+pub fn put_note(names: Option<&Names>, text: &mut Vec<u8>, address: u32) -> Result<(), AllocError>
+    ensures { OnOk result (text.new.items ≡ text.old.items ++ noted_by (listed names.entry) address) }
+{
+    let Some(names) = names else {
+        return Ok(());
+    };
+    if let Some(near) = names.nearest(u64::from(address)) {
+        put!(text; " ", near);
+    }
+    Ok(())
 }

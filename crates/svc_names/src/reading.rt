@@ -1,13 +1,15 @@
 // How a table of names is read.
 
-ghost use Rattle.std.specs.Prelude.{◌≡◌, ◌∷◌, ◌++◌, [], ℕ, List, Option, OnOk, IfOk, IfErr, IfSome, MatchResult, option_map};
+ghost use Rattle.std.specs.Prelude.{◌≡◌, ◌∷◌, ◌++◌, [], ℕ, List, Option, Some, OnOk, IfOk, IfErr, IfSome, MatchResult, option_map};
 ghost use Rattle.csv.specs.Reading.{reader_state, source_of};
 ghost use Rattle.csv.specs.Records.{fields_of};
 ghost use Rattle.csv.specs.declared.parser.State.TheVariants as st;
 ghost use Rattle.svc_record_limit.specs.Limit.{readable};
 ghost use Rattle.svc_record_limit.specs.Places.{known_through};
 ghost use Rattle.svc_report.specs.Records.{IsOpen, IsRead, IsText};
+ghost use Rattle.svc_report.specs.Faults.{IsStreamFault};
 ghost use Rattle.svc_names.specs.declared.name.Name.{Name};
+ghost use Rattle.svc_names.specs.Made.{pairs_of, table_text};
 ghost use Rattle.svc_names.specs.Table.{FirstBad, IsNamesFault, IsNext, IsTable, table_records};
 
 use crate::name::{Name, comes_next, is_name_text};
@@ -42,7 +44,7 @@ fn address_of(names: &[Name], row: &ByteRecord) -> Result<u32, u8>
 }
 
 // Adds a name.
-fn push_name(
+pub(crate) fn push_name(
     alloc: Global,
     names: &mut Vec<Name>,
     text: &[u8],
@@ -96,6 +98,19 @@ fn add_names<R: Read + Drop>(
     Err(ReportError::Memory)
 }
 
+// Reads a table of names.
+fn read_table<R: Read + Drop>(alloc: Global, reader: R) -> Result<Names, ReportError>
+    ensures ok { IfOk result (λ names. IsTable names.list.items
+        × IfSome (R.remaining reader) (λ text. IsText text (table_records names.list.items))) }
+    ensures err { IfErr result (λ e. IsNamesFault (R.remaining reader) e) }
+{
+    let mut reader = open(alloc, reader);
+    let mut row = ByteRecord::new(alloc);
+    let mut list = Vec::new(alloc);
+    add_names(alloc, &mut reader, &mut row, &mut list)?;
+    Ok(Names { list })
+}
+
 impl Names {
     /// Reads a table of names: a text with the columns `name` and `address`.
     ///
@@ -107,11 +122,10 @@ impl Names {
             × IfSome (R.remaining reader) (λ text. IsText text (table_records names.list.items))) }
         // The first bad record and its first bad column.
         ensures err { IfErr result (λ e. IsNamesFault (R.remaining reader) e) }
+        // The text of a table is read back, unless memory or the reader fails.
+        ensures back { (h : List Name) → IsTable h → R.remaining reader ≡ Some (table_text h)
+            → MatchResult result (λ names. pairs_of names.list.items ≡ pairs_of h) IsStreamFault }
     {
-        let mut reader = open(alloc, reader);
-        let mut row = ByteRecord::new(alloc);
-        let mut list = Vec::new(alloc);
-        add_names(alloc, &mut reader, &mut row, &mut list)?;
-        Ok(Names { list })
+        read_table(alloc, reader)
     }
 }

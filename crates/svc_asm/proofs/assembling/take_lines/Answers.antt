@@ -1,8 +1,7 @@
-use Rattle.std.proofs.Common.{◌≡◌, ◌∙◌, ◌<◌, ◌==◌, ℕ, true, false, [], ◌∷◌, List, length, refl, sym, arith, inl, inr}
-use Rattle.std.proofs.lemmas.Bool.{eqb-true}
+use Rattle.std.proofs.Common.{◌∙◌, [], ◌∷◌, refl, sym, inl, inr}
 use Rattle.std.proofs.lemmas.Result.{err_from_is_err_and}
 use Rattle.svc_draft.specs.Layouts.{layout_of}
-use Rattle.svc_asm.proofs.Program.{advance, refuted}
+use Rattle.svc_asm.proofs.Program.{advance, refuted, empty_is, some_left}
 use Rattle.svc_asm.proofs.assembling.take_lines.Goals as goal
 
 pub loop-rest-preserved : goal.loop-rest-preserved
@@ -12,15 +11,6 @@ loop-rest-preserved c =
       whole = λ todo made h. c.loop-rest.invariant.whole (c.in_ok-said.said ∷ todo) made (c.in_ok-said.behind.now, layout_of c.take_line.new.draft, takes, h);
       left = λ ss made h. let t = c.loop-rest.invariant.left ss made h in advance t.0 c.loop-rest.rest.now c.in_ok-said.behind.now (layout_of c.loop-rest.draft) (layout_of c.take_line.new.draft) made c.in_ok-said.said takes t.1;
     }
-
--- what is left where a text is empty, and where it isn't
-empty_is : (xs : List ℕ) → (length xs == 0) ≡ true → xs ≡ []
-empty_is [] h = refl
-empty_is (x ∷ xs) h = absurd (omega (arith, eqb-true (length (x ∷ xs)) 0 h))
-
-some_left : (xs : List ℕ) → (length xs == 0) ≡ false → 0 < length xs
-some_left [] h = absurd (cc)
-some_left (x ∷ xs) h = omega arith
 
 pub returns-clause-ok : goal.returns-clause-ok
 returns-clause-ok c =

@@ -1,13 +1,6 @@
-use Rattle.svc_names.proofs.Order.{in_order}
-use Rattle.svc_names.proofs.Read.{whole_table}
+use Rattle.svc_names.proofs.Back.{reads_back}
 use Rattle.svc_names.proofs.names.Names.read.Goals as goal
 
-pub invariant_of-result : goal.invariant_of-result
-invariant_of-result g c =
-    let read = c.in_ok-add_names.ensures.ok (g.R.Read.remaining c.args.reader) c.open-reader.ensures.source in
-    record { order = in_order c.add_names.new.names.items read.0.order }
-
-pub returns-clause-ok : goal.returns-clause-ok
-returns-clause-ok g c =
-    let read = c.in_ok-add_names.ensures.ok (g.R.Read.remaining c.args.reader) c.open-reader.ensures.source in
-    (read.0, whole_table (g.R.Read.remaining c.args.reader) c.add_names.new.names.items read.0 read.1)
+pub returns-clause-back : goal.returns-clause-back
+returns-clause-back g c h table known =
+    reads_back h (g.R.Read.remaining c.args.reader) c.read_table.result table known c.read_table.ensures.ok c.read_table.ensures.err

@@ -1,0 +1,128 @@
+// The names that a text gives to addresses.
+
+ghost use Rattle.std.specs.Prelude.{◌≡◌, ◌++◌, ◌⊎◌, [], ℕ, List, IfErr, IfOk, OnOk, map};
+ghost use Rattle.svc_draft.specs.declared.statement.Statement.{Statement};
+ghost use Rattle.svc_draft.specs.Layouts.{Layout, layout_of};
+ghost use Rattle.svc_asm.specs.declared.assembling.AssembleError.TheVariants as error;
+ghost use Rattle.svc_asm.specs.declared.assembling.Stop.TheVariants as halt;
+ghost use Rattle.svc_asm.specs.Labels.{Gives, HasLabels, is_hidden, label_in, names_place, parts_of};
+ghost use Rattle.svc_asm.specs.Programs.{IsLaid, Makes, Takes};
+ghost use Rattle.svc_operands.specs.Characters.{name_at};
+
+use crate::assembling::{AssembleError, Stop, take_line, take_lines, told};
+use std::alloc::{AllocError, Global};
+use svc_draft::{Draft, Statement};
+use svc_operands::split_name;
+
+/// A name that a program gives to an address: that of a label, or of zeros in `.bss`.
+#[derive(Clone, Copy)]
+pub struct Label<'a> {
+    /// Its characters.
+    pub name: &'a [u8],
+    /// The byte address that it stands for.
+    pub address: u32,
+}
+
+// Whether a name is one that no object file has.
+fn is_hidden(name: &[u8]) -> bool
+    ensures { result ≡ is_hidden name.now }
+{
+    name.starts_with(".L".as_bytes())
+}
+
+// Whether a line gives its name to what stands there.
+fn names_place(said: Statement) -> bool
+    ensures { result ≡ names_place said }
+{
+    matches!(said, Statement::Label | Statement::Common(_, _))
+}
+
+// Adds the label that a line gives, if it gives one.
+fn add_label<'a>(
+    draft: &Draft<'a>,
+    name: &'a [u8],
+    said: Statement,
+    labels: &mut Vec<Label<'a>>,
+) -> Result<(), AllocError>
+    ensures { OnOk result (map parts_of labels.new.items
+        ≡ map parts_of labels.old.items ++ label_in (layout_of draft.now) name.now said) }
+{
+    if !names_place(said) || is_hidden(name) {
+        return Ok(());
+    }
+    if let Some(address) = draft.address_of(name) {
+        labels.push(Label { name, address })?;
+    }
+    Ok(())
+}
+
+// Adds what the first line says, and its label, and answers that and what follows it.
+fn take_labelled<'a>(
+    text: &'a [u8],
+    draft: &mut Draft<'a>,
+    labels: &mut Vec<Label<'a>>,
+) -> Result<(Statement, &'a [u8]), Stop>
+    ensures takes { IfOk result (λ said.
+        Takes text.now (layout_of draft.old) said.0 said.1.now (layout_of draft.new)) }
+    ensures labels { IfOk result (λ said. map parts_of labels.new.items
+        ≡ map parts_of labels.old.items ++ label_in (layout_of draft.new) (name_at text.now) said.0) }
+    ensures err { IfErr result (λ e. (e ≡ halt.Memory)
+        ⊎ ((s : Statement) (rest : List ℕ) (next : Layout) → Takes text.now (layout_of draft.old) s rest next → ⊥)) }
+{
+    let (said, rest) = take_line(text, draft)?;
+    let (name, _) = split_name(text);
+    match add_label(draft, name, said, labels) {
+        Ok(()) => Ok((said, rest)),
+        Err(_) => Err(Stop::Memory),
+    }
+}
+
+// Adds what every line says, and all labels, to none.
+fn take_all<'a>(
+    text: &'a [u8],
+    draft: &mut Draft<'a>,
+    labels: &mut Vec<Label<'a>>,
+) -> Result<(), Stop>
+    requires { labels.old.items ≡ [] }
+    ensures ok { IfOk result (λ _. (ss : List Statement)
+        × Gives ss text.now (layout_of draft.old) (layout_of draft.new) (map parts_of labels.new.items)) }
+    ensures err { IfErr result (λ e. (e ≡ halt.Memory)
+        ⊎ ((ss : List Statement) (made : Layout) → Makes ss text.now (layout_of draft.old) made → ⊥)) }
+{
+    let mut rest = text;
+    while !rest.is_empty() {
+        let (_said, behind) = take_labelled(rest, draft, labels)?;
+        rest = behind;
+    }
+    Ok(())
+}
+
+// Reads the text twice, for its labels and for the addresses that these stand for.
+fn lay_labels<'a>(alloc: Global, text: &'a [u8], labels: &mut Vec<Label<'a>>) -> Result<(), Stop>
+    requires { labels.old.items ≡ [] }
+    ensures ok { IfOk result (λ _. HasLabels text.now (map parts_of labels.new.items)) }
+    ensures err { IfErr result (λ e. (e ≡ halt.Memory) ⊎ ((made : Layout) → IsLaid text.now made → ⊥)) }
+{
+    let mut first = Draft::new(alloc);
+    take_lines(text, &mut first)?;
+    let mut draft = first.again(alloc);
+    take_all(text, &mut draft, labels)?;
+    Ok(())
+}
+
+/// The labels of a text, in the order of its lines. The text may be any bytes; one that [`crate::assemble`] makes an
+/// image of has labels.
+///
+/// Errors: the text's first fault, or that memory ran out.
+pub fn labels_of(alloc: Global, text: &[u8]) -> Result<Vec<Label<'_>>, AssembleError>
+    ensures labels { IfOk result (λ labels. HasLabels text.now (map parts_of labels.items)) }
+
+    // A text whose lines may stand where they do has labels, unless memory runs out.
+    ensures whole { (made : Layout) → IsLaid text.now made → IfErr result (λ e. e ≡ error.Memory) }
+{
+    let mut labels = Vec::new(alloc);
+    match lay_labels(alloc, text, &mut labels) {
+        Ok(()) => Ok(labels),
+        Err(stop) => Err(told(text, stop)),
+    }
+}
