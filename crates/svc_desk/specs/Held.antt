@@ -4,7 +4,8 @@ use Rattle.core.specs.Option.{option_or}
 use Rattle.std.specs.Str.Lines.{lines}
 use Rattle.svc_desk.specs.declared.packed.FileSize.{FileSize}
 
--- the bytes of the first file of this name, where there is one: each file is its name and its bytes, as long as its size says
+-- the bytes of the first file of this name, where there is one: each file is its name and its bytes, as long as its
+-- size says
 abbrev pub held_by : (sizes : List FileSize) (contents name : List ℕ) → Option (List ℕ)
 held_by [] contents name = None
 held_by (size ∷ sizes) contents name =
@@ -12,8 +13,10 @@ held_by (size ∷ sizes) contents name =
     else held_by sizes (drop size.bytes (drop size.name contents)) name
 
 -- the bytes of the file of this name where some files were saved over others
-abbrev pub held_over : (saved_sizes : List FileSize) (saved : List ℕ) (sizes : List FileSize) (contents name : List ℕ) → Option (List ℕ)
-held_over saved_sizes saved sizes contents name = option_or (held_by saved_sizes saved name) (held_by sizes contents name)
+abbrev pub held_over : (saved_sizes : List FileSize) (saved : List ℕ) (sizes : List FileSize)
+    → (contents name : List ℕ) → Option (List ℕ)
+held_over saved_sizes saved sizes contents name =
+    option_or (held_by saved_sizes saved name) (held_by sizes contents name)
 
 -- the words that a text asks with: the program's name, and the text's lines
 abbrev pub words_in : List ℕ → List (List ℕ)

@@ -21,7 +21,8 @@ pub struct Answer {
     pub saved: Packed,
 }
 
-/// Does what the lines of a text ask for, which are the words of a command line without the program's name, over these files.
+/// Does what the lines of a text ask for, which are the words of a command line without the program's name, over these
+/// files.
 ///
 /// Errors: lack of memory before the program begins.
 pub fn answered(alloc: Global, line: &str, files: Lent<'_>) -> Result<Answer, AllocError>

@@ -6,8 +6,8 @@ use crate::packed::{Lent, Packed};
 use std::alloc::Global;
 use svc_program::{FileFault, Files};
 
-/// Files that are lent, and those that were saved over them. A name is of the file that was saved last under it; a file that was
-/// saved is not read again.
+/// Files that are lent, and those that were saved over them. A name is of the file that was saved last under it; a file
+/// that was saved is not read again.
 #[derive(Drop)]
 pub struct Desk<'a> {
     alloc: Global,
@@ -34,7 +34,8 @@ impl<'a> Files for Desk<'a> {
     ghost use Rattle.std.specs.Prelude.{ℕ, List, Option};
     ghost use Rattle.svc_desk.specs.Held.{held_over};
 
-    ghost held = { λ d name. held_over d.saved.sizes.items d.saved.contents.items d.lent.sizes.now d.lent.contents.now name };
+    ghost held = { λ d name. held_over d.saved.sizes.items d.saved.contents.items d.lent.sizes.now d.lent.contents.now
+        name };
 
     type Reader = &'a [u8];
 

@@ -1,5 +1,5 @@
-//! The program at a desk: its words in one text, and files of any names in memory, those that it reads and those that it saves. It
-//! starts no thread.
+//! The program at a desk: its words in one text, and files of any names in memory, those that it reads and those that
+//! it saves. It starts no thread.
 #![tactic(auto)]
 
 mod answer;

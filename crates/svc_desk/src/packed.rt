@@ -13,8 +13,8 @@ pub struct FileSize {
     pub bytes: u64,
 }
 
-/// Files of these sizes: the name and the bytes of the first, those of the second, and so on. Where there are too few bytes, the
-/// last ones are shorter.
+/// Files of these sizes: the name and the bytes of the first, those of the second, and so on. Where there are too few
+/// bytes, the last ones are shorter.
 #[derive(Clone, Copy)]
 pub struct Lent<'a> {
     pub sizes: &'a [FileSize],

@@ -10,10 +10,11 @@ use crate::buffers::{Lengths, hand_over};
 use std::alloc::Global;
 use svc_desk::{FileSize, Lent, answered};
 
-/// Does what the lines of `words` ask for, which are the words of a command line without the program's name, over files of the given
-/// `sizes`, whose names and bytes stand in `contents` one behind another. It returns the exit status, and then `out` and `err` hold
-/// what was printed, `files` and `saved` the files that were saved, as `sizes` and `contents`; or 3 where the words are not UTF-8,
-/// memory was refused before the program began, or a buffer is too short for what it was to hold; `lengths` says how much that is.
+/// Does what the lines of `words` ask for, which are the words of a command line without the program's name, over files
+/// of the given `sizes`, whose names and bytes stand in `contents` one behind another. It returns the exit status, and
+/// then `out` and `err` hold what was printed, `files` and `saved` the files that were saved, as do `sizes` and
+/// `contents`; or 3 where the words are not UTF-8, memory was refused before the program began, or a buffer is too
+/// short for what it was to hold; `lengths` says how much that is.
 #[unsafe(no_mangle)]
 pub extern "C" fn svc_page_answer(
     alloc: Global,
