@@ -20,6 +20,7 @@ export class Library {
     this.module = module;
     this.files = new Map();
     this.waiting = new Map();
+    this.dropped = [];
     this.count = 0;
     this.calls = 0;
     this.last = null;
@@ -63,8 +64,10 @@ export class Library {
     this.fresh?.add(name);
   }
 
-  has(name) {
-    return this.files.has(name);
+  // Forgets a file.
+  drop(name) {
+    this.files.delete(name);
+    this.dropped.push(name);
   }
 
   // What these words ask for: the exit status, both outputs, and the files that were saved.
@@ -81,7 +84,7 @@ export class Library {
     const id = ++this.count;
     return new Promise((done, fail) => {
       this.waiting.set(id, { done, fail });
-      this.worker.postMessage({ id, words: words.map(String), put });
+      this.worker.postMessage({ id, words: words.map(String), put, drop: this.dropped.splice(0) });
     });
   }
 }

@@ -41,9 +41,10 @@ export function shown_of(text) {
       case 'register': s.registers.push({ unit: Number(f[1]), name: f[2], value: f[3] }); break;
       case 'order': s.orders.push({ word: Number(f[1]), holders: f.slice(2).map((it) => it.split(':')) }); break;
       case 'move': s.moves.push({ unit: Number(f[1]), kind: f[2], arg: f[3], refusal: f[4] }); break;
+      case 'at': case 'tasks': break;
       case 'due': case 'guess': s[f[0]] = f[1]; break;
       case 'exit': case 'trap': case 'full': case 'open': s.ending = f.slice(0, 2); break;
-      default: s[f[0]] = f.slice(1);
+      default: break;
     }
   }
   return s;

@@ -95,7 +95,8 @@ onmessage = ({ data }) => {
     module = data.module;
     return;
   }
-  for (const [name, bytes] of Object.entries(data.put ?? {})) files.set(name, bytes);
+  for (const it of data.drop) files.delete(it);
+  for (const [name, bytes] of Object.entries(data.put)) files.set(name, bytes);
   const begun = performance.now();
   try {
     if (!library) begin();
