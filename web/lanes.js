@@ -137,14 +137,15 @@ function strip(session, p, is_hidden) {
   const box = $('strip'), count = session.entries.length;
   box.hidden = count <= MOST_COLUMNS;
   if (box.hidden) return;
-  const width = box.clientWidth || 800, column = width / count, parts = [];
+  const width = box.clientWidth || 800, column = width / count, colours = [];
   session.entries.forEach((it, at) => {
     if (is_hidden && at >= session.k) return;
-    const colour = it.cause ? (it.cause === 'violation' ? '--sq' : '--gu') : it.kind === 'commit' ? '--ok' : '';
-    if (colour) parts.push(`<rect x="${(at * column).toFixed(1)}" y="${it.cause ? 0 : 8}" width="${Math.max(1, column).toFixed(1)}" height="${it.cause ? 16 : 8}" style="fill:var(${colour})"/>`);
+    const x = Math.floor(at * column), rank = it.cause === 'violation' ? 3 : it.cause ? 2 : it.kind === 'commit' ? 1 : 0;
+    colours[x] = Math.max(colours[x] ?? 0, rank);
   });
-  parts.push(`<rect x="${p.from * column}" y="1" width="${Math.max(3, (p.to - p.from) * column)}" height="14" style="fill:none;stroke:var(--accent);stroke-width:2"/>`);
-  set_html(box, `<svg width="${width}" height="16" role="img" aria-label="${TEXTS.strip}">${parts.join('')}</svg>`);
+  const one = (rank, x) => (rank ? `<path d="M${x + 0.5} ${rank > 1 ? 0 : 8}V16" style="stroke:var(${['', '--ok', '--gu', '--sq'][rank]})"/>` : '');
+  set_html($('stripbox'), `<svg width="${width}" height="16" role="img" aria-label="${TEXTS.strip}">${colours.map(one).join('')}</svg>`);
+  $('window').style.cssText = `left:${p.from * column}px;width:${Math.max(4, (p.to - p.from) * column)}px`;
 }
 
 // Keeps the moment, and the other end of its arrow, in sight.

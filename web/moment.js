@@ -128,11 +128,11 @@ function draw_memory(session, now, before, is_marked) {
 // The words put out by committed tasks, in the tasks' order, and those that wait.
 function outputs(session) {
   const k = session.k, done = [], waiting = [];
-  const of_bar = new Map(session.drawing.bars.map((it) => [`${it.task},${it.first}`, it]));
-  const bars = [...of_bar.values()];
+  const bars = new Map();
+  for (const it of session.drawing.bars) bars.set(it.task, [...(bars.get(it.task) ?? []), it]);
   for (const it of session.drawing.marks) {
     if (it.kind !== 'output' || it.at >= k) continue;
-    const bar = bars.find((one) => one.task === it.task && one.first <= it.at && (one.last < 0 || one.last >= it.at));
+    const bar = bars.get(it.task)?.find((one) => one.first <= it.at && (one.last < 0 || one.last >= it.at));
     if (!bar) continue;
     if (bar.last < 0 || bar.last >= k) waiting.push(it);
     else if (bar.fate === 'committed') done.push(it);

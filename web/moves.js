@@ -47,7 +47,7 @@ export async function draw_moves(session, predict) {
   const at = session.k, played = session.played, now = session.now();
   $('units').setAttribute('aria-busy', 'true');
   const moves = await session.moves();
-  if (at !== session.k || played !== session.played) return;
+  if (!moves || at !== session.k || played !== session.played) return;
   $('units').setAttribute('aria-busy', 'false');
   const units = [...Array(session.config.units).keys()];
   if (moves.length && moves.every((it) => it.refusal)) {

@@ -55,7 +55,7 @@ function draw_machine() {
   $('seed').disabled = by.order !== 'random';
 }
 
-async function draw() {
+function draw() {
   if (predict.ask && predict.ask.k !== session.k) predict.ask = null;
   draw_program(session);
   draw_machine();
@@ -64,10 +64,19 @@ async function draw() {
   draw_sentence(session, predict);
   draw_lanes(session, predict);
   draw_moment(session, predict);
-  document.body.dataset.ready = session.busy ? '' : `${session.k}`;
-  await draw_moves(session, predict);
-  await draw_tables(session, predict);
   remember();
+  draw_answers();
+}
+
+// What the library has yet to be asked for, of what was drawn last.
+async function draw_answers() {
+  try {
+    await draw_moves(session, predict);
+    await draw_tables(session, predict);
+    if (tables.tab === 'all' && tables.is_quick) explore();
+  } catch (why) {
+    if (!(why instanceof Stopped)) tell_why(why);
+  }
 }
 
 // The address says what is open, at most once in 400 ms, and not of long scripts: browsers refuse a flood of changes.
@@ -86,7 +95,7 @@ async function step() {
     if (it) {
       predict.ask = { ...it, k: session.k };
       predict.said = null;
-      await draw();
+      draw();
       return document.querySelector('[data-answer]')?.focus({ preventScroll: true });
     }
   }
@@ -130,29 +139,32 @@ async function run(is_on) {
 
 async function load(program) {
   Object.assign(predict, { ask: null, said: null });
-  Object.assign(tables, { explored: null, of: '' });
+  requests.stop();
+  tables.turn++;
+  Object.assign(tables, { explored: null, of: '', is_quick: true, fault: '' });
   $('src').value = program.text;
   tell('');
   await session.load(program);
   scroll_program(session);
-  explore();
 }
 
 const program_of = (name) => PROGRAMS.find((it) => it.lesson === name);
 
 // Looks at all schedules, in the other worker.
 async function explore(is_asked = false) {
-  if (tables.begun || !session.has_image || (tables.of === explored_key(session) && !is_asked)) return;
   const key = explored_key(session);
+  if (tables.begun || session.busy || !session.has_image || (tables.of === key && !is_asked)) return;
+  const turn = ++tables.turn;
   Object.assign(tables, { begun: performance.now(), fault: '', explored: null });
   const clock = setInterval(() => tables.tab === 'all' && draw_tables(session, predict), 1000);
   try {
     tables.explored = await requests.explore(session.limits());
     tables.of = key;
   } catch (why) {
-    tables.fault = why instanceof Stopped ? TEXTS.stopped : why.message;
+    if (turn === tables.turn) tables.fault = why instanceof Stopped ? TEXTS.stopped : why.message;
   }
   clearInterval(clock);
+  if (turn === tables.turn) tables.is_quick = !tables.fault && performance.now() - tables.begun < 1500;
   tables.begun = 0;
   await draw_tables(session, predict);
 }

@@ -112,10 +112,12 @@ export class Requests {
     return shown_of((await this.get(['show', FILES.image, FILES.trace, '--at', at, ...this.machine(), ...more])).out);
   }
 
-  // What the library answers to each of these moves where they are made behind the steps: a row of a trace, or a refusal.
-  async try_moves(steps, moves) {
+  // What the library answers to each of these moves where they are made behind the steps: a refusal, or none. It is given up where
+  // something else is to be done.
+  async try_moves(steps, moves, goes_on = () => true) {
     const found = [];
     for (const move of moves) {
+      if (!goes_on()) return null;
       this.library.put(FILES.tried, script_text([...steps, move]));
       const told = await this.get(['script', FILES.image, FILES.tried, ...this.machine()]);
       const answer = lines_of(told.out)[steps.length];

@@ -53,6 +53,7 @@ export class Session {
     this.names = it.names;
     this.has_image = true;
     this.image_count++;
+    this.needed = null;
     const { code, words } = await this.requests.list();
     Object.assign(this, { listing: code, words });
     this.sequential = await this.requests.sequential();
@@ -209,7 +210,7 @@ export class Session {
   async moment(k) {
     if (this.moments.has(k)) return this.moments.get(k);
     const it = await this.requests.show(k, this.shown_words());
-    if (this.moments.size > KEPT_MOMENTS) this.moments.clear();
+    if (this.moments.size > KEPT_MOMENTS) this.moments.delete(this.moments.keys().next().value);
     this.moments.set(k, it);
     return it;
   }
@@ -228,17 +229,20 @@ export class Session {
     return this.moments.get(Math.max(0, this.k - 1)) ?? EMPTY;
   }
 
-  // The moves at this moment, each with its refusal or none: rows of the library, or what it answers where each is tried.
+  // The moves at this moment, each with its refusal or none: rows of the library, or what it answers where each is tried. None where
+  // something else is to be done first.
   async moves() {
     const k = this.k, now = this.now(), played = this.played;
-    if (now.answered) return now.answered;
+    if (now.answered?.burst === this.by.burst) return now.answered.list;
     const wanted = this.candidates(now);
     const told = new Map(now.moves.map((it) => [`${it.kind},${it.unit},${it.arg}`, it.refusal]));
     const untold = wanted.filter((it) => !told.has(it));
-    const tried = untold.length ? await this.requests.try_moves(this.front(k), untold) : [];
+    const goes_on = () => this.wanted === null && this.busy === 0 && played === this.played;
+    const tried = await this.requests.try_moves(this.front(k), untold, goes_on);
+    if (!tried) return null;
     for (const it of tried) told.set(it.move, it.refusal);
     const found = wanted.map((move) => ({ move, refusal: told.get(move) }));
-    if (played === this.played) now.answered = found;
+    now.answered = { burst: this.by.burst, list: found };
     return found;
   }
 
@@ -277,19 +281,18 @@ export class Session {
     return this.seen;
   }
 
+  // What the tasks of the sequential run need of one another.
+  async needs() {
+    this.needed ??= { task: await this.requests.depend('task'), pair: await this.requests.depend('pair') };
+    return this.needed;
+  }
+
   async cost() {
     if (this.costs) return this.costs;
     const played = this.played, costs = {};
     for (const by of ['task', 'word', 'unit']) costs[by] = await this.requests.profile(by);
     if (played === this.played) this.costs = costs;
     return costs;
-  }
-
-  // ---- which task an entry was of
-
-  // The bar of this unit at this entry.
-  bar_at(at, unit) {
-    return this.drawing.bars.find((it) => it.unit === unit && it.first <= at && (it.last < 0 || it.last >= at));
   }
 }
 

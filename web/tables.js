@@ -8,7 +8,7 @@ export const TABS = ['all', 'trace', 'script', 'cost', 'needs'];
 const AROUND = 200;
 
 // What the tables show beside the session: the tab, what is filtered, the exploration and its state.
-export const tables = { tab: 'all', filter: 'all', explored: null, of: '', begun: 0, fault: '' };
+export const tables = { tab: 'all', filter: 'all', explored: null, of: '', begun: 0, turn: 0, is_quick: true, fault: '' };
 
 export const explored_key = (session) => [session.image_count, session.config.units, session.config.sets, session.config.ways, session.by.burst, session.by.states].join();
 
@@ -112,7 +112,7 @@ async function draw_cost(session, predict) {
 }
 
 async function draw_needs(session) {
-  const [task, pair] = [await session.requests.depend('task'), await session.requests.depend('pair')];
+  const { task, pair } = await session.needs();
   const part = (it) => table({ head: it.head, rows: it.rows.slice(0, 300) });
   set_html($('p-needs'), `<p class="legend">${TEXTS.needs_says}</p><div class="two">${scrolled(TEXTS.by_task, part(task))}${scrolled(TEXTS.needs, part(pair))}</div>`);
 }

@@ -7,7 +7,7 @@ export const TEXTS = {
   skip: 'To the moment shown',
   lesson: 'Program',
   predict: 'Predict', predict_title: 'The next entry is hidden until you have said what it will do',
-  link: 'Copy link', link_title: 'A link that carries the program and the script in its fragment', copied: 'Copied',
+  link: 'Link', link_title: 'A link that carries the program and the script in its fragment', copied: 'Copied',
   save: 'Save', save_title: 'Program, image, script, trace or picture, as a file',
   save_program: 'Program (.s)', save_image: 'Image (.svci)', save_script: 'Script (.csv)', save_trace: 'Trace (.csv)',
   save_picture: 'Picture (.svg)',

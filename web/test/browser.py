@@ -16,7 +16,8 @@ class Page:
             options.add_argument(it)
         options.set_capability("goog:loggingPrefs", {"browser": "ALL"})
         if folder:
-            options.add_experimental_option("prefs", {"download.default_directory": folder})
+            more = {"download.default_directory": folder, "profile.default_content_setting_values.automatic_downloads": 1}
+            options.add_experimental_option("prefs", more)
         self.driver = webdriver.Chrome(service=Service("/usr/bin/chromedriver"), options=options)
         scheme = {"name": "prefers-color-scheme", "value": "dark" if is_dark else "light"}
         self.driver.execute_cdp_cmd("Emulation.setEmulatedMedia", {"features": [scheme]})
@@ -65,7 +66,7 @@ class Page:
         self.settle()
 
     def text(self, selector):
-        return self.get("document.querySelector(arguments[0])?.innerText ?? ''", selector)
+        return self.get("(document.querySelector(arguments[0])?.innerText ?? '').replace(/\u00a0/g, ' ')", selector)
 
     def choose(self, selector, value):
         script = "const it = document.querySelector(arguments[0]); it.value = arguments[1]; for (const kind of ['input', 'change']) it.dispatchEvent(new Event(kind, { bubbles: true }));"

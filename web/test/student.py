@@ -240,7 +240,7 @@ def by_keyboard_alone(page):
     assert page.get("document.activeElement.className") == "skip"
     page.press("n")
     says(page, "read too early")
-    labels = page.get("[...document.querySelectorAll('button, input:not([hidden]), select, textarea')].filter((it) => !it.closest('[hidden]') && !(it.innerText.trim() || it.getAttribute('aria-label') || it.labels?.length || it.getAttribute('aria-labelledby'))).map((it) => it.outerHTML)")
+    labels = page.get("[...document.querySelectorAll('button, input:not([hidden]), select, textarea')].filter((it) => !it.closest('[hidden]') && !(it.textContent.trim() || it.getAttribute('aria-label') || it.labels?.length || it.getAttribute('aria-labelledby'))).map((it) => it.outerHTML)")
     assert not labels, labels
     untold = page.get("[...document.querySelectorAll('[data-text]')].filter((it) => !it.textContent || it.textContent === 'undefined').map((it) => it.outerHTML)")
     assert not untold, untold
