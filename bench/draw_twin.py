@@ -1,5 +1,5 @@
 #!/usr/bin/env python3
-"""What a picture shows, as rows: a twin of svc_draw's `draw_rows`, from a trace alone.
+"""What a picture shows, as rows: a twin of svc_marks's `picture_rows`, from a trace alone.
 
 draw_twin.py TRACE [FROM] [COUNT]
 """

@@ -60,6 +60,10 @@ told("depend_as_graph_with_no_names", "depend chain.svci --dot", "none", "graph"
 for form, by, table in (("by_word", "--by word", "word=0"), ("by_task", "--by task", "entry=1"), ("as_graph", "--dot", "graph")):
     told(f"depend_of_from_c_{form}_with_names", f"depend examples/from_c.svci {by}", "from_c", table, f"depend/depend_of_from_c_{form}.txt")
 
+for name in ("explore_p_on_2_by_63", "explore_p_of_1_states", "explore_find_a_load", "explore_find_begin", "explore_of_ten_events"):
+    of_case("explore", name, "p", "seen")
+of_case("explore", "explore_p_on_2_by_1", "between", "seen")
+
 fault("names_without_a_header", "without_a_header", 1, 1)
 fault("names_of_another_column", "of_another_column", 1, 2)
 fault("names_in_an_empty_file", "empty", 1, 0)
@@ -77,6 +81,10 @@ fault("a_name_of_2001_characters", "of_2001_characters", 2, 1)
 fault("bad_names_told_by_profile", "falling", 3, 2, f"profile {TEN}")
 fault("bad_names_told_by_depend", "falling", 3, 2, "depend p.svci")
 fault("bad_names_told_by_depend_as_graph", "falling", 3, 2, "depend p.svci --dot")
+fault("bad_names_told_by_explore", "falling", 3, 2, "explore p.svci")
+fault("bad_names_told_by_a_search", "falling", 3, 2, "explore p.svci --find load")
+fault("bad_names_told_by_observe", "falling", 3, 2, "explore p.svci --of traces/ten_events.csv")
+other("a_trace_over_the_names", "svcsim: file fault", "explore p.svci --units 2 --find load --trace names/p.csv --names names/p.csv")
 other("names_that_are_not_there", "svcsim: file fault", f"show {TEN} --names names/nowhere.csv")
 other("a_bad_image_is_told_before_bad_names", "svcsim: image fault 2", "show p_magic.svci traces/ten_events.csv --names names/falling.csv")
 other("a_bad_image_is_told_before_bad_names_by_depend", "svcsim: image fault 2", "depend p_magic.svci --names names/falling.csv")

@@ -1,7 +1,7 @@
 #!/usr/bin/env python3
 """Puts names at the ends of rows, as `--names` does: names_twin.py NAMES FORM < text.
 
-FORM is `shown` (rows of a machine), `counts` (rows of counts and an ending), `table` (a table without addresses),
+FORM is `shown` (rows of a machine), `counts` (rows of counts and an ending), `seen` (rows of what can be seen), `table` (a table without addresses),
 `entry=N` or `word=N` (a table with an entry or a word in column N, counted from 0), or `graph` (labels of words).
 It reads the table by a dictionary and looks an address up from it downwards, unlike the program."""
 import re
@@ -29,6 +29,11 @@ def address_of(form, fields):
     elif form == "counts":
         place = 1 if fields[0] in ("full", "open") else None
         is_word = False
+    elif form == "seen":
+        if fields[0] != "seen":
+            return None
+        is_word = fields[1] != "begin"
+        place = 3 if is_word else 4
     elif "=" in form:
         place = int(form.split("=")[1])
         is_word = form.startswith("word")
@@ -55,7 +60,7 @@ def main():
             print(re.sub(r'(?<=label=")[^"]*', lambda found: named(found.group()), row))
             continue
         fields = row.split(",")
-        if number == 0 and form not in ("shown", "counts"):
+        if number == 0 and form not in ("shown", "counts", "seen"):
             print(row + ",name")
             continue
         address = address_of(form, fields)

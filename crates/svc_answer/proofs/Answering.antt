@@ -109,6 +109,12 @@ pub of_named : (r : Result ℕ Fault) (held : Held) (asked : Option (Bor (List �
 of_named (Ok exit) held asked loaded given Tells are same holds = (given, subst (AreNamesIn held asked) (sym same) are, holds)
 of_named (Err f) held asked loaded given Tells are same holds = tt
 
+-- what is done of an image that was loaded
+pub of_image : (r : Result ℕ Fault) (held : Held) (source : Source) (img : Image) (Holds : Image → ℕ → Type 0)
+    → IsOfSource held source img → IfOk r (Holds img) → IfOk r (λ exit. (i : Image) × IsOfSource held source i × Holds i exit)
+of_image (Ok exit) held source img Holds image holds = (img, image, holds)
+of_image (Err f) held source img Holds image holds = tt
+
 -- the needs of tasks, with the names that were loaded
 pub needs_answered : {O : Type 0} (contents : O → Option (List ℕ)) (depended : Depended) (held : Held) (old new : O) (r : Result ℕ Fault) (img : Image)
     → IsOfSource held depended.image img

@@ -5,7 +5,7 @@ use Rattle.svc_image.specs.Image.{Image}
 use Rattle.svc_history_laws.specs.declared.entry.Entry.{Entry}
 use Rattle.svc_history_laws.specs.Legal.{LegalHistory}
 use Rattle.svc_draw.specs.Picture.{picture_of}
-use Rattle.svc_draw.specs.Rows.{rows_of}
+use Rattle.svc_marks.specs.Rows.{rows_of}
 use Rattle.svc_request.specs.Held.{Held}
 use Rattle.svc_answer.specs.Fronts.{front}
 

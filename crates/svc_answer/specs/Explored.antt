@@ -16,6 +16,9 @@ use Rattle.svc_observations.specs.Order.{AreInOrder}
 use Rattle.svc_explore.specs.Rows.{exploration_text, finding_text}
 use Rattle.svc_explore.specs.Witnesses.{IsWitness, ShowNoMatch}
 use Rattle.svc_observations.specs.Sought.{Matches}
+use Rattle.svc_names.specs.declared.names.Names.{Names}
+use Rattle.svc_names.specs.declared.rows.Rows.TheVariants as rows
+use Rattle.svc_names.specs.Given.{listed, told_with}
 use Rattle.svc_request.specs.declared.request.Explored.{Explored}
 
 -- an exploration of all schedules by bursts of at most so many turns: each observation is in its place with a schedule that shows
@@ -27,11 +30,11 @@ pub record IsExplorationOf (img : Image) (config : Config) (burst limit : ℕ) (
   pub told : IsTold img config burst found
   pub limits : KeepsLimits config limit found
 
--- the rows of one were printed, and the exit status says whether it was whole
-pub record TellsSchedules (img : Image) (config : Config) (burst limit : ℕ) (old new : Option (List ℕ)) (exit : ℕ) : Type 0 where
+-- the rows of one were printed with the names that are given, and the exit status says whether it was whole
+pub record TellsSchedules (names : Option (Bor Names)) (img : Image) (config : Config) (burst limit : ℕ) (old new : Option (List ℕ)) (exit : ℕ) : Type 0 where
   pub exploration : Exploration
   pub is : IsExplorationOf img config burst limit exploration
-  pub text : Appends old new (exploration_text exploration)
+  pub text : Appends old new (told_with (listed names) rows.Seen (exploration_text exploration))
   pub status : exit ≡ cond exploration.whole 0 2
 
 -- a history for which something holds is a play that shows the observation
@@ -43,11 +46,11 @@ abbrev pub IsAnswerTo : Image → Explored → Sought → Exploration → (saves
 IsAnswerTo img explored sought x saves None = ShowNoMatch img explored.config explored.burst sought
 IsAnswerTo img explored sought x saves (Some seen) = IsIn seen.now x.found.items × Matches sought seen.now.what × HasWitness img explored seen.now.what saves
 
--- what was found is told, and the exit status says whether anything was
-pub record FindsSight (img : Image) (explored : Explored) (sought : Sought) (saves : List Entry → Type 0) (old new : Option (List ℕ)) (exit : ℕ) : Type 0 where
+-- what was found is told with the names that are given, and the exit status says whether anything was
+pub record FindsSight (names : Option (Bor Names)) (img : Image) (explored : Explored) (sought : Sought) (saves : List Entry → Type 0) (old new : Option (List ℕ)) (exit : ℕ) : Type 0 where
   pub exploration : Exploration
   pub is : IsExplorationOf img explored.config explored.burst explored.states exploration
   pub seen : Option (Bor Seen)
   pub answer : IsAnswerTo img explored sought exploration saves seen
-  pub text : Appends old new (finding_text exploration seen)
+  pub text : Appends old new (told_with (listed names) rows.Seen (finding_text exploration seen))
   pub status : exit ≡ cond (is_some seen) 0 2

@@ -121,10 +121,13 @@ Does (request.Sequential tasks) held saved old new exit =
 Does (request.Depend depended) held saved old new exit =
     (img : Image) × IsOfSource held depended.image img × IsNamedIn held depended.names (λ names. TellsNeeds depended.by names img depended.most old new exit)
 Does (request.Explore explored) held saved old new exit =
-    (img : Image) × IsOfSource held explored.image img × TellsSchedules img explored.config explored.burst explored.states old new exit
+    (img : Image) × IsOfSource held explored.image img
+    × IsNamedIn held explored.names (λ names. TellsSchedules names img explored.config explored.burst explored.states old new exit)
 Does (request.Find explored sought trace) held saved old new exit =
-    (img : Image) × IsOfSource held explored.image img × FindsSight img explored sought (SavesAnyTrace saved trace) old new exit
-Does (request.Observe traced) held saved old new exit = IsTracedIn held traced (λ img es. TellsSightings img traced.config es old new exit)
+    (img : Image) × IsOfSource held explored.image img
+    × IsNamedIn held explored.names (λ names. FindsSight names img explored sought (SavesAnyTrace saved trace) old new exit)
+Does (request.Observe traced named) held saved old new exit =
+    IsTracedIn held traced (λ img es. IsNamedIn held named (λ names. TellsSightings names img traced.config es old new exit))
 Does (request.Script scripted) held saved old new exit =
     (img : Image) × IsOfSource held scripted.image img
     × (steps : List Step) × IsScriptIn held scripted.events.now steps

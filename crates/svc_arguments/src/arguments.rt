@@ -231,6 +231,13 @@ pub(crate) const DOT: Argument = Argument {
     ..OPTION
 };
 
+pub(crate) const EXPLAIN: Argument = Argument {
+    name: "explain",
+    takes: Takes::Nothing,
+    help: "Says why, in lines behind the one that names a fault",
+    ..OPTION
+};
+
 pub(crate) const SCHEDULE: Argument = Argument {
     name: "schedule",
     takes: Takes::Name(&["rotate", "oldest", "youngest", "random"]),

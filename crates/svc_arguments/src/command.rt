@@ -2,9 +2,9 @@
 
 use crate::arguments::{
     AFTER, AT, Argument, BURST, BURST_OF_MOVES, BY, BY_OF_NEEDS, COUNT, DOT, EVENTS, EVENTS_FILE,
-    FIND, FROM, HEADER, IGNORE, IMAGE, MADE_IMAGE, NAMES, NAMES_OF_PROFILE, OF, PICTURE, ROW,
-    ROW_OF_PROFILE, ROWS, SCHEDULE, SCRIPT_FILE, SEED, SETS, STATES, TASKS, TASKS_FOLLOWED, TEXT,
-    TO, TRACE, TRACE_FILE, TRACE_OF_FINDING, TURNS, Takes, UNITS, WAYS,
+    EXPLAIN, FIND, FROM, HEADER, IGNORE, IMAGE, MADE_IMAGE, NAMES, NAMES_OF_PROFILE, OF, PICTURE,
+    ROW, ROW_OF_PROFILE, ROWS, SCHEDULE, SCRIPT_FILE, SEED, SETS, STATES, TASKS, TASKS_FOLLOWED,
+    TEXT, TO, TRACE, TRACE_FILE, TRACE_OF_FINDING, TURNS, Takes, UNITS, WAYS,
 };
 use crate::helps::{
     ABOUT, ASSEMBLE, CHECK, DEPEND, DRAW, EXPLORE, FAULTS, LIST, PROFILE, RUN, SCRIPT, SEQ, SHOW,
@@ -64,6 +64,7 @@ const SUBCOMMANDS: [Subcommand; 11] = [
             FIND,
             TRACE_OF_FINDING,
             OF,
+            NAMES,
             UNITS,
             SETS,
             WAYS,
@@ -174,6 +175,7 @@ fn described<'a>(alloc: Global, subcommand: &Subcommand) -> Result<Command<'a>, 
     for argument in subcommand.arguments {
         command = command.arg(given(alloc, argument)?)?;
     }
+    command = command.arg(given(alloc, &EXPLAIN)?)?;
     Ok(command)
 }
 

@@ -26,7 +26,8 @@ which standard error names.";
 /// The end of the program's own help: the statuses and each fault.
 pub(crate) const FAULTS: &str =
     "Exit status: 0 if the image's program exited or a trace is sound, 2 at any other ending, and 1 at a fault,
-which standard error names in one line:
+which standard error names in one line; behind it others say why, where --explain stands behind a
+subcommand:
 
   image fault 1   the image's file ends before its last field does
   image fault 2   it doesn't begin with the letters SVCI, so it is no image

@@ -107,6 +107,7 @@ pub record GivesExplored (words : List (List ℕ)) (explored : Explored) : Type 
   pub config_is : GivesConfig words explored.config
   pub burst : IsNumberOf (codes "burst") 63 explored.burst words
   pub states : IsNumberOf (codes "states") 1000000 explored.states words
+  pub names : GivesNames words explored.names
 
 -- the trace whose observations are told is the value of its option
 pub record GivesObserved (words : List (List ℕ)) (traced : Traced) : Type 0 where
@@ -138,7 +139,7 @@ Gives words (request.Sequential tasks) = GivesImage words tasks.image × IsGiven
 Gives words (request.Depend depended) = GivesDepended words depended
 Gives words (request.Explore explored) = GivesExplored words explored
 Gives words (request.Find explored sought trace) = GivesExplored words explored × GivesSought words sought × GivesTrace words trace
-Gives words (request.Observe traced) = GivesObserved words traced
+Gives words (request.Observe traced names) = GivesObserved words traced × GivesNames words names
 Gives words (request.Script scripted) = GivesScripted words scripted
 Gives words (request.Check traced compared script) =
     GivesTraced words traced × GivesCompared words compared × IfSome script (λ name. IsValueOf (codes "script") name.now words)

@@ -1,21 +1,25 @@
 //! The program over any words, files and streams.
 
-ghost use Rattle.std.specs.Prelude.{◌≡◌, ◌≢◌, ◌⊎◌, ◌≤◌, IfOk, IfErr};
+ghost use Rattle.std.specs.Prelude.{◌≡◌, ◌≢◌, ◌⊎◌, ◌≤◌, IfOk, IfErr, OnOk};
 ghost use Rattle.svc_answer.specs.Requests.{Does, IsQuiet};
 ghost use Rattle.svc_command.specs.Asked.{KeepsAsked, MayAsk};
 ghost use Rattle.svc_command.specs.Line.{texts};
+ghost use Rattle.svc_command.specs.Reasons.{IsReasonFor, TellsReason};
 
+use crate::line::has_word;
 use crate::reading::request_of;
 use std::alloc::Global;
 use std::io::Write;
 use std::sync::Wait;
 use std::thread::Threads;
+use svc_explain::{explain, explain_alone};
 use svc_program::{Fault, Files, Request, perform, perform_alone, tell};
 
 /// Does what the words of a command line ask for; the first word is the program's name. It answers the exit status: 0
 /// if the run reached the program's exit, a trace was sound, or help or the version was asked for; 1 at a fault, which
-/// is printed on `err`; and 2 at any other ending. The fault is the first, looked for in this order: the words, the
-/// configuration, the image, the script or trace, the opening of the machine, the run, the output.
+/// is printed on `err`, with what explains it where a word is `--explain`; and 2 at any other ending. The fault is the
+/// first, looked for in this order: the words, the configuration, the image, the script or trace, the opening of the
+/// machine, the run, the output.
 pub fn execute<R: Threads + Wait + Sync, F: Files, O: Write, E: Write>(
     rt: &R,
     alloc: Global,
@@ -31,7 +35,7 @@ pub fn execute<R: Threads + Wait + Sync, F: Files, O: Write, E: Write>(
 {
     match answer(rt, alloc, words, files, out) {
         Ok(status) => status,
-        Err(fault) => tell(&fault, err),
+        Err(fault) => give_up(alloc, words, &fault, files, err),
     }
 }
 
@@ -51,7 +55,7 @@ pub fn execute_alone<F: Files, O: Write, E: Write>(
 {
     match answer_alone(alloc, words, files, out) {
         Ok(status) => status,
-        Err(why) => tell(&why, err),
+        Err(why) => give_up(alloc, words, &why, files, err),
     }
 }
 
@@ -86,4 +90,53 @@ fn answer<R: Threads + Wait + Sync, F: Files, O: Write>(
 {
     let request = request_of(alloc, words)?;
     perform(rt, alloc, request, files, out)
+}
+
+// Reports a fault in one line, and what explains it where a word asks for that. It returns the exit status. What the
+// reasons are looked up in may have changed since, and may fail as it did then: nothing is told then.
+fn give_up<F: Files, E: Write>(
+    alloc: Global,
+    words: &[String],
+    fault: &Fault,
+    files: &F,
+    err: &mut E,
+) -> u8
+    ensures { result ≡ 1 }
+{
+    let status = tell(fault, err);
+    if has_word(words, "--explain") {
+        let _told = tell_why(alloc, words, fault, files, err);
+    }
+    status
+}
+
+// Prints what explains a fault of these words.
+fn tell_why<F: Files, E: Write>(
+    alloc: Global,
+    words: &[String],
+    fault: &Fault,
+    files: &F,
+    err: &mut E,
+) -> Result<(), Fault>
+    ensures { OnOk result (TellsReason (texts words.now) (F.held files.now) fault.now (E.contents err.old)
+        (E.contents err.new)) }
+{
+    let text = why(alloc, words, fault, files)?;
+    err.write_all(&text)?;
+    Ok(())
+}
+
+// What explains a fault of these words.
+fn why<F: Files>(
+    alloc: Global,
+    words: &[String],
+    fault: &Fault,
+    files: &F,
+) -> Result<Vec<u8>, Fault>
+    ensures { IfOk result (λ text. IsReasonFor (texts words.now) (F.held files.now) fault.now text.items) }
+{
+    match request_of(alloc, words) {
+        Ok(request) => explain(alloc, &request, fault, files),
+        Err(_) => Ok(explain_alone(alloc, fault)?),
+    }
 }

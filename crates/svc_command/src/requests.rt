@@ -65,17 +65,19 @@ pub(crate) fn explore<'a>(alloc: Global, line: Line<'_, 'a>) -> Result<Request<'
     let image = image(line)?;
     let config = configuration(line)?;
     if let Some(trace) = line.option("of")? {
-        return Ok(Request::Observe(Traced {
+        let traced = Traced {
             image,
             config,
             trace,
-        }));
+        };
+        return Ok(Request::Observe(traced, line.option("names")?));
     }
     let explored = Explored {
         image,
         config,
         burst: line.number("burst", MAX_BURST_TURNS)?,
         states: line.number("states", 1_000_000)?,
+        names: line.option("names")?,
     };
     match sought(alloc, line)? {
         Some(sought) => Ok(Request::Find(explored, sought, line.option("trace")?)),

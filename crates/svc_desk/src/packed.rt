@@ -1,13 +1,13 @@
 //! Files that stand one behind another in one list of bytes.
 
-ghost use Rattle.std.specs.Prelude.{◌≡◌, ◌++◌, ◌∷◌, [], IfOk, drop, option_map, take};
-ghost use Rattle.svc_desk.specs.Held.{held_by};
+ghost use Rattle.std.specs.Prelude.{◌≡◌, ◌++◌, ◌∷◌, [], IfOk, IsTrue, drop, option_map, take};
+ghost use Rattle.svc_desk.specs.Held.{held_by, size_of};
 
 use std::alloc::{AllocError, Global};
 
 /// How many bytes the name of a file has, and how many the file.
 #[repr(C)]
-#[derive(Clone, Copy, Drop)]
+#[derive(Clone, Copy, PartialEq, Eq, Drop)]
 pub struct FileSize {
     pub name: u64,
     pub bytes: u64,
@@ -22,9 +22,17 @@ pub struct Lent<'a> {
 }
 
 impl<'a> Lent<'a> {
+    /// Whether these are the same files.
+    pub fn is_same(&self, other: &Lent<'_>) -> bool
+        ensures sizes { IsTrue result → self.now.sizes.now ≡ other.now.sizes.now }
+        ensures contents { IsTrue result → self.now.contents.now ≡ other.now.contents.now }
+    {
+        self.sizes == other.sizes && self.contents == other.contents
+    }
+
     /// The first file of this name.
-    pub fn find(self, name: &[u8]) -> Option<&'a [u8]>
-        ensures { option_map (λ bytes. bytes.now) result ≡ held_by self.sizes.now self.contents.now name.now }
+    pub fn find(&self, name: &[u8]) -> Option<&'a [u8]>
+        ensures { option_map (λ bytes. bytes.now) result ≡ held_by self.now.sizes.now self.now.contents.now name.now }
     {
         let mut rest = self.contents;
         for size in self.sizes {
@@ -62,9 +70,8 @@ impl Packed {
     ///
     /// Errors: lack of memory.
     pub fn before(&self, alloc: Global, name: &[u8], bytes: &[u8]) -> Result<Packed, AllocError>
-        ensures sizes { IfOk result (λ it. it.sizes.items
-            ≡ FileSize { name = length name.now; bytes = length bytes.now } ∷ self.now.sizes.items) }
-        ensures contents { IfOk result (λ it. it.contents.items ≡ name.now ++ bytes.now ++ self.now.contents.items) }
+        ensures sizes { IfOk result (λ it. it.sizes.items ≡ size_of name.now bytes.now ∷ self.now.sizes.items) }
+        ensures contents { IfOk result (λ it. it.contents.items ≡ name.now ++ (bytes.now ++ self.now.contents.items)) }
     {
         let size = FileSize {
             name: name.len() as u64,

@@ -6,10 +6,10 @@ use Rattle.svc_history_laws.specs.declared.entry.Entry.{Entry}
 use Rattle.svc_report.specs.Trace.{row_of}
 use Rattle.svc_task_runs.specs.declared.task_run.Fate.{Fate}
 use Rattle.svc_task_runs.specs.declared.task_run.Fate.TheVariants as fate
-use Rattle.svc_draw.specs.declared.bars.Bar.{Bar}
-use Rattle.svc_draw.specs.declared.marks.Mark.{Mark}
-use Rattle.svc_draw.specs.declared.marks.MarkKind.{MarkKind}
-use Rattle.svc_draw.specs.declared.marks.MarkKind.TheVariants as mark
+use Rattle.svc_marks.specs.declared.bars.Bar.{Bar}
+use Rattle.svc_marks.specs.declared.marks.Mark.{Mark}
+use Rattle.svc_marks.specs.declared.marks.MarkKind.{MarkKind}
+use Rattle.svc_marks.specs.declared.marks.MarkKind.TheVariants as mark
 use Rattle.svc_draw.specs.declared.sheet.Sheet.{Sheet}
 use Rattle.svc_draw.specs.declared.sheet.TheConstants.{TOP}
 use Rattle.svc_draw.specs.Frame.{bar_height, bar_left, bar_top, bar_width, end_x, end_y, is_wide, mark_x, mark_y, radius}

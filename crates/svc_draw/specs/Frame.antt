@@ -1,8 +1,8 @@
 -- Where things stand in a picture, in its units of length.
 use Rattle.std.specs.Prelude.{ℕ, ◌+◌, ◌-◌, ◌*◌, ◌/◌, min, max, nat_lt, nat_le, Bool, ◌&&◌, cond, Option, Some, None}
-use Rattle.svc_draw.specs.declared.bars.Bar.{Bar}
-use Rattle.svc_draw.specs.declared.marks.Mark.{Mark}
-use Rattle.svc_draw.specs.declared.marks.Spot.{Spot}
+use Rattle.svc_marks.specs.declared.bars.Bar.{Bar}
+use Rattle.svc_marks.specs.declared.marks.Mark.{Mark}
+use Rattle.svc_marks.specs.declared.marks.Spot.{Spot}
 use Rattle.svc_draw.specs.declared.sheet.Sheet.{Sheet}
 use Rattle.svc_draw.specs.declared.sheet.TheConstants.{HEIGHT, LEFT, RIGHT, TOP, WIDTH}
 

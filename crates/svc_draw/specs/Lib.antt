@@ -1,10 +1,5 @@
-pub mod Bars
 pub mod Drawing
 pub mod Frame
 pub mod Legend
-pub mod Marks
-pub mod Parts
 pub mod Picture
-pub mod Rows
 pub mod Shapes
-pub mod Stores

@@ -1,14 +1,14 @@
 -- The picture of a history: its text, of the bars and marks that are shown.
 use Rattle.std.specs.Prelude.{ℕ, List, ◌++◌, length, flat_map}
 use Rattle.svc_history_laws.specs.declared.entry.Entry.{Entry}
-use Rattle.svc_draw.specs.declared.bars.Bar.{Bar}
-use Rattle.svc_draw.specs.declared.marks.Mark.{Mark}
+use Rattle.svc_marks.specs.declared.bars.Bar.{Bar}
+use Rattle.svc_marks.specs.declared.marks.Mark.{Mark}
 use Rattle.svc_draw.specs.declared.sheet.Sheet.{Sheet}
-use Rattle.svc_draw.specs.Bars.{bars_of, window_of}
+use Rattle.svc_marks.specs.Bars.{bars_of, window_of}
 use Rattle.svc_draw.specs.Drawing.{bar_name, bar_text, layer_text, values_text}
 use Rattle.svc_draw.specs.Frame.{radius}
 use Rattle.svc_draw.specs.Legend.{axis, head, lanes, legend}
-use Rattle.svc_draw.specs.Marks.{marks_of}
+use Rattle.svc_marks.specs.Marks.{marks_of}
 use Rattle.svc_draw.specs.Shapes.{arrow_heads, closing}
 
 -- what lies below: the heads of arrows, the legend and the lanes

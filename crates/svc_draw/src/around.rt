@@ -3,8 +3,8 @@
 ghost use Rattle.std.specs.Prelude.{◌≡◌, ◌≤◌, ◌++◌, OnOk};
 ghost use Rattle.svc_draw.specs.Shapes.{headline, fate_sample, sample_end, arrow_heads, lane, tick, opening, hatching, paper_text, commit_sample, thin_sample, bold_sample, closing, border, axis_words};
 
-use crate::parts::{Part, put_parts};
 use std::alloc::AllocError;
+use svc_text::{Part, put_parts};
 
 /// What is shown.
 #[tactic(auto, unfolding(crate::specs::Shapes::headline))]

@@ -5,10 +5,7 @@ ghost use Rattle.svc_report.specs.Trace.{row_of};
 ghost use Rattle.svc_draw.specs.Drawing.{bar_name, bar_text, element_of, fill_of, layer, layer_text, mark_in, mark_shape, mark_text, name_of, name_words, title};
 ghost use Rattle.svc_draw.specs.Shapes.{label};
 
-use crate::bars::Bar;
 use crate::frame::Frame;
-use crate::marks::{Mark, MarkKind};
-use crate::parts::Part;
 use crate::shapes::{
     bar_box, bold_arrow, box_title, close, commit_line, diamond, label, ring, square, thin_arrow,
     title_open,
@@ -16,9 +13,10 @@ use crate::shapes::{
 use itoa::Buffer;
 use std::alloc::{AllocError, Global};
 use svc_history_laws::Entry;
+use svc_marks::{Bar, Mark, MarkKind};
 use svc_report::write_entry;
 use svc_task_runs::Fate;
-use svc_text::Piece;
+use svc_text::{Part, Piece};
 
 /// How a fate's bars are filled.
 pub(crate) fn fill_of(fate: Fate) -> &'static str

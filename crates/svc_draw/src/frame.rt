@@ -3,10 +3,9 @@
 ghost use Rattle.std.specs.Prelude.{◌+◌, ◌≤◌, ◌<◌, ◌/◌};
 ghost use Rattle.svc_base.specs.declared.config.TheConstants.{MAX_EVENTS};
 
-use crate::bars::Bar;
-use crate::marks::Mark;
 use crate::sheet::{BOTTOM, HEIGHT, LEFT, RIGHT, Sheet, TOP, WIDTH};
 use svc_base::UnitId;
+use svc_marks::{Bar, Mark};
 
 /// A place of a picture that isn't at its left or upper edge, so that a mark has room there.
 #[derive(Clone, Copy)]

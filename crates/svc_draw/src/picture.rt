@@ -6,15 +6,14 @@ ghost use Rattle.svc_report.specs.Faults.{IsMemoryFault};
 ghost use Rattle.svc_draw.specs.Picture.{picture_of, picture_text, surroundings, things, words};
 
 use crate::around::{arrow_heads, closing};
-use crate::bars::{Bar, Window, bars_of};
 use crate::drawing::{write_bars, write_layer, write_names};
 use crate::frame::Frame;
 use crate::legend::{write_axis, write_head, write_lanes, write_legend};
-use crate::marks::{Mark, marks_of};
 use crate::sheet::Sheet;
 use crate::values::write_values;
 use std::alloc::{AllocError, Global};
 use svc_history_laws::Entry;
+use svc_marks::{Bar, Mark, Window, bars_of, marks_of};
 use svc_report::ReportError;
 
 // Writes what lies below: the heads of arrows, the legend and the lanes.

@@ -1,13 +1,13 @@
 // The shapes of bars and marks.
 
 ghost use Rattle.std.specs.Prelude.{◌≡◌, ◌≤◌, ◌++◌, OnOk, flat_map};
-ghost use Rattle.svc_draw.specs.Parts.{part_text};
+ghost use Rattle.svc_text.specs.Parts.{part_text};
 ghost use Rattle.svc_draw.specs.Shapes.{label, ring, square, diamond, commit_line, thin_arrow, bold_arrow, close, title_open, bar_box, box_title, label_open, label_close};
 
 use crate::frame::Point;
-use crate::parts::{Part, put_parts};
 use crate::sheet::{BOTTOM, TOP};
 use std::alloc::AllocError;
+use svc_text::{Part, put_parts};
 
 /// A ring: a load.
 #[tactic(auto, unfolding(crate::specs::Shapes::ring))]

@@ -1,6 +1,6 @@
 // What a picture shows, and where.
 
-use crate::bars::Window;
+use svc_marks::Window;
 
 /// Where the entries begin, from the left.
 pub(crate) const LEFT: u64 = 90;

@@ -5,12 +5,12 @@ ghost use Rattle.svc_draw.specs.Drawing.{committed_text, saying, value_text, val
 ghost use Rattle.svc_draw.specs.Shapes.{label};
 
 use crate::frame::Frame;
-use crate::marks::{Mark, MarkKind};
-use crate::parts::Part;
 use crate::shapes::label;
 use crate::sheet::TOP;
 use std::alloc::AllocError;
 use svc_base::WordAddr;
+use svc_marks::{Mark, MarkKind};
+use svc_text::Part;
 
 // Words that end at a place.
 const ENDED: &str = "text-anchor='end'";

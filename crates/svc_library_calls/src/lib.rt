@@ -4,5 +4,6 @@
 pub mod attempt;
 pub mod images;
 pub mod machines;
+pub mod reasons;
 pub mod texts;
 pub mod threads;

@@ -45,10 +45,15 @@ shown_column first =
     if bytes_eq first (codes "spill") || bytes_eq first (codes "memory") then Some (column.Word 1) else
     ending_column first
 
-abbrev pub column_of : Rows → List ℕ → Option Column
-column_of rows.Shown first = shown_column first
-column_of rows.Counts first = ending_column first
-column_of (rows.Table column) first = column
+-- that of a row of what can be seen: where a task begins it tells its entry, else its word
+unfoldable pub seen_column : (what : List ℕ) → Column
+seen_column what = if bytes_eq what (codes "begin") then column.Text 4 else column.Word 3
+
+abbrev pub column_of : Rows → (row : List ℕ) → Option Column
+column_of rows.Shown row = shown_column (field 0 row)
+column_of rows.Counts row = ending_column (field 0 row)
+column_of rows.Seen row = Some (seen_column (field 1 row))
+column_of (rows.Table column) row = column
 
 -- the byte address of a word of data
 abbrev pub data_address : (word : ℕ) → ℕ
@@ -65,7 +70,7 @@ address_at (Some column) row = address_in column row
 
 -- the address of a row, if it has one
 abbrev pub addressed : Rows → List ℕ → Option ℕ
-addressed told row = address_at (column_of told (field 0 row)) row
+addressed told row = address_at (column_of told row) row
 
 -- ---- the name at its end
 
@@ -83,6 +88,7 @@ name_text names (Some address) = label_text address (nearest address names)
 abbrev pub is_header : Rows → List ℕ → Bool
 is_header rows.Shown row = false
 is_header rows.Counts row = false
+is_header rows.Seen row = false
 is_header (rows.Table column) row = not (is_some (value_of 10 (field 0 row)))
 
 -- a row with one field more: the name of its address

@@ -31,7 +31,7 @@ fn past_comma(row: &[u8]) -> &[u8]
 }
 
 /// The field of this place, counted from 0.
-pub(crate) fn field(row: &[u8], place: usize) -> &[u8]
+pub fn field(row: &[u8], place: usize) -> &[u8]
     ensures { result.now ≡ field place row.now }
 {
     let mut rest = row;

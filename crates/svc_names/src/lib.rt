@@ -8,6 +8,7 @@ mod near;
 mod reading;
 mod rows;
 
+pub use fields::field;
 pub use name::Name;
 pub use names::Names;
 pub use near::Near;

@@ -1,7 +1,7 @@
 // Rows with names at their ends.
 
 ghost use Rattle.std.specs.Prelude.{◌≡◌, ◌++◌, OnOk, option_map};
-ghost use Rattle.svc_names.specs.Rows.{address_in, addressed, column_of, data_address, ending_column, is_header, name_text, named_row, shown_column, with_names};
+ghost use Rattle.svc_names.specs.Rows.{address_in, addressed, column_of, data_address, ending_column, is_header, name_text, named_row, seen_column, shown_column, with_names};
 
 use crate::fields::field;
 use crate::names::Names;
@@ -26,6 +26,8 @@ pub enum Rows {
     Shown,
     /// Counts, and how a run ended.
     Counts,
+    /// Counts, and what can be seen of a history, in rows that say by their second field what it is.
+    Seen,
     /// A header, and rows that begin with a number and have an address in this column, if in any.
     Table(Option<Column>),
 }
@@ -36,7 +38,7 @@ fn is_header(rows: Rows, row: &[u8]) -> bool
 {
     match rows {
         Rows::Table(_) => value_of(Radix::Decimal, field(row, 0)).is_none(),
-        Rows::Shown | Rows::Counts => false,
+        Rows::Shown | Rows::Counts | Rows::Seen => false,
     }
 }
 
@@ -70,13 +72,26 @@ fn ending_column(first: &[u8]) -> Option<Column>
     }
 }
 
+// The column of the address in a row of what can be seen, by what it is.
+#[tactic(auto, unfolding(crate::specs::Rows::seen_column))]
+fn seen_column(what: &[u8]) -> Column
+    ensures { result ≡ seen_column what.now }
+{
+    if is_word(what, "begin") {
+        Column::Text(4)
+    } else {
+        Column::Word(3)
+    }
+}
+
 // The column of a row's address, if it has one.
-fn column_of(rows: Rows, first: &[u8]) -> Option<Column>
-    ensures { result ≡ column_of rows first.now }
+fn column_of(rows: Rows, row: &[u8]) -> Option<Column>
+    ensures { result ≡ column_of rows row.now }
 {
     match rows {
-        Rows::Shown => shown_column(first),
-        Rows::Counts => ending_column(first),
+        Rows::Shown => shown_column(field(row, 0)),
+        Rows::Counts => ending_column(field(row, 0)),
+        Rows::Seen => Some(seen_column(field(row, 1))),
         Rows::Table(column) => column,
     }
 }
@@ -102,7 +117,7 @@ fn address_in(column: Column, row: &[u8]) -> Option<u64>
 fn addressed(rows: Rows, row: &[u8]) -> Option<u64>
     ensures { result ≡ addressed rows row.now }
 {
-    let column = column_of(rows, field(row, 0))?;
+    let column = column_of(rows, row)?;
     address_in(column, row)
 }
 

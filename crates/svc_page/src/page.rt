@@ -36,7 +36,7 @@ pub extern "C" fn svc_page_answer(
     let Ok(line) = std::str::from_utf8(words) else {
         return 3;
     };
-    let Ok(answer) = answered(alloc, line, Lent { sizes, contents }) else {
+    let Some(answer) = answered(alloc, line, Lent { sizes, contents }) else {
         return 3;
     };
     hand_over(&answer, out, err, files, saved, lengths)

@@ -21,6 +21,7 @@ use Rattle.svc_request.specs.declared.request.Request.TheVariants as request
 use Rattle.svc_request.specs.Held.{Held}
 use Rattle.svc_request.specs.Names.{written_by}
 use Rattle.svc_answer.specs.Explored.{FindsSight, HasWitness, IsAnswerTo, IsExplorationOf}
+use Rattle.svc_answer.specs.Named.{IsNamedIn}
 use Rattle.svc_answer.specs.Requests.{IsAnswered, IsOfSource, IsQuiet, SavesAlone, SavesAnyTrace}
 
 -- what was found is shown by its schedule
@@ -39,7 +40,7 @@ answer_of img explored sought x saves is (Some s) whole there matches none witne
 
 -- with the image there, what was found of it or why not
 pub find_answered : {O : Type 0} (contents : O → Option (List ℕ)) (explored : Explored) (sought : Sought) (trace : Option (Bor (List ℕ))) (held saved : Held) (old new : O) (r : Result ℕ Fault) (img : Image)
-    → IsOfSource held explored.image img → IfOk r (FindsSight img explored sought (SavesAnyTrace saved trace) (contents old) (contents new))
+    → IsOfSource held explored.image img → IfOk r (λ exit. IsNamedIn held explored.names (λ names. FindsSight names img explored sought (SavesAnyTrace saved trace) (contents old) (contents new) exit))
     → IfErr r (IsQuiet old new) → SavesAlone (written_by (request.Find explored sought trace)) held saved r
     → IsAnswered contents (request.Find explored sought trace) held saved old new r
 find_answered contents explored sought trace held saved old new (Ok exit) img image finds silent alone =

@@ -104,7 +104,7 @@ fn dispatch<F: Files, O: Write>(
         Request::Find(explored, sought, trace) => {
             find(alloc, explored, sought, trace, files, out)
         }
-        Request::Observe(traced) => observe(alloc, traced, files, out),
+        Request::Observe(traced, names) => observe(alloc, traced, names, files, out),
         Request::Script(scripted) => script(alloc, scripted, files, out),
         Request::Check(traced, compared, script) => {
             check(alloc, traced, compared, script, files, out)

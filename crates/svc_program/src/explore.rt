@@ -7,13 +7,14 @@ ghost use Rattle.svc_answer.specs.Requests.{IsAnswered, IsQuiet};
 
 use std::alloc::{AllocError, Global};
 use std::io::Write;
-use svc_answer::load::load_image;
-use svc_answer::output::print_text;
+use svc_answer::load::{load_image, load_names};
+use svc_answer::output::print_rows;
 use svc_explore::{Exploration, put_exploration};
 use svc_image::Image;
+use svc_names::{Names, Rows};
 use svc_request::{Explored, Fault, Files};
 
-/// Follows all schedules of an image, and prints what can be seen.
+/// Follows all schedules of an image, and prints what can be seen, with the names of the table that is named.
 pub fn explore<F: Files, O: Write>(
     alloc: Global,
     explored: Explored<'_>,
@@ -24,7 +25,8 @@ pub fn explore<F: Files, O: Write>(
         (F.held files.now) (F.held files.now) out.old out.new result }
 {
     let image = load_image(alloc, explored.image, files)?;
-    tell_schedules(alloc, &image, explored, out)
+    let names = load_names(alloc, explored.names, files)?;
+    tell_schedules(alloc, &image, explored, names.as_ref(), out)
 }
 
 /// Follows all schedules of an image.
@@ -47,16 +49,17 @@ fn tell_schedules<O: Write>(
     alloc: Global,
     image: &Image,
     explored: Explored<'_>,
+    names: Option<&Names>,
     out: &mut O,
 ) -> Result<u8, Fault>
-    ensures told { IfOk result (TellsSchedules image.now explored.entry.config explored.entry.burst explored.entry.states
-        (O.contents out.old) (O.contents out.new)) }
+    ensures told { IfOk result (TellsSchedules names.entry image.now explored.entry.config explored.entry.burst
+        explored.entry.states (O.contents out.old) (O.contents out.new)) }
     ensures silent { IfErr result (IsQuiet out.old out.new) }
 {
     let exploration = all_schedules(alloc, image, explored)?;
     let mut text = Vec::new(alloc);
     put_exploration(&mut text, &exploration)?;
-    print_text(&text, out)?;
+    print_rows(alloc, names, Rows::Seen, &text, out)?;
     Ok(whole_status(exploration.whole))
 }
 

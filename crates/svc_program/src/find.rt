@@ -2,6 +2,8 @@
 
 ghost use Rattle.std.specs.Prelude.{◌≡◌, None, IfOk, IfErr, IfSome, IsFalse, IsTrue, OnOk, cond, is_some, option_map};
 ghost use Rattle.std.specs.Io.KnownBytes.{Appends};
+ghost use Rattle.svc_names.specs.Given.{listed, told_with};
+ghost use Rattle.svc_names.specs.declared.rows.Rows.TheVariants as rows;
 ghost use Rattle.svc_explore.specs.Found.{IsShown};
 ghost use Rattle.svc_explore.specs.Rows.{finding_text};
 ghost use Rattle.svc_request.specs.declared.faults.Fault.TheVariants.{Limit};
@@ -12,15 +14,16 @@ ghost use Rattle.svc_answer.specs.Requests.{IsAnswered, IsLate, IsQuiet, SavesAl
 use crate::explore::all_schedules;
 use std::alloc::Global;
 use std::io::Write;
-use svc_answer::load::{load_image, save_trace};
-use svc_answer::output::print_text;
+use svc_answer::load::{load_image, load_names, save_trace};
+use svc_answer::output::print_rows;
 use svc_explore::{Exploration, Seen, put_finding, witness};
 use svc_image::Image;
+use svc_names::{Names, Rows};
 use svc_observations::Sought;
 use svc_request::{Explored, Fault, Files};
 
 /// Follows all schedules of an image, saves the trace of one that shows what is looked for if a file is named for it, and
-/// prints what it shows.
+/// prints what it shows, with the names of the table that is named.
 pub fn find<F: Files, O: Write>(
     alloc: Global,
     explored: Explored<'_>,
@@ -33,7 +36,17 @@ pub fn find<F: Files, O: Write>(
         (F.held files.old) (F.held files.new) out.old out.new result }
 {
     let image = load_image(alloc, explored.image, files)?;
-    look_for(alloc, &image, explored, sought, trace, files, out)
+    let names = load_names(alloc, explored.names, files)?;
+    look_for(
+        alloc,
+        &image,
+        explored,
+        sought,
+        trace,
+        names.as_ref(),
+        files,
+        out,
+    )
 }
 
 // Follows all schedules of an image, saves the trace of one that shows what is looked for, and prints what it shows.
@@ -43,10 +56,11 @@ fn look_for<F: Files, O: Write>(
     explored: Explored<'_>,
     sought: Sought,
     trace: Option<&str>,
+    names: Option<&Names>,
     files: &mut F,
     out: &mut O,
 ) -> Result<u8, Fault>
-    ensures found { IfOk result (FindsSight image.now explored.entry sought (SavesAnyTrace (F.held files.new) trace.entry)
+    ensures found { IfOk result (FindsSight names.entry image.now explored.entry sought (SavesAnyTrace (F.held files.new) trace.entry)
         (O.contents out.old) (O.contents out.new)) }
     ensures silent { IfErr result (IsQuiet out.old out.new) }
     ensures alone { SavesAlone (option_map (λ name. name.now) trace.entry) (F.held files.old) (F.held files.new) result }
@@ -55,7 +69,7 @@ fn look_for<F: Files, O: Write>(
     let seen = svc_explore::find(exploration.found.as_slice(), sought);
     let status = search_status(exploration.whole, seen)?;
     save_witness(alloc, image, explored, seen, trace, files)?;
-    print_finding(alloc, &exploration, seen, out)?;
+    print_finding(alloc, &exploration, seen, names, out)?;
     Ok(status)
 }
 
@@ -99,14 +113,16 @@ fn print_finding<O: Write>(
     alloc: Global,
     exploration: &Exploration,
     seen: Option<&Seen>,
+    names: Option<&Names>,
     out: &mut O,
 ) -> Result<(), Fault>
-    ensures told { OnOk result (Appends (O.contents out.old) (O.contents out.new) (finding_text exploration.now seen.entry)) }
+    ensures told { OnOk result (Appends (O.contents out.old) (O.contents out.new)
+        (told_with (listed names.entry) rows.Seen (finding_text exploration.now seen.entry))) }
     ensures silent { IfErr result (IsQuiet out.old out.new) }
     ensures late { IfErr result IsLate }
 {
     let mut text = Vec::new(alloc);
     put_finding(&mut text, exploration, seen)?;
-    print_text(&text, out)?;
+    print_rows(alloc, names, Rows::Seen, &text, out)?;
     Ok(())
 }

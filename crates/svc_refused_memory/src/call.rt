@@ -5,13 +5,14 @@ use std::rt::Files;
 use std::sync::Wait;
 use std::thread::Threads;
 use svc_library_calls::attempt::{Attempt, Refused, Seen};
-use svc_library_calls::{images, machines, texts, threads};
+use svc_library_calls::{images, machines, reasons, texts, threads};
 
 // Makes the call of this name; none if no call has it. Each name belongs to one call.
 fn attempt<R: Files + Threads + Wait + Sync + AllocGlobal>(rt: &R, name: &str) -> Option<Attempt> {
     let alloc = rt.alloc();
     images::attempt(alloc, name)
         .or(machines::attempt(alloc, name))
+        .or(reasons::attempt(alloc, name))
         .or(texts::attempt(alloc, name))
         .or(threads::attempt(rt, alloc, name))
         .or(program::attempt(rt, name))

@@ -57,7 +57,7 @@ fn explains<R: Threads + Wait + Sync + AllocGlobal>(
     Ok(has_all(&text, parts))
 }
 
-const OPTIONS: [&str; 11] = [
+const OPTIONS: [&str; 12] = [
     "Usage: svcsim",
     "--units <N>",
     "[default: 4]",
@@ -69,6 +69,7 @@ const OPTIONS: [&str; 11] = [
     "[default: 100000]",
     "--turns <N>",
     "[default: 1000000]",
+    "--explain",
 ];
 
 /// The help of each subcommand that opens a machine explains the numbers of its configuration.

@@ -175,6 +175,7 @@ fn explore<R: Threads + Wait + Sync + AllocGlobal>(rt: &R) -> Attempt {
         config: ready(Config::new(1, 16, 2, 100, 1000))?,
         burst: 63,
         states: 100,
+        names: None,
     };
     asked(rt, Request::Explore(explored), EXPLORE)
 }

@@ -82,7 +82,7 @@ fn text_of(
     ensures err { IfErr result IsMemoryFault }
 {
     if rows {
-        svc_draw::draw_rows(alloc, entries, from, count)
+        svc_marks::picture_rows(alloc, entries, from, count)
     } else {
         svc_draw::draw(alloc, entries, config.units, from, count)
     }

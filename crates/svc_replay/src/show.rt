@@ -1,10 +1,6 @@
 //! `show`: the machine to which a trace leads.
 
-ghost use Rattle.std.specs.Prelude.{◌≡◌, ◌⊎◌, OnOk, IfOk, IfErr};
-ghost use Rattle.std.specs.Io.KnownBytes.{Appends};
-ghost use Rattle.svc_names.specs.Given.{listed, told_with};
-ghost use Rattle.svc_names.specs.declared.rows.Rows.TheVariants as rows;
-ghost use Rattle.svc_report.specs.Faults.{IsWriteFault};
+ghost use Rattle.std.specs.Prelude.{◌≡◌, ◌⊎◌, IfOk, IfErr};
 ghost use Rattle.svc_request.specs.declared.request.Request.TheVariants as request;
 ghost use Rattle.svc_request.specs.Faults.{IsReportFault, TellsOfTrace};
 ghost use Rattle.svc_show.specs.Show.{show_of};
@@ -16,12 +12,11 @@ use crate::fronts::replay_first;
 use std::alloc::Global;
 use std::io::Write;
 use svc_answer::load::{load_names, load_traced};
-use svc_answer::output::{flush, print_text, write_named};
+use svc_answer::output::print_rows;
 use svc_base::Config;
 use svc_history::Entry;
 use svc_image::Image;
 use svc_names::{Names, Rows};
-use svc_report::ReportError;
 use svc_request::{Fault, Files, Traced};
 use svc_show::show_text;
 
@@ -68,28 +63,8 @@ fn show_entries<O: Write>(
         × (out.new ≡ out.old))) }
 {
     let text = text_at(alloc, image, config, entries, at)?;
-    print_machine(alloc, &text, names, out)?;
+    print_rows(alloc, names, Rows::Shown, &text, out)?;
     Ok(0)
-}
-
-// Prints the text of a machine, its rows with names if any are given.
-fn print_machine<O: Write>(
-    alloc: Global,
-    text: &[u8],
-    names: Option<&Names>,
-    out: &mut O,
-) -> Result<(), ReportError>
-    ensures ok { OnOk result (Appends (O.contents out.old) (O.contents out.new)
-        (told_with (listed names.entry) rows.Shown text.now)) }
-    ensures err { IfErr result IsWriteFault }
-{
-    match names {
-        None => print_text(text, out),
-        Some(names) => {
-            write_named(alloc, names, Rows::Shown, text, out)?;
-            flush(out)
-        }
-    }
 }
 
 // The text of the machine to which the first `at` of the entries lead, or all.

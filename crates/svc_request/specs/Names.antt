@@ -1,5 +1,6 @@
 -- The names of files in a request.
 use Rattle.std.specs.Prelude.{◌≡◌, ◌⊎◌, ℕ, List, Option, None, Some, IsSomeAnd, option_map}
+use denote.Ref.{Bor}
 use Rattle.svc_request.specs.declared.request.Schedule.{Schedule}
 use Rattle.svc_request.specs.declared.request.Source.{Source}
 use Rattle.svc_request.specs.declared.request.Source.TheVariants as source
@@ -15,6 +16,10 @@ IsNameOf name (source.File file) = file.now ≡ name
 abbrev pub IsScriptOf : List ℕ → Option Schedule → Type 0
 IsScriptOf name schedule = IsSomeAnd schedule (λ s. IsSomeAnd s.after (λ script. script.now ≡ name))
 
+-- the table of names has this name
+abbrev pub IsTableOf : List ℕ → Option (Bor (List ℕ)) → Type 0
+IsTableOf name names = IsSomeAnd names (λ table. table.now ≡ name)
+
 -- the image that a request is about, if that is an existing one
 abbrev pub source_of : Request → Option Source
 source_of (request.Run run) = Some run.image
@@ -22,7 +27,7 @@ source_of (request.Sequential tasks) = Some tasks.image
 source_of (request.Depend depended) = Some depended.image
 source_of (request.Explore explored) = Some explored.image
 source_of (request.Find explored sought trace) = Some explored.image
-source_of (request.Observe traced) = Some traced.image
+source_of (request.Observe traced names) = Some traced.image
 source_of (request.Script scripted) = Some scripted.image
 source_of (request.Check traced compared script) = Some traced.image
 source_of (request.Profile traced to by names) = Some traced.image
@@ -44,7 +49,7 @@ written_by _ = None
 -- the file to write is also one to read
 abbrev pub IsOverItself : Request → Type 0
 IsOverItself (request.Run run) = IsSomeAnd run.trace (λ name. IsScriptOf name.now run.schedule ⊎ IsNameOf name.now run.image)
-IsOverItself (request.Find explored sought trace) = IsSomeAnd trace (λ name. IsNameOf name.now explored.image)
+IsOverItself (request.Find explored sought trace) = IsSomeAnd trace (λ name. IsTableOf name.now explored.names ⊎ IsNameOf name.now explored.image)
 IsOverItself (request.Script scripted) = IsSomeAnd scripted.trace (λ name. (scripted.events.now ≡ name.now) ⊎ IsNameOf name.now scripted.image)
 IsOverItself (request.Check traced compared script) = IsSomeAnd script (λ name. (traced.trace.now ≡ name.now) ⊎ IsNameOf name.now traced.image)
 IsOverItself (request.Draw traced picture) = (traced.trace.now ≡ picture.file.now) ⊎ IsNameOf picture.file.now traced.image

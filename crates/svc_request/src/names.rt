@@ -1,7 +1,7 @@
 // Files that would be written over files that are read.
 
 ghost use Rattle.std.specs.Prelude.{IsTrue};
-ghost use Rattle.svc_request.specs.Names.{IsNameOf, IsOverItself, IsScriptOf};
+ghost use Rattle.svc_request.specs.Names.{IsNameOf, IsOverItself, IsScriptOf, IsTableOf};
 
 use crate::files::Files;
 use crate::request::{Request, Schedule, Source};
@@ -20,7 +20,10 @@ impl Request<'_> {
                 None => false,
             },
             Request::Find(explored, _, trace) => match *trace {
-                Some(trace) => is_source(explored.image, trace, files),
+                Some(trace) => {
+                    is_table(explored.names, trace, files)
+                        || is_source(explored.image, trace, files)
+                }
                 None => false,
             },
             Request::Script(scripted) => match scripted.trace {
@@ -52,6 +55,16 @@ fn is_source<F: Files>(image: Source<'_>, name: &str, files: &F) -> bool
     match image {
         Source::BuiltIn => false,
         Source::File(file) => files.is_same(file, name),
+    }
+}
+
+// Whether the file of this name is the table of names, as far as `files` can tell.
+fn is_table<F: Files>(names: Option<&str>, name: &str, files: &F) -> bool
+    ensures { IsTableOf name.now names.entry → IsTrue result }
+{
+    match names {
+        Some(table) => files.is_same(table, name),
+        None => false,
     }
 }
 

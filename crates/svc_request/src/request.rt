@@ -162,6 +162,8 @@ pub struct Explored<'a> {
     pub burst: u32,
     /// How many standings to explore at most.
     pub states: u32,
+    /// The table of names by which words and entries are told, too.
+    pub names: Option<&'a str>,
 }
 
 /// The events of a script, on a machine of a configuration.
@@ -233,8 +235,8 @@ pub enum Request<'a> {
     /// To follow all schedules of an image, to save the trace of one that shows what is looked for if a file is named for it, and
     /// to print what it shows.
     Find(Explored<'a>, Sought, Option<&'a str>),
-    /// To replay a trace, and to print what it shows.
-    Observe(Traced<'a>),
+    /// To replay a trace, and to print what it shows, with the names of this table.
+    Observe(Traced<'a>, Option<&'a str>),
     /// To do the events of a script, and to print a line for each, and the summary.
     Script(Scripted<'a>),
     /// To replay a trace, to compare these columns of it, to save the script that leads to it if a file is named for it,

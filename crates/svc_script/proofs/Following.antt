@@ -95,17 +95,17 @@ no_burst r e x legal none replay =
     none-some (lease_from seat) (sym none ∙ (there ∙ ap (option_map lease_from) replay.3.seat_is))
 
 -- the step's event was the entry's, or there was none and it was refused
-abbrev Did : Recorded → Entry → Kind → Answer → Recorded → Type 0
-Did r e k a next = Tried r e k a next ⊎ (((why : Refusal) × (a ≡ answer.Refused why)) × ((x : Event) → ReplaysAs k r.machine.image (standing_of r).plain e x → ⊥))
+abbrev pub Did : Recorded → Entry → Kind → Answer → Recorded → Type 0
+Did r e k a next = Tried r e k a next ⊎ ((a ≡ answer.Refused (no_task r e.unit)) × ((x : Event) → ReplaysAs k r.machine.image (standing_of r).plain e x → ⊥))
 
 did_submit : (r : Recorded) (e : Entry) (a : Answer) (next : Recorded) → IsLegal r → has_numbers Submit e ≡ true → (o : Option Lease) → lease_of r.machine e.unit.0 ≡ o
     → Submits o (the_local e + turns_of (the_ask e)) e.unit r a next → Did r e Submit a next
-did_submit r e a next legal is None has submits = inr ((no_task r e.unit, submits.0), λ x replay. no_burst r e x legal has replay)
+did_submit r e a next legal is None has submits = inr (submits.0, λ x replay. no_burst r e x legal has replay)
 did_submit r e a next legal is (Some lease) has (b, takes, tries) =
     let numbers = both_true (is_some e.local) (is_some e.ask) is in
     inl (record { event = event.Submit b; replay = (numbers.0, numbers.1, b, burst_is r e lease b legal has takes, refl); tries = tries })
 
-did : (k : Kind) (r : Recorded) (e : Entry) (a : Answer) (next : Recorded) (kept after : Kept) → IsLegal r → has_numbers k e ≡ true → DoesKind (kind_to k e) e.unit r kept a next after → Did r e k a next
+pub did : (k : Kind) (r : Recorded) (e : Entry) (a : Answer) (next : Recorded) (kept after : Kept) → IsLegal r → has_numbers k e ≡ true → DoesKind (kind_to k e) e.unit r kept a next after → Did r e k a next
 did Assign r e a next kept after legal is does = inl (record { event = event.Assign e.unit.0 (the_arg e); replay = (is, refl); tries = does.0 })
 did Submit r e a next kept after legal is does = did_submit r e a next legal is (lease_of r.machine e.unit.0) refl does.0
 did Replace r e a next kept after legal is does = inl (record { event = event.Replace e.unit.0 (the_arg e); replay = (is, refl); tries = does.0 })
@@ -123,7 +123,7 @@ found_by r e found next kept after legal is does = of (did e.kind r e (answer.Ac
   where
     of : Did r e e.kind (answer.Accepted found) next → Found r e found next
     of (inl tried) = record { event = tried.event; replay = tried.replay; accepts = tried.tries }
-    of (inr ((why, is), none)) = absurd (cc is)
+    of (inr (is, none)) = absurd (cc is)
 
 -- any other answer says that the entry's event is refused
 other_answer : (r : Recorded) (e : Entry) (a : Answer) (next : Recorded) → ((f : Entry) → a ≡ answer.Accepted f → ⊥) → Did r e e.kind a next → IsWrongElsewhere r e fault.Refused

@@ -1,3 +1,4 @@
+pub mod Answered
 pub mod Following
 pub mod LeadingBack
 pub mod LeadingOn

@@ -1,3 +1,4 @@
+pub mod Answering
 pub mod Events
 pub mod Leading
 pub mod Playing

@@ -2,12 +2,14 @@
 //! of a trace with other suppliers.
 #![tactic(auto)]
 
+mod answering;
 mod events;
 mod leading;
 mod playing;
 mod script;
 mod suppliers;
 
+pub use answering::retry;
 pub use events::{first_other, lead_on};
 pub use leading::{script_leads_back, script_of};
 pub use playing::{Answer, Kept, no_bursts, play};

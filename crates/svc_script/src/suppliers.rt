@@ -82,7 +82,7 @@ fn follow(recorder: &mut Recorder, kept: &mut Kept, entry: &Entry) -> Result<(),
 }
 
 // Whether an entry has the numbers that its event needs.
-fn has_numbers(entry: &Entry) -> bool
+pub(crate) fn has_numbers(entry: &Entry) -> bool
     ensures { result ≡ has_numbers entry.now.kind entry.now }
 {
     match entry.kind {

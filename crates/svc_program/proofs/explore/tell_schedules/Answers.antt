@@ -1,5 +1,7 @@
 use Rattle.std.proofs.Common.{◌≡◌, ◌∙◌, ◌++◌, List, ℕ, ap, subst}
 use Rattle.std.specs.Io.KnownBytes.{Appends}
+use Rattle.svc_names.specs.declared.rows.Rows.TheVariants as rows
+use Rattle.svc_names.specs.Given.{listed, told_with}
 use Rattle.svc_explore.specs.Rows.{exploration_text}
 use Rattle.svc_program.proofs.explore.tell_schedules.Goals as goal
 
@@ -12,6 +14,7 @@ returns-clause-told g c =
     record {
       exploration = found;
       is = says;
-      text = subst (λ (t : List ℕ). Appends (g.O.Write.contents c.args.out.now) (g.O.Write.contents c.print_text.new.out) t) text c.in_ok-print_text.ensures.ok;
+      text = subst (λ (t : List ℕ). Appends (g.O.Write.contents c.args.out.now) (g.O.Write.contents c.print_rows.new.out) (told_with (listed c.args.names) rows.Seen t))
+          text c.in_ok-print_rows.ensures.ok;
       status = c.whole_status.ensures;
     }

@@ -1,10 +1,13 @@
 use Rattle.std.specs.Prelude.{IfOk}
-use Rattle.std.proofs.Common.{List, subst}
+use Rattle.std.proofs.Common.{List, Option, subst}
+use denote.Ref.{Bor}
+use Rattle.svc_names.specs.declared.names.Names.{Names}
 use Rattle.svc_image.specs.Image.{Image}
 use Rattle.svc_history_laws.specs.declared.entry.Entry.{Entry}
 use Rattle.svc_request.specs.declared.request.Request.TheVariants as request
+use Rattle.svc_answer.specs.Named.{IsNamedIn}
 use Rattle.svc_answer.specs.Observed.{TellsSightings}
-use Rattle.svc_answer.proofs.Answering.{answered_reading, of_loaded, silent_before}
+use Rattle.svc_answer.proofs.Answering.{answered_reading, of_loaded, of_named, silent_before}
 use Rattle.svc_replay.proofs.observe.observe.Goals as goal
 
 pub returns : goal.returns
@@ -15,9 +18,11 @@ returns g c =
     let traced = c.args.traced in
     let img = c.in_ok-image.image in
     let es = c.in_ok-image.entries.items in
-    let Tells = λ (i : Image) (xs : List Entry). TellsSightings i traced.config xs (g.O.Write.contents old) (g.O.Write.contents new) in
-    answered_reading g.O.Write.contents (request.Observe traced) held old new c.observe_entries.result
+    let given = c.as_ref.result in
+    let Tells = λ (i : Image) (xs : List Entry) (names : Option (Bor Names)). TellsSightings names i traced.config xs (g.O.Write.contents old) (g.O.Write.contents new) in
+    answered_reading g.O.Write.contents (request.Observe traced c.args.named) held old new c.observe_entries.result
     (img, c.in_ok-image.ensures.image) tt
-    (of_loaded c.observe_entries.result held traced img es Tells c.in_ok-image.ensures.image c.in_ok-image.ensures.trace
-    (subst (λ (xs : List Entry). IfOk c.observe_entries.result (Tells img xs)) c.deref.ensures.value c.observe_entries.ensures.told))
+    (of_loaded c.observe_entries.result held traced img es (λ i xs exit. IsNamedIn held c.args.named (λ names. Tells i xs names exit)) c.in_ok-image.ensures.image c.in_ok-image.ensures.trace
+    (of_named c.observe_entries.result held c.args.named c.in_ok-names.names given (Tells img es) c.in_ok-names.ensures c.as_ref.ensures.value
+    (subst (λ (xs : List Entry). IfOk c.observe_entries.result (Tells img xs given)) c.deref.ensures.value c.observe_entries.ensures.told)))
     (silent_before old new c.observe_entries.result _ c.observe_entries.ensures.fault)

@@ -1,0 +1,3 @@
+mod Stacked
+mod Sizes
+mod Told

@@ -1,0 +1,85 @@
+//! Which of the files of a request can't be read or saved.
+
+ghost use Rattle.std.specs.Prelude.{◌≡◌, ◌++◌, IfOk, IfSome, OnOk, Some, option_map, slice_get, ℕ};
+ghost use Rattle.svc_explain.specs.Explanations.{TellsFile, TellsUnread, TellsUnsaved, read_by, sentence};
+ghost use Rattle.svc_request.specs.Names.{written_by};
+
+use crate::names::{read_by, written_by};
+use std::alloc::{AllocError, Global};
+use svc_answer::front::front_of;
+use svc_image::MOST_BYTES;
+use svc_request::{Files, Request};
+use svc_text::put;
+
+/// A line of the program's own: a name, and what is said of it.
+pub(crate) fn line(alloc: Global, name: &str, said: &str) -> Result<Vec<u8>, AllocError>
+    ensures { IfOk result (λ text. text.items ≡ sentence (name.now ++ said.now)) }
+{
+    let mut text = Vec::new(alloc);
+    put!(&mut text; "svcsim: ", name, said, "\n");
+    Ok(text)
+}
+
+// Whether a file can be opened, and read from its beginning on.
+fn can_read<F: Files>(alloc: Global, name: &str, files: &F) -> bool {
+    match files.open(name) {
+        Ok(reader) => front_of(alloc, reader, MOST_BYTES).is_ok(),
+        Err(_) => false,
+    }
+}
+
+// The first of these files that can't be read.
+fn first_unread<'a, F: Files>(
+    alloc: Global,
+    names: &[Option<&'a str>],
+    files: &F,
+) -> Option<&'a str>
+    ensures { IfSome result (λ name. (place : ℕ) × (slice_get names.now place ≡ Some (Some name))) }
+{
+    for named in names {
+        if let Some(name) = *named {
+            if !can_read(alloc, name, files) {
+                return Some(name);
+            }
+        }
+    }
+    None
+}
+
+/// Which of the files of a request can't be read, each tried in its order, or is read and would be written, or can't be
+/// saved.
+///
+/// Errors: [`AllocError`], if memory runs out.
+pub(crate) fn explain_files<F: Files>(
+    alloc: Global,
+    request: &Request<'_>,
+    files: &F,
+) -> Result<Vec<u8>, AllocError>
+    ensures { IfOk result (λ text. TellsFile request.now text.items) }
+{
+    match first_unread(alloc, &read_by(request), files) {
+        Some(name) => line(alloc, name, " can't be read"),
+        None => explain_saved(alloc, request, files),
+    }
+}
+
+// Why the file of a request isn't saved.
+fn explain_saved<F: Files>(
+    alloc: Global,
+    request: &Request<'_>,
+    files: &F,
+) -> Result<Vec<u8>, AllocError>
+    ensures { IfOk result (λ text. TellsUnsaved (written_by request.now) text.items) }
+{
+    match written_by(request) {
+        None => line(
+            alloc,
+            "",
+            "memory ran out, or a trace has fewer entries than are asked for",
+        ),
+        Some(name) if request.is_over_itself(files) => {
+            line(alloc, name, " is read, and would be lost if it were saved")
+        }
+        Some(name) => line(alloc, name, " can't be saved"),
+    }
+}

@@ -1,0 +1,66 @@
+// The files of a request.
+
+ghost use Rattle.std.specs.Prelude.{◌≡◌, option_map};
+ghost use Rattle.svc_request.specs.Names.{written_by};
+ghost use Rattle.svc_explain.specs.Explanations.{name_of, read_by, script_of};
+
+use svc_request::{Request, Schedule, Source};
+
+// The name of an image's file.
+fn name_of(image: Source<'_>) -> Option<&str>
+    ensures { result ≡ name_of image.entry }
+{
+    match image {
+        Source::BuiltIn => None,
+        Source::File(name) => Some(name),
+    }
+}
+
+// The script that comes before a schedule.
+fn script_of(schedule: Option<Schedule<'_>>) -> Option<&str>
+    ensures { result ≡ script_of schedule.entry }
+{
+    match schedule {
+        None => None,
+        Some(schedule) => schedule.after,
+    }
+}
+
+/// The files that a request reads, in this order.
+pub(crate) fn read_by<'a>(request: &Request<'a>) -> [Option<&'a str>; 3]
+    ensures { result ≡ read_by request.now }
+{
+    match request {
+        Request::Run(run) => [name_of(run.image), script_of(run.schedule), None],
+        Request::Sequential(tasks) => [name_of(tasks.image), None, None],
+        Request::Depend(depended) => [name_of(depended.image), depended.names, None],
+        Request::Explore(explored) | Request::Find(explored, _, _) => {
+            [name_of(explored.image), explored.names, None]
+        }
+        Request::Script(scripted) => [name_of(scripted.image), Some(scripted.events), None],
+        Request::Check(traced, _, _) | Request::Draw(traced, _) => {
+            [name_of(traced.image), Some(traced.trace), None]
+        }
+        Request::Observe(traced, names)
+        | Request::Profile(traced, _, _, names)
+        | Request::Show(traced, _, names) => { [name_of(traced.image), Some(traced.trace), *names] }
+        Request::Assemble(assembly) => [Some(assembly.text), None, None],
+        Request::List(image) => [name_of(*image), None, None],
+        Request::Help(_) | Request::Version => [None, None, None],
+    }
+}
+
+/// The file that a request writes, if it writes one.
+pub(crate) fn written_by<'a>(request: &Request<'a>) -> Option<&'a str>
+    ensures { option_map (λ name. name.now) result ≡ written_by request.now }
+{
+    match request {
+        Request::Run(run) => run.trace,
+        Request::Find(_, _, trace) => *trace,
+        Request::Script(scripted) => scripted.trace,
+        Request::Check(_, _, script) => *script,
+        Request::Draw(_, picture) => Some(picture.file),
+        Request::Assemble(assembly) => Some(assembly.image),
+        _ => None,
+    }
+}

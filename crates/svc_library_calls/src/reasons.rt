@@ -1,0 +1,37 @@
+//! Calls that tell why an entry of a trace is faulty.
+
+use crate::attempt::{Attempt, Refused, ready};
+use crate::images::sample;
+use std::alloc::Global;
+use svc_base::Config;
+use svc_history::TraceFaultKind;
+use svc_reasons::explain_entries;
+use svc_report::ReportError;
+use svc_request::{Compared, Fault};
+use svc_samples::TEN_ENTRIES;
+
+/// Makes the call of this name, if it is one of these.
+pub fn attempt(alloc: Global, name: &str) -> Option<Attempt> {
+    match name {
+        "explain_entries" => Some(explained(alloc)),
+        _ => None,
+    }
+}
+
+const REASON: &[u8] = b"svcsim: row 8: word is \"4\", and the machine has \"5\"
+svcsim: a sound trace has there: submit,1,,1,1,loaded,0,5,committed,0,,,
+";
+
+/// The seventh of the ten entries has another word, and is explained.
+fn explained(alloc: Global) -> Attempt {
+    let config = ready(Config::new(4, 16, 2, 10, 1))?;
+    let image = sample(alloc)?;
+    let mut entries = TEN_ENTRIES;
+    entries[6].word = Some(4);
+    match explain_entries(alloc, image, config, &entries, Compared::All, 6) {
+        Ok(text) => Ok(text.as_slice() == REASON),
+        Err(Fault::Report(ReportError::Memory)) => Err(Refused::Told),
+        Err(Fault::Trace(fault)) if fault.kind == TraceFaultKind::Memory => Err(Refused::Told),
+        Err(_) => Ok(false),
+    }
+}

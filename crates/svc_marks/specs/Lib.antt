@@ -1,0 +1,4 @@
+pub mod Bars
+pub mod Marks
+pub mod Rows
+pub mod Stores
