@@ -13,7 +13,11 @@ kit=$(dirname "$(dirname "$(readlink -f "$(command -v rt)")")")
 llvm=$kit/toolchain/bin
 out=$here/out
 name=svcsim
-if [ "${1:-}" = --try ]; then name=try; fi
+level=-O3
+if [ "${1:-}" = --try ]; then
+    name=try
+    level=-O1
+fi
 work=$(mktemp -d)
 trap 'rm -rf "$work"' EXIT
 mkdir -p "$out" "$work/kit/bin" "$work/kit/toolchain/bin"
@@ -52,7 +56,7 @@ if grep -n '@llvm\.x86\|asm sideeffect' "$work/page.ll" | head -3 | grep .; then
     echo "the module has code for one processor alone" >&2
     exit 1
 fi
-"$llvm/clang" "${wasm[@]}" -mllvm -expand-div-rem-bits=64 -O3 -ffunction-sections -c -x ir "$work/page.ll" -o "$work/page.o"
+"$llvm/clang" "${wasm[@]}" -mllvm -expand-div-rem-bits=64 "$level" -ffunction-sections -c -x ir "$work/page.ll" -o "$work/page.o"
 "$llvm/clang" "${wasm[@]}" -O2 -c -x ir "$here/abi.ll" -o "$work/abi.o"
 for it in heap helpers; do
     "$llvm/clang" "${wasm[@]}" -O2 -ffreestanding -nostdinc -fno-builtin -c "$here/$it.c" -o "$work/$it.o"

@@ -13,7 +13,7 @@ export const HEADER = 'kind,unit,arg';
 // A fault that the program told.
 export class Fault extends Error {
   constructor(err) {
-    super(err.replace(/^svcsim: /, '').trimEnd());
+    super(err.replace(/^svcsim: /gm, '').trimEnd());
     this.err = err;
   }
 }
@@ -45,7 +45,7 @@ export class Requests {
 
   // The same, where status 1 is a fault.
   async get(words, library = this.library) {
-    const told = await this.ask(words, library);
+    const told = await this.ask(this.can.explain ? [...words, '--explain'] : words, library);
     if (told.status === 1) throw new Fault(told.err);
     return told;
   }
@@ -56,7 +56,7 @@ export class Requests {
     const [assemble, show] = [await help('assemble'), await help('show')];
     this.can = {
       names: assemble.includes('--names'), detail: show.includes('--detail'), moves: show.includes('--moves'),
-      memory: show.includes('--memory'),
+      memory: show.includes('--memory'), explain: show.includes('--explain'),
     };
   }
 
