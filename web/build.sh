@@ -42,11 +42,11 @@ if [ "$name" = try ]; then
 else
     (cd "$root/crates/svc_page" && "$work/kit/bin/rt" lib) | tee "$out/proof.txt" | grep '^logic='
     grep -q '^logic=proved ' "$out/proof.txt"
+    "$llvm/clang" -x ir "$work/module.bc" -S -emit-llvm -Xclang -disable-llvm-passes -o "$work/x86.ll"
 fi
 
 # The module, of which nothing is changed but what it says of the processor.
 wasm=(--target=wasm64-unknown-unknown -mcpu=lime1)
-"$llvm/clang" -x ir "$work/module.bc" -S -emit-llvm -Xclang -disable-llvm-passes -o "$work/x86.ll"
 sed -E \
     -e 's/^target datalayout = .*/target datalayout = "e-m:e-p:64:64-p10:8:8-p20:8:8-i64:64-i128:128-n32:64-S128-ni:1:10:20"/' \
     -e 's/^target triple = .*/target triple = "wasm64-unknown-unknown"/' \

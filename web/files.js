@@ -57,10 +57,11 @@ export async function save_as(session, kind) {
   }
 }
 
-// Opens a file by what it holds: a script, a trace, or else a program's text.
+// Opens a file by what it holds: a script, a trace, an image, whose listing is then the program, or else a program's text.
 export async function open_file(session, file) {
   const bytes = new Uint8Array(await file.arrayBuffer()), first = text_of(bytes.slice(0, 200)).split('\n')[0].trim();
   if (first === HEADER) return session.rewrite(text_of(bytes).split('\n').slice(1).filter((it) => it !== ''), 0);
   if (first.startsWith(`${HEADER},local`)) return session.load_trace(bytes);
-  return session.load({ lesson: file.name.replace(/\.[^.]*$/, ''), text: text_of(bytes), config: {}, by: {} });
+  const text = first.startsWith('SVCI') ? await session.requests.listed(bytes) : text_of(bytes);
+  return session.load({ lesson: file.name.replace(/\.[^.]*$/, ''), text, config: {}, by: {} });
 }

@@ -21,13 +21,13 @@ function standing(session, now, unit) {
 }
 
 function unit_box(session, predict, now, moves, unit) {
-  const all = moves.map((it) => ({ ...it, fields: it.move.split(',') })).filter((it) => Number(it.fields[1]) === unit), burst = String(session.by.burst);
+  const all = moves.map((it) => ({ ...it, fields: it.move.split(',') })).filter((it) => Number(it.fields[1]) === unit);
   const of = (kind, arg) => all.find((it) => it.fields[0] === kind && (arg === undefined || it.fields[2] === arg));
   const one = (it, label, says) => (it ? button(session, predict, it.move, it.refusal, label, says) : '');
-  const guess = of('assign', now.guess), turn = of('submit', '1'), more = of('submit', burst), is_head = now.tasks[0]?.unit === unit;
+  const guess = of('assign', now.guess), is_head = now.tasks[0]?.unit === unit;
   const others = session.entry_addresses().filter((it) => String(it) !== now.guess);
-  let html = one(guess, guess?.refusal ? TEXTS.begin_at('…') : TEXTS.begin_at(entry_html(session, now.guess)), TEXTS.the_guess) + one(turn, TEXTS.one_turn);
-  if (burst !== '1') html += one(more, burst === '63' ? TEXTS.to_bus : TEXTS.up_to(Number(burst)));
+  let html = one(guess, guess?.refusal ? TEXTS.begin_at('…') : TEXTS.begin_at(entry_html(session, now.guess)), TEXTS.the_guess);
+  for (const turns of session.bursts()) html += one(of('submit', String(turns)), turns === 1 ? TEXTS.one_turn : turns === 63 ? TEXTS.to_bus : TEXTS.up_to(turns));
   if (is_head) html += one(of('commit'), TEXTS.commit);
   html += one(of('cancel'), TEXTS.cancel);
   for (const it of all.filter((move) => move.fields[0] === 'replace')) html += one(it, TEXTS.let_go(word_html(session, it.fields[2])));

@@ -176,11 +176,16 @@ async function load_witness(at) {
   document.querySelector(`[data-witness="${at}"]`)?.focus({ preventScroll: true });
 }
 
-function apply_script() {
-  return session.rewrite($('steps').value.split('\n').map((it) => it.trim()).filter((it) => it !== ''), session.k).then(() => {
-    const { refused } = session.played;
-    tell(refused.length ? TEXTS.refused_steps(refused.length, session.steps.length) : '', refused.length > 0);
-  });
+// Says how many steps are refused, where a script was played since.
+function tell_refused(before) {
+  const { played, steps } = session, count = played.refused.length;
+  if (played !== before) tell(count ? TEXTS.refused_steps(count, steps.length) : '', count > 0);
+}
+
+async function apply_script() {
+  const before = session.played, steps = $('steps').value.split('\n').map((it) => it.trim()).filter((it) => it !== '');
+  await session.rewrite(steps, session.k);
+  tell_refused(before);
 }
 
 async function copy_link() {
@@ -275,12 +280,10 @@ function set_projector(is_on) {
 
 const number_in = (id) => Math.max(Number($(id).min), Math.min(Number($(id).max), Math.floor(Number($(id).value)) || 0));
 
-function on_machine() {
-  const sets = 2 ** Math.round(Math.log2(Math.max(1, number_in('ms'))));
-  return session.set_config({ units: number_in('mu'), sets, ways: number_in('mw') }).then(() => {
-    const { refused } = session.played;
-    tell(refused.length ? TEXTS.refused_steps(refused.length, session.steps.length) : '', refused.length > 0);
-  });
+async function on_machine() {
+  const before = session.played, sets = 2 ** Math.round(Math.log2(Math.max(1, number_in('ms'))));
+  await session.set_config({ units: number_in('mu'), sets, ways: number_in('mw') });
+  tell_refused(before);
 }
 
 function on_schedule() {
@@ -327,7 +330,7 @@ function wire_buttons() {
     $('file').value = '';
     if (!file) return;
     tell(TEXTS.opened(file.name));
-    await open_file(session, file);
+    await open_file(session, file).catch(tell_why);
     $('src').value = session.text;
     draw();
   });

@@ -6,7 +6,7 @@ import { drawn_of, explored_of, fault_of, lines_of, listing_of, names_of, played
 
 const FILES = {
   text: 'program.s', image: 'image.svci', names: 'names.csv', script: 'script.csv', trace: 'trace.csv', begin: 'begin.csv',
-  run: 'run.csv', tried: 'tried.csv', opened: 'opened.csv', rows: 'rows.csv', picture: 'picture.svg', witness: 'witness.csv',
+  run: 'run.csv', tried: 'tried.csv', opened: 'opened.csv', listed: 'opened.svci', rows: 'rows.csv', picture: 'picture.svg', witness: 'witness.csv',
 };
 export const HEADER = 'kind,unit,arg';
 
@@ -71,6 +71,12 @@ export class Requests {
 
   async list() {
     return listing_of((await this.get(['list', FILES.image])).out);
+  }
+
+  // The text that an image is assembled from.
+  async listed(bytes) {
+    this.library.put(FILES.listed, bytes);
+    return (await this.get(['list', FILES.listed])).out;
   }
 
   async sequential() {

@@ -251,13 +251,18 @@ export class Session {
     const list = [];
     for (let unit = 0; unit < this.config.units; unit++) {
       if (now.guess !== '') list.push(`assign,${unit},${now.guess}`);
-      list.push(`submit,${unit},1`, `submit,${unit},${this.by.burst}`);
+      for (const turns of this.bursts()) list.push(`submit,${unit},${turns}`);
       for (const it of now.lines) if (it.unit === unit) list.push(`replace,${unit},${it.word}`);
       list.push(`cancel,${unit},`);
       if (others.length <= 4) for (const it of others) list.push(`assign,${unit},${it}`);
     }
     if (now.tasks.length) list.push(`commit,${now.tasks[0].unit},`);
     return [...new Set(list)];
+  }
+
+  // By how many turns a task may be run on: one, as many as the machine's burst says, or as many as there are to the next bus request.
+  bursts() {
+    return [...new Set([1, this.by.burst, 63])].sort((a, b) => a - b);
   }
 
   entry_addresses() {

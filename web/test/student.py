@@ -197,12 +197,13 @@ def files_are_saved_and_opened(page):
     for it in names:
         assert os.path.getsize(f"{page.folder}/{it}") > 0, it
     page.choose("#lesson", "violation")
-    for name, check in [(".s", None), (".events.csv", steps), (".trace.csv", wanted)]:
+    for name in [".svci", ".s", ".events.csv", ".trace.csv"]:
         box = page.driver.find_element("css selector", "#file")
         box.send_keys(f"{page.folder}/handed_on{name}")
         time.sleep(0.5)
         page.settle()
     assert page.get("svcsim.session.entries.map((it) => it.row).join('\\n')") == wanted
+    assert page.get("svcsim.session.steps.join('\\n')") == steps
     with open(f"{page.folder}/handed_on.svg", encoding="utf-8") as it:
         assert it.read().startswith("<svg") or "<svg" in it.read(), "a picture"
 
