@@ -22,19 +22,26 @@ export async function opened_by(fragment) {
   if (fragment.length < 2) return null;
   try {
     const letters = atob(fragment.slice(1).replace(/-/g, '+').replace(/_/g, '/'));
-    const text = text_of(await through(Uint8Array.from(letters, (it) => it.charCodeAt(0)), new DecompressionStream('deflate-raw')));
+    const text = text_of(await through(Uint8Array.from(letters, (it) => it.charCodeAt(0)),
+      new DecompressionStream('deflate-raw')));
     const it = JSON.parse(text);
-    const is_ours = typeof it.t === 'string' && Array.isArray(it.s) && it.s.every((step) => typeof step === 'string' && !step.includes('\n'));
-    return is_ours ? { lesson: String(it.l), text: it.t, config: numbers_of(it.c), by: by_of(it.b), steps: it.s, k: Number(it.k) || 0 } : null;
+    const is_ours = typeof it.t === 'string' && Array.isArray(it.s)
+      && it.s.every((step) => typeof step === 'string' && !step.includes('\n'));
+    return is_ours
+      ? { lesson: String(it.l), text: it.t, config: numbers_of(it.c), by: by_of(it.b), steps: it.s,
+        k: Number(it.k) || 0 }
+      : null;
   } catch {
     return null;
   }
 }
 
 const number_of = (it, none) => (Number.isSafeInteger(it) && it >= 0 ? it : none);
-const numbers_of = (it) => ({ units: number_of(it?.units, 2), sets: number_of(it?.sets, 16), ways: number_of(it?.ways, 2) });
+const numbers_of = (it) =>
+  ({ units: number_of(it?.units, 2), sets: number_of(it?.sets, 16), ways: number_of(it?.ways, 2) });
 const by_of = (it) => ({
-  order: ['rotate', 'oldest', 'youngest', 'random'].includes(it?.order) ? it.order : 'youngest', seed: number_of(it?.seed, 0), burst: number_of(it?.burst, 63),
+  order: ['rotate', 'oldest', 'youngest', 'random'].includes(it?.order) ? it.order : 'youngest',
+    seed: number_of(it?.seed, 0), burst: number_of(it?.burst, 63),
 });
 
 export function save(name, bytes, type) {
@@ -53,7 +60,8 @@ export async function save_as(session, kind) {
     case 'image': return save(`${name}.svci`, session.requests.file('image'), 'application/octet-stream');
     case 'script': return save(`${name}.events.csv`, bytes_of([HEADER, ...session.steps, ''].join('\n')), 'text/csv');
     case 'trace': return save(`${name}.trace.csv`, session.requests.file('trace'), 'text/csv');
-    default: return save(`${name}.svg`, await session.requests.picture(0, Math.min(400, Math.max(1, session.entries.length))), 'image/svg+xml');
+    default: return save(`${name}.svg`,
+      await session.requests.picture(0, Math.min(400, Math.max(1, session.entries.length))), 'image/svg+xml');
   }
 }
 

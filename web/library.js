@@ -8,7 +8,8 @@ export const text_of = (bytes) => BYTES.decode(bytes);
 
 // Whether this browser has memories with 64-bit addresses: a module with one, and nothing else.
 export function has_wide_memory() {
-  return typeof WebAssembly === 'object' && WebAssembly.validate(new Uint8Array([0, 97, 115, 109, 1, 0, 0, 0, 5, 3, 1, 4, 1]));
+  return typeof WebAssembly === 'object'
+    && WebAssembly.validate(new Uint8Array([0, 97, 115, 109, 1, 0, 0, 0, 5, 3, 1, 4, 1]));
 }
 
 export class Stopped extends Error {}

@@ -20,7 +20,8 @@ function bits(now, old) {
 
 function line_box(session, now, old, is_marked) {
   if (!now) return `<div class="ln gone"><span class="nm">${word_html(session, old.word)}</span><span class="vl">${old.value}</span><span class="gh">${TEXTS.gone}</span></div>`;
-  const is_new = is_marked && !old, is_changed = old && old.value !== now.value, is_named = word_text(session, now.word) !== TEXTS.word(now.word);
+  const is_new = is_marked && !old, is_changed = old && old.value !== now.value,
+    is_named = word_text(session, now.word) !== TEXTS.word(now.word);
   return `<div class="ln${is_new ? ' isnew' : ''}">${is_new ? `<span class="newtag">${TEXTS.new}</span>` : ''}`
     + `<span class="nm">${word_html(session, now.word)}${is_named ? ` <small>${TEXTS.word(now.word)}</small>` : ''}</span>`
     + `<span class="vl${is_changed ? ' chg' : ''}">${now.value}</span>${bits(now.bits, is_marked && old ? old.bits : null)}</div>`;
@@ -32,13 +33,15 @@ function draw_caches(session, now, before, is_marked) {
     const task = now.tasks.find((it) => it.unit === unit), lines = now.lines.filter((it) => it.unit === unit);
     const old = is_marked ? before.lines.filter((it) => it.unit === unit) : lines;
     const words = [...new Set([...lines, ...old].map((it) => it.word))].sort((a, b) => a - b);
-    const boxes = words.map((word) => line_box(session, lines.find((it) => it.word === word), old.find((it) => it.word === word), is_marked));
+    const boxes = words.map((word) =>
+      line_box(session, lines.find((it) => it.word === word), old.find((it) => it.word === word), is_marked));
     return `<div class="cache"><div class="hdr"><h3>${TEXTS.Unit(unit)} <span class="soft">${task ? TEXTS.runs_task(task.task) : TEXTS.has_no_task}</span></h3>`
       + `<span class="empty">${TEXTS.used(lines.length, all)}</span></div>${boxes.join('') || `<p class="empty">${TEXTS.no_line}</p>`}</div>`;
   };
   const units = [...Array(session.config.units).keys()].map(cache).join('');
   $('caches').classList.toggle('many', session.config.units > 2);
-  set_html($('caches'), `<div class="units_list">${units}</div><p class="legend">${BITS.map((it) => `<b>${it[0]}</b>&nbsp;${it[1]}`).join(' · ')}</p>`);
+  set_html($('caches'),
+    `<div class="units_list">${units}</div><p class="legend">${BITS.map((it) => `<b>${it[0]}</b>&nbsp;${it[1]}`).join(' · ')}</p>`);
 }
 
 // The last entry before this moment at which a task on a unit did this with a word.
@@ -56,16 +59,22 @@ const is_version = (line) => line.bits[1] === 'S';
 // The lines of a word, from the oldest to the youngest: as the library orders them, or else as the rows come.
 function ordered(now, word) {
   const lines = now.lines.filter((it) => it.word === word), order = now.orders.find((it) => it.word === word);
-  if (order) return order.holders.map(([unit, holder]) => ({ line: lines.find((it) => it.unit === Number(unit)), is_committed: holder === 'committed' })).filter((it) => it.line);
+  if (order) return order.holders.map(([unit, holder]) =>
+    ({ line: lines.find((it) => it.unit === Number(unit)),
+      is_committed: holder === 'committed' })).filter((it) => it.line);
   const committed = lines.filter((it) => it.bits[3] === 'C');
-  const active = now.tasks.map((it) => lines.find((one) => one.unit === it.unit && one.bits[3] !== 'C')).filter(Boolean);
-  return [...committed.map((line) => ({ line, is_committed: true })), ...active.map((line) => ({ line, is_committed: false }))];
+  const active = now.tasks.map((it) =>
+    lines.find((one) => one.unit === it.unit && one.bits[3] !== 'C')).filter(Boolean);
+  return [...committed.map((line) => ({ line, is_committed: true })),
+    ...active.map((line) => ({ line, is_committed: false }))];
 }
 
-const node = (kind, who, value, says) => `<li class="${kind}"><div class="nd"><span>${who}</span><span class="v">${value}</span></div><small>${says}</small></li>`;
+const node = (kind, who, value, says) =>
+  `<li class="${kind}"><div class="nd"><span>${who}</span><span class="v">${value}</span></div><small>${says}</small></li>`;
 
 function task_node(session, now, it, at, line, word) {
-  const is_head = at === 0, spill = is_head ? now.spills.find((one) => one.word === word) : null, is_own = line && is_version(line);
+  const is_head = at === 0, spill = is_head ? now.spills.find((one) => one.word === word) : null,
+    is_own = line && is_version(line);
   const stale = line?.bits[4] === 'T' ? TEXTS.stale : '';
   let says = TEXTS.untouched;
   if (is_own) says = TEXTS.own_version + TEXTS.stored + done_at(session, 'store', it.task, word) + stale;
@@ -77,8 +86,10 @@ function task_node(session, now, it, at, line, word) {
 }
 
 export function draw_versions(session) {
-  const now = session.now(), word = session.word, row = now.memory.find((it) => it.word === word), list = ordered(now, word);
-  const nodes = [node('ver', TEXTS.memory_itself, row ? row.backing : '–', row ? TEXTS.behind_caches : TEXTS.in_no_cache)];
+  const now = session.now(), word = session.word, row = now.memory.find((it) => it.word === word),
+    list = ordered(now, word);
+  const nodes = [node('ver', TEXTS.memory_itself, row ? row.backing : '–',
+    row ? TEXTS.behind_caches : TEXTS.in_no_cache)];
   for (const { line } of list.filter((it) => it.is_committed)) {
     const says = (is_version(line) ? TEXTS.a_version : TEXTS.a_copy) + (line.bits[4] === 'T' ? TEXTS.stale : '');
     nodes.push(node(is_version(line) ? 'ver' : '', TEXTS.committed_in(line.unit), line.value, says));
@@ -87,7 +98,9 @@ export function draw_versions(session) {
     const found = list.find(({ line, is_committed }) => !is_committed && line.unit === it.unit);
     nodes.push(task_node(session, now, it, at, found?.line, word));
   });
-  set_html($('vol'), `<ol class="vol">${nodes.join('')}</ol>` + (now.tasks.length ? `<p class="legend">${TEXTS.versions_key}</p>` : `<p class="empty">${TEXTS.no_task}</p>`));
+  set_html($('vol'),
+    `<ol class="vol">${nodes.join('')}</ol>`
+      + (now.tasks.length ? `<p class="legend">${TEXTS.versions_key}</p>` : `<p class="empty">${TEXTS.no_task}</p>`));
 }
 
 // The words that there is something to say of: those with a row, now or at any moment that was looked at, and the first few of the data.
@@ -101,7 +114,9 @@ function words_of(session) {
 export function draw_words(session) {
   const words = words_of(session);
   if (!words.includes(session.word)) session.word = words[0] ?? 0;
-  if (set_html($('word'), words.map((it) => `<option value="${it}">${escaped(word_text(session, it))}</option>`).join('')) || true) $('word').value = session.word;
+  if (set_html($('word'),
+    words.map((it) => `<option value="${it}">${escaped(word_text(session, it))}</option>`).join(''))
+    || true) $('word').value = session.word;
 }
 
 function draw_memory(session, now, before, is_marked) {
@@ -121,8 +136,10 @@ function draw_memory(session, now, before, is_marked) {
   });
   const head = TEXTS.memory_head.map((it, n) => `<th${n ? ' class="n"' : ''}>${it}</th>`).join('');
   const left_out = (session.words ?? 0) - words.length;
-  set_html($('mem'), `<div class="scroll tall" tabindex="0" aria-label="${TEXTS.memory}"><table><thead><tr>${head}</tr></thead><tbody>${rows.join('')}</tbody></table></div>${spills.join('')}`
-    + (words.some((word) => !now.memory.some((it) => it.word === word)) ? `<p class="legend">${TEXTS.no_row}</p>` : '') + (left_out > 0 ? `<p class="legend">${TEXTS.more_words(left_out)}</p>` : ''));
+  set_html($('mem'),
+    `<div class="scroll tall" tabindex="0" aria-label="${TEXTS.memory}"><table><thead><tr>${head}</tr></thead><tbody>${rows.join('')}</tbody></table></div>${spills.join('')}`
+    + (words.some((word) => !now.memory.some((it) => it.word === word)) ? `<p class="legend">${TEXTS.no_row}</p>` : '')
+      + (left_out > 0 ? `<p class="legend">${TEXTS.more_words(left_out)}</p>` : ''));
 }
 
 // The words put out by committed tasks, in the tasks' order, and those that wait.
@@ -141,12 +158,15 @@ function outputs(session) {
 }
 
 function draw_output(session, now) {
-  const { done, waiting } = outputs(session), wanted = session.sequential?.out ?? [], is_same = (it, n) => wanted[n] === it.value;
+  const { done, waiting } = outputs(session), wanted = session.sequential?.out ?? [],
+    is_same = (it, n) => wanted[n] === it.value;
   const word = (value, kind, more = '') => `<span class="ow${kind}">${escaped(value)}${more}</span>`;
-  const run = done.map((it, n) => word(it.value, is_same(it, n) ? ' eq' : '')).join('') + waiting.map((it) => word(it.value, ' pend', ` <small>${TEXTS.waits(it.task)}</small>`)).join('');
+  const run = done.map((it, n) => word(it.value, is_same(it, n) ? ' eq' : '')).join('')
+    + waiting.map((it) => word(it.value, ' pend', ` <small>${TEXTS.waits(it.task)}</small>`)).join('');
   const is_front = done.length > 0 && done.every(is_same), ending = session.sequential?.ending;
   const verdict = is_front && done.length === wanted.length ? TEXTS.same : is_front ? TEXTS.so_far : '';
-  set_html($('outs'), `<div class="outs"><span>${TEXTS.this_run}</span><span class="w">${run || `<span class="empty">${TEXTS.nothing}</span>`}</span>`
+  set_html($('outs'),
+    `<div class="outs"><span>${TEXTS.this_run}</span><span class="w">${run || `<span class="empty">${TEXTS.nothing}</span>`}</span>`
     + `<span>${TEXTS.sequential}</span><span class="w">${wanted.slice(0, 64).map((it) => word(it, '')).join('')}${ending ? `<small>${TEXTS.sequential_ends(ending_text(ending))}</small>` : ''}</span></div>`
     + `<p class="verd">${verdict}</p>`);
 }

@@ -33,7 +33,8 @@ function tell_why(why) {
 }
 
 function draw_bar() {
-  const k = session.k, all = session.entries.length, score = predict.on && predict.asked ? TEXTS.score(predict.right, predict.asked) : '';
+  const k = session.k, all = session.entries.length,
+    score = predict.on && predict.asked ? TEXTS.score(predict.right, predict.asked) : '';
   $('at').textContent = score + TEXTS.position(k, predict.on ? '?' : all);
   $('b0').disabled = $('bb').disabled = k === 0;
   $('bf').disabled = k >= all;
@@ -134,7 +135,8 @@ async function run(is_on) {
   Object.assign(predict, { ask: null, said: null });
   const before = session.steps;
   await session.run(is_on);
-  if (session.steps !== before || !$('mmsg').classList.contains('fault')) tell(TEXTS.ran(session.entries.length, session.by.order));
+  if (session.steps !== before
+    || !$('mmsg').classList.contains('fault')) tell(TEXTS.ran(session.entries.length, session.by.order));
 }
 
 async function load(program) {
@@ -202,7 +204,9 @@ const DATA_KEYS = {
   move: (it, button) => { if (button.getAttribute('aria-disabled') !== 'true') session.make(it, predict.on); },
   answer: (it) => answer(Number(it)),
   witness: (it) => load_witness(Number(it)),
-  filter: (it) => { tables.filter = it; draw_tables(session, predict).then(() => document.querySelector(`[data-filter=${it}]`)?.focus()); },
+  filter: (it) =>
+    { tables.filter = it;
+      draw_tables(session, predict).then(() => document.querySelector(`[data-filter=${it}]`)?.focus()); },
   k: (it) => go(Number(it)),
   i: (it) => { if (!predict.on || Number(it) < session.k) go(Number(it) + 1); },
   save: (it) => { $('savemenu').open = false; save_as(session, it).catch(tell_why); },
@@ -211,7 +215,8 @@ const DATA_KEYS = {
 function on_click(event) {
   const button = event.target.closest('button, tr[data-k], rect[data-i]');
   if (!button) return;
-  for (const [key, act] of Object.entries(DATA_KEYS)) if (button.dataset[key] !== undefined) return act(button.dataset[key], button);
+  for (const [key, act] of Object.entries(DATA_KEYS)) if (button.dataset[key] !== undefined) return act(button.dataset[key],
+    button);
   if (button.getAttribute('role') === 'tab') show_tab(button.id.slice(2));
   if (button.id === 'bexplore') explore(true);
   if (button.id === 'bstop') requests.stop();
@@ -224,7 +229,8 @@ function show_tab(tab) {
 }
 
 function on_tab_key(event) {
-  const at = TABS.indexOf(tables.tab), to = event.key === 'ArrowRight' ? at + 1 : event.key === 'ArrowLeft' ? at - 1 : -9;
+  const at = TABS.indexOf(tables.tab),
+    to = event.key === 'ArrowRight' ? at + 1 : event.key === 'ArrowLeft' ? at - 1 : -9;
   if (to === -9) return;
   const tab = TABS[(to + TABS.length) % TABS.length];
   show_tab(tab);
@@ -242,7 +248,8 @@ function on_key(event) {
   }
   if (is_control || event.altKey) return;
   if (!is_quiet && predict.ask && /^[1-9]$/.test(key)) return answer(Number(key) - 1);
-  const keys = { ArrowRight: step, ArrowLeft: () => go(session.aim - 1), Home: () => go(0), End: () => (predict.on ? null : go(session.entries.length)) };
+  const keys = { ArrowRight: step, ArrowLeft: () => go(session.aim - 1), Home: () => go(0),
+    End: () => (predict.on ? null : go(session.entries.length)) };
   if (!is_quiet) Object.assign(keys, { n: go_to_note, p: () => set_predict(!predict.on) });
   if (keys[key]) {
     event.preventDefault();
@@ -253,7 +260,8 @@ function on_key(event) {
 // Marks the column of an entry that a sentence links to.
 function on_link(event) {
   const link = event.target.closest?.('.lnk');
-  if (link) document.querySelector(`.hit[data-i="${link.dataset.k - 1}"]`)?.classList.toggle('lit', ['mouseover', 'focusin'].includes(event.type));
+  if (link) document.querySelector(`.hit[data-i="${link.dataset.k - 1}"]`)?.classList.toggle('lit',
+    ['mouseover', 'focusin'].includes(event.type));
 }
 
 // What an entry says, beside the pointer.
@@ -278,7 +286,8 @@ function set_projector(is_on) {
   return draw();
 }
 
-const number_in = (id) => Math.max(Number($(id).min), Math.min(Number($(id).max), Math.floor(Number($(id).value)) || 0));
+const number_in = (id) =>
+  Math.max(Number($(id).min), Math.min(Number($(id).max), Math.floor(Number($(id).value)) || 0));
 
 async function on_machine() {
   const before = session.played, sets = 2 ** Math.round(Math.log2(Math.max(1, number_in('ms'))));
@@ -305,15 +314,20 @@ function fill_texts() {
   for (const it of document.querySelectorAll('[data-label]')) it.setAttribute('aria-label', TEXTS[it.dataset.label]);
   for (const it of document.querySelectorAll('[data-tip]')) it.title = TEXTS[it.dataset.tip];
   $('keyslist').innerHTML = TEXTS.keys_list.map(([key, says]) => `<dt>${key}</dt><dd>${says}</dd>`).join('');
-  $('sched').innerHTML = Object.entries(TEXTS.orders).map(([key, says]) => `<option value="${key}">${says}</option>`).join('');
-  $('lesson').innerHTML = PROGRAMS.map((it) => `<option value="${it.lesson}">${escaped(TEXTS.lessons[it.lesson] ?? it.lesson)} (${it.lesson}.s)</option>`).join('');
+  $('sched').innerHTML = Object.entries(TEXTS.orders).map(([key, says]) =>
+    `<option value="${key}">${says}</option>`).join('');
+  $('lesson').innerHTML = PROGRAMS.map((it) =>
+    `<option value="${it.lesson}">${escaped(TEXTS.lessons[it.lesson] ?? it.lesson)} (${it.lesson}.s)</option>`).join('');
   draw_key();
 }
 
 function wire_buttons() {
-  const acts = { b0: () => go(0), bb: () => go(session.aim - 1), bf: step, bn: go_to_note, bu: () => session.undo(), br: () => session.redo(), brun: () => run(false), bon: () => run(true),
-    bclear: () => session.rewrite([], 0), bpred: () => set_predict(!predict.on), blink: copy_link, bopen: () => $('file').click(), bhelp: () => $('help').showModal(),
-    btheme: () => set_theme(document.documentElement.dataset.theme !== 'dark'), bproj: () => set_projector(!document.documentElement.classList.contains('projector')) };
+  const acts = { b0: () => go(0), bb: () => go(session.aim - 1), bf: step, bn: go_to_note, bu: () => session.undo(),
+    br: () => session.redo(), brun: () => run(false), bon: () => run(true),
+    bclear: () => session.rewrite([], 0), bpred: () => set_predict(!predict.on), blink: copy_link,
+      bopen: () => $('file').click(), bhelp: () => $('help').showModal(),
+    btheme: () => set_theme(document.documentElement.dataset.theme !== 'dark'),
+      bproj: () => set_projector(!document.documentElement.classList.contains('projector')) };
   for (const [id, act] of Object.entries(acts)) $(id).addEventListener('click', act);
   $('lesson').addEventListener('change', () => load(program_of($('lesson').value)));
   $('word').addEventListener('change', () => { session.word = Number($('word').value); draw_versions(session); });
@@ -343,7 +357,8 @@ function wire() {
   document.addEventListener('keydown', on_key);
   document.addEventListener('change', (event) => {
     const { begin } = event.target.dataset ?? {};
-    if (begin !== undefined && event.target.value !== '') session.make(`assign,${begin},${event.target.value}`, predict.on);
+    if (begin !== undefined && event.target.value !== '') session.make(`assign,${begin},${event.target.value}`,
+      predict.on);
     if (event.target.id === 'states') session.by.states = Math.max(1, Number(event.target.value) || 20000);
   });
   document.querySelector('[role=tablist]').addEventListener('keydown', on_tab_key);
@@ -351,7 +366,8 @@ function wire() {
   $('svgbox').addEventListener('mousemove', on_pointer);
   $('svgbox').addEventListener('mouseleave', () => { $('tip').hidden = true; });
   new ResizeObserver(() => session.has_image && draw_lanes(session, predict)).observe($('lanes'));
-  window.addEventListener('hashchange', async () => { const it = await opened_by(location.hash); if (it) await load(it); });
+  window.addEventListener('hashchange',
+    async () => { const it = await opened_by(location.hash); if (it) await load(it); });
 }
 
 async function begin() {

@@ -6,12 +6,15 @@ import { TEXTS } from './texts.js';
 // A line of the text in colours: comments, directives, labels.
 function coloured(line) {
   const at = line.indexOf('#'), code = at < 0 ? line : line.slice(0, at), note = at < 0 ? '' : line.slice(at);
-  return escaped(code).replace(/^(\s*)(\.\w+)/, '$1<span class="d">$2</span>').replace(/^(\s*[\w.$]+:)/, '<span class="l">$1</span>') + (note ? `<span class="c">${escaped(note)}</span>` : '');
+  return escaped(code).replace(/^(\s*)(\.\w+)/, '$1<span class="d">$2</span>').replace(/^(\s*[\w.$]+:)/,
+    '<span class="l">$1</span>')
+    + (note ? `<span class="c">${escaped(note)}</span>` : '');
 }
 
 // The line of a fault: the word at its column, or a mark where nothing stands there. Columns count bytes.
 function underlined(line, column) {
-  const front = new TextDecoder().decode(new TextEncoder().encode(line).slice(0, column - 1)), rest = line.slice(front.length);
+  const front = new TextDecoder().decode(new TextEncoder().encode(line).slice(0, column - 1)),
+    rest = line.slice(front.length);
   const word = (/^[\w.$]+/.exec(rest) ?? [rest[0] ?? ' '])[0];
   return `${coloured(front)}<span class="bad">${escaped(word)}</span>${coloured(rest.slice(word.length))}`;
 }
@@ -19,11 +22,14 @@ function underlined(line, column) {
 export function draw_program(session) {
   const text = $('src').value, lines = text.split('\n'), fault = session.text === text ? session.fault : null;
   set_html($('nums'), lines.map((_, n) => n + 1).join('\n') + '\n');
-  set_html($('hl'), lines.map((it, n) => (fault?.line === n + 1 ? underlined(it, fault.column) : coloured(it))).join('\n') + '\n');
+  set_html($('hl'),
+    lines.map((it, n) => (fault?.line === n + 1 ? underlined(it, fault.column) : coloured(it))).join('\n') + '\n');
   const box = $('edmsg'), old = session.has_image ? TEXTS.shown_is_old : '';
   $('src').setAttribute('aria-invalid', Boolean(fault));
-  if (fault) set_html(box, `<p class="fault">${fault.line ? TEXTS.fault_at(fault.line, fault.column, escaped(fault.says)) : TEXTS.fault(escaped(fault.says))}${old}</p>`);
-  else if (session.text === text && session.has_image) set_html(box, `<p class="okline">${TEXTS.assembles(`${escaped(session.lesson || 'program')}.s`)}</p>`);
+  if (fault) set_html(box,
+    `<p class="fault">${fault.line ? TEXTS.fault_at(fault.line, fault.column, escaped(fault.says)) : TEXTS.fault(escaped(fault.says))}${old}</p>`);
+  else if (session.text === text && session.has_image) set_html(box,
+    `<p class="okline">${TEXTS.assembles(`${escaped(session.lesson || 'program')}.s`)}</p>`);
   else set_html(box, '');
 }
 
@@ -53,5 +59,7 @@ export function draw_listing(session) {
   });
   if (!set_html($('listing').tBodies[0], rows.join(''))) return;
   const row = $('listing').querySelector('.here'), box = $('listbox');
-  if (row && (row.offsetTop < box.scrollTop || row.offsetTop > box.scrollTop + box.clientHeight - 40)) box.scrollTop = row.offsetTop - box.clientHeight / 2;
+  if (row
+    && (row.offsetTop < box.scrollTop
+      || row.offsetTop > box.scrollTop + box.clientHeight - 40)) box.scrollTop = row.offsetTop - box.clientHeight / 2;
 }

@@ -2,11 +2,14 @@
 // from its own help, and asked for nowhere else than here.
 
 import { Stopped, text_of } from './library.js';
-import { drawn_of, explored_of, fault_of, lines_of, listing_of, names_of, played_of, shown_of, summary_of, table_of } from './rows.js';
+import { drawn_of, explored_of, fault_of, lines_of, listing_of, names_of, played_of, shown_of, summary_of,
+  table_of } from './rows.js';
 
 const FILES = {
-  text: 'program.s', image: 'image.svci', names: 'names.csv', script: 'script.csv', trace: 'trace.csv', begin: 'begin.csv',
-  run: 'run.csv', tried: 'tried.csv', opened: 'opened.csv', listed: 'opened.svci', rows: 'rows.csv', picture: 'picture.svg', witness: 'witness.csv',
+  text: 'program.s', image: 'image.svci', names: 'names.csv', script: 'script.csv', trace: 'trace.csv',
+    begin: 'begin.csv',
+  run: 'run.csv', tried: 'tried.csv', opened: 'opened.csv', listed: 'opened.svci', rows: 'rows.csv',
+    picture: 'picture.svg', witness: 'witness.csv',
 };
 export const HEADER = 'kind,unit,arg';
 
@@ -133,12 +136,14 @@ export class Requests {
   }
 
   async draw(from, count) {
-    await this.get(['draw', FILES.image, FILES.trace, FILES.rows, '--rows', '--from', from, '--count', count, ...this.machine()]);
+    await this.get(['draw', FILES.image, FILES.trace, FILES.rows, '--rows', '--from', from, '--count', count,
+      ...this.machine()]);
     return drawn_of(text_of(this.library.files.get(FILES.rows)));
   }
 
   async picture(from, count) {
-    await this.get(['draw', FILES.image, FILES.trace, FILES.picture, '--from', from, '--count', count, ...this.machine()]);
+    await this.get(['draw', FILES.image, FILES.trace, FILES.picture, '--from', from, '--count', count,
+      ...this.machine()]);
     return this.library.files.get(FILES.picture);
   }
 
@@ -168,7 +173,8 @@ export class Requests {
   // A shortest schedule that shows what the row says, as a script, with the row that it shows.
   async witness(how, seen) {
     this.other.put(FILES.image, this.library.files.get(FILES.image));
-    const words = [...this.explore_words(how), '--find', [seen.what, seen.task, seen.word].join().replace(/,+$/, ''), '--trace', FILES.witness];
+    const words = [...this.explore_words(how), '--find', [seen.what, seen.task, seen.word].join().replace(/,+$/, ''),
+      '--trace', FILES.witness];
     const found = explored_of((await this.get(words, this.other)).out).seen[0];
     this.library.put(FILES.witness, this.other.files.get(FILES.witness));
     return { found, steps: await this.leading(FILES.witness) };

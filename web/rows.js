@@ -8,8 +8,10 @@ const number_or = (field, none) => (field === '' || field === undefined ? none :
 export function entry_of(row) {
   const f = row.split(',');
   return {
-    row, kind: f[0], unit: Number(f[1]), arg: f[2], local: number_or(f[3], 0), ask: f[4], reply: f[5], word: number_or(f[6], -1),
-    value: f[7], served: f[8], from: number_or(f[9], -1), cause: f[10], first: number_or(f[11], -1), count: number_or(f[12], 0),
+    row, kind: f[0], unit: Number(f[1]), arg: f[2], local: number_or(f[3], 0), ask: f[4], reply: f[5],
+      word: number_or(f[6], -1),
+    value: f[7], served: f[8], from: number_or(f[9], -1), cause: f[10], first: number_or(f[11], -1),
+      count: number_or(f[12], 0),
   };
 }
 
@@ -29,11 +31,14 @@ export function played_of(text, steps) {
 
 // The machine at a moment: the rows of `show`.
 export function shown_of(text) {
-  const s = { tasks: [], lines: [], spills: [], memory: [], pcs: [], registers: [], orders: [], moves: [], ending: null, due: '', guess: '' };
+  const s = { tasks: [], lines: [], spills: [], memory: [], pcs: [], registers: [], orders: [], moves: [], ending: null,
+    due: '', guess: '' };
   for (const row of lines_of(text)) {
     const f = row.split(',');
     switch (f[0]) {
-      case 'task': s.tasks.push({ task: Number(f[1]), unit: Number(f[2]), entry: f[3], turns: Number(f[4]), state: f[5] }); break;
+      case 'task': s.tasks.push({ task: Number(f[1]), unit: Number(f[2]), entry: f[3], turns: Number(f[4]),
+        state: f[5] });
+        break;
       case 'line': s.lines.push({ unit: Number(f[1]), word: Number(f[2]), value: f[3], bits: f[4] }); break;
       case 'spill': s.spills.push({ word: Number(f[1]), value: f[2] }); break;
       case 'memory': s.memory.push({ word: Number(f[1]), committed: f[2], backing: f[3] }); break;
@@ -56,9 +61,11 @@ export function drawn_of(text) {
   for (const row of lines_of(text)) {
     const f = row.split(',');
     if (f[0] === 'bar') {
-      it.bars.push({ task: Number(f[1]), unit: Number(f[2]), entry: f[3], first: number_or(f[4], -1), last: number_or(f[5], -1), fate: f[6] });
+      it.bars.push({ task: Number(f[1]), unit: Number(f[2]), entry: f[3], first: number_or(f[4], -1),
+        last: number_or(f[5], -1), fate: f[6] });
     } else if (f[0] === 'mark') {
-      it.marks.push({ at: Number(f[1]), unit: Number(f[2]), task: Number(f[3]), kind: f[4], word: number_or(f[5], -1), value: f[6], by: f[7] });
+      it.marks.push({ at: Number(f[1]), unit: Number(f[2]), task: Number(f[3]), kind: f[4], word: number_or(f[5], -1),
+        value: f[6], by: f[7] });
     } else if (f[0] === 'arrow') {
       it.arrows.push({ from: number_or(f[1], -1), to: number_or(f[2], -1), kind: f[3], word: number_or(f[4], -1) });
     }
@@ -71,7 +78,8 @@ export function explored_of(text) {
   const it = { seen: [] };
   for (const row of lines_of(text)) {
     const f = row.split(',');
-    if (f[0] === 'seen') it.seen.push({ what: f[1], task: f[2], word: f[3], value: f[4], by: f[5], steps: f[6], key: f.slice(1, 6).join() });
+    if (f[0] === 'seen') it.seen.push({ what: f[1], task: f[2], word: f[3], value: f[4], by: f[5], steps: f[6],
+      key: f.slice(1, 6).join() });
     else it[f[0]] = f[1];
   }
   return it;
@@ -125,5 +133,6 @@ export function names_of(text) {
 // A fault of a text: its line and column, and what it says.
 export function fault_of(err) {
   const message = err.replace(/^svcsim: /, '').trimEnd(), parts = /^[^:]*:(\d+):(\d+): (.*)$/s.exec(message);
-  return parts ? { line: Number(parts[1]), column: Number(parts[2]), says: parts[3] } : { line: 0, column: 0, says: message.replace(/^program\.s: /, '') };
+  return parts ? { line: Number(parts[1]), column: Number(parts[2]), says: parts[3] }
+    : { line: 0, column: 0, says: message.replace(/^program\.s: /, '') };
 }

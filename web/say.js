@@ -10,8 +10,12 @@ const task_on = (shown, unit) => shown.tasks.find((it) => it.unit === unit);
 export const ending_text = ([name, value]) => TEXTS.ending[name](value);
 
 // The read that the store of this entry found too early, and the store whose version this read got, if the rows tell them.
-export const early_read = (session, at) => session.drawing.arrows.find((it) => it.kind === 'violation' && it.from === at)?.to ?? -1;
-export const version_store = (session, at) => session.drawing.arrows.find((it) => it.kind === 'version' && it.to === at)?.from ?? -1;
+export const early_read = (session, at) =>
+  session.drawing.arrows.find((it) => it.kind === 'violation' && it.from === at)?.to
+  ?? -1;
+export const version_store = (session, at) =>
+  session.drawing.arrows.find((it) => it.kind === 'version' && it.to === at)?.from
+  ?? -1;
 
 function said_of_store(session, at, it, task) {
   const word = word_html(session, it.word);
@@ -30,7 +34,8 @@ function said_of_load(session, it, task, before) {
 
 function said_of_assign(session, it, task, before) {
   const others = before.tasks.map((one) => one.task);
-  return SAYS.begins(TEXTS.Unit(it.unit), TEXTS.task(task), entry_html(session, it.value), others.length ? SAYS.still(others) : '');
+  return SAYS.begins(TEXTS.Unit(it.unit), TEXTS.task(task), entry_html(session, it.value),
+    others.length ? SAYS.still(others) : '');
 }
 
 function said_of_run(it, task, after) {
@@ -40,13 +45,16 @@ function said_of_run(it, task, after) {
 }
 
 function said_of_replace(session, it, task, before, after) {
-  const word = Number(it.arg), kept = after.spills.find((one) => one.word === word && !before.spills.some((old) => old.word === word));
-  return SAYS.replaces(TEXTS.Unit(it.unit), word_html(session, word)) + (kept ? SAYS.spills(kept.value, TEXTS.task(task)) : '.');
+  const word = Number(it.arg),
+    kept = after.spills.find((one) => one.word === word && !before.spills.some((old) => old.word === word));
+  return SAYS.replaces(TEXTS.Unit(it.unit), word_html(session, word))
+    + (kept ? SAYS.spills(kept.value, TEXTS.task(task)) : '.');
 }
 
 // What the entry did, between these two moments.
 function said_of(session, at, it, before, after) {
-  const on = task_on(it.kind === 'assign' ? after : before, it.unit) ?? task_on(after, it.unit), number = on?.task ?? '?', task = TEXTS.Task(number);
+  const on = task_on(it.kind === 'assign' ? after : before, it.unit) ?? task_on(after, it.unit),
+    number = on?.task ?? '?', task = TEXTS.Task(number);
   switch (it.reply) {
     case 'assigned': return said_of_assign(session, it, number, before);
     case 'loaded': return said_of_load(session, it, task, before);
@@ -77,12 +85,14 @@ export function sentence(session, at) {
 }
 
 // The same without links and colours.
-export const plain_sentence = (session, at) => sentence(session, at).html.replace(/ class="(bad|good)"/g, '').replace(/<\/?button[^>]*>/g, '');
+export const plain_sentence = (session, at) =>
+  sentence(session, at).html.replace(/ class="(bad|good)"/g, '').replace(/<\/?button[^>]*>/g, '');
 
 function tags_of(it) {
   const tag = (colour, text) => `<span class="tag ${colour}">${text}</span>`;
   if (it.cause === 'violation') return tag('sq', TEXTS.tags.violation);
-  return (it.kind === 'commit' ? tag('ok', TEXTS.tags.commit) : '') + (it.cause === 'guess' ? tag('gu', TEXTS.tags.guess) : '')
+  return (it.kind === 'commit' ? tag('ok', TEXTS.tags.commit) : '')
+    + (it.cause === 'guess' ? tag('gu', TEXTS.tags.guess) : '')
     + (it.cause === 'cancel' ? tag('', TEXTS.tags.cancel) : '');
 }
 
@@ -91,7 +101,8 @@ export function draw_sentence(session, predict) {
   box.className = 'panel';
   box.setAttribute('aria-live', document.activeElement === $('slider') ? 'off' : 'polite');
   if (predict.ask) {
-    const options = predict.ask.options.map((it, n) => `<button data-answer="${n}"><kbd aria-hidden="true">${n + 1}</kbd>${it.label}</button>`).join('');
+    const options = predict.ask.options.map((it, n) =>
+      `<button data-answer="${n}"><kbd aria-hidden="true">${n + 1}</kbd>${it.label}</button>`).join('');
     return void (box.innerHTML = `<div class="when">${TEXTS.predicting(k)}</div><div class="quiz"><p>${predict.ask.question}</p>`
       + `<div class="opts" role="group" aria-label="${TEXTS.your_answer}">${options}</div></div>`);
   }
@@ -101,7 +112,9 @@ export function draw_sentence(session, predict) {
   }
   const { html, colour } = sentence(session, k - 1), it = session.entries[k - 1];
   if (colour) box.classList.add(colour);
-  const verdict = predict.said?.k === k ? `<span class="verdict">${predict.said.is_right ? TEXTS.right : TEXTS.wrong(plain(predict.said.label))}</span> ` : '';
+  const verdict = predict.said?.k === k
+    ? `<span class="verdict">${predict.said.is_right ? TEXTS.right : TEXTS.wrong(plain(predict.said.label))}</span> `
+    : '';
   box.innerHTML = `<div class="when">${TEXTS.entry(k - 1)} ${tags_of(it)}</div><p>${verdict}${html}</p><div class="row mono">${escaped(it.row)}</div>`;
 }
 
@@ -110,18 +123,23 @@ export function draw_sentence(session, predict) {
 function question_of_load(session, it, task, now) {
   const asks = TEXTS.asks, options = [{ label: asks.memory, is_right: it.served === 'memory' }];
   for (const one of now.tasks) {
-    if (one.unit !== it.unit) options.push({ label: asks.version(one.task), is_right: it.served === 'version' && it.from === one.unit });
+    if (one.unit !== it.unit) options.push({ label: asks.version(one.task),
+      is_right: it.served === 'version' && it.from === one.unit });
   }
-  options.push({ label: asks.committed, is_right: it.served === 'committed' }, { label: asks.own, is_right: it.served === 'hit' || it.served === 'reuse' });
+  options.push({ label: asks.committed, is_right: it.served === 'committed' },
+    { label: asks.own, is_right: it.served === 'hit' || it.served === 'reuse' });
   if (now.spills.length) options.push({ label: asks.spill, is_right: it.served === 'spill' });
   return { question: asks.serves(TEXTS.Task(task.task), word_html(session, it.word)), options };
 }
 
 function question_of_squash(session, it, task, others) {
   const asks = TEXTS.asks;
-  const what = it.reply === 'stored' ? asks.stores(it.value, word_html(session, it.word)) : it.kind === 'commit' ? asks.commits : asks.runs;
+  const what = it.reply === 'stored' ? asks.stores(it.value, word_html(session, it.word)) : it.kind === 'commit'
+    ? asks.commits : asks.runs;
   const options = [{ label: asks.nobody, is_right: !it.cause }];
-  others.forEach((one, n) => options.push({ label: asks.from(one.task, n === others.length - 1), is_right: Boolean(it.cause) && it.first === one.task }));
+  others.forEach((one, n) =>
+    options.push({ label: asks.from(one.task, n === others.length - 1),
+      is_right: Boolean(it.cause) && it.first === one.task }));
   return { question: asks.squashes(TEXTS.Task(task.task), what), options };
 }
 

@@ -9,7 +9,8 @@ export class Session {
   // `draw` shows the session; `tell` says what went wrong.
   constructor(requests, draw, tell) {
     Object.assign(this, { requests, draw, tell });
-    Object.assign(this, { lesson: '', text: '', steps: [], k: 0, word: 0, by: { order: 'youngest', seed: 0, burst: 63 } });
+    Object.assign(this,
+      { lesson: '', text: '', steps: [], k: 0, word: 0, by: { order: 'youngest', seed: 0, burst: 63 } });
     Object.assign(this, { fault: null, names: null, listing: [], sequential: null, has_image: false, image_count: 0 });
     Object.assign(this, { undo_list: [], redo_list: [], witness: -1, jobs: Promise.resolve(), wanted: null, busy: 0 });
     this.forget();
@@ -301,7 +302,8 @@ export class Session {
   }
 }
 
-const EMPTY = { tasks: [], lines: [], spills: [], memory: [], pcs: [], registers: [], orders: [], moves: [], ending: ['open', ''], due: '', guess: '' };
+const EMPTY = { tasks: [], lines: [], spills: [], memory: [], pcs: [], registers: [], orders: [], moves: [],
+  ending: ['open', ''], due: '', guess: '' };
 
 // A move that the machine refuses.
 export class Refused extends Error {
