@@ -11,6 +11,8 @@ const FILES = {
   run: 'run.csv', tried: 'tried.csv', opened: 'opened.csv', listed: 'opened.svci', rows: 'rows.csv',
     picture: 'picture.svg', witness: 'witness.csv',
 };
+// More tasks than a history of 100,000 entries can commit.
+const MOST_TASKS = 50000;
 export const HEADER = 'kind,unit,arg';
 
 // A fault that the program told.
@@ -83,7 +85,7 @@ export class Requests {
   }
 
   async sequential() {
-    const told = await this.ask(['seq', FILES.image]);
+    const told = await this.ask(['seq', FILES.image, '--tasks', MOST_TASKS]);
     return told.status === 1 ? null : summary_of(lines_of(told.out));
   }
 
@@ -152,7 +154,7 @@ export class Requests {
   }
 
   async depend(by) {
-    return table_of((await this.get(['depend', FILES.image, '--by', by])).out);
+    return table_of((await this.get(['depend', FILES.image, '--by', by, '--tasks', 300])).out);
   }
 
   // What the trace shows, as rows of an exploration.
