@@ -8,6 +8,7 @@ pub mod Keeping
 pub mod Beginning
 pub mod Committed
 pub mod Newest
+pub mod OlderVersions
 pub mod Squashing
 pub mod Committing
 pub mod Opening

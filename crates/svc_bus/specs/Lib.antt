@@ -8,3 +8,4 @@ pub mod Carried
 pub mod Marks
 pub mod Stores
 pub mod Looking
+pub mod Older

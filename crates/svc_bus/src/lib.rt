@@ -9,6 +9,7 @@
 
 pub mod bus;
 mod marks;
+mod older;
 mod read;
 mod reads;
 mod replace;

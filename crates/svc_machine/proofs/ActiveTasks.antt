@@ -1,5 +1,5 @@
 -- The active tasks as they are shown, by their seats.
-use Rattle.std.proofs.Common.{ℕ, zero, suc, ◌≡◌, List, [], ◌∷◌, map, Some, refl, sym, ap, ◌∙◌}
+use Rattle.std.proofs.Common.{ℕ, zero, suc, ◌≡◌, List, [], ◌∷◌, map, Option, Some, None, refl, sym, ap, ◌∙◌}
 use Rattle.std.proofs.lemmas.Option.{slice_get-map}
 use Rattle.std.specs.Prelude.{option_map, slice_get}
 use Rattle.std.specs.List.{AllByRecursion}
@@ -11,6 +11,7 @@ use Rattle.svc_machine_laws.specs.WholeMachine as whole
 use Rattle.svc_machine_laws.specs.WholeMachine.{seat_of}
 use Rattle.svc_machine.specs.declared.seat.Seat.{Seat}
 use Rattle.svc_machine.specs.declared.shown.ActiveTask.{ActiveTask}
+use Rattle.svc_machine.specs.Cores.{core_in, core_of}
 use Rattle.svc_machine.specs.Kept.{Parts, Kept, shown, whole_seat}
 use Rattle.svc_machine.specs.Reads.{task_of, task_shown}
 
@@ -31,3 +32,28 @@ task_read m kept seats same place =
     let runs = running (program m.image) m.plain in
     ap (option_map at_seat) (sym (slice_get-map whole_seat seats place) ∙ ap (λ (l : List (whole.Seat State)). slice_get l place) (same ∙ kept.seats) ∙ slice_get-map seat_of runs place)
     ∙ counted_at runs kept.reached.counted place
+
+-- ---- their cores
+
+abbrev core_at : whole.Seat State → State
+core_at s = s.core
+
+same_core : (o : Option (Running State)) → option_map core_at (option_map seat_of o) ≡ option_map core_in o
+same_core None = refl
+same_core (Some x) = refl
+
+core_read : (m : Parts) → Kept m → (seats : List Seat) → map whole_seat seats ≡ m.seats → (place : ℕ)
+    → option_map core_at (option_map whole_seat (slice_get seats place)) ≡ core_of (shown m) place
+core_read m kept seats same place =
+    let runs = running (program m.image) m.plain in
+    ap (option_map core_at) (sym (slice_get-map whole_seat seats place) ∙ ap (λ (l : List (whole.Seat State)). slice_get l place) (same ∙ kept.seats) ∙ slice_get-map seat_of runs place)
+    ∙ same_core (slice_get runs place)
+
+own_core : (o : Option Seat) → option_map (λ (s : Seat). s.lease.core) o ≡ option_map core_at (option_map whole_seat o)
+own_core None = refl
+own_core (Some s) = refl
+
+-- the core in the seat at a place
+pub seat_core : (m : Parts) → Kept m → (seats : List Seat) → map whole_seat seats ≡ m.seats → (place : ℕ)
+    → option_map (λ (s : Seat). s.lease.core) (slice_get seats place) ≡ core_of (shown m) place
+seat_core m kept seats same place = own_core (slice_get seats place) ∙ core_read m kept seats same place

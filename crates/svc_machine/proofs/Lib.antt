@@ -13,3 +13,4 @@ pub mod Committing
 mod EditedSeats
 mod Submitting
 mod Opening
+mod Refused

@@ -7,3 +7,4 @@ pub mod Asked
 pub mod Refusing
 pub mod Admitted
 pub mod Steps
+pub mod Cores

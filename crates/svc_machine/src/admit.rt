@@ -252,7 +252,7 @@ impl Machine {
     }
 
     // The word to replace before the unit has room for what is asked, if it has none.
-    fn full_set(&self, unit: UnitId, ask: Ask) -> Option<WordAddr>
+    pub(crate) fn full_set(&self, unit: UnitId, ask: Ask) -> Option<WordAddr>
         requires { unit.0 < self.now.config.units }
         ensures { (t : LineTable) → Agrees (observed self.now.bus) t
             → option_map (λ addr. addr.0) result ≡ full_set t unit.0 (asked_word self.now.image ask) }

@@ -15,6 +15,7 @@ mod commit;
 pub mod event;
 pub mod machine;
 mod reads;
+mod refusal;
 mod replace;
 mod run;
 pub mod seat;

@@ -11,6 +11,7 @@ ghost use Rattle.svc_bus_laws.specs.BusState.{unnumbered};
 ghost use Rattle.svc_bus_laws.specs.BusView.{bus_newest};
 ghost use Rattle.svc_bus.specs.Observed.{observed};
 ghost use Rattle.svc_bus.specs.Calls.{line_shown};
+ghost use Rattle.svc_bus.specs.Older.{is_older_version};
 ghost use Rattle.svc_machine_laws.specs.Guess.{guess};
 ghost use Rattle.svc_machine_laws.specs.Reached.{IsReached};
 ghost use Rattle.svc_machine_laws.specs.Refusals.{history_full};
@@ -101,6 +102,14 @@ impl Machine {
         ensures { option_map (λ unit. unit.0) result ≡ bus_newest (observed self.now.bus) addr.0 }
     {
         self.bus.newest_committed(addr)
+    }
+
+    /// Whether both units have a committed version of the word, and the first unit's is the older one.
+    pub fn is_older(&self, addr: WordAddr, first: UnitId, second: UnitId) -> bool
+        requires in_data { addr.0 < data_words self.now.image }
+        ensures { result ≡ is_older_version (observed self.now.bus) addr.0 first.0 second.0 }
+    {
+        self.bus.is_older(addr, first, second)
     }
 
     /// The word in the backing memory itself.

@@ -1,13 +1,13 @@
 //! The seats of the active tasks.
 
-ghost use Rattle.std.specs.Prelude.{◌≡◌, ◌==◌, option_and_then, slice_get};
+ghost use Rattle.std.specs.Prelude.{◌≡◌, ◌==◌, option_and_then, option_map, slice_get};
 ghost use Rattle.std.specs.List.{position};
 ghost use Rattle.svc_machine_laws.specs.Guess.{last_end};
 
 use arrayvec::ArrayVec;
 use svc_base::UnitId;
 use svc_base::limits::MAX_TASK_OUTPUT;
-use svc_core::Lease;
+use svc_core::{Core, Lease};
 use svc_core_laws::End;
 
 /// The seat of an active task.
@@ -35,6 +35,17 @@ pub(crate) fn end_at(seats: &[Seat], place: usize) -> Option<End>
 {
     match seats.get(place) {
         Some(seat) => seat.lease.core.done(),
+        None => None,
+    }
+}
+
+/// The core of the task at a place, if there is one.
+pub(crate) fn core_at(seats: &[Seat], place: usize) -> Option<&Core>
+    ensures { option_map (λ core. core.now) result
+        ≡ option_map (λ seat. seat.lease.core) (slice_get seats.now place) }
+{
+    match seats.get(place) {
+        Some(seat) => Some(&seat.lease.core),
         None => None,
     }
 }

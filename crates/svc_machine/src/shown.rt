@@ -1,13 +1,16 @@
 // The active tasks and the spilled words, for whoever inspects a machine.
 
-ghost use Rattle.std.specs.Prelude.{◌≡◌, ◌<◌, length};
+ghost use Rattle.std.specs.Prelude.{◌≡◌, ◌<◌, length, option_map};
 ghost use Rattle.svc_core_laws.specs.Turns.{data_words};
 ghost use Rattle.svc_machine_laws.specs.Standing.{Standing};
+ghost use Rattle.svc_machine.specs.Cores.{core_of};
 ghost use Rattle.svc_machine.specs.Reads.{task_of};
 ghost use Rattle.svc_machine.specs.Value.{StandsAt};
 
 use crate::machine::Machine;
+use crate::seat::core_at;
 use svc_base::{UnitId, WordAddr};
+use svc_core::Core;
 use svc_core_laws::End;
 
 /// The state of an active task.
@@ -42,6 +45,14 @@ impl Machine {
             turns: seat.lease.core.count(),
             done: seat.lease.core.done(),
         })
+    }
+
+    /// The core of the active task at a place, counted from the oldest: its pc and its registers; none if there are
+    /// fewer.
+    pub fn core_at(&self, place: usize) -> Option<&Core>
+        ensures { option_map (λ core. core.now) result ≡ core_of self.now place }
+    {
+        core_at(&self.seats, place)
     }
 
     /// The head's version of the word whose line was replaced, if any.
