@@ -14,9 +14,11 @@ llvm=$kit/toolchain/bin
 out=$here/out
 name=svcsim
 level=-O3
+stack=4194304
 if [ "${1:-}" = --try ]; then
     name=try
-    level=-O1
+    level=-O0
+    stack=33554432
 fi
 work=$(mktemp -d)
 trap 'rm -rf "$work"' EXIT
@@ -61,7 +63,7 @@ fi
 for it in heap helpers; do
     "$llvm/clang" "${wasm[@]}" -O2 -ffreestanding -nostdinc -fno-builtin -c "$here/$it.c" -o "$work/$it.o"
 done
-"$llvm/ld.lld" -flavor wasm -mwasm64 --no-entry --stack-first -z stack-size=4194304 --export=svc_page_answer --gc-sections --fatal-warnings \
+"$llvm/ld.lld" -flavor wasm -mwasm64 --no-entry --stack-first -z "stack-size=$stack" --export=svc_page_answer --gc-sections --fatal-warnings \
     -o "$out/$name.wasm" "$work"/{page,abi,heap,helpers}.o
 /usr/bin/python3 "$here/build_page.py" "$out/$name.wasm" > "$out/$name.html"
 wc -c "$out/$name.wasm" "$out/$name.html"

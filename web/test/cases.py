@@ -78,7 +78,8 @@ def made_images(data):
 def row_of(row, data, made):
     words = row["words"].split()
     is_threads = not words or (words[0] == "run" and "--schedule" not in words and row["status"] != "1")
-    if is_threads:
+    is_below = any("/" in it and not os.path.isdir(f"{data}/{os.path.dirname(it)}") for it in words)
+    if is_threads or is_below:
         return None
     files, texts = {}, {}
     for it in words:
