@@ -51,7 +51,10 @@ export async function draw_moves(session, predict) {
   const note = predict.ask ? TEXTS.answer_first : session.k < session.entries.length && !predict.on
     ? TEXTS.replaces_rest : '';
   set_html($('mvn'), note);
-  if (predict.ask || !session.has_image) return void set_html($('units'), '');
+  if (predict.ask || !session.has_image) {
+    $('units').setAttribute('aria-busy', 'false');
+    return void set_html($('units'), '');
+  }
   const at = session.k, played = session.played, now = session.now();
   $('units').setAttribute('aria-busy', 'true');
   const moves = await session.moves();

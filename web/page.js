@@ -17,7 +17,8 @@ import { TEXTS } from './texts.js';
 const PROGRAMS = /*PROGRAMS*/ [], WORKER = /*WORKER*/ '', MODULE = /*MODULE*/ '';
 
 const predict = { on: false, ask: null, said: null, right: 0, asked: 0 };
-let session = null, requests = null, later = 0, is_quiet = false;
+let session = null, requests = null, later = 0, drawn = 0, is_quiet = false;
+const LONG = 500;
 
 // ---- what is drawn
 
@@ -69,8 +70,13 @@ function draw() {
   draw_answers();
 }
 
-// What the library has yet to be asked for, of what was drawn last.
+// What the library has yet to be asked for, of what was drawn last. Of a long run that waits until the student rests, so that a step
+// waits for no move that is tried.
 async function draw_answers() {
+  const turn = ++drawn;
+  $('units').setAttribute('aria-busy', 'true');
+  if (session.entries.length > LONG) await new Promise((done) => setTimeout(done, 150));
+  if (turn !== drawn) return;
   try {
     await draw_moves(session, predict);
     await draw_tables(session, predict);
