@@ -1,0 +1,75 @@
+// Files and links. A link carries the program, the machine and the script in its fragment, which no browser sends anywhere.
+
+import { bytes_of, text_of } from './library.js';
+import { HEADER } from './requests.js';
+
+// Bytes through a stream that packs or unpacks them.
+async function through(bytes, stream) {
+  return new Uint8Array(await new Response(new Blob([bytes]).stream().pipeThrough(stream)).arrayBuffer());
+}
+
+// What is open, as the fragment of a link.
+export async function fragment_of(session) {
+  const it = { l: session.lesson, t: session.text, c: session.config, b: session.by, s: session.steps, k: session.k };
+  const packed = await through(bytes_of(JSON.stringify(it)), new CompressionStream('deflate-raw'));
+  let letters = '';
+  for (const byte of packed) letters += String.fromCharCode(byte);
+  return '#' + btoa(letters).replace(/\+/g, '-').replace(/\//g, '_').replace(/=+$/, '');
+}
+
+// What a fragment says is open, if it is one of ours.
+export async function opened_by(fragment) {
+  if (fragment.length < 2) return null;
+  try {
+    const letters = atob(fragment.slice(1).replace(/-/g, '+').replace(/_/g, '/'));
+    const text = text_of(await through(Uint8Array.from(letters, (it) => it.charCodeAt(0)),
+      new DecompressionStream('deflate-raw')));
+    const it = JSON.parse(text);
+    const is_ours = typeof it.t === 'string' && Array.isArray(it.s)
+      && it.s.every((step) => typeof step === 'string' && !step.includes('\n'));
+    return is_ours
+      ? { lesson: String(it.l), text: it.t, config: numbers_of(it.c), by: by_of(it.b), steps: it.s,
+        k: Number(it.k) || 0 }
+      : null;
+  } catch {
+    return null;
+  }
+}
+
+const number_of = (it, none) => (Number.isSafeInteger(it) && it >= 0 ? it : none);
+const numbers_of = (it) =>
+  ({ units: number_of(it?.units, 2), sets: number_of(it?.sets, 16), ways: number_of(it?.ways, 2) });
+const by_of = (it) => ({
+  order: ['rotate', 'oldest', 'youngest', 'random'].includes(it?.order) ? it.order : 'youngest',
+    seed: number_of(it?.seed, 0), burst: number_of(it?.burst, 63),
+});
+
+export function save(name, bytes, type) {
+  const at = URL.createObjectURL(new Blob([bytes], { type })), link = document.createElement('a');
+  link.href = at;
+  link.download = name;
+  link.click();
+  setTimeout(() => URL.revokeObjectURL(at), 1000);
+}
+
+// Saves one of the files of what is open.
+export async function save_as(session, kind) {
+  const name = session.lesson || 'program';
+  switch (kind) {
+    case 'program': return save(`${name}.s`, bytes_of(session.text), 'text/plain');
+    case 'image': return save(`${name}.svci`, session.requests.file('image'), 'application/octet-stream');
+    case 'script': return save(`${name}.events.csv`, bytes_of([HEADER, ...session.steps, ''].join('\n')), 'text/csv');
+    case 'trace': return save(`${name}.trace.csv`, session.requests.file('trace'), 'text/csv');
+    default: return save(`${name}.svg`,
+      await session.requests.picture(0, Math.min(400, Math.max(1, session.entries.length))), 'image/svg+xml');
+  }
+}
+
+// Opens a file by what it holds: a script, a trace, an image, whose listing is then the program, or else a program's text.
+export async function open_file(session, file) {
+  const bytes = new Uint8Array(await file.arrayBuffer()), first = text_of(bytes.slice(0, 200)).split('\n')[0].trim();
+  if (first === HEADER) return session.rewrite(text_of(bytes).split('\n').slice(1).filter((it) => it !== ''), 0);
+  if (first.startsWith(`${HEADER},local`)) return session.load_trace(bytes);
+  const text = first.startsWith('SVCI') ? await session.requests.listed(bytes) : text_of(bytes);
+  return session.load({ lesson: file.name.replace(/\.[^.]*$/, ''), text, config: {}, by: {} });
+}

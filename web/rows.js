@@ -1,0 +1,138 @@
+// Rows that the library prints, as values. Nothing is worked out here but where a field begins and ends.
+
+export const lines_of = (text) => (text === '' ? [] : text.replace(/\n$/, '').split('\n'));
+
+const number_or = (field, none) => (field === '' || field === undefined ? none : Number(field));
+
+// A row of a trace: an entry.
+export function entry_of(row) {
+  const f = row.split(',');
+  return {
+    row, kind: f[0], unit: Number(f[1]), arg: f[2], local: number_or(f[3], 0), ask: f[4], reply: f[5],
+      word: number_or(f[6], -1),
+    value: f[7], served: f[8], from: number_or(f[9], -1), cause: f[10], first: number_or(f[11], -1),
+      count: number_or(f[12], 0),
+  };
+}
+
+// What a script's steps were answered, and the summary behind them.
+export function played_of(text, steps) {
+  const lines = lines_of(text), answers = lines.slice(0, steps), entries = [], step_of = [], refused = [];
+  answers.forEach((it, step) => {
+    if (it.startsWith('refused,')) refused.push({ step, why: it.slice(8) });
+    else if (it === 'none') refused.push({ step, why: 'none' });
+    else if (!it.startsWith('taken,')) {
+      entries.push(entry_of(it));
+      step_of.push(step);
+    }
+  });
+  return { answers, entries, step_of, refused, summary: lines.slice(steps) };
+}
+
+// The machine at a moment: the rows of `show`.
+export function shown_of(text) {
+  const s = { tasks: [], lines: [], spills: [], memory: [], pcs: [], registers: [], orders: [], moves: [], ending: null,
+    due: '', guess: '' };
+  for (const row of lines_of(text)) {
+    const f = row.split(',');
+    switch (f[0]) {
+      case 'task': s.tasks.push({ task: Number(f[1]), unit: Number(f[2]), entry: f[3], turns: Number(f[4]),
+        state: f[5] });
+        break;
+      case 'line': s.lines.push({ unit: Number(f[1]), word: Number(f[2]), value: f[3], bits: f[4] }); break;
+      case 'spill': s.spills.push({ word: Number(f[1]), value: f[2] }); break;
+      case 'memory': s.memory.push({ word: Number(f[1]), committed: f[2], backing: f[3] }); break;
+      case 'pc': s.pcs.push({ unit: Number(f[1]), address: f[2] }); break;
+      case 'register': s.registers.push({ unit: Number(f[1]), name: f[2], value: f[3] }); break;
+      case 'order': s.orders.push({ word: Number(f[1]), holders: f.slice(2).map((it) => it.split(':')) }); break;
+      case 'move': s.moves.push({ unit: Number(f[1]), kind: f[2], arg: f[3], refusal: f[4] }); break;
+      case 'at': case 'tasks': break;
+      case 'due': case 'guess': s[f[0]] = f[1]; break;
+      case 'exit': case 'trap': case 'full': case 'open': s.ending = f.slice(0, 2); break;
+      default: break;
+    }
+  }
+  return s;
+}
+
+// What a picture shows: the rows of `draw --rows`.
+export function drawn_of(text) {
+  const it = { bars: [], marks: [], arrows: [] };
+  for (const row of lines_of(text)) {
+    const f = row.split(',');
+    if (f[0] === 'bar') {
+      it.bars.push({ task: Number(f[1]), unit: Number(f[2]), entry: f[3], first: number_or(f[4], -1),
+        last: number_or(f[5], -1), fate: f[6] });
+    } else if (f[0] === 'mark') {
+      it.marks.push({ at: Number(f[1]), unit: Number(f[2]), task: Number(f[3]), kind: f[4], word: number_or(f[5], -1),
+        value: f[6], by: f[7] });
+    } else if (f[0] === 'arrow') {
+      it.arrows.push({ from: number_or(f[1], -1), to: number_or(f[2], -1), kind: f[3], word: number_or(f[4], -1) });
+    }
+  }
+  return it;
+}
+
+// What an exploration prints: its counts, and what can be seen.
+export function explored_of(text) {
+  const it = { seen: [] };
+  for (const row of lines_of(text)) {
+    const f = row.split(',');
+    if (f[0] === 'seen') it.seen.push({ what: f[1], task: f[2], word: f[3], value: f[4], by: f[5], steps: f[6],
+      key: f.slice(1, 6).join() });
+    else it[f[0]] = f[1];
+  }
+  return it;
+}
+
+// A table: a row of names, and rows of fields.
+export function table_of(text) {
+  const [head, ...rows] = lines_of(text).map((it) => it.split(','));
+  return { head: head ?? [], rows };
+}
+
+// A summary's rows, by name; words that were put out are a list.
+export function summary_of(lines) {
+  const it = { out: [], counts: {} };
+  for (const row of lines) {
+    const [name, value] = row.split(',');
+    if (name === 'out') it.out.push(value);
+    else if (['exit', 'trap', 'full', 'open'].includes(name)) it.ending = [name, value];
+    else it.counts[name] = Number(value);
+  }
+  return it;
+}
+
+// A listing: its instructions, which of them begin a task, and how many words of data there are.
+export function listing_of(text) {
+  const code = [];
+  let is_entry = false, words = 0;
+  for (const line of lines_of(text)) {
+    if (line === '.svc_entry' || line.startsWith('.svc_entry ')) is_entry = true;
+    const parts = /^(.*)\t# (0x[0-9a-f]{8})( [0-9a-f]{8})?/.exec(line);
+    if (!parts) continue;
+    if (!parts[3]) { words++; continue; }
+    code.push({ address: Number(parts[2]), text: parts[1], is_entry });
+    is_entry = false;
+  }
+  return { code, words };
+}
+
+// A table of names: of addresses of the text, and of words of the data.
+const DATA = 0x00100000;
+export function names_of(text) {
+  const text_names = new Map(), words = new Map();
+  for (const row of lines_of(text).slice(1)) {
+    const [name, address] = row.split(','), at = Number(address);
+    if (at < DATA) { if (!text_names.has(at)) text_names.set(at, name); }
+    else if (at % 4 === 0 && !words.has((at - DATA) / 4)) words.set((at - DATA) / 4, name);
+  }
+  return { text: text_names, words };
+}
+
+// A fault of a text: its line and column, and what it says.
+export function fault_of(err) {
+  const message = err.replace(/^svcsim: /, '').trimEnd(), parts = /^[^:]*:(\d+):(\d+): (.*)$/s.exec(message);
+  return parts ? { line: Number(parts[1]), column: Number(parts[2]), says: parts[3] }
+    : { line: 0, column: 0, says: message.replace(/^program\.s: /, '') };
+}

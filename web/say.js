@@ -1,0 +1,154 @@
+// The sentence on the last entry shown, and the question on the next one. Both are put together of fields that the library printed.
+
+import { $, escaped, plain } from './html.js';
+import { entry_html, word_html } from './names.js';
+import { TEXTS } from './texts.js';
+
+const SAYS = TEXTS.says;
+export const entry_link = (at) => `<button class="lnk" data-k="${at + 1}">${TEXTS.at_entry(at)}</button>`;
+const task_on = (shown, unit) => shown.tasks.find((it) => it.unit === unit);
+export const ending_text = ([name, value]) => TEXTS.ending[name](value);
+
+// The read that the store of this entry found too early, and the store whose version this read got, if the rows tell them.
+export const early_read = (session, at) =>
+  session.drawing.arrows.find((it) => it.kind === 'violation' && it.from === at)?.to
+  ?? -1;
+export const version_store = (session, at) =>
+  session.drawing.arrows.find((it) => it.kind === 'version' && it.to === at)?.from
+  ?? -1;
+
+function said_of_store(session, at, it, task) {
+  const word = word_html(session, it.word);
+  if (it.cause !== 'violation') return SAYS.stores(task, word, it.value);
+  const read = early_read(session, at), where = read < 0 ? '' : `, ${entry_link(read)}`;
+  const got = read < 0 ? '' : SAYS.got(session.entries[read].value);
+  return SAYS.too_early(task, word, it.value, TEXTS.task(it.first), where, got, SAYS.squashed(it.first, it.count));
+}
+
+function said_of_load(session, it, task, before) {
+  let by = SAYS.by_other(TEXTS.served[it.served]);
+  if (it.served === 'version') by = SAYS.by_version(TEXTS.task(task_on(before, it.from)?.task), TEXTS.unit(it.from));
+  if (it.served === 'committed') by = SAYS.by_committed(TEXTS.unit(it.from));
+  return SAYS.loads(task, word_html(session, it.word), it.value, by);
+}
+
+function said_of_assign(session, it, task, before) {
+  const others = before.tasks.map((one) => one.task);
+  return SAYS.begins(TEXTS.Unit(it.unit), TEXTS.task(task), entry_html(session, it.value),
+    others.length ? SAYS.still(others) : '');
+}
+
+function said_of_run(it, task, after) {
+  const state = task_on(after, it.unit)?.state;
+  const ended = { next: SAYS.ended, exit: SAYS.ended_exit, trap: SAYS.ended_trap }[state] ?? SAYS.full_stop;
+  return SAYS.runs(task, it.local, ended);
+}
+
+function said_of_replace(session, it, task, before, after) {
+  const word = Number(it.arg),
+    kept = after.spills.find((one) => one.word === word && !before.spills.some((old) => old.word === word));
+  return SAYS.replaces(TEXTS.Unit(it.unit), word_html(session, word))
+    + (kept ? SAYS.spills(kept.value, TEXTS.task(task)) : '.');
+}
+
+// What the entry did, between these two moments.
+function said_of(session, at, it, before, after) {
+  const on = task_on(it.kind === 'assign' ? after : before, it.unit) ?? task_on(after, it.unit),
+    number = on?.task ?? '?', task = TEXTS.Task(number);
+  switch (it.reply) {
+    case 'assigned': return said_of_assign(session, it, number, before);
+    case 'loaded': return said_of_load(session, it, task, before);
+    case 'stored': return said_of_store(session, at, it, task);
+    case 'emitted': return SAYS.puts_out(task, it.value);
+    case 'ran': return said_of_run(it, task, after);
+    case 'trapped': return SAYS.traps(task, it.value);
+    case 'replaced': return said_of_replace(session, it, number, before, after);
+    case 'cancelled': return it.first < 0 ? '' : SAYS.cancels(it.first);
+    case 'committed': return SAYS.commits(TEXTS.Task(it.value));
+    default: return escaped(it.row);
+  }
+}
+
+// The sentence on an entry, and its colour. Without both moments around it it says less.
+export function sentence(session, at) {
+  const it = session.entries[at], before = session.moments.get(at), after = session.moments.get(at + 1);
+  if (!before || !after) return { html: `<code>${escaped(it.row)}</code>`, colour: '' };
+  let html = said_of(session, at, it, before, after);
+  if (it.cause === 'guess') html += SAYS.wrong_guess(it.first, it.count);
+  for (const one of after.memory) {
+    const old = before.memory.find((two) => two.word === one.word);
+    if (old && old.backing !== one.backing) html += SAYS.memory_now(one.backing, word_html(session, one.word));
+  }
+  if (after.ending[0] !== 'open' && before.ending[0] === 'open') html += SAYS.stops(ending_text(after.ending));
+  const colour = it.cause === 'violation' ? 'sq' : it.kind === 'commit' ? 'ok' : it.cause === 'guess' ? 'gu' : '';
+  return { html, colour };
+}
+
+// The same without links and colours.
+export const plain_sentence = (session, at) =>
+  sentence(session, at).html.replace(/ class="(bad|good)"/g, '').replace(/<\/?button[^>]*>/g, '');
+
+function tags_of(it) {
+  const tag = (colour, text) => `<span class="tag ${colour}">${text}</span>`;
+  if (it.cause === 'violation') return tag('sq', TEXTS.tags.violation);
+  return (it.kind === 'commit' ? tag('ok', TEXTS.tags.commit) : '')
+    + (it.cause === 'guess' ? tag('gu', TEXTS.tags.guess) : '')
+    + (it.cause === 'cancel' ? tag('', TEXTS.tags.cancel) : '');
+}
+
+export function draw_sentence(session, predict) {
+  const box = $('say'), k = session.k;
+  box.className = 'panel';
+  box.setAttribute('aria-live', document.activeElement === $('slider') ? 'off' : 'polite');
+  if (predict.ask) {
+    const options = predict.ask.options.map((it, n) =>
+      `<button data-answer="${n}"><kbd aria-hidden="true">${n + 1}</kbd>${it.label}</button>`).join('');
+    return void (box.innerHTML = `<div class="when">${TEXTS.predicting(k)}</div><div class="quiz"><p>${predict.ask.question}</p>`
+      + `<div class="opts" role="group" aria-label="${TEXTS.your_answer}">${options}</div></div>`);
+  }
+  if (k === 0) {
+    return void (box.innerHTML = `<div class="when">${TEXTS.before_first}</div><p>${TEXTS.nothing_yet}${predict.on ? TEXTS.nothing_yet_predict : ''}</p>`
+      + `<div class="row">${TEXTS.nothing_yet_hint}</div>`);
+  }
+  const { html, colour } = sentence(session, k - 1), it = session.entries[k - 1];
+  if (colour) box.classList.add(colour);
+  const verdict = predict.said?.k === k
+    ? `<span class="verdict">${predict.said.is_right ? TEXTS.right : TEXTS.wrong(plain(predict.said.label))}</span> `
+    : '';
+  box.innerHTML = `<div class="when">${TEXTS.entry(k - 1)} ${tags_of(it)}</div><p>${verdict}${html}</p><div class="row mono">${escaped(it.row)}</div>`;
+}
+
+// ---- predict: the question comes from the next row's kind, right or wrong from its fields
+
+function question_of_load(session, it, task, now) {
+  const asks = TEXTS.asks, options = [{ label: asks.memory, is_right: it.served === 'memory' }];
+  for (const one of now.tasks) {
+    if (one.unit !== it.unit) options.push({ label: asks.version(one.task),
+      is_right: it.served === 'version' && it.from === one.unit });
+  }
+  options.push({ label: asks.committed, is_right: it.served === 'committed' },
+    { label: asks.own, is_right: it.served === 'hit' || it.served === 'reuse' });
+  if (now.spills.length) options.push({ label: asks.spill, is_right: it.served === 'spill' });
+  return { question: asks.serves(TEXTS.Task(task.task), word_html(session, it.word)), options };
+}
+
+function question_of_squash(session, it, task, others) {
+  const asks = TEXTS.asks;
+  const what = it.reply === 'stored' ? asks.stores(it.value, word_html(session, it.word)) : it.kind === 'commit'
+    ? asks.commits : asks.runs;
+  const options = [{ label: asks.nobody, is_right: !it.cause }];
+  others.forEach((one, n) =>
+    options.push({ label: asks.from(one.task, n === others.length - 1),
+      is_right: Boolean(it.cause) && it.first === one.task }));
+  return { question: asks.squashes(TEXTS.Task(task.task), what), options };
+}
+
+// The question on this entry, where its row can differ.
+export function question(session, at) {
+  const it = session.entries[at], now = session.moments.get(at), task = now && task_on(now, it.unit);
+  if (!task) return null;
+  if (it.reply === 'loaded') return question_of_load(session, it, task, now);
+  const others = now.tasks.filter((one) => one.task > task.task);
+  const can_squash = ['stored', 'ran'].includes(it.reply) || it.kind === 'commit';
+  return others.length && can_squash ? question_of_squash(session, it, task, others) : null;
+}

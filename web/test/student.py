@@ -1,0 +1,319 @@
+"""Does what a student does on a built page, and looks at what the page then says: student.py PAGE.html [FOLDER-FOR-SCREENSHOTS]"""
+import os
+import sys
+import tempfile
+import time
+
+from browser import Page
+from selenium.webdriver.common.keys import Keys
+
+DATA = f"{os.path.dirname(os.path.abspath(__file__))}/../../crates/svc_cases/data"
+SECTIONS = []
+
+
+def section(function):
+    SECTIONS.append(function)
+    return function
+
+
+def opened(page, lesson="violation"):
+    page.open("")
+    if lesson != "violation":
+        page.choose("#lesson", lesson)
+    page.settle()
+
+
+def says(page, *words):
+    text = page.text("#say")
+    for it in words:
+        assert it in text, f"the sentence lacks “{it}”: {text}"
+
+
+def entries(page):
+    return page.get("svcsim.session.entries.length")
+
+
+def place(page):
+    return page.get("svcsim.session.k")
+
+
+@section
+def a_squash_is_told(page):
+    opened(page)
+    assert entries(page) == 14, entries(page)
+    for _ in range(6):
+        page.click("#bf")
+    says(page, "Entry 5", "read too early", "Task 0 stores 7", "task 1 had loaded it too early, at entry 2, and got 0", "task 1 is squashed", "submit,0,,1,1,stored,0,7,,,violation,1,1")
+    assert "gone" in page.text("#caches") and "new" in page.text("#caches")
+    assert "task 0, unit 0" in page.text("#vol") and "head" in page.text("#vol"), page.text("#vol")
+    page.click("[data-k='3'].lnk")
+    says(page, "Entry 2", "Task 1 loads", "gets 0", "memory served it")
+
+
+@section
+def the_end_is_the_sequential_run(page):
+    opened(page)
+    page.press(Keys.END)
+    says(page, "committed", "The run has stopped: exit 7")
+    assert "The same, as proved for every run." in page.text("#outs"), page.text("#outs")
+    assert "Every move is refused" in page.text("#units"), page.text("#units")
+    page.press(Keys.HOME)
+    assert place(page) == 0
+
+
+@section
+def a_fault_is_underlined(page):
+    opened(page)
+    text = page.get("document.querySelector('#src').value")
+    page.choose("#src", text.replace("lw a0", "lww a0"))
+    page.wait("document.querySelector('.bad')", "the fault is underlined")
+    message = page.text("#edmsg")
+    assert "column 9" in message and "lww" in message and "expected" in message, message
+    assert page.text(".bad") == "lww", page.text(".bad")
+    page.choose("#src", text.replace("zero, 7", "zero, 9"))
+    page.wait("document.querySelector('.okline')", "the text assembles")
+    page.settle()
+    page.press(Keys.HOME)
+    page.click("#brun")
+    page.press(Keys.END)
+    assert page.get("svcsim.session.sequential.out.join()") == "9"
+
+
+@section
+def moves_by_hand(page):
+    opened(page)
+    page.click("#bclear")
+    assert entries(page) == 0 and place(page) == 0
+    assert page.get("document.querySelector('[data-move=\"submit,0,63\"]').getAttribute('aria-disabled')") == "true"
+    assert "the unit has no task" in page.text('[data-move="submit,0,63"]')
+    for it in ["assign,0,0", "assign,1,8", "submit,1,63", "submit,0,63"]:
+        page.click(f'[data-move="{it}"]')
+    assert entries(page) == 4 and place(page) == 4
+    says(page, "read too early")
+    page.click("#bu")
+    page.click("#bu")
+    assert entries(page) == 2
+    page.click("#br")
+    page.click("#br")
+    assert entries(page) == 4
+    page.click('[data-move="commit,0,"]')
+    says(page, "committed")
+    page.click("#bon")
+    page.press(Keys.END)
+    assert "The same" in page.text("#outs")
+    assert page.get("svcsim.session.steps.slice(0, 4).join(';')") == "assign,0,0;assign,1,8;submit,1,1;submit,0,2", page.get("svcsim.session.steps.join(';')")
+
+
+@section
+def a_step_of_the_script_is_edited(page):
+    opened(page)
+    page.click("#t-script")
+    steps = page.get("document.querySelector('#steps').value").split("\n")
+    page.choose("#steps", "\n".join(["commit,0,", *steps]))
+    page.click("#bapply")
+    assert "1 of 15 steps is refused" in page.text("#mmsg"), page.text("#mmsg")
+    assert entries(page) == 14
+    assert "✕" in page.text("#answers")
+    page.choose("#steps", "no,such,step")
+    page.click("#bapply")
+    assert "script fault row 2 column 1" in page.text("#mmsg"), page.text("#mmsg")
+    assert entries(page) == 14
+
+
+@section
+def a_prediction(page):
+    opened(page)
+    page.click("#bpred")
+    page.press(Keys.ARROW_RIGHT)
+    page.press(Keys.ARROW_RIGHT)
+    page.press(Keys.ARROW_RIGHT)
+    says(page, "Who serves it?")
+    assert place(page) == 2 and "out 0" not in page.text("#svgbox")
+    page.press("1")
+    says(page, "Right.", "Entry 2")
+    for _ in range(3):
+        page.click("#bf")
+    says(page, "Who is squashed?")
+    page.press("1")
+    says(page, "Not so: you said", "nobody")
+    assert "right: 1 of " in page.text("#at"), page.text("#at")
+    page.press("p")
+
+
+@section
+def all_schedules(page):
+    opened(page)
+    page.click("#t-all")
+    page.wait("document.querySelector('.seen')", "all schedules were followed")
+    with open(f"{DATA}/explore/explore_violation_on_2_by_63.txt", encoding="utf-8") as it:
+        rows = it.read().split("\n")
+    counts = dict(row.split(",") for row in rows[:4])
+    wanted = f"{counts['states']} standings, {counts['moves']} moves, deepest {counts['deepest']}, whole: {counts['whole']}"
+    assert wanted in page.text("#p-all"), page.text("#p-all")
+    assert page.get("document.querySelectorAll('.seen li').length") == 15
+    assert "seen in the run" in page.text("#p-all") and "●" in page.text(".seen")
+    page.click("[data-filter=squash]")
+    assert page.get("document.querySelectorAll('.seen li').length") == 2
+    page.click(".seen button")
+    page.wait("svcsim.session.entries.length === 4", "a witness is loaded")
+    says(page, "read too early")
+    assert "squash 1" in page.text("#mmsg"), page.text("#mmsg")
+
+
+@section
+def an_exploration_is_stopped(page):
+    opened(page, "rounds")
+    page.wait("svcsim.tables.begun === 0", "the first exploration ends", 120)
+    page.driver.execute_script("svcsim.session.by.states = 1000000")
+    page.choose("#mu", "8")
+    page.driver.execute_script("document.querySelector('#bexplore').click()")
+    page.wait("document.querySelector('#bstop')", "it begins")
+    time.sleep(1)
+    page.click("#bf")
+    page.driver.execute_script("document.querySelector('#bstop').click()")
+    page.wait("svcsim.tables.begun === 0", "it ends")
+    assert "Stopped." in page.text("#p-all"), page.text("#p-all")
+
+
+@section
+def a_link_is_opened(page):
+    opened(page, "full_set")
+    page.press(Keys.END)
+    page.click("#bb")
+    page.click("#blink")
+    page.wait("location.hash.length > 10", "the address has a fragment")
+    fragment, before = page.get("location.hash"), page.get("JSON.stringify([svcsim.session.steps, svcsim.session.k, svcsim.session.config])")
+    page.open(fragment)
+    page.settle()
+    assert page.get("JSON.stringify([svcsim.session.steps, svcsim.session.k, svcsim.session.config])") == before
+    assert page.get("document.querySelector('#lesson').value") == "full_set"
+
+
+@section
+def files_are_saved_and_opened(page):
+    opened(page, "handed_on")
+    wanted, steps = page.get("svcsim.session.entries.map((it) => it.row).join('\\n')"), page.get("svcsim.session.steps.join('\\n')")
+    for it in ["program", "image", "script", "trace", "picture"]:
+        page.click(f"[data-save={it}]")
+    names = [f"handed_on{it}" for it in [".s", ".svci", ".events.csv", ".trace.csv", ".svg"]]
+    end = time.time() + 20
+    while time.time() < end and not all(os.path.isfile(f"{page.folder}/{it}") for it in names):
+        time.sleep(0.1)
+    for it in names:
+        assert os.path.getsize(f"{page.folder}/{it}") > 0, it
+    page.choose("#lesson", "violation")
+    for name in [".svci", ".s", ".events.csv", ".trace.csv"]:
+        box = page.driver.find_element("css selector", "#file")
+        box.send_keys(f"{page.folder}/handed_on{name}")
+        time.sleep(0.5)
+        page.settle()
+    assert page.get("svcsim.session.entries.map((it) => it.row).join('\\n')") == wanted
+    assert page.get("svcsim.session.steps.join('\\n')") == steps
+    with open(f"{page.folder}/handed_on.svg", encoding="utf-8") as it:
+        assert "<svg" in it.read(), "a picture"
+
+
+@section
+def every_program_of_the_menu_runs(page):
+    names = page.get("[...document.querySelector('#lesson').options].map((it) => it.value)")
+    assert len(names) == 11, names
+    for it in names:
+        opened(page, it)
+        assert page.text("#edmsg").startswith("✓"), (it, page.text("#edmsg"))
+        page.press(Keys.END)
+        ending = page.get("svcsim.session.now().ending[0]")
+        assert ending in ("exit", "trap"), (it, ending)
+        if page.get("svcsim.session.sequential.out.length"):
+            assert "The same" in page.text("#outs"), (it, page.text("#outs"))
+
+
+@section
+def a_fresh_library_after_a_failure(page):
+    opened(page)
+    page.click("#bf")
+    page.driver.execute_script("svcsim.requests.library.stop()")
+    page.click("#bf")
+    page.click("#bf")
+    assert place(page) == 3
+    says(page, "Entry 2")
+
+
+@section
+def by_keyboard_alone(page):
+    opened(page)
+    page.driver.execute_script("document.body.focus()")
+    page.press(Keys.TAB)
+    assert page.get("document.activeElement.className") == "skip"
+    page.press("n")
+    says(page, "read too early")
+    labels = page.get("[...document.querySelectorAll('button, input:not([hidden]), select, textarea')].filter((it) => !it.closest('[hidden]') && !(it.textContent.trim() || it.getAttribute('aria-label') || it.labels?.length || it.getAttribute('aria-labelledby'))).map((it) => it.outerHTML)")
+    assert not labels, labels
+    untold = page.get("[...document.querySelectorAll('[data-text]')].filter((it) => !it.textContent || it.textContent === 'undefined').map((it) => it.outerHTML)")
+    assert not untold, untold
+
+
+@section
+def a_long_run(page):
+    page.open("")
+    page.settle()
+    text = "\n".join([".svc_limit 100", ".svc_register s0, word", ".svc_entry", "loop: lw a0, 0(s0)", "addi a0, a0, 1", "sw a0, 0(s0)", "li t0, 1700", "blt a0, t0, loop", ".svc_entry", "li a7, 0", "ecall", ".data", "word: .word 0", ""])
+    page.choose("#src", text)
+    page.wait("document.querySelector('.okline')", "the text assembles")
+    page.settle()
+    page.choose("#mu", "2")
+    page.choose("#sched", "rotate")
+    page.click("#brun")
+    count = entries(page)
+    assert count >= 5000, count
+    page.ask("const done = arguments[0]; svcsim.session.go(5000).then(done)")
+    page.settle()
+    times = page.ask("""const done = arguments[0]; (async () => { const all = [];
+      for (let n = 0; n < 12; n++) { const begun = performance.now(); await svcsim.session.go(svcsim.session.k + 1); all.push(performance.now() - begun); }
+      done(all.sort((a, b) => a - b)); })()""")
+    print(f"a step near entry 5,000 of {count}: {times[6]:.0f} ms, at most {times[-1]:.0f} ms")
+
+
+def overflow(page):
+    assert page.get("document.documentElement.scrollWidth") <= page.width, "the page scrolls sideways"
+
+
+def screenshots(file, folder):
+    for width, is_dark in [(1280, False), (1280, True), (400, False), (400, True)]:
+        page = Page(file, width, 900, is_dark)
+        page.settle()
+        page.wait("document.querySelector('.seen')", "all schedules were followed")
+        for _ in range(6):
+            page.click("#bf")
+        overflow(page)
+        page.picture(f"{folder}/{width}-{'dark' if is_dark else 'light'}.png")
+        page.click("#bpred")
+        page.click("#bf")
+        page.picture(f"{folder}/{width}-{'dark' if is_dark else 'light'}-predict.png")
+        page.close()
+
+
+def main(file, folder=None):
+    failed = 0
+    with tempfile.TemporaryDirectory() as downloads:
+        page = Page(file, folder=downloads)
+        page.folder = downloads
+        print(f"from opening to the first picture: {page.get('document.body.dataset.opened')} ms")
+        for it in SECTIONS:
+            try:
+                it(page)
+                faults = page.faults()
+                assert not faults, faults
+                print(f"{it.__name__} ok")
+            except Exception as why:
+                failed += 1
+                print(f"{it.__name__}: {type(why).__name__} {why}")
+        page.close()
+    if folder:
+        os.makedirs(folder, exist_ok=True)
+        screenshots(file, folder)
+    print(f"student: {len(SECTIONS) - failed} of {len(SECTIONS)} parts as expected")
+    return 1 if failed else 0
+
+
+if __name__ == "__main__":
+    sys.exit(main(*sys.argv[1:3]))
