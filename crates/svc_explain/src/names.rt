@@ -62,7 +62,7 @@ pub(crate) fn written_by<'a>(request: &Request<'a>) -> Option<&'a str>
         Request::Draw(_, picture) => Some(picture.file),
         Request::Assemble(assembly) => Some(assembly.image),
         Request::Sequential(_) | Request::Depend(_) | Request::Explore(_) => None,
-        Request::Observe(_) | Request::Profile(_, _, _, _) | Request::Show(_, _, _) => None,
+        Request::Observe(_, _) | Request::Profile(_, _, _, _) | Request::Show(_, _, _) => None,
         Request::List(_) | Request::Help(_) | Request::Version => None,
     }
 }
