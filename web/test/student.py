@@ -1,4 +1,5 @@
-"""Does what a student does on a built page, and looks at what the page then says: student.py PAGE.html [FOLDER-FOR-SCREENSHOTS]"""
+"""Does what a student does on a built page, and looks at what the page then says:
+student.py PAGE.html [FOLDER-FOR-SCREENSHOTS]"""
 import os
 import sys
 import tempfile
