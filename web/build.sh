@@ -2,7 +2,7 @@
 # Makes out/svcsim.html, one page that needs no server, from a checkout and the kit alone.
 #
 #   web/build.sh          `rt lib` proves svc_page, and the crates below it, for x86-64, and builds its static library
-#   web/build.sh --try    for quick work: the module that `rt try` compiles, of which nothing is proved; it makes out/try.html
+#   web/build.sh --try    for quick work: the module that `rt try` compiles, of which nothing is proved, as out/try.html
 #
 # The LLVM module of that build is compiled once more, for WebAssembly with 64-bit addresses, and linked with heap.c,
 # which stands for the C library's heap. No proof covers that second compilation, heap.c, abi.ll, helpers.c or the
