@@ -2,10 +2,11 @@
 # Makes out/svcsim.html, one page that needs no server, from a checkout and the kit alone.
 #
 #   web/build.sh          `rt lib` proves svc_page, and the crates below it, for x86-64, and builds its static library
-#   web/build.sh --try    for quick work: the module that `rt try` compiles, of which nothing is proved; it makes out/try.html
+#   web/build.sh --try    for quick work: the module that `rt try` compiles, of which nothing is proved, as out/try.html
 #
-# The LLVM module of that build is compiled once more, for WebAssembly with 64-bit addresses, and linked with heap.c, which stands for
-# the C library's heap. No proof covers that second compilation, heap.c, abi.ll, helpers.c or the page's own code: they are tested.
+# The LLVM module of that build is compiled once more, for WebAssembly with 64-bit addresses, and linked with heap.c,
+# which stands for the C library's heap. No proof covers that second compilation, heap.c, abi.ll, helpers.c or the
+# page's own code: they are tested.
 set -euo pipefail
 here=$(cd "$(dirname "$0")" && pwd)
 root=$(cd "$here/.." && pwd)
@@ -63,7 +64,7 @@ fi
 for it in heap helpers; do
     "$llvm/clang" "${wasm[@]}" -O2 -ffreestanding -nostdinc -fno-builtin -c "$here/$it.c" -o "$work/$it.o"
 done
-"$llvm/ld.lld" -flavor wasm -mwasm64 --no-entry --stack-first -z "stack-size=$stack" --export=svc_page_answer --gc-sections --fatal-warnings \
-    -o "$out/$name.wasm" "$work"/{page,abi,heap,helpers}.o
+"$llvm/ld.lld" -flavor wasm -mwasm64 --no-entry --stack-first -z "stack-size=$stack" --export=svc_page_answer \
+    --gc-sections --fatal-warnings -o "$out/$name.wasm" "$work"/{page,abi,heap,helpers}.o
 /usr/bin/python3 "$here/build_page.py" "$out/$name.wasm" > "$out/$name.html"
 wc -c "$out/$name.wasm" "$out/$name.html"

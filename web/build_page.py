@@ -1,7 +1,7 @@
 """Puts module, worker, style, texts and programs into one page: build_page.py MODULE.wasm > page.html
 
-Each script of the page becomes a function of its own, in the order in which they need one another; an import is what another one
-returned. So the page needs neither a server nor a tool that packs it."""
+Each script of the page becomes a function of its own, in the order in which they need one another; an import is what
+another one returned. So the page needs neither a server nor a tool that packs it."""
 import base64
 import json
 import os

@@ -174,7 +174,7 @@ async function explore(is_asked = false) {
   clearInterval(clock);
   if (turn === tables.turn) tables.is_quick = !tables.fault && performance.now() - tables.begun < 1500;
   tables.begun = 0;
-  await draw_tables(session, predict);
+  await draw_answers();
 }
 
 async function load_witness(at) {
@@ -231,7 +231,7 @@ function on_click(event) {
 
 function show_tab(tab) {
   tables.tab = tab;
-  return draw_tables(session, predict);
+  return draw_answers();
 }
 
 function on_tab_key(event) {

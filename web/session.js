@@ -44,6 +44,20 @@ export class Session {
     return this.jobs;
   }
 
+  // What is asked beside the jobs. While one of them changes the files, the answer may be of files that don't belong
+  // together: then it is none.
+  async beside(ask, none) {
+    const { played, image_count } = this;
+    const is_same = () => played === this.played && image_count === this.image_count && this.busy === 0;
+    try {
+      const it = await ask();
+      return is_same() ? it : none;
+    } catch (why) {
+      if (is_same()) throw why;
+      return none;
+    }
+  }
+
   // ---- the program
 
   // Assembles the text; where that makes an image, the script is played again on it.
@@ -239,7 +253,7 @@ export class Session {
     const told = new Map(now.moves.map((it) => [`${it.kind},${it.unit},${it.arg}`, it.refusal]));
     const untold = wanted.filter((it) => !told.has(it));
     const goes_on = () => this.wanted === null && this.busy === 0 && played === this.played;
-    const tried = await this.requests.try_moves(this.front(k), untold, goes_on);
+    const tried = await this.beside(() => this.requests.try_moves(this.front(k), untold, goes_on), null);
     if (!tried) return null;
     for (const it of tried) told.set(it.move, it.refusal);
     const found = wanted.map((move) => ({ move, refusal: told.get(move) }));
@@ -279,7 +293,9 @@ export class Session {
   // What this trace shows, as observations with their entries.
   async observed() {
     if (!this.seen) {
-      const played = this.played, list = this.entries.length ? await this.requests.observed() : [];
+      const played = this.played;
+      const list = this.entries.length ? await this.beside(() => this.requests.observed(), null) : [];
+      if (!list) return new Map();
       const seen = new Map(list.map((it) => [it.key, Number(it.steps)]));
       if (played === this.played) this.seen = seen;
       return seen;
@@ -296,7 +312,10 @@ export class Session {
   async cost() {
     if (this.costs) return this.costs;
     const played = this.played, costs = {};
-    for (const by of ['task', 'word', 'unit']) costs[by] = await this.requests.profile(by);
+    for (const by of ['task', 'word', 'unit']) {
+      costs[by] = await this.beside(() => this.requests.profile(by), null);
+      if (!costs[by]) return null;
+    }
     if (played === this.played) this.costs = costs;
     return costs;
   }

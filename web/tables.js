@@ -128,6 +128,7 @@ function draw_script(session, predict) {
 async function draw_cost(session, predict) {
   if (predict.on) return void set_html($('p-cost'), `<p class="empty">${TEXTS.hidden_table}</p>`);
   const costs = await session.cost();
+  if (!costs) return;
   const part = (title, it) => `<h3>${title}</h3>${table({ head: it.head, rows: it.rows.slice(0, 500) })}`;
   set_html($('p-cost'),
     scrolled(TEXTS.cost,

@@ -51,13 +51,15 @@ class Page:
             if found:
                 return found
             time.sleep(0.05)
-        raise AssertionError(f"{what}: still not so after {seconds} s; the page says: {self.text('#mmsg')} {self.text('#say')}")
+        told = f"{self.text('#mmsg')} {self.text('#say')}"
+        raise AssertionError(f"{what}: still not so after {seconds} s; the page says: {told}")
 
     def settle(self):
         """Waits until nothing is being done."""
         self.wait("svcsim.session.busy === 0 && svcsim.session.wanted === null", "the page comes to rest")
         time.sleep(0.05)
-        self.wait("svcsim.session.busy === 0 && document.getElementById('units').getAttribute('aria-busy') !== 'true'", "the moves are told")
+        moves = "document.getElementById('units').getAttribute('aria-busy') !== 'true'"
+        self.wait(f"svcsim.session.busy === 0 && {moves}", "the moves are told")
 
     def click(self, selector):
         found = self.get("document.querySelector(arguments[0])", selector)
@@ -69,7 +71,9 @@ class Page:
         return self.get("(document.querySelector(arguments[0])?.innerText ?? '').replace(/\u00a0/g, ' ')", selector)
 
     def choose(self, selector, value):
-        script = "const it = document.querySelector(arguments[0]); it.value = arguments[1]; for (const kind of ['input', 'change']) it.dispatchEvent(new Event(kind, { bubbles: true }));"
+        script = """const it = document.querySelector(arguments[0]);
+            it.value = arguments[1];
+            for (const kind of ['input', 'change']) it.dispatchEvent(new Event(kind, { bubbles: true }));"""
         self.driver.execute_script(script, selector, value)
         self.settle()
 

@@ -1,7 +1,7 @@
 """Runs the rows of svc_cases through the module of a built page, in a browser: cases.py PAGE.html DATA-FOLDER
 
-All bytes are compared: the status, both outputs and the saved file. Left out are runs on threads, which the module doesn't do, and rows
-whose file can't be saved there, as svc_cases saves none below a folder."""
+All bytes are compared: the status, both outputs and the saved file. Left out are runs on threads, which the module
+doesn't do, and rows whose file can't be saved there, as svc_cases saves none below a folder."""
 import base64
 import csv
 import glob

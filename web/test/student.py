@@ -1,4 +1,5 @@
-"""Does what a student does on a built page, and looks at what the page then says: student.py PAGE.html [FOLDER-FOR-SCREENSHOTS]"""
+"""Does what a student does on a built page, and looks at what the page then says:
+student.py PAGE.html [FOLDER-FOR-SCREENSHOTS]"""
 import os
 import sys
 import tempfile
@@ -7,6 +8,21 @@ import time
 from browser import Page
 from selenium.webdriver.common.keys import Keys
 
+# A task for each number up to 1,700.
+COUNTING = """.svc_limit 100
+.svc_register s0, word
+.svc_entry
+loop: lw a0, 0(s0)
+addi a0, a0, 1
+sw a0, 0(s0)
+li t0, 1700
+blt a0, t0, loop
+.svc_entry
+li a7, 0
+ecall
+.data
+word: .word 0
+"""
 DATA = f"{os.path.dirname(os.path.abspath(__file__))}/../../crates/svc_cases/data"
 SECTIONS = []
 
@@ -43,7 +59,9 @@ def a_squash_is_told(page):
     assert entries(page) == 14, entries(page)
     for _ in range(6):
         page.click("#bf")
-    says(page, "Entry 5", "read too early", "Task 0 stores 7", "task 1 had loaded it too early, at entry 2, and got 0", "task 1 is squashed", "submit,0,,1,1,stored,0,7,,,violation,1,1")
+    early = "task 1 had loaded it too early, at entry 2, and got 0"
+    row = "submit,0,,1,1,stored,0,7,,,violation,1,1"
+    says(page, "Entry 5", "read too early", "Task 0 stores 7", early, "task 1 is squashed", row)
     assert "gone" in page.text("#caches") and "new" in page.text("#caches")
     assert "task 0, unit 0" in page.text("#vol") and "head" in page.text("#vol"), page.text("#vol")
     page.click("[data-k='3'].lnk")
@@ -101,7 +119,8 @@ def moves_by_hand(page):
     page.click("#bon")
     page.press(Keys.END)
     assert "The same" in page.text("#outs")
-    assert page.get("svcsim.session.steps.slice(0, 4).join(';')") == "assign,0,0;assign,1,8;submit,1,1;submit,0,2", page.get("svcsim.session.steps.join(';')")
+    steps = page.get("svcsim.session.steps.slice(0, 4).join(';')")
+    assert steps == "assign,0,0;assign,1,8;submit,1,1;submit,0,2", steps
 
 
 @section
@@ -182,10 +201,11 @@ def a_link_is_opened(page):
     page.click("#bb")
     page.click("#blink")
     page.wait("location.hash.length > 10", "the address has a fragment")
-    fragment, before = page.get("location.hash"), page.get("JSON.stringify([svcsim.session.steps, svcsim.session.k, svcsim.session.config])")
+    what = "JSON.stringify([svcsim.session.steps, svcsim.session.k, svcsim.session.config])"
+    fragment, before = page.get("location.hash"), page.get(what)
     page.open(fragment)
     page.settle()
-    assert page.get("JSON.stringify([svcsim.session.steps, svcsim.session.k, svcsim.session.config])") == before
+    assert page.get(what) == before
     assert page.get("document.querySelector('#lesson').value") == "full_set"
 
 
@@ -246,9 +266,13 @@ def by_keyboard_alone(page):
     assert page.get("document.activeElement.className") == "skip"
     page.press("n")
     says(page, "read too early")
-    labels = page.get("[...document.querySelectorAll('button, input:not([hidden]), select, textarea')].filter((it) => !it.closest('[hidden]') && !(it.textContent.trim() || it.getAttribute('aria-label') || it.labels?.length || it.getAttribute('aria-labelledby'))).map((it) => it.outerHTML)")
+    labels = page.get("""[...document.querySelectorAll('button, input:not([hidden]), select, textarea')]
+        .filter((it) => !it.closest('[hidden]') && !it.textContent.trim() && !it.labels?.length)
+        .filter((it) => !it.getAttribute('aria-label') && !it.getAttribute('aria-labelledby'))
+        .map((it) => it.outerHTML)""")
     assert not labels, labels
-    untold = page.get("[...document.querySelectorAll('[data-text]')].filter((it) => !it.textContent || it.textContent === 'undefined').map((it) => it.outerHTML)")
+    untold = page.get("""[...document.querySelectorAll('[data-text]')]
+        .filter((it) => !it.textContent || it.textContent === 'undefined').map((it) => it.outerHTML)""")
     assert not untold, untold
 
 
@@ -256,8 +280,7 @@ def by_keyboard_alone(page):
 def a_long_run(page):
     page.open("")
     page.settle()
-    text = "\n".join([".svc_limit 100", ".svc_register s0, word", ".svc_entry", "loop: lw a0, 0(s0)", "addi a0, a0, 1", "sw a0, 0(s0)", "li t0, 1700", "blt a0, t0, loop", ".svc_entry", "li a7, 0", "ecall", ".data", "word: .word 0", ""])
-    page.choose("#src", text)
+    page.choose("#src", COUNTING)
     page.wait("document.querySelector('.okline')", "the text assembles")
     page.settle()
     page.choose("#mu", "2")
@@ -268,7 +291,11 @@ def a_long_run(page):
     page.ask("const done = arguments[0]; svcsim.session.go(5000).then(done)")
     page.settle()
     times = page.ask("""const done = arguments[0]; (async () => { const all = [];
-      for (let n = 0; n < 12; n++) { const begun = performance.now(); await svcsim.session.go(svcsim.session.k + 1); all.push(performance.now() - begun); }
+      for (let n = 0; n < 12; n++) {
+        const begun = performance.now();
+        await svcsim.session.go(svcsim.session.k + 1);
+        all.push(performance.now() - begun);
+      }
       done(all.sort((a, b) => a - b)); })()""")
     print(f"a step near entry 5,000 of {count}: {times[6]:.0f} ms, at most {times[-1]:.0f} ms")
 
