@@ -12,6 +12,7 @@ use Rattle.svc_history_laws.specs.Legal.{LegalHistory}
 use Rattle.svc_history.specs.Recorded.{Recorded}
 use Rattle.svc_request.specs.declared.faults.Fault.{Fault}
 use Rattle.svc_request.specs.declared.faults.Fault.TheVariants as fault
+use Rattle.svc_request.specs.declared.request.Source.{Source}
 use Rattle.svc_request.specs.declared.request.Request.{Request}
 use Rattle.svc_request.specs.declared.request.Request.TheVariants as request
 use Rattle.svc_script.specs.declared.script.Step.{Step}

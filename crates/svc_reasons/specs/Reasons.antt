@@ -34,22 +34,29 @@ missing_line row e = row_start row ++ missing_column e.kind e ++ codes " is empt
 abbrev pub refusal_line : (row : ℕ) → Refusal → List ℕ
 refusal_line row why = row_start row ++ codes "refusal " ++ decimal (number_of why) ++ codes ": " ++ refusal_words why ++ replace_first why ++ codes "\n"
 
--- the column of this place has one value in the trace and another in the machine's row; the columns have the names of a
--- trace's first row
-abbrev pub difference_line : (row : ℕ) → (mine theirs : List ℕ) → Option ℕ → List ℕ
-difference_line row mine theirs None = []
-difference_line row mine theirs (Some place) =
-    row_start row ++ field place (bare (text_of [])) ++ codes " is \"" ++ field place mine ++ codes "\", and the machine has \"" ++ field place theirs ++ codes "\"\n"
+-- a column has one value in the trace, and another in the machine's row
+unfoldable pub other_line : (row : ℕ) → (column mine theirs : List ℕ) → List ℕ
+other_line row column mine theirs =
+    row_start row ++ column ++ codes " is \"" ++ mine ++ codes "\", and the machine has \"" ++ theirs ++ codes "\"\n"
+
+-- the column of this place, where the columns have these names
+abbrev pub difference_line : (row : ℕ) → (names mine theirs : List ℕ) → Option ℕ → List ℕ
+difference_line row names mine theirs None = []
+difference_line row names mine theirs (Some place) = other_line row (field place names) (field place mine) (field place theirs)
 
 -- the whole row that a sound trace has there
-abbrev pub sound_line : Entry → List ℕ
-sound_line found = codes "svcsim: a sound trace has there: " ++ row_of found
+abbrev pub sound_line : (theirs : List ℕ) → List ℕ
+sound_line theirs = codes "svcsim: a sound trace has there: " ++ theirs
 
--- the first column that differs, and the whole row that a sound trace has there
+-- the first column in which two rows differ, and the whole row that a sound trace has there
+abbrev pub TellsRows : (row : ℕ) → (names mine theirs : List ℕ) → List ℕ → Type 0
+TellsRows row names mine theirs text =
+    (place : Option ℕ) × IsFirstOther (bare mine) (bare theirs) place
+    × (text ≡ difference_line row (bare names) (bare mine) (bare theirs) place ++ sound_line theirs)
+
+-- so it is for the rows of two entries; the columns have the names that stand in a trace's first row
 abbrev pub TellsDifference : (row : ℕ) → (e found : Entry) → List ℕ → Type 0
-TellsDifference row e found text =
-    (place : Option ℕ) × IsFirstOther (bare (row_of e)) (bare (row_of found)) place
-    × (text ≡ difference_line row (bare (row_of e)) (bare (row_of found)) place ++ sound_line found)
+TellsDifference row e found text = TellsRows row (text_of []) (row_of e) (row_of found) text
 
 -- what is told of an entry, by what the machine answers to its event there
 abbrev pub IsReason : (row : ℕ) → Entry → Option Answer → List ℕ → Type 0

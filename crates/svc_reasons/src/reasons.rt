@@ -2,7 +2,7 @@
 
 ghost use Rattle.std.specs.Prelude.{◌≡◌, ◌++◌, [], IfOk, OnOk};
 ghost use Rattle.svc_report.specs.Trace.{row_of, text_of};
-ghost use Rattle.svc_reasons.specs.Reasons.{IsReason, TellsDifference, bare, difference_line, missing_line, refusal_line, row_start, sound_line};
+ghost use Rattle.svc_reasons.specs.Reasons.{IsReason, TellsDifference, TellsRows, difference_line, missing_line, other_line, refusal_line, row_start, sound_line};
 
 use crate::differing::{bare, first_other};
 use crate::told::{an_event, missing_column, put_replace_first, refusal_words};
@@ -78,18 +78,33 @@ fn differing(alloc: Global, row: u64, entry: &Entry, found: &Entry) -> Result<Ve
     let names = names_of(alloc)?;
     let mine = row_of(alloc, entry)?;
     let theirs = row_of(alloc, found)?;
-    let mut text = Vec::new(alloc);
-    let place = first_other(bare(&mine), bare(&theirs));
-    put_difference(
-        &mut text,
-        row,
-        bare(&names),
-        bare(&mine),
-        bare(&theirs),
-        place,
-    )?;
-    put!(&mut text; "svcsim: a sound trace has there: ", theirs.as_slice());
+    let text = compared(alloc, row, &names, &mine, &theirs)?;
     Ok(text)
+}
+
+// The lines about two rows.
+fn compared(
+    alloc: Global,
+    row: u64,
+    names: &[u8],
+    mine: &[u8],
+    theirs: &[u8],
+) -> Result<Vec<u8>, AllocError>
+    ensures { IfOk result (λ text. TellsRows row names.now mine.now theirs.now text.items) }
+{
+    let place = first_other(bare(mine), bare(theirs));
+    let mut text = Vec::new(alloc);
+    put_difference(&mut text, row, bare(names), bare(mine), bare(theirs), place)?;
+    put_sound(&mut text, theirs)?;
+    Ok(text)
+}
+
+// Adds the whole row that a sound trace has there.
+fn put_sound(text: &mut Vec<u8>, theirs: &[u8]) -> Result<(), AllocError>
+    ensures { OnOk result (text.new.items ≡ text.old.items ++ sound_line theirs.now) }
+{
+    put!(text; "svcsim: a sound trace has there: ", theirs);
+    Ok(())
 }
 
 // The names of the columns, as a trace has them.
@@ -119,14 +134,33 @@ fn put_difference(
     theirs: &[u8],
     place: Option<usize>,
 ) -> Result<(), AllocError>
-    ensures { names.now ≡ bare (text_of []) → OnOk result
-        (text.new.items ≡ text.old.items ++ difference_line row mine.now theirs.now place) }
+    ensures { OnOk result (text.new.items
+        ≡ text.old.items ++ difference_line row names.now mine.now theirs.now place) }
 {
-    let Some(place) = place else {
-        return Ok(());
-    };
+    match place {
+        Some(place) => put_other(
+            text,
+            row,
+            field(names, place),
+            field(mine, place),
+            field(theirs, place),
+        ),
+        None => Ok(()),
+    }
+}
+
+// Adds the line about a column.
+#[tactic(auto, unfolding(crate::specs::Reasons::other_line))]
+fn put_other(
+    text: &mut Vec<u8>,
+    row: u64,
+    column: &[u8],
+    mine: &[u8],
+    theirs: &[u8],
+) -> Result<(), AllocError>
+    ensures { OnOk result (text.new.items ≡ text.old.items ++ other_line row column.now mine.now theirs.now) }
+{
     put_start(text, row)?;
-    put!(text; field(names, place), " is \"", field(mine, place), "\", and the machine has \"");
-    put!(text; field(theirs, place), "\"\n");
+    put!(text; column, " is \"", mine, "\", and the machine has \"", theirs, "\"\n");
     Ok(())
 }
