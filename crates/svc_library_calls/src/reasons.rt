@@ -28,10 +28,24 @@ fn explained(alloc: Global) -> Attempt {
     let image = sample(alloc)?;
     let mut entries = TEN_ENTRIES;
     entries[6].word = Some(4);
-    match explain_entries(alloc, image, config, &entries, Compared::All, 6) {
+    let told = explain_entries(alloc, image, config, &entries, Compared::All, 6);
+    answered(&told)
+}
+
+// What was told, or that memory was refused.
+fn answered(told: &Result<Vec<u8>, Fault>) -> Attempt {
+    match told {
         Ok(text) => Ok(text.as_slice() == REASON),
-        Err(Fault::Report(ReportError::Memory)) => Err(Refused::Told),
-        Err(Fault::Trace(fault)) if fault.kind == TraceFaultKind::Memory => Err(Refused::Told),
+        Err(fault) if is_of_memory(fault) => Err(Refused::Told),
         Err(_) => Ok(false),
+    }
+}
+
+// Whether a fault is that memory was refused.
+fn is_of_memory(fault: &Fault) -> bool {
+    match fault {
+        Fault::Report(ReportError::Memory) => true,
+        Fault::Trace(fault) => fault.kind == TraceFaultKind::Memory,
+        _ => false,
     }
 }
