@@ -112,8 +112,10 @@ fn names_of(alloc: Global) -> Result<Vec<u8>, ReportError>
     ensures { IfOk result (λ names. names.items ≡ text_of []) }
 {
     let mut names = Vec::new(alloc);
-    write_trace(alloc, &[], &mut names)?;
-    Ok(names)
+    match write_trace(alloc, &[], &mut names) {
+        Ok(()) => Ok(names),
+        Err(_) => Err(ReportError::Memory),
+    }
 }
 
 // The row of an entry.
@@ -121,8 +123,10 @@ fn row_of(alloc: Global, entry: &Entry) -> Result<Vec<u8>, ReportError>
     ensures { IfOk result (λ row. row.items ≡ row_of entry.now) }
 {
     let mut row = Vec::new(alloc);
-    write_entry(alloc, entry, &mut row)?;
-    Ok(row)
+    match write_entry(alloc, entry, &mut row) {
+        Ok(()) => Ok(row),
+        Err(_) => Err(ReportError::Memory),
+    }
 }
 
 // Adds the line about the column of a place, if two rows differ at one.
