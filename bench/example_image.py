@@ -1,8 +1,8 @@
 #!/usr/bin/env python3
 """Makes the image of a program's text by GNU's assembler and linker, and its listing by GNU's disassembler: what `svcsim
-assemble` and `list` are held against.
+assemble` and `list` are held against; and the table of its names, by GNU's nm, where a file is named for it.
 
-    bench/example_image.py TEXT IMAGE LISTING
+    bench/example_image.py TEXT IMAGE LISTING [NAMES]
 
 Knows images of version 1, and of this project's directives .svc_entry, .svc_limit and .svc_register. Sections become four: text,
 read-only data, data, and zeros, of which the last three are the image's data; what `.comm` names stands in the zeros where the
@@ -31,7 +31,13 @@ def section(words):
     return next((line for beginning, line in SECTIONS if name.startswith(beginning)), None)
 
 
-def main(text, image, listing):
+def names_of(symbols):
+    """The table of the names of addresses among nm's rows: none of numbers, and none of ours."""
+    named = [(int(value, 16), name) for value, kind, name in symbols if kind not in "aA" and not name.startswith("svc_entry_")]
+    return "name,address\n" + "".join(f"{name},{address}\n" for address, name in sorted(named))
+
+
+def main(text, image, listing, names=None):
     plain, entries, limit, registers = [], 0, 65536, {}
     for line in open(text):
         words = line.split("#")[0].replace(",", " ").split()
@@ -58,7 +64,8 @@ def main(text, image, listing):
             it.write(PLACES)
         tool("as", "-march=rv32i", "-mabi=ilp32", "-o", f"{room}/a.o", f"{room}/a.s")
         tool("ld", "-m", "elf32lriscv", "-N", "-e", "0", "-T", f"{room}/places", "-o", f"{room}/a", f"{room}/a.o")
-        symbols = {it[2]: int(it[0], 16) for it in map(str.split, tool("nm", f"{room}/a").splitlines()) if len(it) == 3}
+        rows = [it for it in map(str.split, tool("nm", f"{room}/a").splitlines()) if len(it) == 3]
+        symbols = {it[2]: int(it[0], 16) for it in rows}
         parts = []
         for name in (".text", ".data"):
             tool("objcopy", "-O", "binary", "-j", name, f"{room}/a", f"{room}/part")
@@ -73,6 +80,9 @@ def main(text, image, listing):
         it.write(made)
     with open(listing, "w") as it:
         it.write(listing_of(made))
+    if names:
+        with open(names, "w") as it:
+            it.write(names_of(rows))
 
 
 if __name__ == "__main__":

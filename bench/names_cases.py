@@ -64,6 +64,13 @@ for name in ("explore_p_on_2_by_63", "explore_p_of_1_states", "explore_find_a_lo
     of_case("explore", name, "p", "seen")
 of_case("explore", "explore_p_on_2_by_1", "between", "seen")
 
+of_case("assembly", "listing_of_two_tasks", "p", "listing")
+of_case("assembly", "listing_of_version_2", "between", "listing")
+of_case("examples", "example_from_c_is_listed", "from_c", "listing")
+for version, image in (("two_tasks", "p"), ("version_2", "p2")):
+    listed = f"names/wanted/listing_of_{version}_with_names.txt"
+    rows.append(f"a_listing_of_{version}_with_names_makes_its_image,0,,,made.svci={image}.svci,assemble {listed} made.svci")
+
 fault("names_without_a_header", "without_a_header", 1, 1)
 fault("names_of_another_column", "of_another_column", 1, 2)
 fault("names_in_an_empty_file", "empty", 1, 0)
@@ -83,6 +90,7 @@ fault("bad_names_told_by_depend", "falling", 3, 2, "depend p.svci")
 fault("bad_names_told_by_depend_as_graph", "falling", 3, 2, "depend p.svci --dot")
 fault("bad_names_told_by_explore", "falling", 3, 2, "explore p.svci")
 fault("bad_names_told_by_a_search", "falling", 3, 2, "explore p.svci --find load")
+fault("bad_names_told_by_list", "falling", 3, 2, "list p.svci")
 fault("bad_names_told_by_observe", "falling", 3, 2, "explore p.svci --of traces/ten_events.csv")
 other("a_trace_over_the_names", "svcsim: file fault", "explore p.svci --units 2 --find load --trace names/p.csv --names names/p.csv")
 other("names_that_are_not_there", "svcsim: file fault", f"show {TEN} --names names/nowhere.csv")

@@ -2,7 +2,8 @@
 """Puts names at the ends of rows, as `--names` does: names_twin.py NAMES FORM < text.
 
 FORM is `shown` (rows of a machine), `counts` (rows of counts and an ending), `seen` (rows of what can be seen), `table` (a table without addresses),
-`entry=N` or `word=N` (a table with an entry or a word in column N, counted from 0), or `graph` (labels of words).
+`entry=N` or `word=N` (a table with an entry or a word in column N, counted from 0), `graph` (labels of words), or `listing`
+(assembly whose comments begin with an address).
 It reads the table by a dictionary and looks an address up from it downwards, unlike the program."""
 import re
 import sys
@@ -23,9 +24,11 @@ def name_of(names, address):
 def address_of(form, fields):
     """The address of a row, if it has one."""
     if form == "shown":
-        where = {"due": 1, "guess": 1, "full": 1, "open": 1, "task": 3, "line": 2, "spill": 1, "memory": 1}
-        place = where.get(fields[0])
-        is_word = fields[0] in ("line", "spill", "memory")
+        where = {"due": 1, "guess": 1, "full": 1, "open": 1, "task": 3, "pc": 2, "line": 2, "spill": 1, "order": 1, "memory": 1,
+                 "move assign": 3, "move replace": 3}
+        kind = " ".join((fields[0], fields[2])) if fields[0] == "move" else fields[0]
+        place = where.get(kind)
+        is_word = kind in ("line", "spill", "order", "memory", "move replace")
     elif form == "counts":
         place = 1 if fields[0] in ("full", "open") else None
         is_word = False
@@ -58,6 +61,11 @@ def main():
                 words = [w if w.startswith("+") else name_of(names, DATA + 4 * int(w)) or w for w in label.split()]
                 return " ".join(words)
             print(re.sub(r'(?<=label=")[^"]*', lambda found: named(found.group()), row))
+            continue
+        if form == "listing":
+            comment = re.search(r"\t# 0x([0-9a-f]{8})", row)
+            name = name_of(names, int(comment.group(1), 16)) if comment else ""
+            print(f"{row} {name}" if name else row)
             continue
         fields = row.split(",")
         if number == 0 and form not in ("shown", "counts", "seen"):

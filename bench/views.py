@@ -1,5 +1,5 @@
 #!/usr/bin/env python3
-"""What `show`, `profile` and `draw` take beside `check`, in instructions: python3 views.py [SVCSIM]
+"""What `show`, `profile`, `draw` and `export` take beside `check`, in instructions: python3 views.py [SVCSIM]
 
 SVCSIM is the program to be measured; without it the proved one is built by `rt run`. It needs rustc and valgrind, whose
 callgrind counts the instructions of each command on the same trace with the same configuration. Traces come from runs by
@@ -44,14 +44,18 @@ ROWS = [
 COLUMNS = [
     ("show", ["show"], []),
     ("show --at 1", ["show"], ["--at", "1"]),
+    ("show, all", ["show"], ["--detail", "--moves", "--memory", "0-255"]),
     ("profile", ["profile"], []),
     ("--by task", ["profile"], ["--by", "task"]),
     ("--by unit", ["profile"], ["--by", "unit"]),
     ("--by word", ["profile"], ["--by", "word"]),
     ("--by pair", ["profile"], ["--by", "pair"]),
     ("--by supplier", ["profile"], ["--by", "supplier"]),
+    ("--by pc", ["profile"], ["--by", "pc"]),
     ("draw, 400", ["draw"], ["--count", "400"]),
     ("draw, 1,000", ["draw"], ["--count", "1000"]),
+    ("chrome", ["export"], ["--format", "chrome"]),
+    ("vcd", ["export"], ["--format", "vcd", "--words", "0-7"]),
 ]
 
 
@@ -127,7 +131,7 @@ def measure(svcsim, row):
         if "--at" in after and len(lines) < 2:
             cells.append("")
             continue
-        files = [f"{image}.svci", "trace.csv"] + (["picture.svg"] if before == ["draw"] else [])
+        files = [f"{image}.svci", "trace.csv"] + (["saved"] if before in (["draw"], ["export"]) else [])
         cells.append(f"{instructions([svcsim, *before, *files, *after, *config]) / base:.2f}")
     print(f"| {image} | {units} | {sets} | {ways} | {len(lines) - 1:,} | {base / 1e6:,.2f} | {' | '.join(cells)} |", flush=True)
 
@@ -150,4 +154,5 @@ def main():
             measure(svcsim, row)
 
 
-main()
+if __name__ == "__main__":
+    main()

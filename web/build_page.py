@@ -19,6 +19,7 @@ PROGRAMS = [
     ("full_set", EXAMPLE, {"units": 2, "sets": 1, "ways": 1}, "rotate"),
     ("lost_stack", EXAMPLE, {"units": 2}, "rotate"),
     ("sum", "docs/lessons/1-tasks.md", {"units": 4}, "rotate"),
+    ("five", "docs/lessons/1-tasks.md", {"units": 4}, "rotate"),
     ("early", "docs/lessons/2-too-early.md", {"units": 3}, "youngest"),
     ("four", "docs/lessons/3-versions.md", {"units": 4}, "rotate"),
     ("rounds", "docs/lessons/4-guesses.md", {"units": 2}, "rotate"),

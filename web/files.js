@@ -17,8 +17,10 @@ export async function fragment_of(session) {
   return '#' + btoa(letters).replace(/\+/g, '-').replace(/\//g, '_').replace(/=+$/, '');
 }
 
-// What a fragment says is open, if it is one of ours.
-export async function opened_by(fragment) {
+// What a fragment says is open, if it is one of ours: a program of the menu by its name, or all that a link carries.
+export async function opened_by(fragment, programs) {
+  const named = /^#program=(\w+)$/.exec(fragment);
+  if (named) return programs.find((it) => it.lesson === named[1]) ?? null;
   if (fragment.length < 2) return null;
   try {
     const letters = atob(fragment.slice(1).replace(/-/g, '+').replace(/_/g, '/'));
@@ -44,7 +46,9 @@ const by_of = (it) => ({
     seed: number_of(it?.seed, 0), burst: number_of(it?.burst, 63),
 });
 
-export function save(name, bytes, type) {
+const MOST_DRAWN = 400;
+
+function save(name, bytes, type) {
   const at = URL.createObjectURL(new Blob([bytes], { type })), link = document.createElement('a');
   link.href = at;
   link.download = name;
@@ -52,17 +56,22 @@ export function save(name, bytes, type) {
   setTimeout(() => URL.revokeObjectURL(at), 1000);
 }
 
+// The files that can be saved: the end of the name, the kind, and what is in it.
+const SAVED = {
+  program: ['.s', 'text/plain', (session) => bytes_of(session.text)],
+  image: ['.svci', 'application/octet-stream', (session) => session.requests.file('image')],
+  script: ['.events.csv', 'text/csv', (session) => bytes_of([HEADER, ...session.steps, ''].join('\n'))],
+  trace: ['.trace.csv', 'text/csv', (session) => session.requests.file('trace')],
+  picture: ['.svg', 'image/svg+xml',
+    (session) => session.requests.picture(0, Math.min(MOST_DRAWN, Math.max(1, session.entries.length)))],
+  chrome: ['.trace.json', 'application/json', (session) => session.requests.exported('chrome', 0)],
+  vcd: ['.vcd', 'text/plain', (session) => session.requests.exported('vcd', session.shown_words())],
+};
+
 // Saves one of the files of what is open.
 export async function save_as(session, kind) {
-  const name = session.lesson || 'program';
-  switch (kind) {
-    case 'program': return save(`${name}.s`, bytes_of(session.text), 'text/plain');
-    case 'image': return save(`${name}.svci`, session.requests.file('image'), 'application/octet-stream');
-    case 'script': return save(`${name}.events.csv`, bytes_of([HEADER, ...session.steps, ''].join('\n')), 'text/csv');
-    case 'trace': return save(`${name}.trace.csv`, session.requests.file('trace'), 'text/csv');
-    default: return save(`${name}.svg`,
-      await session.requests.picture(0, Math.min(400, Math.max(1, session.entries.length))), 'image/svg+xml');
-  }
+  const [end, type, bytes] = SAVED[kind];
+  save((session.lesson || 'program') + end, await bytes(session), type);
 }
 
 // Opens a file by what it holds: a script, a trace, an image, whose listing is then the program, or else a program's text.

@@ -6,7 +6,8 @@ import { entry_text, word_mark } from './names.js';
 import { early_read, sentence, version_store } from './say.js';
 import { TEXTS } from './texts.js';
 
-const MOST_COLUMNS = 240;
+// A run of more columns is drawn around the moment alone: to lay out more takes longer than the library takes for a step.
+const MOST_COLUMNS = 240, AROUND = 64;
 const FILLS = { committed: 'var(--ok-f)', violation: 'url(#hv)', guess: 'url(#hg)', cancel: 'url(#hc)',
   active: 'var(--act-f)' };
 const EDGES = { committed: 'var(--ok)', violation: 'var(--sq)', guess: 'var(--gu)', cancel: 'var(--ca)',
@@ -24,9 +25,8 @@ const PATTERNS = `<defs>
 // Where things are: columns from `from` to `to`, of the given width, and lanes of the given height.
 function places(session, box) {
   const count = session.entries.length, k = session.k, units = session.config.units;
-  const from = count <= MOST_COLUMNS ? 0
-    : Math.max(0, Math.min(count - MOST_COLUMNS, k - Math.floor(MOST_COLUMNS / 2)));
-  const to = Math.min(count, from + MOST_COLUMNS), shown = Math.max(1, to - from);
+  const from = count <= MOST_COLUMNS ? 0 : Math.max(0, Math.min(count - AROUND, k - AROUND / 2));
+  const to = count <= MOST_COLUMNS ? count : from + AROUND, shown = Math.max(1, to - from);
   const scale = parseFloat(getComputedStyle(document.documentElement).fontSize) / 16,
     width = box.clientWidth - 2 || 860;
   const [pitch, height] = (units < 4 ? [104, 82] : units < 8 ? [64, 54] : [36, 30]).map((it) => it * scale);

@@ -65,6 +65,12 @@ export class Library {
     this.fresh?.add(name);
   }
 
+  // Makes the files what they were.
+  restore(files) {
+    for (const name of this.files.keys()) if (!files.has(name)) this.drop(name);
+    for (const [name, bytes] of files) if (this.files.get(name) !== bytes) this.put(name, bytes);
+  }
+
   // Forgets a file.
   drop(name) {
     this.files.delete(name);

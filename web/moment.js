@@ -2,7 +2,7 @@
 // changed is what differs from the rows of the moment before.
 
 import { $, escaped, set_html } from './html.js';
-import { word_html, word_text } from './names.js';
+import { has_name, word_html, word_text } from './names.js';
 import { ending_text, entry_link } from './say.js';
 import { TEXTS } from './texts.js';
 
@@ -20,8 +20,7 @@ function bits(now, old) {
 
 function line_box(session, now, old, is_marked) {
   if (!now) return `<div class="ln gone"><span class="nm">${word_html(session, old.word)}</span><span class="vl">${old.value}</span><span class="gh">${TEXTS.gone}</span></div>`;
-  const is_new = is_marked && !old, is_changed = old && old.value !== now.value,
-    is_named = word_text(session, now.word) !== TEXTS.word(now.word);
+  const is_new = is_marked && !old, is_changed = old && old.value !== now.value, is_named = has_name(session, now.word);
   return `<div class="ln${is_new ? ' isnew' : ''}">${is_new ? `<span class="newtag">${TEXTS.new}</span>` : ''}`
     + `<span class="nm">${word_html(session, now.word)}${is_named ? ` <small>${TEXTS.word(now.word)}</small>` : ''}</span>`
     + `<span class="vl${is_changed ? ' chg' : ''}">${now.value}</span>${bits(now.bits, is_marked && old ? old.bits : null)}</div>`;
@@ -56,17 +55,13 @@ function done_at(session, kind, task, word) {
 
 const is_version = (line) => line.bits[1] === 'S';
 
-// The lines of a word, from the oldest to the youngest: as the library orders them, or else as the rows come.
+// The lines of a word from the oldest to the youngest version, as the library orders them.
 function ordered(now, word) {
-  const lines = now.lines.filter((it) => it.word === word), order = now.orders.find((it) => it.word === word);
-  if (order) return order.holders.map(([unit, holder]) =>
-    ({ line: lines.find((it) => it.unit === Number(unit)),
-      is_committed: holder === 'committed' })).filter((it) => it.line);
-  const committed = lines.filter((it) => it.bits[3] === 'C');
-  const active = now.tasks.map((it) =>
-    lines.find((one) => one.unit === it.unit && one.bits[3] !== 'C')).filter(Boolean);
-  return [...committed.map((line) => ({ line, is_committed: true })),
-    ...active.map((line) => ({ line, is_committed: false }))];
+  const holders = now.orders.find((it) => it.word === word)?.holders ?? [];
+  return holders.map(([unit, holder]) => ({
+    line: now.lines.find((it) => it.unit === Number(unit) && it.word === word),
+    unit: Number(unit), is_committed: holder === 'committed', task: holder,
+  }));
 }
 
 const node = (kind, who, value, says) =>
@@ -90,24 +85,25 @@ export function draw_versions(session) {
     list = ordered(now, word);
   const nodes = [node('ver', TEXTS.memory_itself, row ? row.backing : '–',
     row ? TEXTS.behind_caches : TEXTS.in_no_cache)];
-  for (const { line } of list.filter((it) => it.is_committed)) {
+  for (const { line, unit } of list.filter((it) => it.is_committed)) {
     const says = (is_version(line) ? TEXTS.a_version : TEXTS.a_copy) + (line.bits[4] === 'T' ? TEXTS.stale : '');
-    nodes.push(node(is_version(line) ? 'ver' : '', TEXTS.committed_in(line.unit), line.value, says));
+    nodes.push(node(is_version(line) ? 'ver' : '', TEXTS.committed_in(unit), line.value, says));
   }
   now.tasks.forEach((it, at) => {
-    const found = list.find(({ line, is_committed }) => !is_committed && line.unit === it.unit);
-    nodes.push(task_node(session, now, it, at, found?.line, word));
+    const line = list.find(({ task }) => task === String(it.task))?.line;
+    nodes.push(task_node(session, now, it, at, line, word));
   });
   set_html($('vol'),
     `<ol class="vol">${nodes.join('')}</ol>`
       + (now.tasks.length ? `<p class="legend">${TEXTS.versions_key}</p>` : `<p class="empty">${TEXTS.no_task}</p>`));
 }
 
-// The words that there is something to say of: those with a row, now or at any moment that was looked at, and the first few of the data.
+const FIRST_WORDS = 16, MOST_WORDS = 64;
+
+// The words that are listed: the first of the data, and those that the run loads or stores.
 function words_of(session) {
-  const words = new Set(Array.from({ length: Math.min(session.words ?? 0, 6) }, (_, n) => n));
-  for (const it of session.drawing.marks) if (it.word >= 0 && words.size < 64) words.add(it.word);
-  for (const it of session.now().memory) if (words.size < 64) words.add(it.word);
+  const words = new Set(session.words.slice(0, FIRST_WORDS).keys());
+  for (const it of session.drawing.marks) if (it.word >= 0 && words.size < MOST_WORDS) words.add(it.word);
   return [...words].sort((a, b) => a - b);
 }
 
@@ -135,7 +131,7 @@ function draw_memory(session, now, before, is_marked) {
     return `<p class="spl${is_new ? ' isn' : ''}">${is_new ? `<span class="newtag st">${TEXTS.new}</span> ` : ''}${TEXTS.spilled(word_html(session, it.word), it.value, now.tasks[0]?.task)}</p>`;
   });
   const head = TEXTS.memory_head.map((it, n) => `<th${n ? ' class="n"' : ''}>${it}</th>`).join('');
-  const left_out = (session.words ?? 0) - words.length;
+  const left_out = session.words.length - words.length;
   set_html($('mem'),
     `<div class="scroll tall" tabindex="0" aria-label="${TEXTS.memory}"><table><thead><tr>${head}</tr></thead><tbody>${rows.join('')}</tbody></table></div>${spills.join('')}`
     + (words.some((word) => !now.memory.some((it) => it.word === word)) ? `<p class="legend">${TEXTS.no_row}</p>` : '')
@@ -157,17 +153,20 @@ function outputs(session) {
   return { done: done.sort((a, b) => a.task - b.task || a.at - b.at), waiting };
 }
 
+const ends = (ending) => (ending ? `<small>${TEXTS.sequential_ends(ending_text(ending))}</small>` : '');
+
 function draw_output(session, now) {
-  const { done, waiting } = outputs(session), wanted = session.sequential?.out ?? [],
-    is_same = (it, n) => wanted[n] === it.value;
+  const { done, waiting } = outputs(session), { out: wanted, ending } = session.sequential ?? { out: [] };
+  const is_same = (it, n) => wanted[n] === it.value, has_stopped = now.ending[0] !== 'open';
   const word = (value, kind, more = '') => `<span class="ow${kind}">${escaped(value)}${more}</span>`;
   const run = done.map((it, n) => word(it.value, is_same(it, n) ? ' eq' : '')).join('')
-    + waiting.map((it) => word(it.value, ' pend', ` <small>${TEXTS.waits(it.task)}</small>`)).join('');
-  const is_front = done.length > 0 && done.every(is_same), ending = session.sequential?.ending;
-  const verdict = is_front && done.length === wanted.length ? TEXTS.same : is_front ? TEXTS.so_far : '';
+    + waiting.map((it) => word(it.value, ' pend', ` <small>${TEXTS.waits(it.task)}</small>`)).join('')
+    + (has_stopped ? ends(now.ending) : '');
+  const is_front = done.every(is_same), is_all = done.length === wanted.length && now.ending.join() === ending?.join();
+  const verdict = has_stopped && is_front && is_all ? TEXTS.same : is_front && done.length ? TEXTS.so_far : '';
   set_html($('outs'),
     `<div class="outs"><span>${TEXTS.this_run}</span><span class="w">${run || `<span class="empty">${TEXTS.nothing}</span>`}</span>`
-    + `<span>${TEXTS.sequential}</span><span class="w">${wanted.slice(0, 64).map((it) => word(it, '')).join('')}${ending ? `<small>${TEXTS.sequential_ends(ending_text(ending))}</small>` : ''}</span></div>`
+    + `<span>${TEXTS.sequential}</span><span class="w">${wanted.slice(0, 64).map((it) => word(it, '')).join('')}${ends(ending)}</span></div>`
     + `<p class="verd">${verdict}</p>`);
 }
 

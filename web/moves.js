@@ -4,6 +4,7 @@ import { $, escaped, set_html } from './html.js';
 import { entry_html, entry_text, word_html } from './names.js';
 import { TEXTS } from './texts.js';
 
+const MOST_ENTRIES = 4;
 const why = (number) => TEXTS.refusal[number] ?? number;
 
 function button(session, predict, move, refusal, label, says = '') {
@@ -12,64 +13,75 @@ function button(session, predict, move, refusal, label, says = '') {
   return `<button data-move="${move}"${refusal ? ' aria-disabled="true"' : ''} class="${is_next ? 'nextmv' : ''}"><span>${label}</span>${under ? `<small>${under}</small>` : ''}</button>`;
 }
 
+function registers(now, unit) {
+  const list = now.registers.filter((it) => it.unit === unit)
+    .map((it) => `<span>${TEXTS.register(it.name)} = <b>${it.value}</b></span>`);
+  return list.length ? `<p class="regs"><span class="soft">${TEXTS.registers}</span> ${list.join(' ')}</p>` : '';
+}
+
 function standing(session, now, unit) {
   const at = now.tasks.findIndex((it) => it.unit === unit);
   if (at < 0) return `<span class="soft">${TEXTS.has_no_task}</span>`;
   const it = now.tasks[at], pc = now.pcs.find((one) => one.unit === unit),
     state = it.state === 'running' ? TEXTS.running : TEXTS.ended;
-  const place = pc ? `, ${TEXTS.pc(`<code>${Number(pc.address).toString(16).padStart(2, '0')}</code>`)}` : '';
+  const place = pc ? `, ${TEXTS.pc(entry_html(session, pc.address))}` : '';
   return `<span>${TEXTS.task(it.task)} @ ${entry_html(session, it.entry)}, ${state}, ${TEXTS.turns(it.turns)}${place}</span> `
     + `<span class="badge${at === 0 ? ' head">' + TEXTS.head : '">' + TEXTS.speculative}</span>`;
 }
 
-function unit_box(session, predict, now, moves, unit) {
-  const all = moves.map((it) => ({ ...it, fields: it.move.split(',') })).filter((it) => Number(it.fields[1]) === unit);
-  const of = (kind, arg) => all.find((it) => it.fields[0] === kind && (arg === undefined || it.fields[2] === arg));
-  const one = (it, label, says) => (it ? button(session, predict, it.move, it.refusal, label, says) : '');
-  const guess = of('assign', now.guess), is_head = now.tasks[0]?.unit === unit;
+// The assignments to entries that are not the guess, where that to the guess is accepted: some as buttons, many as a list.
+function other_entries(session, predict, now, unit) {
   const others = session.entry_addresses().filter((it) => String(it) !== now.guess);
-  let html = one(guess, guess?.refusal ? TEXTS.begin_at('…') : TEXTS.begin_at(entry_html(session, now.guess)),
-    TEXTS.the_guess);
-  for (const turns of session.bursts()) html += one(of('submit', String(turns)),
-    turns === 1 ? TEXTS.one_turn : turns === 63 ? TEXTS.to_bus : TEXTS.up_to(turns));
-  if (is_head) html += one(of('commit'), TEXTS.commit);
-  html += one(of('cancel'), TEXTS.cancel);
-  for (const it of all.filter((move) => move.fields[0] === 'replace')) html += one(it,
-    TEXTS.let_go(word_html(session, it.fields[2])));
-  for (const it of all.filter((move) => move.fields[0] === 'assign' && move !== guess && !move.refusal)) html += one(it,
-    TEXTS.begin_at(entry_html(session, it.fields[2])), TEXTS.not_the_guess);
-  if (others.length > 4 && !guess?.refusal) {
-    html += `<label class="elsewhere">${TEXTS.begin_elsewhere}<select data-begin="${unit}"><option value=""></option>`
-      + others.map((it) => `<option value="${it}">${escaped(entry_text(session, it))}</option>`).join('')
-        + '</select></label>';
+  if (others.length <= MOST_ENTRIES) {
+    return others.map((it) => button(session, predict, `assign,${unit},${it}`, '', TEXTS.begin_at(entry_html(session, it)),
+      TEXTS.not_the_guess)).join('');
   }
-  return `<div class="unit" role="group" aria-label="${TEXTS.Unit(unit)}"><div class="st"><h3>${TEXTS.Unit(unit)}</h3>${standing(session, now, unit)}</div><div class="mv">${html}</div></div>`;
+  const options = others.map((it) => `<option value="${it}">${escaped(entry_text(session, it))}</option>`).join('');
+  return `<label class="elsewhere">${TEXTS.begin_elsewhere}<select data-begin="${unit}"><option value=""></option>${options}</select></label>`;
 }
 
-// Draws the moves, which the library may still have to tell.
-export async function draw_moves(session, predict) {
-  const note = predict.ask ? TEXTS.answer_first : session.k < session.entries.length && !predict.on
-    ? TEXTS.replaces_rest : '';
-  set_html($('mvn'), note);
-  if (predict.ask || !session.has_image) {
-    $('units').setAttribute('aria-busy', 'false');
-    return void set_html($('units'), '');
-  }
-  const at = session.k, played = session.played, now = session.now();
-  $('units').setAttribute('aria-busy', 'true');
-  const moves = await session.moves();
-  if (!moves || at !== session.k || played !== session.played) return;
-  $('units').setAttribute('aria-busy', 'false');
-  const units = [...Array(session.config.units).keys()];
+const label_of_burst = (turns) => (turns === 1 ? TEXTS.one_turn : turns === 63 ? TEXTS.to_bus : TEXTS.up_to(turns));
+
+// A unit's moves as buttons: rows of the library. A burst of more turns begins with that of one; the library is asked for it where
+// that one is accepted.
+function buttons(session, predict, now, unit) {
+  const rows = now.moves.filter((it) => it.unit === unit), of = (kind) => rows.find((it) => it.kind === kind);
+  const one = (it, label, says) => (it ? button(session, predict, [it.kind, unit, it.arg].join(), it.refusal, label, says)
+    : '');
+  const assign = of('assign'), submit = of('submit');
+  const burst = (turns) => {
+    const move = `submit,${unit},${turns}`;
+    return button(session, predict, move, submit.refusal || now.tried.get(move), label_of_burst(turns));
+  };
+  return one(assign, TEXTS.begin_at(entry_html(session, now.guess)), TEXTS.the_guess)
+    + (submit ? session.bursts().map(burst).join('') : '')
+    + (now.tasks[0]?.unit === unit ? one(of('commit'), TEXTS.commit) : '') + one(of('cancel'), TEXTS.cancel)
+    + rows.filter((it) => it.kind === 'replace').map((it) => one(it, TEXTS.let_go(word_html(session, it.arg)))).join('')
+    + (assign && !assign.refusal ? other_entries(session, predict, now, unit) : '');
+}
+
+function unit_box(session, predict, now, unit) {
+  return `<div class="unit" role="group" aria-label="${TEXTS.unit_label(unit)}"><div class="st"><h3>${TEXTS.Unit(unit)}</h3>${standing(session, now, unit)}</div>`
+    + `${registers(now, unit)}<div class="mv">${buttons(session, predict, now, unit)}</div></div>`;
+}
+
+// Draws the boxes again; the move that had the focus keeps it, or the first that isn't refused gets it.
+function set_boxes(html) {
+  const focus = document.activeElement?.dataset?.move;
+  if (!set_html($('units'), html) || !focus) return;
+  const same = document.querySelector(`[data-move="${focus}"]`)
+    ?? document.querySelector('.mv button:not([aria-disabled])');
+  same?.focus({ preventScroll: true });
+}
+
+export function draw_moves(session, predict) {
+  const { moves } = session.now(), is_open = session.k < session.entries.length && !predict.on;
+  set_html($('mvn'), predict.ask ? TEXTS.answer_first : is_open ? TEXTS.replaces_rest : '');
+  if (predict.ask || !session.has_image) return void set_html($('units'), '');
   if (moves.length && moves.every((it) => it.refusal)) {
     const all = [...new Set(moves.map((it) => why(it.refusal)))].join('; ');
     return void set_html($('units'), `<p class="empty">${TEXTS.every_refused(all)}</p>`);
   }
-  const focus = document.activeElement?.dataset?.move;
-  set_html($('units'), units.map((unit) => unit_box(session, predict, now, moves, unit)).join(''));
-  if (focus) {
-    const same = document.querySelector(`[data-move="${focus}"]`)
-      ?? document.querySelector('.mv button:not([aria-disabled])');
-    same?.focus({ preventScroll: true });
-  }
+  const units = [...Array(session.config.units).keys()];
+  set_boxes(units.map((unit) => unit_box(session, predict, session.now(), unit)).join(''));
 }

@@ -6,7 +6,7 @@ import { draw_key, draw_lanes } from './lanes.js';
 import { Library, Stopped, has_wide_memory } from './library.js';
 import { draw_moment, draw_versions } from './moment.js';
 import { draw_moves } from './moves.js';
-import { draw_listing, draw_program, scroll_program } from './program.js';
+import { draw_listing, draw_program, go_to_fault, scroll_program } from './program.js';
 import { Requests } from './requests.js';
 import { draw_sentence, plain_sentence, question } from './say.js';
 import { Refused, Session } from './session.js';
@@ -29,8 +29,14 @@ function tell(text, is_bad = false) {
 }
 
 function tell_why(why) {
+  if (why instanceof Stopped) return tell(TEXTS.stopped_job, true);
   if (why instanceof Refused) return tell(TEXTS.was_refused(TEXTS.refusal[why.number] ?? why.number), true);
   tell(why.err === undefined ? TEXTS.broken(why.message) : why.message, true);
+}
+
+// Whether something takes long enough that it may be stopped.
+function show_wait(is_long) {
+  $('wait').hidden = !is_long;
 }
 
 function draw_bar() {
@@ -66,6 +72,7 @@ function draw() {
   draw_sentence(session, predict);
   draw_lanes(session, predict);
   draw_moment(session, predict);
+  draw_moves(session, predict);
   remember();
   draw_answers();
 }
@@ -73,17 +80,18 @@ function draw() {
 // What the library has yet to be asked for, of what was drawn last. Of a long run that waits until the student rests, so that a step
 // waits for no move that is tried.
 async function draw_answers() {
-  const turn = ++drawn;
+  const turn = ++drawn, is_last = () => turn === drawn;
   $('units').setAttribute('aria-busy', 'true');
   if (session.entries.length > LONG) await new Promise((done) => setTimeout(done, 150));
-  if (turn !== drawn) return;
+  if (!is_last()) return;
   try {
-    await draw_moves(session, predict);
     await draw_tables(session, predict);
     if (tables.tab === 'all' && tables.is_quick) explore();
+    if (!predict.ask && await session.try_bursts() && is_last()) draw_moves(session, predict);
   } catch (why) {
     if (!(why instanceof Stopped)) tell_why(why);
   }
+  if (is_last()) $('units').setAttribute('aria-busy', 'false');
 }
 
 // The address says what is open, at most once in 400 ms, and not of long scripts: browsers refuse a flood of changes.
@@ -147,12 +155,14 @@ async function run(is_on) {
 
 async function load(program) {
   Object.assign(predict, { ask: null, said: null });
-  requests.stop();
+  requests.stop_exploring();
   tables.turn++;
   Object.assign(tables, { explored: null, of: '', is_quick: true, fault: '' });
   $('src').value = program.text;
   tell('');
   await session.load(program);
+  if (session.lesson !== program.lesson) $('src').value = session.text;
+  if (program_of(session.lesson)) $('lesson').value = session.lesson;
   scroll_program(session);
 }
 
@@ -225,7 +235,8 @@ function on_click(event) {
     button);
   if (button.getAttribute('role') === 'tab') show_tab(button.id.slice(2));
   if (button.id === 'bexplore') explore(true);
-  if (button.id === 'bstop') requests.stop();
+  if (button.id === 'bstop') requests.stop_exploring();
+  if (button.id === 'bfault') go_to_fault(session);
   if (button.id === 'bapply') apply_script();
 }
 
@@ -253,6 +264,7 @@ function on_key(event) {
     return event.shiftKey ? session.redo() : session.undo();
   }
   if (is_control || event.altKey) return;
+  if (key === 'Escape' && !$('wait').hidden) return session.stop();
   if (!is_quiet && predict.ask && /^[1-9]$/.test(key)) return answer(Number(key) - 1);
   const keys = { ArrowRight: step, ArrowLeft: () => go(session.aim - 1), Home: () => go(0),
     End: () => (predict.on ? null : go(session.entries.length)) };
@@ -331,7 +343,7 @@ function wire_buttons() {
   const acts = { b0: () => go(0), bb: () => go(session.aim - 1), bf: step, bn: go_to_note, bu: () => session.undo(),
     br: () => session.redo(), brun: () => run(false), bon: () => run(true),
     bclear: () => session.rewrite([], 0), bpred: () => set_predict(!predict.on), blink: copy_link,
-      bopen: () => $('file').click(), bhelp: () => $('help').showModal(),
+      bopen: () => $('file').click(), bhalt: () => session.stop(), bhelp: () => $('help').showModal(),
     btheme: () => set_theme(document.documentElement.dataset.theme !== 'dark'),
       bproj: () => set_projector(!document.documentElement.classList.contains('projector')) };
   for (const [id, act] of Object.entries(acts)) $(id).addEventListener('click', act);
@@ -373,7 +385,7 @@ function wire() {
   $('svgbox').addEventListener('mouseleave', () => { $('tip').hidden = true; });
   new ResizeObserver(() => session.has_image && draw_lanes(session, predict)).observe($('lanes'));
   window.addEventListener('hashchange',
-    async () => { const it = await opened_by(location.hash); if (it) await load(it); });
+    async () => { const it = await opened_by(location.hash, PROGRAMS); if (it) await load(it); });
 }
 
 async function begin() {
@@ -384,12 +396,9 @@ async function begin() {
   $('say').innerHTML = `<p>${TEXTS.opening}</p>`;
   const module = await WebAssembly.compile(Uint8Array.from(atob(MODULE), (it) => it.charCodeAt(0)));
   requests = new Requests(new Library(WORKER, module), new Library(WORKER, module));
-  session = new Session(requests, draw, tell_why);
-  await requests.learn();
+  session = new Session(requests, { draw, tell: tell_why, wait: show_wait });
   wire();
-  const it = await opened_by(location.hash) ?? PROGRAMS[0];
-  if (program_of(it.lesson)) $('lesson').value = it.lesson;
-  await load(it);
+  await load(await opened_by(location.hash, PROGRAMS) ?? PROGRAMS[0]);
   document.body.dataset.opened = Math.round(performance.now());
 }
 

@@ -11,10 +11,12 @@ function coloured(line) {
     + (note ? `<span class="c">${escaped(note)}</span>` : '');
 }
 
-// The line of a fault: the word at its column, or a mark where nothing stands there. Columns count bytes.
+// What stands before a column, which counts bytes.
+const front_of = (line, column) => new TextDecoder().decode(new TextEncoder().encode(line).slice(0, column - 1));
+
+// The line of a fault: the word at its column, or a mark where nothing stands there.
 function underlined(line, column) {
-  const front = new TextDecoder().decode(new TextEncoder().encode(line).slice(0, column - 1)),
-    rest = line.slice(front.length);
+  const front = front_of(line, column), rest = line.slice(front.length);
   const word = (/^[\w.$]+/.exec(rest) ?? [rest[0] ?? ' '])[0];
   return `${coloured(front)}<span class="bad">${escaped(word)}</span>${coloured(rest.slice(word.length))}`;
 }
@@ -27,7 +29,7 @@ export function draw_program(session) {
   const box = $('edmsg'), old = session.has_image ? TEXTS.shown_is_old : '';
   $('src').setAttribute('aria-invalid', Boolean(fault));
   if (fault) set_html(box,
-    `<p class="fault">${fault.line ? TEXTS.fault_at(fault.line, fault.column, escaped(fault.says)) : TEXTS.fault(escaped(fault.says))}${old}</p>`);
+    `<p class="fault">${fault.line ? TEXTS.fault_at(fault.line, fault.column, escaped(fault.says)) : TEXTS.fault(escaped(fault.says))}${old}${fault.line ? ` <button id="bfault" class="lnk">${TEXTS.go_there}</button>` : ''}</p>`);
   else if (session.text === text && session.has_image) set_html(box,
     `<p class="okline">${TEXTS.assembles(`${escaped(session.lesson || 'program')}.s`)}</p>`);
   else set_html(box, '');
@@ -38,6 +40,17 @@ export function scroll_program(session) {
   const height = parseFloat(getComputedStyle($('hl')).lineHeight), lines = session.text.split('\n');
   const line = session.fault?.line || lines.findIndex((it) => it.trim().startsWith('.svc_entry')) + 1;
   $('ed').scrollTop = Math.max(0, line - 5) * height;
+}
+
+// Puts the caret where the fault is.
+export function go_to_fault(session) {
+  const { line, column } = session.fault ?? {}, area = $('src');
+  if (!line) return;
+  const lines = area.value.split('\n'), front = lines.slice(0, line - 1).join('\n').length + (line > 1 ? 1 : 0);
+  const at = front + front_of(lines[line - 1] ?? '', column).length;
+  area.focus();
+  area.setSelectionRange(at, at);
+  scroll_program(session);
 }
 
 const MOST_LINES = 600;
@@ -53,7 +66,7 @@ export function draw_listing(session) {
   const from = Math.max(0, Math.min(session.listing.length - MOST_LINES, middle - MOST_LINES / 2));
   const unit = (it) => `<span class="pc u${it % 2}" title="${TEXTS.Unit(it).replace('&nbsp;', ' ')}">u${it}</span>`;
   const rows = session.listing.slice(from, from + MOST_LINES).map((it) => {
-    const here = at.get(it.address) ?? [], name = session.names?.text.get(it.address) ?? '';
+    const here = at.get(it.address) ?? [], name = it.name.includes('+') ? '' : it.name;
     return `<tr class="${it.is_entry ? 'en' : ''}${here.length ? ' here' : ''}"><td class="pcs">${here.map(unit).join(' ')}</td><td>${escaped(name)}</td>`
       + `<td>${hexadecimal(it.address).slice(2)}</td><td>${escaped(it.text)}</td></tr>`;
   });

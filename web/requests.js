@@ -1,15 +1,14 @@
-// What the page asks the library for, one function a request. Files go by the names in FILES. What the library can't do yet is known
-// from its own help, and asked for nowhere else than here.
+// What the page asks the library for, one function a request. Files go by the names in FILES.
 
 import { Stopped, text_of } from './library.js';
-import { drawn_of, explored_of, fault_of, lines_of, listing_of, names_of, played_of, shown_of, summary_of,
+import { TRACE_COLUMNS, drawn_of, explored_of, fault_of, lines_of, listing_of, played_of, shown_of, sound_of, summary_of,
   table_of } from './rows.js';
 
 const FILES = {
   text: 'program.s', image: 'image.svci', names: 'names.csv', script: 'script.csv', trace: 'trace.csv',
     begin: 'begin.csv',
-  run: 'run.csv', tried: 'tried.csv', opened: 'opened.csv', listed: 'opened.svci', rows: 'rows.csv',
-    picture: 'picture.svg', witness: 'witness.csv',
+  run: 'run.csv', front: 'front.csv', tried: 'tried.csv', listed: 'opened.svci', rows: 'rows.csv', picture: 'picture.svg',
+    witness: 'witness.csv', export: 'export.txt',
 };
 // More tasks than a history of 100,000 entries can commit.
 const MOST_TASKS = 50000;
@@ -31,7 +30,6 @@ export class Requests {
   constructor(library, other) {
     this.library = library;
     this.other = other;
-    this.can = {};
     this.config = { units: 2, sets: 16, ways: 2 };
   }
 
@@ -50,32 +48,20 @@ export class Requests {
 
   // The same, where status 1 is a fault.
   async get(words, library = this.library) {
-    const told = await this.ask(this.can.explain ? [...words, '--explain'] : words, library);
+    const told = await this.ask([...words, '--explain'], library);
     if (told.status === 1) throw new Fault(told.err);
     return told;
   }
 
-  // Which options of later versions this one has, by its help.
-  async learn() {
-    const help = async (of) => (await this.ask([of, '--help'])).out;
-    const [assemble, show] = [await help('assemble'), await help('show')];
-    this.can = {
-      names: assemble.includes('--names'), detail: show.includes('--detail'), moves: show.includes('--moves'),
-      memory: show.includes('--memory'), explain: show.includes('--explain'),
-    };
-  }
-
-  // Assembles the text. A fault of the text is an answer; without one there is a new image.
+  // Assembles the text. It answers a fault of the text; without one there is a new image.
   async assemble(text) {
     this.library.put(FILES.text, text);
-    const names = this.can.names ? ['--names', FILES.names] : [];
-    const told = await this.ask(['assemble', FILES.text, FILES.image, ...names]);
-    if (told.status === 1) return { fault: fault_of(told.err) };
-    return { names: this.can.names ? names_of(text_of(this.library.files.get(FILES.names))) : null };
+    const told = await this.ask(['assemble', FILES.text, FILES.image, '--names', FILES.names]);
+    return told.status === 1 ? fault_of(told.err) : null;
   }
 
   async list() {
-    return listing_of((await this.get(['list', FILES.image])).out);
+    return listing_of((await this.get(['list', FILES.image, '--names', FILES.names])).out);
   }
 
   // The text that an image is assembled from.
@@ -93,7 +79,13 @@ export class Requests {
   async play(steps) {
     this.library.put(FILES.script, script_text(steps));
     const told = await this.get(['script', FILES.image, FILES.script, ...this.machine(), '--trace', FILES.trace]);
-    return played_of(told.out, steps.length);
+    return { steps, played: played_of(told.out, steps.length) };
+  }
+
+  // The same of a trace, by the script that leads to it.
+  async follow(trace) {
+    this.library.put(FILES.trace, trace);
+    return { steps: await this.leading(FILES.trace), played: sound_of(text_of(trace)) };
   }
 
   // The script that leads to a trace.
@@ -102,39 +94,37 @@ export class Requests {
     return steps_of(this.library.files.get(FILES.begin));
   }
 
-  // A run by a schedule behind these steps, as a script.
+  // A run by a schedule behind these steps.
   async run(steps, { order, seed, burst }) {
     const words = ['run', FILES.image, ...this.machine(), '--schedule', order, '--burst', burst];
     if (order === 'random') words.push('--seed', seed);
-    if (steps.length) {
-      this.library.put(FILES.script, script_text(steps));
-      await this.get(['script', FILES.image, FILES.script, ...this.machine(), '--trace', FILES.tried]);
-      await this.leading(FILES.tried);
-      words.push('--after', FILES.begin);
-    }
+    if (steps.length) words.push('--after', await this.without_kept_bursts(steps));
     await this.get([...words, '--trace', FILES.run]);
-    return this.leading(FILES.run);
+    return this.follow(this.library.files.get(FILES.run));
   }
 
-  // The machine after the first entries of the trace.
-  async show(at, words) {
-    const more = [this.can.detail && '--detail', this.can.moves && '--moves'].filter(Boolean);
-    if (this.can.memory && words > 0) more.push('--memory', `0-${words - 1}`);
-    return shown_of((await this.get(['show', FILES.image, FILES.trace, '--at', at, ...this.machine(), ...more])).out);
+  // A script that does the same as these steps, and keeps no burst to be submitted later: no run goes on behind such a one.
+  async without_kept_bursts(steps) {
+    this.library.put(FILES.script, script_text(steps));
+    await this.get(['script', FILES.image, FILES.script, ...this.machine(), '--trace', FILES.tried]);
+    await this.leading(FILES.tried);
+    return FILES.begin;
   }
 
-  // What the library answers to each of these moves where they are made behind the steps: a refusal, or none. It is given up where
-  // something else is to be done.
-  async try_moves(steps, moves, goes_on = () => true) {
-    const found = [];
-    for (const move of moves) {
-      if (!goes_on()) return null;
-      this.library.put(FILES.tried, script_text([...steps, move]));
-      const told = await this.get(['script', FILES.image, FILES.tried, ...this.machine()]);
-      const answer = lines_of(told.out)[steps.length];
-      found.push({ move, refusal: answer.startsWith('refused,') ? answer.slice(8) : answer === 'none' ? 'none' : '' });
-    }
-    return found;
+  // The machine after these entries, with the first words of memory. The trace is lent up to them, since rows behind them are read too.
+  async show(entries, words) {
+    this.library.put(FILES.front, [TRACE_COLUMNS, ...entries.map((it) => it.row), ''].join('\n'));
+    const more = words > 0 ? ['--memory', `0-${words - 1}`] : [];
+    return shown_of((await this.get(['show', FILES.image, FILES.front, '--detail', '--moves', ...more,
+      ...this.machine()])).out);
+  }
+
+  // What the library answers to a move that is made behind the steps: a refusal, or none.
+  async try_move(steps, move) {
+    this.library.put(FILES.tried, script_text([...steps, move]));
+    const told = await this.get(['script', FILES.image, FILES.tried, ...this.machine()]);
+    const { refused } = played_of(told.out, steps.length + 1), last = refused.at(-1);
+    return last?.step === steps.length ? last.why : '';
   }
 
   async draw(from, count) {
@@ -149,12 +139,20 @@ export class Requests {
     return this.library.files.get(FILES.picture);
   }
 
+  // The trace for a viewer; waves have the values of the first words.
+  async exported(format, words) {
+    const more = format === 'vcd' && words > 0 ? ['--words', `0-${words - 1}`] : [];
+    await this.get(['export', FILES.image, FILES.trace, FILES.export, '--format', format, ...more, ...this.machine()]);
+    return this.library.files.get(FILES.export);
+  }
+
   async profile(by) {
-    return table_of((await this.get(['profile', FILES.image, FILES.trace, '--by', by, ...this.machine()])).out);
+    return table_of((await this.get(['profile', FILES.image, FILES.trace, '--by', by, '--names', FILES.names,
+      ...this.machine()])).out);
   }
 
   async depend(by) {
-    return table_of((await this.get(['depend', FILES.image, '--by', by, '--tasks', 300])).out);
+    return table_of((await this.get(['depend', FILES.image, '--by', by, '--tasks', 300, '--names', FILES.names])).out);
   }
 
   // What the trace shows, as rows of an exploration.
@@ -166,30 +164,36 @@ export class Requests {
     return ['explore', FILES.image, ...this.machine(), '--burst', burst, '--states', states];
   }
 
-  // Every schedule; it may take long, and `stop` ends it.
+  // Every schedule; it may take long, and `stop_exploring` ends it.
   async explore(how) {
     this.other.put(FILES.image, this.library.files.get(FILES.image));
     return explored_of((await this.get(this.explore_words(how), this.other)).out);
   }
 
-  // A shortest schedule that shows what the row says, as a script, with the row that it shows.
+  // A shortest schedule that shows what the row says, with the row that it shows.
   async witness(how, seen) {
     this.other.put(FILES.image, this.library.files.get(FILES.image));
     const words = [...this.explore_words(how), '--find', [seen.what, seen.task, seen.word].join().replace(/,+$/, ''),
       '--trace', FILES.witness];
     const found = explored_of((await this.get(words, this.other)).out).seen[0];
-    this.library.put(FILES.witness, this.other.files.get(FILES.witness));
-    return { found, steps: await this.leading(FILES.witness) };
+    return { found, ...await this.follow(this.other.files.get(FILES.witness)) };
   }
 
   stop() {
+    this.library.stop();
+  }
+
+  stop_exploring() {
     this.other.stop();
   }
 
-  // A trace that was opened, as the script that leads to it.
-  async opened(bytes) {
-    this.library.put(FILES.opened, bytes);
-    return this.leading(FILES.opened);
+  // The files as they are, and as they were: for a change that fails.
+  files() {
+    return new Map(this.library.files);
+  }
+
+  restore(files) {
+    this.library.restore(files);
   }
 
   file(name) {

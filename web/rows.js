@@ -4,6 +4,8 @@ export const lines_of = (text) => (text === '' ? [] : text.replace(/\n$/, '').sp
 
 const number_or = (field, none) => (field === '' || field === undefined ? none : Number(field));
 
+export const TRACE_COLUMNS = 'kind,unit,arg,local,ask,reply,addr,word,served,from,cause,first,squashed';
+
 // A row of a trace: an entry.
 export function entry_of(row) {
   const f = row.split(',');
@@ -15,9 +17,9 @@ export function entry_of(row) {
   };
 }
 
-// What a script's steps were answered, and the summary behind them.
+// What a script's steps were answered.
 export function played_of(text, steps) {
-  const lines = lines_of(text), answers = lines.slice(0, steps), entries = [], step_of = [], refused = [];
+  const answers = lines_of(text).slice(0, steps), entries = [], step_of = [], refused = [];
   answers.forEach((it, step) => {
     if (it.startsWith('refused,')) refused.push({ step, why: it.slice(8) });
     else if (it === 'none') refused.push({ step, why: 'none' });
@@ -26,7 +28,13 @@ export function played_of(text, steps) {
       step_of.push(step);
     }
   });
-  return { answers, entries, step_of, refused, summary: lines.slice(steps) };
+  return { answers, entries, step_of, refused };
+}
+
+// The same of a trace, whose every row is the answer to a step.
+export function sound_of(trace) {
+  const answers = lines_of(trace).slice(1);
+  return { answers, entries: answers.map(entry_of), step_of: [...answers.keys()], refused: [] };
 }
 
 // The machine at a moment: the rows of `show`.
@@ -103,31 +111,24 @@ export function summary_of(lines) {
   return it;
 }
 
-// A listing: its instructions, which of them begin a task, and how many words of data there are.
+// A listing: its instructions, which of them begin a task, and its words of data, each with the name that the library tells.
 export function listing_of(text) {
-  const code = [];
-  let is_entry = false, words = 0;
+  const code = [], words = [];
+  let is_entry = false, is_data = false;
   for (const line of lines_of(text)) {
+    if (line === '.data') is_data = true;
     if (line === '.svc_entry' || line.startsWith('.svc_entry ')) is_entry = true;
-    const parts = /^(.*)\t# (0x[0-9a-f]{8})( [0-9a-f]{8})?/.exec(line);
+    const parts = /^(.*)\t# (0x[0-9a-f]{8})(.*)$/.exec(line);
     if (!parts) continue;
-    if (!parts[3]) { words++; continue; }
-    code.push({ address: Number(parts[2]), text: parts[1], is_entry });
+    const notes = parts[3].trim().split(' ');
+    if (is_data) {
+      words.push({ name: notes[0] });
+      continue;
+    }
+    code.push({ address: Number(parts[2]), text: parts[1].trim(), is_entry, name: notes[1] ?? '' });
     is_entry = false;
   }
   return { code, words };
-}
-
-// A table of names: of addresses of the text, and of words of the data.
-const DATA = 0x00100000;
-export function names_of(text) {
-  const text_names = new Map(), words = new Map();
-  for (const row of lines_of(text).slice(1)) {
-    const [name, address] = row.split(','), at = Number(address);
-    if (at < DATA) { if (!text_names.has(at)) text_names.set(at, name); }
-    else if (at % 4 === 0 && !words.has((at - DATA) / 4)) words.set((at - DATA) / 4, name);
-  }
-  return { text: text_names, words };
 }
 
 // A fault of a text: its line and column, and what it says.

@@ -34,7 +34,7 @@ function said_of_load(session, it, task, before) {
 
 function said_of_assign(session, it, task, before) {
   const others = before.tasks.map((one) => one.task);
-  return SAYS.begins(TEXTS.Unit(it.unit), TEXTS.task(task), entry_html(session, it.value),
+  return SAYS.begins(TEXTS.Unit(it.unit), TEXTS.task(task), entry_html(session, it.value), it.value === before.guess,
     others.length ? SAYS.still(others) : '');
 }
 

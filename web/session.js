@@ -1,23 +1,24 @@
-// What is open: a program, a machine, a script and a moment of it, with what the library has answered about them. Each change is a job;
-// jobs run one after another, and what is drawn is always of one moment.
+// What is open: a program, a script and a moment of it, with what the library has answered about them. Each change is a job; jobs run
+// one after another, and what is drawn is always of one moment. A job that fails or is stopped leaves all as it was.
 
-import { Stopped } from './library.js';
-
-const KEPT_MOMENTS = 400;
+const KEPT_MOMENTS = 400, SHOWN_WORDS = 64, LONG_JOB = 500;
+const STATE = ['lesson', 'text', 'steps', 'k', 'word', 'fault', 'listing', 'words', 'sequential', 'has_image',
+  'image_count', 'needed', 'played', 'drawing', 'moments', 'seen', 'costs', 'undo_list', 'redo_list', 'witness'];
 
 export class Session {
-  // `draw` shows the session; `tell` says what went wrong.
-  constructor(requests, draw, tell) {
-    Object.assign(this, { requests, draw, tell });
+  // `draw` shows the session, `tell` says what went wrong, and `wait` whether something takes long.
+  constructor(requests, { draw, tell, wait }) {
+    Object.assign(this, { requests, draw, tell, wait });
     Object.assign(this,
       { lesson: '', text: '', steps: [], k: 0, word: 0, by: { order: 'youngest', seed: 0, burst: 63 } });
-    Object.assign(this, { fault: null, names: null, listing: [], sequential: null, has_image: false, image_count: 0 });
+    Object.assign(this, { fault: null, listing: [], words: [], sequential: null, has_image: false, image_count: 0 });
     Object.assign(this, { undo_list: [], redo_list: [], witness: -1, jobs: Promise.resolve(), wanted: null, busy: 0 });
     this.forget();
   }
 
+  // Forgets what was answered about a trace.
   forget() {
-    this.played = { answers: [], entries: [], step_of: [], refused: [], summary: [] };
+    this.played = { answers: [], entries: [], step_of: [], refused: [] };
     this.drawing = { bars: [], marks: [], arrows: [] };
     this.moments = new Map();
     this.seen = null;
@@ -32,16 +33,46 @@ export class Session {
     return this.played.entries;
   }
 
-  // Runs a job when those before it are done. A fault or a stop leaves what was there.
+  // ---- jobs
+
+  // Runs a job when those before it are done.
   job(what) {
     this.busy++;
-    this.jobs = this.jobs.then(what).catch((why) => {
-      if (!(why instanceof Stopped)) this.tell(why);
-    }).then(() => {
+    this.jobs = this.jobs.then(() => this.guarded(what)).then(() => {
       this.busy--;
       return this.draw();
-    });
+    }).catch(this.tell);
     return this.jobs;
+  }
+
+  async guarded(what) {
+    const before = this.state(), clock = setTimeout(() => this.wait(true), LONG_JOB);
+    try {
+      await what();
+    } catch (why) {
+      this.restore(before);
+      this.tell(why);
+    } finally {
+      clearTimeout(clock);
+      this.wait(false);
+    }
+  }
+
+  state() {
+    return { fields: Object.fromEntries(STATE.map((it) => [it, this[it]])), config: { ...this.config },
+      by: { ...this.by }, files: this.requests.files() };
+  }
+
+  restore({ fields, config, by, files }) {
+    Object.assign(this, fields);
+    Object.assign(this.config, config);
+    Object.assign(this.by, by);
+    this.requests.restore(files);
+  }
+
+  // Ends what takes long.
+  stop() {
+    this.requests.stop();
   }
 
   // What is asked beside the jobs. While one of them changes the files, the answer may be of files that don't belong
@@ -60,21 +91,17 @@ export class Session {
 
   // ---- the program
 
-  // Assembles the text; where that makes an image, the script is played again on it.
+  // Assembles the text, and says whether that makes an image.
   async assemble() {
-    const it = await this.requests.assemble(this.text);
-    this.fault = it.fault ?? null;
+    this.fault = await this.requests.assemble(this.text);
     if (this.fault) return false;
-    this.names = it.names;
-    this.has_image = true;
-    this.image_count++;
-    this.needed = null;
     const { code, words } = await this.requests.list();
-    Object.assign(this, { listing: code, words });
+    Object.assign(this, { has_image: true, image_count: this.image_count + 1, needed: null, listing: code, words });
     this.sequential = await this.requests.sequential();
     return true;
   }
 
+  // Takes another text; where it makes an image, the script is played again on it.
   edit(text) {
     return this.job(async () => {
       this.text = text;
@@ -88,39 +115,43 @@ export class Session {
       Object.assign(this, { lesson, text, undo_list: [], redo_list: [], witness: -1, word: 0 });
       Object.assign(this.config, config);
       Object.assign(this.by, by);
-      if (!(await this.assemble())) {
-        this.has_image = false;
-        this.listing = [];
-        this.forget();
-        return;
-      }
-      await this.play(steps ?? await this.requests.run([], this.by), k ?? 0);
+      this.forget();
+      if (await this.assemble()) return steps ? this.play(steps, k ?? 0)
+        : this.take(await this.requests.run([], this.by), k ?? 0);
+      Object.assign(this, { has_image: false, steps: [], k: 0, listing: [], words: [] });
     });
   }
 
   set_config(config) {
     return this.job(async () => {
-      const old = { ...this.config };
       Object.assign(this.config, config);
-      try {
-        await this.play(this.steps, this.k);
-      } catch (why) {
-        Object.assign(this.config, old);
-        throw why;
-      }
+      await this.play(this.steps, this.k);
     });
   }
 
   // ---- the script
 
-  // Plays these steps; the moment is after so many entries, or as many as there are.
+  // Plays a script; the moment is after so many entries, or as many as there are.
   async play(steps, k) {
-    if (!this.has_image) return;
-    const played = await this.requests.play(steps);
+    if (this.has_image) await this.take(await this.requests.play(steps), k);
+  }
+
+  // Takes a script that was played. The moments before its first new entry stay as they were.
+  async take({ steps, played }, k) {
+    const machine = this.machine_key(), kept = machine === this.machine_of ? this.moments_before(played.entries) : [];
     this.forget();
-    Object.assign(this, { steps, played });
+    Object.assign(this, { steps, played, machine_of: machine, moments: new Map(kept) });
     if (played.entries.length) this.drawing = await this.requests.draw(0, played.entries.length);
     await this.move_to(Math.min(k, played.entries.length));
+  }
+
+  machine_key() {
+    return [this.image_count, ...Object.values(this.config)].join();
+  }
+
+  moments_before(entries) {
+    const differs = entries.findIndex((it, n) => it.row !== this.entries[n]?.row);
+    return [...this.moments].filter(([n]) => n <= (differs < 0 ? entries.length : differs));
   }
 
   // The steps up to the one that made the last entry shown.
@@ -128,35 +159,33 @@ export class Session {
     return k ? this.steps.slice(0, this.played.step_of[k - 1] + 1) : [];
   }
 
-  // Plays other steps, which undo takes back.
-  async change(steps, k, witness = -1) {
+  // Takes other steps, which undo takes back.
+  async change(made, k, witness = -1) {
     const before = { steps: this.steps, k: this.k, witness: this.witness };
-    await this.play(steps, k);
-    this.undo_list.push(before);
-    this.redo_list = [];
-    this.witness = witness;
+    await this.take(made, k);
+    Object.assign(this, { undo_list: [...this.undo_list, before], redo_list: [], witness });
   }
 
   rewrite(steps, k) {
-    return this.job(() => this.change(steps, k));
+    return this.job(async () => this.change(await this.requests.play(steps), k));
   }
 
+  // Goes back to the last of one list; what was there goes to the other one.
   back(from, to) {
     return this.job(async () => {
-      if (!from.length) return;
-      to.push({ steps: this.steps, k: this.k, witness: this.witness });
-      const it = from.pop();
+      const it = this[from].at(-1), now = { steps: this.steps, k: this.k, witness: this.witness };
+      if (!it) return;
       await this.play(it.steps, it.k);
-      this.witness = it.witness;
+      Object.assign(this, { [from]: this[from].slice(0, -1), [to]: [...this[to], now], witness: it.witness });
     });
   }
 
   undo() {
-    return this.back(this.undo_list, this.redo_list);
+    return this.back('undo_list', 'redo_list');
   }
 
   redo() {
-    return this.back(this.redo_list, this.undo_list);
+    return this.back('redo_list', 'undo_list');
   }
 
   // The script's next step, if there is one.
@@ -165,33 +194,33 @@ export class Session {
     return next === undefined ? null : this.steps[next];
   }
 
-  // Makes a move: the script's next one is only stepped over. It answers a refusal, or nothing.
+  // Makes a move: the script's next one is only stepped over.
   make(move, is_hidden) {
     if (!is_hidden && move === this.next_step()) return this.go(this.k + 1);
     return this.job(async () => {
-      const [it] = await this.requests.try_moves(this.front(), [move]);
-      if (it.refusal) throw new Refused(it.refusal);
-      await this.change([...this.front(), move], this.k + 1);
+      const made = await this.requests.play([...this.front(), move]), last = made.played.refused.at(-1);
+      if (last?.step === made.steps.length - 1) throw new Refused(last.why);
+      await this.change(made, this.k + 1);
     });
   }
 
   run(is_on) {
     return this.job(async () => {
-      const front = is_on ? this.front() : [], steps = await this.requests.run(front, this.by);
-      await this.change(steps, is_on ? this.k : 0);
+      const made = await this.requests.run(is_on ? this.front() : [], this.by);
+      await this.change(made, is_on ? this.k : 0);
     });
   }
 
   load_trace(bytes) {
-    return this.job(async () => this.change(await this.requests.opened(bytes), 0));
+    return this.job(async () => this.change(await this.requests.follow(bytes), 0));
   }
 
   async load_witness(at, seen) {
     let row = null;
     await this.job(async () => {
-      const { found, steps } = await this.requests.witness(this.limits(), seen);
-      await this.change(steps, steps.length, at);
-      row = found;
+      const made = await this.requests.witness(this.limits(), seen);
+      await this.change(made, made.steps.length, at);
+      row = made.found;
     });
     return row;
   }
@@ -222,17 +251,17 @@ export class Session {
     this.k = k;
   }
 
+  // Each moment is asked for once; those that were looked at last are kept.
   async moment(k) {
-    if (this.moments.has(k)) return this.moments.get(k);
-    const it = await this.requests.show(k, this.shown_words());
-    if (this.moments.size > KEPT_MOMENTS) this.moments.delete(this.moments.keys().next().value);
+    const it = this.moments.get(k) ?? { ...await this.requests.show(this.entries.slice(0, k), this.shown_words()), tried: new Map() };
+    this.moments.delete(k);
     this.moments.set(k, it);
-    return it;
+    if (this.moments.size > KEPT_MOMENTS) this.moments.delete(this.moments.keys().next().value);
   }
 
   // Memory is shown of the first words of the data.
   shown_words() {
-    return Math.min(this.words ?? 0, 64);
+    return Math.min(this.words.length, SHOWN_WORDS);
   }
 
   // The machine now, and before the last entry shown.
@@ -244,35 +273,24 @@ export class Session {
     return this.moments.get(Math.max(0, this.k - 1)) ?? EMPTY;
   }
 
-  // The moves at this moment, each with its refusal or none: rows of the library, or what it answers where each is tried. None where
-  // something else is to be done first.
-  async moves() {
-    const k = this.k, now = this.now(), played = this.played;
-    if (now.answered?.burst === this.by.burst) return now.answered.list;
-    const wanted = this.candidates(now);
-    const told = new Map(now.moves.map((it) => [`${it.kind},${it.unit},${it.arg}`, it.refusal]));
-    const untold = wanted.filter((it) => !told.has(it));
+  // Tries what the rows of the moves don't tell: bursts of more than one turn, where one turn is accepted. It is given up, and answers
+  // false, where something else is to be done.
+  async try_bursts() {
+    const now = this.now(), front = this.front(), played = this.played;
     const goes_on = () => this.wanted === null && this.busy === 0 && played === this.played;
-    const tried = await this.beside(() => this.requests.try_moves(this.front(k), untold, goes_on), null);
-    if (!tried) return null;
-    for (const it of tried) told.set(it.move, it.refusal);
-    const found = wanted.map((move) => ({ move, refusal: told.get(move) }));
-    now.answered = { burst: this.by.burst, list: found };
-    return found;
+    for (const move of this.bursts_to_try(now)) {
+      if (!goes_on()) return false;
+      const refusal = await this.beside(() => this.requests.try_move(front, move), null);
+      if (refusal === null) return false;
+      now.tried.set(move, refusal);
+    }
+    return goes_on();
   }
 
-  candidates(now) {
-    const others = this.entry_addresses().filter((it) => String(it) !== now.guess);
-    const list = [];
-    for (let unit = 0; unit < this.config.units; unit++) {
-      if (now.guess !== '') list.push(`assign,${unit},${now.guess}`);
-      for (const turns of this.bursts()) list.push(`submit,${unit},${turns}`);
-      for (const it of now.lines) if (it.unit === unit) list.push(`replace,${unit},${it.word}`);
-      list.push(`cancel,${unit},`);
-      if (others.length <= 4) for (const it of others) list.push(`assign,${unit},${it}`);
-    }
-    if (now.tasks.length) list.push(`commit,${now.tasks[0].unit},`);
-    return [...new Set(list)];
+  bursts_to_try(now) {
+    const units = now.moves.filter((it) => it.kind === 'submit' && !it.refusal).map((it) => it.unit);
+    return units.flatMap((unit) => this.bursts().slice(1).map((turns) => `submit,${unit},${turns}`))
+      .filter((it) => !now.tried.has(it));
   }
 
   // By how many turns a task may be run on: one, as many as the machine's burst says, or as many as there are to the next bus request.
@@ -292,15 +310,13 @@ export class Session {
 
   // What this trace shows, as observations with their entries.
   async observed() {
-    if (!this.seen) {
-      const played = this.played;
-      const list = this.entries.length ? await this.beside(() => this.requests.observed(), null) : [];
-      if (!list) return new Map();
-      const seen = new Map(list.map((it) => [it.key, Number(it.steps)]));
-      if (played === this.played) this.seen = seen;
-      return seen;
-    }
-    return this.seen;
+    if (this.seen) return this.seen;
+    const played = this.played;
+    const list = this.entries.length ? await this.beside(() => this.requests.observed(), null) : [];
+    if (!list) return new Map();
+    const seen = new Map(list.map((it) => [it.key, Number(it.steps)]));
+    if (played === this.played) this.seen = seen;
+    return seen;
   }
 
   // What the tasks of the sequential run need of one another.
@@ -312,7 +328,7 @@ export class Session {
   async cost() {
     if (this.costs) return this.costs;
     const played = this.played, costs = {};
-    for (const by of ['task', 'word', 'unit']) {
+    for (const by of ['task', 'word', 'unit', 'pc']) {
       costs[by] = await this.beside(() => this.requests.profile(by), null);
       if (!costs[by]) return null;
     }
@@ -322,7 +338,7 @@ export class Session {
 }
 
 const EMPTY = { tasks: [], lines: [], spills: [], memory: [], pcs: [], registers: [], orders: [], moves: [],
-  ending: ['open', ''], due: '', guess: '' };
+  ending: ['open', ''], due: '', guess: '', tried: new Map() };
 
 // A move that the machine refuses.
 export class Refused extends Error {

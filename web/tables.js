@@ -2,6 +2,7 @@
 
 import { $, escaped, set_html } from './html.js';
 import { entry_html, word_html } from './names.js';
+import { TRACE_COLUMNS } from './rows.js';
 import { TEXTS } from './texts.js';
 
 export const TABS = ['all', 'trace', 'script', 'cost', 'needs'];
@@ -86,14 +87,12 @@ function row_of(session, at, cells) {
   return `<tr data-k="${at + 1}" class="${kind}"><td>${at}</td>${cells.map((it) => `<td>${escaped(it)}</td>`).join('')}</tr>`;
 }
 
-const COLUMNS = 'kind,unit,arg,local,ask,reply,addr,word,served,from,cause,first,squashed'.split(',');
-
 function draw_trace(session, limit) {
   const { from, to, note } = around(session, limit);
   const rows = session.entries.slice(from, to).map((it, n) => row_of(session, from + n, it.row.split(','))).join('');
   set_html($('p-trace'),
     scrolled(TEXTS.trace,
-      `<table class="rows"><thead><tr><th></th>${COLUMNS.map((it) => `<th>${it}</th>`).join('')}</tr></thead><tbody>${rows}</tbody></table>`)
+      `<table class="rows"><thead><tr><th></th>${TRACE_COLUMNS.split(',').map((it) => `<th>${it}</th>`).join('')}</tr></thead><tbody>${rows}</tbody></table>`)
       + note);
 }
 
@@ -132,7 +131,8 @@ async function draw_cost(session, predict) {
   const part = (title, it) => `<h3>${title}</h3>${table({ head: it.head, rows: it.rows.slice(0, 500) })}`;
   set_html($('p-cost'),
     scrolled(TEXTS.cost,
-      part(TEXTS.by_task, costs.task) + part(TEXTS.by_word_table, costs.word) + part(TEXTS.by_unit, costs.unit)));
+      part(TEXTS.by_task, costs.task) + part(TEXTS.by_word_table, costs.word) + part(TEXTS.by_unit, costs.unit)
+        + part(TEXTS.by_pc, costs.pc)));
 }
 
 async function draw_needs(session) {

@@ -2,15 +2,17 @@
 
 const many = (count, one, more) => `${count} ${count === 1 ? one : more}`;
 
+const REGISTERS = ('zero ra sp gp tp t0 t1 t2 s0 s1 a0 a1 a2 a3 a4 a5 a6 a7 s2 s3 s4 s5 s6 s7 s8 s9 s10 s11 t3 t4 t5 t6').split(' ');
+
 export const TEXTS = {
   title: 'svcsim: speculative runs, step by step',
   skip: 'To the moment shown',
   lesson: 'Program',
   predict: 'Predict', predict_title: 'The next entry is hidden until you have said what it will do',
   link: 'Link', link_title: 'A link that carries the program and the script in its fragment', copied: 'Copied',
-  save: 'Save', save_title: 'Program, image, script, trace or picture, as a file',
+  save: 'Save', save_title: 'Program, image, script, trace, picture or a file for a viewer',
   save_program: 'Program (.s)', save_image: 'Image (.svci)', save_script: 'Script (.csv)', save_trace: 'Trace (.csv)',
-  save_picture: 'Picture (.svg)',
+  save_picture: 'Picture (.svg)', save_chrome: 'Trace for Perfetto (.json)', save_vcd: 'Waves for GTKWave (.vcd)',
   open: 'Open', open_title: 'A program, a script or a trace, from a file',
   projector: 'Projector', projector_title: 'Larger type, the program below', dark: 'Dark', dark_label: 'Dark colours',
     keys: 'Keys',
@@ -39,18 +41,20 @@ export const TEXTS = {
   keys_list: [['Left, Right', 'one entry back, on (while you predict, on means: ask)'],
     ['Home, End', 'first, last entry'],
     ['N', 'next event of note'], ['P', 'predict on or off'], ['1 to 9', 'answer a question'],
+    ['Escape', 'end what takes long'],
     ['Ctrl Z, Ctrl Shift Z', 'undo, redo a change of the script (not a move of the slider)']],
 
   opening: 'Opening the library…', working: 'Working…',
   needs_wide_memory: 'This page needs a browser with 64-bit WebAssembly memories: Chrome or Chromium from 133, Edge from 133, or Firefox from 134.',
   broken: (why) => `The library stopped: ${why}. A fresh one was begun; what you did is kept.`,
-  stopped: 'Stopped.', stop: 'Stop',
+  stopped: 'Stopped.', stop: 'Stop', takes_long: 'This takes long.',
+  stopped_job: 'Stopped: all is as it was before.',
 
   // the program
   assembles: (name) => `✓ ${name} assembles.`,
   fault_at: (line, column, says) => `<b>Line ${line}, column ${column}:</b> ${says}`,
   fault: (says) => `<b>No image:</b> ${says}`,
-  shown_is_old: ' What is shown is of the last text that assembled.',
+  shown_is_old: '. What is shown is of the last text that assembled.', go_there: 'Go there',
   ran: (count, order) => `${many(count, 'entry', 'entries')}, by ${order}.`,
   refused_steps: (count, total) =>
     `${count} of ${many(total, 'step', 'steps')} ${count === 1 ? 'is' : 'are'} refused on this machine; see Script.`,
@@ -71,8 +75,8 @@ export const TEXTS = {
   nothing_yet_predict: ' Step on, and say what comes.',
   nothing_yet_hint: 'Step with the button, the slider or the arrow keys; or make a move by hand below.',
   says: {
-    begins: (unit, task, entry, others) => `${unit} begins <b>${task}</b> at ${entry}`
-      + (others ? `, as guessed, while ${others} still active.` : '.'),
+    begins: (unit, task, entry, is_guess, others) => `${unit} begins <b>${task}</b> at ${entry}`
+      + (!is_guess ? ', which isn’t the guess' : others ? ', as guessed' : '') + (others ? `, while ${others} still active.` : '.'),
     still: (list) => `${TEXTS.tasks(list)} ${list.length === 1 ? 'is' : 'are'}`,
     loads: (task, word, value, by) => `<b>${task}</b> loads ${word} and gets <b>${value}</b>: ${by}.`,
     by_version: (task, unit) =>
@@ -145,8 +149,8 @@ export const TEXTS = {
   untouched: 'has not touched it, or no longer holds it', no_task: 'No task is active.',
   versions_key: 'Oldest above, youngest below. <b>■</b> a version, <b>○</b> a copy or nothing, <b>◆</b> the head.',
   memory_head: ['word', 'memory', 'committed'], differs: 'memory itself differs',
-    no_row: '– : in no cache, so <code>show</code> prints no row.',
-  more_words: (count) => `… and ${many(count, 'word', 'words')} more that no cache holds.`,
+    no_row: '– : beyond the first words, and in no cache: no row tells it.',
+  more_words: (count) => `… and ${many(count, 'word', 'words')} more that the run leaves alone.`,
   spilled: (word, value, task) => `spilled: ${word} = <b>${value}</b>, kept until ${task} is committed`,
   this_run: 'this run', sequential: 'sequential', nothing: 'nothing yet', waits: (task) => `waits for task ${task}`,
   same: '✓ The same, as proved for every run.',
@@ -160,7 +164,9 @@ export const TEXTS = {
     begin_elsewhere: 'Begin elsewhere', one_turn: 'One turn',
   to_bus: 'To bus request', up_to: (n) => `Up to ${many(n, 'turn', 'turns')}`, commit: 'Commit', cancel: 'Cancel',
     let_go: (word) => `Let go of ${word}`, next: 'next in the script',
-  running: 'running', ended: 'ended', turns: (n) => many(n, 'turn', 'turns'), pc: (address) => `pc ${address}`,
+  running: 'running', ended: 'ended', turns: (n) => many(n, 'turn', 'turns'), pc: (address) => `at ${address}`,
+  unit_label: (n) => `Unit ${n}`, registers: 'Registers:',
+  register: (name) => `${REGISTERS[name.slice(1)] ?? name} (${name})`,
   refusal: { 1: 'there is no such unit', 2: 'the unit has a task', 3: 'the unit has no task',
     4: 'the burst doesn’t start where the task is',
     5: 'the burst isn’t of this image', 6: 'the guess is no entry, and a task is active', 7: 'the run has stopped',
@@ -196,7 +202,7 @@ export const TEXTS = {
   script_says: 'The buttons write this script; it is what is saved, and what a link carries. Edit it here, one step a line.',
     apply: 'Apply', script_label: 'Script, one step a line: kind,unit,arg',
   answer_head: ['step', 'answer'], rows_left_out: (count) => `${count} rows are left out here; Save has them all.`,
-  by_task: 'By task', by_word_table: 'By word', by_unit: 'By unit',
+  by_task: 'By task', by_word_table: 'By word', by_unit: 'By unit', by_pc: 'By instruction',
     needs_says: 'What the tasks of the sequential run need of one another (<code>depend</code>), by task and by pair.',
   lessons: {
     violation: 'Read too early', handed_on: 'A version handed on', wrong_guess: 'Wrong guesses', full_set: 'A full set',

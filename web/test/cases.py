@@ -28,11 +28,11 @@ async function row_is(row) {
     await library.ask(['assemble', `${name}.s`, name]);
   }
   for (const [name, file] of Object.entries(row.files)) library.put(name, bytes_of(file));
-  const got = await library.ask(row.words), names = Object.keys(got.saved), bad = [];
+  const got = await library.ask(row.words), names = Object.keys(got.saved).sort(), bad = [];
   if (got.status !== row.status) bad.push(`status ${got.status}`);
   if (!fits(coder.encode(got.out), row.out, '...\n')) bad.push('standard output');
   if (!fits(coder.encode(got.err.replace(/\n$/, '')), row.err, '...')) bad.push(`standard error (${got.err.trim()})`);
-  const wanted = Object.keys(row.saved);
+  const wanted = Object.keys(row.saved).sort();
   if (names.join() !== wanted.join() || wanted.some((it) => !same(got.saved[it], bytes_of(row.saved[it])))) bad.push(`saved ${names.join()}`);
   for (const it of [...names, ...Object.keys(row.files), ...Object.keys(row.assemble)]) library.drop(it);
   return bad;
@@ -89,14 +89,14 @@ def row_of(row, data, made):
             texts[it] = encoded(bytes_of(f"{data}/{it[:-5]}.s"))
         elif os.path.isfile(f"{data}/{it}"):
             files[it] = encoded(bytes_of(f"{data}/{it}"))
-    name, _, saved = row["saved"].partition("=")
+    saved = dict(it.split("=") for it in row["saved"].split())
     return {
         "name": row["name"],
         "words": words,
         "status": int(row["status"]),
         "out": encoded(bytes_of(f"{data}/{row['out']}")) if row["out"] else None,
         "err": encoded(row["err"].encode()) if row["err"] else None,
-        "saved": {name: encoded(bytes_of(f"{data}/{saved}"))} if name else {},
+        "saved": {name: encoded(bytes_of(f"{data}/{it}")) for name, it in saved.items()},
         "files": files,
         "assemble": texts,
     }

@@ -1,5 +1,6 @@
 """Does what a student does on a built page, and looks at what the page then says:
 student.py PAGE.html [FOLDER-FOR-SCREENSHOTS]"""
+import json
 import os
 import sys
 import tempfile
@@ -23,6 +24,8 @@ ecall
 .data
 word: .word 0
 """
+# The same with more loads and stores than a run may have entries.
+ENDLESS = COUNTING.replace("1700", "60000")
 DATA = f"{os.path.dirname(os.path.abspath(__file__))}/../../crates/svc_cases/data"
 SECTIONS = []
 
@@ -97,13 +100,68 @@ def a_fault_is_underlined(page):
     assert page.get("svcsim.session.sequential.out.join()") == "9"
 
 
+def is_refused(page, move):
+    return page.get("document.querySelector(`[data-move='${arguments[0]}']`).getAttribute('aria-disabled') === 'true'", move)
+
+
+@section
+def the_fault_is_gone_to(page):
+    opened(page)
+    text = page.get("document.querySelector('#src').value").replace("lw a0", "lww a0")
+    page.choose("#src", text)
+    page.wait("document.querySelector('#bfault')", "the fault is told")
+    page.click("#bfault")
+    at = page.get("document.activeElement.id === 'src' ? document.activeElement.selectionStart : -1")
+    assert text[at:].startswith("lww"), at
+
+
+@section
+def names_are_those_of_the_text(page):
+    opened(page)
+    for _ in range(6):
+        page.click("#bf")
+    says(page, "Task 0 stores 7 to word,")
+    assert "task 0 @ store" in page.text("#svgbox"), page.text("#svgbox")
+    names = page.get("[...document.querySelectorAll('#listing tr')].map((it) => it.cells[1].textContent).filter(Boolean).join()")
+    assert names == "name,store,load", names
+    opened(page, "sum")
+    words = page.get("[...document.querySelectorAll('#mem tbody tr')].map((it) => it.cells[0].textContent).join()")
+    assert words == "sum,left,right", words
+    page.click("#t-cost")
+    page.wait("document.querySelectorAll('#p-cost h3').length === 4", "all four tables are there")
+    assert "violations-suffered\tname" in page.text("#p-cost"), page.text("#p-cost")
+    page.click("#t-all")
+
+
+@section
+def units_versions_and_registers(page):
+    opened(page)
+    for _ in range(2):
+        page.click("#bf")
+    here = "[...document.querySelectorAll('#listing .here')].map((it) => it.cells[0].textContent.trim() + ' ' + it.cells[2].textContent).join()"
+    assert page.get(here) == "u0 0000,u1 0008", page.get(here)
+    page.click("#bf")
+    assert page.get(here) == "u0 0000,u1 000c", page.get(here)
+    page.click("#bf")
+    assert "a7 (x17) = 1" in page.text("#units"), page.text("#units")
+    opened(page, "four")
+    page.press(Keys.END)
+    page.choose("#word", "0")
+    order = page.get("svcsim.session.now().orders.find((it) => it.word === 0).holders.map((it) => it[1])")
+    drawn = page.get("[...document.querySelectorAll('#vol .nd span:first-child')].map((it) => it.textContent.replace(/\u00a0/g, ' '))")
+    assert len(drawn) >= len(order) + 1 and drawn[0] == "memory itself", (order, drawn)
+    assert [it.startswith("committed") for it in drawn[1 : len(order) + 1]] == [it == "committed" for it in order], (order, drawn)
+
+
 @section
 def moves_by_hand(page):
     opened(page)
     page.click("#bclear")
     assert entries(page) == 0 and place(page) == 0
-    assert page.get("document.querySelector('[data-move=\"submit,0,63\"]').getAttribute('aria-disabled')") == "true"
-    assert "the unit has no task" in page.text('[data-move="submit,0,63"]')
+    for it in ["submit,0,1", "submit,0,63", "cancel,0,"]:
+        assert is_refused(page, it), it
+        assert "the unit has no task" in page.text(f'[data-move="{it}"]')
+    assert not is_refused(page, "assign,0,0") and not is_refused(page, "assign,1,8")
     for it in ["assign,0,0", "assign,1,8", "submit,1,63", "submit,0,63"]:
         page.click(f'[data-move="{it}"]')
     assert entries(page) == 4 and place(page) == 4
@@ -195,6 +253,32 @@ def an_exploration_is_stopped(page):
 
 
 @section
+def a_refused_burst_is_told(page):
+    opened(page, "full_set")
+    found = page.ask("""const done = arguments[0]; (async () => {
+      const { session } = svcsim;
+      for (let k = 0; k <= session.entries.length; k++) {
+        await session.go(k);
+        await session.try_bursts();
+        const at = [...session.now().tried].find(([, refusal]) => refusal !== '');
+        if (at) return done([k, at[0]]);
+      }
+      done(null); })()""")
+    if found:
+        page.settle()
+        assert is_refused(page, found[1]), found
+
+
+@section
+def a_program_by_its_name(page):
+    for it, units in [("early", 3), ("full", 2)]:
+        page.open(f"#program={it}")
+        page.settle()
+        assert page.get("[svcsim.session.lesson, svcsim.session.config.units]") == [it, units]
+        assert page.get("document.querySelector('#lesson').value") == it
+
+
+@section
 def a_link_is_opened(page):
     opened(page, "full_set")
     page.press(Keys.END)
@@ -213,9 +297,10 @@ def a_link_is_opened(page):
 def files_are_saved_and_opened(page):
     opened(page, "handed_on")
     wanted, steps = page.get("svcsim.session.entries.map((it) => it.row).join('\\n')"), page.get("svcsim.session.steps.join('\\n')")
-    for it in ["program", "image", "script", "trace", "picture"]:
+    for it in ["program", "image", "script", "trace", "picture", "chrome", "vcd"]:
         page.click(f"[data-save={it}]")
-    names = [f"handed_on{it}" for it in [".s", ".svci", ".events.csv", ".trace.csv", ".svg"]]
+    ends = [".s", ".svci", ".events.csv", ".trace.csv", ".svg", ".trace.json", ".vcd"]
+    names = [f"handed_on{it}" for it in ends]
     end = time.time() + 20
     while time.time() < end and not all(os.path.isfile(f"{page.folder}/{it}") for it in names):
         time.sleep(0.1)
@@ -231,12 +316,17 @@ def files_are_saved_and_opened(page):
     assert page.get("svcsim.session.steps.join('\\n')") == steps
     with open(f"{page.folder}/handed_on.svg", encoding="utf-8") as it:
         assert "<svg" in it.read(), "a picture"
+    with open(f"{page.folder}/handed_on.trace.json", encoding="utf-8") as it:
+        events = json.load(it)["traceEvents"]
+    assert {"load", "store", "commit"} <= {it["name"] for it in events}, "events for Perfetto"
+    with open(f"{page.folder}/handed_on.vcd", encoding="utf-8") as it:
+        assert "$enddefinitions" in it.read(), "waves"
 
 
 @section
 def every_program_of_the_menu_runs(page):
     names = page.get("[...document.querySelector('#lesson').options].map((it) => it.value)")
-    assert len(names) == 11, names
+    assert len(names) == 12, names
     for it in names:
         opened(page, it)
         assert page.text("#edmsg").startswith("✓"), (it, page.text("#edmsg"))
@@ -256,6 +346,17 @@ def a_fresh_library_after_a_failure(page):
     page.click("#bf")
     assert place(page) == 3
     says(page, "Entry 2")
+
+
+@section
+def a_browser_without_wide_memories_is_told(page):
+    source = {"source": "WebAssembly.validate = () => false"}
+    added = page.driver.execute_cdp_cmd("Page.addScriptToEvaluateOnNewDocument", source)
+    page.driver.get("about:blank")
+    page.driver.get(f"file://{page.file}")
+    page.driver.execute_cdp_cmd("Page.removeScriptToEvaluateOnNewDocument", added)
+    page.wait("document.querySelector('#say .fault')", "the page says what it needs", 20)
+    says(page, "64-bit WebAssembly memories")
 
 
 @section
@@ -290,14 +391,34 @@ def a_long_run(page):
     assert count >= 5000, count
     page.ask("const done = arguments[0]; svcsim.session.go(5000).then(done)")
     page.settle()
-    times = page.ask("""const done = arguments[0]; (async () => { const all = [];
+    times, calls, asked = page.ask("""const done = arguments[0]; (async () => { const all = [], { library } = svcsim.requests;
+      let calls = 0, asked = 0;
       for (let n = 0; n < 12; n++) {
-        const begun = performance.now();
+        const begun = performance.now(), before = library.calls;
         await svcsim.session.go(svcsim.session.k + 1);
         all.push(performance.now() - begun);
+        calls += library.calls - before;
+        asked += library.last.ms;
       }
-      done(all.sort((a, b) => a - b)); })()""")
-    print(f"a step near entry 5,000 of {count}: {times[6]:.0f} ms, at most {times[-1]:.0f} ms")
+      done([all.sort((a, b) => a - b), calls, asked / 12]); })()""")
+    assert calls == 12, f"{calls} calls for 12 steps"
+    print(f"a step near entry 5,000 of {count}: {times[6]:.0f} ms ({times[0]:.0f} to {times[-1]:.0f}), one call of {asked:.0f} ms")
+
+
+@section
+def what_takes_long_is_stopped(page):
+    opened(page)
+    before = page.get("svcsim.session.steps.join(';')")
+    page.choose("#src", ENDLESS)
+    page.wait("document.querySelector('.okline')", "the text assembles")
+    page.settle()
+    page.driver.execute_script("document.querySelector('#brun').click()")
+    page.wait("!document.querySelector('#wait').hidden", "it takes long")
+    page.click("#bhalt")
+    assert "Stopped" in page.text("#mmsg"), page.text("#mmsg")
+    assert page.get("svcsim.session.steps.join(';')") == before
+    page.click("#bf")
+    assert place(page) == 1
 
 
 def overflow(page):

@@ -27,8 +27,8 @@ use Rattle.svc_request.specs.declared.request.Depended.{Depended}
 use Rattle.svc_request.specs.declared.request.Tasks.{Tasks}
 use Rattle.svc_request.specs.declared.request.Traced.{Traced}
 use Rattle.svc_request.specs.Faults.{IsEarly, IsOutputFault, IsReportFault, IsRunFault}
-use Rattle.svc_request.specs.Held.{Held, KeepsAllBut}
-use Rattle.svc_request.specs.Names.{written_by}
+use Rattle.svc_request.specs.Held.{Held, KeepsAllBut, KeepsAllButBoth}
+use Rattle.svc_request.specs.Names.{also_written_by, written_by}
 use Rattle.svc_answer.specs.Named.{AreNamesIn, IsNamedIn}
 use Rattle.svc_answer.specs.Needs.{TellsNeeds}
 use Rattle.svc_answer.specs.Requests.{AreEventsIn, Does, GoesAfter, GoesBy, HasImage, HasScript, IsAnswered, IsOfSource, IsQuiet, IsReady, IsScriptIn, IsTracedIn, IsTraceIn, KeepsFiles, SavesAlone, SavesAnyScript, SavesAnyTrace, Shows, Spares}
@@ -41,6 +41,11 @@ pub all_kept : (name : Option (List ℕ)) (held : Held) → KeepsAllBut name hel
 all_kept None held = refl
 all_kept (Some name) held = λ other differs. refl
 
+-- the same of two
+pub both_kept : (first second : Option (List ℕ)) (held : Held) → KeepsAllButBoth first second held held
+both_kept first None held = all_kept first held
+both_kept first (Some second) held = λ other apart differs. refl
+
 -- a fault before anything is printed or saved
 pub given_up : {O : Type 0} (contents : O → Option (List ℕ)) (asked : Request) (held : Held) (old new : O) (f : Fault)
     → IsEarly f ⊎ HasImage asked held → (IsRunFault f → HasScript asked held) → new ≡ old → IsAnswered contents asked held held old new (Err f)
@@ -49,7 +54,7 @@ given_up contents asked held old new f order machine quiet = record {
   silent = inr quiet;
   order = order;
   machine = machine;
-  kept = all_kept (written_by asked) held;
+  kept = both_kept (written_by asked) (also_written_by asked) held;
   spared = inl refl;
 }
 
@@ -94,7 +99,7 @@ pub answered_reading : {O : Type 0} (contents : O → Option (List ℕ)) (asked 
     → HasImage asked held → HasScript asked held → IfOk r (Does asked held held (contents old) (contents new)) → IfErr r (IsQuiet old new)
     → IsAnswered contents asked held held old new r
 answered_reading contents asked held old new r image script done silent =
-    answered contents asked held held old new r image script done silent (all_kept (written_by asked) held)
+    answered contents asked held held old new r image script done silent (both_kept (written_by asked) (also_written_by asked) held)
     (on_err r (λ f. Spares asked f held held) (λ f. inl refl))
 
 -- what is done of an image and a trace that were loaded

@@ -1,10 +1,16 @@
 -- What it means to assemble a file, and to list an image.
 use Rattle.std.specs.Prelude.{◌≡◌, ℕ, List, Option, IfSome}
+use denote.Ref.{Bor}
 use Rattle.std.specs.Io.KnownBytes.{Appends}
 use Rattle.svc_image.specs.Image.{Image, IsImage}
 use Rattle.svc_image.specs.Format.{file_of}
+use Rattle.svc_asm.specs.Labels.{HasLabels}
 use Rattle.svc_asm.specs.Programs.{IsProgramOf}
 use Rattle.svc_list.specs.Listings.{listing_of}
+use Rattle.svc_names.specs.declared.name.Name.{Name}
+use Rattle.svc_names.specs.declared.names.Names.{Names}
+use Rattle.svc_names.specs.Given.{listed}
+use Rattle.svc_names.specs.Made.{IsTableOf, table_text}
 
 -- the text, if it is known, makes an image
 abbrev pub MakesImage : Option (List ℕ) → Type 0
@@ -18,8 +24,20 @@ pub record Assembles (text file : Option (List ℕ)) (exit : ℕ) : Type 0 where
   pub saved : IfSome file (λ bytes. bytes ≡ file_of image)
   pub status : exit ≡ 0
 
--- what a writer holds has grown by the image's listing, which is a program of the image
-pub record Lists (img : Image) (old new : Option (List ℕ)) (exit : ℕ) : Type 0 where
-  pub text : Appends old new (listing_of img)
-  pub program : IsProgramOf (listing_of img) img
+-- a text of a table is that of the labels of a program's text
+pub record IsTableOfText (text table : List ℕ) : Type 0 where
+  pub labels : List (List ℕ × ℕ)
+  pub has : HasLabels text labels
+  pub names : List Name
+  pub are : IsTableOf labels names
+  pub told : table ≡ table_text names
+
+-- the table of a text's names, if they are known
+abbrev pub SavesNames : (text table : Option (List ℕ)) → Type 0
+SavesNames text table = IfSome text (λ bytes. IfSome table (IsTableOfText bytes))
+
+-- what a writer holds has grown by the image's listing with the names that are given, which is a program of the image
+pub record Lists (names : Option (Bor Names)) (img : Image) (old new : Option (List ℕ)) (exit : ℕ) : Type 0 where
+  pub text : Appends old new (listing_of (listed names) img)
+  pub program : IsProgramOf (listing_of (listed names) img) img
   pub status : exit ≡ 0

@@ -5,6 +5,8 @@ use Rattle.std.specs.Io.KnownBytes.{Appends}
 use Rattle.svc_base.specs.declared.config.Config.{Config}
 use Rattle.svc_image.specs.Image.{Image}
 use Rattle.svc_history_laws.specs.declared.entry.Entry.{Entry}
+use Rattle.svc_instruction_profile.specs.Addresses.{addresses}
+use Rattle.svc_instruction_profile.specs.Rows.{instruction_table}
 use Rattle.svc_profile.specs.Met.{pair_table, supplier_table}
 use Rattle.svc_profile.specs.Profile.{profile_of}
 use Rattle.svc_profile.specs.ProfileRow.{profile_row}
@@ -22,15 +24,17 @@ use Rattle.svc_request.specs.declared.request.Table.TheVariants as table
 use Rattle.svc_answer.specs.Fronts.{IsSoundFront, front}
 
 -- what is printed of a history: its profile, or a table of its tasks, of the configuration's units, of the words that
--- it touches, of its squashes or of the versions that served reads, or the profile as a row of a table
-abbrev pub cost_text : Option Table → Config → List Entry → List ℕ
-cost_text None config es = profile_of es
-cost_text (Some table.Tasks) config es = task_table es
-cost_text (Some table.Units) config es = unit_table config.units es
-cost_text (Some table.Words) config es = word_table es
-cost_text (Some table.Pairs) config es = pair_table es
-cost_text (Some table.Suppliers) config es = supplier_table es
-cost_text (Some (table.Row row)) config es = profile_row row es
+-- it touches, of its squashes, of the versions that served reads or of the instructions at which its entries ask, whose
+-- addresses these are; or the profile as a row of a table
+abbrev pub cost_text : Option Table → (asked : List (Option ℕ)) → Config → List Entry → List ℕ
+cost_text None asked config es = profile_of es
+cost_text (Some table.Tasks) asked config es = task_table es
+cost_text (Some table.Units) asked config es = unit_table config.units es
+cost_text (Some table.Words) asked config es = word_table es
+cost_text (Some table.Pairs) asked config es = pair_table es
+cost_text (Some table.Suppliers) asked config es = supplier_table es
+cost_text (Some table.Instructions) asked config es = instruction_table asked es
+cost_text (Some (table.Row row)) asked config es = profile_row row es
 
 -- the rows of each, and where they have an address
 abbrev pub cost_rows : Option Table → Option Rows
@@ -40,11 +44,12 @@ cost_rows (Some table.Units) = Some (rows.Table None)
 cost_rows (Some table.Words) = Some (rows.Table (Some (column.Word 0)))
 cost_rows (Some table.Pairs) = Some (rows.Table (Some (column.Word 2)))
 cost_rows (Some table.Suppliers) = Some (rows.Table (Some (column.Word 2)))
+cost_rows (Some table.Instructions) = Some (rows.Table (Some (column.Text 0)))
 cost_rows (Some (table.Row row)) = None
 
 -- the entries that are asked for are a legal history, and what a writer holds has grown by what is printed of it, with the
 -- names that are given
 pub record TellsCost (to : Option ℕ) (by : Option Table) (names : Option (Bor Names)) (img : Image) (config : Config) (es : List Entry) (old new : Option (List ℕ)) (exit : ℕ) : Type 0 where
   pub sound : IsSoundFront to img config es
-  pub text : Appends old new (named_text (listed names) (cost_rows by) (cost_text by config (front to es)))
+  pub text : Appends old new (named_text (listed names) (cost_rows by) (cost_text by (addresses img config (front to es)) config (front to es)))
   pub status : exit ≡ 0

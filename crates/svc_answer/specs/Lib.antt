@@ -5,6 +5,7 @@ pub mod Shown
 pub mod Scripts
 pub mod Assembly
 pub mod Drawings
+pub mod Exports
 pub mod Fronts
 pub mod Explored
 pub mod Observed

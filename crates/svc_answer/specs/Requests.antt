@@ -16,8 +16,8 @@ use Rattle.svc_script.specs.Events.{IsEvent}
 use Rattle.svc_script.specs.Leading.{LeadsBack, script_of}
 use Rattle.svc_script.specs.Script.{HasStepRow, script_records, script_text}
 use Rattle.svc_report.specs.Trace.{HasRow, text_of, trace_records}
-use Rattle.svc_request.specs.Held.{Held, KeepsAllBut}
-use Rattle.svc_request.specs.Names.{source_of, written_by}
+use Rattle.svc_request.specs.Held.{Held, KeepsAllBut, KeepsAllButBoth}
+use Rattle.svc_request.specs.Names.{also_written_by, source_of, written_by}
 use Rattle.svc_request.specs.declared.request.Order.{Order}
 use Rattle.svc_request.specs.declared.request.Schedule.{Schedule}
 use Rattle.svc_request.specs.declared.request.Source.{Source}
@@ -28,10 +28,11 @@ use Rattle.svc_request.specs.declared.request.Request.TheVariants as request
 use Rattle.svc_request.specs.declared.request.TheConstants.{VERSION}
 use Rattle.svc_request.specs.declared.faults.Fault.{Fault}
 use Rattle.svc_request.specs.declared.faults.Fault.TheVariants as fault
-use Rattle.svc_answer.specs.Assembly.{Assembles, Lists, MakesImage}
+use Rattle.svc_answer.specs.Assembly.{Assembles, Lists, MakesImage, SavesNames}
 use Rattle.svc_answer.specs.Costs.{TellsCost}
 use Rattle.svc_answer.specs.Drawings.{IsDrawn, SavesDrawing}
 use Rattle.svc_answer.specs.Explored.{FindsSight, TellsSchedules}
+use Rattle.svc_answer.specs.Exports.{Exports}
 use Rattle.svc_request.specs.Faults.{IsEarly, IsOutputFault, IsReportFault, IsRunFault}
 use Rattle.svc_answer.specs.Named.{IsNamedIn}
 use Rattle.svc_answer.specs.Observed.{TellsSightings}
@@ -136,13 +137,18 @@ Does (request.Check traced compared script) held saved old new exit =
     IsTracedIn held traced (λ img es. (found : List Entry) × AreSameIn compared found es × FindsSound img traced.config found old new exit × SavesAnyScript saved script found × LeadsBack img traced.config found)
 Does (request.Profile traced to by named) held saved old new exit =
     IsTracedIn held traced (λ img es. IsNamedIn held named (λ names. TellsCost to by names img traced.config es old new exit))
-Does (request.Show traced at named) held saved old new exit =
-    IsTracedIn held traced (λ img es. IsNamedIn held named (λ names. TellsMachine at names img traced.config es old new exit))
+Does (request.Show traced shown) held saved old new exit =
+    IsTracedIn held traced (λ img es. IsNamedIn held shown.names (λ names. TellsMachine shown.at shown.extras names img traced.config es old new exit))
 Does (request.Draw traced picture) held saved old new exit =
     IsTracedIn held traced (λ img es. IsDrawn img traced.config es picture.from picture.count
     × SavesDrawing saved picture.file.now picture.rows traced.config.units es picture.from picture.count) × (new ≡ old) × (exit ≡ 0)
-Does (request.Assemble assembly) held saved old new exit = Assembles (held assembly.text.now) (saved assembly.image.now) exit × (new ≡ old)
-Does (request.List image) held saved old new exit = (img : Image) × IsOfSource held image img × Lists img old new exit
+Does (request.Export traced exported) held saved old new exit =
+    IsTracedIn held traced (λ img es. Exports saved exported img traced.config es) × (new ≡ old) × (exit ≡ 0)
+Does (request.Assemble assembly) held saved old new exit =
+    Assembles (held assembly.text.now) (saved assembly.image.now) exit
+    × IfSome assembly.names (λ name. SavesNames (held assembly.text.now) (saved name.now)) × (new ≡ old)
+Does (request.List image named) held saved old new exit =
+    (img : Image) × IsOfSource held image img × IsNamedIn held named (λ names. Lists names img old new exit)
 
 -- the image that is asked for exists
 abbrev pub HasImage : Request → Held → Type 0
@@ -154,9 +160,9 @@ HasScript (request.Run run) held = IfSome run.schedule (λ s. HasEvents held s.a
 HasScript (request.Script scripted) held = (steps : List Step) × IsScriptIn held scripted.events.now steps
 HasScript _ held = ⊤
 
--- no file is changed except the one to write
+-- no file is changed except those to write
 abbrev pub KeepsFiles : Request → (held saved : Held) → Type 0
-KeepsFiles asked held saved = KeepsAllBut (written_by asked) held saved
+KeepsFiles asked held saved = KeepsAllButBoth (written_by asked) (also_written_by asked) held saved
 
 -- a fault that may come while a file is written or later: that of a file, or of a text
 abbrev pub IsLate : Fault → Type 0
@@ -185,8 +191,8 @@ IsQuiet old new f = IsOutputFault f ⊎ (new ≡ old)
 --   silent: before a fault nothing is printed, unless the output failed
 --   order: no fault except one of the image's file comes before the image
 --   machine: no fault of the machine or the run comes before the script
---   kept: no file is changed except the one to write
---   spared: nor is that one at a fault, unless it was being written
+--   kept: no file is changed except those to write
+--   spared: nor are those at a fault, unless they were being written
 pub record IsAnswered {O : Type 0} (contents : O → Option (List ℕ)) (asked : Request) (held saved : Held) (old new : O) (answer : Result ℕ Fault) : Type 0 where
   pub done : IfOk answer (Does asked held saved (contents old) (contents new))
   pub silent : IfErr answer (IsQuiet old new)

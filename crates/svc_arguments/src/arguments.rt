@@ -97,6 +97,12 @@ pub(crate) const MADE_IMAGE: Argument = Argument {
     ..FILE
 };
 
+pub(crate) const EXPORTED: Argument = Argument {
+    name: "FILE",
+    help: "The file that is saved for the viewer",
+    ..FILE
+};
+
 pub(crate) const TRACE: Argument = Argument {
     name: "trace",
     takes: Takes::Word,
@@ -150,9 +156,9 @@ pub(crate) const ROWS: Argument = Argument {
 
 pub(crate) const BY: Argument = Argument {
     name: "by",
-    takes: Takes::Name(&["task", "unit", "word", "pair", "supplier"]),
+    takes: Takes::Name(&["task", "unit", "word", "pair", "supplier", "pc"]),
     value: "TABLE",
-    help: "Prints a table instead: by task, unit or word, by who squashed whom, or by whose version was read",
+    help: "Prints a table instead: by task, unit or word, by who squashed whom, by whose version was read, or by instruction",
     ..OPTION
 };
 
@@ -162,6 +168,18 @@ pub(crate) const NAMES: Argument = Argument {
     value: "FILE",
     help: "Puts the names of this table at the ends of rows, by the address that a row has",
     ..OPTION
+};
+
+// The names of a listing.
+pub(crate) const NAMES_OF_LISTING: Argument = Argument {
+    help: "Puts the names of this table into the comments, by their addresses",
+    ..NAMES
+};
+
+// The names of a text.
+pub(crate) const NAMES_OF_TEXT: Argument = Argument {
+    help: "Saves the table of the text's labels in this file: a CSV text with the header name,address",
+    ..NAMES
 };
 
 // The same names, beside the row of a profile.
@@ -174,6 +192,45 @@ pub(crate) const AT: Argument = Argument {
     name: "at",
     takes: Takes::Index,
     help: "Shows the machine after this many of the trace's entries; without it, after all",
+    ..OPTION
+};
+
+pub(crate) const DETAIL: Argument = Argument {
+    name: "detail",
+    takes: Takes::Nothing,
+    help: "Shows each task's place and registers, and the order of each word's versions",
+    ..OPTION
+};
+
+pub(crate) const MOVES: Argument = Argument {
+    name: "moves",
+    takes: Takes::Nothing,
+    help: "Shows what each unit can do next, and the number of the refusal where it can't",
+    ..OPTION
+};
+
+pub(crate) const MEMORY: Argument = Argument {
+    name: "memory",
+    takes: Takes::Word,
+    value: "A-B",
+    help: "Shows the memory of the words A to B, or of A alone, also where no cache holds them",
+    ..OPTION
+};
+
+pub(crate) const FORMAT: Argument = Argument {
+    name: "format",
+    takes: Takes::Name(&["chrome", "vcd"]),
+    value: "FORMAT",
+    is_required: true,
+    help: "What the viewer reads: chrome for Perfetto and chrome://tracing, vcd for GTKWave and Surfer",
+    ..OPTION
+};
+
+pub(crate) const WORDS: Argument = Argument {
+    name: "words",
+    takes: Takes::Word,
+    value: "A-B",
+    help: "Tells the committed values of the words A to B, or of A alone, in vcd",
     ..OPTION
 };
 

@@ -1,14 +1,15 @@
 //! The command line, as `clap` reads it: its subcommands and their arguments.
 
 use crate::arguments::{
-    AFTER, AT, Argument, BURST, BURST_OF_MOVES, BY, BY_OF_NEEDS, COUNT, DOT, EVENTS, EVENTS_FILE,
-    EXPLAIN, FIND, FROM, HEADER, IGNORE, IMAGE, MADE_IMAGE, NAMES, NAMES_OF_PROFILE, OF, PICTURE,
-    ROW, ROW_OF_PROFILE, ROWS, SCHEDULE, SCRIPT_FILE, SEED, SETS, STATES, TASKS, TASKS_FOLLOWED,
-    TEXT, TO, TRACE, TRACE_FILE, TRACE_OF_FINDING, TURNS, Takes, UNITS, WAYS,
+    AFTER, AT, Argument, BURST, BURST_OF_MOVES, BY, BY_OF_NEEDS, COUNT, DETAIL, DOT, EVENTS,
+    EVENTS_FILE, EXPLAIN, EXPORTED, FIND, FORMAT, FROM, HEADER, IGNORE, IMAGE, MADE_IMAGE, MEMORY,
+    MOVES, NAMES, NAMES_OF_LISTING, NAMES_OF_PROFILE, NAMES_OF_TEXT, OF, PICTURE, ROW,
+    ROW_OF_PROFILE, ROWS, SCHEDULE, SCRIPT_FILE, SEED, SETS, STATES, TASKS, TASKS_FOLLOWED, TEXT,
+    TO, TRACE, TRACE_FILE, TRACE_OF_FINDING, TURNS, Takes, UNITS, WAYS, WORDS,
 };
 use crate::helps::{
-    ABOUT, ASSEMBLE, CHECK, DEPEND, DRAW, EXPLORE, FAULTS, LIST, PROFILE, RUN, SCRIPT, SEQ, SHOW,
-    STATUSES, STATUSES_OF_ASSEMBLE, STATUSES_OF_EXPLORE, STATUSES_OF_LIST,
+    ABOUT, ASSEMBLE, CHECK, DEPEND, DRAW, EXPLORE, EXPORT, FAULTS, LIST, PROFILE, RUN, SCRIPT, SEQ,
+    SHOW, STATUSES, STATUSES_OF_ASSEMBLE, STATUSES_OF_EXPLORE, STATUSES_OF_LIST,
 };
 use clap::{Arg, ArgAction, Command};
 use std::alloc::{AllocError, Global};
@@ -27,7 +28,7 @@ struct Subcommand {
     arguments: &'static [Argument],
 }
 
-const SUBCOMMANDS: [Subcommand; 11] = [
+const SUBCOMMANDS: [Subcommand; 12] = [
     Subcommand {
         name: "run",
         about: "Runs an image on the simulated machine, and prints the summary",
@@ -122,7 +123,7 @@ const SUBCOMMANDS: [Subcommand; 11] = [
         help: SHOW,
         statuses: STATUSES,
         arguments: &[
-            IMAGE, TRACE_FILE, AT, NAMES, UNITS, SETS, WAYS, EVENTS, TURNS,
+            IMAGE, TRACE_FILE, AT, DETAIL, MOVES, MEMORY, NAMES, UNITS, SETS, WAYS, EVENTS, TURNS,
         ],
     },
     Subcommand {
@@ -135,18 +136,27 @@ const SUBCOMMANDS: [Subcommand; 11] = [
         ],
     },
     Subcommand {
+        name: "export",
+        about: "Replays a trace, and saves it for another viewer",
+        help: EXPORT,
+        statuses: STATUSES,
+        arguments: &[
+            IMAGE, TRACE_FILE, EXPORTED, FORMAT, WORDS, UNITS, SETS, WAYS, EVENTS, TURNS,
+        ],
+    },
+    Subcommand {
         name: "assemble",
         about: "Assembles a text, and saves the image",
         help: ASSEMBLE,
         statuses: STATUSES_OF_ASSEMBLE,
-        arguments: &[TEXT, MADE_IMAGE],
+        arguments: &[TEXT, MADE_IMAGE, NAMES_OF_TEXT],
     },
     Subcommand {
         name: "list",
         about: "Prints an image as assembly",
         help: LIST,
         statuses: STATUSES_OF_LIST,
-        arguments: &[IMAGE],
+        arguments: &[IMAGE, NAMES_OF_LISTING],
     },
 ];
 

@@ -226,10 +226,10 @@ check does, and no count. Give the options that the trace was made with.
 
 With --by it prints a table instead, with a row for each task that was begun, squashed ones included, for
 each unit, or for each word of data that was touched; --by pair has one for each task whose store squashed
-another, that task and the word, and --by supplier one for each task whose version another read, that task
-and the word. With --row it prints the counts as one row of a table,
-after a label, so that the rows of many traces join. With --to N it covers the first N entries, and those after
-them may be faulty. With --names a row ends with the name of its entry or word, by a table: a CSV text with the
+another, that task and the word, --by supplier one for each task whose version another read, that task
+and the word, and --by pc one for each instruction that asked for a load, a store or an output. With --row it
+prints the counts as one row of a table, after a label, so that the rows of many traces join. With --to N it
+covers the first N entries, and those after them may be faulty. With --names a row ends with the name of its entry or word, by a table: a CSV text with the
 header name,address, in order of address and then name.
 
 Example: svcsim profile sum.svci sum.csv --by task";
@@ -251,6 +251,19 @@ first N entries. Its rows, in this order:
   spill,A,V              the oldest task's version of a word whose line was replaced
   memory,A,C,B           a word that is in a line or spilled: what the committed tasks left in it, and what
                          memory itself holds
+
+With --detail there are two more behind a task's row, and one for each word with valid lines behind the spills:
+
+  pc,U,E                 the address of the task's next instruction
+  register,U,xN,V        a register of the task whose value isn't the image's
+  order,A,U:T,..         the word's lines from the oldest version on: a unit, and its task or committed
+
+With --moves there is a row behind all others for each event that each unit could ask for, whose last field is the
+number of its refusal, or empty if it would be accepted:
+
+  move,U,KIND,ARG,R      assign at the guess, submit of one turn, replace of each word that it holds, cancel, commit
+
+With --memory A-B the words A to B have their memory rows also where no line holds them.
 
 With --names a row ends with the name of its entry or word, by a table: a CSV text with the header
 name,address, in order of address and then name.
@@ -279,6 +292,21 @@ mark,ENTRY,UNIT,TASK,KIND,WORD,VALUE,BY for each mark, and arrow,FROM,TO,KIND,WO
 
 Example: svcsim draw sum.svci sum.csv sum.svg --from 100 --count 200";
 
+/// The help of `export`.
+pub(crate) const EXPORT: &str =
+    "Replays a trace as check does, and saves it for a viewer: one text, in the format that --format names.
+
+chrome is the JSON that Perfetto and chrome://tracing open: a track for each unit, with a slice for each task
+and an instant for each load, store, output and replacement, and arrows from a store to a read of its version
+and to the read that came too early. vcd is the value changes that GTKWave and Surfer open: for each unit its
+task, the entry at which it began and its state, and with --words the committed values of these words.
+
+The clock is the number of the entry, told as microseconds: it is no time. Nothing is printed. For a faulty
+trace it reports the first fault, as check does, and saves nothing. Give the options that the trace was made
+with.
+
+Example: svcsim export sum.svci sum.csv sum.json --format chrome";
+
 /// The help of `assemble`.
 pub(crate) const ASSEMBLE: &str = "Assembles a text of RV32I instructions, and saves the image.
 
@@ -293,15 +321,16 @@ data made of numbers, strings and zeros. These directives say what else an image
   .svc_version N      the version of the image's format: 1, or 2 where a directive needs it
 
 It reports the first fault as FILE:LINE:COLUMN, with what it found there and what it expected, and writes no
-file.
+file. With --names it also saves the table of the text's labels, which other subcommands take by --names.
 
-Example: svcsim assemble sum.s sum.svci";
+Example: svcsim assemble sum.s sum.svci --names sum.names.csv";
 
 /// The help of `list`.
 pub(crate) const LIST: &str =
     "Prints an image as assembly, from which assemble makes the same image, byte for byte.
 
 Each entry, and each word to which a branch or a jump leads, has a label with its address. A comment after
-each word gives its address and, for one of the program, its bits.
+each word gives its address and, for one of the program, its bits; with --names also the nearest name at or
+before the address, by a table: a CSV text with the header name,address, in order of address and then name.
 
-Example: svcsim list sum.svci";
+Example: svcsim list sum.svci --names sum.names.csv";

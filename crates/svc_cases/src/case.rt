@@ -13,8 +13,8 @@ pub struct Case<'a> {
     /// What the case is called.
     pub name: &'a str,
     // The wanted status, the file of the wanted standard output, the wanted standard error without its last line feed,
-    // and, as NAME=FILE, the name of the saved file and the file that has its wanted text. An empty field wants
-    // nothing.
+    // and, as NAME=FILE, the name of each saved file in order and the file that has its wanted text. An empty field
+    // wants nothing.
     status: &'a str,
     out: &'a str,
     err: &'a str,
@@ -80,12 +80,27 @@ fn line_of(alloc: Global, text: &str) -> Result<Vec<u8>, AllocError> {
     Ok(line)
 }
 
-// The wanted saved file, as one is shown: its name as a line, and then its text.
+// The wanted saved files, as they are shown: each one's name as a line, and then its text.
 fn saved_of<R: Files + AllocGlobal>(rt: &R, saved: &str) -> Result<Vec<u8>, CaseError> {
-    let Some((name, file)) = saved.split_once('=') else {
-        return Ok(Vec::new(rt.alloc()));
-    };
-    let mut shown = line_of(rt.alloc(), name)?;
-    shown.extend_from_slice(&fs::read(rt, file)?)?;
+    let mut shown = Vec::new(rt.alloc());
+    for one in saved.split_whitespace() {
+        show_saved(rt, one, &mut shown)?;
+    }
     Ok(shown)
+}
+
+// Adds a wanted saved file.
+//
+// Errors: [`CaseError::List`], if it isn't NAME=FILE; otherwise a file that can't be read, or lack of memory.
+fn show_saved<R: Files + AllocGlobal>(
+    rt: &R,
+    saved: &str,
+    shown: &mut Vec<u8>,
+) -> Result<(), CaseError> {
+    let Some((name, file)) = saved.split_once('=') else {
+        return Err(CaseError::List);
+    };
+    shown.extend_from_slice(&line_of(rt.alloc(), name)?)?;
+    shown.extend_from_slice(&fs::read(rt, file)?)?;
+    Ok(())
 }

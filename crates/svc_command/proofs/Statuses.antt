@@ -40,7 +40,8 @@ two_at_most (request.Observe traced asked) held saved old new exit (img, image, 
 two_at_most (request.Script scripted) held saved old new exit (img, image, steps, script, plays) = of_ending _ exit plays.report.status
 two_at_most (request.Check traced compared script) held saved old new exit (img, image, es, trace, (found, same, sound, saves, leads)) = of_nothing exit sound.status
 two_at_most (request.Profile traced to by asked) held saved old new exit (img, image, es, trace, (names, named, told)) = of_nothing exit told.status
-two_at_most (request.Show traced at asked) held saved old new exit (img, image, es, trace, (names, named, told)) = of_nothing exit told.status
+two_at_most (request.Show traced shown) held saved old new exit (img, image, es, trace, (names, named, told)) = of_nothing exit told.status
 two_at_most (request.Draw traced picture) held saved old new exit (drawn, quiet, zero) = of_nothing exit zero
-two_at_most (request.Assemble assembly) held saved old new exit (made, quiet) = of_nothing exit made.status
-two_at_most (request.List image) held saved old new exit (img, is_image, lists) = of_nothing exit lists.status
+two_at_most (request.Export traced exported) held saved old new exit (saves, quiet, zero) = of_nothing exit zero
+two_at_most (request.Assemble assembly) held saved old new exit (made, named, quiet) = of_nothing exit made.status
+two_at_most (request.List image asked) held saved old new exit (img, is_image, (names, named, lists)) = of_nothing exit lists.status

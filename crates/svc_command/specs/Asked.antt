@@ -52,10 +52,11 @@ Names words (request.Observe traced names) = IsNamed (codes "explore") words
 Names words (request.Script scripted) = IsNamed (codes "script") words
 Names words (request.Check traced compared script) = IsNamed (codes "check") words
 Names words (request.Profile traced to by names) = IsNamed (codes "profile") words
-Names words (request.Show traced at names) = IsNamed (codes "show") words
+Names words (request.Show traced shown) = IsNamed (codes "show") words
 Names words (request.Draw traced picture) = IsNamed (codes "draw") words
+Names words (request.Export traced exported) = IsNamed (codes "export") words
 Names words (request.Assemble assembly) = IsNamed (codes "assemble") words
-Names words (request.List image) = IsNamed (codes "list") words
+Names words (request.List image names) = IsNamed (codes "list") words
 
 -- what the words of a line may ask for: the built-in run if there is only the program's name, otherwise what they name,
 -- with what they give

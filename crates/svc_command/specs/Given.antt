@@ -2,11 +2,17 @@
 use Rattle.std.specs.Prelude.{◌≡◌, ⊤, ℕ, true, List, Option, None, Some, IfSome, codes}
 use denote.Ref.{Bor}
 use Rattle.svc_base.specs.declared.config.Config.{Config}
+use Rattle.svc_export.specs.declared.export.Format.{Format}
+use Rattle.svc_export.specs.declared.export.Format.TheVariants as format
 use Rattle.svc_observations.specs.declared.sought.Sought.{Sought}
 use Rattle.svc_observations.specs.Sought.{sought_text}
 use Rattle.svc_report.specs.declared.table.TableRow.{TableRow}
+use Rattle.svc_show.specs.declared.extras.Extras.{Extras}
+use Rattle.svc_held.specs.declared.span.Span.{Span}
+use Rattle.svc_request.specs.declared.request.Assembly.{Assembly}
 use Rattle.svc_request.specs.declared.request.Depended.{Depended}
 use Rattle.svc_request.specs.declared.request.Explored.{Explored}
+use Rattle.svc_request.specs.declared.request.Exported.{Exported}
 use Rattle.svc_request.specs.declared.request.NeedsTable.{NeedsTable}
 use Rattle.svc_request.specs.declared.request.NeedsTable.TheVariants as needs
 use Rattle.svc_request.specs.declared.request.Order.{Order}
@@ -14,6 +20,7 @@ use Rattle.svc_request.specs.declared.request.Order.TheVariants as order
 use Rattle.svc_request.specs.declared.request.Run.{Run}
 use Rattle.svc_request.specs.declared.request.Schedule.{Schedule}
 use Rattle.svc_request.specs.declared.request.Scripted.{Scripted}
+use Rattle.svc_request.specs.declared.request.Shown.{Shown}
 use Rattle.svc_request.specs.declared.request.Source.{Source}
 use Rattle.svc_request.specs.declared.request.Source.TheVariants as source
 use Rattle.svc_request.specs.declared.request.Compared.{Compared}
@@ -23,7 +30,7 @@ use Rattle.svc_request.specs.declared.request.Table.TheVariants as table
 use Rattle.svc_request.specs.declared.request.Traced.{Traced}
 use Rattle.svc_request.specs.declared.request.Request.{Request}
 use Rattle.svc_request.specs.declared.request.Request.TheVariants as request
-use Rattle.svc_command.specs.Line.{HasWord, IsGivenNumber, IsNumberOf, IsValueOf, option_word}
+use Rattle.svc_command.specs.Line.{HasWord, IsGivenNumber, IsNumberOf, IsValueOf, ReadsSpan, option_word}
 
 -- the image is the file of one of the words
 abbrev pub GivesImage : List (List ℕ) → Source → Type 0
@@ -69,6 +76,7 @@ GivesTable words table.Units = IsValueOf (codes "by") (codes "unit") words
 GivesTable words table.Words = IsValueOf (codes "by") (codes "word") words
 GivesTable words table.Pairs = IsValueOf (codes "by") (codes "pair") words
 GivesTable words table.Suppliers = IsValueOf (codes "by") (codes "supplier") words
+GivesTable words table.Instructions = IsValueOf (codes "by") (codes "pc") words
 GivesTable words (table.Row row) = GivesRow words row
 
 -- the table of needs is the one that the line names
@@ -121,6 +129,39 @@ pub record GivesObserved (words : List (List ℕ)) (traced : Traced) : Type 0 wh
 abbrev pub GivesSought : List (List ℕ) → Sought → Type 0
 GivesSought words sought = IsValueOf (codes "find") (sought_text sought) words
 
+-- the words are those that the option of this name gives
+abbrev pub GivesSpan : List (List ℕ) → (name : List ℕ) → Span → Type 0
+GivesSpan words name span = (text : List ℕ) × IsValueOf name text words × ReadsSpan text span
+
+-- what is shown beside the rows of every show is asked for on the line
+pub record GivesExtras (words : List (List ℕ)) (extras : Extras) : Type 0 where
+  pub detail : extras.detail ≡ true → HasWord (option_word (codes "detail")) words
+  pub moves : extras.moves ≡ true → HasWord (option_word (codes "moves")) words
+  pub memory : IfSome extras.memory (GivesSpan words (codes "memory"))
+
+-- so are the entries that are replayed, and the table of names
+pub record GivesShown (words : List (List ℕ)) (shown : Shown) : Type 0 where
+  pub at : IfSome shown.at (λ n. IsGivenNumber (codes "at") n words)
+  pub extras : GivesExtras words shown.extras
+  pub names : GivesNames words shown.names
+
+-- the viewer's format is the one that the line names
+abbrev pub GivesFormat : List (List ℕ) → Format → Type 0
+GivesFormat words format.Chrome = IsValueOf (codes "format") (codes "chrome") words
+GivesFormat words format.Vcd = IsValueOf (codes "format") (codes "vcd") words
+
+-- a trace for another viewer takes its file, its format and its words from the line
+pub record GivesExported (words : List (List ℕ)) (exported : Exported) : Type 0 where
+  pub file : HasWord exported.file.now words
+  pub format : GivesFormat words exported.format
+  pub words_are : IfSome exported.words (GivesSpan words (codes "words"))
+
+-- a text that is assembled, its image and the table of its names are files of the line
+pub record GivesAssembly (words : List (List ℕ)) (assembly : Assembly) : Type 0 where
+  pub text : HasWord assembly.text.now words
+  pub image : HasWord assembly.image.now words
+  pub names : GivesNames words assembly.names
+
 -- the trace is saved in the file that the line names
 abbrev pub GivesTrace : List (List ℕ) → Option (Bor (List ℕ)) → Type 0
 GivesTrace words trace = IfSome trace (λ name. IsValueOf (codes "trace") name.now words)
@@ -147,11 +188,11 @@ Gives words (request.Check traced compared script) =
     GivesTraced words traced × GivesCompared words compared × IfSome script (λ name. IsValueOf (codes "script") name.now words)
 Gives words (request.Profile traced to by names) =
     GivesTraced words traced × IfSome to (λ n. IsGivenNumber (codes "to") n words) × IfSome by (GivesTable words) × GivesNames words names
-Gives words (request.Show traced at names) =
-    GivesTraced words traced × IfSome at (λ n. IsGivenNumber (codes "at") n words) × GivesNames words names
+Gives words (request.Show traced shown) = GivesTraced words traced × GivesShown words shown
 Gives words (request.Draw traced picture) =
     GivesTraced words traced × HasWord picture.file.now words
     × IsNumberOf (codes "from") 0 picture.from words × IsNumberOf (codes "count") 400 picture.count words
     × (picture.rows ≡ true → HasWord (option_word (codes "rows")) words)
-Gives words (request.Assemble assembly) = HasWord assembly.text.now words × HasWord assembly.image.now words
-Gives words (request.List image) = GivesImage words image
+Gives words (request.Export traced exported) = GivesTraced words traced × GivesExported words exported
+Gives words (request.Assemble assembly) = GivesAssembly words assembly
+Gives words (request.List image names) = GivesImage words image × GivesNames words names

@@ -2,6 +2,7 @@
 use Rattle.std.specs.Prelude.{◌≡◌, ◌+◌, ◌++◌, ◌⊎◌, ℕ, List, Some, map, codes, slice_get, string_bytes}
 use Rattle.std.specs.Str.Parse.{IsNumeral, digits_value, without_leading_plus}
 use Rattle.std.specs.declared.string.String.{String}
+use Rattle.svc_held.specs.declared.span.Span.{Span}
 
 -- the texts of words, the program's name first
 abbrev pub texts : {A : Type 0} → List (String A) → List (List ℕ)
@@ -39,6 +40,12 @@ IsValueOf name value words = IsNext name value words ⊎ Has (IsJoined name valu
 pub record ReadsAs (text : List ℕ) (n : ℕ) : Type 0 where
   pub numeral : IsNumeral 10 (without_leading_plus text)
   pub value : n ≡ digits_value 10 (without_leading_plus text)
+
+-- a text reads as these words: from the first number to the last one behind a dash, or one number
+abbrev pub ReadsSpan : List ℕ → Span → Type 0
+ReadsSpan text s =
+    ((first last : List ℕ) × (text ≡ first ++ (codes "-" ++ last)) × ReadsAs first s.first × ReadsAs last s.last)
+    ⊎ (ReadsAs text s.first × (s.last ≡ s.first))
 
 -- the number is what a value of the option of this name reads as
 abbrev pub IsGivenNumber : (name : List ℕ) → ℕ → List (List ℕ) → Type 0

@@ -1,14 +1,17 @@
 //! What the options of several subcommands give.
 
-ghost use Rattle.std.specs.Prelude.{◌≡◌, IfOk, IfSome, codes};
-ghost use Rattle.svc_command.specs.Given.{GivesCompared, GivesConfig, GivesImage, GivesNeedsTable, GivesOrder, GivesRow, GivesSchedule, GivesSought, GivesTable};
-ghost use Rattle.svc_command.specs.Line.{IsValueOf, texts};
+ghost use Rattle.std.specs.Prelude.{◌≡◌, ◌++◌, IfOk, IfSome, codes};
+ghost use Rattle.svc_command.specs.Given.{GivesCompared, GivesConfig, GivesExtras, GivesFormat, GivesImage, GivesNeedsTable, GivesOrder, GivesRow, GivesSchedule, GivesSought, GivesSpan, GivesTable};
+ghost use Rattle.svc_command.specs.Line.{IsValueOf, ReadsAs, ReadsSpan, texts};
 
 use crate::line::Line;
 use std::alloc::Global;
 use svc_base::Config;
 use svc_core::MAX_BURST_TURNS;
-use svc_program::{Compared, Fault, NeedsTable, Order, Schedule, Sought, Source, Table, TableRow};
+use svc_program::{
+    Compared, Extras, Fault, Format, NeedsTable, Order, Schedule, Sought, Source, Span, Table,
+    TableRow,
+};
 
 const SEED_ALONE: &str = "error: the argument '--seed <N>' is of '--schedule random' alone
 
@@ -16,6 +19,12 @@ For more information, try '--help'.
 ";
 
 const NOT_SOUGHT: &str = "error: the value of '--find' is not WHAT, WHAT,TASK or WHAT,TASK,WORD
+
+For more information, try '--help'.
+";
+
+const NOT_A_SPAN: &str =
+    "error: the value of '--memory' or '--words' is not A or A-B, where A is at most B
 
 For more information, try '--help'.
 ";
@@ -52,6 +61,7 @@ pub(crate) fn table<'a>(line: Line<'_, 'a>) -> Result<Option<Table<'a>>, Fault>
         Some("word") => Ok(Some(Table::Words)),
         Some("pair") => Ok(Some(Table::Pairs)),
         Some("supplier") => Ok(Some(Table::Suppliers)),
+        Some("pc") => Ok(Some(Table::Instructions)),
         // The parser accepts no other name.
         Some(_) => Err(Fault::File),
     }
@@ -140,6 +150,93 @@ pub(crate) fn sought(alloc: Global, line: Line<'_, '_>) -> Result<Option<Sought>
     match Sought::read(alloc, text)? {
         Some(sought) => Ok(Some(sought)),
         None => Err(Fault::CommandLine(String::from_str(alloc, NOT_SOUGHT)?)),
+    }
+}
+
+// The parts of a text before and behind its first dash.
+fn dashed(text: &str) -> Option<(&str, &str)>
+    ensures { IfSome result (λ parts. text.now ≡ parts.0.now ++ (codes "-" ++ parts.1.now)) }
+{
+    text.split_once("-")
+}
+
+// The number that a text reads as, if it reads as one of 32 bits.
+fn number_in(text: &str) -> Option<u32>
+    ensures { IfSome result (ReadsAs text.now) }
+{
+    match text.parse::<u32>() {
+        Ok(number) => Some(number),
+        Err(_) => None,
+    }
+}
+
+// The words from a first number to a last one.
+fn span_between(first: &str, last: &str) -> Option<Span>
+    ensures { IfSome result (λ span. ReadsAs first.now span.first × ReadsAs last.now span.last) }
+{
+    let first = number_in(first)?;
+    let last = number_in(last)?;
+    if first <= last {
+        Some(Span { first, last })
+    } else {
+        None
+    }
+}
+
+// One word, by its number.
+fn single(text: &str) -> Option<Span>
+    ensures { IfSome result (λ span. ReadsAs text.now span.first × (span.last ≡ span.first)) }
+{
+    let word = number_in(text)?;
+    Some(Span {
+        first: word,
+        last: word,
+    })
+}
+
+// The words that a text names: those from a first to a last one, or one.
+fn span_of(text: &str) -> Option<Span>
+    ensures { IfSome result (ReadsSpan text.now) }
+{
+    match dashed(text) {
+        Some((first, last)) => span_between(first, last),
+        None => single(text),
+    }
+}
+
+/// The words that the option of this name gives, if it is given.
+pub(crate) fn span(alloc: Global, line: Line<'_, '_>, name: &str) -> Result<Option<Span>, Fault>
+    ensures { IfOk result (λ span. IfSome span (GivesSpan (texts line.entry.words.now) name.now)) }
+{
+    let Some(text) = line.option(name)? else {
+        return Ok(None);
+    };
+    match span_of(text) {
+        Some(span) => Ok(Some(span)),
+        None => Err(Fault::CommandLine(String::from_str(alloc, NOT_A_SPAN)?)),
+    }
+}
+
+/// What is shown beside the rows of every show.
+pub(crate) fn extras(alloc: Global, line: Line<'_, '_>) -> Result<Extras, Fault>
+    ensures { IfOk result (GivesExtras (texts line.entry.words.now)) }
+{
+    Ok(Extras {
+        detail: line.flag("detail"),
+        moves: line.flag("moves"),
+        memory: span(alloc, line, "memory")?,
+    })
+}
+
+/// What the viewer reads for whom a trace is saved.
+pub(crate) fn format(line: Line<'_, '_>) -> Result<Format, Fault>
+    ensures { IfOk result (GivesFormat (texts line.entry.words.now)) }
+{
+    match line.option("format")? {
+        Some("chrome") => Ok(Format::Chrome),
+        Some("vcd") => Ok(Format::Vcd),
+        // The parser reads no line without it, and accepts no other name.
+        _ => Err(Fault::File),
     }
 }
 

@@ -7,7 +7,7 @@ ghost use Rattle.svc_command.specs.Line.{Has, IsNamed, texts};
 
 use crate::line::Line;
 use crate::requests::{
-    assemble, check, depend, draw, explore, list, profile, run, script, sequential, show,
+    assemble, check, depend, draw, explore, export, list, profile, run, script, sequential, show,
 };
 use clap::error::ErrorKind;
 use clap::{ArgMatches, Error};
@@ -120,12 +120,12 @@ fn asked_by<'a>(alloc: Global, name: &str, line: Line<'_, 'a>) -> Result<Request
         "seq" => sequential(line),
         "depend" => depend(line),
         "explore" => explore(alloc, line),
-        _ => asked_by_files(name, line),
+        _ => asked_by_files(alloc, name, line),
     }
 }
 
 // What a subcommand asks for that plays a script or replays a trace.
-fn asked_by_files<'a>(name: &str, line: Line<'_, 'a>) -> Result<Request<'a>, Fault>
+fn asked_by_files<'a>(alloc: Global, name: &str, line: Line<'_, 'a>) -> Result<Request<'a>, Fault>
     ensures named { IsNamed name.now (texts line.entry.words.now)
         → IfOk result (Names (texts line.entry.words.now)) }
     ensures gives { IfOk result (Gives (texts line.entry.words.now)) }
@@ -134,8 +134,9 @@ fn asked_by_files<'a>(name: &str, line: Line<'_, 'a>) -> Result<Request<'a>, Fau
         "script" => script(line),
         "check" => check(line),
         "profile" => profile(line),
-        "show" => show(line),
+        "show" => show(alloc, line),
         "draw" => draw(line),
+        "export" => export(alloc, line),
         _ => asked_by_text(name, line),
     }
 }

@@ -6,11 +6,14 @@ ghost use Rattle.svc_command.specs.Given.{Gives, GivesTraced};
 ghost use Rattle.svc_command.specs.Line.{IsNamed, texts};
 
 use crate::line::Line;
-use crate::options::{compared, configuration, image, needs_table, row, schedule, sought, table};
+use crate::options::{
+    compared, configuration, extras, format, image, needs_table, row, schedule, sought, span, table,
+};
 use std::alloc::Global;
 use svc_core::MAX_BURST_TURNS;
 use svc_program::{
-    Assembly, Depended, Explored, Fault, Picture, Request, Run, Scripted, Tasks, Traced,
+    Assembly, Depended, Explored, Exported, Fault, Picture, Request, Run, Scripted, Shown, Tasks,
+    Traced,
 };
 
 /// The run that `run` asks for. A mistake of the line is told before one of the configuration.
@@ -122,15 +125,17 @@ pub(crate) fn profile<'a>(line: Line<'_, 'a>) -> Result<Request<'a>, Fault>
     Ok(Request::Profile(traced, to, by, line.option("names")?))
 }
 
-/// The trace that `show` asks for, how many of its entries, and the names.
-pub(crate) fn show<'a>(line: Line<'_, 'a>) -> Result<Request<'a>, Fault>
+/// The trace that `show` asks for, and what of it is shown.
+pub(crate) fn show<'a>(alloc: Global, line: Line<'_, 'a>) -> Result<Request<'a>, Fault>
     ensures named { IsNamed (codes "show") (texts line.entry.words.now)
         → IfOk result (Names (texts line.entry.words.now)) }
     ensures gives { IfOk result (Gives (texts line.entry.words.now)) }
 {
     let traced = traced(line)?;
     let at = line.index("at")?;
-    Ok(Request::Show(traced, at, line.option("names")?))
+    let extras = extras(alloc, line)?;
+    let names = line.option("names")?;
+    Ok(Request::Show(traced, Shown { at, extras, names }))
 }
 
 /// The trace that `draw` asks for, and the picture.
@@ -151,7 +156,22 @@ pub(crate) fn draw<'a>(line: Line<'_, 'a>) -> Result<Request<'a>, Fault>
     ))
 }
 
-/// The text that `assemble` asks for, and the image's file.
+/// The trace that `export` asks for, and how it is saved.
+pub(crate) fn export<'a>(alloc: Global, line: Line<'_, 'a>) -> Result<Request<'a>, Fault>
+    ensures named { IsNamed (codes "export") (texts line.entry.words.now)
+        → IfOk result (Names (texts line.entry.words.now)) }
+    ensures gives { IfOk result (Gives (texts line.entry.words.now)) }
+{
+    let traced = traced(line)?;
+    let exported = Exported {
+        file: line.file("FILE")?,
+        format: format(line)?,
+        words: span(alloc, line, "words")?,
+    };
+    Ok(Request::Export(traced, exported))
+}
+
+/// The text that `assemble` asks for, and the files of the image and of its names.
 pub(crate) fn assemble<'a>(line: Line<'_, 'a>) -> Result<Request<'a>, Fault>
     ensures named { IsNamed (codes "assemble") (texts line.entry.words.now)
         → IfOk result (Names (texts line.entry.words.now)) }
@@ -160,16 +180,18 @@ pub(crate) fn assemble<'a>(line: Line<'_, 'a>) -> Result<Request<'a>, Fault>
     Ok(Request::Assemble(Assembly {
         text: line.file("FILE")?,
         image: line.file("IMAGE")?,
+        names: line.option("names")?,
     }))
 }
 
-/// The image that `list` asks for.
+/// The image that `list` asks for, and the names.
 pub(crate) fn list<'a>(line: Line<'_, 'a>) -> Result<Request<'a>, Fault>
     ensures named { IsNamed (codes "list") (texts line.entry.words.now)
         → IfOk result (Names (texts line.entry.words.now)) }
     ensures gives { IfOk result (Gives (texts line.entry.words.now)) }
 {
-    Ok(Request::List(image(line)?))
+    let image = image(line)?;
+    Ok(Request::List(image, line.option("names")?))
 }
 
 // The trace that a subcommand replays.

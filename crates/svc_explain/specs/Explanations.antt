@@ -4,7 +4,7 @@ use denote.Ref.{Bor}
 use Rattle.svc_history.specs.declared.trace.TraceFaultKind.{TraceFaultKind}
 use Rattle.svc_history.specs.declared.trace.TraceFaultKind.TheVariants as kind
 use Rattle.svc_request.specs.Held.{Held}
-use Rattle.svc_request.specs.Names.{written_by}
+use Rattle.svc_request.specs.Names.{also_written_by, written_by}
 use Rattle.svc_request.specs.declared.request.Compared.{Compared}
 use Rattle.svc_request.specs.declared.request.Compared.TheVariants.{All}
 use Rattle.svc_request.specs.declared.request.Schedule.{Schedule}
@@ -30,8 +30,9 @@ abbrev pub replayed_by : Request → Option (Traced × Compared)
 replayed_by (request.Observe traced named) = Some (traced, All)
 replayed_by (request.Check traced compared script) = Some (traced, compared)
 replayed_by (request.Profile traced to by named) = Some (traced, All)
-replayed_by (request.Show traced at named) = Some (traced, All)
+replayed_by (request.Show traced shown) = Some (traced, All)
 replayed_by (request.Draw traced picture) = Some (traced, All)
+replayed_by (request.Export traced exported) = Some (traced, All)
 replayed_by _ = None
 
 -- what is told of the entry at this index of the trace that a request replays
@@ -67,10 +68,11 @@ read_by (request.Observe traced named) = name_of traced.image ∷ Some traced.tr
 read_by (request.Script scripted) = name_of scripted.image ∷ Some scripted.events ∷ None ∷ []
 read_by (request.Check traced compared script) = name_of traced.image ∷ Some traced.trace ∷ None ∷ []
 read_by (request.Profile traced to by named) = name_of traced.image ∷ Some traced.trace ∷ named ∷ []
-read_by (request.Show traced at named) = name_of traced.image ∷ Some traced.trace ∷ named ∷ []
+read_by (request.Show traced shown) = name_of traced.image ∷ Some traced.trace ∷ shown.names ∷ []
 read_by (request.Draw traced picture) = name_of traced.image ∷ Some traced.trace ∷ None ∷ []
+read_by (request.Export traced exported) = name_of traced.image ∷ Some traced.trace ∷ None ∷ []
 read_by (request.Assemble assembly) = Some assembly.text ∷ None ∷ None ∷ []
-read_by (request.List image) = name_of image ∷ None ∷ None ∷ []
+read_by (request.List image named) = name_of image ∷ named ∷ None ∷ []
 read_by _ = None ∷ None ∷ None ∷ []
 
 -- a file of these can't be read
@@ -80,6 +82,15 @@ pub record TellsUnread (read : List (Option (Bor (List ℕ)))) (text : List ℕ)
   pub is_read : slice_get read place ≡ Some (Some name)
   pub told : text ≡ sentence (name.now ++ codes " can't be read")
 
+-- the files to write, in words
+abbrev pub or_also : List ℕ → Option (List ℕ) → List ℕ
+or_also name None = name
+or_also name (Some other) = name ++ codes " or " ++ other
+
+abbrev pub files_written : Option (List ℕ) → Option (List ℕ) → Option (List ℕ)
+files_written None also = None
+files_written (Some name) also = Some (or_also name also)
+
 -- the file to write is one that is read, or it couldn't be written; where none is written, nothing else is known
 abbrev pub TellsUnsaved : Option (List ℕ) → List ℕ → Type 0
 TellsUnsaved None text = text ≡ sentence (codes "memory ran out, or a trace has fewer entries than are asked for")
@@ -87,7 +98,7 @@ TellsUnsaved (Some name) text = (text ≡ sentence (name ++ codes " is read, and
 
 -- which of the files of a request can't be read or saved
 abbrev pub TellsFile : Request → List ℕ → Type 0
-TellsFile asked text = TellsUnread (read_by asked) text ⊎ TellsUnsaved (written_by asked) text
+TellsFile asked text = TellsUnread (read_by asked) text ⊎ TellsUnsaved (files_written (written_by asked) (also_written_by asked)) text
 
 -- ---- a fault
 

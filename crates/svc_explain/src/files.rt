@@ -1,15 +1,15 @@
 //! Which of the files of a request can't be read or saved.
 
 ghost use Rattle.std.specs.Prelude.{◌≡◌, ◌++◌, IfOk, IfSome, OnOk, Some, option_map, slice_get, ℕ};
-ghost use Rattle.svc_explain.specs.Explanations.{TellsFile, TellsUnread, TellsUnsaved, read_by, sentence};
-ghost use Rattle.svc_request.specs.Names.{written_by};
+ghost use Rattle.svc_explain.specs.Explanations.{TellsFile, TellsUnread, TellsUnsaved, files_written, or_also, read_by, sentence};
+ghost use Rattle.svc_request.specs.Names.{also_written_by, written_by};
 
-use crate::names::{read_by, written_by};
+use crate::names::{also_written_by, read_by, written_by};
 use std::alloc::{AllocError, Global};
 use svc_answer::front::front_of;
 use svc_image::MOST_BYTES;
 use svc_request::{Files, Request};
-use svc_text::put;
+use svc_text::{Piece, put};
 
 /// A line of the program's own: a name, and what is said of it.
 pub(crate) fn line(alloc: Global, name: &str, said: &str) -> Result<Vec<u8>, AllocError>
@@ -17,6 +17,38 @@ pub(crate) fn line(alloc: Global, name: &str, said: &str) -> Result<Vec<u8>, All
 {
     let mut text = Vec::new(alloc);
     put!(&mut text; "svcsim: ", name, said, "\n");
+    Ok(text)
+}
+
+// Adds a second name, if there is one.
+fn put_also(text: &mut Vec<u8>, name: &str, also: Option<&str>) -> Result<(), AllocError>
+    ensures { OnOk result (text.new.items
+        ≡ text.old.items ++ or_also name.now (option_map (λ other. other.now) also.entry)) }
+{
+    name.put(text)?;
+    match also {
+        None => Ok(()),
+        Some(other) => {
+            put!(text; " or ", other);
+            Ok(())
+        }
+    }
+}
+
+// A line of the program's own: one name or two, and what is said of them.
+fn line_of_both(
+    alloc: Global,
+    name: &str,
+    also: Option<&str>,
+    said: &str,
+) -> Result<Vec<u8>, AllocError>
+    ensures { IfOk result (λ text. text.items
+        ≡ sentence (or_also name.now (option_map (λ other. other.now) also.entry) ++ said.now)) }
+{
+    let mut text = Vec::new(alloc);
+    "svcsim: ".put(&mut text)?;
+    put_also(&mut text, name, also)?;
+    put!(&mut text; said, "\n");
     Ok(text)
 }
 
@@ -69,17 +101,40 @@ fn explain_saved<F: Files>(
     request: &Request<'_>,
     files: &F,
 ) -> Result<Vec<u8>, AllocError>
-    ensures { IfOk result (λ text. TellsUnsaved (written_by request.now) text.items) }
+    ensures { IfOk result (λ text.
+        TellsUnsaved (files_written (written_by request.now) (also_written_by request.now)) text.items) }
 {
-    match written_by(request) {
+    let is_over = request.is_over_itself(files);
+    unsaved(
+        alloc,
+        written_by(request),
+        also_written_by(request),
+        is_over,
+    )
+}
+
+// Why a file of this name, or a second one, isn't saved: a file that is read may be one of them.
+fn unsaved(
+    alloc: Global,
+    name: Option<&str>,
+    also: Option<&str>,
+    is_read: bool,
+) -> Result<Vec<u8>, AllocError>
+    ensures { IfOk result (λ text. TellsUnsaved (files_written (option_map (λ name. name.now) name.entry)
+        (option_map (λ other. other.now) also.entry)) text.items) }
+{
+    match name {
         None => line(
             alloc,
             "",
             "memory ran out, or a trace has fewer entries than are asked for",
         ),
-        Some(name) if request.is_over_itself(files) => {
-            line(alloc, name, " is read, and would be lost if it were saved")
-        }
-        Some(name) => line(alloc, name, " can't be saved"),
+        Some(name) if is_read => line_of_both(
+            alloc,
+            name,
+            also,
+            " is read, and would be lost if it were saved",
+        ),
+        Some(name) => line_of_both(alloc, name, also, " can't be saved"),
     }
 }

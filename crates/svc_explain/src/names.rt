@@ -1,7 +1,7 @@
 // The files of a request.
 
 ghost use Rattle.std.specs.Prelude.{◌≡◌, option_map};
-ghost use Rattle.svc_request.specs.Names.{written_by};
+ghost use Rattle.svc_request.specs.Names.{also_written_by, written_by};
 ghost use Rattle.svc_explain.specs.Explanations.{name_of, read_by, script_of};
 
 use svc_request::{Request, Schedule, Source};
@@ -38,19 +38,20 @@ pub(crate) fn read_by<'a>(request: &Request<'a>) -> [Option<&'a str>; 3]
             [name_of(explored.image), explored.names, None]
         }
         Request::Script(scripted) => [name_of(scripted.image), Some(scripted.events), None],
-        Request::Check(traced, _, _) | Request::Draw(traced, _) => {
+        Request::Check(traced, _, _) | Request::Draw(traced, _) | Request::Export(traced, _) => {
             [name_of(traced.image), Some(traced.trace), None]
         }
-        Request::Observe(traced, names)
-        | Request::Profile(traced, _, _, names)
-        | Request::Show(traced, _, names) => { [name_of(traced.image), Some(traced.trace), *names] }
+        Request::Observe(traced, names) | Request::Profile(traced, _, _, names) => {
+            [name_of(traced.image), Some(traced.trace), *names]
+        }
+        Request::Show(traced, shown) => [name_of(traced.image), Some(traced.trace), shown.names],
         Request::Assemble(assembly) => [Some(assembly.text), None, None],
-        Request::List(image) => [name_of(*image), None, None],
+        Request::List(image, names) => [name_of(*image), *names, None],
         Request::Help(_) | Request::Version => [None, None, None],
     }
 }
 
-/// The file that a request writes, if it writes one.
+/// The file that a request writes, or the first of two, if it writes one.
 pub(crate) fn written_by<'a>(request: &Request<'a>) -> Option<&'a str>
     ensures { option_map (λ name. name.now) result ≡ written_by request.now }
 {
@@ -60,9 +61,20 @@ pub(crate) fn written_by<'a>(request: &Request<'a>) -> Option<&'a str>
         Request::Script(scripted) => scripted.trace,
         Request::Check(_, _, script) => *script,
         Request::Draw(_, picture) => Some(picture.file),
+        Request::Export(_, exported) => Some(exported.file),
         Request::Assemble(assembly) => Some(assembly.image),
         Request::Sequential(_) | Request::Depend(_) | Request::Explore(_) => None,
-        Request::Observe(_, _) | Request::Profile(_, _, _, _) | Request::Show(_, _, _) => None,
-        Request::List(_) | Request::Help(_) | Request::Version => None,
+        Request::Observe(_, _) | Request::Profile(_, _, _, _) | Request::Show(_, _) => None,
+        Request::List(_, _) | Request::Help(_) | Request::Version => None,
+    }
+}
+
+/// The second file that a request writes, if it writes two.
+pub(crate) fn also_written_by<'a>(request: &Request<'a>) -> Option<&'a str>
+    ensures { option_map (λ name. name.now) result ≡ also_written_by request.now }
+{
+    match request {
+        Request::Assemble(assembly) => assembly.names,
+        _ => None,
     }
 }

@@ -19,11 +19,12 @@ fn replayed_by<'a>(request: &Request<'a>) -> Option<(Traced<'a>, Compared)>
         Request::Check(traced, compared, _) => Some((*traced, *compared)),
         Request::Observe(traced, _)
         | Request::Profile(traced, _, _, _)
-        | Request::Show(traced, _, _)
-        | Request::Draw(traced, _) => Some((*traced, Compared::All)),
+        | Request::Show(traced, _)
+        | Request::Draw(traced, _)
+        | Request::Export(traced, _) => Some((*traced, Compared::All)),
         Request::Run(_) | Request::Sequential(_) | Request::Depend(_) => None,
         Request::Explore(_) | Request::Find(_, _, _) | Request::Script(_) => None,
-        Request::Assemble(_) | Request::List(_) | Request::Help(_) | Request::Version => None,
+        Request::Assemble(_) | Request::List(_, _) | Request::Help(_) | Request::Version => None,
     }
 }
 

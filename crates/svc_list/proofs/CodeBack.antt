@@ -17,10 +17,11 @@ use Rattle.svc_instructions.specs.declared.table.Part.{Part}
 use Rattle.svc_instructions.specs.declared.table.Row.{Row}
 use Rattle.svc_instructions.specs.Instructions.{parts_of, row_of}
 use Rattle.svc_asm.specs.Statements.{statement_at, line_at}
+use Rattle.svc_names.specs.declared.name.Name.{Name}
 use Rattle.svc_list.specs.Listings.{HasText, statement_text, label_text, row_text, code_text, word_note, Line, Says, Labels, Codes, bare, line_of, text_of, led_along, placed, target_by, target_of, coded, labels, code}
 use Rattle.svc_list.proofs.NamesBack.{Ends}
 use Rattle.svc_list.proofs.LinesBack.{Trails, three, unlabelled, next_back, ended_back}
-use Rattle.svc_list.proofs.NotesBack.{bare_ends, word_ends}
+use Rattle.svc_list.proofs.NotesBack.{AreNamed, bare_ends, word_ends}
 use Rattle.svc_list.proofs.LabelsBack.{label_apart, label_same, colon_name, label_back, empty_back, text_spot, spot_is, label_found, label_again}
 use Rattle.svc_list.proofs.RowsBack.{refilled, Reaches, row_back, row_stops, known_same}
 use Rattle.svc_list.proofs.LayoutsBack.{AreMarks, next_marks, top_marks, marked, worded, Free, free_later, free_behind, one_entry, one_word, value_in_text, line_goes_on, entries_of, limits_of}
@@ -191,30 +192,30 @@ reaches true count d ps w address (Some t) leads at aims =
 reaches false count d ps w address (Some t) leads at aims = aims t refl
 
 -- the line of a word of the text
-coded_row : (known : Bool) (count : ℕ) (labelled : ℕ → Bool) (n : ℕ) (d : Layout) (w : ℕ) (row : Option Row) (to : Option ℕ) → row_of w ≡ row → found row (λ r. target_by count (4 * n) w r) None ≡ to → w < 2 ^ 32 → n < count → count ≤ 65536
+coded_row : (given : Option (List Name)) → AreNamed given → (known : Bool) (count : ℕ) (labelled : ℕ → Bool) (n : ℕ) (d : Layout) (w : ℕ) (row : Option Row) (to : Option ℕ) → row_of w ≡ row → found row (λ r. target_by count (4 * n) w r) None ≡ to → w < 2 ^ 32 → n < count → count ≤ 65536
     → IsAt known n d → Good known count labelled (suc n) d.names → ((t : ℕ) → to ≡ Some t → labelled (t / 4) ≡ true)
-    → Leads (line_of (Codes w to (word_note (4 * n) w))) d (worded d (laid_as row to known w))
+    → Leads (line_of (Codes w to (word_note given (4 * n) w))) d (worded d (laid_as row to known w))
 unfolding statement_text
-coded_row known count labelled n d w None to row leads fit low few at good marked =
-    let text : line_of (Codes w to (word_note (4 * n) w)) ≡ line_of (Says (say.Value wide.Word w go.Line) (word_note (4 * n) w)) = rw row refl in
+coded_row given are known count labelled n d w None to row leads fit low few at good marked =
+    let text : line_of (Codes w to (word_note given (4 * n) w)) ≡ line_of (Says (say.Value wide.Word w go.Line) (word_note given (4 * n) w)) = rw row refl in
     subst (λ (x : List ℕ). Leads x d (worded d w)) (sym text)
-    (line_leads (say.Value wide.Word w go.Line) (word_note (4 * n) w) d (worded d w) at.line (refl, refl, fit) (word_ends (4 * n) w)
+    (line_leads (say.Value wide.Word w go.Line) (word_note given (4 * n) w) d (worded d w) at.line (refl, refl, fit) (word_ends given (4 * n) w are)
     (ap (λ (o : Option Layout). o >>= going_on go.Line) (value_in_text d w at.text ∙ one_word d w (omega (arith, at.words, low, few))) ∙ line_goes_on (worded d w) at.line))
-coded_row known count labelled n d w (Some r) to row leads fit low few at good marked =
+coded_row given are known count labelled n d w (Some r) to row leads fit low few at good marked =
     let four : 4 * length d.text ≡ 4 * n = ap (λ (x : ℕ). 4 * x) at.words in
     let place = here_is d (4 * n) at.text four (omega (arith, low, few)) in
     let aims = λ (t : ℕ) (e : to ≡ Some t). let it = placed_is count (led_along (4 * n) w (parts_of r)) t (leads ∙ e) in aimable known count labelled (suc n) d t at.pass few it.1 it.2 (marked t e) good in
     let reached = reaches known count d (parts_of r) w (4 * n) to leads place aims in
     let read = refilled known to (parts_of r) w r.1 in
-    row_leads d (worded d read) to w read r (word_note (4 * n) w) at.line row (word_ends (4 * n) w)
+    row_leads d (worded d read) to w read r (word_note given (4 * n) w) at.line row (word_ends given (4 * n) w are)
     (λ rest tail ends. row_back known d to w r rest tail row ends reached)
     (instruction_laid d read at.text (omega (arith, at.words, low, few)))
 
-coded_leads : (known : Bool) (count : ℕ) (labelled : ℕ → Bool) (n : ℕ) (d : Layout) (w : ℕ) → w < 2 ^ 32 → n < count → count ≤ 65536
+coded_leads : (given : Option (List Name)) → AreNamed given → (known : Bool) (count : ℕ) (labelled : ℕ → Bool) (n : ℕ) (d : Layout) (w : ℕ) → w < 2 ^ 32 → n < count → count ≤ 65536
     → IsAt known n d → Good known count labelled (suc n) d.names → ((t : ℕ) → target_of count (4 * n) w ≡ Some t → labelled (t / 4) ≡ true)
-    → Leads (line_of (coded count (4 * n) w)) d (worded d (laid_word known count (4 * n) w))
-coded_leads known count labelled n d w fit low few at good marked =
-    coded_row known count labelled n d w (row_of w) (target_of count (4 * n) w) refl refl fit low few at good marked
+    → Leads (line_of (coded given count (4 * n) w)) d (worded d (laid_word known count (4 * n) w))
+coded_leads given are known count labelled n d w fit low few at good marked =
+    coded_row given are known count labelled n d w (row_of w) (target_of count (4 * n) w) refl refl fit low few at good marked
 
 -- each target of these words has a label
 abbrev pub HaveLabels : ℕ → (ℕ → Bool) → ℕ → List ℕ → Type 0
@@ -230,12 +231,12 @@ next_at_word : (known : Bool) (n : ℕ) (d : Layout) (w : ℕ) → IsAt known n 
 next_at_word known n d w at = record { text = at.text; words = omega (arith, at.words, length-append d.text (w ∷ [])); pass = at.pass; line = at.line }
 
 -- a word, and what stands behind it
-word_and_more : (known : Bool) (count : ℕ) (labelled : ℕ → Bool) (n : ℕ) (d : Layout) (w : ℕ) → n < count → count ≤ 65536 → w < 2 ^ 32 → IsAt known n d
+word_and_more : (given : Option (List Name)) → AreNamed given → (known : Bool) (count : ℕ) (labelled : ℕ → Bool) (n : ℕ) (d : Layout) (w : ℕ) → n < count → count ≤ 65536 → w < 2 ^ 32 → IsAt known n d
     → Good known count labelled (suc n) d.names → ((t : ℕ) → target_of count (4 * n) w ≡ Some t → labelled (t / 4) ≡ true)
-    → (rest : List Line) (e : Layout) → Leads (text_of rest) (worded d (laid_word known count (4 * n) w)) e → Leads (line_of (coded count (4 * n) w) ++ text_of rest) d e
-word_and_more known count labelled n d w low few fit at good marked rest e h =
-    leads_both (line_of (coded count (4 * n) w)) (text_of rest) d (worded d (laid_word known count (4 * n) w)) e
-    (coded_leads known count labelled n d w fit low few at good marked) h
+    → (rest : List Line) (e : Layout) → Leads (text_of rest) (worded d (laid_word known count (4 * n) w)) e → Leads (line_of (coded given count (4 * n) w) ++ text_of rest) d e
+word_and_more given are known count labelled n d w low few fit at good marked rest e h =
+    leads_both (line_of (coded given count (4 * n) w)) (text_of rest) d (worded d (laid_word known count (4 * n) w)) e
+    (coded_leads given are known count labelled n d w fit low few at good marked) h
 
 -- a label, if there is one, and what stands behind it
 label_and_more : (known : Bool) (count : ℕ) (labelled : ℕ → Bool) (n : ℕ) (d : Layout) → n < count → IsAt known n d → Good known count labelled n d.names
@@ -244,28 +245,28 @@ label_and_more known count labelled n d low at good rest e h =
     subst (λ (text : List ℕ). Leads text d e) (sym (text_both (labels labelled n) rest))
     (leads_both (text_of (labels labelled n)) (text_of rest) d (record d { names = labelled_in known labelled n d.names }) e (labels_lead known count labelled n d low at good) h)
 
-pub code_leads : (known : Bool) (count : ℕ) (labelled : ℕ → Bool) → count ≤ 65536 → (ms : List (ℕ × Option ℕ)) (ws : List ℕ) (n : ℕ) (d : Layout) → n + length ws ≡ count → AllByRecursion (λ w. w < 2 ^ 32) ws → AllByRecursion (λ (m : ℕ × Option ℕ). HasText (say.Entry m.1)) ms
+pub code_leads : (given : Option (List Name)) → AreNamed given → (known : Bool) (count : ℕ) (labelled : ℕ → Bool) → count ≤ 65536 → (ms : List (ℕ × Option ℕ)) (ws : List ℕ) (n : ℕ) (d : Layout) → n + length ws ≡ count → AllByRecursion (λ w. w < 2 ^ 32) ws → AllByRecursion (λ (m : ℕ × Option ℕ). HasText (say.Entry m.1)) ms
     → AreMarks d.version (4 * n) (4 * (n + length ws)) ms → IsAt known n d → length d.entries + length ms ≤ 1024 → Free n d.entries → Good known count labelled n d.names → HaveLabels count labelled n ws
-    → Leads (text_of (code count labelled n ms ws)) d (with_code known count labelled n ms ws d)
+    → Leads (text_of (code given count labelled n ms ws)) d (with_code known count labelled n ms ws d)
 unfolding text_of code
-code_leads known count labelled few [] [] n d all fit texts placed at room free good named =
+code_leads given are known count labelled few [] [] n d all fit texts placed at room free good named =
     rw (append-nil d.entries, append-nil d.limits, append-nil d.text) (leads_none d)
-code_leads known count labelled few (m ∷ ms) [] n d all fit texts placed at room free good named = absurd (omega (arith, placed.0, placed.2))
-code_leads known count labelled few [] (w ∷ ws) n d all fit texts placed at room free good named =
+code_leads given are known count labelled few (m ∷ ms) [] n d all fit texts placed at room free good named = absurd (omega (arith, placed.0, placed.2))
+code_leads given are known count labelled few [] (w ∷ ws) n d all fit texts placed at room free good named =
     let low : n < count = omega (arith, all) in
     let e₁ = record d { names = labelled_in known labelled n d.names } in
     let at₁ : IsAt known n e₁ = record { text = at.text; words = at.words; pass = at.pass; line = at.line } in
     let good₁ = good_next known count labelled n d.names low few good in
     let v = laid_word known count (4 * n) w in
     let e₂ = worded e₁ v in
-    let rest = code count labelled (suc n) [] ws in
+    let rest = code given count labelled (suc n) [] ws in
     let end = with_code known count labelled (suc n) [] ws e₂ in
-    let more = code_leads known count labelled few [] ws (suc n) e₂ (omega (arith, all)) fit.1 tt tt (next_at_word known n e₁ v at₁) room (free_later n d.entries free) good₁ named.1 in
-    let behind = word_and_more known count labelled n e₁ w low few fit.0 at₁ good₁ named.0 rest end more in
-    let whole = label_and_more known count labelled n d low at good (coded count (4 * n) w ∷ rest) end behind in
-    leads_at (text_of (code count labelled n [] (w ∷ ws))) d end (with_code known count labelled n [] (w ∷ ws) d)
+    let more = code_leads given are known count labelled few [] ws (suc n) e₂ (omega (arith, all)) fit.1 tt tt (next_at_word known n e₁ v at₁) room (free_later n d.entries free) good₁ named.1 in
+    let behind = word_and_more given are known count labelled n e₁ w low few fit.0 at₁ good₁ named.0 rest end more in
+    let whole = label_and_more known count labelled n d low at good (coded given count (4 * n) w ∷ rest) end behind in
+    leads_at (text_of (code given count labelled n [] (w ∷ ws))) d end (with_code known count labelled n [] (w ∷ ws) d)
     (ap (λ (xs : List ℕ). record end { text = xs }) (append_assoc d.text (v ∷ []) (words_in known count (suc n) ws))) whole
-code_leads known count labelled few (m ∷ ms) (w ∷ ws) n d all fit texts placed at room free good named =
+code_leads given are known count labelled few (m ∷ ms) (w ∷ ws) n d all fit texts placed at room free good named =
     let low : n < count = omega (arith, all) in
     let e₁ = record d { names = labelled_in known labelled n d.names } in
     let at₁ : IsAt known n e₁ = record { text = at.text; words = at.words; pass = at.pass; line = at.line } in
@@ -278,15 +279,15 @@ code_leads known count labelled few (m ∷ ms) (w ∷ ws) n d all fit texts plac
           let e₂ = marked e₁ m in
           let at₂ : IsAt known n e₂ = record { text = at.text; words = at.words; pass = at.pass; line = at.line } in
           let e₃ = worded e₂ v in
-          let rest = code count labelled (suc n) ms ws in
+          let rest = code given count labelled (suc n) ms ws in
           let end = with_code known count labelled (suc n) ms ws e₃ in
           let next = top_marks d.version (4 * suc n) n (length ws) ms (next_marks d.version n m.0 (4 * (n + suc (length ws))) ms same placed.4) in
-          let more = code_leads known count labelled few ms ws (suc n) e₃ (omega (arith, all)) fit.1 texts.1 next (next_at_word known n e₂ v at₂) (omega (arith, room, length-append d.entries (m.0 ∷ []))) (free_behind n m.0 d.entries same free) good₁ named.1 in
-          let behind = word_and_more known count labelled n e₂ w low few fit.0 at₂ good₁ named.0 rest end more in
+          let more = code_leads given are known count labelled few ms ws (suc n) e₃ (omega (arith, all)) fit.1 texts.1 next (next_at_word known n e₂ v at₂) (omega (arith, room, length-append d.entries (m.0 ∷ []))) (free_behind n m.0 d.entries same free) good₁ named.1 in
+          let behind = word_and_more given are known count labelled n e₂ w low few fit.0 at₂ good₁ named.0 rest end more in
           let entry = line_leads (say.Entry m.1) [] e₁ e₂ at.line texts.0 bare_ends (one_entry e₁ m (omega (arith, at.words, low, few)) (omega (arith, room)) (λ k above. free k (omega (arith, above, at.words))) (omega (arith, same, at.words)) placed.3) in
-          let both = leads_both (line_of (bare (say.Entry m.1))) (line_of (coded count (4 * n) w) ++ text_of rest) e₁ e₂ end entry behind in
-          let whole = label_and_more known count labelled n d low at good (bare (say.Entry m.1) ∷ coded count (4 * n) w ∷ rest) end both in
-          rw here (leads_at (text_of (labels labelled n ++ (bare (say.Entry m.1) ∷ coded count (4 * n) w ∷ rest))) d end (with_code known count labelled n (m ∷ ms) (w ∷ ws) d)
+          let both = leads_both (line_of (bare (say.Entry m.1))) (line_of (coded given count (4 * n) w) ++ text_of rest) e₁ e₂ end entry behind in
+          let whole = label_and_more known count labelled n d low at good (bare (say.Entry m.1) ∷ coded given count (4 * n) w ∷ rest) end both in
+          rw here (leads_at (text_of (labels labelled n ++ (bare (say.Entry m.1) ∷ coded given count (4 * n) w ∷ rest))) d end (with_code known count labelled n (m ∷ ms) (w ∷ ws) d)
           (ap (λ (xs : List ℕ). record end { text = xs }) (append_assoc d.text (v ∷ []) words)
           ∙ ap (λ (xs : List ℕ). record end { text = d.text ++ (v ∷ words); entries = xs }) (append_assoc d.entries (m.0 ∷ []) (entries_of ms))
           ∙ ap (λ (xs : List (Option ℕ)). record end { text = d.text ++ (v ∷ words); entries = d.entries ++ (m.0 ∷ entries_of ms); limits = xs }) (append_assoc d.limits (m.1 ∷ []) (limits_of ms))) whole)
@@ -294,13 +295,13 @@ code_leads known count labelled few (m ∷ ms) (w ∷ ws) n d all fit texts plac
           let here : (m.0 == 4 * n) ≡ false = ne_eqb m.0 (4 * n) other in
           let above : 4 * suc n ≤ m.0 = omega (arith, placed.0, placed.1, other) in
           let e₂ = worded e₁ v in
-          let rest = code count labelled (suc n) (m ∷ ms) ws in
+          let rest = code given count labelled (suc n) (m ∷ ms) ws in
           let end = with_code known count labelled (suc n) (m ∷ ms) ws e₂ in
           let next = top_marks d.version (4 * suc n) n (length ws) (m ∷ ms) (above, placed.1, placed.2, placed.3, placed.4) in
-          let more = code_leads known count labelled few (m ∷ ms) ws (suc n) e₂ (omega (arith, all)) fit.1 texts next (next_at_word known n e₁ v at₁) room (free_later n d.entries free) good₁ named.1 in
-          let behind = word_and_more known count labelled n e₁ w low few fit.0 at₁ good₁ named.0 rest end more in
-          let whole = label_and_more known count labelled n d low at good (coded count (4 * n) w ∷ rest) end behind in
-          rw here (leads_at (text_of (labels labelled n ++ (coded count (4 * n) w ∷ rest))) d end (with_code known count labelled n (m ∷ ms) (w ∷ ws) d)
+          let more = code_leads given are known count labelled few (m ∷ ms) ws (suc n) e₂ (omega (arith, all)) fit.1 texts next (next_at_word known n e₁ v at₁) room (free_later n d.entries free) good₁ named.1 in
+          let behind = word_and_more given are known count labelled n e₁ w low few fit.0 at₁ good₁ named.0 rest end more in
+          let whole = label_and_more known count labelled n d low at good (coded given count (4 * n) w ∷ rest) end behind in
+          rw here (leads_at (text_of (labels labelled n ++ (coded given count (4 * n) w ∷ rest))) d end (with_code known count labelled n (m ∷ ms) (w ∷ ws) d)
           (ap (λ (xs : List ℕ). record end { text = xs }) (append_assoc d.text (v ∷ []) words)) whole)
     ]
 

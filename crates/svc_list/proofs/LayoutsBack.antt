@@ -21,6 +21,7 @@ use Rattle.svc_draft.specs.declared.statement.Statement.TheVariants as say
 use Rattle.svc_draft.specs.Options.{◌>>=◌}
 use Rattle.svc_draft.specs.Areas.{with_more}
 use Rattle.svc_draft.specs.Layouts.{is_limit, Layout, Names, no_distances, with_word, with_bytes, with_value, with_version, with_read_only, with_own, with_place, with_entry, with_limit, with_register, data_size, going_on, after, limits_in, data_in, image_laid}
+use Rattle.svc_names.specs.declared.name.Name.{Name}
 use Rattle.svc_list.specs.Listings.{Line, Says, Labels, Codes, Starts, bare, setting, settings, own_limit, marks, data_lines, all_data}
 
 -- the layout after all of these lines, of which none is a label
@@ -275,13 +276,13 @@ datum_laid d bytes w inside line alone room =
     ap (λ o. o >>= going_on go.Line) (word_in_data (holding d bytes) w inside ∙ one_datum d bytes w inside alone room)
     ∙ line_goes_on (holding d (bytes ++ bytes_of_word w)) line
 
-data_laid : (d : Layout) (n : ℕ) (bytes ws : List ℕ) → d.section ≡ section.Data → d.next ≡ go.Line → IsAlone d → length bytes + 4 * length ws ≤ 262144 → after_all (data_lines n ws) (holding d bytes) ≡ Some (holding d (bytes ++ bytes_of_words ws))
+data_laid : (given : Option (List Name)) (d : Layout) (n : ℕ) (bytes ws : List ℕ) → d.section ≡ section.Data → d.next ≡ go.Line → IsAlone d → length bytes + 4 * length ws ≤ 262144 → after_all (data_lines given n ws) (holding d bytes) ≡ Some (holding d (bytes ++ bytes_of_words ws))
 unfolding bytes_of_words
-data_laid d n bytes [] inside line alone room = rw (append-nil bytes) refl
-data_laid d n bytes (w ∷ ws) inside line alone room =
+data_laid given d n bytes [] inside line alone room = rw (append-nil bytes) refl
+data_laid given d n bytes (w ∷ ws) inside line alone room =
     let longer_by : length (bytes ++ bytes_of_word w) ≡ length bytes + 4 = length-append bytes (bytes_of_word w) ∙ ap (λ n. length bytes + n) (length-bytes_of_word w) in
-    ap (λ o. o >>= after_all (data_lines (n + 4) ws)) (datum_laid d bytes w inside line alone (omega (arith, room)))
-    ∙ data_laid d (n + 4) (bytes ++ bytes_of_word w) ws inside line alone (omega (arith, room, longer_by))
+    ap (λ o. o >>= after_all (data_lines given (n + 4) ws)) (datum_laid d bytes w inside line alone (omega (arith, room)))
+    ∙ data_laid given d (n + 4) (bytes ++ bytes_of_word w) ws inside line alone (omega (arith, room, longer_by))
     ∙ ap (λ xs. Some (holding d xs)) (append_assoc bytes (bytes_of_word w) (bytes_of_words ws))
 
 bytes_of_both : (xs ys : List ℕ) → bytes_of_words (xs ++ ys) ≡ bytes_of_words xs ++ bytes_of_words ys
@@ -298,24 +299,24 @@ fixed_laid d words inside first two =
     let count : length (bytes_of_words words) / 4 ≡ length words = omega (arith, size) in
     rw (version_again version.Two (holding d (bytes_of_words words)) two, inside, up_to, by_words, count) refl
 
-pub all_data_laid : (v : Version) (n : ℕ) (words : List ℕ) (d : Layout) → d.version ≡ Some v → d.section ≡ section.Data → d.next ≡ go.Line → IsAlone d → d.data_from ≡ 0 → d.data_bytes ≡ [] → d.read_only ≡ 0 → n ≤ length words → length words ≤ 65536
-    → after_all (all_data v n words) d ≡ Some (record d { data_bytes = bytes_of_words words; read_only = read_only_by v n })
-all_data_laid version.One n words d said inside line alone first none free few most =
-    ap (λ (xs : List ℕ). after_all (data_lines 1048576 words) (holding d xs)) none
-    ∙ data_laid d 1048576 [] words inside line alone (omega (arith, most))
+pub all_data_laid : (given : Option (List Name)) (v : Version) (n : ℕ) (words : List ℕ) (d : Layout) → d.version ≡ Some v → d.section ≡ section.Data → d.next ≡ go.Line → IsAlone d → d.data_from ≡ 0 → d.data_bytes ≡ [] → d.read_only ≡ 0 → n ≤ length words → length words ≤ 65536
+    → after_all (all_data given v n words) d ≡ Some (record d { data_bytes = bytes_of_words words; read_only = read_only_by v n })
+all_data_laid given version.One n words d said inside line alone first none free few most =
+    ap (λ (xs : List ℕ). after_all (data_lines given 1048576 words) (holding d xs)) none
+    ∙ data_laid given d 1048576 [] words inside line alone (omega (arith, most))
     ∙ ap (λ (q : ℕ). Some (record d { data_bytes = bytes_of_words words; read_only = q })) free
-all_data_laid version.Two n words d said inside line alone first none free few most =
+all_data_laid given version.Two n words d said inside line alone first none free few most =
     let front = take n words in
     let back = drop n words in
     let count : length front ≡ n = length-take-le n words few in
     let split : front ++ back ≡ words = take-append-drop n words in
     let sizes : length front + length back ≡ length words = sym (length-append front back) ∙ ap length split in
     let room : length (bytes_of_words front) + 4 * length back ≤ 262144 = omega (arith, length-bytes_of_words front, sizes, most) in
-    let fixed : after_all (data_lines 1048576 front) d ≡ Some (holding d (bytes_of_words front)) =
-    ap (λ (xs : List ℕ). after_all (data_lines 1048576 front) (holding d xs)) none ∙ data_laid d 1048576 [] front inside line alone (omega (arith, sizes, most)) in
-    after_both (data_lines 1048576 front) (bare say.ReadOnly ∷ data_lines (1048576 + 4 * n) back) d (holding d (bytes_of_words front)) fixed
-    ∙ ap (λ o. o >>= after_all (data_lines (1048576 + 4 * n) back)) (fixed_laid d front inside first said)
-    ∙ data_laid (record d { read_only = length front }) (1048576 + 4 * n) (bytes_of_words front) back inside line alone room
+    let fixed : after_all (data_lines given 1048576 front) d ≡ Some (holding d (bytes_of_words front)) =
+    ap (λ (xs : List ℕ). after_all (data_lines given 1048576 front) (holding d xs)) none ∙ data_laid given d 1048576 [] front inside line alone (omega (arith, sizes, most)) in
+    after_both (data_lines given 1048576 front) (bare say.ReadOnly ∷ data_lines given (1048576 + 4 * n) back) d (holding d (bytes_of_words front)) fixed
+    ∙ ap (λ o. o >>= after_all (data_lines given (1048576 + 4 * n) back)) (fixed_laid d front inside first said)
+    ∙ data_laid given (record d { read_only = length front }) (1048576 + 4 * n) (bytes_of_words front) back inside line alone room
     ∙ ap (λ (xs : List ℕ). Some (record d { data_bytes = xs; read_only = length front })) (sym (bytes_of_both front back) ∙ ap bytes_of_words split)
     ∙ ap (λ (q : ℕ). Some (record d { data_bytes = bytes_of_words words; read_only = q })) count
 

@@ -8,6 +8,7 @@ use Rattle.svc_image.specs.declared.version.Version.TheVariants as version
 use Rattle.svc_image.specs.Image.{Image}
 use Rattle.svc_draft.specs.declared.statement.Section.TheVariants as section
 use Rattle.svc_draft.specs.declared.statement.Statement.TheVariants as say
+use Rattle.svc_names.specs.declared.name.Name.{Name}
 use Rattle.svc_list.specs.Listings.{Labels, Line, bare, line_of, text_of, coded, Starts, labels, is_labelled, datum, setting, settings, own_limit, marks, code, data_lines, all_data, head_lines, lines_of, listing_of}
 
 -- what is put, and what is left to put, is the whole
@@ -24,13 +25,13 @@ none_left [] (suc i) h = refl
 none_left (x ∷ xs) zero h = absurd (omega (arith, h))
 none_left (x ∷ xs) (suc i) h = none_left xs i (omega (arith, h))
 
-pub data_step : (words : List ℕ) (i n : ℕ) → i < length words → text_of (data_lines n (drop i words)) ≡ line_of (datum n (slice_index words i)) ++ text_of (data_lines (n + 4) (drop (i + 1) words))
+pub data_step : (given : Option (List Name)) (words : List ℕ) (i n : ℕ) → i < length words → text_of (data_lines given n (drop i words)) ≡ line_of (datum given n (slice_index words i)) ++ text_of (data_lines given (n + 4) (drop (i + 1) words))
 unfolding text_of
-data_step words i n h = rw (add-one, drop-cons words i 0) refl
+data_step given words i n h = rw (add-one, drop-cons words i 0) refl
 
-pub data_none : (words : List ℕ) (i n : ℕ) → length words ≤ i → text_of (data_lines n (drop i words)) ≡ []
+pub data_none : (given : Option (List Name)) (words : List ℕ) (i n : ℕ) → length words ≤ i → text_of (data_lines given n (drop i words)) ≡ []
 unfolding text_of
-data_none words i n h = rw (none_left words i h) refl
+data_none given words i n h = rw (none_left words i h) refl
 
 pub text_both : (ss ts : List Line) → text_of (ss ++ ts) ≡ text_of ss ++ text_of ts
 unfolding text_of
@@ -45,52 +46,52 @@ unfolding text_of
 settings_none values i n h = rw (none_left values i h) refl
 
 -- a word at which an entry stands, and one at which none stands
-pub entry_step : (count : ℕ) (is : ℕ → Bool) (n : ℕ) (m : ℕ × Option ℕ) (w : ℕ) (ms : List (ℕ × Option ℕ)) (ws : List ℕ) → m.0 ≡ 4 * n
-    → text_of (code count is n (m ∷ ms) (w ∷ ws)) ≡ text_of (labels is n) ++ (line_of (bare (say.Entry m.1)) ++ (line_of (coded count (4 * n) w) ++ text_of (code count is (suc n) ms ws)))
+pub entry_step : (given : Option (List Name)) (count : ℕ) (is : ℕ → Bool) (n : ℕ) (m : ℕ × Option ℕ) (w : ℕ) (ms : List (ℕ × Option ℕ)) (ws : List ℕ) → m.0 ≡ 4 * n
+    → text_of (code given count is n (m ∷ ms) (w ∷ ws)) ≡ text_of (labels is n) ++ (line_of (bare (say.Entry m.1)) ++ (line_of (coded given count (4 * n) w) ++ text_of (code given count is (suc n) ms ws)))
 unfolding text_of code
-entry_step count is n m w ms ws same =
+entry_step given count is n m w ms ws same =
     let here : (m.0 == 4 * n) ≡ true = eq-eqb m.0 (4 * n) same in
-    rw here (text_both (labels is n) (bare (say.Entry m.1) ∷ coded count (4 * n) w ∷ code count is (suc n) ms ws))
+    rw here (text_both (labels is n) (bare (say.Entry m.1) ∷ coded given count (4 * n) w ∷ code given count is (suc n) ms ws))
 
-other_step : (count : ℕ) (is : ℕ → Bool) (n : ℕ) (m : ℕ × Option ℕ) (w : ℕ) (ms : List (ℕ × Option ℕ)) (ws : List ℕ) → (m.0 ≡ 4 * n → ⊥)
-    → text_of (code count is n (m ∷ ms) (w ∷ ws)) ≡ text_of (labels is n) ++ (line_of (coded count (4 * n) w) ++ text_of (code count is (suc n) (m ∷ ms) ws))
+other_step : (given : Option (List Name)) (count : ℕ) (is : ℕ → Bool) (n : ℕ) (m : ℕ × Option ℕ) (w : ℕ) (ms : List (ℕ × Option ℕ)) (ws : List ℕ) → (m.0 ≡ 4 * n → ⊥)
+    → text_of (code given count is n (m ∷ ms) (w ∷ ws)) ≡ text_of (labels is n) ++ (line_of (coded given count (4 * n) w) ++ text_of (code given count is (suc n) (m ∷ ms) ws))
 unfolding text_of code
-other_step count is n m w ms ws other =
+other_step given count is n m w ms ws other =
     let here : (m.0 == 4 * n) ≡ false = ne_eqb m.0 (4 * n) other in
-    rw here (text_both (labels is n) (coded count (4 * n) w ∷ code count is (suc n) (m ∷ ms) ws))
+    rw here (text_both (labels is n) (coded given count (4 * n) w ∷ code given count is (suc n) (m ∷ ms) ws))
 
-last_step : (count : ℕ) (is : ℕ → Bool) (n w : ℕ) (ws : List ℕ) → text_of (code count is n [] (w ∷ ws)) ≡ text_of (labels is n) ++ (line_of (coded count (4 * n) w) ++ text_of (code count is (suc n) [] ws))
+last_step : (given : Option (List Name)) (count : ℕ) (is : ℕ → Bool) (n w : ℕ) (ws : List ℕ) → text_of (code given count is n [] (w ∷ ws)) ≡ text_of (labels is n) ++ (line_of (coded given count (4 * n) w) ++ text_of (code given count is (suc n) [] ws))
 unfolding text_of code
-last_step count is n w ws = text_both (labels is n) (coded count (4 * n) w ∷ code count is (suc n) [] ws)
+last_step given count is n w ws = text_both (labels is n) (coded given count (4 * n) w ∷ code given count is (suc n) [] ws)
 
 -- no entry stands at the word
-pub none_step : (count : ℕ) (is : ℕ → Bool) (v : Version) (es ls : List ℕ) (n w : ℕ) (ws : List ℕ) → ((e l : ℕ) (fs ks : List ℕ) → es ≡ e ∷ fs → ls ≡ l ∷ ks → e ≡ 4 * n → ⊥)
-    → text_of (code count is n (marks v es ls) (w ∷ ws)) ≡ text_of (labels is n) ++ (line_of (coded count (4 * n) w) ++ text_of (code count is (suc n) (marks v es ls) ws))
-none_step count is v [] ls n w ws other = last_step count is n w ws
-none_step count is v (e ∷ es) [] n w ws other = last_step count is n w ws
-none_step count is v (e ∷ es) (l ∷ ls) n w ws other = other_step count is n (e, own_limit v l) w (marks v es ls) ws (λ same. other e l es ls refl refl same)
+pub none_step : (given : Option (List Name)) (count : ℕ) (is : ℕ → Bool) (v : Version) (es ls : List ℕ) (n w : ℕ) (ws : List ℕ) → ((e l : ℕ) (fs ks : List ℕ) → es ≡ e ∷ fs → ls ≡ l ∷ ks → e ≡ 4 * n → ⊥)
+    → text_of (code given count is n (marks v es ls) (w ∷ ws)) ≡ text_of (labels is n) ++ (line_of (coded given count (4 * n) w) ++ text_of (code given count is (suc n) (marks v es ls) ws))
+none_step given count is v [] ls n w ws other = last_step given count is n w ws
+none_step given count is v (e ∷ es) [] n w ws other = last_step given count is n w ws
+none_step given count is v (e ∷ es) (l ∷ ls) n w ws other = other_step given count is n (e, own_limit v l) w (marks v es ls) ws (λ same. other e l es ls refl refl same)
 
-code_over : (count : ℕ) (is : ℕ → Bool) (n : ℕ) (ms : List (ℕ × Option ℕ)) → code count is n ms [] ≡ []
+code_over : (given : Option (List Name)) (count : ℕ) (is : ℕ → Bool) (n : ℕ) (ms : List (ℕ × Option ℕ)) → code given count is n ms [] ≡ []
 unfolding code
-code_over count is n [] = refl
-code_over count is n (m ∷ ms) = refl
+code_over given count is n [] = refl
+code_over given count is n (m ∷ ms) = refl
 
-pub code_none : (count : ℕ) (is : ℕ → Bool) (ms : List (ℕ × Option ℕ)) (words : List ℕ) (i n : ℕ) → length words ≤ i → text_of (code count is n ms (drop i words)) ≡ []
+pub code_none : (given : Option (List Name)) (count : ℕ) (is : ℕ → Bool) (ms : List (ℕ × Option ℕ)) (words : List ℕ) (i n : ℕ) → length words ≤ i → text_of (code given count is n ms (drop i words)) ≡ []
 unfolding text_of
-code_none count is ms words i n h = rw (none_left words i h, code_over count is n ms) refl
+code_none given count is ms words i n h = rw (none_left words i h, code_over given count is n ms) refl
 
 -- the data's lines where the first ones are read-only
-pub fixed_data : (n : ℕ) (front back : List ℕ) → text_of (data_lines 1048576 front ++ (bare say.ReadOnly ∷ data_lines (1048576 + 4 * n) back)) ≡ text_of (data_lines 1048576 front) ++ (line_of (bare say.ReadOnly) ++ text_of (data_lines (1048576 + 4 * n) back))
+pub fixed_data : (given : Option (List Name)) (n : ℕ) (front back : List ℕ) → text_of (data_lines given 1048576 front ++ (bare say.ReadOnly ∷ data_lines given (1048576 + 4 * n) back)) ≡ text_of (data_lines given 1048576 front) ++ (line_of (bare say.ReadOnly) ++ text_of (data_lines given (1048576 + 4 * n) back))
 unfolding text_of
-fixed_data n front back = text_both (data_lines 1048576 front) (bare say.ReadOnly ∷ data_lines (1048576 + 4 * n) back)
+fixed_data given n front back = text_both (data_lines given 1048576 front) (bare say.ReadOnly ∷ data_lines given (1048576 + 4 * n) back)
 
 -- the listing, part by part
-pub listing_parts : (img : Image) → listing_of img ≡ text_of (head_lines img.version (slice_index img.limits 0) img.start) ++ (text_of (settings 1 img.registers) ++ (text_of (code (length img.text) (is_labelled img.entries img.text) 0 (marks img.version img.entries img.limits) img.text) ++ (line_of (bare (say.Section section.Data)) ++ text_of (all_data img.version img.read_only img.words))))
+pub listing_parts : (given : Option (List Name)) (img : Image) → listing_of given img ≡ text_of (head_lines img.version (slice_index img.limits 0) img.start) ++ (text_of (settings 1 img.registers) ++ (text_of (code given (length img.text) (is_labelled img.entries img.text) 0 (marks img.version img.entries img.limits) img.text) ++ (line_of (bare (say.Section section.Data)) ++ text_of (all_data given img.version img.read_only img.words))))
 unfolding listing_of lines_of text_of
-listing_parts img =
+listing_parts given img =
     let head = head_lines img.version (slice_index img.limits 0) img.start in
-    let words = code (length img.text) (is_labelled img.entries img.text) 0 (marks img.version img.entries img.limits) img.text in
-    let body = bare (say.Section section.Data) ∷ all_data img.version img.read_only img.words in
+    let words = code given (length img.text) (is_labelled img.entries img.text) 0 (marks img.version img.entries img.limits) img.text in
+    let body = bare (say.Section section.Data) ∷ all_data given img.version img.read_only img.words in
     text_both head (settings 1 img.registers ++ (words ++ body))
     ∙ ap (λ (xs : List ℕ). text_of head ++ xs) (text_both (settings 1 img.registers) (words ++ body)
     ∙ ap (λ (xs : List ℕ). text_of (settings 1 img.registers) ++ xs) (text_both words body))
@@ -146,51 +147,51 @@ head_two v limit start o o₁ o₂ two e₁ e₂ =
     ∙ ap (λ (x : Version). o ++ text_of (head_lines x limit start)) (sym two)
 
 -- data of which the first words are read-only
-pub split_put : (n : ℕ) (words front back o o₁ o₂ o₃ : List ℕ) → front ≡ take n words → back ≡ drop n words → o₁ ≡ o ++ text_of (data_lines 1048576 front) → o₂ ≡ o₁ ++ line_of (bare say.ReadOnly) → o₃ ≡ o₂ ++ text_of (data_lines (1048576 + 4 * n) back) → o₃ ≡ o ++ text_of (all_data version.Two n words)
-split_put n words front back o o₁ o₂ o₃ f b e₁ e₂ e₃ =
-    e₃ ∙ ap (λ (xs : List ℕ). xs ++ text_of (data_lines (1048576 + 4 * n) back)) e₂ ∙ append_assoc o₁ (line_of (bare say.ReadOnly)) (text_of (data_lines (1048576 + 4 * n) back))
-    ∙ ap (λ (xs : List ℕ). xs ++ (line_of (bare say.ReadOnly) ++ text_of (data_lines (1048576 + 4 * n) back))) e₁
-    ∙ append_assoc o (text_of (data_lines 1048576 front)) (line_of (bare say.ReadOnly) ++ text_of (data_lines (1048576 + 4 * n) back))
-    ∙ ap (λ (xs : List ℕ). o ++ xs) (sym (fixed_data n front back))
-    ∙ ap (λ (xs : List ℕ). o ++ text_of (data_lines 1048576 xs ++ (bare say.ReadOnly ∷ data_lines (1048576 + 4 * n) back))) f
-    ∙ ap (λ (xs : List ℕ). o ++ text_of (data_lines 1048576 (take n words) ++ (bare say.ReadOnly ∷ data_lines (1048576 + 4 * n) xs))) b
+pub split_put : (given : Option (List Name)) (n : ℕ) (words front back o o₁ o₂ o₃ : List ℕ) → front ≡ take n words → back ≡ drop n words → o₁ ≡ o ++ text_of (data_lines given 1048576 front) → o₂ ≡ o₁ ++ line_of (bare say.ReadOnly) → o₃ ≡ o₂ ++ text_of (data_lines given (1048576 + 4 * n) back) → o₃ ≡ o ++ text_of (all_data given version.Two n words)
+split_put given n words front back o o₁ o₂ o₃ f b e₁ e₂ e₃ =
+    e₃ ∙ ap (λ (xs : List ℕ). xs ++ text_of (data_lines given (1048576 + 4 * n) back)) e₂ ∙ append_assoc o₁ (line_of (bare say.ReadOnly)) (text_of (data_lines given (1048576 + 4 * n) back))
+    ∙ ap (λ (xs : List ℕ). xs ++ (line_of (bare say.ReadOnly) ++ text_of (data_lines given (1048576 + 4 * n) back))) e₁
+    ∙ append_assoc o (text_of (data_lines given 1048576 front)) (line_of (bare say.ReadOnly) ++ text_of (data_lines given (1048576 + 4 * n) back))
+    ∙ ap (λ (xs : List ℕ). o ++ xs) (sym (fixed_data given n front back))
+    ∙ ap (λ (xs : List ℕ). o ++ text_of (data_lines given 1048576 xs ++ (bare say.ReadOnly ∷ data_lines given (1048576 + 4 * n) back))) f
+    ∙ ap (λ (xs : List ℕ). o ++ text_of (data_lines given 1048576 (take n words) ++ (bare say.ReadOnly ∷ data_lines given (1048576 + 4 * n) xs))) b
 
 -- a word, and the rest of the text
-pub code_step : (count : ℕ) (is : ℕ → Bool) (ms left : List (ℕ × Option ℕ)) (words out new whole : List ℕ) (i : ℕ) → i < length words
-    → ((rest : List ℕ) → new ++ text_of (code count is (suc i) left rest) ≡ out ++ text_of (code count is i ms (slice_index words i ∷ rest)))
-    → out ++ text_of (code count is i ms (drop i words)) ≡ whole → new ++ text_of (code count is (i + 1) left (drop (i + 1) words)) ≡ whole
-code_step count is ms left words out new whole i low step so_far =
+pub code_step : (given : Option (List Name)) (count : ℕ) (is : ℕ → Bool) (ms left : List (ℕ × Option ℕ)) (words out new whole : List ℕ) (i : ℕ) → i < length words
+    → ((rest : List ℕ) → new ++ text_of (code given count is (suc i) left rest) ≡ out ++ text_of (code given count is i ms (slice_index words i ∷ rest)))
+    → out ++ text_of (code given count is i ms (drop i words)) ≡ whole → new ++ text_of (code given count is (i + 1) left (drop (i + 1) words)) ≡ whole
+code_step given count is ms left words out new whole i low step so_far =
     let next : i + 1 ≡ suc i = omega arith in
     let at : drop i words ≡ slice_index words i ∷ drop (suc i) words = drop-cons words i 0 low in
-    rw next (step (drop (suc i) words) ∙ ap (λ (xs : List ℕ). out ++ text_of (code count is i ms xs)) (sym at) ∙ so_far)
+    rw next (step (drop (suc i) words) ∙ ap (λ (xs : List ℕ). out ++ text_of (code given count is i ms xs)) (sym at) ∙ so_far)
 
 -- a label that was put, and what is put behind it
 behind_label : (before o l part rest : List ℕ) (p : List ℕ) → o ≡ before ++ l → p ++ rest ≡ o ++ part → p ++ rest ≡ before ++ (l ++ part)
 behind_label before o l part rest p e k = k ∙ ap (λ (xs : List ℕ). xs ++ part) e ∙ append_assoc before l part
 
 -- a word behind the mark of its entry, and one where no entry stands
-pub mark_put : (count : ℕ) (is : ℕ → Bool) (v : Version) (n pc word limit : ℕ) (entries limits es ls words before o o₁ o₂ : List ℕ) → pc ≡ 4 * n → entries ≡ pc ∷ es → limits ≡ limit ∷ ls → o ≡ before ++ text_of (labels is n)
-    → o₁ ≡ o ++ line_of (bare (say.Entry (own_limit v limit))) → o₂ ≡ o₁ ++ line_of (coded count pc word)
-    → o₂ ++ text_of (code count is (suc n) (marks v es ls) words) ≡ before ++ text_of (code count is n (marks v entries limits) (word ∷ words))
-mark_put count is v n pc word limit entries limits es ls words before o o₁ o₂ same f g put e₁ e₂ =
-    let at : line_of (coded count pc word) ≡ line_of (coded count (4 * n) word) = ap (λ (address : ℕ). line_of (coded count address word)) same in
-    let rest = text_of (code count is (suc n) (marks v es ls) words) in
+pub mark_put : (given : Option (List Name)) (count : ℕ) (is : ℕ → Bool) (v : Version) (n pc word limit : ℕ) (entries limits es ls words before o o₁ o₂ : List ℕ) → pc ≡ 4 * n → entries ≡ pc ∷ es → limits ≡ limit ∷ ls → o ≡ before ++ text_of (labels is n)
+    → o₁ ≡ o ++ line_of (bare (say.Entry (own_limit v limit))) → o₂ ≡ o₁ ++ line_of (coded given count pc word)
+    → o₂ ++ text_of (code given count is (suc n) (marks v es ls) words) ≡ before ++ text_of (code given count is n (marks v entries limits) (word ∷ words))
+mark_put given count is v n pc word limit entries limits es ls words before o o₁ o₂ same f g put e₁ e₂ =
+    let at : line_of (coded given count pc word) ≡ line_of (coded given count (4 * n) word) = ap (λ (address : ℕ). line_of (coded given count address word)) same in
+    let rest = text_of (code given count is (suc n) (marks v es ls) words) in
     let entry = line_of (bare (say.Entry (own_limit v limit))) in
-    let line = line_of (coded count (4 * n) word) in
-    let whole : text_of (code count is n (marks v entries limits) (word ∷ words)) ≡ text_of (labels is n) ++ (entry ++ (line ++ rest)) =
-    ap (λ (xs : List ℕ). text_of (code count is n (marks v xs limits) (word ∷ words))) f ∙ ap (λ (xs : List ℕ). text_of (code count is n (marks v (pc ∷ es) xs) (word ∷ words))) g
-    ∙ entry_step count is n (pc, own_limit v limit) word (marks v es ls) words same in
+    let line = line_of (coded given count (4 * n) word) in
+    let whole : text_of (code given count is n (marks v entries limits) (word ∷ words)) ≡ text_of (labels is n) ++ (entry ++ (line ++ rest)) =
+    ap (λ (xs : List ℕ). text_of (code given count is n (marks v xs limits) (word ∷ words))) f ∙ ap (λ (xs : List ℕ). text_of (code given count is n (marks v (pc ∷ es) xs) (word ∷ words))) g
+    ∙ entry_step given count is n (pc, own_limit v limit) word (marks v es ls) words same in
     behind_label before o (text_of (labels is n)) (entry ++ (line ++ rest)) rest o₂ put (two_put o o₁ o₂ entry line (entry ++ (line ++ rest)) rest e₁ (e₂ ∙ ap (λ (xs : List ℕ). o₁ ++ xs) at) refl)
     ∙ ap (λ (xs : List ℕ). before ++ xs) (sym whole)
 
-pub word_put : (count : ℕ) (is : ℕ → Bool) (v : Version) (n pc word : ℕ) (entries limits words before o o₁ : List ℕ) → pc ≡ 4 * n → ((e l : ℕ) (es ls : List ℕ) → entries ≡ e ∷ es → limits ≡ l ∷ ls → e ≡ pc → ⊥) → o ≡ before ++ text_of (labels is n)
-    → o₁ ≡ o ++ line_of (coded count pc word)
-    → o₁ ++ text_of (code count is (suc n) (marks v entries limits) words) ≡ before ++ text_of (code count is n (marks v entries limits) (word ∷ words))
-word_put count is v n pc word entries limits words before o o₁ same other put e₁ =
-    let at : line_of (coded count pc word) ≡ line_of (coded count (4 * n) word) = ap (λ (address : ℕ). line_of (coded count address word)) same in
-    let rest = text_of (code count is (suc n) (marks v entries limits) words) in
-    let line = line_of (coded count (4 * n) word) in
-    let whole = none_step count is v entries limits n word words (λ e l es ls f g here. other e l es ls f g (here ∙ sym same)) in
+pub word_put : (given : Option (List Name)) (count : ℕ) (is : ℕ → Bool) (v : Version) (n pc word : ℕ) (entries limits words before o o₁ : List ℕ) → pc ≡ 4 * n → ((e l : ℕ) (es ls : List ℕ) → entries ≡ e ∷ es → limits ≡ l ∷ ls → e ≡ pc → ⊥) → o ≡ before ++ text_of (labels is n)
+    → o₁ ≡ o ++ line_of (coded given count pc word)
+    → o₁ ++ text_of (code given count is (suc n) (marks v entries limits) words) ≡ before ++ text_of (code given count is n (marks v entries limits) (word ∷ words))
+word_put given count is v n pc word entries limits words before o o₁ same other put e₁ =
+    let at : line_of (coded given count pc word) ≡ line_of (coded given count (4 * n) word) = ap (λ (address : ℕ). line_of (coded given count address word)) same in
+    let rest = text_of (code given count is (suc n) (marks v entries limits) words) in
+    let line = line_of (coded given count (4 * n) word) in
+    let whole = none_step given count is v entries limits n word words (λ e l es ls f g here. other e l es ls f g (here ∙ sym same)) in
     behind_label before o (text_of (labels is n)) (line ++ rest) rest o₁ put (one_put o o₁ line (line ++ rest) rest (e₁ ∙ ap (λ (xs : List ℕ). o ++ xs) at) refl)
     ∙ ap (λ (xs : List ℕ). before ++ xs) (sym whole)
 

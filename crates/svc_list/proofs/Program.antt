@@ -26,9 +26,10 @@ use Rattle.svc_operands.specs.Values.{value_at}
 use Rattle.svc_operands.specs.Names.{padded}
 use Rattle.svc_asm.specs.Statements.{said_by, said_at, directive_at, statement_at, line_at}
 use Rattle.svc_asm.specs.Programs.{IsProgramOf}
+use Rattle.svc_names.specs.declared.name.Name.{Name}
 use Rattle.svc_list.specs.Listings.{label_text, HasText, Line, Starts, bare, line_of, text_of, led_along, target_by, target_of, is_at, is_target, is_labelled, setting, settings, own_limit, marks, code, data_lines, all_data, head_lines, listing_of}
 use Rattle.svc_list.proofs.LinesBack.{IsRead, by_directive, directive_stops, unlabelled, next_back, ended_back}
-use Rattle.svc_list.proofs.NotesBack.{bare_ends, address_ends}
+use Rattle.svc_list.proofs.NotesBack.{AreNamed, bare_ends, datum_ends}
 use Rattle.svc_list.proofs.LabelsBack.{text_spot}
 use Rattle.svc_list.proofs.AimsBack.{label_value}
 use Rattle.svc_list.proofs.LayoutsBack.{Above, common_limit, layout_for, registers_in, settings_laid, are_zeros, marks_are, marks_few, limit_laid, marks_entries, marks_limits, limits_of, all_data_laid, image_back}
@@ -71,9 +72,9 @@ marks_text v [] ls h = tt
 marks_text v (e ∷ es) [] h = tt
 marks_text v (e ∷ es) (l ∷ ls) h = (own_text_fits v l h.0, marks_text v es ls h.1)
 
-data_text : (n : ℕ) (ws : List ℕ) → AllByRecursion (λ w. w < 2 ^ 32) ws → AllByRecursion IsRead (data_lines n ws)
-data_text n [] h = tt
-data_text n (w ∷ ws) h = (((refl, refl, h.0), address_ends n), data_text (n + 4) ws h.1)
+data_text : (given : Option (List Name)) → AreNamed given → (n : ℕ) (ws : List ℕ) → AllByRecursion (λ w. w < 2 ^ 32) ws → AllByRecursion IsRead (data_lines given n ws)
+data_text given are n [] h = tt
+data_text given are n (w ∷ ws) h = (((refl, refl, h.0), datum_ends given n are), data_text given are (n + 4) ws h.1)
 
 take_fits : (n : ℕ) (ws : List ℕ) → AllByRecursion (λ w. w < 2 ^ 32) ws → AllByRecursion (λ w. w < 2 ^ 32) (take n ws)
 take_fits zero ws h = tt
@@ -85,10 +86,10 @@ drop_fits zero ws h = h
 drop_fits (suc n) [] h = tt
 drop_fits (suc n) (w ∷ ws) h = drop_fits n ws h.1
 
-all_data_text : (v : Version) (n : ℕ) (ws : List ℕ) → AllByRecursion (λ w. w < 2 ^ 32) ws → AllByRecursion IsRead (all_data v n ws)
-all_data_text version.One n ws h = data_text 1048576 ws h
-all_data_text version.Two n ws h =
-    both (data_lines 1048576 (take n ws)) (bare say.ReadOnly ∷ data_lines (1048576 + 4 * n) (drop n ws)) (data_text 1048576 (take n ws) (take_fits n ws h)) ((tt, bare_ends), data_text (1048576 + 4 * n) (drop n ws) (drop_fits n ws h))
+all_data_text : (given : Option (List Name)) → AreNamed given → (v : Version) (n : ℕ) (ws : List ℕ) → AllByRecursion (λ w. w < 2 ^ 32) ws → AllByRecursion IsRead (all_data given v n ws)
+all_data_text given are version.One n ws h = data_text given are 1048576 ws h
+all_data_text given are version.Two n ws h =
+    both (data_lines given 1048576 (take n ws)) (bare say.ReadOnly ∷ data_lines given (1048576 + 4 * n) (drop n ws)) (data_text given are 1048576 (take n ws) (take_fits n ws h)) ((tt, bare_ends), data_text given are (1048576 + 4 * n) (drop n ws) (drop_fits n ws h))
 
 -- limits have 32 bits
 limits_small : (ls : List ℕ) → All IsLimit ls → AllByRecursion (λ l. l < 2 ^ 32) ls
@@ -228,9 +229,9 @@ abbrev passed : Names → Bool → ℕ → Image → Layout
 passed names known from img =
     record (layout_for (names_in known (is_labelled img.entries img.text) 0 img.text names) known from img) { start = Some (begun known img.start); text = words_in known (length img.text) 0 img.text }
 
-pass_leads : (names : Names) (known : Bool) (from : ℕ) (img : Image) → IsImage img → Begins known names img.start → Good known (length img.text) (is_labelled img.entries img.text) 0 names
-    → Leads (listing_of img) (empty names known 0 from) (passed names known from img)
-pass_leads names known from img sound begins good =
+pass_leads : (given : Option (List Name)) → AreNamed given → (names : Names) (known : Bool) (from : ℕ) (img : Image) → IsImage img → Begins known names img.start → Good known (length img.text) (is_labelled img.entries img.text) 0 names
+    → Leads (listing_of given img) (empty names known 0 from) (passed names known from img)
+pass_leads given are names known from img sound begins good =
     let v = img.version in
     let limit = slice_index img.limits 0 in
     let count = length img.text in
@@ -249,19 +250,19 @@ pass_leads names known from img sound begins good =
     let placed = marks_are v 0 (4 * (0 + count)) img.entries img.limits (recursion_from_All IsLimit img.limits sound.limits_fit) (subst (λ (t : ℕ). Above 0 t img.entries) top above) in
     let first = head_leads v limit img.start names known from (first_limit img.limits sound.limits_fit (omega (arith, sound.limits_each, sound.entries_some))) begins in
     let second = lines_lead (settings 1 img.registers) d₁ d₂ refl (settings_text 1 img.registers (fits img.registers sound.registers_fit)) (settings_laid d₁ [] img.registers zeros 1 refl (sym sound.registers_all) (are_zeros zeros refl) (omega (arith, sound.registers_all))) in
-    let third = code_leads known count labelled sound.text_few ms img.text 0 d₂ (omega arith) (fits img.text sound.text_fits) (marks_text v img.entries img.limits limits) placed (record { text = refl; words = refl; pass = refl; line = refl }) (omega (arith, marks_few v img.entries img.limits, sound.entries_few)) (λ k above. refl) good (image_labels img) in
+    let third = code_leads given are known count labelled sound.text_few ms img.text 0 d₂ (omega arith) (fits img.text sound.text_fits) (marks_text v img.entries img.limits limits) placed (record { text = refl; words = refl; pass = refl; line = refl }) (omega (arith, marks_few v img.entries img.limits, sound.entries_few)) (λ k above. refl) good (image_labels img) in
     let fourth = line_leads (say.Section section.Data) [] d₃ d₄ refl tt bare_ends refl in
-    let fifth = lines_lead (all_data v img.read_only img.words) d₄ d₅ refl (all_data_text v img.read_only img.words (fits img.words sound.words_fit)) (all_data_laid v img.read_only img.words d₄ refl refl refl (refl, refl, refl, refl) refl refl refl sound.read_only_few sound.words_few) in
-    let body = text_of (all_data v img.read_only img.words) in
-    let words = text_of (code count labelled 0 ms img.text) in
+    let fifth = lines_lead (all_data given v img.read_only img.words) d₄ d₅ refl (all_data_text given are v img.read_only img.words (fits img.words sound.words_fit)) (all_data_laid given v img.read_only img.words d₄ refl refl refl (refl, refl, refl, refl) refl refl refl sound.read_only_few sound.words_few) in
+    let body = text_of (all_data given v img.read_only img.words) in
+    let words = text_of (code given count labelled 0 ms img.text) in
     let sets = text_of (settings 1 img.registers) in
     let mark = line_of (bare (say.Section section.Data)) in
     let whole = leads_both (text_of (head_lines v limit img.start)) (sets ++ (words ++ (mark ++ body))) d₀ d₁ d₅ first
     (leads_both sets (words ++ (mark ++ body)) d₁ d₂ d₅ second (leads_both words (mark ++ body) d₂ d₃ d₅ third (leads_both mark body d₃ d₄ d₅ fourth fifth))) in
-    leads_at (listing_of img) d₀ d₅ (passed names known from img)
+    leads_at (listing_of given img) d₀ d₅ (passed names known from img)
     (ap (λ (es : List ℕ). record (passed names known from img) { entries = es; limits = limits_of ms }) (marks_entries v img.entries img.limits sound.limits_each)
     ∙ ap (λ (ls : List (Option ℕ)). record (passed names known from img) { limits = ls }) (marks_limits v img.entries img.limits sound.limits_each))
-    (subst (λ (text : List ℕ). Leads text d₀ d₅) (sym (listing_parts img)) whole)
+    (subst (λ (text : List ℕ). Leads text d₀ d₅) (sym (listing_parts given img)) whole)
 
 -- the names that the first pass finds
 abbrev found_names : Image → Names
@@ -286,14 +287,14 @@ second_laid names from img sound =
     ∙ ap (λ (found : Names). layout_for found true from img) (names_known (is_labelled img.entries img.text) 0 img.text names)
 
 -- the listing of an image is a program of it
-pub listing_is_program : (img : Image) → IsImage img → IsProgramOf (listing_of img) img
-listing_is_program img sound =
+pub listing_is_program : (given : Option (List Name)) → AreNamed given → (img : Image) → IsImage img → IsProgramOf (listing_of given img) img
+listing_is_program given are img sound =
     let names = found_names img in
     let from = bss_behind img in
-    let first = leads_whole (listing_of img) (empty no_names false 0 0) (passed no_names false 0 img) (pass_leads no_names false 0 img sound tt (λ k above low. refl)) in
-    let second = leads_whole (listing_of img) (empty names true 0 from) (layout_for names true from img)
-    (leads_at (listing_of img) (empty names true 0 from) (passed names true from img) (layout_for names true from img) (second_laid names from img sound)
-    (pass_leads names true from img sound (start_found img sound) (found_all img sound))) in
+    let first = leads_whole (listing_of given img) (empty no_names false 0 0) (passed no_names false 0 img) (pass_leads given are no_names false 0 img sound tt (λ k above low. refl)) in
+    let second = leads_whole (listing_of given img) (empty names true 0 from) (layout_for names true from img)
+    (leads_at (listing_of given img) (empty names true 0 from) (passed names true from img) (layout_for names true from img) (second_laid names from img sound)
+    (pass_leads given are names true from img sound (start_found img sound) (found_all img sound))) in
     record {
       layout = layout_for names true from img;
       laid = record { first_lines = first.0; first = passed no_names false 0 img; finds = first.1; lines = second.0; makes = second.1 };

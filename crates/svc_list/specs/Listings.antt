@@ -21,6 +21,8 @@ use Rattle.svc_instructions.specs.declared.table.Part.{Part}
 use Rattle.svc_instructions.specs.declared.table.Part.TheVariants as part
 use Rattle.svc_instructions.specs.declared.table.Row.{Row}
 use Rattle.svc_instructions.specs.Instructions.{taken, parts_of, row_of}
+use Rattle.svc_names.specs.declared.name.Name.{Name}
+use Rattle.svc_names.specs.Given.{noted_by}
 
 -- an operand behind its space, and the comma behind it
 abbrev pub register_text : Register → List ℕ
@@ -134,12 +136,17 @@ HasText (say.Register r n) = n < 2 ^ 32
 HasText (say.Section s) = Unit {0}
 HasText _ = ⊥
 
--- the comments behind a word of the text, by its address and its bits, and behind a word of the data, by its address
+-- how the comment behind a word begins: with its address
 abbrev pub address_note : ℕ → List ℕ
 address_note address = 9 ∷ (codes "# 0x" ++ hex_text address)
 
-abbrev pub word_note : (address word : ℕ) → List ℕ
-word_note address word = address_note address ++ (32 ∷ hex_text word)
+-- the comments behind a word of the text, which tells its bits, and behind a word of the data: both end with the name of
+-- the address, if names are given and it has one
+abbrev pub word_note : Option (List Name) → (address word : ℕ) → List ℕ
+word_note names address word = address_note address ++ (32 ∷ (hex_text word ++ noted_by names address))
+
+abbrev pub datum_note : Option (List Name) → (address : ℕ) → List ℕ
+datum_note names address = address_note address ++ noted_by names address
 
 -- a line: a statement and the comment behind it, if any; a label; a word of the text, the address that it leads to, if any, and the comment behind it; or the start, by its label
 pub data Line : Type 0 where
@@ -220,45 +227,45 @@ marks v [] ls = []
 marks v (e ∷ es) [] = []
 
 -- the line of a word of a text of so many words, and that of a word of the data, at this address
-abbrev pub coded : (count address word : ℕ) → Line
-coded count address word = Codes word (target_of count address word) (word_note address word)
+abbrev pub coded : Option (List Name) → (count address word : ℕ) → Line
+coded names count address word = Codes word (target_of count address word) (word_note names address word)
 
-abbrev pub datum : (address word : ℕ) → Line
-datum address word = Says (say.Value wide.Word word go.Line) (address_note address)
+abbrev pub datum : Option (List Name) → (address word : ℕ) → Line
+datum names address word = Says (say.Value wide.Word word go.Line) (datum_note names address)
 
 -- the label of the n-th word, if it has one
 unfoldable pub labels : (ℕ → Bool) → ℕ → List Line
 labels labelled n = if labelled n then Labels (4 * n) ∷ [] else []
 
 -- the lines of text words, of which the first is the n-th, of the entries among them, and of their labels
-unfoldable pub code : ℕ → (ℕ → Bool) → ℕ → List (ℕ × Option ℕ) → List ℕ → List Line
-code count labelled n ms [] = []
-code count labelled n [] (w ∷ ws) = labels labelled n ++ (coded count (4 * n) w ∷ code count labelled (suc n) [] ws)
-code count labelled n (m ∷ ms) (w ∷ ws) =
+unfoldable pub code : Option (List Name) → ℕ → (ℕ → Bool) → ℕ → List (ℕ × Option ℕ) → List ℕ → List Line
+code names count labelled n ms [] = []
+code names count labelled n [] (w ∷ ws) = labels labelled n ++ (coded names count (4 * n) w ∷ code names count labelled (suc n) [] ws)
+code names count labelled n (m ∷ ms) (w ∷ ws) =
     labels labelled n
-    ++ (if m.0 == 4 * n then bare (say.Entry m.1) ∷ coded count (4 * n) w ∷ code count labelled (suc n) ms ws else coded count (4 * n) w ∷ code count labelled (suc n) (m ∷ ms) ws)
+    ++ (if m.0 == 4 * n then bare (say.Entry m.1) ∷ coded names count (4 * n) w ∷ code names count labelled (suc n) ms ws else coded names count (4 * n) w ∷ code names count labelled (suc n) (m ∷ ms) ws)
 
 -- the lines of data words from an address on
-abbrev pub data_lines : ℕ → List ℕ → List Line
-data_lines address [] = []
-data_lines address (w ∷ ws) = datum address w ∷ data_lines (address + 4) ws
+abbrev pub data_lines : Option (List Name) → ℕ → List ℕ → List Line
+data_lines names address [] = []
+data_lines names address (w ∷ ws) = datum names address w ∷ data_lines names (address + 4) ws
 
 -- the lines of the data, where in version 2 the first ones are read-only
-abbrev pub all_data : Version → ℕ → List ℕ → List Line
-all_data version.One n words = data_lines DATA_START words
-all_data version.Two n words = data_lines DATA_START (take n words) ++ (bare say.ReadOnly ∷ data_lines (DATA_START + 4 * n) (drop n words))
+abbrev pub all_data : Option (List Name) → Version → ℕ → List ℕ → List Line
+all_data names version.One n words = data_lines names DATA_START words
+all_data names version.Two n words = data_lines names DATA_START (take n words) ++ (bare say.ReadOnly ∷ data_lines names (DATA_START + 4 * n) (drop n words))
 
 -- the lines before the registers: in version 1 the limit of all tasks is one of them
 abbrev pub head_lines : Version → (limit start : ℕ) → List Line
 head_lines version.One limit start = bare (say.Version version.One) ∷ bare (say.Limit limit) ∷ Starts start ∷ []
 head_lines version.Two limit start = bare (say.Version version.Two) ∷ Starts start ∷ []
 
--- the lines of an image
-unfoldable pub lines_of : Image → List Line
-lines_of img =
+-- the lines of an image, with the names of addresses, if names are given
+unfoldable pub lines_of : Option (List Name) → Image → List Line
+lines_of names img =
     head_lines img.version (slice_index img.limits 0) img.start ++ (settings 1 img.registers
-    ++ (code (length img.text) (is_labelled img.entries img.text) 0 (marks img.version img.entries img.limits) img.text ++ (bare (say.Section section.Data) ∷ all_data img.version img.read_only img.words)))
+    ++ (code names (length img.text) (is_labelled img.entries img.text) 0 (marks img.version img.entries img.limits) img.text ++ (bare (say.Section section.Data) ∷ all_data names img.version img.read_only img.words)))
 
--- the listing of an image
-unfoldable pub listing_of : Image → List ℕ
-listing_of img = text_of (lines_of img)
+-- the listing of an image, with the names of addresses, if names are given
+unfoldable pub listing_of : Option (List Name) → Image → List ℕ
+listing_of names img = text_of (lines_of names img)

@@ -1,7 +1,9 @@
 // The text of an image.
 
-ghost use Rattle.std.specs.Prelude.{Bool, false, slice_index_or, [], ◌≡◌, ℕ, suc, ◌++◌, ◌∷◌, List, codes, ◌<◌, ◌≤◌, ◌*◌, ◌^◌, length, slice_index, decimal, IfOk, IfSome, IfNone, OnOk};
+ghost use Rattle.std.specs.Prelude.{Bool, false, slice_index_or, [], ◌≡◌, ℕ, suc, ◌++◌, ◌∷◌, List, Option, codes, ◌<◌, ◌≤◌, ◌*◌, ◌^◌, length, slice_index, decimal, IfOk, IfSome, IfNone, OnOk};
 ghost use Rattle.svc_asm.specs.Programs.{IsProgramOf};
+ghost use Rattle.svc_names.specs.declared.name.Name.{Name};
+ghost use Rattle.svc_names.specs.Given.{listed, noted_by};
 ghost use Rattle.svc_list.specs.Listings.{first_text, own_text, section_text, statement_text, word_note, Labels, Starts, bare, line_of, text_of, coded, datum, labels, setting, settings, own_limit, marks, code, data_lines, all_data, head_lines, listing_of};
 
 use crate::labels::{labels_of, target_by};
@@ -10,6 +12,7 @@ use std::alloc::{AllocError, Global};
 use svc_draft::{Next, Section, Statement, Width};
 use svc_image::{DATA_START, Image, Version};
 use svc_instructions::row_of;
+use svc_names::{Names, put_note};
 use svc_operands::register;
 use svc_rv32i::Register;
 use svc_text::{Piece, put};
@@ -81,23 +84,43 @@ fn put_line(out: &mut Vec<u8>, statement: Statement) -> Result<(), AllocError>
     "\n".put(out)
 }
 
-fn end_coded(out: &mut Vec<u8>, address: u32, word: u32) -> Result<(), AllocError>
-    ensures { OnOk result (out.new.items ≡ out.old.items ++ (word_note address word ++ (10 ∷ []))) }
+// Ends the line of a word, with the name of its address, if names are given and it has one.
+fn end_word(out: &mut Vec<u8>, names: Option<&Names>, address: u32) -> Result<(), AllocError>
+    ensures { OnOk result (out.new.items ≡ out.old.items ++ (noted_by (listed names.entry) address ++ (10 ∷ []))) }
 {
-    put!(out; "\t# 0x", Hex(address), " ", Hex(word), "\n");
-    Ok(())
+    put_note(names, out, address)?;
+    "\n".put(out)
 }
 
-fn put_coded(out: &mut Vec<u8>, count: u32, address: u32, word: u32) -> Result<(), AllocError>
+fn end_coded(
+    out: &mut Vec<u8>,
+    names: Option<&Names>,
+    address: u32,
+    word: u32,
+) -> Result<(), AllocError>
+    ensures { OnOk result (out.new.items
+        ≡ out.old.items ++ (word_note (listed names.entry) address word ++ (10 ∷ []))) }
+{
+    put!(out; "\t# 0x", Hex(address), " ", Hex(word));
+    end_word(out, names, address)
+}
+
+fn put_coded(
+    out: &mut Vec<u8>,
+    names: Option<&Names>,
+    count: u32,
+    address: u32,
+    word: u32,
+) -> Result<(), AllocError>
     requires count { count ≤ 65536 }
     requires address { address < 262144 }
-    ensures { OnOk result (out.new.items ≡ out.old.items ++ line_of (coded count address word)) }
+    ensures { OnOk result (out.new.items ≡ out.old.items ++ line_of (coded (listed names.entry) count address word)) }
 {
     match row_of(word) {
         Some(row) => put_row(out, target_by(count, address, word, row), row, word)?,
         None => put_numbered(out, ".word ", word)?,
     }
-    end_coded(out, address, word)
+    end_coded(out, names, address, word)
 }
 
 fn put_label(out: &mut Vec<u8>, address: u32) -> Result<(), AllocError>
@@ -124,12 +147,17 @@ fn put_start(out: &mut Vec<u8>, start: u32) -> Result<(), AllocError>
     Ok(())
 }
 
-fn put_datum(out: &mut Vec<u8>, address: u32, word: u32) -> Result<(), AllocError>
-    ensures { OnOk result (out.new.items ≡ out.old.items ++ line_of (datum address word)) }
+fn put_datum(
+    out: &mut Vec<u8>,
+    names: Option<&Names>,
+    address: u32,
+    word: u32,
+) -> Result<(), AllocError>
+    ensures { OnOk result (out.new.items ≡ out.old.items ++ line_of (datum (listed names.entry) address word)) }
 {
     put_statement(out, Statement::Value(Width::Word, word, Next::Line))?;
-    put!(out; "\t# 0x", Hex(address), "\n");
-    Ok(())
+    put!(out; "\t# 0x", Hex(address));
+    end_word(out, names, address)
 }
 
 fn put_nonzero(out: &mut Vec<u8>, number: u32, value: u32) -> Result<(), AllocError>
@@ -178,39 +206,34 @@ fn own_limit(version: Version, limit: u32) -> Option<u32>
     }
 }
 
-// A word of the text of so many words, behind the mark of an entry where the next one stands at it. It answers the
-// entries that are left, and their limits.
-fn put_code_word<'a>(
+// The mark of an entry, where the next one stands at this word of the text. It answers the entries that are left, and
+// their limits.
+fn put_mark<'a>(
     out: &mut Vec<u8>,
     version: Version,
     entries: &'a [u32],
     limits: &'a [u32],
-    count: u32,
     pc: u32,
-    word: u32,
 ) -> Result<(&'a [u32], &'a [u32]), AllocError>
-    requires count { count ≤ 65536 }
-    requires pc { pc < 262144 }
-    ensures { IfOk result (λ left. (n : ℕ) (is : ℕ → Bool) (words before : List ℕ) → pc ≡ 4 * n
+    ensures { IfOk result (λ left. (given : Option (List Name)) (count n word : ℕ) (is : ℕ → Bool)
+        (words before : List ℕ) → pc ≡ 4 * n
         → out.old.items ≡ before ++ text_of (labels is n)
-        → out.new.items ++ text_of (code count is (suc n) (marks version left.0.now left.1.now) words)
-        ≡ before ++ text_of (code count is n (marks version entries.now limits.now) (word ∷ words))) }
+        → (out.new.items ++ line_of (coded given count pc word))
+        ++ text_of (code given count is (suc n) (marks version left.0.now left.1.now) words)
+        ≡ before ++ text_of (code given count is n (marks version entries.now limits.now) (word ∷ words))) }
 {
     match behind(entries, limits, pc) {
         Some(next) => {
             put_line(out, Statement::Entry(own_limit(version, next.0)))?;
-            put_coded(out, count, pc, word)?;
             Ok((next.1, next.2))
         }
-        None => {
-            put_coded(out, count, pc, word)?;
-            Ok((entries, limits))
-        }
+        None => Ok((entries, limits)),
     }
 }
 
 fn put_code(
     out: &mut Vec<u8>,
+    names: Option<&Names>,
     version: Version,
     entries: &[u32],
     limits: &[u32],
@@ -222,7 +245,7 @@ fn put_code(
     ensures { OnOk result ((is : ℕ → Bool)
         → ((n : ℕ) → n < length text.now → slice_index_or labelled.now n false ≡ is n)
         → out.new.items ≡ out.old.items
-        ++ text_of (code (length text.now) is 0 (marks version entries.now limits.now) text.now)) }
+        ++ text_of (code (listed names.entry) (length text.now) is 0 (marks version entries.now limits.now) text.now)) }
 {
     let count = text.len() as u32;
     let mut entries = entries;
@@ -230,9 +253,8 @@ fn put_code(
     let mut pc = 0;
     for &word in text {
         put_labels(out, pc, labelled[(pc / 4) as usize])?;
-        let (entries_left, limits_left) = put_code_word(
-            out, version, entries, limits, count, pc, word,
-        )?;
+        let (entries_left, limits_left) = put_mark(out, version, entries, limits, pc)?;
+        put_coded(out, names, count, pc, word)?;
         entries = entries_left;
         limits = limits_left;
         pc += 4;
@@ -240,44 +262,58 @@ fn put_code(
     Ok(())
 }
 
-fn put_data(out: &mut Vec<u8>, address: u32, words: &[u32]) -> Result<(), AllocError>
+fn put_data(
+    out: &mut Vec<u8>,
+    names: Option<&Names>,
+    address: u32,
+    words: &[u32],
+) -> Result<(), AllocError>
     requires address { address ≤ 2 ^ 31 }
     requires few { length words.now ≤ 65536 }
-    ensures { OnOk result (out.new.items ≡ out.old.items ++ text_of (data_lines address words.now)) }
+    ensures { OnOk result (out.new.items
+        ≡ out.old.items ++ text_of (data_lines (listed names.entry) address words.now)) }
 {
     let mut address = address;
     for &word in words {
-        put_datum(out, address, word)?;
+        put_datum(out, names, address, word)?;
         address += 4;
     }
     Ok(())
 }
 
-fn put_split(out: &mut Vec<u8>, read_only: usize, words: &[u32]) -> Result<(), AllocError>
+fn put_split(
+    out: &mut Vec<u8>,
+    names: Option<&Names>,
+    read_only: usize,
+    words: &[u32],
+) -> Result<(), AllocError>
     requires fixed { read_only ≤ length words.now }
     requires few { length words.now ≤ 65536 }
-    ensures { OnOk result (out.new.items ≡ out.old.items ++ text_of (all_data Version.Two read_only words.now)) }
+    ensures { OnOk result (out.new.items
+        ≡ out.old.items ++ text_of (all_data (listed names.entry) Version.Two read_only words.now)) }
 {
     let parts = words.split_at(read_only);
-    put_data(out, DATA_START, parts.0)?;
+    put_data(out, names, DATA_START, parts.0)?;
     put_line(out, Statement::ReadOnly)?;
-    put_data(out, DATA_START + 4 * read_only as u32, parts.1)?;
+    put_data(out, names, DATA_START + 4 * read_only as u32, parts.1)?;
     Ok(())
 }
 
 fn put_all_data(
     out: &mut Vec<u8>,
+    names: Option<&Names>,
     version: Version,
     read_only: usize,
     words: &[u32],
 ) -> Result<(), AllocError>
     requires fixed { read_only ≤ length words.now }
     requires few { length words.now ≤ 65536 }
-    ensures { OnOk result (out.new.items ≡ out.old.items ++ text_of (all_data version read_only words.now)) }
+    ensures { OnOk result (out.new.items
+        ≡ out.old.items ++ text_of (all_data (listed names.entry) version read_only words.now)) }
 {
     match version {
-        Version::One => put_data(out, DATA_START, words),
-        Version::Two => put_split(out, read_only, words),
+        Version::One => put_data(out, names, DATA_START, words),
+        Version::Two => put_split(out, names, read_only, words),
     }
 }
 
@@ -307,11 +343,12 @@ fn put_head(out: &mut Vec<u8>, version: Version, limit: u32, start: u32) -> Resu
     }
 }
 
-/// The listing of an image: a text that is assembled to it.
+/// The listing of an image: a text that is assembled to it. If names are given, the comment behind each word ends with
+/// the name of its address, if it has one.
 ///
 /// Errors: memory ran out.
-pub fn list(alloc: Global, image: &Image) -> Result<Vec<u8>, AllocError>
-    ensures listing { IfOk result (λ text. text.items ≡ listing_of image.now) }
+pub fn list(alloc: Global, image: &Image, names: Option<&Names>) -> Result<Vec<u8>, AllocError>
+    ensures listing { IfOk result (λ text. text.items ≡ listing_of (listed names.entry) image.now) }
 
     // It is a program of the image, and a program of an image is assembled to that image.
     ensures program { IfOk result (λ text. IsProgramOf text.items image.now) }
@@ -329,6 +366,7 @@ pub fn list(alloc: Global, image: &Image) -> Result<Vec<u8>, AllocError>
     put_settings(&mut out, image.registers())?;
     put_code(
         &mut out,
+        names,
         image.version(),
         entries,
         image.limits(),
@@ -338,6 +376,7 @@ pub fn list(alloc: Global, image: &Image) -> Result<Vec<u8>, AllocError>
     put_line(&mut out, Statement::Section(Section::Data))?;
     put_all_data(
         &mut out,
+        names,
         image.version(),
         image.read_only() as usize,
         image.data_words(),

@@ -41,16 +41,27 @@ unfoldable pub shown_column : List ℕ → Option Column
 shown_column first =
     if bytes_eq first (codes "task") then Some (column.Text 3) else
     if bytes_eq first (codes "due") || bytes_eq first (codes "guess") then Some (column.Text 1) else
+    if bytes_eq first (codes "pc") then Some (column.Text 2) else
     if bytes_eq first (codes "line") then Some (column.Word 2) else
-    if bytes_eq first (codes "spill") || bytes_eq first (codes "memory") then Some (column.Word 1) else
+    if bytes_eq first (codes "spill") || bytes_eq first (codes "order") || bytes_eq first (codes "memory") then Some (column.Word 1) else
     ending_column first
+
+-- that of a row of what may come next, by its kind: an assignment tells an entry, a replacement a word
+unfoldable pub move_column : (kind : List ℕ) → Option Column
+move_column kind =
+    if bytes_eq kind (codes "assign") then Some (column.Text 3) else
+    if bytes_eq kind (codes "replace") then Some (column.Word 3) else None
+
+-- that of a row of a machine, by its first field and, where it is one of what may come next, by its kind
+unfoldable pub machine_column : (first kind : List ℕ) → Option Column
+machine_column first kind = if bytes_eq first (codes "move") then move_column kind else shown_column first
 
 -- that of a row of what can be seen: where a task begins it tells its entry, else its word
 unfoldable pub seen_column : (what : List ℕ) → Column
 seen_column what = if bytes_eq what (codes "begin") then column.Text 4 else column.Word 3
 
 abbrev pub column_of : Rows → (row : List ℕ) → Option Column
-column_of rows.Shown row = shown_column (field 0 row)
+column_of rows.Shown row = machine_column (field 0 row) (field 2 row)
 column_of rows.Counts row = ending_column (field 0 row)
 column_of rows.Seen row = Some (seen_column (field 1 row))
 column_of (rows.Table column) row = column

@@ -1,7 +1,7 @@
 // Rows with names at their ends.
 
 ghost use Rattle.std.specs.Prelude.{◌≡◌, ◌++◌, OnOk, option_map};
-ghost use Rattle.svc_names.specs.Rows.{address_in, addressed, column_of, data_address, ending_column, is_header, name_text, named_row, seen_column, shown_column, with_names};
+ghost use Rattle.svc_names.specs.Rows.{address_in, addressed, column_of, data_address, ending_column, is_header, machine_column, move_column, name_text, named_row, seen_column, shown_column, with_names};
 
 use crate::fields::field;
 use crate::names::Names;
@@ -42,7 +42,7 @@ fn is_header(rows: Rows, row: &[u8]) -> bool
     }
 }
 
-// The column of the address in a row of a machine, by the row's first field.
+// The column of the address in a row of a machine that doesn't say what may come next, by the row's first field.
 #[tactic(auto, unfolding(crate::specs::Rows::shown_column))]
 fn shown_column(first: &[u8]) -> Option<Column>
     ensures { result ≡ shown_column first.now }
@@ -51,12 +51,41 @@ fn shown_column(first: &[u8]) -> Option<Column>
         Some(Column::Text(3))
     } else if is_word(first, "due") || is_word(first, "guess") {
         Some(Column::Text(1))
+    } else if is_word(first, "pc") {
+        Some(Column::Text(2))
     } else if is_word(first, "line") {
         Some(Column::Word(2))
-    } else if is_word(first, "spill") || is_word(first, "memory") {
+    } else if is_word(first, "spill") || is_word(first, "order") || is_word(first, "memory") {
         Some(Column::Word(1))
     } else {
         ending_column(first)
+    }
+}
+
+// The column of the address in a row of what may come next, by its kind.
+#[tactic(auto, unfolding(crate::specs::Rows::move_column))]
+fn move_column(kind: &[u8]) -> Option<Column>
+    ensures { result ≡ move_column kind.now }
+{
+    if is_word(kind, "assign") {
+        Some(Column::Text(3))
+    } else if is_word(kind, "replace") {
+        Some(Column::Word(3))
+    } else {
+        None
+    }
+}
+
+// The column of the address in a row of a machine, by the row's first field and, where it says what may come next, by
+// its kind.
+#[tactic(auto, unfolding(crate::specs::Rows::machine_column))]
+fn machine_column(first: &[u8], kind: &[u8]) -> Option<Column>
+    ensures { result ≡ machine_column first.now kind.now }
+{
+    if is_word(first, "move") {
+        move_column(kind)
+    } else {
+        shown_column(first)
     }
 }
 
@@ -89,7 +118,7 @@ fn column_of(rows: Rows, row: &[u8]) -> Option<Column>
     ensures { result ≡ column_of rows row.now }
 {
     match rows {
-        Rows::Shown => shown_column(field(row, 0)),
+        Rows::Shown => machine_column(field(row, 0), field(row, 2)),
         Rows::Counts => ending_column(field(row, 0)),
         Rows::Seen => Some(seen_column(field(row, 1))),
         Rows::Table(column) => column,

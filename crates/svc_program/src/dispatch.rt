@@ -19,6 +19,7 @@ use std::sync::Wait;
 use std::thread::Threads;
 use svc_replay::check::check;
 use svc_replay::draw::draw;
+use svc_replay::export::export;
 use svc_replay::observe::observe;
 use svc_replay::profile::profile;
 use svc_replay::show::show;
@@ -88,16 +89,17 @@ pub fn perform_alone<F: Files, O: Write>(
 // Does what is asked for without threads, with one function per subcommand.
 fn dispatch<F: Files, O: Write>(
     alloc: Global,
-    request: Request<'_>,
+    asked: Request<'_>,
     files: &mut F,
     out: &mut O,
 ) -> Result<u8, Fault>
-    ensures { IsAnswered O.contents request.entry (F.held files.old) (F.held files.new) out.old out.new result }
+    requires apart { IsOverItself asked → ⊥ }
+    ensures { IsAnswered O.contents asked.entry (F.held files.old) (F.held files.new) out.old out.new result }
 {
-    match request {
+    match asked {
         Request::Help(text) => show_help(&text, out),
         Request::Version => show_version(out),
-        Request::Run(asked) => run_alone(alloc, asked, files, out),
+        Request::Run(run) => run_alone(alloc, run, files, out),
         Request::Sequential(tasks) => sequential(alloc, tasks, files, out),
         Request::Depend(depended) => depend(alloc, depended, files, out),
         Request::Explore(explored) => explore(alloc, explored, files, out),
@@ -112,10 +114,11 @@ fn dispatch<F: Files, O: Write>(
         Request::Profile(traced, to, by, names) => profile(
             alloc, traced, to, by, names, files, out,
         ),
-        Request::Show(traced, at, names) => show(alloc, traced, at, names, files, out),
+        Request::Show(traced, shown) => show(alloc, traced, shown, files, out),
         Request::Draw(traced, picture) => draw(alloc, traced, picture, files, out),
+        Request::Export(traced, exported) => export(alloc, traced, exported, files, out),
         Request::Assemble(assembly) => assemble(alloc, assembly, files, out),
-        Request::List(image) => list(alloc, image, files, out),
+        Request::List(image, names) => list(alloc, image, names, files, out),
     }
 }
 

@@ -6,9 +6,9 @@ ghost use Rattle.std.specs.List.{starts_with};
 use crate::samples::Samples;
 use crate::wanted::{
     CHECK, DEPEND, DEPEND_AS_GRAPH, DEPEND_BY_PAIR, DEPEND_BY_TASK, DEPEND_BY_WORD, DEPEND_NAMED,
-    EXPLORE, FIND, LIST, PROFILE, PROFILE_BY_PAIR, PROFILE_BY_SUPPLIER, PROFILE_BY_TASK,
-    PROFILE_BY_UNIT, PROFILE_BY_WORD, PROFILE_NAMED, PROFILE_ROW, RUN, RUN_ROW, SCHEDULE,
-    SCHEDULE_AFTER, SCRIPT, SEQ, SHOW, SHOW_AT, SHOW_NAMED,
+    EXPLORE, FIND, LIST, LIST_NAMED, PROFILE, PROFILE_BY_PAIR, PROFILE_BY_PC, PROFILE_BY_SUPPLIER,
+    PROFILE_BY_TASK, PROFILE_BY_UNIT, PROFILE_BY_WORD, PROFILE_NAMED, PROFILE_ROW, RUN, RUN_ROW,
+    SCHEDULE, SCHEDULE_AFTER, SCRIPT, SEQ, SHOW, SHOW_AT, SHOW_IN_DETAIL, SHOW_NAMED,
 };
 use std::alloc::{AllocError, Global};
 use std::sync::Wait;
@@ -17,8 +17,8 @@ use svc_base::Config;
 use svc_command::execute;
 use svc_library_calls::attempt::{Attempt, Refused, ready};
 use svc_program::{
-    Assembly, Compared, Depended, Explored, NeedsTable, Order, Picture, Request, Run, Schedule,
-    Scripted, Source, Table, TableRow, Traced, perform, tell,
+    Assembly, Compared, Depended, Explored, Exported, Extras, Format, NeedsTable, Order, Picture,
+    Request, Run, Schedule, Scripted, Shown, Source, Span, Table, TableRow, Traced, perform, tell,
 };
 
 /// Makes the call of this name, if it is one of these.
@@ -45,8 +45,10 @@ fn attempt_image<R: Threads + Wait + Sync + AllocGlobal>(rt: &R, name: &str) -> 
         "schedule" => Some(schedule(rt, None, Some("saved"), None, SCHEDULE)),
         "schedule_after" => Some(schedule(rt, Some("events"), None, None, SCHEDULE_AFTER)),
         "run_row" => Some(schedule(rt, None, None, Some(HEADED), RUN_ROW)),
-        "assemble" => Some(assemble(rt)),
-        "list" => Some(list(rt)),
+        "assemble" => Some(assemble(rt, None)),
+        "assemble_named" => Some(assemble(rt, Some("table"))),
+        "list" => Some(list(rt, None, LIST)),
+        "list_named" => Some(list(rt, NAMED, LIST_NAMED)),
         _ => None,
     }
 }
@@ -68,15 +70,34 @@ fn attempt_trace<R: Threads + Wait + Sync + AllocGlobal>(rt: &R, name: &str) -> 
             None,
             PROFILE_BY_SUPPLIER,
         )),
+        "profile_by_pc" => Some(profile(rt, Some(Table::Instructions), None, PROFILE_BY_PC)),
         "profile_row" => Some(profile(rt, Some(Table::Row(HEADED)), None, PROFILE_ROW)),
         "profile_named" => Some(profile(rt, Some(Table::Words), NAMED, PROFILE_NAMED)),
-        "show" => Some(show(rt, None, None, SHOW)),
-        "show_at" => Some(show(rt, Some(4), None, SHOW_AT)),
-        "show_named" => Some(show(rt, Some(4), NAMED, SHOW_NAMED)),
+        "show" => Some(show(rt, None, PLAIN, None, SHOW)),
+        "show_at" => Some(show(rt, Some(4), PLAIN, None, SHOW_AT)),
+        "show_named" => Some(show(rt, Some(4), PLAIN, NAMED, SHOW_NAMED)),
+        "show_in_detail" => Some(show(rt, Some(4), DETAILED, None, SHOW_IN_DETAIL)),
         "draw" => Some(draw(rt)),
+        "export_chrome" => Some(export(rt, Format::Chrome)),
+        "export_vcd" => Some(export(rt, Format::Vcd)),
         _ => None,
     }
 }
+
+// A show with nothing beside its rows, and one with all.
+const PLAIN: Extras = Extras {
+    detail: false,
+    moves: false,
+    memory: None,
+};
+
+const DETAILED: Extras = Extras {
+    detail: true,
+    moves: true,
+    memory: Some(WORDS),
+};
+
+const WORDS: Span = Span { first: 0, last: 1 };
 
 // The table of names, as it is named.
 const NAMED: Option<&str> = Some("names");
@@ -295,15 +316,17 @@ fn profile<R: Threads + Wait + Sync + AllocGlobal>(
     )
 }
 
-/// The machine to which the trace of ten events leads is shown, after this many of them or after all, and with names if
-/// a table is named.
+/// The machine to which the trace of ten events leads is shown, after this many of them or after all, with this beside its
+/// rows, and with names if a table is named.
 fn show<R: Threads + Wait + Sync + AllocGlobal>(
     rt: &R,
     at: Option<u64>,
+    extras: Extras,
     names: Option<&str>,
     wanted: &str,
 ) -> Attempt {
-    asked(rt, Request::Show(ten_entries()?, at, names), wanted)
+    let shown = Shown { at, extras, names };
+    asked(rt, Request::Show(ten_entries()?, shown), wanted)
 }
 
 /// A picture of the ten events is made, and saved.
@@ -317,16 +340,31 @@ fn draw<R: Threads + Wait + Sync + AllocGlobal>(rt: &R) -> Attempt {
     asked(rt, Request::Draw(ten_entries()?, picture), "")
 }
 
-/// A text is assembled, and its image is saved.
-fn assemble<R: Threads + Wait + Sync + AllocGlobal>(rt: &R) -> Attempt {
+/// The trace of ten events is saved for another viewer.
+fn export<R: Threads + Wait + Sync + AllocGlobal>(rt: &R, format: Format) -> Attempt {
+    let exported = Exported {
+        file: "saved",
+        format,
+        words: Some(WORDS),
+    };
+    asked(rt, Request::Export(ten_entries()?, exported), "")
+}
+
+/// A text is assembled, and its image is saved, and its names if a file is named for them.
+fn assemble<R: Threads + Wait + Sync + AllocGlobal>(rt: &R, names: Option<&str>) -> Attempt {
     let assembly = Assembly {
         text: "text",
         image: "saved",
+        names,
     };
     asked(rt, Request::Assemble(assembly), "")
 }
 
-/// An image is listed.
-fn list<R: Threads + Wait + Sync + AllocGlobal>(rt: &R) -> Attempt {
-    asked(rt, Request::List(Source::File("p")), LIST)
+/// An image is listed, with names if a table is named.
+fn list<R: Threads + Wait + Sync + AllocGlobal>(
+    rt: &R,
+    names: Option<&str>,
+    wanted: &str,
+) -> Attempt {
+    asked(rt, Request::List(Source::File("p"), names), wanted)
 }

@@ -283,3 +283,66 @@ ecall\t# 0x00000020 00000073
 .word 0\t# 0x00100000
 .word 0\t# 0x00100004
 ";
+
+/// For the same with names.
+pub const LIST_NAMED: &str = ".svc_version 1
+.svc_limit 100
+.svc_start at_00000000
+at_00000000:
+.svc_entry
+lui x5, 256\t# 0x00000000 001002b7 first
+addi x1, x0, 5\t# 0x00000004 00500093 first+4
+sw x1, 0(x5)\t# 0x00000008 0012a023 first+8
+at_0000000c:
+.svc_entry
+lui x5, 256\t# 0x0000000c 001002b7 second
+lw x10, 0(x5)\t# 0x00000010 0002a503 second+4
+addi x17, x0, 1\t# 0x00000014 00100893 second+8
+ecall\t# 0x00000018 00000073 second+12
+addi x17, x0, 0\t# 0x0000001c 00000893 second+16
+ecall\t# 0x00000020 00000073 second+20
+.data
+.word 0\t# 0x00100000 shared
+.word 0\t# 0x00100004 shared+4
+";
+
+/// For the machine after the first four of the ten events, with all that is shown beside its rows.
+pub const SHOW_IN_DETAIL: &str = "at,4
+tasks,0
+due,0
+guess,12
+open,0
+task,0,0,0,3,next
+pc,0,12
+register,0,x1,5
+register,0,x5,1048576
+line,0,0,5,VS---
+order,0,0:0
+memory,0,0,0
+memory,1,0,0
+move,0,assign,12,2
+move,0,submit,1,8
+move,0,replace,0,
+move,0,cancel,,14
+move,0,commit,,
+move,1,assign,12,
+move,1,submit,1,3
+move,1,cancel,,3
+move,1,commit,,
+move,2,assign,12,
+move,2,submit,1,3
+move,2,cancel,,3
+move,2,commit,,
+move,3,assign,12,
+move,3,submit,1,3
+move,3,cancel,,3
+move,3,commit,,
+";
+
+/// For the table of the ten events by instruction.
+pub const PROFILE_BY_PC: &str =
+    "pc,loads,stores,outputs,loads-squashed,violations-found,violations-suffered
+8,0,1,0,0,1,0
+16,2,0,0,1,0,1
+24,0,0,1,0,0,0
+";

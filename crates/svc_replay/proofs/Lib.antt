@@ -1,1 +1,2 @@
 pub mod Fronting
+pub mod Costing

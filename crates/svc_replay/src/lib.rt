@@ -3,6 +3,7 @@
 
 pub mod check;
 pub mod draw;
+pub mod export;
 mod fronts;
 pub mod observe;
 pub mod profile;

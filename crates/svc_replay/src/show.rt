@@ -17,52 +17,52 @@ use svc_base::Config;
 use svc_history::Entry;
 use svc_image::Image;
 use svc_names::{Names, Rows};
-use svc_request::{Fault, Files, Traced};
-use svc_show::show_text;
+use svc_request::{Fault, Files, Shown, Traced};
+use svc_show::{Extras, show_text};
 
-/// Replays the first `at` entries of a trace, or all, and prints the machine to which they lead, with the names of the
-/// table that is named.
+/// Replays a trace, or its first entries, and prints the machine to which they lead, with the names of the table that is
+/// named.
 pub fn show<F: Files, O: Write>(
     alloc: Global,
     traced: Traced<'_>,
-    at: Option<u64>,
-    named: Option<&str>,
+    shown: Shown<'_>,
     files: &F,
     out: &mut O,
 ) -> Result<u8, Fault>
-    ensures { IsAnswered O.contents (request.Show traced.entry at named.entry)
+    ensures { IsAnswered O.contents (request.Show traced.entry shown.entry)
         (F.held files.now) (F.held files.now) out.old out.new result }
 {
     let (image, entries) = load_traced(alloc, traced, files)?;
-    let names = load_names(alloc, named, files)?;
+    let names = load_names(alloc, shown.names, files)?;
     show_entries(
         alloc,
         image,
         traced.config,
         &entries,
-        at,
+        shown,
         names.as_ref(),
         out,
     )
 }
 
-// Replays the first `at` of the entries, or all, and prints the machine to which they lead.
+// Replays the entries that are asked for, and prints the machine to which they lead.
 fn show_entries<O: Write>(
     alloc: Global,
     image: Image,
     config: Config,
     entries: &[Entry],
-    at: Option<u64>,
+    shown: Shown<'_>,
     names: Option<&Names>,
     out: &mut O,
 ) -> Result<u8, Fault>
-    ensures shown { IfOk result
-        (TellsMachine at names.entry image config entries.now (O.contents out.old) (O.contents out.new)) }
-    ensures fault { IfErr result (λ fault. IsReportFault fault
+    ensures shown { IfOk result (TellsMachine shown.entry.at shown.entry.extras names.entry image config entries.now
+        (O.contents out.old) (O.contents out.new)) }
+    ensures fault { let at = shown.entry.at in
+        IfErr result (λ fault. IsReportFault fault
         ⊎ ((TellsOfTrace image config (front at entries.now) fault ⊎ IsPastTheEnd at image config entries.now fault)
         × (out.new ≡ out.old))) }
 {
-    let text = text_at(alloc, image, config, entries, at)?;
+    let text = text_at(alloc, image, config, entries, shown.at, shown.extras)?;
     print_rows(alloc, names, Rows::Shown, &text, out)?;
     Ok(0)
 }
@@ -74,13 +74,14 @@ fn text_at(
     config: Config,
     entries: &[Entry],
     at: Option<u64>,
+    extras: Extras,
 ) -> Result<Vec<u8>, Fault>
-    ensures text { IfOk result (λ text. text.items ≡ show_of image config (front at entries.now)) }
+    ensures text { IfOk result (λ text. text.items ≡ show_of extras image config (front at entries.now)) }
     ensures sound { IfOk result (λ _. IsSoundFront at image config entries.now) }
     ensures fault { IfErr result (λ fault. IsReportFault fault
         ⊎ TellsOfTrace image config (front at entries.now) fault ⊎ IsPastTheEnd at image config entries.now fault) }
 {
     let recorder = replay_first(alloc, image, config, entries, at)?;
-    let text = show_text(alloc, &recorder)?;
+    let text = show_text(alloc, &recorder, extras)?;
     Ok(text)
 }

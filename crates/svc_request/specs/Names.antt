@@ -31,27 +31,36 @@ source_of (request.Observe traced names) = Some traced.image
 source_of (request.Script scripted) = Some scripted.image
 source_of (request.Check traced compared script) = Some traced.image
 source_of (request.Profile traced to by names) = Some traced.image
-source_of (request.Show traced at names) = Some traced.image
+source_of (request.Show traced shown) = Some traced.image
 source_of (request.Draw traced picture) = Some traced.image
-source_of (request.List image) = Some image
+source_of (request.Export traced exported) = Some traced.image
+source_of (request.List image names) = Some image
 source_of _ = None
 
--- the name of the file to write, if there is one
+-- the name of the file to write, or of the first of two, if there is one
 abbrev pub written_by : Request → Option (List ℕ)
 written_by (request.Run run) = option_map (λ name. name.now) run.trace
 written_by (request.Find explored sought trace) = option_map (λ name. name.now) trace
 written_by (request.Script scripted) = option_map (λ name. name.now) scripted.trace
 written_by (request.Check traced compared script) = option_map (λ name. name.now) script
 written_by (request.Draw traced picture) = Some picture.file.now
+written_by (request.Export traced exported) = Some exported.file.now
 written_by (request.Assemble assembly) = Some assembly.image.now
 written_by _ = None
 
--- the file to write is also one to read
+-- the name of the second file to write, if there are two
+abbrev pub also_written_by : Request → Option (List ℕ)
+also_written_by (request.Assemble assembly) = option_map (λ name. name.now) assembly.names
+also_written_by _ = None
+
+-- a file to write is also one to read, or would be written twice
 abbrev pub IsOverItself : Request → Type 0
 IsOverItself (request.Run run) = IsSomeAnd run.trace (λ name. IsScriptOf name.now run.schedule ⊎ IsNameOf name.now run.image)
 IsOverItself (request.Find explored sought trace) = IsSomeAnd trace (λ name. IsTableOf name.now explored.names ⊎ IsNameOf name.now explored.image)
 IsOverItself (request.Script scripted) = IsSomeAnd scripted.trace (λ name. (scripted.events.now ≡ name.now) ⊎ IsNameOf name.now scripted.image)
 IsOverItself (request.Check traced compared script) = IsSomeAnd script (λ name. (traced.trace.now ≡ name.now) ⊎ IsNameOf name.now traced.image)
 IsOverItself (request.Draw traced picture) = (traced.trace.now ≡ picture.file.now) ⊎ IsNameOf picture.file.now traced.image
-IsOverItself (request.Assemble assembly) = assembly.text.now ≡ assembly.image.now
+IsOverItself (request.Export traced exported) = (traced.trace.now ≡ exported.file.now) ⊎ IsNameOf exported.file.now traced.image
+IsOverItself (request.Assemble assembly) =
+    (assembly.text.now ≡ assembly.image.now) ⊎ IsTableOf assembly.text.now assembly.names ⊎ IsTableOf assembly.image.now assembly.names
 IsOverItself _ = ⊥

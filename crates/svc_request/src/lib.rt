@@ -9,6 +9,6 @@ mod request;
 pub use faults::{Fault, tell};
 pub use files::{FileFault, Files};
 pub use request::{
-    Assembly, Compared, Depended, Explored, NeedsTable, Order, Picture, Request, Run, Schedule,
-    Scripted, Source, Table, Tasks, Traced, VERSION,
+    Assembly, Compared, Depended, Explored, Exported, NeedsTable, Order, Picture, Request, Run,
+    Schedule, Scripted, Shown, Source, Table, Tasks, Traced, VERSION,
 };

@@ -7,8 +7,8 @@ use crate::files::Files;
 use crate::request::{Request, Schedule, Source};
 
 impl Request<'_> {
-    /// Whether the file that would be written is one that is read, as far as `files` can tell from the names. Files of
-    /// one name are the same.
+    /// Whether a file that would be written is one that is read, or would be written twice, as far as `files` can tell from the
+    /// names. Files of one name are the same.
     pub fn is_over_itself<F: Files>(&self, files: &F) -> bool
         ensures { IsOverItself self.now → IsTrue result }
     {
@@ -42,7 +42,15 @@ impl Request<'_> {
                 files.is_same(traced.trace, picture.file)
                     || is_source(traced.image, picture.file, files)
             }
-            Request::Assemble(assembly) => files.is_same(assembly.text, assembly.image),
+            Request::Export(traced, exported) => {
+                files.is_same(traced.trace, exported.file)
+                    || is_source(traced.image, exported.file, files)
+            }
+            Request::Assemble(assembly) => {
+                files.is_same(assembly.text, assembly.image)
+                    || is_table(assembly.names, assembly.text, files)
+                    || is_table(assembly.names, assembly.image, files)
+            }
             _ => false,
         }
     }

@@ -5,8 +5,11 @@ ghost use Rattle.std.specs.Prelude.{◌≡◌, ◌<◌, ◌≤◌, ◌↔◌, If
 use svc_base::Config;
 use svc_core::MAX_BURST_TURNS;
 use svc_depend::MAX_TASKS;
+use svc_export::Format;
+use svc_held::Span;
 use svc_observations::Sought;
 use svc_report::TableRow;
+use svc_show::Extras;
 
 /// The program's version.
 pub const VERSION: &str = "0.1.0";
@@ -79,6 +82,8 @@ pub enum Table<'a> {
     Pairs,
     /// A row for each task whose version another read, that task and the word.
     Suppliers,
+    /// A row for each instruction that asked for a load, a store or an output.
+    Instructions,
     /// All counts, as one row of a table of many traces.
     Row(TableRow<'a>),
 }
@@ -212,6 +217,28 @@ pub struct Picture<'a> {
     pub rows: bool,
 }
 
+/// What is shown of the machine to which a trace leads.
+#[derive(Clone, Copy)]
+pub struct Shown<'a> {
+    /// After how many of the entries; without it, after all.
+    pub at: Option<u64>,
+    /// What is shown beside the rows of every show.
+    pub extras: Extras,
+    /// The table of names by which addresses and words are told, too.
+    pub names: Option<&'a str>,
+}
+
+/// A trace for another viewer.
+#[derive(Clone, Copy)]
+pub struct Exported<'a> {
+    /// The file in which it is saved.
+    pub file: &'a str,
+    /// What the viewer reads.
+    pub format: Format,
+    /// The words whose committed values are told, where the format tells them.
+    pub words: Option<Span>,
+}
+
 /// A text that is assembled.
 #[derive(Clone, Copy)]
 pub struct Assembly<'a> {
@@ -219,6 +246,8 @@ pub struct Assembly<'a> {
     pub text: &'a str,
     /// The file in which the image is saved.
     pub image: &'a str,
+    /// The file in which the table of its names is saved, if one is.
+    pub names: Option<&'a str>,
 }
 
 /// What is asked of the program. Files are known by their names.
@@ -249,13 +278,14 @@ pub enum Request<'a> {
     /// To replay this many entries of a trace, or all, and to print what their speculation cost, in total or by a table, with
     /// the names of this table.
     Profile(Traced<'a>, Option<u64>, Option<Table<'a>>, Option<&'a str>),
-    /// To replay this many entries of a trace, or all, and to print the machine to which they lead, with the names of this
-    /// table.
-    Show(Traced<'a>, Option<u64>, Option<&'a str>),
+    /// To replay a trace, or its first entries, and to print the machine to which they lead.
+    Show(Traced<'a>, Shown<'a>),
     /// To replay a trace up to the last entry that is shown, and to save a picture of it.
     Draw(Traced<'a>, Picture<'a>),
-    /// To assemble a text, and to save its image.
+    /// To replay a trace, and to save it for another viewer.
+    Export(Traced<'a>, Exported<'a>),
+    /// To assemble a text, and to save its image, and its names if a file is named for them.
     Assemble(Assembly<'a>),
-    /// To print an image as a text that assembles to it.
-    List(Source<'a>),
+    /// To print an image as a text that assembles to it, with the names of this table.
+    List(Source<'a>, Option<&'a str>),
 }

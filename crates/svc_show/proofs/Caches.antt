@@ -6,8 +6,10 @@ use Rattle.svc_bus_laws.specs.BusLine.{is_committed_dirty_line, value_of_line}
 use Rattle.svc_bus_laws.specs.BusState.{BusState}
 use Rattle.svc_show.specs.declared.cached.Versions.{Versions}
 use Rattle.svc_show.specs.declared.cached.Versions.TheVariants.{Absent, One, Several}
-use Rattle.svc_show.specs.declared.named.Named.{Named}
-use Rattle.svc_show.specs.Named.{AreVersions, HasItsLines, NoneHas, OneHas, and_line, and_version, is_named_version, line_named, may_have}
+use Rattle.svc_held.specs.declared.named.Named.{Named}
+use Rattle.svc_held.specs.Held.{HasItsLines, line_named}
+use Rattle.svc_held.proofs.Listed.{own_line}
+use Rattle.svc_show.specs.Named.{AreVersions, NoneHas, OneHas, and_line, and_version, is_named_version}
 
 module _ (b : BusState) (n : Named) where
   -- whether one of the units so far or the next one
@@ -63,23 +65,15 @@ module _ (b : BusState) (n : Named) where
       by (One value) false e are = still_one k value are e
       by Several false e are = tt
 
-  -- what a unit has of the word, by its namers
-  own_line : (words u : ℕ) → HasItsLines b words n → line_named b n u ≡ b.lines u n.word.0
-  own_line words u own = by (may_have u n.by) refl
-    where
-      by : (x : Bool) → may_have u n.by ≡ x → cond x (b.lines u n.word.0) None ≡ b.lines u n.word.0
-      by true e = refl
-      by false e = sym (own.lines u e)
-
   pub no_version : (words units : ℕ) → HasItsLines b words n → NoneHas b n units → (u : ℕ) → u < units → is_committed_dirty_line (b.lines u n.word.0) ≡ false
-  no_version words units own none u inside = ap is_committed_dirty_line (sym (own_line words u own)) ∙ none u inside
+  no_version words units own none u inside = ap is_committed_dirty_line (sym (own_line b words n own u)) ∙ none u inside
 
   pub the_version : (words units value : ℕ) → HasItsLines b words n → (one : OneHas b n units value) → is_committed_dirty_line (b.lines one.unit n.word.0) ≡ true
-  the_version words units value own one = ap is_committed_dirty_line (sym (own_line words one.unit own)) ∙ one.has
+  the_version words units value own one = ap is_committed_dirty_line (sym (own_line b words n own one.unit)) ∙ one.has
 
   pub the_value : (words units value : ℕ) → HasItsLines b words n → (one : OneHas b n units value) → value_of_line (b.lines one.unit n.word.0) ≡ value
-  the_value words units value own one = ap value_of_line (sym (own_line words one.unit own)) ∙ one.value_is
+  the_value words units value own one = ap value_of_line (sym (own_line b words n own one.unit)) ∙ one.value_is
 
   pub no_other : (words units value : ℕ) → HasItsLines b words n → (one : OneHas b n units value) → (u : ℕ) → u < units → (u == one.unit) ≡ false
       → is_committed_dirty_line (b.lines u n.word.0) ≡ false
-  no_other words units value own one u inside other = ap is_committed_dirty_line (sym (own_line words u own)) ∙ one.others u inside other
+  no_other words units value own one u inside other = ap is_committed_dirty_line (sym (own_line b words n own u)) ∙ one.others u inside other

@@ -1,9 +1,5 @@
-pub mod Ranges
-pub mod Marks
-pub mod Held
-pub mod LinesNamed
-pub mod Holding
-pub mod TaskRows
+pub mod HeldRows
 pub mod Standings
 pub mod Settled
 pub mod Caches
+pub mod TaskRows

@@ -5,42 +5,10 @@ ghost use Rattle.svc_bus.specs.Calls.{line_shown};
 ghost use Rattle.svc_line.specs.Bits.{bits_of};
 ghost use Rattle.svc_show.specs.Rows.{letter, line_bits};
 
-use bitflags::Flags;
 use std::alloc::AllocError;
+use svc_held::{is_committed, is_loaded, is_stale, is_stored};
 use svc_line::LineBits;
 use svc_text::Piece;
-
-// S is set.
-#[tactic(auto, unfolding(svc_line::specs::Bits::bits_of))]
-fn is_stored(bits: LineBits) -> bool
-    ensures { result ≡ (bits_of bits).store }
-{
-    bits.contains(LineBits::STORE)
-}
-
-// L is set.
-#[tactic(auto, unfolding(svc_line::specs::Bits::bits_of))]
-fn is_loaded(bits: LineBits) -> bool
-    ensures { result ≡ (bits_of bits).load }
-{
-    bits.contains(LineBits::LOAD)
-}
-
-// C is set.
-#[tactic(auto, unfolding(svc_line::specs::Bits::bits_of))]
-fn is_committed(bits: LineBits) -> bool
-    ensures { result ≡ (bits_of bits).commit }
-{
-    bits.contains(LineBits::COMMIT)
-}
-
-// T is set.
-#[tactic(auto, unfolding(svc_line::specs::Bits::bits_of))]
-fn is_stale(bits: LineBits) -> bool
-    ensures { result ≡ (bits_of bits).stale }
-{
-    bits.contains(LineBits::STALE)
-}
 
 /// A committed task's version: S and C are set.
 pub(crate) fn is_version(bits: LineBits) -> bool

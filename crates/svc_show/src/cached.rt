@@ -7,12 +7,12 @@ ghost use Rattle.svc_core_laws.specs.Sequence.{plain_seq};
 ghost use Rattle.svc_core_laws.specs.Turns.{data_words};
 ghost use Rattle.svc_bus.specs.Calls.{line_shown};
 ghost use Rattle.svc_bus.specs.Observed.{observed};
-ghost use Rattle.svc_show.specs.Named.{AreVersions, HasItsLines, and_line, and_version, is_named_line};
+ghost use Rattle.svc_held.specs.Held.{HasItsLines, is_named_line};
+ghost use Rattle.svc_show.specs.Named.{AreVersions, and_line, and_version};
 
 use crate::bits::is_version;
-use crate::holds::{backing_of, line_of_named};
-use crate::named::Named;
 use svc_base::UnitId;
+use svc_held::{Named, backing_of, line_of_named};
 use svc_line::LineBits;
 use svc_machine::Machine;
 

@@ -7,10 +7,9 @@ ghost use Rattle.svc_show.specs.Rows.{line_row};
 ghost use Rattle.svc_show.specs.Named.{named_line, named_lines};
 
 use crate::bits::write_bits;
-use crate::holds::line_of_named;
-use crate::named::Named;
 use std::alloc::AllocError;
 use svc_base::{UnitId, WordAddr};
+use svc_held::{Named, line_of_named};
 use svc_line::LineBits;
 use svc_machine::Machine;
 use svc_text::put_fields;

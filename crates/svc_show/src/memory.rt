@@ -5,14 +5,14 @@ ghost use Rattle.std.specs.List.{AllByRecursion};
 ghost use Rattle.svc_core_laws.specs.Turns.{data_words};
 ghost use Rattle.svc_bus.specs.Observed.{observed};
 ghost use Rattle.svc_report.specs.Fields.{optional};
-ghost use Rattle.svc_show.specs.Named.{HasItsLines, named_memory, named_spill};
+ghost use Rattle.svc_held.specs.Held.{HasItsLines};
+ghost use Rattle.svc_show.specs.Named.{named_memory, named_spill};
 ghost use Rattle.svc_show.specs.Rows.{memory_row, spill_row};
 
 use crate::cached::{Cached, committed_of};
-use crate::holds::{backing_of, has_spill, spill_of};
-use crate::named::Named;
 use std::alloc::AllocError;
 use svc_base::WordAddr;
+use svc_held::{Named, Span, backing_of, has_spill, is_asked, spill_of};
 use svc_machine::Machine;
 use svc_text::put_row;
 
@@ -65,15 +65,21 @@ fn write_memory(
     put_row(rows, "memory", &numbers)
 }
 
-// Writes the row of the named word, if it has a valid line or is spilled.
-fn write_word(machine: &Machine, named: Named, rows: &mut Vec<u8>) -> Result<(), AllocError>
+// Writes the row of the named word, if it has a valid line, is spilled or is asked for.
+fn write_word(
+    machine: &Machine,
+    asked: Option<Span>,
+    named: Named,
+    rows: &mut Vec<u8>,
+) -> Result<(), AllocError>
     requires own { HasItsLines (observed machine.now.bus) (data_words machine.now.image) named }
     ensures { let m = machine.now in
-        OnOk result (rows.new.items ≡ rows.old.items ++ named_memory m.image m.config m.plain (observed m.bus) named) }
+        OnOk result (rows.new.items ≡ rows.old.items
+        ++ named_memory m.image m.config m.plain (observed m.bus) asked named) }
 {
     let word = named.word;
     let cached = Cached::of(machine, machine.config().units, named);
-    if cached.line || has_spill(machine, word) {
+    if cached.line || has_spill(machine, word) || is_asked(asked, word.0) {
         let committed = committed_of(machine, named, cached.versions);
         write_memory(word, committed, backing_of(machine, word), rows)
     } else {
@@ -81,19 +87,20 @@ fn write_word(machine: &Machine, named: Named, rows: &mut Vec<u8>) -> Result<(),
     }
 }
 
-/// Writes a row for each of the named words that has a valid line or is spilled.
+/// Writes a row for each of the named words that has a valid line, is spilled or is asked for.
 pub(crate) fn write_words(
     machine: &Machine,
+    asked: Option<Span>,
     named: &[Named],
     rows: &mut Vec<u8>,
 ) -> Result<(), AllocError>
     requires own { AllByRecursion (HasItsLines (observed machine.now.bus) (data_words machine.now.image)) named.now }
     ensures { let m = machine.now in
         OnOk result (rows.new.items ≡ rows.old.items
-        ++ flat_map (named_memory m.image m.config m.plain (observed m.bus)) named.now) }
+        ++ flat_map (named_memory m.image m.config m.plain (observed m.bus) asked) named.now) }
 {
     for one in named {
-        write_word(machine, *one, rows)?;
+        write_word(machine, asked, *one, rows)?;
     }
     Ok(())
 }

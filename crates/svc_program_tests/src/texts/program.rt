@@ -7,8 +7,8 @@ use std::sync::Wait;
 use std::thread::Threads;
 use svc_base::Config;
 use svc_program::{
-    Assembly, Compared, Fault, FileFault, Files, Request, Run, Scripted, Source, Table, Tasks,
-    Traced, perform, tell,
+    Assembly, Compared, Extras, Fault, FileFault, Files, Request, Run, Scripted, Shown, Source,
+    Table, Tasks, Traced, perform, tell,
 };
 use svc_report::ReportError;
 use svc_samples::P;
@@ -140,6 +140,17 @@ const KINDS: [Printing; 8] = [
     Printing::Version,
 ];
 
+// A show of all entries, with nothing beside its rows.
+const SHOWN: Shown<'static> = Shown {
+    at: None,
+    extras: Extras {
+        detail: false,
+        moves: false,
+        memory: None,
+    },
+    names: None,
+};
+
 fn request_of<'a>(kind: Printing, config: Config) -> Request<'a> {
     let image = Source::BuiltIn;
     let traced = Traced {
@@ -158,8 +169,8 @@ fn request_of<'a>(kind: Printing, config: Config) -> Request<'a> {
         Printing::Check => Request::Check(traced, Compared::All, None),
         Printing::Profile => Request::Profile(traced, None, None, None),
         Printing::Tasks => Request::Profile(traced, None, Some(Table::Tasks), None),
-        Printing::Show => Request::Show(traced, None, None),
-        Printing::List => Request::List(image),
+        Printing::Show => Request::Show(traced, SHOWN),
+        Printing::List => Request::List(image, None),
         Printing::Version => Request::Version,
     }
 }
@@ -326,6 +337,7 @@ fn a_program_text_over_a_reader_that_fails(rt: HostRuntime) {
         let assembly = Assembly {
             text: "text",
             image: "saved",
+            names: None,
         };
         assert!(rt; file_fails(&rt, Request::Assemble(assembly), left));
     }

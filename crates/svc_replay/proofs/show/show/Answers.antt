@@ -19,10 +19,10 @@ returns g c =
     let img = c.in_ok-image.image in
     let es = c.in_ok-image.entries.items in
     let given = c.as_ref.result in
-    let Tells = λ (i : Image) (xs : List Entry) (names : Option (Bor Names)). TellsMachine c.args.at names i traced.config xs (g.O.Write.contents old) (g.O.Write.contents new) in
-    answered_reading g.O.Write.contents (request.Show traced c.args.at c.args.named) held old new c.show_entries.result
+    let Tells = λ (i : Image) (xs : List Entry) (names : Option (Bor Names)). TellsMachine c.args.shown.at c.args.shown.extras names i traced.config xs (g.O.Write.contents old) (g.O.Write.contents new) in
+    answered_reading g.O.Write.contents (request.Show traced c.args.shown) held old new c.show_entries.result
     (img, c.in_ok-image.ensures.image) tt
-    (of_loaded c.show_entries.result held traced img es (λ i xs exit. IsNamedIn held c.args.named (λ names. Tells i xs names exit)) c.in_ok-image.ensures.image c.in_ok-image.ensures.trace
-    (of_named c.show_entries.result held c.args.named c.in_ok-names.names given (Tells img es) c.in_ok-names.ensures c.as_ref.ensures.value
+    (of_loaded c.show_entries.result held traced img es (λ i xs exit. IsNamedIn held c.args.shown.names (λ names. Tells i xs names exit)) c.in_ok-image.ensures.image c.in_ok-image.ensures.trace
+    (of_named c.show_entries.result held c.args.shown.names c.in_ok-names.names given (Tells img es) c.in_ok-names.ensures c.as_ref.ensures.value
     (subst (λ (xs : List Entry). IfOk c.show_entries.result (Tells img xs given)) c.deref.ensures.value c.show_entries.ensures.shown)))
     (silent_before old new c.show_entries.result _ c.show_entries.ensures.fault)

@@ -2,7 +2,7 @@ use Rattle.std.proofs.Common.{Some}
 use Rattle.std.specs.Prelude.{flat_map}
 use Rattle.svc_bus.specs.Observed.{observed}
 use Rattle.svc_show.specs.Named.{named_line}
-use Rattle.svc_show.proofs.Ranges.{row_more}
+use Rattle.svc_held.proofs.Ranges.{row_more}
 use Rattle.svc_show.proofs.lines.write_lines.Goals as goal
 
 pub loop-unit-preserved : goal.loop-unit-preserved

@@ -6,4 +6,4 @@ use Rattle.svc_show.proofs.memory.write_words.Given as goal
 
 abbrev pub invariant-loop-one : goal.invariant-loop-one
 invariant-loop-one l =
-    l.rows.items ≡ l.fn.rows.items ++ flat_map (named_memory l.machine.image l.machine.config l.machine.plain (observed l.machine.bus)) (take l.one-index l.named)
+    l.rows.items ≡ l.fn.rows.items ++ flat_map (named_memory l.machine.image l.machine.config l.machine.plain (observed l.machine.bus) l.asked) (take l.one-index l.named)

@@ -3,7 +3,8 @@ use Rattle.std.specs.Io.KnownBytes.{Appends}
 use Rattle.svc_core_laws.specs.State.{State}
 use Rattle.svc_core_laws.specs.Words.{program}
 use Rattle.svc_machine_laws.specs.PlainMachine.{Running, running}
-use Rattle.svc_show.proofs.TaskRows.{all_tasks, task_more}
+use Rattle.svc_held.specs.Tasks.{each_task}
+use Rattle.svc_held.proofs.EachTask.{all_tasks, task_more}
 use Rattle.svc_show.specs.Show.{task_rows}
 use Rattle.svc_show.proofs.tasks.write_tasks.Goals as goal
 
@@ -13,7 +14,8 @@ loop-place-preserved c =
     let a = Some c.args.rows.now.items in
     let b = Some c.loop-place.rows.items in
     let d = Some c.write_task_at.new.rows.items in
-    task_more m.plain.commits (running (program m.image) m.plain) c.loop-place.place a b d c.loop-place.invariant c.in_ok-write_task_at.ensures
+    task_more (task_rows c.args.detail m.image) m.plain.commits (running (program m.image) m.plain) c.loop-place.place a b d c.loop-place.invariant
+    c.in_ok-write_task_at.ensures
 
 pub returns : goal.returns
 returns c =
@@ -23,4 +25,4 @@ returns c =
     let end = c.loop-place-test.false in
     let count = c.active_tasks-place-end.ensures in
     let all = all_tasks (program m.image) m.plain c.loop-place.place (omega (arith, end, count)) in
-    subst (λ (runs : List (Running State)). Appends a b (task_rows m.plain.commits runs)) all c.loop-place.invariant
+    subst (λ (runs : List (Running State)). Appends a b (each_task (task_rows c.args.detail m.image) m.plain.commits runs)) all c.loop-place.invariant

@@ -1,9 +1,11 @@
 use Rattle.std.proofs.Common.{◌≡◌, ◌++◌, take}
 use Rattle.svc_core_laws.specs.Words.{program}
 use Rattle.svc_machine_laws.specs.PlainMachine.{running}
+use Rattle.svc_held.specs.Tasks.{each_task}
 use Rattle.svc_show.specs.Show.{task_rows}
 use Rattle.svc_show.proofs.tasks.write_tasks.Given as goal
 
 abbrev pub invariant-loop-place : goal.invariant-loop-place
 invariant-loop-place l =
-    l.rows.items ≡ l.fn.rows.items ++ task_rows l.machine.plain.commits (take l.place (running (program l.machine.image) l.machine.plain))
+    l.rows.items ≡ l.fn.rows.items
+    ++ each_task (task_rows l.detail l.machine.image) l.machine.plain.commits (take l.place (running (program l.machine.image) l.machine.plain))

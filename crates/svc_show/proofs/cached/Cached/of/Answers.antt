@@ -1,9 +1,10 @@
 use Rattle.std.proofs.Common.{◌∙◌, ◌+◌, Bool, ap, ap₂, subst, sym}
 use Rattle.std.specs.Prelude.{◌||◌, is_some}
 use Rattle.svc_bus.specs.Observed.{observed}
-use Rattle.svc_show.specs.Named.{AreVersions, and_line, is_named_line}
+use Rattle.svc_held.specs.Held.{is_named_line}
+use Rattle.svc_show.specs.Named.{AreVersions, and_line}
 use Rattle.svc_show.proofs.Caches.{one_cache}
-use Rattle.svc_show.proofs.Ranges.{any_more}
+use Rattle.svc_held.proofs.Ranges.{any_more}
 use Rattle.svc_show.proofs.cached.Cached.of.Goals as goal
 
 pub loop-unit-preserved : goal.loop-unit-preserved

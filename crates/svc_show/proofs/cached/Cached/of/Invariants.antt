@@ -1,7 +1,8 @@
 use Rattle.std.proofs.Common.{◌≡◌}
 use Rattle.std.specs.List.{list_any, range_with_len}
 use Rattle.svc_bus.specs.Observed.{observed}
-use Rattle.svc_show.specs.Named.{AreVersions, is_named_line}
+use Rattle.svc_held.specs.Held.{is_named_line}
+use Rattle.svc_show.specs.Named.{AreVersions}
 use Rattle.svc_show.proofs.cached.Cached.of.Given as goal
 
 abbrev pub invariant-loop-unit : goal.invariant-loop-unit

@@ -1,0 +1,8 @@
+use Rattle.svc_export.specs.Changes.{idle}
+use Rattle.svc_export.proofs.Texts.{one_more_unit}
+use Rattle.svc_export.proofs.vcd.put_all_idle.Goals as goal
+
+pub loop-unit-preserved : goal.loop-unit-preserved
+loop-unit-preserved c =
+    one_more_unit idle c.loop-unit.unit c.from.result c.args.text.now.items c.loop-unit.text.items c.put_idle.new.text.items c.from.ensures
+    c.loop-unit.invariant c.in_ok-put_idle.ensures

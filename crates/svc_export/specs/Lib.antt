@@ -1,0 +1,5 @@
+pub mod Changes
+pub mod Chrome
+pub mod Events
+pub mod Export
+pub mod Vcd

@@ -1,0 +1,4 @@
+pub mod Span
+pub mod Named
+pub mod Held
+pub mod Tasks

@@ -1,0 +1,6 @@
+pub mod CostRows
+pub mod Charging
+pub mod Standing
+pub mod Totals
+pub mod LostLoads
+pub mod Asking

@@ -1,0 +1,5 @@
+pub mod Addresses
+pub mod Charges
+pub mod Rows
+pub mod Sums
+pub mod Room

@@ -1,6 +1,0 @@
-use Rattle.std.proofs.Common.{take, length}
-use Rattle.svc_show.specs.Named.{IsMarked}
-use Rattle.svc_show.proofs.named.mark_entries.Given as goal
-
-abbrev pub invariant-loop-entry : goal.invariant-loop-entry
-invariant-loop-entry l = IsMarked (take l.entry-index l.entries) (length l.fn.marks) l.marks

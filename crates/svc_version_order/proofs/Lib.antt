@@ -1,0 +1,3 @@
+pub mod Counting
+pub mod OrdersHeld
+pub mod TaskFields
