@@ -47,9 +47,11 @@ cost_rows (Some table.Suppliers) = Some (rows.Table (Some (column.Word 2)))
 cost_rows (Some table.Instructions) = Some (rows.Table (Some (column.Text 0)))
 cost_rows (Some (table.Row row)) = None
 
--- the entries that are asked for are a legal history, and what a writer holds has grown by what is printed of it, with the
--- names that are given
-pub record TellsCost (to : Option ℕ) (by : Option Table) (names : Option (Bor Names)) (img : Image) (config : Config) (es : List Entry) (old new : Option (List ℕ)) (exit : ℕ) : Type 0 where
+-- the entries that are asked for are a legal history, and what a writer holds has grown by what is printed of it, with
+-- the names that are given
+pub record TellsCost (to : Option ℕ) (by : Option Table) (names : Option (Bor Names)) (img : Image)
+    (config : Config) (es : List Entry) (old new : Option (List ℕ)) (exit : ℕ) : Type 0 where
   pub sound : IsSoundFront to img config es
-  pub text : Appends old new (named_text (listed names) (cost_rows by) (cost_text by (addresses img config (front to es)) config (front to es)))
+  pub text : Appends old new (named_text (listed names) (cost_rows by)
+      (cost_text by (addresses img config (front to es)) config (front to es)))
   pub status : exit ≡ 0

@@ -25,4 +25,5 @@ drawing_of rows units es from count = shown_as rows units (front (Some (from + c
 
 -- that text is saved, as far as the file is known
 abbrev pub SavesDrawing : Held → (name : List ℕ) → (rows : Bool) → (units : ℕ) → List Entry → (from count : ℕ) → Type 0
-SavesDrawing held name rows units es from count = IfSome (held name) (λ text. text ≡ drawing_of rows units es from count)
+SavesDrawing held name rows units es from count =
+    IfSome (held name) (λ text. text ≡ drawing_of rows units es from count)

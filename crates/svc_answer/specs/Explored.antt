@@ -21,8 +21,9 @@ use Rattle.svc_names.specs.declared.rows.Rows.TheVariants as rows
 use Rattle.svc_names.specs.Given.{listed, told_with}
 use Rattle.svc_request.specs.declared.request.Explored.{Explored}
 
--- an exploration of all schedules by bursts of at most so many turns: each observation is in its place with a schedule that shows
--- it; where it is whole no schedule shows anything else, and where it isn't, it has met the limit of standings or that of events
+-- an exploration of all schedules by bursts of at most so many turns: each observation is in its place with a schedule
+-- that shows it; where it is whole no schedule shows anything else, and where it isn't, it has met the limit of
+-- standings or that of events
 pub record IsExplorationOf (img : Image) (config : Config) (burst limit : ℕ) (found : Exploration) : Type 0 where
   pub whole : IsTrue found.whole → ShowNothingElse img config burst (are_seen found.found.items)
   pub witnessed : AreWitnessed img config burst found.found.items
@@ -31,7 +32,8 @@ pub record IsExplorationOf (img : Image) (config : Config) (burst limit : ℕ) (
   pub limits : KeepsLimits config limit found
 
 -- the rows of one were printed with the names that are given, and the exit status says whether it was whole
-pub record TellsSchedules (names : Option (Bor Names)) (img : Image) (config : Config) (burst limit : ℕ) (old new : Option (List ℕ)) (exit : ℕ) : Type 0 where
+pub record TellsSchedules (names : Option (Bor Names)) (img : Image) (config : Config) (burst limit : ℕ)
+    (old new : Option (List ℕ)) (exit : ℕ) : Type 0 where
   pub exploration : Exploration
   pub is : IsExplorationOf img config burst limit exploration
   pub text : Appends old new (told_with (listed names) rows.Seen (exploration_text exploration))
@@ -42,12 +44,15 @@ abbrev pub HasWitness : Image → Explored → Observation → (saves : List Ent
 HasWitness img explored o saves = (es : List Entry) × IsWitness img explored.config explored.burst o es × saves es
 
 -- one of what was found is what is looked for, and has such a witness; or no play shows anything that is
-abbrev pub IsAnswerTo : Image → Explored → Sought → Exploration → (saves : List Entry → Type 0) → Option (Bor Seen) → Type 0
+abbrev pub IsAnswerTo : Image → Explored → Sought → Exploration → (saves : List Entry → Type 0) → Option (Bor Seen)
+    → Type 0
 IsAnswerTo img explored sought x saves None = ShowNoMatch img explored.config explored.burst sought
-IsAnswerTo img explored sought x saves (Some seen) = IsIn seen.now x.found.items × Matches sought seen.now.what × HasWitness img explored seen.now.what saves
+IsAnswerTo img explored sought x saves (Some seen) =
+    IsIn seen.now x.found.items × Matches sought seen.now.what × HasWitness img explored seen.now.what saves
 
 -- what was found is told with the names that are given, and the exit status says whether anything was
-pub record FindsSight (names : Option (Bor Names)) (img : Image) (explored : Explored) (sought : Sought) (saves : List Entry → Type 0) (old new : Option (List ℕ)) (exit : ℕ) : Type 0 where
+pub record FindsSight (names : Option (Bor Names)) (img : Image) (explored : Explored) (sought : Sought)
+    (saves : List Entry → Type 0) (old new : Option (List ℕ)) (exit : ℕ) : Type 0 where
   pub exploration : Exploration
   pub is : IsExplorationOf img explored.config explored.burst explored.states exploration
   pub seen : Option (Bor Seen)

@@ -15,7 +15,8 @@ abbrev pub AreNamesIn : Held → Option (Bor (List ℕ)) → Option Names → Ty
 AreNamesIn held None None = ⊤
 AreNamesIn held None (Some names) = ⊥
 AreNamesIn held (Some name) None = ⊥
-AreNamesIn held (Some name) (Some names) = IsTable names.list.items × IfSome (held name.now) (λ text. IsText text (table_records names.list.items))
+AreNamesIn held (Some name) (Some names) =
+    IsTable names.list.items × IfSome (held name.now) (λ text. IsText text (table_records names.list.items))
 
 -- names, those of the named table if one is named, for which something holds
 abbrev pub IsNamedIn : Held → Option (Bor (List ℕ)) → (Option (Bor Names) → Type 0) → Type 0

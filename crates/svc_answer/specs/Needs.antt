@@ -32,7 +32,8 @@ table_text table.Graph names img most = pairs_text (pair.Graph names) img (tasks
 -- what is printed of at most this many tasks: such a table, or how many there were, how they ended, and what they need
 -- together
 abbrev pub needs_text : Option NeedsTable → Option (Bor Names) → Image → (most : ℕ) → List ℕ
-needs_text None names img most = totals_text (tasks_run img most) (ending_after img most false) (totals img (tasks_run img most))
+needs_text None names img most =
+    totals_text (tasks_run img most) (ending_after img most false) (totals img (tasks_run img most))
 needs_text (Some by) names img most = table_text by names img most
 
 -- the rows of each, and where they have an address; a graph has none
@@ -55,17 +56,20 @@ pub record AreOf (img : Image) (most : ℕ) (needs : Needs) : Type 0 where
   pub ending : needs.ending ≡ ending_after img most false
 
 -- what a writer holds has grown by what is told of them, and this is how they ended
-pub record IsTold (by : Option NeedsTable) (names : Option (Bor Names)) (img : Image) (most : ℕ) (old new : Option (List ℕ)) (ending : Ending) : Type 0 where
+pub record IsTold (by : Option NeedsTable) (names : Option (Bor Names)) (img : Image) (most : ℕ)
+    (old new : Option (List ℕ)) (ending : Ending) : Type 0 where
   pub text : Appends old new (needs_text by names img most)
   pub ending_is : ending ≡ ending_after img most false
 
 -- the same, with the names that are given at the ends of rows
-pub record IsNamed (by : Option NeedsTable) (names : Option (Bor Names)) (img : Image) (most : ℕ) (old new : Option (List ℕ)) (ending : Ending) : Type 0 where
+pub record IsNamed (by : Option NeedsTable) (names : Option (Bor Names)) (img : Image) (most : ℕ)
+    (old new : Option (List ℕ)) (ending : Ending) : Type 0 where
   pub text : Appends old new (named_needs by names img most)
   pub ending_is : ending ≡ ending_after img most false
 
 -- what a writer holds has grown by what is told of them, with the names that are given, and the exit status is that of
 -- their ending
-pub record TellsNeeds (by : Option NeedsTable) (names : Option (Bor Names)) (img : Image) (most : ℕ) (old new : Option (List ℕ)) (exit : ℕ) : Type 0 where
+pub record TellsNeeds (by : Option NeedsTable) (names : Option (Bor Names)) (img : Image) (most : ℕ)
+    (old new : Option (List ℕ)) (exit : ℕ) : Type 0 where
   pub text : Appends old new (named_needs by names img most)
   pub status : exit ≡ status_of (ending_after img most false)

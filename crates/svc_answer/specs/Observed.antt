@@ -13,8 +13,10 @@ use Rattle.svc_observations.specs.declared.trace.Sighting.{Sighting}
 use Rattle.svc_observations.specs.Rows.{row_of_sighting}
 use Rattle.svc_observations.specs.Sightings.{AreSightings}
 
--- the entries are a legal history, and a row was printed for each observation that they show, with the names that are given
-pub record TellsSightings (names : Option (Bor Names)) (img : Image) (config : Config) (es : List Entry) (old new : Option (List ℕ)) (exit : ℕ) : Type 0 where
+-- the entries are a legal history, and a row was printed for each observation that they show, with the names that are
+-- given
+pub record TellsSightings (names : Option (Bor Names)) (img : Image) (config : Config) (es : List Entry)
+    (old new : Option (List ℕ)) (exit : ℕ) : Type 0 where
   pub legal : LegalHistory img config es
   pub sightings : List Sighting
   pub are : AreSightings img config es sightings

@@ -71,7 +71,8 @@ HasEvents held named = (steps : List Step) × AreEventsIn held named steps
 -- a run goes by this order and these bursts, after the script that is named if one is
 abbrev pub GoesAfter : Held → Option (Bor (List ℕ)) → Order → (burst : ℕ) → Image → Config → Recorded → Type 0
 GoesAfter held None by burst img config r = IsScheduledBy by burst img config r
-GoesAfter held (Some name) by burst img config r = (steps : List Step) × IsScriptIn held name.now steps × All IsEvent steps × IsContinuedBy steps by burst img config r
+GoesAfter held (Some name) by burst img config r =
+    (steps : List Step) × IsScriptIn held name.now steps × All IsEvent steps × IsContinuedBy steps by burst img config r
 
 -- a run goes by the schedule, if there is one
 abbrev pub GoesBy : Held → Option Schedule → Image → Config → Recorded → Type 0
@@ -107,7 +108,8 @@ version_row = codes "svcsim " ++ (VERSION.now ++ codes "\n")
 -- an image of the source, and entries, those of the named trace, for which something holds
 abbrev pub IsTracedIn : Held → Traced → (Image → List Entry → Type 0) → Type 0
 IsTracedIn held traced Holds =
-    (img : Image) × IsOfSource held traced.image img × (es : List Entry) × IsTraceIn held traced.trace.now es × Holds img es
+    (img : Image) × IsOfSource held traced.image img × (es : List Entry) × IsTraceIn held traced.trace.now es
+    × Holds img es
 
 -- the request was done with this exit status, given what the files held before and hold now, and what the writer held
 -- before and holds now
@@ -115,33 +117,44 @@ abbrev pub Does : Request → (held saved : Held) → (old new : Option (List �
 Does (request.Help text) held saved old new exit = Shows (string_bytes text) old new exit
 Does request.Version held saved old new exit = Shows version_row old new exit
 Does (request.Run run) held saved old new exit =
-    (img : Image) × IsOfSource held run.image img × (r : Recorded) × IsRunOf img run.config r × GoesBy held run.schedule img run.config r
+    (img : Image) × IsOfSource held run.image img × (r : Recorded) × IsRunOf img run.config r
+    × GoesBy held run.schedule img run.config r
     × SavesAnyTrace saved run.trace r.entries × ReportsRun run.row r old new exit
 Does (request.Sequential tasks) held saved old new exit =
-    (img : Image) × IsOfSource held tasks.image img × Reports img tasks.most (tasks_run img tasks.most) false None old new exit
+    (img : Image) × IsOfSource held tasks.image img
+    × Reports img tasks.most (tasks_run img tasks.most) false None old new exit
 Does (request.Depend depended) held saved old new exit =
-    (img : Image) × IsOfSource held depended.image img × IsNamedIn held depended.names (λ names. TellsNeeds depended.by names img depended.most old new exit)
+    (img : Image) × IsOfSource held depended.image img
+    × IsNamedIn held depended.names (λ names. TellsNeeds depended.by names img depended.most old new exit)
 Does (request.Explore explored) held saved old new exit =
     (img : Image) × IsOfSource held explored.image img
-    × IsNamedIn held explored.names (λ names. TellsSchedules names img explored.config explored.burst explored.states old new exit)
+    × IsNamedIn held explored.names (λ names.
+    TellsSchedules names img explored.config explored.burst explored.states old new exit)
 Does (request.Find explored sought trace) held saved old new exit =
     (img : Image) × IsOfSource held explored.image img
-    × IsNamedIn held explored.names (λ names. FindsSight names img explored sought (SavesAnyTrace saved trace) old new exit)
+    × IsNamedIn held explored.names
+    (λ names. FindsSight names img explored sought (SavesAnyTrace saved trace) old new exit)
 Does (request.Observe traced named) held saved old new exit =
-    IsTracedIn held traced (λ img es. IsNamedIn held named (λ names. TellsSightings names img traced.config es old new exit))
+    IsTracedIn held traced (λ img es.
+    IsNamedIn held named (λ names. TellsSightings names img traced.config es old new exit))
 Does (request.Script scripted) held saved old new exit =
     (img : Image) × IsOfSource held scripted.image img
     × (steps : List Step) × IsScriptIn held scripted.events.now steps
     × PlaysScript img scripted.config steps (SavesAnyTrace saved scripted.trace) old new exit
 Does (request.Check traced compared script) held saved old new exit =
-    IsTracedIn held traced (λ img es. (found : List Entry) × AreSameIn compared found es × FindsSound img traced.config found old new exit × SavesAnyScript saved script found × LeadsBack img traced.config found)
+    IsTracedIn held traced (λ img es. (found : List Entry) × AreSameIn compared found es
+    × FindsSound img traced.config found old new exit × SavesAnyScript saved script found
+    × LeadsBack img traced.config found)
 Does (request.Profile traced to by named) held saved old new exit =
-    IsTracedIn held traced (λ img es. IsNamedIn held named (λ names. TellsCost to by names img traced.config es old new exit))
+    IsTracedIn held traced (λ img es.
+    IsNamedIn held named (λ names. TellsCost to by names img traced.config es old new exit))
 Does (request.Show traced shown) held saved old new exit =
-    IsTracedIn held traced (λ img es. IsNamedIn held shown.names (λ names. TellsMachine shown.at shown.extras names img traced.config es old new exit))
+    IsTracedIn held traced (λ img es. IsNamedIn held shown.names
+    (λ names. TellsMachine shown.at shown.extras names img traced.config es old new exit))
 Does (request.Draw traced picture) held saved old new exit =
     IsTracedIn held traced (λ img es. IsDrawn img traced.config es picture.from picture.count
-    × SavesDrawing saved picture.file.now picture.rows traced.config.units es picture.from picture.count) × (new ≡ old) × (exit ≡ 0)
+    × SavesDrawing saved picture.file.now picture.rows traced.config.units es picture.from picture.count) × (new ≡ old)
+    × (exit ≡ 0)
 Does (request.Export traced exported) held saved old new exit =
     IsTracedIn held traced (λ img es. Exports saved exported img traced.config es) × (new ≡ old) × (exit ≡ 0)
 Does (request.Assemble assembly) held saved old new exit =
@@ -177,7 +190,8 @@ IsReady asked held = HasImage asked held
 abbrev pub Spares : Request → Fault → (held saved : Held) → Type 0
 Spares asked f held saved = (saved ≡ held) ⊎ (IsLate f × IsReady asked held)
 
--- what saving a trace comes to: no file is changed but the named one, and with a fault that one isn't either, or it was being written
+-- what saving a trace comes to: no file is changed but the named one, and with a fault that one isn't either, or it was
+-- being written
 pub record SavesAlone {A : Type 0} (name : Option (List ℕ)) (held saved : Held) (answer : Result A Fault) : Type 0 where
   pub kept : KeepsAllBut name held saved
   pub spared : IfErr answer (λ f. IsLate f ⊎ (saved ≡ held))
@@ -193,7 +207,8 @@ IsQuiet old new f = IsOutputFault f ⊎ (new ≡ old)
 --   machine: no fault of the machine or the run comes before the script
 --   kept: no file is changed except those to write
 --   spared: nor are those at a fault, unless they were being written
-pub record IsAnswered {O : Type 0} (contents : O → Option (List ℕ)) (asked : Request) (held saved : Held) (old new : O) (answer : Result ℕ Fault) : Type 0 where
+pub record IsAnswered {O : Type 0} (contents : O
+    → Option (List ℕ)) (asked : Request) (held saved : Held) (old new : O) (answer : Result ℕ Fault) : Type 0 where
   pub done : IfOk answer (Does asked held saved (contents old) (contents new))
   pub silent : IfErr answer (IsQuiet old new)
   pub order : IfErr answer (λ f. IsEarly f ⊎ HasImage asked held)

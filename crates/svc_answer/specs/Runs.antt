@@ -47,7 +47,8 @@ ending_after img k full = ending_of full (plain_seq img k).stopped (plain_seq im
 
 -- what a writer holds has grown by the summary of an image's first k tasks, run one after another on one flat memory,
 -- with how many they are and with these counts, if any; the exit status is that of their ending
-pub record Reports (img : Image) (k tasks : ℕ) (full : Bool) (counts : Option Counts) (old new : Option (List ℕ)) (exit : ℕ) : Type 0 where
+pub record Reports (img : Image) (k tasks : ℕ) (full : Bool) (counts : Option Counts) (old new : Option (List ℕ))
+    (exit : ℕ) : Type 0 where
   pub text : Appends old new (summary_of (plain_seq img k).output tasks (ending_after img k full) counts)
   pub status : exit ≡ status_of (ending_after img k full)
 
@@ -57,25 +58,32 @@ pub record IsRunOf (img : Image) (config : Config) (r : Recorded) : Type 0 where
   pub config_is : r.machine.config ≡ config
   pub legal : IsLegal r
 
--- a run goes on by this order from where another one stands, with bursts of at most `burst` turns: each entry that it adds
--- is that of one step, and there are as many steps as the configuration has turns unless its ending isn't open
+-- a run goes on by this order from where another one stands, with bursts of at most `burst` turns: each entry that it
+-- adds is that of one step, and there are as many steps as the configuration has turns unless its ending isn't open
 abbrev pub GoesOnBy : Order → (burst : ℕ) → (start r : Recorded) → Type 0
 GoesOnBy order.Rotate burst start r = (old : Rotate) × (new : Rotate) × GoesOn Rotates burst old new start r
 GoesOnBy order.Oldest burst start r = (old : Oldest) × (new : Oldest) × GoesOn (GoesByAge Older) burst old new start r
-GoesOnBy order.Youngest burst start r = (old : Youngest) × (new : Youngest) × GoesOn (GoesByAge Younger) burst old new start r
-GoesOnBy (order.Random seed) burst start r = (old : Random) × (old.generator ≡ generator_of seed) × (new : Random) × GoesOn Draws burst old new start r
+GoesOnBy order.Youngest burst start r =
+    (old : Youngest) × (new : Youngest) × GoesOn (GoesByAge Younger) burst old new start r
+GoesOnBy (order.Random seed) burst start r =
+    (old : Random) × (old.generator ≡ generator_of seed) × (new : Random) × GoesOn Draws burst old new start r
 
 -- a run of the image goes by this order, with bursts of at most `burst` turns: each of its entries is that of one step,
 -- and it has as many steps as the configuration has turns unless its ending isn't open
 abbrev pub IsScheduledBy : Order → (burst : ℕ) → Image → Config → Recorded → Type 0
-IsScheduledBy order.Rotate burst img config r = (old : Rotate) × (new : Rotate) × IsScheduled Rotates img config burst old new r
-IsScheduledBy order.Oldest burst img config r = (old : Oldest) × (new : Oldest) × IsScheduled (GoesByAge Older) img config burst old new r
-IsScheduledBy order.Youngest burst img config r = (old : Youngest) × (new : Youngest) × IsScheduled (GoesByAge Younger) img config burst old new r
-IsScheduledBy (order.Random seed) burst img config r = (old : Random) × (old.generator ≡ generator_of seed) × (new : Random) × IsScheduled Draws img config burst old new r
+IsScheduledBy order.Rotate burst img config r =
+    (old : Rotate) × (new : Rotate) × IsScheduled Rotates img config burst old new r
+IsScheduledBy order.Oldest burst img config r =
+    (old : Oldest) × (new : Oldest) × IsScheduled (GoesByAge Older) img config burst old new r
+IsScheduledBy order.Youngest burst img config r =
+    (old : Youngest) × (new : Youngest) × IsScheduled (GoesByAge Younger) img config burst old new r
+IsScheduledBy (order.Random seed) burst img config r =
+    (old : Random) × (old.generator ≡ generator_of seed) × (new : Random) × IsScheduled Draws img config burst old new r
 
 -- a run begins by these events, and then goes by this order: the script leads from before any event to where the order
 -- goes on
-pub record IsContinuedBy (steps : List Step) (by : Order) (burst : ℕ) (img : Image) (config : Config) (r : Recorded) : Type 0 where
+pub record IsContinuedBy (steps : List Step) (by : Order) (burst : ℕ) (img : Image) (config : Config)
+    (r : Recorded) : Type 0 where
   pub opened : Recorded
   pub before : IsOpened img config opened
   pub start : Recorded
@@ -88,11 +96,13 @@ tasks_of r = (board r.entries).committed
 
 -- the report of a run is that of the tasks that its history has committed, with the history's counts
 abbrev pub ReportsOn : Recorded → Option (List ℕ) → Option (List ℕ) → ℕ → Type 0
-ReportsOn r old new exit = Reports r.machine.image (tasks_of r) (tasks_of r) (is_full r.machine) (Some (counts_of r.entries)) old new exit
+ReportsOn r old new exit =
+    Reports r.machine.image (tasks_of r) (tasks_of r) (is_full r.machine) (Some (counts_of r.entries)) old new exit
 
 -- the same as a row of a table, without the output words
 pub record ReportsRow (row : TableRow) (r : Recorded) (old new : Option (List ℕ)) (exit : ℕ) : Type 0 where
-  pub text : Appends old new (summary_row row (tasks_of r) (ending_after r.machine.image (tasks_of r) (is_full r.machine)) (counts_of r.entries))
+  pub text : Appends old new (summary_row row (tasks_of r)
+      (ending_after r.machine.image (tasks_of r) (is_full r.machine)) (counts_of r.entries))
   pub status : exit ≡ status_of (ending_after r.machine.image (tasks_of r) (is_full r.machine))
 
 -- the report of a run, as a row of a table if one is asked for
@@ -116,7 +126,8 @@ TellsOfColumns compared.ButSuppliers img config es (fault.Trace f) = IsFaultOfRe
 TellsOfColumns compared.ButSuppliers img config es _ = ⊥
 
 -- the entries are a legal history, and what a writer holds has grown by the row that says so
-pub record FindsSound (img : Image) (config : Config) (es : List Entry) (old new : Option (List ℕ)) (exit : ℕ) : Type 0 where
+pub record FindsSound (img : Image) (config : Config) (es : List Entry) (old new : Option (List ℕ))
+    (exit : ℕ) : Type 0 where
   pub legal : LegalHistory img config es
   pub text : Appends old new (sound_row (length es))
   pub status : exit ≡ 0

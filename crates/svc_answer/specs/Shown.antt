@@ -14,7 +14,8 @@ use Rattle.svc_answer.specs.Fronts.{IsSoundFront, front}
 
 -- the entries that are asked for are a legal history, and what a writer holds has grown by the text of the machine to
 -- which they lead, with the names that are given
-pub record TellsMachine (at : Option ℕ) (extras : Extras) (names : Option (Bor Names)) (img : Image) (c : Config) (es : List Entry) (old new : Option (List ℕ)) (exit : ℕ) : Type 0 where
+pub record TellsMachine (at : Option ℕ) (extras : Extras) (names : Option (Bor Names)) (img : Image) (c : Config)
+    (es : List Entry) (old new : Option (List ℕ)) (exit : ℕ) : Type 0 where
   pub sound : IsSoundFront at img c es
   pub text : Appends old new (told_with (listed names) rows.Shown (show_of extras img c (front at es)))
   pub status : exit ≡ 0

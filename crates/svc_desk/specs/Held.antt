@@ -22,8 +22,10 @@ first_of None other = other
 first_of (Some bytes) other = Some bytes
 
 -- the bytes of the file of this name where some files were saved over others
-abbrev pub held_over : (saved_sizes : List FileSize) (saved : List ℕ) (sizes : List FileSize) (contents name : List ℕ) → Option (List ℕ)
-held_over saved_sizes saved sizes contents name = first_of (held_by saved_sizes saved name) (held_by sizes contents name)
+abbrev pub held_over : (saved_sizes : List FileSize) (saved : List ℕ) (sizes : List FileSize)
+    (contents name : List ℕ) → Option (List ℕ)
+held_over saved_sizes saved sizes contents name =
+    first_of (held_by saved_sizes saved name) (held_by sizes contents name)
 
 -- the words that a text asks with: the program's name, and the text's lines
 abbrev pub words_in : List ℕ → List (List ℕ)

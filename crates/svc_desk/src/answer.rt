@@ -22,8 +22,8 @@ pub struct Answer {
 }
 
 /// Does what the lines of a text ask for, which are the words of a command line without the program's name, over these
-/// files. None where memory was refused before the program began, or where the files that it read are others now, which its
-/// contract can't exclude.
+/// files. None where memory was refused before the program began, or where the files that it read are others now, which
+/// its contract can't exclude.
 pub fn answered(alloc: Global, line: &str, files: Lent<'_>) -> Option<Answer>
     ensures done { IfSome result (λ it. it.status ≢ 1 → (request : Request) × MayAsk (words_in line.now) request
         × Does request (held_by files.entry.sizes.now files.entry.contents.now)

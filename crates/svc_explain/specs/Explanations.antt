@@ -38,7 +38,8 @@ replayed_by _ = None
 -- what is told of the entry at this index of the trace that a request replays
 abbrev pub ExplainsTraced : Held → Option (Traced × Compared) → (index : ℕ) → List ℕ → Type 0
 ExplainsTraced held None index text = text ≡ []
-ExplainsTraced held (Some (traced, compared)) index text = IsTracedIn held traced (λ img es. Explains compared img traced.config es index text)
+ExplainsTraced held (Some (traced, compared)) index text =
+    IsTracedIn held traced (λ img es. Explains compared img traced.config es index text)
 
 -- the same of a fault; nothing if memory was refused
 abbrev pub ExplainsFault : Held → Option (Traced × Compared) → (index : ℕ) → TraceFaultKind → List ℕ → Type 0
@@ -94,11 +95,14 @@ files_written (Some name) also = Some (or_also name also)
 -- the file to write is one that is read, or it couldn't be written; where none is written, nothing else is known
 abbrev pub TellsUnsaved : Option (List ℕ) → List ℕ → Type 0
 TellsUnsaved None text = text ≡ sentence (codes "memory ran out, or a trace has fewer entries than are asked for")
-TellsUnsaved (Some name) text = (text ≡ sentence (name ++ codes " is read, and would be lost if it were saved")) ⊎ (text ≡ sentence (name ++ codes " can't be saved"))
+TellsUnsaved (Some name) text =
+    (text ≡ sentence (name ++ codes " is read, and would be lost if it were saved"))
+    ⊎ (text ≡ sentence (name ++ codes " can't be saved"))
 
 -- which of the files of a request can't be read or saved
 abbrev pub TellsFile : Request → List ℕ → Type 0
-TellsFile asked text = TellsUnread (read_by asked) text ⊎ TellsUnsaved (files_written (written_by asked) (also_written_by asked)) text
+TellsFile asked text =
+    TellsUnread (read_by asked) text ⊎ TellsUnsaved (files_written (written_by asked) (also_written_by asked)) text
 
 -- ---- a fault
 

@@ -29,8 +29,8 @@ pub fn explain_alone(alloc: Global, fault: &Fault) -> Result<Vec<u8>, AllocError
     }
 }
 
-/// What is told after a fault of a request: that, which of its files failed, or what the machine answers to the event of
-/// the trace's faulty entry. The files are read again.
+/// What is told after a fault of a request: that, which of its files failed, or what the machine answers to the event
+/// of the trace's faulty entry. The files are read again.
 ///
 /// Errors: [`Fault`] of the files, if they have changed, or of memory. Then nothing is known.
 pub fn explain<F: Files>(

@@ -21,8 +21,8 @@ use svc_image::Image;
 use svc_names::Names;
 use svc_request::{Assembly, Fault, Files, Source};
 
-/// Assembles the text of one file, and makes its image the whole content of another, and the table of its names that of a
-/// third, if one is named. Nothing is printed.
+/// Assembles the text of one file, and makes its image the whole content of another, and the table of its names that of
+/// a third, if one is named. Nothing is printed.
 ///
 /// Errors: a file that can't be read or written, the text's first fault, or lack of memory. Nothing
 /// is changed before the image's file is written.

@@ -42,7 +42,8 @@ fn tell_needs<O: Write>(
     names: Option<&Names>,
     out: &mut O,
 ) -> Result<u8, Fault>
-    ensures told { IfOk result (TellsNeeds depended.entry.by names.entry image.now depended.entry.most (O.contents out.old)
+    ensures told { IfOk result (TellsNeeds depended.entry.by names.entry image.now depended.entry.most
+        (O.contents out.old)
         (O.contents out.new)) }
     ensures silent { IfErr result (IsQuiet out.old out.new) }
 {
@@ -140,7 +141,8 @@ fn write_by_task<O: Write>(
     out: &mut O,
 ) -> Result<Ending, Fault>
     requires { most ≤ MAX_TASKS }
-    ensures told { IfOk result (IsTold (Some table.Tasks) None image.now most (O.contents out.old) (O.contents out.new)) }
+    ensures told { IfOk result (IsTold (Some table.Tasks) None image.now most (O.contents out.old)
+        (O.contents out.new)) }
     ensures silent { IfErr result (IsQuiet out.old out.new) }
 {
     let needs = find_needs(alloc, image, most)?;
@@ -156,7 +158,8 @@ fn write_by_word<O: Write>(
     out: &mut O,
 ) -> Result<Ending, Fault>
     requires { most ≤ MAX_TASKS }
-    ensures told { IfOk result (IsTold (Some table.Words) None image.now most (O.contents out.old) (O.contents out.new)) }
+    ensures told { IfOk result (IsTold (Some table.Words) None image.now most (O.contents out.old)
+        (O.contents out.new)) }
     ensures silent { IfErr result (IsQuiet out.old out.new) }
 {
     let needs = find_needs(alloc, image, most)?;

@@ -26,8 +26,8 @@ use svc_replay::show::show;
 use svc_request::{Fault, Files, Request, Run, VERSION};
 
 /// Does what is asked for. It returns the exit status: 0 if the run reached the program's exit, a trace was sound, an
-/// image was assembled or listed, an exploration was whole or found what was looked for, or help or the version was asked
-/// for, and 2 otherwise.
+/// image was assembled or listed, an exploration was whole or found what was looked for, or help or the version was
+/// asked for, and 2 otherwise.
 ///
 /// Errors: the first fault, looked for in this order: a file that would be written over one that is read, the image,
 /// the script or trace, the opening of the machine, the run, the output. Nothing is printed before a fault, unless it

@@ -22,8 +22,8 @@ use svc_names::{Names, Rows};
 use svc_observations::Sought;
 use svc_request::{Explored, Fault, Files};
 
-/// Follows all schedules of an image, saves the trace of one that shows what is looked for if a file is named for it, and
-/// prints what it shows, with the names of the table that is named.
+/// Follows all schedules of an image, saves the trace of one that shows what is looked for if a file is named for it,
+/// and prints what it shows, with the names of the table that is named.
 pub fn find<F: Files, O: Write>(
     alloc: Global,
     explored: Explored<'_>,
@@ -60,10 +60,12 @@ fn look_for<F: Files, O: Write>(
     files: &mut F,
     out: &mut O,
 ) -> Result<u8, Fault>
-    ensures found { IfOk result (FindsSight names.entry image.now explored.entry sought (SavesAnyTrace (F.held files.new) trace.entry)
+    ensures found { IfOk result (FindsSight names.entry image.now explored.entry sought
+        (SavesAnyTrace (F.held files.new) trace.entry)
         (O.contents out.old) (O.contents out.new)) }
     ensures silent { IfErr result (IsQuiet out.old out.new) }
-    ensures alone { SavesAlone (option_map (λ name. name.now) trace.entry) (F.held files.old) (F.held files.new) result }
+    ensures alone { SavesAlone (option_map (λ name. name.now) trace.entry) (F.held files.old)
+        (F.held files.new) result }
 {
     let exploration = all_schedules(alloc, image, explored)?;
     let seen = svc_explore::find(exploration.found.as_slice(), sought);
@@ -86,8 +88,8 @@ fn search_status(whole: bool, seen: Option<&Seen>) -> Result<u8, Fault>
     }
 }
 
-// Makes the trace of a schedule that shows what was seen, if anything was, the whole content of the named file, if one is
-// named.
+// Makes the trace of a schedule that shows what was seen, if anything was, the whole content of the named file, if one
+// is named.
 fn save_witness<F: Files>(
     alloc: Global,
     image: &Image,
@@ -99,7 +101,8 @@ fn save_witness<F: Files>(
     requires shown { IfSome seen (λ seen. IsShown image.now explored.config explored.burst seen.now) }
     ensures saved { IfOk result (λ _. IfSome seen.entry (λ seen. HasWitness image.now explored.entry seen.now.what
         (SavesAnyTrace (F.held files.new) trace.entry))) }
-    ensures alone { SavesAlone (option_map (λ name. name.now) trace.entry) (F.held files.old) (F.held files.new) result }
+    ensures alone { SavesAlone (option_map (λ name. name.now) trace.entry) (F.held files.old)
+        (F.held files.new) result }
 {
     let Some(seen) = seen else {
         return Ok(());

@@ -46,8 +46,8 @@ pub fn run<R: Threads + Wait + Sync, F: Files, O: Write>(
     report_run(alloc, &recorder, run.trace, run.row, files, out)
 }
 
-/// Runs an image by a schedule, saves the trace if a file is named for it, and prints the summary. There are no threads, so none
-/// can be started for a run without a schedule.
+/// Runs an image by a schedule, saves the trace if a file is named for it, and prints the summary. There are no
+/// threads, so none can be started for a run without a schedule.
 pub fn run_alone<F: Files, O: Write>(
     alloc: Global,
     run: Run<'_>,
@@ -74,7 +74,8 @@ fn report_run<F: Files, O: Write>(
     ensures saved { IfOk result (λ _. SavesAnyTrace (F.held files.new) trace.entry recorder.now.entries) }
     ensures report { IfOk result (ReportsRun row.entry recorder.now (O.contents out.old) (O.contents out.new)) }
     ensures silent { IfErr result (IsQuiet out.old out.new) }
-    ensures alone { SavesAlone (option_map (λ name. name.now) trace.entry) (F.held files.old) (F.held files.new) result }
+    ensures alone { SavesAlone (option_map (λ name. name.now) trace.entry) (F.held files.old)
+        (F.held files.new) result }
 {
     save_trace(alloc, recorder.entries(), trace, files)?;
     print_run(alloc, recorder, row, out)

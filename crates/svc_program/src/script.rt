@@ -19,8 +19,8 @@ use svc_report::ReportError;
 use svc_request::{Fault, Files, Scripted};
 use svc_script::{Kept, Step, no_bursts, play};
 
-/// Does the steps of a script, and prints a line for each, and then the summary. Where a file is named for it, the trace
-/// is saved before anything is printed.
+/// Does the steps of a script, and prints a line for each, and then the summary. Where a file is named for it, the
+/// trace is saved before anything is printed.
 pub fn script<F: Files, O: Write>(
     alloc: Global,
     scripted: Scripted<'_>,

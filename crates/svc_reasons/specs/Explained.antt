@@ -29,7 +29,8 @@ compared_entry ButSuppliers a e = supplied a e
 
 -- the entries before the one at this index are sound, and what is told is what the machine answers behind them to the
 -- event that the entry there names. A row is counted from 1 with the header.
-pub record Explains (compared : Compared) (img : Image) (config : Config) (es : List Entry) (index : ℕ) (text : List ℕ) : Type 0 where
+pub record Explains (compared : Compared) (img : Image) (config : Config) (es : List Entry) (index : ℕ)
+    (text : List ℕ) : Type 0 where
   pub entry : Entry
   pub there : slice_get es index ≡ Some entry
   pub before : List Entry

@@ -18,7 +18,8 @@ bare row = take (length row - 1) row
 -- up to this place two rows have the same fields, and there they differ; or they have the same thirteen fields
 abbrev pub IsFirstOther : (mine theirs : List ℕ) → Option ℕ → Type 0
 IsFirstOther mine theirs None = (k : ℕ) → k < 13 → field k mine ≡ field k theirs
-IsFirstOther mine theirs (Some place) = ((k : ℕ) → k < place → field k mine ≡ field k theirs) × (place < 13) × (field place mine ≢ field place theirs)
+IsFirstOther mine theirs (Some place) =
+    ((k : ℕ) → k < place → field k mine ≡ field k theirs) × (place < 13) × (field place mine ≢ field place theirs)
 
 -- ---- the lines
 
@@ -28,11 +29,14 @@ row_start row = codes "svcsim: row " ++ decimal row ++ codes ": "
 
 -- a number that its event needs is missing
 abbrev pub missing_line : (row : ℕ) → Entry → List ℕ
-missing_line row e = row_start row ++ missing_column e.kind e ++ codes " is empty, and " ++ an_event e.kind ++ codes " needs it\n"
+missing_line row e =
+    row_start row ++ missing_column e.kind e ++ codes " is empty, and " ++ an_event e.kind ++ codes " needs it\n"
 
 -- its event is refused
 abbrev pub refusal_line : (row : ℕ) → Refusal → List ℕ
-refusal_line row why = row_start row ++ codes "refusal " ++ decimal (number_of why) ++ codes ": " ++ refusal_words why ++ replace_first why ++ codes "\n"
+refusal_line row why =
+    row_start row ++ codes "refusal " ++ decimal (number_of why) ++ codes ": " ++ refusal_words why ++ replace_first why
+    ++ codes "\n"
 
 -- a column has one value in the trace, and another in the machine's row
 unfoldable pub other_line : (row : ℕ) → (column mine theirs : List ℕ) → List ℕ
@@ -42,7 +46,8 @@ other_line row column mine theirs =
 -- the column of this place, where the columns have these names
 abbrev pub difference_line : (row : ℕ) → (names mine theirs : List ℕ) → Option ℕ → List ℕ
 difference_line row names mine theirs None = []
-difference_line row names mine theirs (Some place) = other_line row (field place names) (field place mine) (field place theirs)
+difference_line row names mine theirs (Some place) =
+    other_line row (field place names) (field place mine) (field place theirs)
 
 -- the whole row that a sound trace has there
 abbrev pub sound_line : (theirs : List ℕ) → List ℕ

@@ -59,11 +59,13 @@ config_words config.Turns = codes "--turns is 1 to 10000000"
 -- the field of an image's file, and what would be right
 abbrev pub image_words : ImageError → List ℕ
 image_words image.Short = codes "the image's file ends before its last field does"
-image_words image.Magic = codes "the image's file doesn't begin with SVCI; a text has to be assembled first: svcsim assemble TEXT IMAGE"
+image_words image.Magic =
+    codes "the image's file doesn't begin with SVCI; a text has to be assembled first: svcsim assemble TEXT IMAGE"
 image_words image.Version = codes "the version, bytes 4 and 5 of the image's file, has to be 1 or 2"
 image_words image.Count = codes "the image's file has to have 1 to 1024 entries, 1 to 65536 words of text and as many of data, no more read-only words than words of data, and limits of 1 to 65536 turns"
 image_words image.EntryOrder = codes "each entry of the image's file has to be above the one before it"
-image_words image.EntryPlace = codes "each entry of the image's file has to be a multiple of 4 below 4 times its number of text words"
+image_words image.EntryPlace =
+    codes "each entry of the image's file has to be a multiple of 4 below 4 times its number of text words"
 image_words image.Start = codes "the start, bytes 20 to 23 of the image's file, has to be one of its entries"
 image_words image.Trailing = codes "the image's file goes on behind its last word of data"
 image_words image.Memory = codes "memory ran out"

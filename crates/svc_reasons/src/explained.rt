@@ -11,8 +11,8 @@ use svc_image::Image;
 use svc_request::{Compared, Fault};
 use svc_script::{Answer, check_but_suppliers, retry};
 
-/// What is told of the faulty entry of a trace at this index: what the machine answers there to the event that it names.
-/// The entries before it are replayed.
+/// What is told of the faulty entry of a trace at this index: what the machine answers there to the event that it
+/// names. The entries before it are replayed.
 ///
 /// Errors: there is no such entry, one before it is faulty, or memory is refused.
 pub fn explain_entries(

@@ -278,7 +278,8 @@ fn run<R: Threads + Wait + Sync + AllocGlobal>(rt: &R) -> Attempt {
     asked(rt, Request::Run(run), RUN)
 }
 
-/// Two tasks are run by four units in one thread, the youngest task first, after the events of a script if one is named.
+/// Two tasks are run by four units in one thread, the youngest task first, after the events of a script if one is
+/// named.
 fn schedule<'a, R: Threads + Wait + Sync + AllocGlobal>(
     rt: &R,
     after: Option<&'a str>,
@@ -316,8 +317,8 @@ fn profile<R: Threads + Wait + Sync + AllocGlobal>(
     )
 }
 
-/// The machine to which the trace of ten events leads is shown, after this many of them or after all, with this beside its
-/// rows, and with names if a table is named.
+/// The machine to which the trace of ten events leads is shown, after this many of them or after all, with this beside
+/// its rows, and with names if a table is named.
 fn show<R: Threads + Wait + Sync + AllocGlobal>(
     rt: &R,
     at: Option<u64>,

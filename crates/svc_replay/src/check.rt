@@ -83,7 +83,8 @@ fn tell_sound<F: Files, O: Write>(
     ensures shown { IfOk result (Shows (sound_row (length entries.now)) (O.contents out.old) (O.contents out.new)) }
     ensures saved { IfOk result (λ _. SavesAnyScript (F.held files.new) script.entry entries.now) }
     ensures silent { IfErr result (IsQuiet out.old out.new) }
-    ensures alone { SavesAlone (option_map (λ name. name.now) script.entry) (F.held files.old) (F.held files.new) result }
+    ensures alone { SavesAlone (option_map (λ name. name.now) script.entry) (F.held files.old)
+        (F.held files.new) result }
 {
     let Some(_) = script else {
         return print_sound(entries.len(), out);

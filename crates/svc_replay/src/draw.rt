@@ -41,8 +41,8 @@ pub fn draw<F: Files, O: Write>(
 
 // Replays the entries up to the last that the picture shows, and draws it.
 //
-// Errors: the first fault of these entries; [`Fault::File`] if the trace has fewer entries than precede the picture's first;
-// lack of memory.
+// Errors: the first fault of these entries; [`Fault::File`] if the trace has fewer entries than precede the picture's
+// first; lack of memory.
 fn draw_entries(
     alloc: Global,
     image: Image,

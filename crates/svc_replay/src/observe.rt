@@ -23,8 +23,8 @@ use svc_observations::{Sighting, put_sightings, sightings};
 use svc_report::ReportError;
 use svc_request::{Fault, Files, Traced};
 
-/// Replays a trace, and prints each observation that it shows, with the number of the first entry that does, and with the
-/// names of the table that is named.
+/// Replays a trace, and prints each observation that it shows, with the number of the first entry that does, and with
+/// the names of the table that is named.
 pub fn observe<F: Files, O: Write>(
     alloc: Global,
     traced: Traced<'_>,
@@ -49,7 +49,8 @@ fn observe_entries<O: Write>(
     names: Option<&Names>,
     out: &mut O,
 ) -> Result<u8, Fault>
-    ensures told { IfOk result (TellsSightings names.entry image config entries.now (O.contents out.old) (O.contents out.new)) }
+    ensures told { IfOk result (TellsSightings names.entry image config entries.now (O.contents out.old)
+        (O.contents out.new)) }
     ensures fault { IfErr result (λ fault. IsReportFault fault
         ⊎ (TellsOfTrace image config entries.now fault × (out.new ≡ out.old))) }
 {

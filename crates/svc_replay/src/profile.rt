@@ -31,8 +31,8 @@ use svc_profile::{
 use svc_report::ReportError;
 use svc_request::{Fault, Files, Table, Traced};
 
-/// Replays the first entries of a trace, this many or all, and prints what their speculation cost, in total or by a table,
-/// with the names of the table that is named.
+/// Replays the first entries of a trace, this many or all, and prints what their speculation cost, in total or by a
+/// table, with the names of the table that is named.
 pub fn profile<F: Files, O: Write>(
     alloc: Global,
     traced: Traced<'_>,
@@ -82,8 +82,8 @@ fn profile_entries<O: Write>(
     Ok(0)
 }
 
-// Replays the first entries, this many or all. For a table of instructions it answers the address at which each asks, if
-// it does.
+// Replays the first entries, this many or all. For a table of instructions it answers the address at which each asks,
+// if it does.
 fn replay_asked(
     alloc: Global,
     image: Image,
@@ -108,7 +108,8 @@ fn replay_asked(
     Ok(Vec::new(alloc))
 }
 
-// Replays the first entries, this many or all, and answers the address of the instruction at which each asks, if it does.
+// Replays the first entries, this many or all, and answers the address of the instruction at which each asks, if it
+// does.
 fn asked_first(
     alloc: Global,
     image: Image,

@@ -20,8 +20,8 @@ use svc_names::{Names, Rows};
 use svc_request::{Fault, Files, Shown, Traced};
 use svc_show::{Extras, show_text};
 
-/// Replays a trace, or its first entries, and prints the machine to which they lead, with the names of the table that is
-/// named.
+/// Replays a trace, or its first entries, and prints the machine to which they lead, with the names of the table that
+/// is named.
 pub fn show<F: Files, O: Write>(
     alloc: Global,
     traced: Traced<'_>,

@@ -17,4 +17,5 @@ KeepsAllBut (Some name) held saved = KeepsOthers held saved name
 -- every file except those of the two names, if there are any, holds what it held
 abbrev pub KeepsAllButBoth : (first second : Option (List ℕ)) → (held saved : Held) → Type 0
 KeepsAllButBoth first None held saved = KeepsAllBut first held saved
-KeepsAllButBoth first (Some second) held saved = (other : List ℕ) → Some other ≢ first → other ≢ second → saved other ≡ held other
+KeepsAllButBoth first (Some second) held saved =
+    (other : List ℕ) → Some other ≢ first → other ≢ second → saved other ≡ held other

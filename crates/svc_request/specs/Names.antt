@@ -55,12 +55,19 @@ also_written_by _ = None
 
 -- a file to write is also one to read, or would be written twice
 abbrev pub IsOverItself : Request → Type 0
-IsOverItself (request.Run run) = IsSomeAnd run.trace (λ name. IsScriptOf name.now run.schedule ⊎ IsNameOf name.now run.image)
-IsOverItself (request.Find explored sought trace) = IsSomeAnd trace (λ name. IsTableOf name.now explored.names ⊎ IsNameOf name.now explored.image)
-IsOverItself (request.Script scripted) = IsSomeAnd scripted.trace (λ name. (scripted.events.now ≡ name.now) ⊎ IsNameOf name.now scripted.image)
-IsOverItself (request.Check traced compared script) = IsSomeAnd script (λ name. (traced.trace.now ≡ name.now) ⊎ IsNameOf name.now traced.image)
-IsOverItself (request.Draw traced picture) = (traced.trace.now ≡ picture.file.now) ⊎ IsNameOf picture.file.now traced.image
-IsOverItself (request.Export traced exported) = (traced.trace.now ≡ exported.file.now) ⊎ IsNameOf exported.file.now traced.image
+IsOverItself (request.Run run) =
+    IsSomeAnd run.trace (λ name. IsScriptOf name.now run.schedule ⊎ IsNameOf name.now run.image)
+IsOverItself (request.Find explored sought trace) =
+    IsSomeAnd trace (λ name. IsTableOf name.now explored.names ⊎ IsNameOf name.now explored.image)
+IsOverItself (request.Script scripted) =
+    IsSomeAnd scripted.trace (λ name. (scripted.events.now ≡ name.now) ⊎ IsNameOf name.now scripted.image)
+IsOverItself (request.Check traced compared script) =
+    IsSomeAnd script (λ name. (traced.trace.now ≡ name.now) ⊎ IsNameOf name.now traced.image)
+IsOverItself (request.Draw traced picture) =
+    (traced.trace.now ≡ picture.file.now) ⊎ IsNameOf picture.file.now traced.image
+IsOverItself (request.Export traced exported) =
+    (traced.trace.now ≡ exported.file.now) ⊎ IsNameOf exported.file.now traced.image
 IsOverItself (request.Assemble assembly) =
-    (assembly.text.now ≡ assembly.image.now) ⊎ IsTableOf assembly.text.now assembly.names ⊎ IsTableOf assembly.image.now assembly.names
+    (assembly.text.now ≡ assembly.image.now) ⊎ IsTableOf assembly.text.now assembly.names
+    ⊎ IsTableOf assembly.image.now assembly.names
 IsOverItself _ = ⊥

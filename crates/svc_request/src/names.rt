@@ -7,8 +7,8 @@ use crate::files::Files;
 use crate::request::{Request, Schedule, Source};
 
 impl Request<'_> {
-    /// Whether a file that would be written is one that is read, or would be written twice, as far as `files` can tell from the
-    /// names. Files of one name are the same.
+    /// Whether a file that would be written is one that is read, or would be written twice, as far as `files` can tell
+    /// from the names. Files of one name are the same.
     pub fn is_over_itself<F: Files>(&self, files: &F) -> bool
         ensures { IsOverItself self.now → IsTrue result }
     {

@@ -265,18 +265,18 @@ pub enum Request<'a> {
     Depend(Depended<'a>),
     /// To follow all schedules of an image, and to print what can be seen.
     Explore(Explored<'a>),
-    /// To follow all schedules of an image, to save the trace of one that shows what is looked for if a file is named for it, and
-    /// to print what it shows.
+    /// To follow all schedules of an image, to save the trace of one that shows what is looked for if a file is named
+    /// for it, and to print what it shows.
     Find(Explored<'a>, Sought, Option<&'a str>),
     /// To replay a trace, and to print what it shows, with the names of this table.
     Observe(Traced<'a>, Option<&'a str>),
     /// To do the events of a script, and to print a line for each, and the summary.
     Script(Scripted<'a>),
-    /// To replay a trace, to compare these columns of it, to save the script that leads to it if a file is named for it,
-    /// and to print whether it is sound.
+    /// To replay a trace, to compare these columns of it, to save the script that leads to it if a file is named for
+    /// it, and to print whether it is sound.
     Check(Traced<'a>, Compared, Option<&'a str>),
-    /// To replay this many entries of a trace, or all, and to print what their speculation cost, in total or by a table, with
-    /// the names of this table.
+    /// To replay this many entries of a trace, or all, and to print what their speculation cost, in total or by a
+    /// table, with the names of this table.
     Profile(Traced<'a>, Option<u64>, Option<Table<'a>>, Option<&'a str>),
     /// To replay a trace, or its first entries, and to print the machine to which they lead.
     Show(Traced<'a>, Shown<'a>),

@@ -46,7 +46,8 @@ pub record HasLed (es : List Entry) (start next : Play) : Type 0 where
 
 -- a script leads to these entries, however it is played from before any event
 abbrev pub LeadsTo : Image → Config → List Step → List Entry → Type 0
-LeadsTo img config steps es = (start next : Play) → IsOpened img config start.run → PlaysTo steps (length steps) start next → HasLed es start next
+LeadsTo img config steps es =
+    (start next : Play) → IsOpened img config start.run → PlaysTo steps (length steps) start next → HasLed es start next
 
 -- the script of a history can be written, and leads to the history
 pub record LeadsBack (img : Image) (config : Config) (es : List Entry) : Type 0 where

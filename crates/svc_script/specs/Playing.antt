@@ -50,7 +50,8 @@ pub record Accepts (r : Recorded) (x : Event) (e : Entry) (next : Recorded) : Ty
 -- an event is tried: it is accepted with its entry, or is refused and changes nothing
 abbrev pub Tries : Recorded → Event → Answer → Recorded → Type 0
 Tries r x (answer.Accepted e) next = Accepts r x e next
-Tries r x (answer.Refused why) next = (refused r.machine.image r.machine.config (standing_of r) x ≡ Some why) × (next ≡ r)
+Tries r x (answer.Refused why) next =
+    (refused r.machine.image r.machine.config (standing_of r) x ≡ Some why) × (next ≡ r)
 Tries r x (answer.Taken local ask) next = ⊥
 Tries r x answer.Nothing next = ⊥
 
@@ -73,13 +74,15 @@ HasBurst r unit turns (Some lease) result = IfOk result (TakesOn r.machine.image
 -- a unit's task is run on and the burst submitted; without a task this is refused
 abbrev pub Submits : Option Lease → (turns : ℕ) → UnitId → Recorded → Answer → Recorded → Type 0
 Submits None turns unit r a next = (a ≡ answer.Refused (no_task r unit)) × (next ≡ r)
-Submits (Some lease) turns unit r a next = (b : Advance) × TakesOn r.machine.image lease turns b × Tries r (event.Submit b) a next
+Submits (Some lease) turns unit r a next =
+    (b : Advance) × TakesOn r.machine.image lease turns b × Tries r (event.Submit b) a next
 
 -- a unit's task is run on and the burst kept; without a task nothing is
 abbrev pub Takes : Option Lease → (turns : ℕ) → UnitId → Recorded → Kept → Answer → Kept → Type 0
 Takes None turns unit r kept a after = (a ≡ answer.Nothing) × (after ≡ kept)
 Takes (Some lease) turns unit r kept a after =
-    (b : Advance) × TakesOn r.machine.image lease turns b × (a ≡ answer.Taken b.local (not (is_nothing b.ask))) × (after ≡ slice_set kept unit.0 (Some b))
+    (b : Advance) × TakesOn r.machine.image lease turns b × (a ≡ answer.Taken b.local (not (is_nothing b.ask)))
+    × (after ≡ slice_set kept unit.0 (Some b))
 
 -- the burst that is kept for a unit is submitted, and no longer kept; without one nothing is
 abbrev pub Gives : Option Advance → Recorded → Answer → Recorded → Type 0
@@ -89,11 +92,13 @@ Gives (Some b) r a next = Tries r (event.Submit b) a next
 -- a step of this kind is done
 abbrev pub DoesKind : StepKind → UnitId → Recorded → Kept → Answer → Recorded → Kept → Type 0
 DoesKind (step.Assign guess) unit r kept a next after = Tries r (event.Assign unit.0 guess) a next × (after ≡ kept)
-DoesKind (step.Submit turns) unit r kept a next after = Submits (lease_of r.machine unit.0) turns unit r a next × (after ≡ kept)
+DoesKind (step.Submit turns) unit r kept a next after =
+    Submits (lease_of r.machine unit.0) turns unit r a next × (after ≡ kept)
 DoesKind (step.Replace addr) unit r kept a next after = Tries r (event.Replace unit.0 addr.0) a next × (after ≡ kept)
 DoesKind step.Cancel unit r kept a next after = Tries r (event.Cancel unit.0) a next × (after ≡ kept)
 DoesKind step.Commit unit r kept a next after = Tries r (event.Commit unit.0) a next × (after ≡ kept)
-DoesKind (step.Take turns) unit r kept a next after = Takes (lease_of r.machine unit.0) turns unit r kept a after × (next ≡ r)
+DoesKind (step.Take turns) unit r kept a next after =
+    Takes (lease_of r.machine unit.0) turns unit r kept a after × (next ≡ r)
 DoesKind step.Give unit r kept a next after = Gives (kept_for kept unit) r a next × (after ≡ slice_set kept unit.0 None)
 
 -- a script under way: the run, the bursts that are kept, and the text printed so far
@@ -104,18 +109,22 @@ pub record Play : Type 0 where
 
 -- a step leads on, and its line is printed
 abbrev pub Plays : Step → Play → Play → Type 0
-Plays s p next = (a : Answer) × DoesKind s.kind s.unit p.run p.kept a next.run next.kept × (next.text ≡ p.text ++ answer_row a)
+Plays s p next =
+    (a : Answer) × DoesKind s.kind s.unit p.run p.kept a next.run next.kept × (next.text ≡ p.text ++ answer_row a)
 
 -- the first n steps of a script lead on
 abbrev pub PlaysTo : List Step → ℕ → Play → Play → Type 0
 PlaysTo steps zero p next = next ≡ p
-PlaysTo steps (suc n) p next = (between : Play) × PlaysTo steps n p between × (s : Step) × (slice_get steps n ≡ Some s) × Plays s between next
+PlaysTo steps (suc n) p next =
+    (between : Play) × PlaysTo steps n p between × (s : Step) × (slice_get steps n ≡ Some s) × Plays s between next
 
 -- the first n steps of a script lead from one run to another of the same machine, and what a writer holds has grown by
 -- their lines
-pub record HasPlayed (steps : List Step) (n : ℕ) (r : Recorded) (kept : Kept) (next : Recorded) (after : Kept) (old new : Option (List ℕ)) : Type 0 where
+pub record HasPlayed (steps : List Step) (n : ℕ) (r : Recorded) (kept : Kept) (next : Recorded) (after : Kept)
+    (old new : Option (List ℕ)) : Type 0 where
   pub text : List ℕ
-  pub steps_done : PlaysTo steps n (record { run = r; kept = kept; text = [] }) (record { run = next; kept = after; text = text })
+  pub steps_done : PlaysTo steps n (record { run = r; kept = kept; text = [] })
+      (record { run = next; kept = after; text = text })
   pub lines : Appends old new text
   pub image : next.machine.image ≡ r.machine.image
   pub config_is : next.machine.config ≡ r.machine.config

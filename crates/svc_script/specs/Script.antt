@@ -80,7 +80,8 @@ pub record HasStepRow (s : Step) : Type 0 where
 -- if the number of fields is wrong
 unfoldable pub FirstBadStep : List (List ℕ) → ℕ → Type 0
 FirstBadStep fields zero = length fields ≢ 3
-FirstBadStep fields (suc k) = (length fields ≡ 3) × ((s : Step) × HasStepRow s × (take k fields ≡ take k (step_columns s)))
+FirstBadStep fields (suc k) =
+    (length fields ≡ 3) × ((s : Step) × HasStepRow s × (take k fields ≡ take k (step_columns s)))
     × ((s : Step) → HasStepRow s → take (suc k) fields ≢ take (suc k) (step_columns s))
 
 -- a reading fails for memory or the reader, or names the text's first bad record, if the text is known, with its first

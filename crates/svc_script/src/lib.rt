@@ -1,5 +1,5 @@
-//! Scripts: their text, both ways, what their steps do to a recorder, and the one that leads to a history; and the replay
-//! of a trace with other suppliers.
+//! Scripts: their text, both ways, what their steps do to a recorder, and the one that leads to a history; and the
+//! replay of a trace with other suppliers.
 #![tactic(auto)]
 
 mod answering;
