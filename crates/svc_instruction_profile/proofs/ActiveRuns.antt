@@ -34,7 +34,6 @@ use Rattle.svc_machine_laws.proofs.TaskLogs.{logs_follow}
 use Rattle.svc_history_laws.specs.declared.entry.CutKind.{CutKind}
 use Rattle.svc_history_laws.specs.declared.entry.Entry.{Entry}
 use Rattle.svc_history_laws.specs.declared.entry.Kind.TheVariants.{Commit}
-use Rattle.svc_history_laws.specs.Board.{commits}
 use Rattle.svc_history_laws.specs.Entries.{cause_of, entry_of, first_of, named, telling, why_cut}
 use Rattle.svc_history_laws.proofs.Histories.{kind_commits}
 use Rattle.svc_report.specs.Counting.{one_where}
