@@ -127,7 +127,7 @@ kind_asks Replace img config s e is legal = accepted_asks img config s (event.Re
 kind_asks Cancel img config s e is legal = accepted_asks img config s (event.Cancel e.unit.0) e (address_at img s.plain e) legal (cancel_quiet img s e.unit.0)
 kind_asks Commit img config s e is legal = accepted_asks img config s (event.Commit e.unit.0) e (address_at img s.plain e) legal (commit_quiet img s e.unit.0)
 
-entry_asks : (img : Image) (config : Config) (s : Standing) (e : Entry) → LegalEntry img config s e → AsksAt (address_at img s.plain e) e
+pub entry_asks : (img : Image) (config : Config) (s : Standing) (e : Entry) → LegalEntry img config s e → AsksAt (address_at img s.plain e) e
 unfolding LegalEntry
 entry_asks img config s e legal = kind_asks e.kind img config s e refl legal
 

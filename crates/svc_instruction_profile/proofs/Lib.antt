@@ -4,3 +4,5 @@ pub mod Standing
 pub mod Totals
 pub mod LostLoads
 pub mod Asking
+pub mod ActiveRuns
+pub mod FirstReads

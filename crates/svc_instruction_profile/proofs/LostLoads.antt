@@ -76,7 +76,7 @@ take_next [] n e h = absurd (none-some e h)
 take_next (x ∷ es) zero e h = ap (λ y. y ∷ []) (same_Some x e h)
 take_next (x ∷ es) (suc n) e h = ap (λ l. x ∷ l) (take_next es n e h)
 
-get_behind : (es : List Entry) (n m : ℕ) → slice_get (drop n es) m ≡ slice_get es (n + m)
+pub get_behind : (es : List Entry) (n m : ℕ) → slice_get (drop n es) m ≡ slice_get es (n + m)
 get_behind es zero m = ap (slice_get es) (let same : m ≡ 0 + m = omega arith in same)
 get_behind [] (suc n) m = refl
 get_behind (x ∷ es) (suc n) m = get_behind es n m ∙ ap (slice_get (x ∷ es)) (let same : suc (n + m) ≡ suc n + m = omega arith in same)
@@ -183,12 +183,12 @@ lost_none e =
     let f = zero_either (is_cause cause.Violation e.cause) in
     omega (arith, l, s, o, f)
 
-get_first : (es : List Entry) (n : ℕ) (e : Entry) (rest : List Entry) → drop n es ≡ e ∷ rest → slice_get es n ≡ Some e
+pub get_first : (es : List Entry) (n : ℕ) (e : Entry) (rest : List Entry) → drop n es ≡ e ∷ rest → slice_get es n ≡ Some e
 get_first es n e rest is =
     let same : n + 0 ≡ n = omega arith in
     ap (slice_get es) (sym same) ∙ sym (get_behind es n 0) ∙ ap (λ l. slice_get l 0) is
 
-drop_next : (es : List Entry) (n : ℕ) (e : Entry) (rest : List Entry) → drop n es ≡ e ∷ rest → drop (suc n) es ≡ rest
+pub drop_next : (es : List Entry) (n : ℕ) (e : Entry) (rest : List Entry) → drop n es ≡ e ∷ rest → drop (suc n) es ≡ rest
 drop_next [] zero e rest is = cc
 drop_next [] (suc n) e rest is = cc
 drop_next (x ∷ es) zero e rest is = cc

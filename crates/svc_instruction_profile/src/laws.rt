@@ -2,7 +2,7 @@
 
 ghost use Rattle.std.specs.Prelude.{◌≡◌, List, count_by};
 ghost use Rattle.svc_base.specs.declared.config.Config.{Config};
-ghost use Rattle.svc_image.specs.Image.{Image};
+ghost use Rattle.svc_image.specs.Image.{Image, IsImage};
 ghost use Rattle.svc_history_laws.specs.declared.entry.Entry.{Entry};
 ghost use Rattle.svc_history_laws.specs.Legal.{LegalHistory};
 ghost use Rattle.svc_report.specs.Summary.{counts_of};
@@ -23,6 +23,12 @@ pub fn legal_entries_ask()
         → EachAsksAt (addresses img config es) es }
 {}
 
+/// Of each violation of a legal history it is known at which instruction its victim first read the word.
+pub fn legal_violations_are_read()
+    ensures { (img : Image) → IsImage img → (config : Config) → (es : List Entry) → LegalHistory img config es
+        → EachIsRead (addresses img config es) es }
+{}
+
 /// If each entry that is charged asks at an instruction, the rows of the table add up in each column to what the
 /// profile says: of the entries, their loads, stores, outputs and violations; of the squashed tasks, their loads. So do
 /// the violations suffered, if it is known of each where its victim first read the word.
@@ -41,4 +47,11 @@ pub fn instruction_rows_add_up(asked: &[Option<u32>], entries: &[Entry])
     ensures suffered { EachIsRead asked.now entries.now
         → column_sum (λ cost. cost.suffered) (instruction_rows asked.now entries.now)
         ≡ (counts_of entries.now).violation }
+{}
+
+/// The violations suffered of a legal history add up to its violations.
+pub fn legal_violations_add_up()
+    ensures { (img : Image) → IsImage img → (config : Config) → (es : List Entry) → LegalHistory img config es
+        → column_sum (λ cost. cost.suffered) (instruction_rows (addresses img config es) es)
+        ≡ (counts_of es).violation }
 {}

@@ -13,4 +13,6 @@ mod rows;
 
 pub use addresses::asked_at;
 pub use instructions::write_instructions;
-pub use laws::{instruction_rows_add_up, legal_entries_ask};
+pub use laws::{
+    instruction_rows_add_up, legal_entries_ask, legal_violations_add_up, legal_violations_are_read,
+};
