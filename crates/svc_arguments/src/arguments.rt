@@ -58,6 +58,7 @@ const OPTION: Argument = Argument {
 // A file.
 const FILE: Argument = Argument {
     takes: Takes::File,
+    is_required: true,
     ..OPTION
 };
 

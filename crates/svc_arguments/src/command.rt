@@ -1,5 +1,12 @@
 //! The command line, as `clap` reads it: its subcommands and their arguments.
 
+ghost use Rattle.std.specs.Prelude.{◌≡◌, ◌++◌, IfOk, false, map};
+ghost use Rattle.clap.specs.Words.{rule_of, shape_of};
+ghost use Rattle.clap.specs.declared.builder.command.Command.TheViews.{out-Command as fields_of};
+ghost use Rattle.svc_arguments.specs.Grammar.{grammar};
+ghost use Rattle.svc_arguments.specs.Told.{IsNamed, IsSame, TakesMore, all_told, described, is_told};
+ghost use Rattle.svc_arguments.specs.Told.{tells, told, with_default};
+
 use crate::arguments::{
     AFTER, AT, Argument, BURST, BURST_OF_MOVES, BY, BY_OF_NEEDS, COUNT, DETAIL, DOT, EVENTS,
     EVENTS_FILE, EXPLAIN, EXPORTED, FIND, FORMAT, FROM, HEADER, IGNORE, IMAGE, MADE_IMAGE, MEMORY,
@@ -13,6 +20,7 @@ use crate::helps::{
 };
 use clap::{Arg, ArgAction, Command};
 use std::alloc::{AllocError, Global};
+
 use svc_request::VERSION;
 
 // A subcommand.
@@ -160,9 +168,11 @@ const SUBCOMMANDS: [Subcommand; 12] = [
     },
 ];
 
-/// The whole command line.
-pub fn command<'a>(alloc: Global) -> Result<Command<'a>, AllocError> {
-    let mut command = Command::new(alloc, "svcsim")
+/// The whole command line: every subcommand, with its arguments in their order.
+pub fn command<'a>(alloc: Global) -> Result<Command<'a>, AllocError>
+    ensures { IfOk result (λ command. all_told command ≡ grammar) }
+{
+    let command = Command::new(alloc, "svcsim")
         .bin_name("svcsim")?
         .version(VERSION)
         .about("Simulates a multiprocessor with speculative versioning caches")
@@ -170,47 +180,90 @@ pub fn command<'a>(alloc: Global) -> Result<Command<'a>, AllocError> {
         .after_help(STATUSES)
         .after_long_help(FAULTS)
         .subcommand_required(true);
-    for subcommand in &SUBCOMMANDS {
+    with_subcommands(alloc, command, &SUBCOMMANDS)
+}
+
+// The command with each of these subcommands.
+fn with_subcommands<'a>(
+    alloc: Global,
+    mut command: Command<'a>,
+    table: &[Subcommand],
+) -> Result<Command<'a>, AllocError>
+    ensures { IfOk result (λ new. all_told new ≡ all_told command.entry ++ map described table.now) }
+{
+    for subcommand in table {
         command = command.subcommand(described(alloc, subcommand)?)?;
     }
     Ok(command)
 }
 
 // The subcommand, as the parser has it.
-fn described<'a>(alloc: Global, subcommand: &Subcommand) -> Result<Command<'a>, AllocError> {
-    let mut command = Command::new(alloc, subcommand.name)
+fn described<'a>(alloc: Global, subcommand: &Subcommand) -> Result<Command<'a>, AllocError>
+    ensures local { IfOk result (λ command. (fields_of command).has_globals ≡ false) }
+    ensures told { IfOk result (λ command. told (shape_of command) ≡ described subcommand.now) }
+{
+    let command = Command::new(alloc, subcommand.name)
         .about(subcommand.about)
         .long_about(subcommand.help)
         .after_help(subcommand.statuses);
-    for argument in subcommand.arguments {
+    let command = with_arguments(alloc, command, subcommand.arguments)?;
+    command.arg(given(alloc, &EXPLAIN)?)
+}
+
+// The subcommand with each of these arguments.
+fn with_arguments<'a>(
+    alloc: Global,
+    mut command: Command<'a>,
+    arguments: &[Argument],
+) -> Result<Command<'a>, AllocError>
+    ensures { IfOk result (TakesMore command.entry (map tells arguments.now)) }
+{
+    for argument in arguments {
         command = command.arg(given(alloc, argument)?)?;
     }
-    command = command.arg(given(alloc, &EXPLAIN)?)?;
     Ok(command)
 }
 
 // The argument, as the parser has it.
-fn given<'a>(alloc: Global, argument: &Argument) -> Result<Arg<'a>, AllocError> {
-    let mut arg = taking(alloc, argument).help(argument.help);
-    if let Some(value) = argument.default {
-        arg = arg.default_value(value);
+fn given<'a>(alloc: Global, argument: &Argument) -> Result<Arg<'a>, AllocError>
+    ensures local { IfOk result (λ arg. arg.global ≡ false) }
+    ensures told { IfOk result (λ arg. is_told (rule_of arg) ≡ tells argument.now) }
+{
+    let arg = by_default(taking(alloc, argument), argument.default).help(argument.help);
+    match argument.needs {
+        Some(name) => excluding(arg.requires_arg(name)?, argument.excludes),
+        None => excluding(arg, argument.excludes),
     }
-    if let Some(name) = argument.needs {
-        arg = arg.requires_arg(name)?;
+}
+
+// The argument, with this value if it isn't given.
+fn by_default<'a>(arg: Arg<'a>, default: Option<&'a str>) -> Arg<'a>
+    ensures told { is_told (rule_of result) ≡ with_default default.entry (is_told (rule_of arg.entry)) }
+    ensures local { result.global ≡ arg.entry.global }
+{
+    match default {
+        Some(value) => arg.default_value(value),
+        None => arg,
     }
-    for name in argument.excludes {
+}
+
+// The argument, which is a mistake beside those of these names.
+fn excluding<'a>(mut arg: Arg<'a>, names: &[&'a str]) -> Result<Arg<'a>, AllocError>
+    ensures { IfOk result (IsSame arg.entry) }
+{
+    for name in names {
         arg = arg.conflicts_with(name)?;
     }
     Ok(arg)
 }
 
 // An argument that takes what this one takes.
-fn taking<'a>(alloc: Global, argument: &Argument) -> Arg<'a> {
+fn taking<'a>(alloc: Global, argument: &Argument) -> Arg<'a>
+    ensures { IsNamed result argument.now }
+{
     match argument.takes {
-        Takes::File => Arg::new(alloc, argument.name)
-            .required(true)
-            .action(ArgAction::Set),
-        Takes::Nothing => Arg::new(alloc, argument.name)
+        Takes::File => plain(alloc, argument).action(ArgAction::Set),
+        Takes::Nothing => plain(alloc, argument)
             .long(argument.name)
             .action(ArgAction::SetTrue),
         Takes::Word => option(alloc, argument),
@@ -223,10 +276,18 @@ fn taking<'a>(alloc: Global, argument: &Argument) -> Arg<'a> {
 }
 
 // An option that takes a value.
-fn option<'a>(alloc: Global, argument: &Argument) -> Arg<'a> {
-    Arg::new(alloc, argument.name)
+fn option<'a>(alloc: Global, argument: &Argument) -> Arg<'a>
+    ensures { IsNamed result argument.now }
+{
+    plain(alloc, argument)
         .long(argument.name)
         .value_name(argument.value)
-        .required(argument.is_required)
         .action(ArgAction::Set)
+}
+
+// An argument of this name, which has to be given if the other has to.
+fn plain<'a>(alloc: Global, argument: &Argument) -> Arg<'a>
+    ensures { IsNamed result argument.now }
+{
+    Arg::new(alloc, argument.name).required(argument.is_required)
 }

@@ -1,5 +1,8 @@
 //! What a call may do.
 
+ghost use Rattle.std.specs.Prelude.{◌≡◌, IfOk, OnErr};
+ghost use Rattle.svc_library_calls.specs.Seen.{word_of};
+
 /// Why an attempt at a call has no answer.
 #[derive(Clone, Copy)]
 pub enum Refused {
@@ -31,7 +34,9 @@ pub enum Seen {
 
 impl Seen {
     /// The word that is printed for it.
-    pub fn word(self) -> &'static str {
+    pub fn word(self) -> &'static str
+        ensures { result.now ≡ word_of self }
+    {
         match self {
             Seen::Before => "before",
             Seen::Told => "told",
@@ -44,7 +49,10 @@ impl Seen {
 }
 
 /// What is prepared for a call.
-pub fn ready<T: Drop, E: Drop>(made: Result<T, E>) -> Result<T, Refused> {
+pub fn ready<T: Drop, E: Drop>(made: Result<T, E>) -> Result<T, Refused>
+    ensures ok { IfOk made (λ value. result ≡ Ok value) }
+    ensures err { OnErr made (result ≡ Err Refused.Before) }
+{
     match made {
         Ok(value) => Ok(value),
         Err(_) => Err(Refused::Before),

@@ -1,5 +1,8 @@
 //! Calls on images, and the plain runner.
 
+ghost use Rattle.std.specs.Prelude.{◌≡◌, is_some};
+ghost use Rattle.svc_library_calls.specs.Calls.{image_calls, is_one_of};
+
 use crate::attempt::{Attempt, Refused, ready};
 use std::alloc::Global;
 use svc_core_laws::Ending;
@@ -8,7 +11,9 @@ use svc_plain::{PlainError, run_tasks};
 use svc_samples::{P, P2};
 
 /// Makes the call of this name, if it is one of these.
-pub fn attempt(alloc: Global, name: &str) -> Option<Attempt> {
+pub fn attempt(alloc: Global, name: &str) -> Option<Attempt>
+    ensures { is_some result ≡ is_one_of image_calls name.now }
+{
     match name {
         "image_read" => Some(read(alloc)),
         "image_read_front" => Some(read_front(alloc)),

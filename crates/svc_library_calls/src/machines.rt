@@ -1,5 +1,8 @@
 //! Calls that open machines and recorders. What they open then takes ten events, for which it asks for no more memory.
 
+ghost use Rattle.std.specs.Prelude.{◌≡◌, is_some};
+ghost use Rattle.svc_library_calls.specs.Calls.{machine_calls, is_one_of};
+
 use crate::attempt::{Attempt, Refused, ready};
 use crate::images::sample;
 use std::alloc::Global;
@@ -12,7 +15,9 @@ use svc_samples::{Line, TEN, TEN_ENTRIES};
 use svc_schedule::{Youngest, run_schedule};
 
 /// Makes the call of this name, if it is one of these.
-pub fn attempt(alloc: Global, name: &str) -> Option<Attempt> {
+pub fn attempt(alloc: Global, name: &str) -> Option<Attempt>
+    ensures { is_some result ≡ is_one_of machine_calls name.now }
+{
     match name {
         "machine_open" => Some(open(alloc)),
         "machine_open_from" => Some(open_from(alloc)),

@@ -1,5 +1,8 @@
 //! Calls that tell why an entry of a trace is faulty.
 
+ghost use Rattle.std.specs.Prelude.{◌≡◌, is_some};
+ghost use Rattle.svc_library_calls.specs.Calls.{reason_calls, is_one_of};
+
 use crate::attempt::{Attempt, Refused, ready};
 use crate::images::sample;
 use std::alloc::Global;
@@ -11,7 +14,9 @@ use svc_request::{Compared, Fault};
 use svc_samples::TEN_ENTRIES;
 
 /// Makes the call of this name, if it is one of these.
-pub fn attempt(alloc: Global, name: &str) -> Option<Attempt> {
+pub fn attempt(alloc: Global, name: &str) -> Option<Attempt>
+    ensures { is_some result ≡ is_one_of reason_calls name.now }
+{
     match name {
         "explain_entries" => Some(explained(alloc)),
         _ => None,

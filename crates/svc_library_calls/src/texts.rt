@@ -1,5 +1,8 @@
 //! Calls that write and read texts. They write to room that is made before.
 
+ghost use Rattle.std.specs.Prelude.{◌≡◌, is_some};
+ghost use Rattle.svc_library_calls.specs.Calls.{text_calls, is_one_of};
+
 use crate::attempt::{Attempt, Refused, ready};
 use std::alloc::Global;
 use svc_core_laws::Ending;
@@ -8,7 +11,9 @@ use svc_samples::{SCRIPT, SUMMARY, TEN_ENTRIES, TRACE};
 use svc_script::read_script;
 
 /// Makes the call of this name, if it is one of these.
-pub fn attempt(alloc: Global, name: &str) -> Option<Attempt> {
+pub fn attempt(alloc: Global, name: &str) -> Option<Attempt>
+    ensures { is_some result ≡ is_one_of text_calls name.now }
+{
     match name {
         "write_trace" => Some(write_history(alloc)),
         "write_entry" => Some(write_row(alloc)),

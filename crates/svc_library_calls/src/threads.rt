@@ -1,6 +1,7 @@
 //! A unit's turns over a shared bus.
 
-ghost use Rattle.std.specs.Prelude.{◌≡◌};
+ghost use Rattle.std.specs.Prelude.{◌≡◌, is_some};
+ghost use Rattle.svc_library_calls.specs.Calls.{is_one_of, unit_calls};
 
 use crate::attempt::{Attempt, Refused, ready};
 use std::alloc::Global;
@@ -15,7 +16,9 @@ use svc_samples::SIX_ENTRIES;
 use svc_threads::{BoardPass, Gate, Phase, RunError, SharedBus, run_unit};
 
 /// Makes the call of this name, if it is one of these.
-pub fn attempt<R: Wait>(rt: &R, alloc: Global, name: &str) -> Option<Attempt> {
+pub fn attempt<R: Wait>(rt: &R, alloc: Global, name: &str) -> Option<Attempt>
+    ensures { is_some result ≡ is_one_of unit_calls name.now }
+{
     match name {
         "run_unit" => Some(run_alone(rt, alloc)),
         _ => None,
