@@ -11,9 +11,9 @@ use Rattle.svc_marks.specs.declared.marks.Mark.{Mark}
 use Rattle.svc_marks.specs.declared.marks.MarkKind.{MarkKind}
 use Rattle.svc_marks.specs.declared.marks.MarkKind.TheVariants as mark
 use Rattle.svc_draw.specs.declared.sheet.Sheet.{Sheet}
-use Rattle.svc_draw.specs.declared.sheet.TheConstants.{TOP}
+use Rattle.svc_shapes.specs.declared.sheet.TheConstants.{TOP}
 use Rattle.svc_draw.specs.Frame.{bar_height, bar_left, bar_top, bar_width, end_x, end_y, is_wide, mark_x, mark_y, radius}
-use Rattle.svc_draw.specs.Shapes.{bar_box, bold_arrow, box_title, close, commit_line, diamond, label, ring, square, thin_arrow, title_open}
+use Rattle.svc_shapes.specs.Shapes.{bar_box, bold_arrow, box_title, close, commit_line, diamond, label, ring, square, thin_arrow, title_open}
 
 -- ---- bars
 

@@ -4,7 +4,7 @@ use Rattle.svc_marks.specs.declared.bars.Bar.{Bar}
 use Rattle.svc_marks.specs.declared.marks.Mark.{Mark}
 use Rattle.svc_marks.specs.declared.marks.Spot.{Spot}
 use Rattle.svc_draw.specs.declared.sheet.Sheet.{Sheet}
-use Rattle.svc_draw.specs.declared.sheet.TheConstants.{HEIGHT, LEFT, RIGHT, TOP, WIDTH}
+use Rattle.svc_shapes.specs.declared.sheet.TheConstants.{HEIGHT, LEFT, RIGHT, TOP, WIDTH}
 
 -- how many entries are shown; 1 if there are none
 unfoldable pub shown : Sheet → ℕ

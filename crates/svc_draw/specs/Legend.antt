@@ -4,10 +4,10 @@ use Rattle.std.specs.List.{find, range_with_len}
 use Rattle.svc_task_runs.specs.declared.task_run.Fate.{Fate}
 use Rattle.svc_task_runs.specs.declared.task_run.Fate.TheVariants as fate
 use Rattle.svc_draw.specs.declared.sheet.Sheet.{Sheet}
-use Rattle.svc_draw.specs.declared.sheet.TheConstants.{WIDTH}
+use Rattle.svc_shapes.specs.declared.sheet.TheConstants.{WIDTH}
 use Rattle.svc_draw.specs.Drawing.{fill_of, name_of}
 use Rattle.svc_draw.specs.Frame.{lane_top, radius, shown, x_of}
-use Rattle.svc_draw.specs.Shapes.{axis_words, bold_sample, border, commit_sample, diamond, fate_sample, paper_text, hatching, headline, lane, opening, ring, sample_end, square, thin_sample, tick}
+use Rattle.svc_shapes.specs.Shapes.{axis_words, bold_sample, border, commit_sample, diamond, fate_sample, paper_text, hatching, headline, lane, opening, ring, sample_end, square, thin_sample, tick}
 
 -- ---- what each picture begins with
 

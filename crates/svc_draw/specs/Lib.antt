@@ -2,4 +2,4 @@ pub mod Drawing
 pub mod Frame
 pub mod Legend
 pub mod Picture
-pub mod Shapes
+pub mod Row

@@ -9,7 +9,7 @@ use Rattle.svc_draw.specs.Drawing.{bar_name, bar_text, layer_text, values_text}
 use Rattle.svc_draw.specs.Frame.{radius}
 use Rattle.svc_draw.specs.Legend.{axis, head, lanes, legend}
 use Rattle.svc_marks.specs.Marks.{marks_of}
-use Rattle.svc_draw.specs.Shapes.{arrow_heads, closing}
+use Rattle.svc_shapes.specs.Shapes.{arrow_heads, closing}
 
 -- what lies below: the heads of arrows, the legend and the lanes
 unfoldable pub surroundings : Sheet → (total : ℕ) → List ℕ

@@ -1,20 +1,19 @@
 // The bars and marks of a picture, as they are drawn.
 
 ghost use Rattle.std.specs.Prelude.{◌≡◌, ◌++◌, ◌≤◌, OnOk, codes, decimal, flat_map, length};
-ghost use Rattle.svc_report.specs.Trace.{row_of};
 ghost use Rattle.svc_draw.specs.Drawing.{bar_name, bar_text, element_of, fill_of, layer, layer_text, mark_in, mark_shape, mark_text, name_of, name_words, title};
-ghost use Rattle.svc_draw.specs.Shapes.{label};
+ghost use Rattle.svc_shapes.specs.Shapes.{label};
 
 use crate::frame::Frame;
-use crate::shapes::{
+use crate::row::put_row;
+use itoa::Buffer;
+use std::alloc::AllocError;
+use svc_history_laws::Entry;
+use svc_marks::{Bar, Mark, MarkKind};
+use svc_shapes::{
     bar_box, bold_arrow, box_title, close, commit_line, diamond, label, ring, square, thin_arrow,
     title_open,
 };
-use itoa::Buffer;
-use std::alloc::{AllocError, Global};
-use svc_history_laws::Entry;
-use svc_marks::{Bar, Mark, MarkKind};
-use svc_report::write_entry;
 use svc_task_runs::Fate;
 use svc_text::{Part, Piece};
 
@@ -135,28 +134,13 @@ pub(crate) fn write_names(frame: &Frame, bars: &[Bar], text: &mut Vec<u8>) -> Re
     Ok(())
 }
 
-// Writes an entry's row of the trace.
-fn write_row(alloc: Global, entry: &Entry, text: &mut Vec<u8>) -> Result<(), AllocError>
-    ensures { OnOk result (text.new.items ≡ text.old.items ++ row_of entry.now) }
-{
-    match write_entry(alloc, entry, text) {
-        Ok(()) => Ok(()),
-        Err(_) => Err(AllocError),
-    }
-}
-
 // Writes the title of a mark: its entry's number, and that entry's row of the trace.
 #[tactic(auto, unfolding(crate::specs::Drawing::title))]
-fn write_title(
-    alloc: Global,
-    place: u64,
-    entry: &Entry,
-    text: &mut Vec<u8>,
-) -> Result<(), AllocError>
+fn write_title(place: u64, entry: &Entry, text: &mut Vec<u8>) -> Result<(), AllocError>
     ensures { OnOk result (text.new.items ≡ text.old.items ++ title place entry.now) }
 {
     title_open(text, place)?;
-    write_row(alloc, entry, text)?;
+    put_row(text, entry)?;
     "</title>".put(text)?;
     Ok(())
 }
@@ -182,7 +166,7 @@ fn write_shape(frame: &Frame, mark: &Mark, text: &mut Vec<u8>) -> Result<(), All
         MarkKind::Load => ring(text, middle, size),
         MarkKind::Store => square(text, middle, size),
         MarkKind::PutOut => diamond(text, middle, size),
-        MarkKind::Commit => commit_line(text, middle.x),
+        MarkKind::Commit => commit_line(text, middle.x as u64),
         MarkKind::Handed => thin_arrow(text, frame.other_end(mark), middle),
         MarkKind::Squash => bold_arrow(text, middle, frame.other_end(mark)),
     }
@@ -190,16 +174,11 @@ fn write_shape(frame: &Frame, mark: &Mark, text: &mut Vec<u8>) -> Result<(), All
 
 // Writes a mark, with its title.
 #[tactic(auto, unfolding(crate::specs::Drawing::mark_text))]
-fn write_mark(
-    alloc: Global,
-    frame: &Frame,
-    mark: &Mark,
-    text: &mut Vec<u8>,
-) -> Result<(), AllocError>
+fn write_mark(frame: &Frame, mark: &Mark, text: &mut Vec<u8>) -> Result<(), AllocError>
     ensures { OnOk result (text.new.items ≡ text.old.items ++ mark_text frame.now.sheet mark.now) }
 {
     write_shape(frame, mark, text)?;
-    write_title(alloc, mark.place, &mark.entry, text)?;
+    write_title(mark.place, &mark.entry, text)?;
     close(text, element_of(mark.kind))?;
     Ok(())
 }
@@ -217,7 +196,6 @@ fn layer(kind: MarkKind) -> u8
 
 // Writes a mark, if it is of a layer.
 fn write_mark_in(
-    alloc: Global,
     frame: &Frame,
     wanted: u8,
     mark: &Mark,
@@ -226,7 +204,7 @@ fn write_mark_in(
     ensures { OnOk result (text.new.items ≡ text.old.items ++ mark_in frame.now.sheet wanted mark.now) }
 {
     if layer(mark.kind) == wanted {
-        write_mark(alloc, frame, mark, text)
+        write_mark(frame, mark, text)
     } else {
         Ok(())
     }
@@ -235,7 +213,6 @@ fn write_mark_in(
 /// Writes the marks of a layer.
 #[tactic(auto, unfolding(crate::specs::Drawing::layer_text))]
 pub(crate) fn write_layer(
-    alloc: Global,
     frame: &Frame,
     wanted: u8,
     marks: &[Mark],
@@ -244,7 +221,7 @@ pub(crate) fn write_layer(
     ensures { OnOk result (text.new.items ≡ text.old.items ++ layer_text frame.now.sheet wanted marks.now) }
 {
     for mark in marks {
-        write_mark_in(alloc, frame, wanted, mark, text)?;
+        write_mark_in(frame, wanted, mark, text)?;
     }
     Ok(())
 }

@@ -3,20 +3,11 @@
 ghost use Rattle.std.specs.Prelude.{◌+◌, ◌≤◌, ◌<◌, ◌/◌};
 ghost use Rattle.svc_base.specs.declared.config.TheConstants.{MAX_EVENTS};
 
-use crate::sheet::{BOTTOM, HEIGHT, LEFT, RIGHT, Sheet, TOP, WIDTH};
+use crate::sheet::Sheet;
 use svc_base::UnitId;
 use svc_marks::{Bar, Mark};
-
-/// A place of a picture that isn't at its left or upper edge, so that a mark has room there.
-#[derive(Clone, Copy)]
-pub(crate) struct Point {
-    pub(crate) x: u64,
-    pub(crate) y: u64,
-    pub ghost off_left: { 40 ≤ x },
-    pub ghost in_width: { x ≤ 1600 },
-    pub ghost off_top: { 40 ≤ y },
-    pub ghost in_height: { y ≤ 2000 },
-}
+use svc_shapes::Point;
+use svc_shapes::sheet::{BOTTOM, HEIGHT, LEFT, RIGHT, TOP, WIDTH};
 
 /// A sheet on which things can be placed.
 #[derive(Clone, Copy)]
@@ -29,7 +20,7 @@ pub(crate) struct Frame {
 
 impl Frame {
     ghost use Rattle.std.specs.Prelude.{◌≡◌};
-    ghost use Rattle.svc_draw.specs.declared.sheet.TheConstants.{BOTTOM, HEIGHT, LEFT, RIGHT, TOP};
+    ghost use Rattle.svc_shapes.specs.declared.sheet.TheConstants.{BOTTOM, HEIGHT, LEFT, RIGHT, TOP};
     ghost use Rattle.svc_draw.specs.Frame.{bar_height, bar_left, bar_right, bar_top, bar_width, end_x, end_y, is_wide, lane_height, lane_top, mark_x, mark_y, place_x, place_y, radius, shown, slot, x_of};
 
     /// How many entries are shown; 1 if there are none.
@@ -104,11 +95,11 @@ impl Frame {
 
     /// Half the size of a mark.
     #[tactic(auto, unfolding(crate::specs::Frame::radius))]
-    pub(crate) fn radius(&self) -> u64
+    pub(crate) fn radius(&self) -> u32
         ensures value { result ≡ radius self.now.sheet }
         ensures small { result ≤ 10 }
     {
-        (self.slot() / 3).max(4).min(10).min(self.bar_height() / 4)
+        (self.slot() / 3).max(4).min(10).min(self.bar_height() / 4) as u32
     }
 
     /// Whether a mark has room for its value beside it.
@@ -195,6 +186,9 @@ impl Frame {
     {
         let x = self.place_x(place);
         let y = self.bar_top(lane.0) + self.bar_height() * 18 / 25;
-        Point { x, y }
+        Point {
+            x: x as u32,
+            y: y as u32,
+        }
     }
 }

@@ -6,15 +6,14 @@ ghost use Rattle.svc_base.specs.declared.config.TheConstants.{MAX_EVENTS};
 ghost use Rattle.svc_draw.specs.Frame.{shown};
 ghost use Rattle.svc_draw.specs.Legend.{arrow_samples, axis, diamond_sample, fate_samples, has_room, hatchings, head, lane_fill, lane_text, lanes, legend, mark_samples, number_at, ring_sample, sample_of, square_sample, step_for};
 
-use crate::around::{
-    axis_words, bold_sample, border, commit_sample, fate_sample, hatching, headline, lane, opening,
-    paper_text, sample_end, thin_sample, tick,
-};
 use crate::drawing::{fill_of, name_of};
-use crate::frame::{Frame, Point};
-use crate::shapes::{diamond, ring, square};
-use crate::sheet::WIDTH;
+use crate::frame::Frame;
 use std::alloc::AllocError;
+use svc_shapes::sheet::WIDTH;
+use svc_shapes::{
+    Point, axis_words, bold_sample, border, commit_sample, diamond, fate_sample, hatching,
+    headline, lane, opening, paper_text, ring, sample_end, square, thin_sample, tick,
+};
 use svc_task_runs::Fate;
 
 // The steps between two numbers of the axis.
@@ -53,8 +52,7 @@ pub(crate) fn write_head(text: &mut Vec<u8>) -> Result<(), AllocError>
 
 // Writes a sample of a fate.
 #[tactic(auto, unfolding(crate::specs::Legend::sample_of))]
-fn write_fate(text: &mut Vec<u8>, x: u64, fate: Fate) -> Result<(), AllocError>
-    requires inside { x ≤ 1600 }
+fn write_fate(text: &mut Vec<u8>, x: u32, fate: Fate) -> Result<(), AllocError>
     ensures { OnOk result (text.new.items ≡ text.old.items ++ sample_of x fate) }
 {
     fate_sample(text, x, fill_of(fate), name_of(fate))
@@ -77,13 +75,11 @@ fn write_fates(text: &mut Vec<u8>) -> Result<(), AllocError>
 #[tactic(auto, unfolding(crate::specs::Legend::ring_sample))]
 fn write_ring(
     text: &mut Vec<u8>,
-    x: u64,
-    size: u64,
+    x: u32,
+    size: u32,
     after: u64,
     name: &str,
 ) -> Result<(), AllocError>
-    requires left { 40 ≤ x }
-    requires right { x ≤ 1600 }
     ensures { OnOk result (text.new.items ≡ text.old.items ++ ring_sample x size after name.now) }
 {
     ring(text, Point { x, y: 90 }, size)?;
@@ -125,7 +121,7 @@ fn write_shapes(text: &mut Vec<u8>) -> Result<(), AllocError>
 
 // Writes a sample of each arrow, whose head ends at the rim of a mark of this size.
 #[tactic(auto, unfolding(crate::specs::Legend::arrow_samples))]
-fn write_arrows(size: u64, text: &mut Vec<u8>) -> Result<(), AllocError>
+fn write_arrows(size: u32, text: &mut Vec<u8>) -> Result<(), AllocError>
     ensures { OnOk result (text.new.items ≡ text.old.items ++ arrow_samples size) }
 {
     let thin = "a version goes from its store to a reader";

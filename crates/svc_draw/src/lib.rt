@@ -1,12 +1,11 @@
 //! Pictures of histories: a lane for each unit, a bar for each task, and marks for what the tasks did.
 #![tactic(auto)]
 
-mod around;
 mod drawing;
 mod frame;
 mod legend;
 mod picture;
-mod shapes;
+mod row;
 pub mod sheet;
 mod values;
 

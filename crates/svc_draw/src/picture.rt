@@ -5,7 +5,6 @@ ghost use Rattle.svc_base.specs.declared.config.TheConstants.{MAX_EVENTS, MAX_UN
 ghost use Rattle.svc_report.specs.Faults.{IsMemoryFault};
 ghost use Rattle.svc_draw.specs.Picture.{picture_of, picture_text, surroundings, things, words};
 
-use crate::around::{arrow_heads, closing};
 use crate::drawing::{write_bars, write_layer, write_names};
 use crate::frame::Frame;
 use crate::legend::{write_axis, write_head, write_lanes, write_legend};
@@ -15,6 +14,7 @@ use std::alloc::{AllocError, Global};
 use svc_history_laws::Entry;
 use svc_marks::{Bar, Mark, Window, bars_of, marks_of};
 use svc_report::ReportError;
+use svc_shapes::{arrow_heads, closing};
 
 // Writes what lies below: the heads of arrows, the legend and the lanes.
 #[tactic(auto, unfolding(crate::specs::Picture::surroundings))]
@@ -31,7 +31,6 @@ fn write_surroundings(frame: &Frame, total: u64, text: &mut Vec<u8>) -> Result<(
 // Writes the bars, and on them the marks, layer by layer.
 #[tactic(auto, unfolding(crate::specs::Picture::things))]
 fn write_things(
-    alloc: Global,
     frame: &Frame,
     bars: &[Bar],
     marks: &[Mark],
@@ -40,9 +39,9 @@ fn write_things(
     ensures { OnOk result (text.new.items ≡ text.old.items ++ things frame.now.sheet bars.now marks.now) }
 {
     write_bars(frame, bars, text)?;
-    write_layer(alloc, frame, 0, marks, text)?;
-    write_layer(alloc, frame, 1, marks, text)?;
-    write_layer(alloc, frame, 2, marks, text)?;
+    write_layer(frame, 0, marks, text)?;
+    write_layer(frame, 1, marks, text)?;
+    write_layer(frame, 2, marks, text)?;
     Ok(())
 }
 
@@ -65,7 +64,6 @@ fn write_words(
 // Writes a picture of these bars and marks, of a history of so many entries.
 #[tactic(auto, unfolding(crate::specs::Picture::picture_text))]
 fn write_picture(
-    alloc: Global,
     frame: &Frame,
     total: u64,
     bars: &[Bar],
@@ -76,7 +74,7 @@ fn write_picture(
         ≡ text.old.items ++ picture_text frame.now.sheet total bars.now marks.now) }
 {
     write_surroundings(frame, total, text)?;
-    write_things(alloc, frame, bars, marks, text)?;
+    write_things(frame, bars, marks, text)?;
     write_words(frame, bars, marks, text)?;
     closing(text)?;
     Ok(())
@@ -93,7 +91,7 @@ fn picture(
     ensures { IfOk result (λ text. text.items ≡ picture_text frame.now.sheet total bars.now marks.now) }
 {
     let mut text = Vec::new(alloc);
-    write_picture(alloc, frame, total, bars, marks, &mut text)?;
+    write_picture(frame, total, bars, marks, &mut text)?;
     Ok(text)
 }
 

@@ -2,14 +2,14 @@
 
 ghost use Rattle.std.specs.Prelude.{◌≡◌, ◌++◌, ◌≤◌, OnOk, unwrap_or};
 ghost use Rattle.svc_draw.specs.Drawing.{committed_text, saying, value_text, value_words, values_text, words_of};
-ghost use Rattle.svc_draw.specs.Shapes.{label};
+ghost use Rattle.svc_shapes.specs.Shapes.{label};
 
 use crate::frame::Frame;
-use crate::shapes::label;
-use crate::sheet::TOP;
 use std::alloc::AllocError;
 use svc_base::WordAddr;
 use svc_marks::{Mark, MarkKind};
+use svc_shapes::label;
+use svc_shapes::sheet::TOP;
 use svc_text::Part;
 
 // Words that end at a place.
@@ -44,9 +44,8 @@ fn write_value_at(
 fn write_value(frame: &Frame, mark: &Mark, text: &mut Vec<u8>) -> Result<(), AllocError>
     ensures { OnOk result (text.new.items ≡ text.old.items ++ value_text frame.now.sheet mark.now) }
 {
-    let middle = frame.at(mark);
-    let x = middle.x - frame.radius() - 6;
-    let y = middle.y + 5;
+    let x = frame.x(mark.place) - frame.radius() as u64 - 6;
+    let y = frame.at(mark).y as u64 + 5;
     let value = u64::from(mark.entry.word.unwrap_or(0));
     write_value_at(text, x, y, mark.entry.addr, value)
 }
@@ -77,8 +76,8 @@ fn write_saying(
 {
     let from = frame.at(mark);
     let to = frame.other_end(mark);
-    let x = (from.x + to.x) / 2 + 12;
-    let y = (from.y + to.y) / 2 + 2;
+    let x = (from.x as u64 + to.x as u64) / 2 + 12;
+    let y = (from.y as u64 + to.y as u64) / 2 + 2;
     label(text, x, y, "font-style='italic'", &[Part::Text(words)])
 }
 

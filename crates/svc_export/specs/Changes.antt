@@ -22,10 +22,6 @@ word_variable word = concat (codes "$var wire 32 w" ∷ decimal word ∷ codes "
 unfoldable pub dump_start : List ℕ
 dump_start = codes "$upscope $end\n$enddefinitions $end\n#0\n$dumpvars\n"
 
--- the end of these
-unfoldable pub dump_end : List ℕ
-dump_end = codes "$end\n"
-
 -- ---- values
 
 -- the lowest bits of a number, so many

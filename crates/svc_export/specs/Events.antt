@@ -75,22 +75,18 @@ abbrev pub way_digit : Way → List ℕ
 way_digit way.Version = codes "1"
 way_digit way.Violation = codes "2"
 
--- from an entry on a unit's track
-unfoldable pub flow_start : (name digit : List ℕ) → (number start unit : ℕ) → List ℕ
-flow_start name digit number start unit =
-    concat (codes ",\n{\"name\":\"" ∷ name ∷ codes "\",\"cat\":\"flow\",\"ph\":\"s\",\"id\":" ∷ digit ∷ decimal number ∷ codes ",\"ts\":"
-    ∷ decimal start ∷ codes ",\"pid\":0,\"tid\":" ∷ decimal unit ∷ codes "}" ∷ [])
+-- an end of a flow, at an entry on a unit's track; its phase says which
+unfoldable pub flow_end : (name phase digit : List ℕ) → (number entry unit : ℕ) → List ℕ
+flow_end name phase digit number entry unit =
+    concat (codes ",\n{\"name\":\"" ∷ name ∷ codes "\",\"cat\":\"flow\",\"ph\":\"" ∷ phase ∷ codes "\",\"id\":" ∷ digit ∷ decimal number
+    ∷ codes ",\"ts\":" ∷ decimal entry ∷ codes ",\"pid\":0,\"tid\":" ∷ decimal unit ∷ [])
 
--- to the entry that made it on a unit's track; with the entry of the store, and room for more arguments
-unfoldable pub flow_finish : (name digit : List ℕ) → (number unit store : ℕ) → List ℕ
-flow_finish name digit number unit store =
-    concat (codes ",\n{\"name\":\"" ∷ name ∷ codes "\",\"cat\":\"flow\",\"ph\":\"f\",\"bp\":\"e\",\"id\":" ∷ digit ∷ decimal number
-    ∷ codes ",\"ts\":" ∷ decimal number ∷ codes ",\"pid\":0,\"tid\":" ∷ decimal unit ∷ codes ",\"args\":{\"store\":" ∷ decimal store ∷ [])
-
+-- from the store to the entry that made it; with the entry of the store, and room for more arguments
 unfoldable pub flow_ends : Flow → List ℕ
 flow_ends f =
-    flow_start (way_name f.way) (way_digit f.way) f.number f.store f.storer.0
-    ++ flow_finish (way_name f.way) (way_digit f.way) f.number f.reader.0 f.store
+    flow_end (way_name f.way) (codes "s") (way_digit f.way) f.number f.store f.storer.0 ++ codes "}"
+    ++ flow_end (way_name f.way) (codes "f\",\"bp\":\"e") (way_digit f.way) f.number f.number f.reader.0
+    ++ concat (codes ",\"args\":{\"store\":" ∷ decimal f.store ∷ [])
 
 unfoldable pub flow_text : Flow → List ℕ
 flow_text f = flow_ends f ++ number_field (codes "read") f.read ++ word_field f.word ++ event_end

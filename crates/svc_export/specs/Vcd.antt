@@ -11,7 +11,7 @@ use Rattle.svc_task_runs.specs.declared.task_run.Fate.{Fate}
 use Rattle.svc_task_runs.specs.declared.task_run.Fate.TheVariants as fate
 use Rattle.svc_task_runs.specs.declared.task_run.TaskRun.{TaskRun}
 use Rattle.svc_task_runs.specs.Runs.{Runs, after, is_settled, is_store, no_runs, step}
-use Rattle.svc_export.specs.Changes.{busy, dump_end, dump_opening, dump_start, idle, time, unit_variables, unknown, value_line, word_variable}
+use Rattle.svc_export.specs.Changes.{busy, dump_opening, dump_start, idle, time, unit_variables, unknown, value_line, word_variable}
 
 -- ---- the committed values of words
 
@@ -77,7 +77,7 @@ declarations units words = dump_opening ++ flat_map unit_variables (range_with_l
 
 -- their values before any entry
 unfoldable pub first_values : (units : ℕ) → (words : List ℕ) → List ℕ
-first_values units words = flat_map idle (range_with_len 0 units) ++ flat_map unknown words ++ dump_end
+first_values units words = flat_map idle (range_with_len 0 units) ++ flat_map unknown words ++ codes "$end\n"
 
 -- the dump of a history
 unfoldable pub vcd_of : List Entry → (units : ℕ) → (words : List ℕ) → List ℕ

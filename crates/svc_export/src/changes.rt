@@ -1,7 +1,7 @@
 // The lines of a value change dump.
 
 ghost use Rattle.std.specs.Prelude.{◌≡◌, ◌++◌, OnOk};
-ghost use Rattle.svc_export.specs.Changes.{bits, busy, dump_end, dump_opening, dump_start, idle, time, unit_variables, unknown, value_line, word_variable};
+ghost use Rattle.svc_export.specs.Changes.{bits, busy, dump_opening, dump_start, idle, time, unit_variables, unknown, value_line, word_variable};
 
 use std::alloc::AllocError;
 use svc_text::{Part, Piece, put_parts};
@@ -58,14 +58,6 @@ pub(crate) fn put_dump_start(text: &mut Vec<u8>) -> Result<(), AllocError>
     ensures { OnOk result (text.new.items ≡ text.old.items ++ dump_start) }
 {
     "$upscope $end\n$enddefinitions $end\n#0\n$dumpvars\n".put(text)
-}
-
-/// The end of the first values.
-#[tactic(auto, unfolding(crate::specs::Changes::dump_end))]
-pub(crate) fn put_dump_end(text: &mut Vec<u8>) -> Result<(), AllocError>
-    ensures { OnOk result (text.new.items ≡ text.old.items ++ dump_end) }
-{
-    "$end\n".put(text)
 }
 
 // The lowest bits of a number, so many.

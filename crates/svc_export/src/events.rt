@@ -1,7 +1,7 @@
 // The events of a trace for viewers, as JSON objects.
 
 ghost use Rattle.std.specs.Prelude.{◌≡◌, ◌++◌, OnOk};
-ghost use Rattle.svc_export.specs.Events.{closing, event_end, flow_ends, flow_finish, flow_start, flow_text, instant, number_field, opening, slice, supplier_field, task_field, track, word_field};
+ghost use Rattle.svc_export.specs.Events.{closing, event_end, flow_end, flow_ends, flow_text, instant, number_field, opening, slice, supplier_field, task_field, track, word_field};
 
 use crate::flows::Flow;
 use std::alloc::AllocError;
@@ -176,61 +176,34 @@ pub(crate) fn put_event_end(text: &mut Vec<u8>) -> Result<(), AllocError>
     put_parts(text, &[Part::Text("}}")])
 }
 
-// The start of a flow, at an entry on a unit's track.
-#[tactic(auto, unfolding(crate::specs::Events::flow_start))]
-fn put_flow_start<'a>(
+// An end of a flow, at an entry on a unit's track.
+#[tactic(auto, unfolding(crate::specs::Events::flow_end))]
+fn put_flow_end<'a>(
     text: &mut Vec<u8>,
     name: &'a str,
+    phase: &'a str,
     digit: &'a str,
     number: u64,
-    start: u64,
+    entry: u64,
     unit: u64,
 ) -> Result<(), AllocError>
-    ensures { OnOk result (text.new.items ≡ text.old.items ++ flow_start name.now digit.now number start unit) }
+    ensures { OnOk result (text.new.items
+        ≡ text.old.items ++ flow_end name.now phase.now digit.now number entry unit) }
 {
     put_parts(
         text,
         &[
             Part::Text(",\n{\"name\":\""),
             Part::Text(name),
-            Part::Text("\",\"cat\":\"flow\",\"ph\":\"s\",\"id\":"),
+            Part::Text("\",\"cat\":\"flow\",\"ph\":\""),
+            Part::Text(phase),
+            Part::Text("\",\"id\":"),
             Part::Text(digit),
             Part::Number(number),
             Part::Text(",\"ts\":"),
-            Part::Number(start),
+            Part::Number(entry),
             Part::Text(",\"pid\":0,\"tid\":"),
             Part::Number(unit),
-            Part::Text("}"),
-        ],
-    )
-}
-
-// Its end, at the entry that shows it; with the entry of the store, and room for more arguments.
-#[tactic(auto, unfolding(crate::specs::Events::flow_finish))]
-fn put_flow_finish<'a>(
-    text: &mut Vec<u8>,
-    name: &'a str,
-    digit: &'a str,
-    number: u64,
-    unit: u64,
-    store: u64,
-) -> Result<(), AllocError>
-    ensures { OnOk result (text.new.items ≡ text.old.items ++ flow_finish name.now digit.now number unit store) }
-{
-    put_parts(
-        text,
-        &[
-            Part::Text(",\n{\"name\":\""),
-            Part::Text(name),
-            Part::Text("\",\"cat\":\"flow\",\"ph\":\"f\",\"bp\":\"e\",\"id\":"),
-            Part::Text(digit),
-            Part::Number(number),
-            Part::Text(",\"ts\":"),
-            Part::Number(number),
-            Part::Text(",\"pid\":0,\"tid\":"),
-            Part::Number(unit),
-            Part::Text(",\"args\":{\"store\":"),
-            Part::Number(store),
         ],
     )
 }
@@ -244,8 +217,17 @@ fn put_flow_ends(text: &mut Vec<u8>, flow: &Flow) -> Result<(), AllocError>
     let digit = flow.way.digit();
     let storer = u64::from(flow.storer.0);
     let reader = u64::from(flow.reader.0);
-    put_flow_start(text, name, digit, flow.number, flow.store, storer)?;
-    put_flow_finish(text, name, digit, flow.number, reader, flow.store)?;
+    put_flow_end(text, name, "s", digit, flow.number, flow.store, storer)?;
+    put_parts(text, &[Part::Text("}")])?;
+    let finish = "f\",\"bp\":\"e";
+    put_flow_end(text, name, finish, digit, flow.number, flow.number, reader)?;
+    put_parts(
+        text,
+        &[
+            Part::Text(",\"args\":{\"store\":"),
+            Part::Number(flow.store),
+        ],
+    )?;
     Ok(())
 }
 

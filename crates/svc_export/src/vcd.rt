@@ -10,13 +10,14 @@ ghost use Rattle.svc_export.specs.Changes.{idle, unit_variables, unknown, word_v
 ghost use Rattle.svc_export.specs.Vcd.{beginning, changes_from, decided, decision, declarations, entry_changes, first_values, is_store_of, is_word, left_by, stored_in, value_change, vcd_of, word_change, words_after};
 
 use crate::changes::{
-    put_busy, put_dump_end, put_dump_opening, put_dump_start, put_idle, put_time,
+    put_busy, put_dump_opening, put_dump_start, put_idle, put_time,
     put_unit_variables, put_unknown, put_value, put_word_variable,
 };
 use std::alloc::{AllocError, Global};
 use svc_base::{UnitId, WordAddr};
 use svc_history_laws::{Entry, Kind};
 use svc_task_runs::{Fate, TaskRun, TaskRuns, stores_in};
+use svc_text::Piece;
 
 // There is a word, and it is this one.
 fn is_word(addr: Option<WordAddr>, word: u32) -> bool
@@ -316,7 +317,7 @@ fn put_first_values(units: u32, words: &[u32], text: &mut Vec<u8>) -> Result<(),
 {
     put_all_idle(units, text)?;
     put_all_unknown(words, text)?;
-    put_dump_end(text)?;
+    "$end\n".put(text)?;
     Ok(())
 }
 

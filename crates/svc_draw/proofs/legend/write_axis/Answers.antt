@@ -2,7 +2,7 @@ use Rattle.std.proofs.Common.{◌≡◌, ◌∙◌, ◌+◌, ◌-◌, ◌++◌, 
 use Rattle.std.specs.Prelude.{flat_map}
 use Rattle.std.specs.List.{range_with_len}
 use Rattle.svc_draw.specs.Legend.{axis, number_at}
-use Rattle.svc_draw.specs.Shapes.{axis_words}
+use Rattle.svc_shapes.specs.Shapes.{axis_words}
 use Rattle.svc_draw.proofs.Texts.{numbers_more}
 use Rattle.svc_draw.proofs.legend.write_axis.Goals as goal
 

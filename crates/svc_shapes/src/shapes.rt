@@ -1,28 +1,27 @@
 // The shapes of bars and marks.
 
-ghost use Rattle.std.specs.Prelude.{◌≡◌, ◌≤◌, ◌++◌, OnOk, flat_map};
+ghost use Rattle.std.specs.Prelude.{◌≡◌, ◌++◌, OnOk, flat_map};
 ghost use Rattle.svc_text.specs.Parts.{part_text};
-ghost use Rattle.svc_draw.specs.Shapes.{label, ring, square, diamond, commit_line, thin_arrow, bold_arrow, close, title_open, bar_box, box_title, label_open, label_close};
+ghost use Rattle.svc_shapes.specs.Shapes.{label, ring, square, diamond, commit_line, thin_arrow, bold_arrow, close, title_open, bar_box, box_title, label_open, label_close};
 
-use crate::frame::Point;
-use crate::sheet::{BOTTOM, TOP};
+use crate::sheet::{BOTTOM, Point, TOP};
 use std::alloc::AllocError;
 use svc_text::{Part, put_parts};
 
 /// A ring: a load.
 #[tactic(auto, unfolding(crate::specs::Shapes::ring))]
-pub(crate) fn ring(text: &mut Vec<u8>, middle: Point, size: u64) -> Result<(), AllocError>
+pub fn ring(text: &mut Vec<u8>, middle: Point, size: u32) -> Result<(), AllocError>
     ensures { OnOk result (text.new.items ≡ text.old.items ++ ring middle.x middle.y size) }
 {
     put_parts(
         text,
         &[
             Part::Text("<circle cx='"),
-            Part::Number(middle.x),
+            Part::Number(middle.x as u64),
             Part::Text("' cy='"),
-            Part::Number(middle.y),
+            Part::Number(middle.y as u64),
             Part::Text("' r='"),
-            Part::Number(size),
+            Part::Number(size as u64),
             Part::Text("' fill='#fff' stroke='#111' stroke-width='2'>"),
         ],
     )
@@ -30,17 +29,19 @@ pub(crate) fn ring(text: &mut Vec<u8>, middle: Point, size: u64) -> Result<(), A
 
 /// A full square: a store.
 #[tactic(auto, unfolding(crate::specs::Shapes::square))]
-pub(crate) fn square(text: &mut Vec<u8>, middle: Point, size: u64) -> Result<(), AllocError>
-    requires small { size ≤ 10 }
+pub fn square(text: &mut Vec<u8>, middle: Point, size: u32) -> Result<(), AllocError>
     ensures { OnOk result (text.new.items ≡ text.old.items ++ square middle.x middle.y size) }
 {
+    let x = middle.x as u64;
+    let y = middle.y as u64;
+    let size = size as u64;
     put_parts(
         text,
         &[
             Part::Text("<rect x='"),
-            Part::Number(middle.x - size),
+            Part::Number(x.saturating_sub(size)),
             Part::Text("' y='"),
-            Part::Number(middle.y - size),
+            Part::Number(y.saturating_sub(size)),
             Part::Text("' width='"),
             Part::Number(2 * size),
             Part::Text("' height='"),
@@ -52,23 +53,23 @@ pub(crate) fn square(text: &mut Vec<u8>, middle: Point, size: u64) -> Result<(),
 
 /// A diamond: an output word.
 #[tactic(auto, unfolding(crate::specs::Shapes::diamond))]
-pub(crate) fn diamond(text: &mut Vec<u8>, middle: Point, size: u64) -> Result<(), AllocError>
-    requires small { size ≤ 10 }
+pub fn diamond(text: &mut Vec<u8>, middle: Point, size: u32) -> Result<(), AllocError>
     ensures { OnOk result (text.new.items ≡ text.old.items ++ diamond middle.x middle.y size) }
 {
-    let Point { x, y } = middle;
-    let half = size + 2;
+    let x = middle.x as u64;
+    let y = middle.y as u64;
+    let half = size as u64 + 2;
     put_parts(
         text,
         &[
             Part::Text("<path d='M"),
-            Part::Number(x - half),
+            Part::Number(x.saturating_sub(half)),
             Part::Text(" "),
             Part::Number(y),
             Part::Text("L"),
             Part::Number(x),
             Part::Text(" "),
-            Part::Number(y - half),
+            Part::Number(y.saturating_sub(half)),
             Part::Text("L"),
             Part::Number(x + half),
             Part::Text(" "),
@@ -84,7 +85,7 @@ pub(crate) fn diamond(text: &mut Vec<u8>, middle: Point, size: u64) -> Result<()
 
 /// A broken line across all lanes: a commit.
 #[tactic(auto, unfolding(crate::specs::Shapes::commit_line))]
-pub(crate) fn commit_line(text: &mut Vec<u8>, x: u64) -> Result<(), AllocError>
+pub fn commit_line(text: &mut Vec<u8>, x: u64) -> Result<(), AllocError>
     ensures { OnOk result (text.new.items ≡ text.old.items ++ commit_line x) }
 {
     put_parts(
@@ -103,20 +104,20 @@ pub(crate) fn commit_line(text: &mut Vec<u8>, x: u64) -> Result<(), AllocError>
 
 /// A thin arrow: a version goes to its reader.
 #[tactic(auto, unfolding(crate::specs::Shapes::thin_arrow))]
-pub(crate) fn thin_arrow(text: &mut Vec<u8>, from: Point, to: Point) -> Result<(), AllocError>
+pub fn thin_arrow(text: &mut Vec<u8>, from: Point, to: Point) -> Result<(), AllocError>
     ensures { OnOk result (text.new.items ≡ text.old.items ++ thin_arrow from.x from.y to.x to.y) }
 {
     put_parts(
         text,
         &[
             Part::Text("<path d='M"),
-            Part::Number(from.x),
+            Part::Number(from.x as u64),
             Part::Text(" "),
-            Part::Number(from.y),
+            Part::Number(from.y as u64),
             Part::Text("L"),
-            Part::Number(to.x),
+            Part::Number(to.x as u64),
             Part::Text(" "),
-            Part::Number(to.y),
+            Part::Number(to.y as u64),
             Part::Text("' fill='none' stroke='#14508c' stroke-width='2' marker-end='url(#thin)'>"),
         ],
     )
@@ -124,20 +125,20 @@ pub(crate) fn thin_arrow(text: &mut Vec<u8>, from: Point, to: Point) -> Result<(
 
 /// A bold arrow: a store squashes a reader.
 #[tactic(auto, unfolding(crate::specs::Shapes::bold_arrow))]
-pub(crate) fn bold_arrow(text: &mut Vec<u8>, from: Point, to: Point) -> Result<(), AllocError>
+pub fn bold_arrow(text: &mut Vec<u8>, from: Point, to: Point) -> Result<(), AllocError>
     ensures { OnOk result (text.new.items ≡ text.old.items ++ bold_arrow from.x from.y to.x to.y) }
 {
     put_parts(
         text,
         &[
             Part::Text("<path d='M"),
-            Part::Number(from.x),
+            Part::Number(from.x as u64),
             Part::Text(" "),
-            Part::Number(from.y),
+            Part::Number(from.y as u64),
             Part::Text("L"),
-            Part::Number(to.x),
+            Part::Number(to.x as u64),
             Part::Text(" "),
-            Part::Number(to.y),
+            Part::Number(to.y as u64),
             Part::Text("' fill='none' stroke='#b01010' stroke-width='4' marker-end='url(#bold)'>"),
         ],
     )
@@ -145,7 +146,7 @@ pub(crate) fn bold_arrow(text: &mut Vec<u8>, from: Point, to: Point) -> Result<(
 
 /// The end of a mark's element.
 #[tactic(auto, unfolding(crate::specs::Shapes::close))]
-pub(crate) fn close(text: &mut Vec<u8>, element: &str) -> Result<(), AllocError>
+pub fn close(text: &mut Vec<u8>, element: &str) -> Result<(), AllocError>
     ensures { OnOk result (text.new.items ≡ text.old.items ++ close element.now) }
 {
     put_parts(
@@ -156,7 +157,7 @@ pub(crate) fn close(text: &mut Vec<u8>, element: &str) -> Result<(), AllocError>
 
 /// The beginning of the title that shows at the pointer.
 #[tactic(auto, unfolding(crate::specs::Shapes::title_open))]
-pub(crate) fn title_open(text: &mut Vec<u8>, place: u64) -> Result<(), AllocError>
+pub fn title_open(text: &mut Vec<u8>, place: u64) -> Result<(), AllocError>
     ensures { OnOk result (text.new.items ≡ text.old.items ++ title_open place) }
 {
     put_parts(
@@ -171,7 +172,7 @@ pub(crate) fn title_open(text: &mut Vec<u8>, place: u64) -> Result<(), AllocErro
 
 /// A box: a bar.
 #[tactic(auto, unfolding(crate::specs::Shapes::bar_box))]
-pub(crate) fn bar_box(
+pub fn bar_box(
     text: &mut Vec<u8>,
     x: u64,
     y: u64,
@@ -201,7 +202,7 @@ pub(crate) fn bar_box(
 
 /// The title of a bar, and its end.
 #[tactic(auto, unfolding(crate::specs::Shapes::box_title))]
-pub(crate) fn box_title(
+pub fn box_title(
     text: &mut Vec<u8>,
     number: u64,
     entry: u64,
@@ -231,7 +232,7 @@ pub(crate) fn box_title(
 
 /// The beginning of words in black on a white rim.
 #[tactic(auto, unfolding(crate::specs::Shapes::label_open))]
-pub(crate) fn label_open(text: &mut Vec<u8>, x: u64, y: u64, style: &str) -> Result<(), AllocError>
+pub fn label_open(text: &mut Vec<u8>, x: u64, y: u64, style: &str) -> Result<(), AllocError>
     ensures { OnOk result (text.new.items ≡ text.old.items ++ label_open x y style.now) }
 {
     put_parts(
@@ -252,7 +253,7 @@ pub(crate) fn label_open(text: &mut Vec<u8>, x: u64, y: u64, style: &str) -> Res
 
 /// The end of such words.
 #[tactic(auto, unfolding(crate::specs::Shapes::label_close))]
-pub(crate) fn label_close(text: &mut Vec<u8>) -> Result<(), AllocError>
+pub fn label_close(text: &mut Vec<u8>) -> Result<(), AllocError>
     ensures { OnOk result (text.new.items ≡ text.old.items ++ label_close) }
 {
     put_parts(text, &[Part::Text("</text>\n")])
@@ -260,7 +261,7 @@ pub(crate) fn label_close(text: &mut Vec<u8>) -> Result<(), AllocError>
 
 /// Words in black on a white rim.
 #[tactic(auto, unfolding(crate::specs::Shapes::label))]
-pub(crate) fn label(
+pub fn label(
     text: &mut Vec<u8>,
     x: u64,
     y: u64,

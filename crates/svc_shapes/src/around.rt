@@ -1,14 +1,14 @@
 // The shapes of what surrounds them.
 
-ghost use Rattle.std.specs.Prelude.{◌≡◌, ◌≤◌, ◌++◌, OnOk};
-ghost use Rattle.svc_draw.specs.Shapes.{headline, fate_sample, sample_end, arrow_heads, lane, tick, opening, hatching, paper_text, commit_sample, thin_sample, bold_sample, closing, border, axis_words};
+ghost use Rattle.std.specs.Prelude.{◌≡◌, ◌++◌, OnOk};
+ghost use Rattle.svc_shapes.specs.Shapes.{headline, fate_sample, sample_end, arrow_heads, lane, tick, opening, hatching, paper_text, commit_sample, thin_sample, bold_sample, closing, border, axis_words};
 
 use std::alloc::AllocError;
 use svc_text::{Part, put_parts};
 
 /// What is shown.
 #[tactic(auto, unfolding(crate::specs::Shapes::headline))]
-pub(crate) fn headline(
+pub fn headline(
     text: &mut Vec<u8>,
     count: u64,
     total: u64,
@@ -35,24 +35,24 @@ pub(crate) fn headline(
 
 /// A sample of a fate, from the left.
 #[tactic(auto, unfolding(crate::specs::Shapes::fate_sample))]
-pub(crate) fn fate_sample<'a>(
+pub fn fate_sample<'a>(
     text: &mut Vec<u8>,
-    x: u64,
+    x: u32,
     fill: &'a str,
     name: &'a str,
 ) -> Result<(), AllocError>
-    requires inside { x ≤ 1600 }
     ensures { OnOk result (text.new.items ≡ text.old.items ++ fate_sample x fill.now name.now) }
 {
+    let left = x as u64;
     put_parts(
         text,
         &[
             Part::Text("<rect x='"),
-            Part::Number(x),
+            Part::Number(left),
             Part::Text("' y='48' width='32' height='18' fill='"),
             Part::Text(fill),
             Part::Text("' stroke='#111'/><text x='"),
-            Part::Number(x + 40),
+            Part::Number(left + 40),
             Part::Text("' y='62'>"),
             Part::Text(name),
             Part::Text("</text>\n"),
@@ -62,7 +62,7 @@ pub(crate) fn fate_sample<'a>(
 
 /// The end of a sample of a mark, and what it is.
 #[tactic(auto, unfolding(crate::specs::Shapes::sample_end))]
-pub(crate) fn sample_end<'a>(
+pub fn sample_end<'a>(
     text: &mut Vec<u8>,
     element: &'a str,
     x: u64,
@@ -86,10 +86,10 @@ pub(crate) fn sample_end<'a>(
 
 /// The heads of arrows, which end at the rim of a mark of this size.
 #[tactic(auto, unfolding(crate::specs::Shapes::arrow_heads))]
-pub(crate) fn arrow_heads(text: &mut Vec<u8>, size: u64) -> Result<(), AllocError>
-    requires small { size ≤ 10 }
+pub fn arrow_heads(text: &mut Vec<u8>, size: u32) -> Result<(), AllocError>
     ensures { OnOk result (text.new.items ≡ text.old.items ++ arrow_heads size) }
 {
+    let size = size as u64;
     put_parts(
         text,
         &[
@@ -109,7 +109,7 @@ pub(crate) fn arrow_heads(text: &mut Vec<u8>, size: u64) -> Result<(), AllocErro
 
 /// A lane, with its name before it.
 #[tactic(auto, unfolding(crate::specs::Shapes::lane))]
-pub(crate) fn lane(
+pub fn lane(
     text: &mut Vec<u8>,
     number: u64,
     top: u64,
@@ -139,7 +139,7 @@ pub(crate) fn lane(
 
 /// An entry's number, below its place.
 #[tactic(auto, unfolding(crate::specs::Shapes::tick))]
-pub(crate) fn tick(text: &mut Vec<u8>, x: u64, place: u64) -> Result<(), AllocError>
+pub fn tick(text: &mut Vec<u8>, x: u64, place: u64) -> Result<(), AllocError>
     ensures { OnOk result (text.new.items ≡ text.old.items ++ tick x place) }
 {
     put_parts(
@@ -158,7 +158,7 @@ pub(crate) fn tick(text: &mut Vec<u8>, x: u64, place: u64) -> Result<(), AllocEr
 
 /// The size of every picture.
 #[tactic(auto, unfolding(crate::specs::Shapes::opening))]
-pub(crate) fn opening(text: &mut Vec<u8>) -> Result<(), AllocError>
+pub fn opening(text: &mut Vec<u8>) -> Result<(), AllocError>
     ensures { OnOk result (text.new.items ≡ text.old.items ++ opening) }
 {
     put_parts(
@@ -176,7 +176,7 @@ pub(crate) fn opening(text: &mut Vec<u8>) -> Result<(), AllocError>
 
 /// A hatching of 8 by 8.
 #[tactic(auto, unfolding(crate::specs::Shapes::hatching))]
-pub(crate) fn hatching<'a>(
+pub fn hatching<'a>(
     text: &mut Vec<u8>,
     name: &'a str,
     turn: &'a str,
@@ -203,7 +203,7 @@ pub(crate) fn hatching<'a>(
 
 /// The paper, after the hatchings.
 #[tactic(auto, unfolding(crate::specs::Shapes::paper_text))]
-pub(crate) fn paper_text(text: &mut Vec<u8>) -> Result<(), AllocError>
+pub fn paper_text(text: &mut Vec<u8>) -> Result<(), AllocError>
     ensures { OnOk result (text.new.items ≡ text.old.items ++ paper_text) }
 {
     put_parts(
@@ -214,7 +214,7 @@ pub(crate) fn paper_text(text: &mut Vec<u8>) -> Result<(), AllocError>
 
 /// A sample of a commit.
 #[tactic(auto, unfolding(crate::specs::Shapes::commit_sample))]
-pub(crate) fn commit_sample(text: &mut Vec<u8>) -> Result<(), AllocError>
+pub fn commit_sample(text: &mut Vec<u8>) -> Result<(), AllocError>
     ensures { OnOk result (text.new.items ≡ text.old.items ++ commit_sample) }
 {
     put_parts(
@@ -227,7 +227,7 @@ pub(crate) fn commit_sample(text: &mut Vec<u8>) -> Result<(), AllocError>
 
 /// A sample of a thin arrow.
 #[tactic(auto, unfolding(crate::specs::Shapes::thin_sample))]
-pub(crate) fn thin_sample(text: &mut Vec<u8>) -> Result<(), AllocError>
+pub fn thin_sample(text: &mut Vec<u8>) -> Result<(), AllocError>
     ensures { OnOk result (text.new.items ≡ text.old.items ++ thin_sample) }
 {
     put_parts(
@@ -240,7 +240,7 @@ pub(crate) fn thin_sample(text: &mut Vec<u8>) -> Result<(), AllocError>
 
 /// A sample of a bold arrow.
 #[tactic(auto, unfolding(crate::specs::Shapes::bold_sample))]
-pub(crate) fn bold_sample(text: &mut Vec<u8>) -> Result<(), AllocError>
+pub fn bold_sample(text: &mut Vec<u8>) -> Result<(), AllocError>
     ensures { OnOk result (text.new.items ≡ text.old.items ++ bold_sample) }
 {
     put_parts(
@@ -253,7 +253,7 @@ pub(crate) fn bold_sample(text: &mut Vec<u8>) -> Result<(), AllocError>
 
 /// The end of a picture.
 #[tactic(auto, unfolding(crate::specs::Shapes::closing))]
-pub(crate) fn closing(text: &mut Vec<u8>) -> Result<(), AllocError>
+pub fn closing(text: &mut Vec<u8>) -> Result<(), AllocError>
     ensures { OnOk result (text.new.items ≡ text.old.items ++ closing) }
 {
     put_parts(text, &[Part::Text("</svg>\n")])
@@ -261,7 +261,7 @@ pub(crate) fn closing(text: &mut Vec<u8>) -> Result<(), AllocError>
 
 /// The rim of the lanes.
 #[tactic(auto, unfolding(crate::specs::Shapes::border))]
-pub(crate) fn border(text: &mut Vec<u8>) -> Result<(), AllocError>
+pub fn border(text: &mut Vec<u8>) -> Result<(), AllocError>
     ensures { OnOk result (text.new.items ≡ text.old.items ++ border) }
 {
     put_parts(
@@ -274,7 +274,7 @@ pub(crate) fn border(text: &mut Vec<u8>) -> Result<(), AllocError>
 
 /// The words below the axis.
 #[tactic(auto, unfolding(crate::specs::Shapes::axis_words))]
-pub(crate) fn axis_words(text: &mut Vec<u8>) -> Result<(), AllocError>
+pub fn axis_words(text: &mut Vec<u8>) -> Result<(), AllocError>
     ensures { OnOk result (text.new.items ≡ text.old.items ++ axis_words) }
 {
     put_parts(

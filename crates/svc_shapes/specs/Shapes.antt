@@ -1,7 +1,7 @@
 -- The shapes of a picture, as elements of SVG. Numbers and fixed words are all that they hold, so nothing needs an escape.
 use Rattle.std.specs.Prelude.{ℕ, ◌+◌, ◌-◌, ◌*◌, List, [], ◌∷◌, ◌++◌, codes, decimal}
 use Rattle.std.specs.List.{concat}
-use Rattle.svc_draw.specs.declared.sheet.TheConstants.{BOTTOM, TOP}
+use Rattle.svc_shapes.specs.declared.sheet.TheConstants.{BOTTOM, TOP}
 
 -- ---- marks: elements that stay open for a title
 

@@ -1,0 +1,239 @@
+#!/usr/bin/env python3
+"""The picture that `draw` saves: a twin of svc_draw's text, from a trace alone.
+
+svg_twin.py TRACE UNITS [FROM] [COUNT]
+"""
+import csv
+import sys
+
+from draw_twin import number, tasks_of
+
+LEFT, WIDTH, RIGHT, TOP, HEIGHT, BOTTOM = 90, 1490, 1580, 118, 720, 838
+FILLS = {
+    "active": "url(#active)", "committed": "#d3ead0", "violation": "url(#violation)", "guess": "url(#guess)", "cancel": "url(#cancel)",
+}
+NAMES = {
+    "active": "still active", "committed": "committed", "violation": "squashed: read too early", "guess": "squashed: wrong guess",
+    "cancel": "squashed: cancelled",
+}
+STEPS = [1, 2, 5, 10, 20, 50, 100, 200, 500, 1000, 2000, 5000, 10000, 20000, 50000, 100000]
+RIM = "paint-order='stroke' stroke='#fff' stroke-width='4' stroke-linejoin='round'"
+
+
+def ring(x, y, size):
+    return f"<circle cx='{x}' cy='{y}' r='{size}' fill='#fff' stroke='#111' stroke-width='2'>"
+
+
+def square(x, y, size):
+    return f"<rect x='{x - size}' y='{y - size}' width='{2 * size}' height='{2 * size}' fill='#111'>"
+
+
+def diamond(x, y, size):
+    half = size + 2
+    return f"<path d='M{x - half} {y}L{x} {y - half}L{x + half} {y}L{x} {y + half}Z' fill='#ffe04a' stroke='#111' stroke-width='2'>"
+
+
+def label(x, y, style, words):
+    return f"<text x='{x}' y='{y}' {style} {RIM}>{words}</text>\n"
+
+
+class Picture:
+    def __init__(self, lines, units, begin, count):
+        # Later entries aren't looked at.
+        self.lines, self.units = lines[: begin + count + 1], units
+        rows = list(csv.DictReader(self.lines))
+        self.total = len(rows)
+        self.begin = min(begin, self.total)
+        self.end = min(self.begin + count, self.total)
+        self.all_rows, self.rows = rows, rows[: self.end]
+        self.shown = max(self.end - self.begin, 1)
+        self.bar_height = min(HEIGHT // units * 4 // 5, 130)
+        self.radius = min(min(max(WIDTH // self.shown // 3, 4), 10), self.bar_height // 4)
+        tasks = tasks_of(rows)
+        self.bars = [t for t in tasks if t.first < self.end and (self.end if t.last is None else t.last) >= self.begin]
+        self.turns()
+
+    def turns(self):
+        """How many turns each task took: those of its submits."""
+        for task in self.bars:
+            last = self.total if task.last is None else task.last + 1
+            mine = [r for r in self.all_rows[task.first : last] if r["kind"] == "submit" and r["unit"] == task.unit]
+            task.turns = sum(int(r["local"]) + int(r["ask"]) for r in mine)
+
+    def x(self, place):
+        if place is None:
+            return LEFT
+        before = max(min(place, self.end) - self.begin, 0)
+        return LEFT + min((2 * before + 1) * WIDTH // (2 * self.shown), WIDTH)
+
+    def lane_top(self, lane):
+        return TOP + min(lane * HEIGHT // self.units, HEIGHT)
+
+    def bar_top(self, lane):
+        return self.lane_top(lane) + (HEIGHT // self.units - self.bar_height) // 2
+
+    def y(self, lane):
+        return self.bar_top(lane) + self.bar_height * 18 // 25
+
+    def bar_left(self, task):
+        return LEFT if task.first < self.begin else self.x(task.first)
+
+    def bar_width(self, task):
+        ends = task.last is None or task.last >= self.end
+        return max((RIGHT if ends else self.x(task.last)) - self.bar_left(task), 2)
+
+    # ---- what each picture has
+
+    def head(self):
+        patterns = [
+            ("violation", " patternTransform='rotate(45)'", "#fbd5d0", "<rect width='2' height='8' fill='#d9655a'/>"),
+            ("guess", " patternTransform='rotate(135)'", "#fdeac3", "<rect width='2' height='8' fill='#c9922e'/>"),
+            ("cancel", "", "#e6ddf3", "<circle cx='4' cy='4' r='2' fill='#7a5bb0'/>"),
+            ("active", "", "#ffffff", "<rect width='8' height='1' y='4' fill='#9ab4d0'/>"),
+        ]
+        text = "<?xml version='1.0' encoding='UTF-8'?>\n<svg xmlns='http://www.w3.org/2000/svg' width='1600' height='900' "
+        text += "viewBox='0 0 1600 900' font-family='Helvetica, Arial, sans-serif' font-size='14' fill='#111'>\n<defs>\n"
+        for name, turn, paper, lines in patterns:
+            text += f"<pattern id='{name}' width='8' height='8' patternUnits='userSpaceOnUse'{turn}>"
+            text += f"<rect width='8' height='8' fill='{paper}'/>{lines}</pattern>\n"
+        text += "</defs>\n<rect width='1600' height='900' fill='#fff'/>\n<defs>"
+        for name, width, height, tip, path, color in [
+            ("thin", 12, 10, 11, "M0 0L11 5L0 10Z", "#14508c"), ("bold", 18, 16, 18, "M0 0L17 8L0 16Z", "#b01010"),
+        ]:
+            text += f"<marker id='{name}' markerWidth='{width}' markerHeight='{height}' refX='{tip + self.radius}' refY='{height // 2}' "
+            text += f"orient='auto' markerUnits='userSpaceOnUse'><path d='{path}' fill='{color}'/></marker>"
+        return text + "</defs>\n"
+
+    def legend(self):
+        count = self.end - self.begin
+        text = "<text x='90' y='30' font-size='18' font-weight='bold'>"
+        text += f"{count} of {self.total} entries, from entry {self.begin}; units: {self.units}</text>\n"
+        for x, fate in zip(range(90, 1011, 230), ["committed", "violation", "guess", "cancel", "active"]):
+            text += f"<rect x='{x}' y='48' width='32' height='18' fill='{FILLS[fate]}' stroke='#111'/>"
+            text += f"<text x='{x + 40}' y='62'>{NAMES[fate]}</text>\n"
+        samples = [
+            (ring(106, 90, 8), "circle", 130, "load"), (square(226, 90, 8), "rect", 250, "store"),
+            (diamond(346, 90, 8), "path", 370, "word put out"),
+        ]
+        for shape, element, x, name in samples:
+            text += f"{shape}</{element}><text x='{x}' y='95'>{name}</text>\n"
+        text += "<path d='M550 80V100' stroke='#2e7d32' stroke-width='2' stroke-dasharray='6 4'/><text x='562' y='95'>commit</text>\n"
+        for color, width, name, start, end, words in [
+            ("#14508c", 2, "thin", 670, 735, "a version goes from its store to a reader"),
+            ("#b01010", 4, "bold", 1090, 1160, "a store finds a read too early, and squashes its task"),
+        ]:
+            text += f"<path d='M{start} 90H{end}' stroke='{color}' stroke-width='{width}' marker-end='url(#{name})'/>"
+            text += f"{ring(end, 90, self.radius)}</circle><text x='{end + 20}' y='95'>{words}</text>\n"
+        return text
+
+    def lanes(self):
+        text = ""
+        for n in range(self.units):
+            top = self.lane_top(n)
+            height = self.lane_top(n + 1) - top
+            text += f"<rect x='90' y='{top}' width='1490' height='{height}' fill='{'#fff' if n % 2 else '#f4f5f7'}'/>"
+            text += f"<text x='20' y='{top + height // 2 + 5}'>unit {n}</text>\n"
+        return text + "<rect x='90' y='118' width='1490' height='720' fill='none' stroke='#888'/>\n"
+
+    # ---- bars and marks
+
+    def bar(self, t):
+        lane = int(t.unit)
+        text = f"<rect x='{self.bar_left(t)}' y='{self.bar_top(lane)}' width='{self.bar_width(t)}' height='{self.bar_height}' rx='3' "
+        text += f"fill='{FILLS[t.fate]}' stroke='#333'><title>task {t.number} at address {t.entry}, begun by entry {t.first}: "
+        return text + f"{NAMES[t.fate]}; turns: {t.turns}</title></rect>\n"
+
+    def bar_name(self, t):
+        letters = max(self.bar_width(t) - 8, 0) // 7
+        number, both = len(str(t.number)), len(str(t.number)) + len(t.entry)
+        if letters < number:
+            return ""
+        words = f"task {t.number} @ {t.entry}" if both + 8 <= letters else f"{t.number}@{t.entry}" if both + 1 <= letters else str(t.number)
+        return label(self.bar_left(t) + 4, self.bar_top(int(t.unit)) + 12, "font-size='12'", words)
+
+    def marks(self):
+        """Kind, index and, of an arrow, its other end: a unit and an index."""
+        stores, found = {}, []
+        for at in range(self.begin, self.end):
+            row = self.rows[at]
+            kind = {"loaded": "load", "stored": "store", "emitted": "output", "committed": "commit"}.get(row["reply"])
+            if kind:
+                found.append((kind, at, None))
+            if row["from"] and row["served"] in ("version", "spill", "committed"):
+                found.append(("version", at, (int(row["from"]), stores.get((row["from"], row["addr"])))))
+            if row["cause"] == "violation":
+                found += self.violation(at, row)
+            if row["reply"] == "stored" and row["addr"]:
+                stores[(row["unit"], row["addr"])] = at
+        return found
+
+    def violation(self, at, row):
+        for t in self.bars:
+            if t.number == number(row["first"]) and t.last == at:
+                for k in range(max(t.first, self.begin), at):
+                    read = self.rows[k]
+                    if read["unit"] == t.unit and read["addr"] == row["addr"] != "" and read["served"] not in ("", "hit"):
+                        return [("violation", at, (int(t.unit), k))]
+                return [("violation", at, (int(t.unit), None))]
+        return []
+
+    def ends(self, mark):
+        kind, at, other = mark
+        here = (self.x(at), self.y(int(self.rows[at]["unit"])))
+        there = (self.x(other[1]), self.y(other[0])) if other else here
+        return here, there
+
+    def mark(self, mark):
+        kind, at, _ = mark
+        (x, y), (right, down) = self.ends(mark)
+        shape, element = {
+            "load": (ring(x, y, self.radius), "circle"),
+            "store": (square(x, y, self.radius), "rect"),
+            "output": (diamond(x, y, self.radius), "path"),
+            "commit": (f"<path d='M{x} 118V838' fill='none' stroke='#2e7d32' stroke-width='2' stroke-dasharray='6 4'>", "path"),
+            "version": (f"<path d='M{right} {down}L{x} {y}' fill='none' stroke='#14508c' stroke-width='2' marker-end='url(#thin)'>", "path"),
+            "violation": (f"<path d='M{x} {y}L{right} {down}' fill='none' stroke='#b01010' stroke-width='4' marker-end='url(#bold)'>", "path"),
+        }[kind]
+        return f"{shape}<title>entry {at}: {self.lines[at + 1]}</title></{element}>\n"
+
+    def words(self, mark):
+        kind, at, _ = mark
+        row = self.rows[at]
+        (x, y), (right, down) = self.ends(mark)
+        value = row["word"] or "0"
+        ended = "text-anchor='end'"
+        if kind == "commit":
+            return label(x - 6, 136, ended, f"task {value} is committed")
+        if kind in ("version", "violation"):
+            words = "the version goes to a reader" if kind == "version" else "read too early"
+            return label((x + right) // 2 + 12, (y + down) // 2 + 2, "font-style='italic'", words)
+        return label(x - self.radius - 6, y + 5, ended, f"word {row['addr']} = {value}" if row["addr"] else value)
+
+    def axis(self):
+        step = next((s for s in STEPS if 44 * self.shown <= s * WIDTH), 100000)
+        text = ""
+        for at in range(self.begin, self.end):
+            if at % step == 0:
+                x = self.x(at)
+                text += f"<path d='M{x} 838V845' stroke='#111'/><text x='{x}' y='860' text-anchor='middle'>{at}</text>\n"
+        text += "<text x='90' y='884'>in a bar: the number of its task @ the address where that began</text>\n"
+        return text + "<text x='1580' y='884' text-anchor='end'>entry of the trace, counted from 0</text>\n"
+
+    def text(self):
+        marks = self.marks()
+        layers = [["commit"], ["version", "violation"], ["load", "store", "output"]]
+        parts = [self.head(), self.legend(), self.lanes(), *map(self.bar, self.bars)]
+        parts += [self.mark(m) for layer in layers for m in marks if m[0] in layer]
+        if WIDTH // self.shown >= 100 and self.bar_height >= 60:
+            parts += map(self.words, marks)
+        return "".join(parts + [*map(self.bar_name, self.bars), self.axis(), "</svg>\n"])
+
+
+def main(path, units, begin=0, count=400):
+    with open(path, newline="") as file:
+        lines = file.read().splitlines(keepends=True)
+    sys.stdout.write(Picture(lines, units, begin, count).text())
+
+
+if __name__ == "__main__":
+    main(sys.argv[1], *map(int, sys.argv[2:]))
