@@ -17,7 +17,6 @@ export const TEXTS = {
   projector: 'Projector', projector_title: 'Larger type, the program below', dark: 'Dark', dark_label: 'Dark colours',
     keys: 'Keys',
   program_and_machine: 'Program and machine', program: 'Program',
-    program_help: 'Assembly text of RV32I with tasks; faults are told below',
   listing: 'Listing, and where each unit is', listing_units: 'units here', listing_name: 'name',
     listing_address: 'address',
   listing_instruction: 'instruction',
@@ -58,7 +57,7 @@ export const TEXTS = {
   ran: (count, order) => `${many(count, 'entry', 'entries')}, by ${order}.`,
   refused_steps: (count, total) =>
     `${count} of ${many(total, 'step', 'steps')} ${count === 1 ? 'is' : 'are'} refused on this machine; see Script.`,
-  opened: (name) => `${name} is open.`, not_opened: (name, why) => `${name}: ${why}`,
+  opened: (name) => `${name} is open.`,
   ending: { exit: (n) => `exit ${n}`, trap: (n) => `trap ${n}`, full: () => 'the history is full', open: () => 'open' },
 
   // places
