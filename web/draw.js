@@ -1,12 +1,14 @@
 // Puts what the other modules lay out into the document, and keeps what is to be seen in sight.
 
 import { $, set_html } from './document.js';
-import { is_long, key_html, labels_html, lanes_svg, moment_text, places, scrolled_to, strip_svg, window_style } from './lanes.js';
+import { is_long, key_html, labels_html, lanes_svg, moment_text, places, scrolled_to, strip_svg,
+  window_style } from './lanes.js';
 import { caches_html, memory_html, output_html, versions_html, words_html, words_of } from './moment.js';
 import { moves_html, moves_note } from './moves.js';
 import { line_in_sight, listing_html, message_html, numbers_html, place_of, program_html } from './program.js';
 import { said_at } from './say.js';
-import { TABS, all_html, answers_html, cost_html, needs_html, script_html, script_text, tables, trace_html } from './tables.js';
+import { TABS, all_html, answers_html, cost_html, needs_html, script_html, script_text, tables,
+  trace_html } from './tables.js';
 
 // ---- the program
 
@@ -89,7 +91,8 @@ export function draw_versions(session) {
 }
 
 export function draw_moment(session, predict) {
-  const now = session.now(), before = session.before(), is_marked = session.k > 0 && !predict.ask, words = words_of(session);
+  const now = session.now(), before = session.before(), words = words_of(session);
+  const is_marked = session.k > 0 && !predict.ask;
   $('caches').classList.toggle('many', session.config.units > 2);
   set_html($('caches'), caches_html(session, now, before, is_marked));
   if (!words.includes(session.word)) session.word = words[0] ?? 0;

@@ -1,4 +1,5 @@
-// The cases of svc_cases: what the program is asked, and what it prints and saves, which the gate compares with what it does.
+// The cases of svc_cases: what the program is asked, and what it prints and saves, which the gate compares with what it
+// does.
 
 import { readFileSync, readdirSync } from 'node:fs';
 import { fileURLToPath } from 'node:url';

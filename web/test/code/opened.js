@@ -23,8 +23,9 @@ export async function opened(k = 0, steps = TEN) {
 export function shown({ entries, before, after, rows = '', units = 4, names = [] }) {
   const list = entries.map(entry_of), k = list.length;
   return {
-    entries: list, k, config: { ...FOUR, units }, listing: [], words: names.map((name) => ({ name })), word: 0, has_image: true,
+    entries: list, k, config: { ...FOUR, units }, has_image: true, listing: [], word: 0,
+    words: names.map((name) => ({ name })), sequential: null, played: { step_of: [], answers: [] },
     drawing: drawn_of(rows), moments: new Map([[k - 1, before], [k, after]]), now: () => after, before: () => before,
-    next_step: () => null, bursts: () => [1, 63], entry_addresses: () => [], sequential: null, played: { step_of: [], answers: [] },
+    next_step: () => null, bursts: () => [1, 63], entry_addresses: () => [],
   };
 }

@@ -1,5 +1,5 @@
-// A library of recorded rows, in place of the module: a request is answered as the case is that asks the same of files with the same
-// bytes. What no case asks is a failure.
+// A library of recorded rows, in place of the module: a request is answered as the case is that asks the same of files
+// with the same bytes. What no case asks is a failure.
 
 import { existsSync } from 'node:fs';
 import { bytes_of, text_of } from '../../library.js';
@@ -8,11 +8,11 @@ import { CASES, DATA, bytes, text } from './cases.js';
 
 const TRACE_HEAD = lines_of(text('traces/ten_events.csv'))[0] + '\n';
 const FLAGS = ['--detail', '--moves', '--rows', '--explain', '--dot', '--header'];
-// Options in which a case may differ from what is asked: of several cases the one with the most of them is taken, and then the one
-// with the most tasks, since a program has no more than it has.
+// Options in which a case may differ from what is asked: of several cases the one with the most of them is taken, and
+// then the one with the most tasks, since a program has no more than it has.
 const LOOSE = ['--units', '--sets', '--ways', '--tasks', '--from', '--count', '--states', '--events', '--names'];
-const SAVED = { assemble: [1, '--names'], draw: [2], export: [2], run: ['--trace'], script: ['--trace'], explore: ['--trace'],
-  check: ['--script'] };
+const SAVED = { assemble: [1, '--names'], draw: [2], export: [2], run: ['--trace'], script: ['--trace'],
+  explore: ['--trace'], check: ['--script'] };
 
 // The words, apart: files and options by place and name.
 function apart([command, ...words]) {
@@ -25,7 +25,8 @@ function apart([command, ...words]) {
     else parts.set(it, words[++n]);
   }
   parts.delete('--explain');
-  return { command, parts, saves: new Map((SAVED[command] ?? []).map((it) => [it, parts.get(it)]).filter(([, it]) => it)) };
+  const saves = (SAVED[command] ?? []).filter((it) => parts.has(it));
+  return { command, parts, saves: new Map(saves.map((it) => [it, parts.get(it)])) };
 }
 
 const front_of = (trace, count) => trace.split('\n').slice(0, count + 1).join('\n') + '\n';
@@ -79,7 +80,8 @@ export class Recorded {
   // The case that asks this.
   found(it) {
     const rank = (one) => equal(it.loose, one.asked.loose);
-    const same = RECORDED.filter((one) => one.asked.fixed === it.fixed && (one.status !== '1' || rank(one) === it.loose.size));
+    const fits = (one) => one.status !== '1' || rank(one) === it.loose.size;
+    const same = RECORDED.filter((one) => one.asked.fixed === it.fixed && fits(one));
     return same.sort((a, b) => rank(b) - rank(a) || (tasks(b) > tasks(a) ? 1 : tasks(b) < tasks(a) ? -1 : 0))[0];
   }
 
@@ -89,16 +91,18 @@ export class Recorded {
       const file = files[found.asked.saves.get(part)];
       if (file) this.files.set(name, saved[name] = bytes(file));
     }
-    return { status: Number(found.status), out: found.out ? text(found.out) : '', err: found.err && `${found.err}\n`, saved };
+    const out = found.out ? text(found.out) : '', err = found.err && `${found.err}\n`;
+    return { status: Number(found.status), out, err, saved };
   }
 
   // The first steps of a longer script are answered as they are there, and lead to the entries among these answers.
   played(it) {
-    const [image, script] = [0, 1].map((n) => text_of(this.files.get(it.parts.get(n)))), count = lines_of(script).length - 1;
-    const longer = RECORDED.find(({ out, asked: one }) => one.command === 'script' && out && held(one.parts.get(0)) === image
-      && held(one.parts.get(1))?.startsWith(script));
+    const [image, script] = [0, 1].map((n) => text_of(this.files.get(it.parts.get(n))));
+    const longer = RECORDED.find(({ out, asked: { command, parts } }) => command === 'script' && out
+      && held(parts.get(0)) === image && held(parts.get(1))?.startsWith(script));
     if (!longer) throw new Error(`no case plays: ${lines_of(script).slice(1).join(' ')}`);
-    const answers = lines_of(text(longer.out)).slice(0, count), rows = answers.filter((row) => !/^(refused,|none$|taken,)/.test(row));
+    const answers = lines_of(text(longer.out)).slice(0, lines_of(script).length - 1);
+    const rows = answers.filter((row) => !/^(refused,|none$|taken,)/.test(row));
     if (it.saves.has('--trace')) this.put(it.saves.get('--trace'), TRACE_HEAD + rows.map((row) => row + '\n').join(''));
     return { status: 2, out: answers.map((row) => row + '\n').join(''), err: '', saved: {} };
   }

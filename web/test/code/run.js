@@ -6,7 +6,8 @@ import { execFileSync } from 'node:child_process';
 import { readdirSync } from 'node:fs';
 import { ROOT } from './cases.js';
 
-// These begin something where they are loaded, so they are only parsed: the worker has a test of its own, and main.js is one call.
+// These begin something where they are loaded, so they are only parsed: the worker has a test of its own, and main.js
+// is one call.
 const BEGIN = ['main.js', 'worker.js'];
 let passed = 0, failed = 0;
 

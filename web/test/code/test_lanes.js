@@ -1,8 +1,9 @@
-// The lanes: where columns, bars, marks and arrows are. Places are worked out by hand for a box of 862 pixels, which leaves 840 for
-// the columns.
+// The lanes: where columns, bars, marks and arrows are. Places are worked out by hand for a box of 862 pixels, which
+// leaves 840 for the columns.
 
 import { deepEqual, equal, ok } from 'node:assert/strict';
-import { is_long, key_html, labels_html, lanes_svg, moment_text, places, scrolled_to, strip_svg, window_style } from '../../lanes.js';
+import { is_long, key_html, labels_html, lanes_svg, moment_text, places, scrolled_to, strip_svg,
+  window_style } from '../../lanes.js';
 import { entry_of, sound_of } from '../../rows.js';
 import { text } from './cases.js';
 import { UNPREDICTED, opened, shown } from './opened.js';
@@ -47,7 +48,8 @@ export async function each_row_is_drawn() {
 // Task 1 runs on unit 1 in columns 1 to 3: from 10 + 84 + 5 to 10 + 4 * 84 - 5, from 4 below the lane's top, 6 + 64.
 export async function a_squashed_bar_is_where_its_task_ran() {
   const { session } = await opened(10), svg = lanes_svg(session, places(session, 862, 1), false);
-  ok(svg.includes('<rect x="99" y="74" width="242" height="46" rx="5" style="fill:url(#hv);stroke:var(--sq);stroke-width:2"/>'));
+  const style = 'fill:url(#hv);stroke:var(--sq);stroke-width:2';
+  ok(svg.includes(`<rect x="99" y="74" width="242" height="46" rx="5" style="${style}"/>`));
 }
 
 export async function what_is_to_come_is_pale_or_hidden() {
@@ -95,7 +97,8 @@ export function a_long_run_is_drawn_around_the_moment() {
 }
 
 export function sixteen_units_have_small_lanes() {
-  const entries = text('schedules/schedule_of_a_chain_on_16_by_bursts_of_5.csv').split('\n').slice(1, 100).map(entry_of);
+  const rows = text('schedules/schedule_of_a_chain_on_16_by_bursts_of_5.csv').split('\n');
+  const entries = rows.slice(1, 100).map(entry_of);
   const session = { ...shown({ entries: [], units: 16 }), entries, k: 0 }, p = places(session, 862, 1);
   deepEqual([p.pitch, p.height, p.is_small], [36, 30, true]);
   equal(count(labels_html(p), /<div/g), 16);

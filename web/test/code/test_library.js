@@ -8,12 +8,15 @@ import { ROOT } from './cases.js';
 
 const SOURCE = readFileSync(`${ROOT}web/worker.js`, 'utf8');
 
-// A module: `does` gets the words and the files, and answers the status, both outputs and what is saved, as [name, bytes].
+// A module: `does` gets the words and the files, and answers the status, both outputs and what is saved, as [name,
+// bytes].
 function module_of(does) {
-  const memory = new ArrayBuffer(1 << 24), view = new DataView(memory), at = (place, length) => new Uint8Array(memory, Number(place), Number(length));
+  const memory = new ArrayBuffer(1 << 24), view = new DataView(memory);
+  const at = (place, length) => new Uint8Array(memory, Number(place), Number(length));
   let free = 8, given = 0;
   const page_take = (bytes) => { const place = free; free += (Number(bytes) + 8) & ~7; given++; return BigInt(place); };
-  const svc_page_answer = (words, length, sizes, count, contents, size, out, outs, err, errs, files, most, saved, saveds, lengths) => {
+  const svc_page_answer = (words, length, sizes, count, contents, size, out, outs, err, errs, files, most, saved,
+    saveds, lengths) => {
     const found = [];
     let place = Number(contents);
     for (let n = 0; n < Number(count); n++) {
@@ -40,7 +43,7 @@ function module_of(does) {
 // A worker as the browser makes one: its script, and messages that come later.
 function worker_over(exports) {
   const it = { ended: false, terminate() { it.ended = true; } };
-  const inside = createContext({ TextEncoder, TextDecoder, performance, BigInt, Uint8Array, BigUint64Array, String, Error,
+  const inside = createContext({ TextEncoder, TextDecoder, performance, BigInt, Uint8Array, BigUint64Array, Error,
     WebAssembly: { Instance: class { exports = exports; } },
     postMessage: (data) => setImmediate(() => it.ended || it.onmessage({ data })) });
   runInContext(SOURCE.replace("'use strict';", ''), inside);
@@ -54,7 +57,8 @@ function library_of(does) {
   return { library, made, exports };
 }
 
-const echo = (words, files) => ({ out: `${words.join(' ')}: ${[...files].map(([name, it]) => `${name}=${it}`).join(' ')}` });
+const echo = (words, files) =>
+  ({ out: `${words.join(' ')}: ${[...files].map(([name, it]) => `${name}=${it}`).join(' ')}` });
 
 export async function words_and_the_files_they_name_are_handed_in() {
   const { library } = library_of(echo);
@@ -71,7 +75,8 @@ export async function both_outputs_and_the_status_come_back() {
 }
 
 export async function what_is_saved_is_there_for_the_next_call() {
-  const { library } = library_of((words, files) => (words[0] === 'save' ? { saved: [['x', 'one'], ['y', '']] } : echo(words, files)));
+  const saved = [['x', 'one'], ['y', '']];
+  const { library } = library_of((words, files) => (words[0] === 'save' ? { saved } : echo(words, files)));
   await library.ask(['save']);
   deepEqual([text_of(library.files.get('x')), library.files.get('y').length], ['one', 0]);
   equal((await library.ask(['look', 'x', 'y'])).out, 'look x y: x=one y=');
@@ -137,7 +142,10 @@ export async function a_stopped_call_fails_and_a_fresh_worker_goes_on() {
 
 export async function a_module_that_fails_is_made_anew() {
   let calls = 0;
-  const { library } = library_of((words, files) => { if (++calls === 1) throw new Error('unreachable'); return echo(words, files); });
+  const { library } = library_of((words, files) => {
+    if (++calls === 1) throw new Error('unreachable');
+    return echo(words, files);
+  });
   await rejects(library.ask(['x']), /unreachable/);
   equal((await library.ask(['x'])).out, 'x: ');
 }

@@ -9,7 +9,8 @@ import { ROOT } from './cases.js';
 
 const WEB = `${ROOT}web/`, read = (name) => readFileSync(WEB + name, 'utf8');
 const MODULES = readdirSync(WEB).filter((it) => it.endsWith('.js'));
-const built = () => execFileSync('/usr/bin/python3', [`${WEB}build_page.py`, '/dev/null'], { encoding: 'utf8', maxBuffer: 1 << 26 });
+const HOW = { encoding: 'utf8', maxBuffer: 1 << 26 };
+const built = () => execFileSync('/usr/bin/python3', [`${WEB}build_page.py`, '/dev/null'], HOW);
 const all = (text, pattern) => [...text.matchAll(pattern)].map((it) => it[1]);
 
 export function the_page_is_one_file_whose_script_parses() {
@@ -27,7 +28,8 @@ export function each_module_is_in_the_page() {
 
 // What each program of the menu is: the texts of the cases, or of the lessons.
 export function the_programs_of_the_menu_are_there() {
-  const programs = JSON.parse(/^begin\((\[.*\]), "/m.exec(built())[1].replaceAll('<\\/', '</').replaceAll('<\\!--', '<!--'));
+  const literal = /^begin\((\[.*\]), "/m.exec(built())[1];
+  const programs = JSON.parse(literal.replaceAll('<\\/', '</').replaceAll('<\\!--', '<!--'));
   equal(programs.length, 12);
   deepEqual(programs.filter((it) => !TEXTS.lessons[it.lesson]), []);
   equal(programs[0].text, readFileSync(`${ROOT}crates/svc_cases/data/examples/violation.s`, 'utf8'));
@@ -37,7 +39,8 @@ export function the_programs_of_the_menu_are_there() {
 export function every_place_has_its_text() {
   const page = read('index.html');
   for (const kind of ['text', 'label', 'tip']) {
-    deepEqual(all(page, new RegExp(`data-${kind}="(\\w+)"`, 'g')).filter((it) => typeof TEXTS[it] !== 'string'), [], kind);
+    const named = all(page, new RegExp(`data-${kind}="(\\w+)"`, 'g'));
+    deepEqual(named.filter((it) => typeof TEXTS[it] !== 'string'), [], kind);
   }
 }
 
@@ -49,8 +52,10 @@ export function every_text_that_is_used_is_there() {
 }
 
 export function every_text_that_is_there_is_used() {
-  const code = MODULES.filter((it) => it !== 'texts.js').map(read).join('') + read('index.html') + read('texts.js').match(/TEXTS\.\w+/g).join(' ');
-  deepEqual(Object.keys(TEXTS).filter((it) => !new RegExp(`(TEXTS\\.|data-(text|label|tip)=")${it}\\b`).test(code)), []);
+  const others = MODULES.filter((it) => it !== 'texts.js').map(read), own = read('texts.js').match(/TEXTS\.\w+/g);
+  const code = [...others, read('index.html'), ...own].join(' ');
+  const is_used = (it) => new RegExp(`(TEXTS\\.|data-(text|label|tip)=")${it}\\b`).test(code);
+  deepEqual(Object.keys(TEXTS).filter((it) => !is_used(it)), []);
 }
 
 // A place is in the document, or in what a module lays out.
@@ -64,6 +69,7 @@ export function every_place_that_is_drawn_is_there() {
 
 // The rule of architecture: no module but these touches the document.
 export function the_rest_touches_no_document() {
-  const touching = MODULES.filter((it) => /\bdocument\b|\bwindow\b|\blocation\b/.test(read(it).replace(/^\s*\/\/.*$/gm, '').replace(/`[^`]*`|'[^']*'/g, '')));
+  const code = (it) => read(it).replace(/^\s*\/\/.*$/gm, '').replace(/`[^`]*`|'[^']*'/g, '');
+  const touching = MODULES.filter((it) => /\b(document|window|location)\b/.test(code(it)));
   deepEqual(touching.sort(), ['document.js', 'draw.js', 'page.js']);
 }

@@ -6,7 +6,8 @@ import { caches_html, memory_html, output_html, outputs, versions_html, words_ht
 import { moves_html, moves_note } from '../../moves.js';
 import { line_in_sight, listing_html, message_html, numbers_html, place_of, program_html } from '../../program.js';
 import { explored_of, fault_of } from '../../rows.js';
-import { all_html, answers_html, cost_html, explored_key, needs_html, script_text, tables, trace_html } from '../../tables.js';
+import { all_html, answers_html, cost_html, explored_key, needs_html, script_text, tables,
+  trace_html } from '../../tables.js';
 import { TEXTS } from '../../texts.js';
 import { printed, text } from './cases.js';
 import { TEN, UNPREDICTED, opened } from './opened.js';
@@ -40,8 +41,8 @@ export async function a_changed_bit_and_value_are_marked() {
 export async function versions_are_listed_from_the_oldest() {
   const { session } = await opened(3);
   session.word = 0;
-  const html = versions_html(session), names = [...html.matchAll(/class="nd"><span>(.*?)<\/span>/g)].map((it) => plain(it[1]));
-  deepEqual(names, ['memory itself', 'task 0, unit 0 ◆ head', 'task 1, unit 1']);
+  const names = [...versions_html(session).matchAll(/class="nd"><span>(.*?)<\/span>/g)];
+  deepEqual(names.map((it) => plain(it[1])), ['memory itself', 'task 0, unit 0 ◆ head', 'task 1, unit 1']);
 }
 
 export async function a_committed_version_is_listed_as_one() {
@@ -67,12 +68,14 @@ export async function a_word_waits_until_its_task_is_committed() {
 
 // ---- moves
 
-const moves = (html) => [...html.matchAll(/<button data-move="([^"]*)"( aria-disabled="true")? class="(\w*)">(.*?)<\/button>/g)]
+const moves = (html) =>
+  [...html.matchAll(/<button data-move="([^"]*)"( aria-disabled="true")? class="(\w*)">(.*?)<\/button>/g)]
   .map((it) => [it[1], Boolean(it[2]), it[3], plain(it[4].replace('<small>', ' | '))]);
 
 // Of unit 0 at moment 4: move,0,assign,12,2 · submit,1,8 · replace,0, · cancel,,14 · commit,,
 export async function each_move_is_a_button_with_its_refusal() {
-  const { session } = await opened(4), found = moves(moves_html(session, UNPREDICTED)).filter(([move]) => move.split(',')[1] === '0');
+  const { session } = await opened(4), all = moves(moves_html(session, UNPREDICTED));
+  const found = all.filter(([move]) => move.split(',')[1] === '0');
   deepEqual(found, [
     ['assign,0,12', true, '', 'Begin at second | the unit has a task'],
     ['submit,0,1', true, '', 'One turn | its task has ended'],
@@ -84,8 +87,11 @@ export async function each_move_is_a_button_with_its_refusal() {
 }
 
 export async function a_task_can_begin_at_another_entry() {
-  const { session } = await opened(4), found = moves(moves_html(session, UNPREDICTED)).filter(([move]) => /^assign,1/.test(move));
-  deepEqual(found, [['assign,1,12', false, '', 'Begin at second | the guess'], ['assign,1,0', false, '', 'Begin at first | not the guess']]);
+  const { session } = await opened(4), all = moves(moves_html(session, UNPREDICTED));
+  deepEqual(all.filter(([move]) => /^assign,1/.test(move)), [
+    ['assign,1,12', false, '', 'Begin at second | the guess'],
+    ['assign,1,0', false, '', 'Begin at first | not the guess'],
+  ]);
 }
 
 export async function registers_and_places_are_shown() {
@@ -106,7 +112,8 @@ export async function an_open_question_hides_the_moves() {
 }
 
 export function every_refusal_has_a_text() {
-  const rows = ['show_with_moves_of_a_chain_on_16_units_at_2000', 'show_with_moves_of_a_full_history', 'the_ten_events_with_cancels_after_each',
+  const rows = ['show_with_moves_of_a_chain_on_16_units_at_2000', 'show_with_moves_of_a_full_history',
+    'the_ten_events_with_cancels_after_each',
     'units_without_a_task_or_out_of_number_are_refused', 'each_refusal_of_an_assignment'].map(printed).join('');
   const numbers = new Set([...rows.matchAll(/^(?:move,.*|refused),(\d+)$/gm)].map((it) => it[1]));
   ok(numbers.size > 5, [...numbers].join());
@@ -123,7 +130,8 @@ export async function a_fault_is_underlined_where_it_is() {
   match(html.split('\n')[1], /<span class="bad">y2<\/span>/);
   equal(count(html, /class="bad"/g), 1);
   equal(source.slice(place_of(session.fault, source)).startsWith('y2'), true);
-  match(plain(message_html(session, source)), /Line 2, column 14: found `y2`, expected a register\. What is shown is of the last text/);
+  match(plain(message_html(session, source)),
+    /Line 2, column 14: found `y2`, expected a register\. What is shown is of the last text/);
   equal(message_html(session, source + '\n'), '');
   equal(line_in_sight(session), 2);
   ok(library.calls.at(-1).startsWith('assemble '));
@@ -179,8 +187,10 @@ export async function costs_and_needs_are_the_library_s_tables() {
 export async function all_schedules_are_listed_beside_the_run() {
   const { session, requests } = await opened(10);
   session.by.burst = 63;
-  Object.assign(tables, { explored: explored_of(printed('explore_p_on_2_by_63')), of: explored_key(session), begun: 0, filter: 'all' });
-  const html = await all_html(session, UNPREDICTED), rows = [...html.matchAll(/<li>(.*?)<\/li>/g)].map((it) => plain(it[1]));
+  const explored = explored_of(printed('explore_p_on_2_by_63'));
+  Object.assign(tables, { explored, of: explored_key(session), begun: 0, filter: 'all' });
+  const html = await all_html(session, UNPREDICTED);
+  const rows = [...html.matchAll(/<li>(.*?)<\/li>/g)].map((it) => plain(it[1]));
   match(plain(html), /73 standings, 122 moves, deepest 10, whole: yes/);
   equal(rows.length, 15);
   equal(rows[3], '●load task 1 shared = 0 from memory3 steps, entry 2');
@@ -199,7 +209,8 @@ export async function all_schedules_are_listed_beside_the_run() {
 
 export async function an_exploration_that_met_a_limit_says_so() {
   const { session } = await opened(0);
-  Object.assign(tables, { explored: explored_of(printed('explore_p_of_1_states')), of: explored_key(session), begun: 0 });
+  const explored = explored_of(printed('explore_p_of_1_states'));
+  Object.assign(tables, { explored, of: explored_key(session), begun: 0 });
   match(plain(await all_html(session, UNPREDICTED)), /A limit was met: what is not listed may be seen too/);
   Object.assign(tables, { explored: null, of: '', fault: 'Stopped.' });
   match(await all_html(session, UNPREDICTED), /id="bexplore".*Stopped\./s);
@@ -209,7 +220,8 @@ export async function an_exploration_that_met_a_limit_says_so() {
 }
 
 export function what_is_seen_has_a_phrase() {
-  const kinds = new Set(['explore_p_on_2_by_63', 'explore_a_task_that_traps', 'explore_full_set_of_one_line'].flatMap((it) =>
+  const kinds = new Set(['explore_p_on_2_by_63', 'explore_a_task_that_traps',
+    'explore_full_set_of_one_line'].flatMap((it) =>
     explored_of(printed(it)).seen.map((one) => one.what)));
   deepEqual([...kinds].filter((it) => !TEXTS.seen[it]), []);
 }

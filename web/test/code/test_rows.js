@@ -12,14 +12,16 @@ export function the_columns_are_those_of_a_trace() {
 // Row 4 of the trace: submit,0,,2,1,stored,0,5,,,violation,1,1
 export function a_store_that_squashes_is_an_entry() {
   const row = text('traces/ten_events.csv').split('\n')[4], it = entry_of(row);
-  deepEqual(it, { row, kind: 'submit', unit: 0, arg: '', local: 2, ask: '1', reply: 'stored', word: 0, value: '5', served: '',
+  deepEqual(it, { row, kind: 'submit', unit: 0, arg: '', local: 2, ask: '1', reply: 'stored', word: 0, value: '5',
+    served: '',
     from: -1, cause: 'violation', first: 1, count: 1 });
 }
 
 export function a_load_says_who_served_it() {
   const { entries } = sound_of(text('traces/ten_events.csv'));
   equal(entries.length, 10);
-  deepEqual([2, 6].map((at) => [entries[at].served, entries[at].from, entries[at].value]), [['memory', -1, '0'], ['committed', 0, '5']]);
+  const of = ({ served, from, value }) => [served, from, value];
+  deepEqual([2, 6].map((at) => of(entries[at])), [['memory', -1, '0'], ['committed', 0, '5']]);
   equal(entries[0].local, 0);
   equal(entries[4].word, -1);
 }
@@ -87,8 +89,10 @@ export function a_picture_has_bars_marks_and_arrows() {
 export function an_exploration_has_counts_and_what_is_seen() {
   const it = explored_of(printed('explore_p_on_2_by_63'));
   deepEqual([it.states, it.moves, it.deepest, it.whole, it.seen.length], ['73', '122', '10', 'yes', 15]);
-  deepEqual(it.seen[4], { what: 'load', task: '1', word: '0', value: '5', by: 'version:0', steps: '4', key: 'load,1,0,5,version:0' });
-  deepEqual(it.seen.at(-1), { what: 'squash', task: '2', word: '', value: '1', by: 'guess', steps: '8', key: 'squash,2,,1,guess' });
+  deepEqual(it.seen[4], { what: 'load', task: '1', word: '0', value: '5', by: 'version:0', steps: '4',
+    key: 'load,1,0,5,version:0' });
+  deepEqual(it.seen.at(-1), { what: 'squash', task: '2', word: '', value: '1', by: 'guess', steps: '8',
+    key: 'squash,2,,1,guess' });
   equal(explored_of(printed('explore_p_of_1_states')).whole, 'no');
 }
 
@@ -102,13 +106,15 @@ export function a_table_has_a_head_and_rows() {
   deepEqual(it.head, ['task', 'unit', 'entry', 'first', 'last', 'turns', 'loads', 'stores', 'fate', 'name']);
   deepEqual(it.rows[1], ['1', '1', '12', '1', '3', '2', '1', '0', 'violation', 'second']);
   deepEqual(table_of(printed('profile_by_word_of_no_entries')).rows, []);
-  deepEqual(table_of(printed('depend_of_p_by_pair')), { head: ['task', 'on', 'distance', 'words'], rows: [['1', '0', '1', '1']] });
+  const pairs = { head: ['task', 'on', 'distance', 'words'], rows: [['1', '0', '1', '1']] };
+  deepEqual(table_of(printed('depend_of_p_by_pair')), pairs);
 }
 
 export function a_summary_has_words_an_end_and_counts() {
   const it = summary_of(printed('example_violation_is_run').split('\n').filter(Boolean));
   deepEqual([it.out, it.ending], [['7'], ['exit', '7']]);
-  deepEqual(['tasks', 'kind-assign', 'served-version', 'cut-violation', 'cut-cancel'].map((name) => it.counts[name]), [2, 4, 1, 1, 0]);
+  const names = ['tasks', 'kind-assign', 'served-version', 'cut-violation', 'cut-cancel'];
+  deepEqual(names.map((name) => it.counts[name]), [2, 4, 1, 1, 0]);
 }
 
 export function a_listing_has_names_of_code_and_data() {
@@ -132,6 +138,7 @@ export function a_listing_of_version_2_has_entries_with_limits() {
 }
 
 export function a_fault_has_its_line_and_column() {
-  deepEqual(fault_of(printed('assembly_with_an_unknown_register')), { line: 2, column: 14, says: 'found `y2`, expected a register' });
+  deepEqual(fault_of(printed('assembly_with_an_unknown_register')), { line: 2, column: 14,
+    says: 'found `y2`, expected a register' });
   deepEqual(fault_of(printed('assembly_of_no_file')), { line: 0, column: 0, says: 'file fault' });
 }

@@ -62,7 +62,8 @@ export function a_version_is_told_with_its_task_and_unit() {
   const after = shown_of(printed('show_of_a_version'));
   const before = moment(...OPEN, 'task,0,0,0,3,next', 'task,1,1,12,0,running', 'memory,0,0,0');
   const session = shown({ entries: ['submit,1,,1,1,loaded,0,5,version,0,,,'], before, after, names: ['shared'] });
-  equal(says(session, 0), 'Task 1 loads shared and gets 5: task 0’s version in unit 0’s cache served it, before that task is committed.');
+  equal(says(session, 0),
+    'Task 1 loads shared and gets 5: task 0’s version in unit 0’s cache served it, before that task is committed.');
 }
 
 export function a_spilled_version_serves_a_load() {
@@ -101,9 +102,11 @@ export function several_squashed_tasks_are_counted() {
 
 export function a_trap_and_other_suppliers_are_told() {
   const on = [...OPEN, 'task,0,0,0,0,running'];
-  equal(told('submit,0,,2,1,trapped,,6,,,,,', on, on), 'Task 0 traps (6). A trap counts only if the task is committed.');
+  equal(told('submit,0,,2,1,trapped,,6,,,,,', on, on),
+    'Task 0 traps (6). A trap counts only if the task is committed.');
   equal(told('submit,0,,1,1,loaded,0,9,hit,,,,', on, on), 'Task 0 loads shared and gets 9: its own line served it.');
-  equal(told('submit,0,,1,1,loaded,0,9,reuse,,,,', on, on), 'Task 0 loads shared and gets 9: a copy kept in its own cache served it.');
+  equal(told('submit,0,,1,1,loaded,0,9,reuse,,,,', on, on),
+    'Task 0 loads shared and gets 9: a copy kept in its own cache served it.');
   equal(told('submit,0,,1,0,ran,,,,,,,', on, on), 'Task 0 takes 1 turn without the bus.');
 }
 
@@ -127,7 +130,8 @@ export async function a_load_is_asked_who_serves_it() {
   equal(plain(it.question), 'Task 1 now loads shared. Who serves it?');
   deepEqual(options(it), [['memory', true], ['task 0’s version', false], ['a committed version', false],
     ['its own line, or a kept copy', false]]);
-  deepEqual(options(question(session, 6)), [['memory', false], ['a committed version', true], ['its own line, or a kept copy', false]]);
+  deepEqual(options(question(session, 6)), [['memory', false], ['a committed version', true],
+    ['its own line, or a kept copy', false]]);
 }
 
 export async function a_store_is_asked_who_is_squashed() {
@@ -171,7 +175,8 @@ export async function an_open_question_hides_the_row() {
 export async function right_and_wrong_are_told() {
   const session = await session_with_all_moments();
   await session.go(4);
-  const said = (is_right) => plain(said_at(session, { on: true, ask: null, said: { k: 4, is_right, label: 'nobody' } }).html);
+  const predict = (is_right) => ({ on: true, ask: null, said: { k: 4, is_right, label: 'nobody' } });
+  const said = (is_right) => plain(said_at(session, predict(is_right)).html);
   match(said(true), /✓ Right\. Task 0 stores/);
   match(said(false), /✗ Not so: you said “nobody”\. Task 0 stores/);
 }
