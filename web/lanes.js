@@ -32,7 +32,7 @@ export function places(session, room, scale) {
   const from = count <= MOST_COLUMNS ? 0 : Math.max(0, Math.min(count - AROUND, k - AROUND / 2));
   const to = count <= MOST_COLUMNS ? count : from + AROUND, shown = Math.max(1, to - from);
   const width = room - 2 > 0 ? room - 2 : 860;
-  const [pitch, height] = (units < 4 ? [104, 82] : units < 8 ? [64, 54] : [36, 30]).map((it) => it * scale);
+  const [pitch, height] = (units < 4 ? [104, 82] : units < 8 ? [72, 62] : [36, 30]).map((it) => it * scale);
   const column = Math.max((units < 4 ? 52 : 40) * scale, Math.min(96 * scale, (width - 20) / shown)), left = 10,
     top = 6;
   return {
@@ -40,7 +40,7 @@ export function places(session, room, scale) {
     width: Math.max(width, left + shown * column + 10), whole: top + (units - 1) * pitch + height + 30 * scale,
     edge: (at) => left + (Math.max(from, Math.min(to, at)) - from) * column,
     middle: (at) => left + (at - from + 0.5) * column,
-    line: (unit) => top + unit * pitch + height * (units < 4 ? (unit === 0 ? 0.68 : 0.55) : 0.6),
+    line: (unit) => top + unit * pitch + height * (units < 4 ? (unit === 0 ? 0.68 : 0.55) : units < 8 ? 0.58 : 0.6),
   };
 }
 

@@ -158,8 +158,14 @@ async function load(program) {
   tell('');
   await session.load(program);
   if (session.lesson !== program.lesson) $('src').value = session.text;
-  if (program_of(session.lesson)) $('lesson').value = session.lesson;
+  show_lesson();
   scroll_program(session);
+}
+
+// The menu names the program whose text this is: another one is your own, and each of the menu can be chosen then.
+function show_lesson() {
+  const it = program_of(session.lesson);
+  $('lesson').value = it?.text === $('src').value ? it.lesson : '';
 }
 
 const program_of = (name) => programs.find((it) => it.lesson === name);
@@ -317,6 +323,7 @@ function on_schedule() {
 let typing = 0;
 function on_typed() {
   draw_program(session);
+  show_lesson();
   clearTimeout(typing);
   typing = setTimeout(() => session.edit($('src').value), 250);
 }
@@ -330,7 +337,7 @@ function fill_texts() {
   $('keyslist').innerHTML = TEXTS.keys_list.map(([key, says]) => `<dt>${key}</dt><dd>${says}</dd>`).join('');
   $('sched').innerHTML = Object.entries(TEXTS.orders).map(([key, says]) =>
     `<option value="${key}">${says}</option>`).join('');
-  $('lesson').innerHTML = programs.map((it) =>
+  $('lesson').innerHTML = `<option value="" hidden>${TEXTS.own}</option>` + programs.map((it) =>
     `<option value="${it.lesson}">${escaped(TEXTS.lessons[it.lesson] ?? it.lesson)} (${it.lesson}.s)</option>`).join('');
   draw_key();
 }
@@ -360,6 +367,7 @@ function wire_buttons() {
     tell(TEXTS.opened(file.name));
     await open_file(session, file).catch(tell_why);
     $('src').value = session.text;
+    show_lesson();
     draw();
   });
   $('quiet').addEventListener('change', () => { is_quiet = !$('quiet').checked; });

@@ -19,7 +19,7 @@ export const explored_key = (session) =>
 // ---- all schedules
 
 function by_text(session, it) {
-  if (it.what !== 'squash') return it.by.startsWith('version:') ? TEXTS.version_of(it.by.slice(8)) : it.by;
+  if (it.what !== 'squash') return it.by.startsWith('version:') ? TEXTS.version_of(it.by.slice(8)) : TEXTS.seen_by[it.by];
   return it.by === 'violation' ? TEXTS.by_word(word_html(session, it.word)) : it.by === 'guess' ? TEXTS.by_guess
     : TEXTS.by_cancel;
 }

@@ -14,8 +14,8 @@ export async function ten_columns_share_the_room() {
   const { session } = await opened(4), p = places(session, 862, 1);
   deepEqual([p.from, p.to, p.column, p.width], [0, 10, 84, 860]);
   deepEqual([p.edge(0), p.edge(10), p.middle(3)], [10, 850, 304]);
-  // Four units: lanes of 54 pixels, each 64 below the one before.
-  deepEqual([p.pitch, p.height, p.whole], [64, 54, 6 + 3 * 64 + 54 + 30]);
+  // Four units: lanes of 62 pixels, each 72 below the one before.
+  deepEqual([p.pitch, p.height, p.whole], [72, 62, 6 + 3 * 72 + 62 + 30]);
 }
 
 export async function a_narrow_box_scrolls() {
@@ -31,7 +31,7 @@ export async function a_narrow_box_scrolls() {
 
 export async function larger_type_makes_larger_lanes() {
   const { session } = await opened(4);
-  deepEqual([places(session, 862, 1.5).pitch, places(session, 862, 1.5).height], [96, 81]);
+  deepEqual([places(session, 862, 1.5).pitch, places(session, 862, 1.5).height], [108, 93]);
 }
 
 export async function each_row_is_drawn() {
@@ -45,11 +45,11 @@ export async function each_row_is_drawn() {
   equal(count(svg, /marker-end="url\(#mkt\)"/g), 1);
 }
 
-// Task 1 runs on unit 1 in columns 1 to 3: from 10 + 84 + 5 to 10 + 4 * 84 - 5, from 4 below the lane's top, 6 + 64.
+// Task 1 runs on unit 1 in columns 1 to 3: from 10 + 84 + 5 to 10 + 4 * 84 - 5, from 4 below the lane's top, 6 + 72.
 export async function a_squashed_bar_is_where_its_task_ran() {
   const { session } = await opened(10), svg = lanes_svg(session, places(session, 862, 1), false);
   const style = 'fill:url(#hv);stroke:var(--sq);stroke-width:2';
-  ok(svg.includes(`<rect x="99" y="74" width="242" height="46" rx="5" style="${style}"/>`));
+  ok(svg.includes(`<rect x="99" y="82" width="242" height="54" rx="5" style="${style}"/>`));
 }
 
 export async function what_is_to_come_is_pale_or_hidden() {

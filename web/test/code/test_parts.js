@@ -193,9 +193,9 @@ export async function all_schedules_are_listed_beside_the_run() {
   const rows = [...html.matchAll(/<li>(.*?)<\/li>/g)].map((it) => plain(it[1]));
   match(plain(html), /73 standings, 122 moves, deepest 10, whole: yes/);
   equal(rows.length, 15);
-  equal(rows[3], '●load task 1 shared = 0 from memory3 steps, entry 2');
-  equal(rows[4], '○load task 1 shared = 5 from version of task 04 steps');
-  equal(rows[13], '●squash task 1 by shared4 steps, entry 3');
+  equal(rows[3], '●task 1 loads shared = 0 from memory3 steps, entry 2');
+  equal(rows[4], '○task 1 loads shared = 5 from task 0’s version4 steps');
+  equal(rows[13], '●task 1 is squashed: it read shared too early4 steps, entry 3');
   // Only the first row with a task and a word can be asked for: of four loads and two outputs of task 1 the first ones.
   equal(count(html, /data-witness/g), 15 - 3 - 1);
   tables.filter = 'squash';
@@ -220,8 +220,9 @@ export async function an_exploration_that_met_a_limit_says_so() {
 }
 
 export function what_is_seen_has_a_phrase() {
-  const kinds = new Set(['explore_p_on_2_by_63', 'explore_a_task_that_traps',
-    'explore_full_set_of_one_line'].flatMap((it) =>
-    explored_of(printed(it)).seen.map((one) => one.what)));
-  deepEqual([...kinds].filter((it) => !TEXTS.seen[it]), []);
+  const names = ['explore_p_on_2_by_63', 'explore_a_task_that_traps', 'explore_full_set_of_one_line', 'explore_of_a_spill',
+    'explore_of_a_reuse', 'explore_of_a_replacement', 'explore_of_a_cancel'];
+  const rows = names.flatMap((it) => explored_of(printed(it)).seen), of = (what) => rows.filter((it) => it.what === what);
+  deepEqual(rows.filter((it) => !TEXTS.seen[it.what]).map((it) => it.what), []);
+  deepEqual(of('load').map((it) => it.by).filter((it) => !it.startsWith('version:') && !TEXTS.seen_by[it]), []);
 }
