@@ -47,6 +47,10 @@ export function places(session, room, scale) {
 const svg_text = (x, y, style, text, more = '') =>
   `<text x="${x}" y="${y}" style="${style}" ${more}>${escaped(text)}</text>`;
 
+// How a squashed task's bar is called: the entry that squashed it names the first of those that go, and the others go with that one.
+const fate_text = (session, it) =>
+  (session.entries[it.last].first === it.task ? TEXTS.fate[it.fate] : TEXTS.squashed_with(session.entries[it.last].first));
+
 // A task's bar, as far as it has come; what comes later is dashed and pale.
 function bar(session, p, it, is_hidden) {
   const k = session.k, s = p.scale, y = p.top + it.unit * p.pitch + 4 * s, height = p.height - 8 * s,
@@ -69,9 +73,10 @@ function bar(session, p, it, is_hidden) {
     ? svg_text(x0 + 7, y + (p.is_small ? 14 : 16) * s, `font:600 ${small};fill:var(--ink);pointer-events:none`, title,
       'class="halo"')
     : '';
-  if (is_over && fate !== 'committed' && !p.is_small && x1 - x0 > 225 * s) {
+  const why = is_over && fate !== 'committed' && !p.is_small ? fate_text(session, it) : '';
+  if (why && (title.length + why.length) * 8 * s + 20 < x1 - x0) {
     titles += svg_text(x1 - 8, y + 16 * s, `font:700 ${small};fill:${EDGES[fate]};pointer-events:none`,
-      TEXTS.fate[fate], 'class="halo" text-anchor="end"');
+      why, 'class="halo" text-anchor="end"');
   }
   if (is_over && x1 - x0 > 30 * s) {
     const r = (p.is_small ? 7 : 9.5) * s, x = x1 - 3 * s - r, cy = y + height - 3 * s - r;

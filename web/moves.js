@@ -2,6 +2,7 @@
 
 import { escaped } from './html.js';
 import { entry_html, entry_text, word_html } from './names.js';
+import { ending_text } from './say.js';
 import { TEXTS } from './texts.js';
 
 const MOST_ENTRIES = 4;
@@ -73,10 +74,11 @@ export function moves_note(session, predict) {
 
 // A box a unit, or why every move is refused; nothing while a question is open.
 export function moves_html(session, predict) {
-  const { moves } = session.now();
+  const { moves, ending } = session.now();
   if (predict.ask || !session.has_image) return '';
   if (moves.length && moves.every((it) => it.refusal)) {
-    const all = [...new Set(moves.map((it) => why(it.refusal)))].join('; ');
+    const all = ending[0] === 'open' ? [...new Set(moves.map((it) => why(it.refusal)))].join('; ')
+      : TEXTS.has_stopped(ending_text(ending));
     return `<p class="empty">${TEXTS.every_refused(all)}</p>`;
   }
   const units = [...Array(session.config.units).keys()];

@@ -64,6 +64,8 @@ export const TEXTS = {
   task: (n) => `task&nbsp;${n}`, Task: (n) => `Task&nbsp;${n}`, unit: (n) => `unit&nbsp;${n}`,
     Unit: (n) => `Unit&nbsp;${n}`,
   tasks: (list) => (list.length === 1 ? `task&nbsp;${list[0]}` : `tasks&nbsp;${list.join(', ')}`),
+  range: (kind, first, count) => (count === 1 ? `${kind}&nbsp;${first}`
+    : `${kind}s&nbsp;${first} ${count === 2 ? 'and' : 'to'} ${first + count - 1}`),
   word: (n) => `word ${n}`, at_entry: (n) => `at entry ${n}`,
   before_first: 'Before entry 0', entry: (n) => `Entry ${n}`,
   after_entry: (n, says) => `after entry ${n}: ${says}`, question_open: 'a question is open',
@@ -87,7 +89,7 @@ export const TEXTS = {
       `<b>${task}</b> stores <b>${value}</b> to ${word}, but ${victim} had loaded it too early${where}${got}: <b class="bad">${squashed}</b>.`,
     got: (value) => `, and got ${value}`,
     squashed: (first, count) =>
-      (count === 1 ? `task&nbsp;${first} is squashed` : `tasks&nbsp;${first} to ${first + count - 1} are squashed`),
+      `task&nbsp;${first} is squashed` + (count === 1 ? '' : `, and ${TEXTS.range('task', first + 1, count - 1)} after it`),
     puts_out: (task, value) => `<b>${task}</b> puts out <b>${value}</b>. The word waits until the task is committed.`,
     runs: (task, turns, ended) => `<b>${task}</b> takes ${many(turns, 'turn', 'turns')} without the bus${ended}`,
     ended: ', and has ended.', ended_exit: ', and has ended with the program’s exit.',
@@ -98,7 +100,7 @@ export const TEXTS = {
     spills: (value, task) => `: the version <b>${value}</b> is kept aside until ${task} is committed (spilled).`,
     cancels: (first) => `${TEXTS.Task(first)} and all after it are squashed: cancelled by hand.`,
     wrong_guess: (first, count) =>
-      ` <b class="bad">${count === 1 ? TEXTS.Task(first) : `Tasks&nbsp;${first} to ${first + count - 1}`}</b> had begun on a wrong guess and ${count === 1 ? 'is' : 'are'} squashed.`,
+      ` <b class="bad">${TEXTS.range('Task', first, count)}</b> had begun on a wrong guess and ${count === 1 ? 'is' : 'are'} squashed.`,
     memory_now: (value, word) => ` Memory itself now holds ${value} in ${word}.`,
     stops: (ending) => ` The run has stopped: ${ending}.`,
   },
@@ -107,6 +109,7 @@ export const TEXTS = {
     spill: 'the oldest task’s spilled version' },
   fate: { committed: 'committed', violation: 'read too early', guess: 'wrong guess', cancel: 'cancelled',
     active: 'still active' },
+  squashed_with: (n) => `goes with task ${n}`,
   tags: { violation: '✕ read too early', guess: '? wrong guess', cancel: '∅ cancelled', commit: '✓ commit' },
 
   // predict
@@ -158,7 +161,7 @@ export const TEXTS = {
 
   // moves
   replaces_rest: 'A move that isn’t the script’s next one replaces the rest of it; Undo brings it back.',
-    every_refused: (why) => `Every move is refused: ${why}.`,
+    every_refused: (why) => `Every move is refused: ${why}.`, has_stopped: (ending) => `the run has stopped (${ending})`,
   begin_at: (entry) => `Begin at ${entry}`, the_guess: 'the guess', not_the_guess: 'not the guess',
     begin_elsewhere: 'Begin elsewhere', one_turn: 'One turn',
   to_bus: 'To bus request', up_to: (n) => `Up to ${many(n, 'turn', 'turns')}`, commit: 'Commit', cancel: 'Cancel',

@@ -52,6 +52,16 @@ export async function a_squashed_bar_is_where_its_task_ran() {
   ok(svg.includes(`<rect x="99" y="82" width="242" height="54" rx="5" style="${style}"/>`));
 }
 
+// Entry 4 squashes tasks 1 and 2: the first read too early, and the other one goes with it.
+export function a_task_that_goes_with_another_is_told_so() {
+  const entries = ['assign,0,0,,,assigned,,0,,,,,', 'assign,1,12,,,assigned,,12,,,,,', 'assign,2,0,,,assigned,,0,,,,,',
+    'submit,1,,1,1,loaded,0,0,memory,,,,', 'submit,0,,2,1,stored,0,5,,,violation,1,2'];
+  const rows = 'bar,1,1,12,1,4,violation\nbar,2,2,0,2,4,violation\nbar,0,0,0,0,,active\n';
+  const session = shown({ entries, rows, units: 3 }), svg = lanes_svg(session, places(session, 2002, 1), false);
+  deepEqual([...svg.matchAll(/>(read too early|goes with task \d)</g)].map((it) => it[1]),
+    ['read too early', 'goes with task 1']);
+}
+
 export async function what_is_to_come_is_pale_or_hidden() {
   const { session } = await opened(3), p = places(session, 862, 1);
   const open = lanes_svg(session, p, false), hidden = lanes_svg(session, p, true);

@@ -102,7 +102,7 @@ export async function registers_and_places_are_shown() {
 
 export async function a_stopped_run_says_why_nothing_moves() {
   const { session } = await opened(10);
-  equal(plain(moves_html(session, UNPREDICTED)), 'Every move is refused: the unit has no task; the run has stopped.');
+  equal(plain(moves_html(session, UNPREDICTED)), 'Every move is refused: the run has stopped (exit 5).');
 }
 
 export async function an_open_question_hides_the_moves() {
