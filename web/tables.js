@@ -134,6 +134,7 @@ export async function cost_html(session, predict) {
 
 export async function needs_html(session) {
   const { task, pair } = await session.needs();
-  const part = (it) => table({ head: it.head, rows: it.rows.slice(0, 300) });
-  return `<p class="legend">${TEXTS.needs_says}</p><div class="two">${scrolled(TEXTS.by_task, part(task))}${scrolled(TEXTS.needs, part(pair))}</div>`;
+  const part = (title, it) =>
+    `<div><h3>${title}</h3>${scrolled(title, table({ head: it.head, rows: it.rows.slice(0, 300) }))}</div>`;
+  return `<p class="legend">${TEXTS.needs_says}</p><div class="two needs">${part(TEXTS.by_task, task)}${part(TEXTS.by_pair, pair)}</div>`;
 }

@@ -206,7 +206,7 @@ export const TEXTS = {
   script_says: 'The buttons write this script; it is what is saved, and what a link carries. Edit it here, one step a line.',
     apply: 'Apply', script_label: 'Script, one step a line: kind,unit,arg',
   answer_head: ['step', 'answer'], rows_left_out: (count) => `${count} rows are left out here; Save has them all.`,
-  by_task: 'By task', by_word_table: 'By word', by_unit: 'By unit', by_pc: 'By instruction',
+  by_task: 'By task', by_pair: 'By pair', by_word_table: 'By word', by_unit: 'By unit', by_pc: 'By instruction',
     needs_says: 'What the tasks of the sequential run need of one another (<code>depend</code>), by task and by pair.',
   own: 'Your own text',
   lessons: {

@@ -181,7 +181,7 @@ export async function costs_and_needs_are_the_library_s_tables() {
   equal(count(html, /<h3>/g), 4);
   match(html, /<td>violation<\/td><td>second<\/td>/);
   equal(await cost_html(session, { on: true }), `<p class="empty">${TEXTS.hidden_table}</p>`);
-  match(plain(await needs_html(session)), /taskondistancewords1011/);
+  match(plain(await needs_html(session)), /By pairtaskondistancewords1011/);
 }
 
 export async function all_schedules_are_listed_beside_the_run() {
