@@ -69,7 +69,7 @@ def literal(it):
 def main():
     with open(sys.argv[1], "rb") as it:
         module = base64.b64encode(it.read()).decode()
-    script = "'use strict';\n" + "".join(map(function_of, in_order("page", [])))
+    script = "'use strict';\n" + "".join(map(function_of, in_order("main", [])))
     parts = {
         "/*PROGRAMS*/ []": literal([program_of(*it) for it in PROGRAMS]),
         "/*WORKER*/ ''": literal(text_of(f"{HERE}/worker.js")),

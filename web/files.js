@@ -48,14 +48,6 @@ const by_of = (it) => ({
 
 const MOST_DRAWN = 400;
 
-function save(name, bytes, type) {
-  const at = URL.createObjectURL(new Blob([bytes], { type })), link = document.createElement('a');
-  link.href = at;
-  link.download = name;
-  link.click();
-  setTimeout(() => URL.revokeObjectURL(at), 1000);
-}
-
 // The files that can be saved: the end of the name, the kind, and what is in it.
 const SAVED = {
   program: ['.s', 'text/plain', (session) => bytes_of(session.text)],
@@ -68,10 +60,10 @@ const SAVED = {
   vcd: ['.vcd', 'text/plain', (session) => session.requests.exported('vcd', session.shown_words())],
 };
 
-// Saves one of the files of what is open.
-export async function save_as(session, kind) {
+// One of the files of what is open: its name, its bytes and their type.
+export async function saved_as(session, kind) {
   const [end, type, bytes] = SAVED[kind];
-  save((session.lesson || 'program') + end, await bytes(session), type);
+  return { name: (session.lesson || 'program') + end, bytes: await bytes(session), type };
 }
 
 // Opens a file by what it holds: a script, a trace, an image, whose listing is then the program, or else a program's text.

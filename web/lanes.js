@@ -1,7 +1,7 @@
 // The lanes: a lane a unit, a column an entry. What is drawn are the bars, marks and arrows of `draw --rows`; of a long run the columns
 // around the moment, over a strip of the whole.
 
-import { $, escaped, plain, set_html } from './html.js';
+import { escaped, plain } from './html.js';
 import { entry_text, word_mark } from './names.js';
 import { early_read, sentence, version_store } from './say.js';
 import { TEXTS } from './texts.js';
@@ -12,6 +12,8 @@ const FILLS = { committed: 'var(--ok-f)', violation: 'url(#hv)', guess: 'url(#hg
   active: 'var(--act-f)' };
 const EDGES = { committed: 'var(--ok)', violation: 'var(--sq)', guess: 'var(--gu)', cancel: 'var(--ca)',
   active: 'var(--act)' };
+// What is to come is pale where it is drawn; its text isn't, since that would be too little contrast.
+const TO_COME = `fill:none;stroke:${EDGES.active};stroke-dasharray:4 5;opacity:.6`;
 const SIGNS = { committed: '✓', violation: '✕', guess: '?', cancel: '∅', active: '' };
 const SANS = 'system-ui,Arial', MONO = "ui-monospace,'Noto Sans Mono',monospace";
 
@@ -22,27 +24,32 @@ const PATTERNS = `<defs>
 <marker id="mkt" markerWidth="11" markerHeight="9" refX="10" refY="4.5" orient="auto" markerUnits="userSpaceOnUse"><path d="M0 0L11 4.5L0 9" style="fill:none;stroke:var(--accent);stroke-width:2"/></marker>
 <marker id="mkb" markerWidth="17" markerHeight="15" refX="14" refY="7.5" orient="auto" markerUnits="userSpaceOnUse"><path d="M0 0L16 7.5L0 15Z" style="fill:var(--sq)"/></marker></defs>`;
 
-// Where things are: columns from `from` to `to`, of the given width, and lanes of the given height.
-function places(session, box) {
+export const is_long = (session) => session.entries.length > MOST_COLUMNS;
+
+// Where things are in a box of this width, at this size of type: columns from `from` to `to`, and lanes.
+export function places(session, room, scale) {
   const count = session.entries.length, k = session.k, units = session.config.units;
   const from = count <= MOST_COLUMNS ? 0 : Math.max(0, Math.min(count - AROUND, k - AROUND / 2));
   const to = count <= MOST_COLUMNS ? count : from + AROUND, shown = Math.max(1, to - from);
-  const scale = parseFloat(getComputedStyle(document.documentElement).fontSize) / 16,
-    width = box.clientWidth - 2 || 860;
-  const [pitch, height] = (units < 4 ? [104, 82] : units < 8 ? [64, 54] : [36, 30]).map((it) => it * scale);
+  const width = room - 2 > 0 ? room - 2 : 860;
+  const [pitch, height] = (units < 4 ? [104, 82] : units < 8 ? [72, 62] : [36, 30]).map((it) => it * scale);
   const column = Math.max((units < 4 ? 52 : 40) * scale, Math.min(96 * scale, (width - 20) / shown)), left = 10,
     top = 6;
   return {
-    from, to, scale, column, left, top, pitch, height, units, is_small: units >= 8,
+    room, from, to, scale, column, left, top, pitch, height, units, is_small: units >= 8,
     width: Math.max(width, left + shown * column + 10), whole: top + (units - 1) * pitch + height + 30 * scale,
     edge: (at) => left + (Math.max(from, Math.min(to, at)) - from) * column,
     middle: (at) => left + (at - from + 0.5) * column,
-    line: (unit) => top + unit * pitch + height * (units < 4 ? (unit === 0 ? 0.68 : 0.55) : 0.6),
+    line: (unit) => top + unit * pitch + height * (units < 4 ? (unit === 0 ? 0.68 : 0.55) : units < 8 ? 0.58 : 0.6),
   };
 }
 
 const svg_text = (x, y, style, text, more = '') =>
   `<text x="${x}" y="${y}" style="${style}" ${more}>${escaped(text)}</text>`;
+
+// How a squashed task's bar is called: the entry that squashed it names the first of those that go, and the others go with that one.
+const fate_text = (session, it) =>
+  (session.entries[it.last].first === it.task ? TEXTS.fate[it.fate] : TEXTS.squashed_with(session.entries[it.last].first));
 
 // A task's bar, as far as it has come; what comes later is dashed and pale.
 function bar(session, p, it, is_hidden) {
@@ -54,10 +61,8 @@ function bar(session, p, it, is_hidden) {
     `<rect x="${x}" y="${y}" width="${Math.max(width, 6)}" height="${height}" rx="5" style="${style}"/>`;
   if (it.first >= k) {
     if (is_hidden) return ['', ''];
-    return [`<g opacity=".6">${box(x0, x1 - x0, `fill:none;stroke:${EDGES.active};stroke-dasharray:4 5`)}`
-      + (p.is_small ? '' : svg_text(x0 + 7, y + 15 * s, `font:${small};fill:var(--muted)`, TEXTS.bar_short(it.task)))
-        + '</g>',
-        ''];
+    return [box(x0, x1 - x0, TO_COME) + (p.is_small ? ''
+      : svg_text(x0 + 7, y + 15 * s, `font:${small};fill:var(--muted)`, TEXTS.bar_short(it.task))), ''];
   }
   const is_over = it.last >= 0 && it.last < k, end = is_over || (it.last < 0 && k > last) ? x1 : Math.min(x1, now),
     fate = is_over ? it.fate : 'active';
@@ -68,9 +73,10 @@ function bar(session, p, it, is_hidden) {
     ? svg_text(x0 + 7, y + (p.is_small ? 14 : 16) * s, `font:600 ${small};fill:var(--ink);pointer-events:none`, title,
       'class="halo"')
     : '';
-  if (is_over && fate !== 'committed' && !p.is_small && x1 - x0 > 225 * s) {
+  const why = is_over && fate !== 'committed' && !p.is_small ? fate_text(session, it) : '';
+  if (why && (title.length + why.length) * 8 * s + 20 < x1 - x0) {
     titles += svg_text(x1 - 8, y + 16 * s, `font:700 ${small};fill:${EDGES[fate]};pointer-events:none`,
-      TEXTS.fate[fate], 'class="halo" text-anchor="end"');
+      why, 'class="halo" text-anchor="end"');
   }
   if (is_over && x1 - x0 > 30 * s) {
     const r = (p.is_small ? 7 : 9.5) * s, x = x1 - 3 * s - r, cy = y + height - 3 * s - r;
@@ -78,8 +84,7 @@ function bar(session, p, it, is_hidden) {
       + svg_text(x, cy + r / 2, `font:700 ${(r * 1.45).toFixed(1)}px ${SANS};fill:var(--panel)`, SIGNS[fate],
         'text-anchor="middle"');
   }
-  if (!is_hidden && !is_over && x1 > now) drawn += box(now, x1 - now,
-    `fill:none;stroke:${EDGES.active};stroke-dasharray:4 5;opacity:.6`);
+  if (!is_hidden && !is_over && x1 > now) drawn += box(now, x1 - now, TO_COME);
   return [drawn, titles];
 }
 
@@ -128,7 +133,7 @@ function mark(session, p, at) {
       `font:600 ${size}px ${MONO};fill:${at < k ? 'var(--ink)' : 'var(--muted)'}`, text,
       'text-anchor="middle" class="halo"');
   }
-  return `<g opacity="${at < k ? 1 : 0.55}">${drawn}${label}</g>`;
+  return `<g opacity="${at < k ? 1 : 0.55}">${drawn}</g>${label}`;
 }
 
 const hit = (p, at) =>
@@ -161,18 +166,15 @@ function body(session, p, is_hidden) {
   parts.push(...titles,
     `<path d="M${p.edge(k)} 0V${p.whole}" style="stroke:var(--accent);stroke-width:3;pointer-events:none"/>`);
   if (is_hidden && k < entries.length) {
-    const text = p.width - p.edge(k) > 240 * s && $('lanes').clientWidth > 500 ? TEXTS.hidden : TEXTS.hidden_short;
+    const text = p.width - p.edge(k) > 240 * s && p.room > 500 ? TEXTS.hidden : TEXTS.hidden_short;
     parts.push(svg_text(p.edge(k) + 14, p.top + p.pitch, `font:italic ${15 * s}px ${SANS};fill:var(--muted)`, text));
   }
   return parts.join('');
 }
 
 // The strip over the lanes of a long run: a pixel column an entry, or several.
-function strip(session, p, is_hidden) {
-  const box = $('strip'), count = session.entries.length;
-  box.hidden = count <= MOST_COLUMNS;
-  if (box.hidden) return;
-  const width = box.clientWidth || 800, column = width / count, colours = [];
+export function strip_svg(session, width, is_hidden) {
+  const column = width / session.entries.length, colours = [];
   session.entries.forEach((it, at) => {
     if (is_hidden && at >= session.k) return;
     const x = Math.floor(at * column),
@@ -182,50 +184,45 @@ function strip(session, p, is_hidden) {
   const one = (rank, x) =>
     (rank ? `<path d="M${x + 0.5} ${rank > 1 ? 0 : 8}V16" style="stroke:var(${['', '--ok', '--gu', '--sq'][rank]})"/>`
       : '');
-  set_html($('stripbox'),
-    `<svg width="${width}" height="16" role="img" aria-label="${TEXTS.strip}">${colours.map(one).join('')}</svg>`);
-  $('window').style.cssText = `left:${p.from * column}px;width:${Math.max(4, (p.to - p.from) * column)}px`;
+  return `<svg width="${width}" height="16" role="img" aria-label="${TEXTS.strip}">${colours.map(one).join('')}</svg>`;
 }
 
-// Keeps the moment, and the other end of its arrow, in sight.
-function scroll(session, p) {
-  const box = $('lanes'), k = session.k, it = k > 0 ? session.entries[k - 1] : null;
+// The part of the strip that the lanes show.
+export function window_style(session, p, width) {
+  const column = width / session.entries.length;
+  return `left:${p.from * column}px;width:${Math.max(4, (p.to - p.from) * column)}px`;
+}
+
+// How far the lanes are to be scrolled, so that the moment, and the other end of its arrow, are in sight.
+export function scrolled_to(session, p, { scrollLeft, clientWidth }) {
+  const k = session.k, it = k > 0 ? session.entries[k - 1] : null;
   const other = !it ? -1 : it.cause === 'violation' ? early_read(session, k - 1) : it.reply === 'loaded'
     ? version_store(session, k - 1) : -1;
   const right = p.edge(Math.min(k + 1, p.to)), left = p.edge(other >= p.from ? other : k - 1) - p.column / 4;
-  if (right > box.scrollLeft + box.clientWidth) box.scrollLeft = right - box.clientWidth;
-  if (left < box.scrollLeft) box.scrollLeft = left - 4;
+  const to = right > scrollLeft + clientWidth ? right - clientWidth : scrollLeft;
+  return left < to ? left - 4 : to;
 }
 
-export function draw_lanes(session, predict) {
-  const box = $('lanes'), p = places(session, box), k = session.k, is_hidden = predict.on, slider = $('slider'),
-    thumb = 16;
-  strip(session, p, is_hidden);
-  set_html($('labs'),
-    [...Array(p.units).keys()].map((unit) =>
-      `<div style="top:${p.top + unit * p.pitch}px;height:${p.height}px"><span><span class="lg">${TEXTS.unit_word}</span> ${unit}</span></div>`).join(''));
-  set_html($('svgbox'),
-    `<svg width="${p.width}" height="${p.whole}" viewBox="0 0 ${p.width} ${p.whole}" role="img" aria-label="${TEXTS.lanes_label(p.units, session.entries.length)}">`
-    + `<style>.halo{paint-order:stroke;stroke:var(--panel);stroke-width:4px;stroke-linejoin:round}</style>${PATTERNS}${body(session, p, is_hidden)}</svg>`);
-  const is_long = session.entries.length > MOST_COLUMNS;
-  slider.max = session.entries.length;
-  slider.value = k;
-  slider.style.marginLeft = is_long ? '0' : `${p.left - thumb / 2}px`;
-  slider.style.width = is_long ? '100%' : `${Math.max(1, session.entries.length) * p.column + thumb}px`;
-  $(is_long ? 'longslider' : 'lanes').append(slider);
-  slider.setAttribute('aria-valuetext',
-    k ? TEXTS.after_entry(k - 1, predict.ask ? TEXTS.question_open : plain(sentence(session, k - 1).html))
-      : TEXTS.before_first);
-  scroll(session, p);
-}
+export const labels_html = (p) =>
+  [...Array(p.units).keys()].map((unit) =>
+    `<div style="top:${p.top + unit * p.pitch}px;height:${p.height}px"><span><span class="lg">${TEXTS.unit_word}</span> ${unit}</span></div>`).join('');
 
-export function draw_key() {
+export const lanes_svg = (session, p, is_hidden) =>
+  `<svg width="${p.width}" height="${p.whole}" viewBox="0 0 ${p.width} ${p.whole}" role="img" aria-label="${TEXTS.lanes_label(p.units, session.entries.length)}">`
+  + `<style>.halo{paint-order:stroke;stroke:var(--panel);stroke-width:4px;stroke-linejoin:round}</style>${PATTERNS}${body(session, p, is_hidden)}</svg>`;
+
+// What the slider says.
+export const moment_text = (session, predict) => (session.k
+  ? TEXTS.after_entry(session.k - 1, predict.ask ? TEXTS.question_open : plain(sentence(session, session.k - 1).html))
+  : TEXTS.before_first);
+
+export function key_html() {
   const one = (shape, text) =>
     `<span><svg width="26" height="18" viewBox="0 0 26 18" aria-hidden="true">${shape}</svg>${text}</span>`,
     line = 'stroke:var(--ink);stroke-width:2', it = TEXTS.key_marks;
   const box = (fill, edge, more = '') =>
     `<rect x="2" y="2" width="22" height="14" rx="3" style="fill:${fill};stroke:${edge};stroke-width:2"/>${more}`;
-  $('key').innerHTML = [
+  return [
     one(`<circle cx="13" cy="9" r="6.5" style="fill:none;${line};stroke-width:2.4"/>`, it.load),
       one('<rect x="6" y="2" width="14" height="14" style="fill:var(--ink)"/>', it.store),
     one(`<path d="M5 9L13 1L21 9L13 17Z" style="fill:var(--new);${line}"/>`, it.output),

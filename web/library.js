@@ -14,10 +14,17 @@ export function has_wide_memory() {
 
 export class Stopped extends Error {}
 
+// A worker that runs this text.
+export function worker_of(text) {
+  const at = URL.createObjectURL(new Blob([text], { type: 'text/javascript' })), worker = new Worker(at);
+  URL.revokeObjectURL(at);
+  return worker;
+}
+
 export class Library {
-  // `source` is the worker's text, `module` the compiled module.
-  constructor(source, module) {
-    this.source = source;
+  // `make` makes a worker, `module` is the compiled module.
+  constructor(make, module) {
+    this.make = make;
     this.module = module;
     this.files = new Map();
     this.waiting = new Map();
@@ -28,9 +35,7 @@ export class Library {
   }
 
   begin() {
-    const at = URL.createObjectURL(new Blob([this.source], { type: 'text/javascript' }));
-    this.worker = new Worker(at);
-    URL.revokeObjectURL(at);
+    this.worker = this.make();
     this.fresh = new Set(this.files.keys());
     this.worker.postMessage({ module: this.module });
     this.worker.onmessage = ({ data }) => this.told(data);

@@ -1,7 +1,7 @@
 // The machine at the moment shown: caches, the versions of a word, memory and output. All of it are rows of `show` and `draw --rows`; what
 // changed is what differs from the rows of the moment before.
 
-import { $, escaped, set_html } from './html.js';
+import { escaped } from './html.js';
 import { has_name, word_html, word_text } from './names.js';
 import { ending_text, entry_link } from './say.js';
 import { TEXTS } from './texts.js';
@@ -26,7 +26,7 @@ function line_box(session, now, old, is_marked) {
     + `<span class="vl${is_changed ? ' chg' : ''}">${now.value}</span>${bits(now.bits, is_marked && old ? old.bits : null)}</div>`;
 }
 
-function draw_caches(session, now, before, is_marked) {
+export function caches_html(session, now, before, is_marked) {
   const all = session.config.sets * session.config.ways;
   const cache = (unit) => {
     const task = now.tasks.find((it) => it.unit === unit), lines = now.lines.filter((it) => it.unit === unit);
@@ -38,9 +38,7 @@ function draw_caches(session, now, before, is_marked) {
       + `<span class="empty">${TEXTS.used(lines.length, all)}</span></div>${boxes.join('') || `<p class="empty">${TEXTS.no_line}</p>`}</div>`;
   };
   const units = [...Array(session.config.units).keys()].map(cache).join('');
-  $('caches').classList.toggle('many', session.config.units > 2);
-  set_html($('caches'),
-    `<div class="units_list">${units}</div><p class="legend">${BITS.map((it) => `<b>${it[0]}</b>&nbsp;${it[1]}`).join(' · ')}</p>`);
+  return `<div class="units_list">${units}</div><p class="legend">${BITS.map((it) => `<b>${it[0]}</b>&nbsp;${it[1]}`).join(' · ')}</p>`;
 }
 
 // The last entry before this moment at which a task on a unit did this with a word.
@@ -80,7 +78,7 @@ function task_node(session, now, it, at, line, word) {
   return node(kind, TEXTS.task_in(it.task, it.unit) + badge, line ? line.value : spill ? spill.value : '', says);
 }
 
-export function draw_versions(session) {
+export function versions_html(session) {
   const now = session.now(), word = session.word, row = now.memory.find((it) => it.word === word),
     list = ordered(now, word);
   const nodes = [node('ver', TEXTS.memory_itself, row ? row.backing : '–',
@@ -93,29 +91,23 @@ export function draw_versions(session) {
     const line = list.find(({ task }) => task === String(it.task))?.line;
     nodes.push(task_node(session, now, it, at, line, word));
   });
-  set_html($('vol'),
-    `<ol class="vol">${nodes.join('')}</ol>`
-      + (now.tasks.length ? `<p class="legend">${TEXTS.versions_key}</p>` : `<p class="empty">${TEXTS.no_task}</p>`));
+  return `<ol class="vol">${nodes.join('')}</ol>`
+    + (now.tasks.length ? `<p class="legend">${TEXTS.versions_key}</p>` : `<p class="empty">${TEXTS.no_task}</p>`);
 }
 
 const FIRST_WORDS = 16, MOST_WORDS = 64;
 
 // The words that are listed: the first of the data, and those that the run loads or stores.
-function words_of(session) {
+export function words_of(session) {
   const words = new Set(session.words.slice(0, FIRST_WORDS).keys());
   for (const it of session.drawing.marks) if (it.word >= 0 && words.size < MOST_WORDS) words.add(it.word);
   return [...words].sort((a, b) => a - b);
 }
 
-export function draw_words(session) {
-  const words = words_of(session);
-  if (!words.includes(session.word)) session.word = words[0] ?? 0;
-  if (set_html($('word'),
-    words.map((it) => `<option value="${it}">${escaped(word_text(session, it))}</option>`).join(''))
-    || true) $('word').value = session.word;
-}
+export const words_html = (session) =>
+  words_of(session).map((it) => `<option value="${it}">${escaped(word_text(session, it))}</option>`).join('');
 
-function draw_memory(session, now, before, is_marked) {
+export function memory_html(session, now, before, is_marked) {
   const words = words_of(session);
   const cell = (row, old, field, more = '') => {
     const is_changed = is_marked && row && old && old[field] !== row[field];
@@ -132,14 +124,13 @@ function draw_memory(session, now, before, is_marked) {
   });
   const head = TEXTS.memory_head.map((it, n) => `<th${n ? ' class="n"' : ''}>${it}</th>`).join('');
   const left_out = session.words.length - words.length;
-  set_html($('mem'),
-    `<div class="scroll tall" tabindex="0" aria-label="${TEXTS.memory}"><table><thead><tr>${head}</tr></thead><tbody>${rows.join('')}</tbody></table></div>${spills.join('')}`
+  return `<div class="scroll tall" tabindex="0" aria-label="${TEXTS.memory}"><table><thead><tr>${head}</tr></thead><tbody>${rows.join('')}</tbody></table></div>${spills.join('')}`
     + (words.some((word) => !now.memory.some((it) => it.word === word)) ? `<p class="legend">${TEXTS.no_row}</p>` : '')
-      + (left_out > 0 ? `<p class="legend">${TEXTS.more_words(left_out)}</p>` : ''));
+    + (left_out > 0 ? `<p class="legend">${TEXTS.more_words(left_out)}</p>` : '');
 }
 
 // The words put out by committed tasks, in the tasks' order, and those that wait.
-function outputs(session) {
+export function outputs(session) {
   const k = session.k, done = [], waiting = [];
   const bars = new Map();
   for (const it of session.drawing.bars) bars.set(it.task, [...(bars.get(it.task) ?? []), it]);
@@ -155,7 +146,7 @@ function outputs(session) {
 
 const ends = (ending) => (ending ? `<small>${TEXTS.sequential_ends(ending_text(ending))}</small>` : '');
 
-function draw_output(session, now) {
+export function output_html(session, now) {
   const { done, waiting } = outputs(session), { out: wanted, ending } = session.sequential ?? { out: [] };
   const is_same = (it, n) => wanted[n] === it.value, has_stopped = now.ending[0] !== 'open';
   const word = (value, kind, more = '') => `<span class="ow${kind}">${escaped(value)}${more}</span>`;
@@ -164,17 +155,7 @@ function draw_output(session, now) {
     + (has_stopped ? ends(now.ending) : '');
   const is_front = done.every(is_same), is_all = done.length === wanted.length && now.ending.join() === ending?.join();
   const verdict = has_stopped && is_front && is_all ? TEXTS.same : is_front && done.length ? TEXTS.so_far : '';
-  set_html($('outs'),
-    `<div class="outs"><span>${TEXTS.this_run}</span><span class="w">${run || `<span class="empty">${TEXTS.nothing}</span>`}</span>`
+  return `<div class="outs"><span>${TEXTS.this_run}</span><span class="w">${run || `<span class="empty">${TEXTS.nothing}</span>`}</span>`
     + `<span>${TEXTS.sequential}</span><span class="w">${wanted.slice(0, 64).map((it) => word(it, '')).join('')}${ends(ending)}</span></div>`
-    + `<p class="verd">${verdict}</p>`);
-}
-
-export function draw_moment(session, predict) {
-  const now = session.now(), before = session.before(), is_marked = session.k > 0 && !predict.ask;
-  draw_caches(session, now, before, is_marked);
-  draw_words(session);
-  draw_versions(session);
-  draw_memory(session, now, before, is_marked);
-  draw_output(session, now);
+    + `<p class="verd">${verdict}</p>`;
 }

@@ -1,7 +1,8 @@
 // The moves of each unit: the same places at every moment, and what is refused says why. Whether a move is refused is the library's answer.
 
-import { $, escaped, set_html } from './html.js';
+import { escaped } from './html.js';
 import { entry_html, entry_text, word_html } from './names.js';
+import { ending_text } from './say.js';
 import { TEXTS } from './texts.js';
 
 const MOST_ENTRIES = 4;
@@ -65,23 +66,21 @@ function unit_box(session, predict, now, unit) {
     + `${registers(now, unit)}<div class="mv">${buttons(session, predict, now, unit)}</div></div>`;
 }
 
-// Draws the boxes again; the move that had the focus keeps it, or the first that isn't refused gets it.
-function set_boxes(html) {
-  const focus = document.activeElement?.dataset?.move;
-  if (!set_html($('units'), html) || !focus) return;
-  const same = document.querySelector(`[data-move="${focus}"]`)
-    ?? document.querySelector('.mv button:not([aria-disabled])');
-  same?.focus({ preventScroll: true });
+// What is said above the moves.
+export function moves_note(session, predict) {
+  const is_open = session.k < session.entries.length && !predict.on;
+  return predict.ask ? TEXTS.answer_first : is_open ? TEXTS.replaces_rest : '';
 }
 
-export function draw_moves(session, predict) {
-  const { moves } = session.now(), is_open = session.k < session.entries.length && !predict.on;
-  set_html($('mvn'), predict.ask ? TEXTS.answer_first : is_open ? TEXTS.replaces_rest : '');
-  if (predict.ask || !session.has_image) return void set_html($('units'), '');
+// A box a unit, or why every move is refused; nothing while a question is open.
+export function moves_html(session, predict) {
+  const { moves, ending } = session.now();
+  if (predict.ask || !session.has_image) return '';
   if (moves.length && moves.every((it) => it.refusal)) {
-    const all = [...new Set(moves.map((it) => why(it.refusal)))].join('; ');
-    return void set_html($('units'), `<p class="empty">${TEXTS.every_refused(all)}</p>`);
+    const all = ending[0] === 'open' ? [...new Set(moves.map((it) => why(it.refusal)))].join('; ')
+      : TEXTS.has_stopped(ending_text(ending));
+    return `<p class="empty">${TEXTS.every_refused(all)}</p>`;
   }
   const units = [...Array(session.config.units).keys()];
-  set_boxes(units.map((unit) => unit_box(session, predict, session.now(), unit)).join(''));
+  return units.map((unit) => unit_box(session, predict, session.now(), unit)).join('');
 }

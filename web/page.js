@@ -1,23 +1,19 @@
 // The page: what is pressed, typed and chosen, and when what is drawn.
 
-import { fragment_of, open_file, opened_by, save_as } from './files.js';
-import { $, escaped } from './html.js';
-import { draw_key, draw_lanes } from './lanes.js';
-import { Library, Stopped, has_wide_memory } from './library.js';
-import { draw_moment, draw_versions } from './moment.js';
-import { draw_moves } from './moves.js';
-import { draw_listing, draw_program, go_to_fault, scroll_program } from './program.js';
+import { $, download } from './document.js';
+import { draw_key, draw_lanes, draw_listing, draw_moment, draw_moves, draw_program, draw_sentence, draw_tables, draw_versions,
+  go_to_fault, scroll_program } from './draw.js';
+import { fragment_of, open_file, opened_by, saved_as } from './files.js';
+import { escaped } from './html.js';
+import { Library, Stopped, has_wide_memory, worker_of } from './library.js';
 import { Requests } from './requests.js';
-import { draw_sentence, plain_sentence, question } from './say.js';
+import { plain_sentence, question } from './say.js';
 import { Refused, Session } from './session.js';
-import { TABS, draw_tables, explored_key, tables } from './tables.js';
+import { TABS, explored_key, tables } from './tables.js';
 import { TEXTS } from './texts.js';
 
-// The programs of the menu, with the machine and the schedule that show what each is about, and the module: put in by the build.
-const PROGRAMS = /*PROGRAMS*/ [], WORKER = /*WORKER*/ '', MODULE = /*MODULE*/ '';
-
 const predict = { on: false, ask: null, said: null, right: 0, asked: 0 };
-let session = null, requests = null, later = 0, drawn = 0, is_quiet = false;
+let session = null, requests = null, programs = [], later = 0, drawn = 0, is_quiet = false;
 const LONG = 500;
 
 // ---- what is drawn
@@ -162,11 +158,17 @@ async function load(program) {
   tell('');
   await session.load(program);
   if (session.lesson !== program.lesson) $('src').value = session.text;
-  if (program_of(session.lesson)) $('lesson').value = session.lesson;
+  show_lesson();
   scroll_program(session);
 }
 
-const program_of = (name) => PROGRAMS.find((it) => it.lesson === name);
+// The menu names the program whose text this is: another one is your own, and each of the menu can be chosen then.
+function show_lesson() {
+  const it = program_of(session.lesson);
+  $('lesson').value = it?.text === $('src').value ? it.lesson : '';
+}
+
+const program_of = (name) => programs.find((it) => it.lesson === name);
 
 // Looks at all schedules, in the other worker.
 async function explore(is_asked = false) {
@@ -225,7 +227,7 @@ const DATA_KEYS = {
       draw_tables(session, predict).then(() => document.querySelector(`[data-filter=${it}]`)?.focus()); },
   k: (it) => go(Number(it)),
   i: (it) => { if (!predict.on || Number(it) < session.k) go(Number(it) + 1); },
-  save: (it) => { $('savemenu').open = false; save_as(session, it).catch(tell_why); },
+  save: (it) => { $('savemenu').open = false; saved_as(session, it).then(download).catch(tell_why); },
 };
 
 function on_click(event) {
@@ -321,6 +323,7 @@ function on_schedule() {
 let typing = 0;
 function on_typed() {
   draw_program(session);
+  show_lesson();
   clearTimeout(typing);
   typing = setTimeout(() => session.edit($('src').value), 250);
 }
@@ -334,7 +337,7 @@ function fill_texts() {
   $('keyslist').innerHTML = TEXTS.keys_list.map(([key, says]) => `<dt>${key}</dt><dd>${says}</dd>`).join('');
   $('sched').innerHTML = Object.entries(TEXTS.orders).map(([key, says]) =>
     `<option value="${key}">${says}</option>`).join('');
-  $('lesson').innerHTML = PROGRAMS.map((it) =>
+  $('lesson').innerHTML = `<option value="" hidden>${TEXTS.own}</option>` + programs.map((it) =>
     `<option value="${it.lesson}">${escaped(TEXTS.lessons[it.lesson] ?? it.lesson)} (${it.lesson}.s)</option>`).join('');
   draw_key();
 }
@@ -364,6 +367,7 @@ function wire_buttons() {
     tell(TEXTS.opened(file.name));
     await open_file(session, file).catch(tell_why);
     $('src').value = session.text;
+    show_lesson();
     draw();
   });
   $('quiet').addEventListener('change', () => { is_quiet = !$('quiet').checked; });
@@ -385,23 +389,27 @@ function wire() {
   $('svgbox').addEventListener('mouseleave', () => { $('tip').hidden = true; });
   new ResizeObserver(() => session.has_image && draw_lanes(session, predict)).observe($('lanes'));
   window.addEventListener('hashchange',
-    async () => { const it = await opened_by(location.hash, PROGRAMS); if (it) await load(it); });
+    async () => { const it = await opened_by(location.hash, programs); if (it) await load(it); });
 }
 
-async function begin() {
+async function open_page(worker, module) {
   fill_texts();
   set_theme(matchMedia('(prefers-color-scheme:dark)').matches);
   if (matchMedia('(max-width:1020px)').matches) $('prog').open = $('keyd').open = false;
   if (!has_wide_memory()) return void ($('say').innerHTML = `<p class="fault">${TEXTS.needs_wide_memory}</p>`);
   $('say').innerHTML = `<p>${TEXTS.opening}</p>`;
-  const module = await WebAssembly.compile(Uint8Array.from(atob(MODULE), (it) => it.charCodeAt(0)));
-  requests = new Requests(new Library(WORKER, module), new Library(WORKER, module));
+  const compiled = await WebAssembly.compile(Uint8Array.from(atob(module), (it) => it.charCodeAt(0)));
+  const library = () => new Library(() => worker_of(worker), compiled);
+  requests = new Requests(library(), library());
   session = new Session(requests, { draw, tell: tell_why, wait: show_wait });
   wire();
-  await load(await opened_by(location.hash, PROGRAMS) ?? PROGRAMS[0]);
+  await load(await opened_by(location.hash, programs) ?? programs[0]);
   document.body.dataset.opened = Math.round(performance.now());
 }
 
-begin().catch((why) => { $('say').textContent = TEXTS.broken(why.message); });
-export const page = { get session() { return session; }, get requests() { return requests; }, predict, tables };
-globalThis.svcsim = page;
+// Opens the page over the programs of the menu, the worker's text, and the module's bytes in base 64.
+export function begin(menu, worker, module) {
+  programs = menu;
+  globalThis.svcsim = { get session() { return session; }, get requests() { return requests; }, predict, tables };
+  open_page(worker, module).catch((why) => { $('say').textContent = TEXTS.broken(why.message); });
+}

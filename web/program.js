@@ -1,6 +1,6 @@
 // The program: its text with the fault underlined, its listing, and where each unit is.
 
-import { $, escaped, hexadecimal, set_html } from './html.js';
+import { escaped, hexadecimal } from './html.js';
 import { TEXTS } from './texts.js';
 
 // A line of the text in colours: comments, directives, labels.
@@ -21,41 +21,37 @@ function underlined(line, column) {
   return `${coloured(front)}<span class="bad">${escaped(word)}</span>${coloured(rest.slice(word.length))}`;
 }
 
-export function draw_program(session) {
-  const text = $('src').value, lines = text.split('\n'), fault = session.text === text ? session.fault : null;
-  set_html($('nums'), lines.map((_, n) => n + 1).join('\n') + '\n');
-  set_html($('hl'),
-    lines.map((it, n) => (fault?.line === n + 1 ? underlined(it, fault.column) : coloured(it))).join('\n') + '\n');
-  const box = $('edmsg'), old = session.has_image ? TEXTS.shown_is_old : '';
-  $('src').setAttribute('aria-invalid', Boolean(fault));
-  if (fault) set_html(box,
-    `<p class="fault">${fault.line ? TEXTS.fault_at(fault.line, fault.column, escaped(fault.says)) : TEXTS.fault(escaped(fault.says))}${old}${fault.line ? ` <button id="bfault" class="lnk">${TEXTS.go_there}</button>` : ''}</p>`);
-  else if (session.text === text && session.has_image) set_html(box,
-    `<p class="okline">${TEXTS.assembles(`${escaped(session.lesson || 'program')}.s`)}</p>`);
-  else set_html(box, '');
+export const numbers_html = (text) => text.split('\n').map((_, n) => n + 1).join('\n') + '\n';
+
+// The text in colours, with the fault underlined.
+export const program_html = (text, fault) =>
+  text.split('\n').map((it, n) => (fault?.line === n + 1 ? underlined(it, fault.column) : coloured(it))).join('\n') + '\n';
+
+function fault_html({ line, column, says }, old) {
+  const told = line ? TEXTS.fault_at(line, column, escaped(says)) : TEXTS.fault(escaped(says));
+  return `<p class="fault">${told}${old}${line ? ` <button id="bfault" class="lnk">${TEXTS.go_there}</button>` : ''}</p>`;
 }
 
-// The line of the fault, or of the first entry, in sight.
-export function scroll_program(session) {
-  const height = parseFloat(getComputedStyle($('hl')).lineHeight), lines = session.text.split('\n');
-  const line = session.fault?.line || lines.findIndex((it) => it.trim().startsWith('.svc_entry')) + 1;
-  $('ed').scrollTop = Math.max(0, line - 5) * height;
+// What is said of the text in the editor, which may be newer than the one that was assembled.
+export function message_html(session, text) {
+  if (session.text !== text) return '';
+  if (session.fault) return fault_html(session.fault, session.has_image ? TEXTS.shown_is_old : '');
+  return session.has_image ? `<p class="okline">${TEXTS.assembles(`${escaped(session.lesson || 'program')}.s`)}</p>` : '';
 }
 
-// Puts the caret where the fault is.
-export function go_to_fault(session) {
-  const { line, column } = session.fault ?? {}, area = $('src');
-  if (!line) return;
-  const lines = area.value.split('\n'), front = lines.slice(0, line - 1).join('\n').length + (line > 1 ? 1 : 0);
-  const at = front + front_of(lines[line - 1] ?? '', column).length;
-  area.focus();
-  area.setSelectionRange(at, at);
-  scroll_program(session);
+// The line that is to be in sight: that of the fault, or of the first entry.
+export const line_in_sight = (session) =>
+  session.fault?.line || session.text.split('\n').findIndex((it) => it.trim().startsWith('.svc_entry')) + 1;
+
+// Where in the text a fault is.
+export function place_of({ line, column }, text) {
+  const lines = text.split('\n'), front = lines.slice(0, line - 1).join('\n').length + (line > 1 ? 1 : 0);
+  return front + front_of(lines[line - 1] ?? '', column).length;
 }
 
 const MOST_LINES = 600;
 
-export function draw_listing(session) {
+export function listing_html(session) {
   const now = session.now(), at = new Map();
   for (const it of now.pcs) {
     const list = at.get(Number(it.address)) ?? [];
@@ -65,14 +61,9 @@ export function draw_listing(session) {
   const pcs = [...at.keys()], middle = session.listing.findIndex((it) => it.address === pcs[0]);
   const from = Math.max(0, Math.min(session.listing.length - MOST_LINES, middle - MOST_LINES / 2));
   const unit = (it) => `<span class="pc u${it % 2}" title="${TEXTS.Unit(it).replace('&nbsp;', ' ')}">u${it}</span>`;
-  const rows = session.listing.slice(from, from + MOST_LINES).map((it) => {
+  return session.listing.slice(from, from + MOST_LINES).map((it) => {
     const here = at.get(it.address) ?? [], name = it.name.includes('+') ? '' : it.name;
     return `<tr class="${it.is_entry ? 'en' : ''}${here.length ? ' here' : ''}"><td class="pcs">${here.map(unit).join(' ')}</td><td>${escaped(name)}</td>`
       + `<td>${hexadecimal(it.address).slice(2)}</td><td>${escaped(it.text)}</td></tr>`;
-  });
-  if (!set_html($('listing').tBodies[0], rows.join(''))) return;
-  const row = $('listing').querySelector('.here'), box = $('listbox');
-  if (row
-    && (row.offsetTop < box.scrollTop
-      || row.offsetTop > box.scrollTop + box.clientHeight - 40)) box.scrollTop = row.offsetTop - box.clientHeight / 2;
+  }).join('');
 }

@@ -1,6 +1,6 @@
 // The sentence on the last entry shown, and the question on the next one. Both are put together of fields that the library printed.
 
-import { $, escaped, plain } from './html.js';
+import { escaped, plain } from './html.js';
 import { entry_html, word_html } from './names.js';
 import { TEXTS } from './texts.js';
 
@@ -96,26 +96,28 @@ function tags_of(it) {
     + (it.cause === 'cancel' ? tag('', TEXTS.tags.cancel) : '');
 }
 
-export function draw_sentence(session, predict) {
-  const box = $('say'), k = session.k;
-  box.className = 'panel';
-  box.setAttribute('aria-live', document.activeElement === $('slider') ? 'off' : 'polite');
-  if (predict.ask) {
-    const options = predict.ask.options.map((it, n) =>
-      `<button data-answer="${n}"><kbd aria-hidden="true">${n + 1}</kbd>${it.label}</button>`).join('');
-    return void (box.innerHTML = `<div class="when">${TEXTS.predicting(k)}</div><div class="quiz"><p>${predict.ask.question}</p>`
-      + `<div class="opts" role="group" aria-label="${TEXTS.your_answer}">${options}</div></div>`);
-  }
+function question_html(k, { question, options }) {
+  const buttons = options.map((it, n) =>
+    `<button data-answer="${n}"><kbd aria-hidden="true">${n + 1}</kbd>${it.label}</button>`).join('');
+  return `<div class="when">${TEXTS.predicting(k)}</div><div class="quiz"><p>${question}</p>`
+    + `<div class="opts" role="group" aria-label="${TEXTS.your_answer}">${buttons}</div></div>`;
+}
+
+// What is said at this moment, and its colour: the question, if one is open, or the last entry's sentence.
+export function said_at(session, predict) {
+  const k = session.k;
+  if (predict.ask) return { html: question_html(k, predict.ask), colour: '' };
   if (k === 0) {
-    return void (box.innerHTML = `<div class="when">${TEXTS.before_first}</div><p>${TEXTS.nothing_yet}${predict.on ? TEXTS.nothing_yet_predict : ''}</p>`
-      + `<div class="row">${TEXTS.nothing_yet_hint}</div>`);
+    const html = `<div class="when">${TEXTS.before_first}</div><p>${TEXTS.nothing_yet}${predict.on ? TEXTS.nothing_yet_predict : ''}</p>`
+      + `<div class="row">${TEXTS.nothing_yet_hint}</div>`;
+    return { html, colour: '' };
   }
   const { html, colour } = sentence(session, k - 1), it = session.entries[k - 1];
-  if (colour) box.classList.add(colour);
   const verdict = predict.said?.k === k
     ? `<span class="verdict">${predict.said.is_right ? TEXTS.right : TEXTS.wrong(plain(predict.said.label))}</span> `
     : '';
-  box.innerHTML = `<div class="when">${TEXTS.entry(k - 1)} ${tags_of(it)}</div><p>${verdict}${html}</p><div class="row mono">${escaped(it.row)}</div>`;
+  const whole = `<div class="when">${TEXTS.entry(k - 1)} ${tags_of(it)}</div><p>${verdict}${html}</p><div class="row mono">${escaped(it.row)}</div>`;
+  return { html: whole, colour };
 }
 
 // ---- predict: the question comes from the next row's kind, right or wrong from its fields

@@ -1,6 +1,6 @@
 // The tables below: what all schedules show, the trace, the script, and what speculation cost.
 
-import { $, escaped, set_html } from './html.js';
+import { escaped } from './html.js';
 import { entry_html, word_html } from './names.js';
 import { TRACE_COLUMNS } from './rows.js';
 import { TEXTS } from './texts.js';
@@ -19,7 +19,7 @@ export const explored_key = (session) =>
 // ---- all schedules
 
 function by_text(session, it) {
-  if (it.what !== 'squash') return it.by.startsWith('version:') ? TEXTS.version_of(it.by.slice(8)) : it.by;
+  if (it.what !== 'squash') return it.by.startsWith('version:') ? TEXTS.version_of(it.by.slice(8)) : TEXTS.seen_by[it.by];
   return it.by === 'violation' ? TEXTS.by_word(word_html(session, it.word)) : it.by === 'guess' ? TEXTS.by_guess
     : TEXTS.by_cancel;
 }
@@ -45,16 +45,15 @@ function seen_row(session, predict, it, at, list, in_run) {
   return `<li><button data-witness="${at}" class="${is_current ? 'cur' : ''}"${is_current ? ' aria-current="true"' : ''}>${inside}</button></li>`;
 }
 
-async function draw_all(session, predict) {
-  const box = $('p-all'), it = tables.explored, is_new = tables.of !== explored_key(session);
+const exploring_html = () =>
+  `<p class="chips" role="status">${TEXTS.exploring(Math.floor((performance.now() - tables.begun) / 1000))} <button id="bstop">${TEXTS.stop}</button></p>`;
+
+export async function all_html(session, predict) {
+  const it = tables.explored, is_new = tables.of !== explored_key(session);
   const limit = `<label>${TEXTS.standings} <input id="states" type="number" min="1" max="1000000" value="${session.by.states ?? 20000}"></label>`;
   const begin = `<button id="bexplore">${TEXTS.explore}</button>`;
-  if (tables.begun) {
-    return void set_html(box,
-      `<p class="chips" role="status">${TEXTS.exploring(Math.floor((performance.now() - tables.begun) / 1000))} <button id="bstop">${TEXTS.stop}</button></p>`);
-  }
-  if (!it || is_new) return void set_html(box,
-    `<div class="chips">${limit}${begin}</div>${tables.fault ? `<p class="fault">${escaped(tables.fault)}</p>` : ''}`);
+  if (tables.begun) return exploring_html();
+  if (!it || is_new) return `<div class="chips">${limit}${begin}</div>${tables.fault ? `<p class="fault">${escaped(tables.fault)}</p>` : ''}`;
   const in_run = await session.observed();
   const chips = Object.entries(TEXTS.filters).map(([key, text]) =>
     `<button data-filter="${key}" aria-pressed="${tables.filter === key}">${text}</button>`).join('');
@@ -62,9 +61,8 @@ async function draw_all(session, predict) {
     (tables.filter === 'all' || one.what === tables.filter ? seen_row(session, predict, one, at, it.seen, in_run)
       : '')).join('');
   const says = it.whole === 'yes' ? TEXTS.whole(session.config.units, session.by.burst) : TEXTS.not_whole;
-  set_html(box,
-    `<div class="chips"><span>${TEXTS.show_what}</span>${chips}<span class="soft end">${TEXTS.explored(it)}</span></div><ul class="seen">${rows}</ul>`
-    + `<p class="legend">${TEXTS.seen_key} ${says}</p>${it.whole === 'yes' ? '' : `<div class="chips">${limit}${begin}</div>`}`);
+  return `<div class="chips"><span>${TEXTS.show_what}</span>${chips}<span class="soft end">${TEXTS.explored(it)}</span></div><ul class="seen">${rows}</ul>`
+    + `<p class="legend">${TEXTS.seen_key} ${says}</p>${it.whole === 'yes' ? '' : `<div class="chips">${limit}${begin}</div>`}`;
 }
 
 // ---- rows
@@ -87,29 +85,28 @@ function row_of(session, at, cells) {
   return `<tr data-k="${at + 1}" class="${kind}"><td>${at}</td>${cells.map((it) => `<td>${escaped(it)}</td>`).join('')}</tr>`;
 }
 
-function draw_trace(session, limit) {
+// The trace as far as it may be seen.
+export function trace_html(session, predict) {
+  const limit = predict.on ? session.k : session.entries.length;
   const { from, to, note } = around(session, limit);
   const rows = session.entries.slice(from, to).map((it, n) => row_of(session, from + n, it.row.split(','))).join('');
-  set_html($('p-trace'),
-    scrolled(TEXTS.trace,
-      `<table class="rows"><thead><tr><th></th>${TRACE_COLUMNS.split(',').map((it) => `<th>${it}</th>`).join('')}</tr></thead><tbody>${rows}</tbody></table>`)
-      + note);
+  const head = TRACE_COLUMNS.split(',').map((it) => `<th>${it}</th>`).join('');
+  return scrolled(TEXTS.trace,
+    `<table class="rows"><thead><tr><th></th>${head}</tr></thead><tbody>${rows}</tbody></table>`) + note;
 }
 
-// The script as it can be edited; what is typed there stays until it is applied.
-function draw_script(session, predict) {
-  const box = $('p-script');
-  if (!$('steps')) {
-    box.innerHTML = `<div class="two"><div><label class="sr" for="steps">${TEXTS.script_label}</label><textarea id="steps" class="code" spellcheck="false" wrap="off"></textarea>`
-      + `<p><button id="bapply" class="pri">${TEXTS.apply}</button></p></div><div id="answers"></div></div><p class="legend">${TEXTS.script_says}</p>`;
-  }
-  const steps = predict.on ? session.front() : session.steps, text = steps.join('\n') + (steps.length ? '\n' : '');
-  const area = $('steps');
-  area.disabled = predict.on;
-  if (area.shown_of !== text) {
-    area.value = text;
-    area.shown_of = text;
-  }
+export const script_html = () =>
+  `<div class="two"><div><label class="sr" for="steps">${TEXTS.script_label}</label><textarea id="steps" class="code" spellcheck="false" wrap="off"></textarea>`
+  + `<p><button id="bapply" class="pri">${TEXTS.apply}</button></p></div><div id="answers"></div></div><p class="legend">${TEXTS.script_says}</p>`;
+
+const steps_in_sight = (session, predict) => (predict.on ? session.front() : session.steps);
+
+// The script as it can be edited, one step a line.
+export const script_text = (session, predict) => steps_in_sight(session, predict).map((it) => it + '\n').join('');
+
+// The steps beside what they were answered.
+export function answers_html(session, predict) {
+  const steps = steps_in_sight(session, predict);
   const at = new Map(session.played.step_of.map((step, entry) => [step, entry])),
     current = session.k ? session.played.step_of[session.k - 1] : -1;
   const from = Math.max(0, current - AROUND), to = Math.min(steps.length, Math.max(0, current) + AROUND);
@@ -119,52 +116,25 @@ function draw_script(session, predict) {
     const entry = at.get(step), kind = step === current ? 'cur' : step > current ? 'later' : '';
     return `<tr class="${kind}${number ? ' refused' : ''}"${entry === undefined ? '' : ` data-k="${entry + 1}"`}><td>${step}</td><td>${escaped(it)}</td><td>${number ? `✕ ${TEXTS.refusal[number] ?? number}` : entry === undefined ? escaped(answer) : TEXTS.entry(entry)}</td></tr>`;
   }).join('');
-  set_html($('answers'),
-    scrolled(TEXTS.script,
-      `<table class="rows"><thead><tr><th></th>${TEXTS.answer_head.map((it) => `<th>${it}</th>`).join('')}</tr></thead><tbody>${rows}</tbody></table>`));
+  const head = TEXTS.answer_head.map((it) => `<th>${it}</th>`).join('');
+  return scrolled(TEXTS.script,
+    `<table class="rows"><thead><tr><th></th>${head}</tr></thead><tbody>${rows}</tbody></table>`);
 }
 
-async function draw_cost(session, predict) {
-  if (predict.on) return void set_html($('p-cost'), `<p class="empty">${TEXTS.hidden_table}</p>`);
+// What speculation cost; null while the library can't be asked.
+export async function cost_html(session, predict) {
+  if (predict.on) return `<p class="empty">${TEXTS.hidden_table}</p>`;
   const costs = await session.cost();
-  if (!costs) return;
+  if (!costs) return null;
   const part = (title, it) => `<h3>${title}</h3>${table({ head: it.head, rows: it.rows.slice(0, 500) })}`;
-  set_html($('p-cost'),
-    scrolled(TEXTS.cost,
-      part(TEXTS.by_task, costs.task) + part(TEXTS.by_word_table, costs.word) + part(TEXTS.by_unit, costs.unit)
-        + part(TEXTS.by_pc, costs.pc)));
+  return scrolled(TEXTS.cost,
+    part(TEXTS.by_task, costs.task) + part(TEXTS.by_word_table, costs.word) + part(TEXTS.by_unit, costs.unit)
+      + part(TEXTS.by_pc, costs.pc));
 }
 
-async function draw_needs(session) {
+export async function needs_html(session) {
   const { task, pair } = await session.needs();
-  const part = (it) => table({ head: it.head, rows: it.rows.slice(0, 300) });
-  set_html($('p-needs'),
-    `<p class="legend">${TEXTS.needs_says}</p><div class="two">${scrolled(TEXTS.by_task, part(task))}${scrolled(TEXTS.needs, part(pair))}</div>`);
-}
-
-// Keeps the row of the moment in the middle of what scrolls.
-function scroll_to_row() {
-  for (const box of document.querySelectorAll('[role=tabpanel]:not([hidden]) .scroll')) {
-    const row = box.querySelector('.cur');
-    if (row) box.scrollTop = row.offsetTop - box.clientHeight / 2;
-  }
-}
-
-export async function draw_tables(session, predict) {
-  for (const tab of TABS) {
-    const is_on = tables.tab === tab;
-    $(`t-${tab}`).setAttribute('aria-selected', is_on);
-    $(`t-${tab}`).tabIndex = is_on ? 0 : -1;
-    $(`p-${tab}`).hidden = !is_on;
-  }
-  if (!session.has_image) return;
-  const limit = predict.on ? session.k : session.entries.length;
-  switch (tables.tab) {
-    case 'all': await draw_all(session, predict); break;
-    case 'trace': draw_trace(session, limit); break;
-    case 'script': draw_script(session, predict); break;
-    case 'cost': await draw_cost(session, predict); break;
-    default: await draw_needs(session);
-  }
-  if (tables.tab !== 'all') scroll_to_row();
+  const part = (title, it) =>
+    `<div><h3>${title}</h3>${scrolled(title, table({ head: it.head, rows: it.rows.slice(0, 300) }))}</div>`;
+  return `<p class="legend">${TEXTS.needs_says}</p><div class="two needs">${part(TEXTS.by_task, task)}${part(TEXTS.by_pair, pair)}</div>`;
 }

@@ -17,7 +17,6 @@ export const TEXTS = {
   projector: 'Projector', projector_title: 'Larger type, the program below', dark: 'Dark', dark_label: 'Dark colours',
     keys: 'Keys',
   program_and_machine: 'Program and machine', program: 'Program',
-    program_help: 'Assembly text of RV32I with tasks; faults are told below',
   listing: 'Listing, and where each unit is', listing_units: 'units here', listing_name: 'name',
     listing_address: 'address',
   listing_instruction: 'instruction',
@@ -58,13 +57,15 @@ export const TEXTS = {
   ran: (count, order) => `${many(count, 'entry', 'entries')}, by ${order}.`,
   refused_steps: (count, total) =>
     `${count} of ${many(total, 'step', 'steps')} ${count === 1 ? 'is' : 'are'} refused on this machine; see Script.`,
-  opened: (name) => `${name} is open.`, not_opened: (name, why) => `${name}: ${why}`,
+  opened: (name) => `${name} is open.`,
   ending: { exit: (n) => `exit ${n}`, trap: (n) => `trap ${n}`, full: () => 'the history is full', open: () => 'open' },
 
   // places
   task: (n) => `task&nbsp;${n}`, Task: (n) => `Task&nbsp;${n}`, unit: (n) => `unit&nbsp;${n}`,
     Unit: (n) => `Unit&nbsp;${n}`,
   tasks: (list) => (list.length === 1 ? `task&nbsp;${list[0]}` : `tasks&nbsp;${list.join(', ')}`),
+  range: (kind, first, count) => (count === 1 ? `${kind}&nbsp;${first}`
+    : `${kind}s&nbsp;${first} ${count === 2 ? 'and' : 'to'} ${first + count - 1}`),
   word: (n) => `word ${n}`, at_entry: (n) => `at entry ${n}`,
   before_first: 'Before entry 0', entry: (n) => `Entry ${n}`,
   after_entry: (n, says) => `after entry ${n}: ${says}`, question_open: 'a question is open',
@@ -88,7 +89,7 @@ export const TEXTS = {
       `<b>${task}</b> stores <b>${value}</b> to ${word}, but ${victim} had loaded it too early${where}${got}: <b class="bad">${squashed}</b>.`,
     got: (value) => `, and got ${value}`,
     squashed: (first, count) =>
-      (count === 1 ? `task&nbsp;${first} is squashed` : `tasks&nbsp;${first} to ${first + count - 1} are squashed`),
+      `task&nbsp;${first} is squashed` + (count === 1 ? '' : `, and ${TEXTS.range('task', first + 1, count - 1)} after it`),
     puts_out: (task, value) => `<b>${task}</b> puts out <b>${value}</b>. The word waits until the task is committed.`,
     runs: (task, turns, ended) => `<b>${task}</b> takes ${many(turns, 'turn', 'turns')} without the bus${ended}`,
     ended: ', and has ended.', ended_exit: ', and has ended with the program’s exit.',
@@ -99,7 +100,7 @@ export const TEXTS = {
     spills: (value, task) => `: the version <b>${value}</b> is kept aside until ${task} is committed (spilled).`,
     cancels: (first) => `${TEXTS.Task(first)} and all after it are squashed: cancelled by hand.`,
     wrong_guess: (first, count) =>
-      ` <b class="bad">${count === 1 ? TEXTS.Task(first) : `Tasks&nbsp;${first} to ${first + count - 1}`}</b> had begun on a wrong guess and ${count === 1 ? 'is' : 'are'} squashed.`,
+      ` <b class="bad">${TEXTS.range('Task', first, count)}</b> had begun on a wrong guess and ${count === 1 ? 'is' : 'are'} squashed.`,
     memory_now: (value, word) => ` Memory itself now holds ${value} in ${word}.`,
     stops: (ending) => ` The run has stopped: ${ending}.`,
   },
@@ -108,6 +109,7 @@ export const TEXTS = {
     spill: 'the oldest task’s spilled version' },
   fate: { committed: 'committed', violation: 'read too early', guess: 'wrong guess', cancel: 'cancelled',
     active: 'still active' },
+  squashed_with: (n) => `goes with task ${n}`,
   tags: { violation: '✕ read too early', guess: '? wrong guess', cancel: '∅ cancelled', commit: '✓ commit' },
 
   // predict
@@ -159,7 +161,7 @@ export const TEXTS = {
 
   // moves
   replaces_rest: 'A move that isn’t the script’s next one replaces the rest of it; Undo brings it back.',
-    every_refused: (why) => `Every move is refused: ${why}.`,
+    every_refused: (why) => `Every move is refused: ${why}.`, has_stopped: (ending) => `the run has stopped (${ending})`,
   begin_at: (entry) => `Begin at ${entry}`, the_guess: 'the guess', not_the_guess: 'not the guess',
     begin_elsewhere: 'Begin elsewhere', one_turn: 'One turn',
   to_bus: 'To bus request', up_to: (n) => `Up to ${many(n, 'turn', 'turns')}`, commit: 'Commit', cancel: 'Cancel',
@@ -184,15 +186,17 @@ export const TEXTS = {
   explore: 'Look at all schedules', standings: 'Standings at most',
     exploring: (seconds) => `Following every schedule… ${seconds} s`,
   seen: {
-    begin: (o) => `begin ${o.task} at ${o.value}`,
-      load: (o) => `load ${o.task} ${o.word} = <b>${o.value}</b> from ${o.by}`,
-      store: (o) => `store ${o.task} ${o.word} := <b>${o.value}</b>`,
-    output: (o) => `output ${o.task}: <b>${o.value}</b>`, trap: (o) => `trap ${o.task}: ${o.value}`,
-      replace: (o) => `replace ${o.task} ${o.word}`, commit: (o) => `commit ${o.task}`,
-    squash: (o) => `squash ${o.task}${o.value === '1' ? '' : ` and ${Number(o.value) - 1} more`} ${o.by}`,
+    begin: (o) => `${o.task} begins at ${o.value}`,
+      load: (o) => `${o.task} loads ${o.word} = <b>${o.value}</b> from ${o.by}`,
+      store: (o) => `${o.task} stores <b>${o.value}</b> to ${o.word}`,
+    output: (o) => `${o.task} puts out <b>${o.value}</b>`, trap: (o) => `${o.task} traps (${o.value})`,
+      replace: (o) => `the unit of ${o.task} lets go of ${o.word}`, commit: (o) => `${o.task} is committed`,
+    squash: (o) => `${o.task}${o.value === '1' ? ' is' : ` and ${Number(o.value) - 1} more are`} squashed: ${o.by}`,
   },
-  by_word: (word) => `by ${word}`, by_guess: 'by a wrong guess', by_cancel: 'by hand',
-    version_of: (n) => `version of task ${n}`,
+  seen_by: { memory: 'memory', committed: 'a committed version', hit: 'its own line', reuse: 'a kept copy',
+    spill: 'the spilled version' },
+  by_word: (word) => `it read ${word} too early`, by_guess: 'a wrong guess', by_cancel: 'by hand',
+    version_of: (n) => `task ${n}’s version`,
   steps: (n) => many(n, 'step', 'steps'), in_run: (n) => `, entry ${n}`, filled: '●', empty: '○',
   seen_key: '● seen in the run above, ○ not in it. A row loads a shortest schedule that shows it; of rows with the same task and word the library finds the first alone.',
   whole: (units, burst) =>
@@ -202,12 +206,13 @@ export const TEXTS = {
   script_says: 'The buttons write this script; it is what is saved, and what a link carries. Edit it here, one step a line.',
     apply: 'Apply', script_label: 'Script, one step a line: kind,unit,arg',
   answer_head: ['step', 'answer'], rows_left_out: (count) => `${count} rows are left out here; Save has them all.`,
-  by_task: 'By task', by_word_table: 'By word', by_unit: 'By unit', by_pc: 'By instruction',
+  by_task: 'By task', by_pair: 'By pair', by_word_table: 'By word', by_unit: 'By unit', by_pc: 'By instruction',
     needs_says: 'What the tasks of the sequential run need of one another (<code>depend</code>), by task and by pair.',
+  own: 'Your own text',
   lessons: {
     violation: 'Read too early', handed_on: 'A version handed on', wrong_guess: 'Wrong guesses', full_set: 'A full set',
       lost_stack: 'A lost stack', sum: 'Lesson 1: tasks', early: 'Lesson 2: a load too early',
     four: 'Lesson 3: versions handed on', rounds: 'Lesson 4: wrong guesses', lazy: 'Lesson 5: lazy commit',
-      full: 'Lesson 6: full sets', five: 'Lesson 1: five tasks', own: 'Your own',
+      full: 'Lesson 6: full sets', five: 'Lesson 1: five tasks',
   },
 };
