@@ -1,0 +1,3 @@
+pub mod Names
+pub mod LineNames
+pub mod LineMoves
