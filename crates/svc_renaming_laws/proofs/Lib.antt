@@ -1,3 +1,12 @@
 pub mod Names
 pub mod LineNames
 pub mod LineMoves
+pub mod TaskNames
+pub mod RefusalNames
+pub mod ReachedNames
+pub mod EventNames
+pub mod ReplyNames
+pub mod MoveNames
+pub mod LeastNames
+pub mod FutureNames
+pub mod ClosedNames

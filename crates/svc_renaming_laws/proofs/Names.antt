@@ -1,7 +1,7 @@
 -- Renamings, and lists of names.
-use Rattle.std.proofs.Common.{◌≡◌, ◌≢◌, refl, sym, ap, ◌∙◌, subst, ℕ, zero, suc, ◌<◌, Bool, true, false, cond, List, [], ◌∷◌, ◌++◌, map, take, drop, length, get_or, inl, inr, arith, true≢false, eq-eqb, ne_eqb}
+use Rattle.std.proofs.Common.{◌≡◌, ◌≢◌, refl, sym, ap, ◌∙◌, subst, ℕ, zero, suc, ◌<◌, ◌≤◌, leb, Bool, true, false, cond, List, [], ◌∷◌, ◌++◌, map, take, drop, length, get_or, inl, inr, arith, true≢false, eq-eqb, ne_eqb}
 use Rattle.std.specs.Bool.{◌==◌}
-use Rattle.std.proofs.lemmas.Bool.{cases_Bool, cases_eq}
+use Rattle.std.proofs.lemmas.Bool.{cases_Bool, cases_eq, leb-true, leb-false, lt-leb}
 use Rattle.std.proofs.lemmas.List.{get_or-map}
 use Rattle.svc_bus_laws.specs.Search.{all_below, tabulate}
 use Rattle.svc_bus_laws.proofs.Searches.{all_from, all_fails, all_refuted, all_true}
@@ -94,6 +94,19 @@ module _ (r : Renaming) (n : ℕ) (is : IsRenaming n r) where
   -- units are equal if their new names are
   pub both_names : (v u : ℕ) → (r.there v == r.there u) ≡ (v == u)
   both_names v u = same_name (r.there v) u ∙ ap (λ w. w == u) (is.returns v)
+
+  -- a new name is one of so many if the old one is
+  pub same_known : (u : ℕ) → leb n (r.there u) ≡ leb n u
+  same_known u = elim (cases_Bool (leb n (r.there u))) [
+    | inl above ↦ elim (cases_Bool (leb n u)) [
+      | inl also ↦ above ∙ sym also
+      | inr below ↦
+          let h : r.there u < n = is.known u (leb-false n u below) in
+          let k : n ≤ r.there u = leb-true n (r.there u) above in
+          absurd (omega (arith, h, k))
+    ]
+    | inr below ↦ below ∙ sym (lt-leb n u (subst (λ v. v < n) (is.returns u) (is.known_back (r.there u) (leb-false n (r.there u) below))))
+  ]
 
   pub named_at : (us : List ℕ) (p : ℕ) → p < length us → get_or (map r.there us) p 0 ≡ r.there (get_or us p 0)
   named_at us p h = get_or-map r.there us p 0 0 h

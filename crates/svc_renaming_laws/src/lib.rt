@@ -1,8 +1,14 @@
 //! Units are alike: renaming them changes nothing but their names.
 #![tactic(auto)]
 
+mod closed;
 mod lines;
 mod renamings;
+mod sights;
+mod standings;
 
+pub use closed::closed_up_to_names_law;
 pub use lines::line_law;
 pub use renamings::renaming_law;
+pub use sights::sight_law;
+pub use standings::standing_law;
