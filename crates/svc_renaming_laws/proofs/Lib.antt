@@ -9,4 +9,6 @@ pub mod ReplyNames
 pub mod MoveNames
 pub mod LeastNames
 pub mod FutureNames
+pub mod KeyNames
 pub mod ClosedNames
+pub mod OrderNames

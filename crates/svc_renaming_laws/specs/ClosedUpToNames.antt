@@ -23,9 +23,22 @@ pub record HaveOneKeyUpToNames (config : Config) (s t : Standing) : Type 0 where
   pub rename : IsRenaming config.units names
   pub same : HaveOneKey (renamed_standing names s) t
 
+-- standings with one key still have one when the units of both are renamed
+abbrev pub RenamedKeys : Type 0
+RenamedKeys = (img : Image) (config : Config) (r : Renaming) (s t : Standing) → IsRenaming config.units r → IsReached img config s → IsReached img config t
+    → HaveOneKey s t → HaveOneKey (renamed_standing r s) (renamed_standing r t)
+
 -- keys that tell standings apart where their bits do, whatever the names
 abbrev pub TellsUpToNames : Image → Config → {K : Type 0} → (Standing → K) → Type 0
 TellsUpToNames img config key = (s t : Standing) → IsReached img config s → IsReached img config t → key s ≡ key t → HaveOneKeyUpToNames config s t
+
+-- names chosen for the units of each standing, and keys that tell standings apart where their bits do by the chosen names: such
+-- keys tell them apart whatever the names. So the names may be chosen in any way that is handy, as in the order of tasks
+abbrev pub ChosenNamesTell : Type 0 → Type 0
+ChosenNamesTell K = (img : Image) (config : Config) (names : Standing → Renaming) (key : Standing → K)
+    → ((s : Standing) → IsReached img config s → IsRenaming config.units (names s))
+    → ((s t : Standing) → IsReached img config s → IsReached img config t → key s ≡ key t → HaveOneKey (renamed_standing (names s) s) (renamed_standing (names t) t))
+    → TellsUpToNames img config key
 
 -- a standing with this key that has room, where the move of each unit that has one was followed
 pub record AllExplored (img : Image) (config : Config) (most : ℕ) {K : Type 0} (key : Standing → K) (keys : List K) (found : List Observation) (k : K) : Type 0 where

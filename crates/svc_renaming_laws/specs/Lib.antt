@@ -1,4 +1,5 @@
 pub mod Renamings
+pub mod Orders
 pub mod RenamedLines
 pub mod LineLaws
 pub mod Renamed
