@@ -31,9 +31,9 @@ key_renamed img config r s t is reached also key =
       tasks = tasks_ageless r s.plain.tasks ∙ ap (map (renamed_task r)) key.tasks ∙ sym (tasks_ageless r t.plain.tasks);
       lines = λ u a. key.lines (r.back u) a;
       newest = λ a.
-        newest_renamed b s.lines (own_state 0 s.lines reached.lines.sound) a r mine
-        ∙ ap (option_map r.there) (key.newest a)
-        ∙ sym (newest_renamed c t.lines (own_state 0 t.lines also.lines.sound) a r yours);
+          newest_renamed b s.lines (own_state 0 s.lines reached.lines.sound) a r mine
+          ∙ ap (option_map r.there) (key.newest a)
+          ∙ sym (newest_renamed c t.lines (own_state 0 t.lines also.lines.sound) a r yours);
       spilled = key.spilled;
     }
 

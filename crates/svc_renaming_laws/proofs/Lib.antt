@@ -1,4 +1,6 @@
 pub mod Names
+pub mod LeastNames
+pub mod OrderNames
 pub mod LineNames
 pub mod LineMoves
 pub mod TaskNames
@@ -6,9 +8,8 @@ pub mod RefusalNames
 pub mod ReachedNames
 pub mod EventNames
 pub mod ReplyNames
+pub mod HistoryNames
 pub mod MoveNames
-pub mod LeastNames
 pub mod FutureNames
 pub mod KeyNames
 pub mod ClosedNames
-pub mod OrderNames

@@ -13,6 +13,7 @@ use Rattle.svc_bus_laws.specs.Sound.{IsActiveLine, IsCommittedLine, IsSoundLine,
 use Rattle.svc_bus_laws.proofs.Searches.{least_cases, least_none, least_found, Found, all_true, any_same, greatest_same, greatest_cases}
 use Rattle.svc_renaming_laws.specs.Renamings.{Renaming, IsRenaming}
 use Rattle.svc_renaming_laws.specs.RenamedLines.{renamed_lines, renamed_supplier}
+use Rattle.svc_renaming_laws.proofs.LeastNames.{least_renamed}
 use Rattle.svc_renaming_laws.proofs.Names.{tabulate_same, same_name, named_at, back_at, all_renamed}
 
 -- ---- of two newest lines
@@ -78,24 +79,7 @@ module _ (r : Renaming) (t : LineTable) (is : IsRenaming t.caches r) where
 
   module _ (sound : IsSound t) where
     pub same_newest : (a : ℕ) → newest s a ≡ option_map r.there (newest t a)
-    same_newest a = elim (least_cases t.caches (is_newest t a)) [
-      | inl (none, never) ↦ least_none t.caches (is_newest s a) (λ u h. same_test a u ∙ never (r.back u) (is.known_back u h)) ∙ sym (ap (option_map r.there) none)
-      | inr (m, at, found) ↦ here m found ∙ sym (ap (option_map r.there) at)
-    ]
-      where
-        here : (m : ℕ) → Found t.caches (is_newest t a) m → newest s a ≡ Some (r.there m)
-        here m found = least_found t.caches (is_newest s a) (r.there m) (record {
-          within = is.known m found.within;
-          passes = same_test a (r.there m) ∙ ap (is_newest t a) (is.returns m) ∙ found.passes;
-          before = λ k h. elim (cases_Bool (is_newest s a k)) [
-            | inr fails ↦ fails
-            | inl passes ↦
-                let known : k < t.caches = let w = is.known m found.within in omega (arith, h, w) in
-                let e : r.back k ≡ m = one_newest t sound a (r.back k) m (is.known_back k known) found.within (sym (same_test a k) ∙ passes) found.passes in
-                let f : k ≡ r.there m = sym (is.reaches k) ∙ ap r.there e in
-                absurd (omega (arith, h, f))
-          ];
-        })
+    same_newest a = least_renamed r t.caches is (is_newest s a) (is_newest t a) (same_test a) (one_newest t sound a)
 
     pub same_committed : (a : ℕ) → committed_value s a ≡ committed_value t a
     same_committed a = ap (value_of s a) (same_newest a) ∙ of (newest t a)

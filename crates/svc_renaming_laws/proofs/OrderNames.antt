@@ -4,7 +4,7 @@ use Rattle.std.specs.Bool.{◌==◌}
 use Rattle.std.specs.List.{IsDistinct, list_any}
 use Rattle.std.proofs.lemmas.Bool.{cases_Bool, cases_eq, eqb-true, leb-true, leb-false}
 use Rattle.std.proofs.lemmas.List.{get_or_default}
-use Rattle.std.proofs.lemmas.Option.{none-some, same_Some, slice_get-get_or, get_or_from_slice_get}
+use Rattle.std.proofs.lemmas.Option.{none-some, same_Some, slice_get_past, slice_get-get_or, get_or_from_slice_get}
 use Rattle.std.proofs.lemmas.Map.Keys.{IsDistinct-from_apart}
 use Rattle.std.proofs.lemmas.Map.Steps.{length-le_from_distinct_below}
 use Rattle.svc_machine_laws.specs.Events.{place_in}
@@ -20,11 +20,6 @@ below_all (x ∷ xs) n q known e = elim (cases_Bool (q == x)) [
   | inr not ↦ below_all xs n q (λ p h. known (suc p) (omega (arith, h))) (subst (λ b. (b || list_any (λ y. q == y) xs) ≡ true) not e)
 ]
 
-past : {A : Type 0} (xs : List A) (p : ℕ) → length xs ≤ p → slice_get xs p ≡ None
-past [] p h = refl
-past (x ∷ xs) zero h = absurd (omega (arith, h))
-past (x ∷ xs) (suc p) h = past xs p (omega (arith, h))
-
 module _ (n : ℕ) (us : List ℕ) (order : IsOrder n us) where
   known : (p : ℕ) → p < length us → get_or us p 0 < n
   known p h = let e = order.count in order.known p (omega (arith, h, e))
@@ -39,9 +34,9 @@ module _ (n : ℕ) (us : List ℕ) (order : IsOrder n us) where
       let inside : j < length us = omega (arith, k) in
       let below : i < length us = omega (arith, h, k) in
       ne_eqb (get_or us i d) (get_or us j d) (λ e.
-        let count = order.count in
-        let same : i ≡ j = order.distinct i j (omega (arith, below, count)) (omega (arith, inside, count)) (get_or_default us i 0 d below ∙ e ∙ get_or_default us j d 0 inside) in
-        omega (arith, h, same))
+      let count = order.count in
+      let same : i ≡ j = order.distinct i j (omega (arith, below, count)) (omega (arith, inside, count)) (get_or_default us i 0 d below ∙ e ∙ get_or_default us j d 0 inside) in
+      omega (arith, h, same))
 
   all_in : (u : ℕ) → u < n → ((p : ℕ) → p < length us → get_or us p 0 ≢ u) → ⊥
   all_in u h none =
@@ -61,19 +56,19 @@ module _ (n : ℕ) (us : List ℕ) (order : IsOrder n us) where
   returns_at u (Some p) e = ap (λ o. unwrap_or o p) (found us u p e)
   returns_at u None e = elim (cases_Bool (Rattle.std.proofs.Common.leb n u)) [
     | inl above ↦
-      let h : length us ≤ u = let k = leb-true n u above in let c = order.count in omega (arith, k, c) in
-      ap (λ o. unwrap_or o u) (past us u h)
+        let h : length us ≤ u = let k = leb-true n u above in let c = order.count in omega (arith, k, c) in
+        ap (λ o. unwrap_or o u) (slice_get_past us u h)
     | inr below ↦ absurd (all_in u (leb-false n u below) (λ q. not_found us u q e))
   ]
 
   reaches_at : (p : ℕ) → unwrap_or (place_in us (unwrap_or (slice_get us p) p)) (unwrap_or (slice_get us p) p) ≡ p
   reaches_at p = elim (cases_Bool (Rattle.std.proofs.Common.leb n p)) [
     | inl above ↦
-      let h : length us ≤ p = let k = leb-true n p above in let c = order.count in omega (arith, k, c) in
-      ap (λ o. unwrap_or (place_in us (unwrap_or o p)) (unwrap_or o p)) (past us p h) ∙ far (leb-true n p above) (place_in us p) refl
+        let h : length us ≤ p = let k = leb-true n p above in let c = order.count in omega (arith, k, c) in
+        ap (λ o. unwrap_or (place_in us (unwrap_or o p)) (unwrap_or o p)) (slice_get_past us p h) ∙ far (leb-true n p above) (place_in us p) refl
     | inr below ↦
-      let h : p < length us = let k = leb-false n p below in let c = order.count in omega (arith, k, c) in
-      ap (λ o. unwrap_or (place_in us (unwrap_or o p)) (unwrap_or o p)) (slice_get-get_or us p 0 h) ∙ near h (place_in us (get_or us p 0)) refl
+        let h : p < length us = let k = leb-false n p below in let c = order.count in omega (arith, k, c) in
+        ap (λ o. unwrap_or (place_in us (unwrap_or o p)) (unwrap_or o p)) (slice_get-get_or us p 0 h) ∙ near h (place_in us (get_or us p 0)) refl
   ]
     where
       far : n ≤ p → (o : Option ℕ) → place_in us p ≡ o → unwrap_or o p ≡ p

@@ -4,6 +4,7 @@ pub mod RenamedLines
 pub mod LineLaws
 pub mod Renamed
 pub mod StandingLaws
+pub mod HistoryLaws
 pub mod Sights
 pub mod SightLaws
 pub mod ClosedUpToNames
