@@ -1,0 +1,15 @@
+pub mod Names
+pub mod LeastNames
+pub mod OrderNames
+pub mod LineNames
+pub mod LineMoves
+pub mod TaskNames
+pub mod RefusalNames
+pub mod ReachedNames
+pub mod EventNames
+pub mod ReplyNames
+pub mod HistoryNames
+pub mod MoveNames
+pub mod FutureNames
+pub mod KeyNames
+pub mod ClosedNames

@@ -1,0 +1,10 @@
+pub mod Renamings
+pub mod Orders
+pub mod RenamedLines
+pub mod LineLaws
+pub mod Renamed
+pub mod StandingLaws
+pub mod HistoryLaws
+pub mod Sights
+pub mod SightLaws
+pub mod ClosedUpToNames
