@@ -7,7 +7,8 @@ ghost use Rattle.svc_draft.specs.declared.statement.Statement.{Statement};
 ghost use Rattle.svc_asm.specs.declared.assembling.Stop.TheVariants as halt;
 ghost use Rattle.svc_asm.specs.declared.assembling.AssembleError.TheVariants as error;
 ghost use Rattle.svc_draft.specs.declared.refusal.Refusal.TheVariants as lack;
-ghost use Rattle.svc_draft.specs.Layouts.{Layout, layout_of};
+ghost use Rattle.svc_draft.specs.Layouts.{Layout, after, layout_of};
+ghost use Rattle.svc_operands.specs.Characters.{name_at};
 ghost use Rattle.svc_asm.specs.Programs.{Takes, Makes, IsLaid, IsProgramOf};
 
 use crate::found::{Found, found_in};
@@ -72,6 +73,16 @@ fn refused_at(next: Next, text: &[u8], refusal: Refusal) -> usize {
     }
 }
 
+// The name that what a line says is about: that of a label, or one that is set. Nothing else depends on a name.
+fn name_for(said: Statement, text: &[u8]) -> &[u8]
+    ensures { (d : Layout) → after result.now said d ≡ after (name_at text.now) said d }
+{
+    match said {
+        Statement::Label | Statement::Symbol(_) | Statement::Common(_, _) => split_name(text).0,
+        _ => b"",
+    }
+}
+
 // Adds what the first line says, and answers that and what follows it.
 pub(crate) fn take_line<'a>(
     text: &'a [u8],
@@ -90,9 +101,8 @@ pub(crate) fn take_line<'a>(
     if rest.len() >= text.len() {
         return Err(unread_stop(stopped_at(text, Wanted::LineEnd)));
     }
-    let (name, _) = split_name(text);
     let next = draft.next();
-    match draft.take(name, statement) {
+    match draft.take(name_for(statement, text), statement) {
         Ok(()) => Ok((statement, rest)),
         Err(Refusal::Memory) => Err(Stop::Memory),
         Err(refusal) => {

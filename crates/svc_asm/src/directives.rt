@@ -151,7 +151,7 @@ fn says_in(rows: &[Directive], name: Name) -> Option<Says>
     ensures { result ≡ says_in rows.now name }
 {
     for row in rows {
-        if name == row.0 {
+        if name.as_slice() == row.0.as_slice() {
             return Some(row.1);
         }
     }

@@ -178,7 +178,7 @@ fn read_rows<'a>(
 {
     let mut fault = fault;
     for row in rows {
-        if name == row.0 {
+        if name.as_slice() == row.0.as_slice() {
             match read_row(draft, row, text) {
                 Ok(read) => return Ok(read),
                 Err(later) => fault = further(fault, later),
