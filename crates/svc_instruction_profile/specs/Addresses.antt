@@ -24,7 +24,8 @@ place_after img local seat = (locals (program img) local seat.core).pc
 
 -- the address of the instruction at which an entry asks, if it does: where its unit's task stands after the local turns
 abbrev pub address_at : Image → Plain → Entry → Option ℕ
-address_at img s e = cond (asks e) (option_map (place_after img (the_local e)) (seat_at (machine_of (program img) s) e.unit.0)) None
+address_at img s e =
+    cond (asks e) (option_map (place_after img (the_local e)) (seat_at (machine_of (program img) s) e.unit.0)) None
 
 -- the same where these entries lead
 abbrev pub address_there : Image → Config → (before : List Entry) → Entry → Option ℕ

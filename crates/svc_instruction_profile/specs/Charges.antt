@@ -93,7 +93,8 @@ reader_of asked es at e rs = reader_at asked es at e.addr (victim_of e rs)
 
 -- a violation is charged there, too
 abbrev pub reader_charge : List (Option ℕ) → List Entry → (at : ℕ) → Entry → List TaskRun → List Charge
-reader_charge asked es at e rs = charged_where (is_cause cause.Violation e.cause) (reader_of asked es at e rs) expense.Suffered
+reader_charge asked es at e rs =
+    charged_where (is_cause cause.Violation e.cause) (reader_of asked es at e rs) expense.Suffered
 
 -- ---- the loads of squashed tasks
 
@@ -109,7 +110,8 @@ loads_lost r (a ∷ asked) (e ∷ es) = charged_where (is_load_of r e) a expense
 
 -- a task whose fate this entry decided: if it was squashed, its loads were lost
 abbrev pub lost_by : List (Option ℕ) → List Entry → (at : ℕ) → TaskRun → List Charge
-lost_by asked es at r = cond (is_of group.Squashed r.fate) (loads_lost r (between r.first (suc at) asked) (between r.first (suc at) es)) []
+lost_by asked es at r =
+    cond (is_of group.Squashed r.fate) (loads_lost r (between r.first (suc at) asked) (between r.first (suc at) es)) []
 
 -- ---- all charges
 
@@ -123,7 +125,8 @@ charges_at asked es at e rs =
 -- the same for those from this index on
 unfoldable pub charges_from : List (Option ℕ) → List Entry → Runs → (at : ℕ) → List Entry → List Charge
 charges_from asked all s at [] = []
-charges_from asked all s at (e ∷ es) = charges_at asked all at e s.active ++ charges_from asked all (step at e s) (suc at) es
+charges_from asked all s at (e ∷ es) =
+    charges_at asked all at e s.active ++ charges_from asked all (step at e s) (suc at) es
 
 -- all charges of a history whose entries ask at these addresses
 abbrev pub charges_of : List (Option ℕ) → List Entry → List Charge

@@ -19,23 +19,29 @@ RenamedSound = OfRenamings (λ r t. IsSound (renamed_lines r t))
 abbrev pub RenamedMap : Type 0
 RenamedMap = OfRenamings (λ r t. versioned (renamed_lines r t) ≡ versioned t)
 
--- the unit of the newest committed dirty line of each word is the renamed one. This needs that the table is sound: of two such
--- lines with one number, that of the lower unit would be taken
+-- the unit of the newest committed dirty line of each word is the renamed one. This needs that the table is sound: of
+-- two such lines with one number, that of the lower unit would be taken
 abbrev pub RenamedNewest : Type 0
 RenamedNewest = OfRenamings (λ r t. (a : ℕ) → newest (renamed_lines r t) a ≡ option_map r.there (newest t a))
 
 abbrev pub RenamedSuppliers : Type 0
-RenamedSuppliers = OfRenamings (λ r t. (p a : ℕ) → p < length t.units → supplier (renamed_lines r t) p a ≡ renamed_supplier r (supplier t p a))
+RenamedSuppliers =
+    OfRenamings (λ r t. (p a : ℕ) → p < length t.units
+    → supplier (renamed_lines r t) p a ≡ renamed_supplier r (supplier t p a))
 
 -- each step of the renamed table is the renamed step
 abbrev pub RenamedReads : Type 0
-RenamedReads = OfRenamings (λ r t. (p a : ℕ) → p < length t.units → read (renamed_lines r t) p a ≡ renamed_lines r (read t p a))
+RenamedReads =
+    OfRenamings (λ r t. (p a : ℕ) → p < length t.units → read (renamed_lines r t) p a ≡ renamed_lines r (read t p a))
 
 abbrev pub RenamedWrites : Type 0
-RenamedWrites = OfRenamings (λ r t. (p a w : ℕ) → p < length t.units → write (renamed_lines r t) p a w ≡ renamed_lines r (write t p a w))
+RenamedWrites =
+    OfRenamings (λ r t. (p a w : ℕ) → p < length t.units
+    → write (renamed_lines r t) p a w ≡ renamed_lines r (write t p a w))
 
 abbrev pub RenamedReplacements : Type 0
-RenamedReplacements = OfRenamings (λ r t. (u a : ℕ) → replace (renamed_lines r t) (r.there u) a ≡ renamed_lines r (replace t u a))
+RenamedReplacements =
+    OfRenamings (λ r t. (u a : ℕ) → replace (renamed_lines r t) (r.there u) a ≡ renamed_lines r (replace t u a))
 
 abbrev pub RenamedSquashes : Type 0
 RenamedSquashes = OfRenamings (λ r t. (n : ℕ) → squash (renamed_lines r t) n ≡ renamed_lines r (squash t n))
@@ -48,10 +54,16 @@ RenamedBeginnings = OfRenamings (λ r t. (u : ℕ) → begin (renamed_lines r t)
 
 -- and each refusal is the same, with the same word
 abbrev pub RenamedFull : Type 0
-RenamedFull = OfRenamings (λ r t. (u a : ℕ) → set_full (table_cache (renamed_lines r t) (r.there u)) a ≡ set_full (table_cache t u) a)
+RenamedFull =
+    OfRenamings (λ r t. (u a : ℕ)
+    → set_full (table_cache (renamed_lines r t) (r.there u)) a ≡ set_full (table_cache t u) a)
 
 abbrev pub RenamedResident : Type 0
-RenamedResident = OfRenamings (λ r t. (u a : ℕ) → is_not_resident (table_cache (renamed_lines r t) (r.there u)) a ≡ is_not_resident (table_cache t u) a)
+RenamedResident =
+    OfRenamings (λ r t. (u a : ℕ)
+    → is_not_resident (table_cache (renamed_lines r t) (r.there u)) a ≡ is_not_resident (table_cache t u) a)
 
 abbrev pub RenamedPinned : Type 0
-RenamedPinned = OfRenamings (λ r t. (u a : ℕ) → is_pinned (table_cache (renamed_lines r t) (r.there u)) (renamed_lines r t).units (r.there u) a ≡ is_pinned (table_cache t u) t.units u a)
+RenamedPinned =
+    OfRenamings (λ r t. (u a : ℕ) → is_pinned (table_cache (renamed_lines r t) (r.there u)) (renamed_lines r t).units
+    (r.there u) a ≡ is_pinned (table_cache t u) t.units u a)

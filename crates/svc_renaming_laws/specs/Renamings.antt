@@ -43,4 +43,5 @@ abbrev pub UndoneRenames : Type 0
 UndoneRenames = (units : ℕ) (r : Renaming) → IsRenaming units r → IsRenaming units (undone r)
 
 abbrev pub FollowedRenames : Type 0
-FollowedRenames = (units : ℕ) (r s : Renaming) → IsRenaming units r → IsRenaming units s → IsRenaming units (followed_by r s)
+FollowedRenames =
+    (units : ℕ) (r s : Renaming) → IsRenaming units r → IsRenaming units s → IsRenaming units (followed_by r s)

@@ -10,7 +10,8 @@ use Rattle.svc_explore_laws.specs.Observations.{observations}
 use Rattle.svc_explore_laws.specs.Closed.{IsIn}
 
 -- what each entry of a play shows, one after another
-abbrev pub sights : (img : Image) (config : Config) (most : ℕ) (s : Standing) (es : List Entry) → Plays img config most s es → List (List Observation)
+abbrev pub sights : (img : Image) (config : Config) (most : ℕ) (s : Standing) (es : List Entry)
+    → Plays img config most s es → List (List Observation)
 sights img config most s [] play = []
 sights img config most s (e ∷ es) play = observations s.plain e ∷ sights img config most play.0 es play.2
 

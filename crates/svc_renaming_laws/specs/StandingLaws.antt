@@ -12,7 +12,9 @@ use Rattle.svc_renaming_laws.specs.Renamed.{renamed_standing, renamed_event, ren
 
 -- a law of each renaming of the units of a reached standing
 abbrev pub OfStandings : (Image → Config → Renaming → Standing → Type 0) → Type 0
-OfStandings law = (img : Image) → IsImage img → (config : Config) (r : Renaming) (s : Standing) → IsRenaming config.units r → IsReached img config s → law img config r s
+OfStandings law =
+    (img : Image) → IsImage img → (config : Config) (r : Renaming) (s : Standing) → IsRenaming config.units r
+    → IsReached img config s → law img config r s
 
 -- what holds of every standing that events lead to holds of the renamed one
 abbrev pub RenamedReached : Type 0
@@ -20,7 +22,9 @@ RenamedReached = OfStandings (λ img config r s. IsReached img config (renamed_s
 
 -- the renamed event is refused for the same reason, or accepted too
 abbrev pub RenamedRefusals : Type 0
-RenamedRefusals = OfStandings (λ img config r s. (x : Event) → refused img config (renamed_standing r s) (renamed_event r x) ≡ refused img config s x)
+RenamedRefusals =
+    OfStandings (λ img config r s. (x : Event)
+    → refused img config (renamed_standing r s) (renamed_event r x) ≡ refused img config s x)
 
 -- an accepted event leads to the renamed standing
 abbrev pub RenamedSteps : Type 0
@@ -29,11 +33,15 @@ RenamedSteps = OfStandings (λ img config r s. (x : Event) → IsEvent x → ref
 
 -- with the renamed answer
 abbrev pub RenamedReplies : Type 0
-RenamedReplies = OfStandings (λ img config r s. (x : Event) → reply_to img (renamed_standing r s) (renamed_event r x) ≡ renamed_reply r (reply_to img s x))
+RenamedReplies =
+    OfStandings (λ img config r s. (x : Event)
+    → reply_to img (renamed_standing r s) (renamed_event r x) ≡ renamed_reply r (reply_to img s x))
 
 -- and the renamed entry
 abbrev pub RenamedEntries : Type 0
-RenamedEntries = (r : Renaming) (x : Event) (y : Reply) → entry_of (renamed_event r x) (renamed_reply r y) ≡ renamed_entry r (entry_of x y)
+RenamedEntries =
+    (r : Renaming) (x : Event) (y : Reply)
+    → entry_of (renamed_event r x) (renamed_reply r y) ≡ renamed_entry r (entry_of x y)
 
 -- a renamed event is one
 abbrev pub RenamedEvents : Type 0

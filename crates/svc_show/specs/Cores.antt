@@ -11,7 +11,8 @@ pc_row unit address = row (codes "pc") (unit ∷ address ∷ [])
 -- the row of a register of it
 abbrev pub register_row : (unit register value : ℕ) → List ℕ
 register_row unit register value =
-    codes "register," ++ (decimal unit ++ (codes ",x" ++ (decimal register ++ (codes "," ++ (decimal value ++ codes "\n")))))
+    codes "register,"
+    ++ (decimal unit ++ (codes ",x" ++ (decimal register ++ (codes "," ++ (decimal value ++ codes "\n")))))
 
 -- the row of a register that has another value than the task began with
 abbrev pub changed_row : (unit register was value : ℕ) → List ℕ
@@ -19,7 +20,8 @@ changed_row unit register was value = cond (value == was) [] (register_row unit 
 
 -- that of one of x1 to x31, by its place among them; these are the values with which they began
 abbrev pub register_row_at : (began : List ℕ) → (unit : ℕ) → State → (place : ℕ) → List ℕ
-register_row_at began unit core place = changed_row unit (place + 1) (slice_index began place) (value_of core (place + 1))
+register_row_at began unit core place =
+    changed_row unit (place + 1) (slice_index began place) (value_of core (place + 1))
 
 -- those of all registers that have changed
 unfoldable pub register_rows : (began : List ℕ) → (unit : ℕ) → State → List ℕ

@@ -38,7 +38,8 @@ progress_rows img config s =
 
 -- the rows of an active task, and of its core if that is asked for
 abbrev pub task_rows : (detail : Bool) → Image → (number : ℕ) → Running State → List ℕ
-task_rows detail img number x = task_row number (task_shown x) ++ cond detail (core_rows img.registers x.task.unit (core_in x)) []
+task_rows detail img number x =
+    task_row number (task_shown x) ++ cond detail (core_rows img.registers x.task.unit (core_in x)) []
 
 -- those of the active tasks, oldest first
 abbrev pub all_task_rows : (detail : Bool) → Image → Plain → List ℕ
@@ -56,7 +57,8 @@ line_rows units words b = flat_map (unit_rows words b) (range_with_len 0 units)
 abbrev pub spill_rows : (words : ℕ) → BusState → List ℕ
 spill_rows words b = flat_map (λ word. optional (spill_row word) (b.spill word)) (range_with_len 0 words)
 
--- a row for each word of which there is a valid line, with its lines in the order of their versions, if that is asked for
+-- a row for each word of which there is a valid line, with its lines in the order of their versions, if that is asked
+-- for
 abbrev pub asked_order : (detail : Bool) → Image → Config → Plain → BusState → List ℕ
 asked_order detail img config s b =
     cond detail (order_rows config.units (data_words img) b s.commits (running (program img) s)) []
