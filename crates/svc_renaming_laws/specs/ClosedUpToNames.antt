@@ -48,19 +48,18 @@ ChosenNamesTell K = (img : Image) (config : Config) (names : Standing → Renami
     → TellsUpToNames img config key
 
 -- a standing with this key that has room, where the move of each unit that has one was followed
-pub record AllExplored (img : Image) (config : Config) (most : ℕ) {K : Type 0} (key : Standing
-    → K) (keys : List K) (found : List Observation) (k : K) : Type 0 where
+pub record AllExplored (img : Image) (config : Config) (most : ℕ) {K : Type 0} (key : Standing → K) (keys : List K)
+    (found : List Observation) (k : K) : Type 0 where
   pub standing : Standing
   pub reached : IsReached img config standing
   pub has_key : key standing ≡ k
   pub room : HasRoom config standing.plain
-
-pub move : (unit : ℕ) → unit < config.units
-    → HasNoMove img config most standing unit ⊎ IsFollowed img config most key keys found standing unit
+  pub move : (unit : ℕ) → unit < config.units
+      → HasNoMove img config most standing unit ⊎ IsFollowed img config most key keys found standing unit
 
 -- the opening has one of the keys, and at each all units were explored
-pub record IsClosedUpToNames (img : Image) (config : Config) (most : ℕ) {K : Type 0} (key : Standing
-    → K) (keys : List K) (found : List Observation) : Type 0 where
+pub record IsClosedUpToNames (img : Image) (config : Config) (most : ℕ) {K : Type 0} (key : Standing → K)
+    (keys : List K) (found : List Observation) : Type 0 where
   pub opening : IsIn (key (opened_at img config 0)) keys
   pub each : (k : K) → IsIn k keys → AllExplored img config most key keys found k
 

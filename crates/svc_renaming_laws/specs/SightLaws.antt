@@ -32,9 +32,8 @@ RenamedObservations = (units : ℕ) (r : Renaming) (s : Plain) → IsRenaming un
 pub record PlaysRenamed (img : Image) (config : Config) (r : Renaming) (most : ℕ) (s : Standing) (es : List Entry)
     (play : Plays img config most s es) : Type 0 where
   pub other : Plays img config most (renamed_standing r s) (map (renamed_entry r) es)
-
-pub same : sights img config most (renamed_standing r s) (map (renamed_entry r) es) other
-    ≡ sights img config most s es play
+  pub same : sights img config most (renamed_standing r s) (map (renamed_entry r) es) other
+      ≡ sights img config most s es play
 
 abbrev pub RenamedPlays : Type 0
 RenamedPlays =

@@ -27,7 +27,7 @@ pub record IsFirstOther (steps : List Step) (row : ℕ) : Type 0 where
 -- the first n steps lead from one run to another of the same machine, whatever bursts are kept, and these stay kept
 pub record HasLedOn (steps : List Step) (n : ℕ) (r next : Recorded) : Type 0 where
   pub text : List ℕ
-pub steps_done : (kept : Kept)
-    → PlaysTo steps n (record { run = r; kept = kept; text = [] }) (record { run = next; kept = kept; text = text })
+  pub steps_done : (kept : Kept)
+      → PlaysTo steps n (record { run = r; kept = kept; text = [] }) (record { run = next; kept = kept; text = text })
   pub image : next.machine.image ≡ r.machine.image
   pub config_is : next.machine.config ≡ r.machine.config
