@@ -207,8 +207,8 @@ IsQuiet old new f = IsOutputFault f ⊎ (new ≡ old)
 --   machine: no fault of the machine or the run comes before the script
 --   kept: no file is changed except those to write
 --   spared: nor are those at a fault, unless they were being written
-pub record IsAnswered {O : Type 0} (contents : O
-    → Option (List ℕ)) (asked : Request) (held saved : Held) (old new : O) (answer : Result ℕ Fault) : Type 0 where
+pub record IsAnswered {O : Type 0} (contents : O → Option (List ℕ)) (asked : Request) (held saved : Held) (old new : O)
+    (answer : Result ℕ Fault) : Type 0 where
   pub done : IfOk answer (Does asked held saved (contents old) (contents new))
   pub silent : IfErr answer (IsQuiet old new)
   pub order : IfErr answer (λ f. IsEarly f ⊎ HasImage asked held)

@@ -17,8 +17,8 @@ HasPlayedAll steps r kept next after old new exit =
 
 -- from a machine before any event the script leads to a run, of whose entries something holds; the line of each step
 -- was printed, and then the report of that run
-pub record PlaysScript (img : Image) (config : Config) (steps : List Step) (Holds : List Entry
-    → Type 0) (old new : Option (List ℕ)) (exit : ℕ) : Type 0 where
+pub record PlaysScript (img : Image) (config : Config) (steps : List Step) (Holds : List Entry → Type 0)
+    (old new : Option (List ℕ)) (exit : ℕ) : Type 0 where
   pub start : Recorded
   pub started : IsRunOf img config start
   pub none_yet : start.entries ≡ []

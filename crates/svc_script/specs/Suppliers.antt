@@ -59,8 +59,8 @@ pub record DiffersElsewhere (img : Image) (config : Config) (s : Standing) (e : 
 
 -- the entries before the index are sound with some suppliers, and with no suppliers those up to the entry there, of
 -- which this holds where the ones before it lead
-pub record IsFirstWrong (img : Image) (config : Config) (es : List Entry) (index : ℕ) (Is : Standing → Entry
-    → Type 0) : Type 0 where
+pub record IsFirstWrong (img : Image) (config : Config) (es : List Entry) (index : ℕ)
+    (Is : Standing → Entry → Type 0) : Type 0 where
   pub found : List Entry
   pub before : IsSoundWith img config (take index es) found
   pub entry : Entry
