@@ -32,8 +32,9 @@ RenamedKeys = (img : Image) (config : Config) (r : Renaming) (s t : Standing) �
 abbrev pub TellsUpToNames : Image → Config → {K : Type 0} → (Standing → K) → Type 0
 TellsUpToNames img config key = (s t : Standing) → IsReached img config s → IsReached img config t → key s ≡ key t → HaveOneKeyUpToNames config s t
 
--- names chosen for the units of each standing, and keys that tell standings apart where their bits do by the chosen names: such
--- keys tell them apart whatever the names. So the names may be chosen in any way that is handy, as in the order of tasks
+-- names chosen for the units of each standing, and keys that tell standings apart where their bits do by the chosen
+-- names: such keys tell them apart whatever the names. So the names may be chosen in any way that is handy, as in the
+-- order of tasks
 abbrev pub ChosenNamesTell : Type 0 → Type 0
 ChosenNamesTell K = (img : Image) (config : Config) (names : Standing → Renaming) (key : Standing → K)
     → ((s : Standing) → IsReached img config s → IsRenaming config.units (names s))
@@ -53,8 +54,8 @@ pub record IsClosedUpToNames (img : Image) (config : Config) (most : ℕ) {K : T
   pub opening : IsIn (key (opened_at img config 0)) keys
   pub each : (k : K) → IsIn k keys → AllExplored img config most key keys found k
 
--- THE CLOSED LIST, UP TO NAMES: where such keys are closed, whatever units do and however long, all that an entry of the history
--- shows was found
+-- THE CLOSED LIST, UP TO NAMES: where such keys are closed, whatever units do and however long, all that an entry of
+-- the history shows was found
 abbrev pub ClosedUpToNamesLaw : Type 0 → Type 0
 ClosedUpToNamesLaw K = (img : Image) → IsImage img → (config : Config) → (most : ℕ) → (key : Standing → K) → TellsUpToNames img config key
     → (keys : List K) (found : List Observation) → IsClosedUpToNames img config most key keys found → ShowNothingElse img config most found

@@ -5,7 +5,6 @@ use Rattle.svc_base.specs.declared.config.Config.{Config}
 use Rattle.svc_image.specs.Image.{Image, IsImage}
 use Rattle.svc_machine_laws.specs.Events.{Event, IsEvent}
 use Rattle.svc_machine_laws.specs.Standing.{Standing, after_events}
-use Rattle.svc_machine_laws.specs.Reached.{IsReached}
 use Rattle.svc_history_laws.specs.declared.entry.Entry.{Entry}
 use Rattle.svc_history_laws.specs.Legal.{Legal, LegalHistory, last, led_to}
 use Rattle.svc_renaming_laws.specs.Renamings.{Renaming, IsRenaming}
@@ -17,8 +16,8 @@ abbrev pub RenamedRuns : Type 0
 RenamedRuns = OfStandings (λ img config r s. (xs : List Event) → AllByRecursion IsEvent xs
     → after_events img config (renamed_standing r s) (map (renamed_event r) xs) ≡ renamed_standing r (after_events img config s xs))
 
--- entries that are legal from a standing on are so from the renamed one on when their units are renamed, and lead to the renamed
--- standing
+-- entries that are legal from a standing on are so from the renamed one on when their units are renamed, and lead to
+-- the renamed standing
 pub record IsLegalRenamed (img : Image) (config : Config) (r : Renaming) (s : Standing) (es : List Entry) : Type 0 where
   pub legal : Legal img config (renamed_standing r s) (map (renamed_entry r) es)
   pub leads : last img (renamed_standing r s) (map (renamed_entry r) es) ≡ renamed_standing r (last img s es)

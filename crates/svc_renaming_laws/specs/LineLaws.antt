@@ -1,6 +1,6 @@
 -- The bus has nothing to do with the names of units.
-use Rattle.std.specs.Prelude.{◌≡◌, ℕ, ◌<◌, ◌≤◌, length, option_map}
-use Rattle.svc_bus_laws.specs.LineTable.{LineTable, newest, committed_value, versioned}
+use Rattle.std.specs.Prelude.{◌≡◌, ℕ, ◌<◌, length, option_map}
+use Rattle.svc_bus_laws.specs.LineTable.{LineTable, newest, versioned}
 use Rattle.svc_bus_laws.specs.Supplier.{supplier}
 use Rattle.svc_bus_laws.specs.Steps.{read, write, replace, squash, commit, begin}
 use Rattle.svc_bus_laws.specs.Sound.{IsSound}
@@ -19,8 +19,8 @@ RenamedSound = OfRenamings (λ r t. IsSound (renamed_lines r t))
 abbrev pub RenamedMap : Type 0
 RenamedMap = OfRenamings (λ r t. versioned (renamed_lines r t) ≡ versioned t)
 
--- the unit of the newest committed dirty line of each word is the renamed one. This needs that the table is sound: of two such
--- lines with one number, that of the lower unit would be taken
+-- the unit of the newest committed dirty line of each word is the renamed one. This needs that the table is sound: of
+-- two such lines with one number, that of the lower unit would be taken
 abbrev pub RenamedNewest : Type 0
 RenamedNewest = OfRenamings (λ r t. (a : ℕ) → newest (renamed_lines r t) a ≡ option_map r.there (newest t a))
 

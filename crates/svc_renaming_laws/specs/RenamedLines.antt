@@ -4,8 +4,8 @@ use Rattle.svc_bus_laws.specs.LineTable.{LineTable}
 use Rattle.svc_bus_laws.specs.Supplier.{Supplier, Hit, Reuse, Version, Spill, Committed, Memory}
 use Rattle.svc_renaming_laws.specs.Renamings.{Renaming}
 
--- each unit's cache goes by the unit's new name, and so do the units of the active tasks; spilled words, memory and commits
--- have no unit
+-- each unit's cache goes by the unit's new name, and so do the units of the active tasks; spilled words, memory and
+-- commits have no unit
 abbrev pub renamed_lines : Renaming → LineTable → LineTable
 renamed_lines r t = record t { lines = λ u a. t.lines (r.back u) a; units = map r.there t.units }
 

@@ -20,8 +20,8 @@ use Rattle.svc_renaming_laws.specs.Sights.{sights, CanBeSeen}
 abbrev pub RenamedMoves : Type 0
 RenamedMoves = OfStandings (λ img config r s. (most unit : ℕ) (x : Event) → Moves img config most s unit x → Moves img config most (renamed_standing r s) (r.there unit) (renamed_event r x))
 
--- the renamed entry shows the same: tasks, and not units. It is an event's: one that told of a version and not of its unit, which
--- no event has, would be read as unit 0's
+-- the renamed entry shows the same: tasks, and not units. It is an event's: one that told of a version and not of its
+-- unit, which no event has, would be read as unit 0's
 abbrev pub RenamedObservations : Type 0
 RenamedObservations = (units : ℕ) (r : Renaming) (s : Plain) → IsRenaming units r → (x : Event) (y : Reply)
     → observations (renamed_plain r s) (renamed_entry r (entry_of x y)) ≡ observations s (entry_of x y)

@@ -2,8 +2,8 @@
 
 ghost use Rattle.svc_renaming_laws.specs.LineLaws.{RenamedSound, RenamedMap, RenamedNewest, RenamedSuppliers, RenamedReads, RenamedWrites, RenamedReplacements, RenamedSquashes, RenamedCommits, RenamedBeginnings, RenamedFull, RenamedResident, RenamedPinned};
 
-/// A sound line table whose units are renamed is sound and stands for the same versioned map. Each of its steps is the renamed
-/// step, whoever reads is supplied by the renamed unit, and the same is refused.
+/// A sound line table whose units are renamed is sound and stands for the same versioned map. Each of its steps is the
+/// renamed step, whoever reads is supplied by the renamed unit, and the same is refused.
 pub fn line_law()
     ensures sound { RenamedSound }
     ensures map { RenamedMap }

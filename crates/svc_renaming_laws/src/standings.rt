@@ -3,7 +3,8 @@
 ghost use Rattle.svc_renaming_laws.specs.StandingLaws.{RenamedReached, RenamedRefusals, RenamedSteps, RenamedReplies, RenamedEntries, RenamedEvents};
 
 /// At the renamed standing the renamed event is refused for the same reason; if it is accepted, it leads to the renamed
-/// standing, with the renamed answer and the renamed entry. What holds of all reached standings holds of the renamed ones.
+/// standing, with the renamed answer and the renamed entry. What holds of all reached standings holds of the renamed
+/// ones.
 pub fn standing_law()
     ensures reached { RenamedReached }
     ensures refusals { RenamedRefusals }
