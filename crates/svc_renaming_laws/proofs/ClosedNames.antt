@@ -1,9 +1,9 @@
 -- Where keys are closed up to names, every play shows what was found and nothing else.
-use Rattle.std.proofs.Common.{ℕ, ◌≡◌, ◌⊎◌, ◌<◌, List, [], ◌∷◌, inl, inr, refl, sym, ap, ◌∙◌, subst}
+use Rattle.std.proofs.Common.{ℕ, ◌≡◌, ◌⊎◌, List, [], ◌∷◌, inl, inr, sym, ap, ◌∙◌, subst}
 use Rattle.svc_base.specs.declared.config.Config.{Config}
 use Rattle.svc_image.specs.Image.{Image, IsImage}
 use Rattle.svc_machine_laws.specs.Events.{Event, IsEvent}
-use Rattle.svc_machine_laws.specs.Standing.{Standing, refused, stepped, opened_at, reply_to}
+use Rattle.svc_machine_laws.specs.Standing.{Standing, stepped, opened_at, reply_to}
 use Rattle.svc_machine_laws.specs.Reached.{IsReached}
 use Rattle.svc_machine_laws.proofs.Given.{given}
 use Rattle.svc_machine_laws.proofs.Standings.{step_reached}
@@ -12,7 +12,7 @@ use Rattle.svc_history_laws.specs.Entries.{entry_of}
 use Rattle.svc_explore_laws.specs.declared.observation.Observation.{Observation}
 use Rattle.svc_explore_laws.specs.Observations.{observations}
 use Rattle.svc_explore_laws.specs.Futures.{HaveOneFuture}
-use Rattle.svc_explore_laws.specs.Moves.{Moves, IsTurn, Plays, HasRoom}
+use Rattle.svc_explore_laws.specs.Moves.{IsTurn, Plays, HasRoom}
 use Rattle.svc_explore_laws.specs.Closed.{IsIn, AreIn, HasNoMove, IsFollowed, ShowsFound, ShowNothingElse}
 use Rattle.svc_explore_laws.proofs.Sights.{same_sights}
 use Rattle.svc_explore_laws.proofs.FutureSteps.{future_step}
@@ -20,7 +20,7 @@ use Rattle.svc_explore_laws.proofs.FutureMoves.{moves_alike, only_alike}
 use Rattle.svc_explore_laws.proofs.Keys.{keys_tell, future_trans, future_refl}
 use Rattle.svc_explore_laws.proofs.ClosedPlays.{moves_event}
 use Rattle.svc_renaming_laws.specs.Renamings.{Renaming, IsRenaming, unchanged, followed_by}
-use Rattle.svc_renaming_laws.specs.Renamed.{renamed_standing, renamed_event, renamed_entry}
+use Rattle.svc_renaming_laws.specs.Renamed.{renamed_standing, renamed_entry}
 use Rattle.svc_renaming_laws.specs.ClosedUpToNames.{HaveOneKeyUpToNames, TellsUpToNames, AllExplored, IsClosedUpToNames}
 use Rattle.svc_renaming_laws.proofs.Names.{unchanged_renames, followed_renames}
 use Rattle.svc_renaming_laws.proofs.ReachedNames.{renamed_reached}

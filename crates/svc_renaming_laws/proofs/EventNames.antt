@@ -1,5 +1,5 @@
 -- Where an accepted event of renamed units leads.
-use Rattle.std.proofs.Common.{ℕ, suc, ◌≡◌, ◌<◌, ◌≤◌, Bool, true, false, List, [], ◌∷◌, map, take, length, Option, Some, None, refl, sym, ap, ap₂, ◌∙◌, subst, arith, is_some}
+use Rattle.std.proofs.Common.{ℕ, suc, ◌≡◌, ◌<◌, Bool, true, false, List, [], ◌∷◌, map, take, length, Option, Some, None, refl, sym, ap, ◌∙◌, subst, arith}
 use Rattle.std.proofs.lemmas.List.{length-map}
 use Rattle.svc_base.specs.declared.config.Config.{Config}
 use Rattle.svc_image.specs.Image.{Image}
@@ -11,7 +11,7 @@ use Rattle.svc_bus_laws.specs.Versioned.{view}
 use Rattle.svc_bus_laws.specs.LineTable.{LineTable, versioned}
 use Rattle.svc_bus_laws.specs.Steps.{read, write, squash, commit}
 use Rattle.svc_bus_laws.specs.Sound.{IsSound}
-use Rattle.svc_machine_laws.specs.PlainMachine.{Plain, unit_of, stays}
+use Rattle.svc_machine_laws.specs.PlainMachine.{unit_of, stays}
 use Rattle.svc_machine_laws.specs.WholeMachine.{Seat, Machine, machine_of, seat_entry}
 use Rattle.svc_machine_laws.specs.WholeMachine as whole
 use Rattle.svc_machine_laws.specs.Events.{Event, Assign, Submit, Replace, Cancel, Commit, IsEvent, seat_place, asked_want, plain_event}

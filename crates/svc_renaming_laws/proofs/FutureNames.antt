@@ -1,12 +1,11 @@
 -- Standings with the same future, of renamed units.
-use Rattle.std.proofs.Common.{ℕ, ◌≡◌, ◌≢◌, ◌<◌, Bool, true, false, not, ◌&&◌, ◌||◌, List, map, Option, Some, None, inl, inr, refl, sym, ap, ◌∙◌, subst, option_map, true≢false}
+use Rattle.std.proofs.Common.{ℕ, ◌≡◌, ◌<◌, Bool, true, false, not, ◌&&◌, ◌||◌, List, map, Option, Some, None, inl, inr, refl, sym, ap, ◌∙◌, subst, option_map, true≢false}
 use Rattle.std.proofs.lemmas.Bool.{cases_eq, and_parts}
 use Rattle.svc_base.specs.declared.config.Config.{Config}
 use Rattle.svc_image.specs.Image.{Image}
 use Rattle.svc_core_laws.specs.State.{State}
 use Rattle.svc_core_laws.specs.Program.{Program}
 use Rattle.svc_core_laws.specs.Words.{program}
-use Rattle.svc_bus_laws.specs.Search.{all_below}
 use Rattle.svc_bus_laws.specs.LineTable.{LineTable}
 use Rattle.svc_bus_laws.specs.BusLine.{BusLine, is_committed_dirty_line, is_dirty_line}
 use Rattle.svc_bus_laws.specs.BusState.{BusState, Agrees}
@@ -16,7 +15,7 @@ use Rattle.svc_bus_laws.proofs.OrderProofs.{order_total}
 use Rattle.svc_machine_laws.specs.WholeMachine.{Seat, Machine, machine_of}
 use Rattle.svc_machine_laws.specs.Standing.{Standing}
 use Rattle.svc_machine_laws.specs.Reached.{IsReached}
-use Rattle.svc_explore_laws.specs.Twins.{SameBits, AreTwins}
+use Rattle.svc_explore_laws.specs.Twins.{AreTwins}
 use Rattle.svc_explore_laws.specs.Futures.{ageless_seat, ageless, HaveOneFuture}
 use Rattle.svc_renaming_laws.specs.Renamings.{Renaming, IsRenaming}
 use Rattle.svc_renaming_laws.specs.RenamedLines.{renamed_lines}

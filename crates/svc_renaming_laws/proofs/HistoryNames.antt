@@ -3,11 +3,11 @@ use Rattle.std.proofs.Common.{◌≡◌, List, [], ◌∷◌, map, Option, Some,
 use Rattle.std.specs.List.{AllByRecursion}
 use Rattle.svc_base.specs.declared.config.Config.{Config}
 use Rattle.svc_base.specs.declared.refusal.Refusal.{Refusal}
-use Rattle.svc_image.specs.Image.{Image, IsImage}
+use Rattle.svc_image.specs.Image.{Image}
 use Rattle.svc_machine_laws.specs.Events.{Event, IsEvent}
 use Rattle.svc_machine_laws.specs.Standing.{Standing, opened_at, unless, refused, stepped, reply_to, after_event, after_events}
 use Rattle.svc_machine_laws.specs.Reached.{IsReached}
-use Rattle.svc_machine_laws.proofs.Given.{Given, given}
+use Rattle.svc_machine_laws.proofs.Given.{Given}
 use Rattle.svc_machine_laws.proofs.Folds.{opened_reached}
 use Rattle.svc_machine_laws.proofs.Standings.{step_reached, event_reached}
 use Rattle.svc_history_laws.specs.declared.entry.Entry.{Entry}
@@ -20,7 +20,6 @@ use Rattle.svc_renaming_laws.specs.Renamings.{Renaming, IsRenaming}
 use Rattle.svc_renaming_laws.specs.Renamed.{renamed_standing, renamed_event, renamed_entry}
 use Rattle.svc_renaming_laws.specs.HistoryLaws.{IsLegalRenamed}
 use Rattle.svc_renaming_laws.proofs.RefusalNames.{renamed_refused}
-use Rattle.svc_renaming_laws.proofs.ReachedNames.{renamed_reached}
 use Rattle.svc_renaming_laws.proofs.EventNames.{renamed_is, renamed_step}
 use Rattle.svc_renaming_laws.proofs.ReplyNames.{entry_renamed, reply_renamed}
 

@@ -1,5 +1,5 @@
 -- Keys, of renamed units.
-use Rattle.std.proofs.Common.{ℕ, ◌≡◌, List, map, option_map, sym, ap, ◌∙◌, subst}
+use Rattle.std.proofs.Common.{◌≡◌, List, map, option_map, sym, ap, ◌∙◌, subst}
 use Rattle.svc_base.specs.declared.config.Config.{Config}
 use Rattle.svc_image.specs.Image.{Image}
 use Rattle.svc_bus_laws.specs.BusState.{BusState, state_of}
@@ -10,7 +10,7 @@ use Rattle.svc_machine_laws.specs.Reached.{IsReached}
 use Rattle.svc_explore_laws.specs.Keys.{ageless_task, HaveOneKey}
 use Rattle.svc_renaming_laws.specs.Renamings.{Renaming, IsRenaming, undone, followed_by}
 use Rattle.svc_renaming_laws.specs.Renamed.{renamed_task, renamed_standing}
-use Rattle.svc_renaming_laws.specs.ClosedUpToNames.{HaveOneKeyUpToNames, TellsUpToNames}
+use Rattle.svc_renaming_laws.specs.ClosedUpToNames.{TellsUpToNames}
 use Rattle.svc_renaming_laws.proofs.Names.{map_both, undone_renames, followed_renames}
 use Rattle.svc_renaming_laws.proofs.ReachedNames.{renamed_reached}
 use Rattle.svc_renaming_laws.proofs.MoveNames.{standing_back, standing_followed}

@@ -1,5 +1,5 @@
 -- Searches among renamed units.
-use Rattle.std.proofs.Common.{◌≡◌, sym, ap, ◌∙◌, ℕ, ◌<◌, Bool, true, Some, Option, option_map, inl, inr, arith}
+use Rattle.std.proofs.Common.{◌≡◌, sym, ap, ◌∙◌, ℕ, ◌<◌, Bool, true, Some, option_map, inl, inr, arith}
 use Rattle.std.proofs.lemmas.Bool.{cases_Bool}
 use Rattle.svc_bus_laws.specs.Search.{least}
 use Rattle.svc_bus_laws.proofs.Searches.{Found, least_cases, least_none, least_found}

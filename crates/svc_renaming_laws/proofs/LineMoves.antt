@@ -1,21 +1,21 @@
 -- Each step of a line table whose units are renamed, and each refusal.
-use Rattle.std.proofs.Common.{◌≡◌, refl, sym, ap, ◌∙◌, ℕ, suc, ◌+◌, ◌<◌, ◌≤◌, Some, None, true, false, Bool, cond, not, ◌&&◌, ltb, Option, List, [], ◌∷◌, ◌++◌, map, length, get_or, arith, is_some, unwrap_or, take, drop}
+use Rattle.std.proofs.Common.{◌≡◌, refl, sym, ap, ◌∙◌, ℕ, suc, ◌+◌, ◌<◌, ◌≤◌, Some, None, true, false, Bool, cond, not, ◌&&◌, ltb, Option, List, [], ◌∷◌, map, length, arith, is_some}
 use Rattle.std.specs.Bool.{◌==◌}
 use Rattle.std.specs.Option.{option_or}
 use Rattle.std.proofs.lemmas.List.{length-map}
 use Rattle.svc_bus_laws.specs.Versioned.{Versioned, view}
 use Rattle.svc_bus_laws.specs.Versioned as versions
-use Rattle.svc_bus_laws.specs.LineTable.{Line, LineTable, is_active, version_in, exposed_in, is_reusable, unit_at, line_at, is_cut, committed_value, versioned}
+use Rattle.svc_bus_laws.specs.LineTable.{Line, LineTable, is_active, version_in, exposed_in, is_reusable, unit_at, line_at, versioned}
 use Rattle.svc_bus_laws.specs.Steps.{with_at, with_line, purged, marked, settled, reused, is_overtaken, filled_line, fill, reuse, read, survivors, written_line, squash, store, write, replace, commit, begin}
 use Rattle.svc_bus_laws.specs.BusState.{unnumbered}
 use Rattle.svc_bus_laws.specs.BusLine.{is_active_line}
-use Rattle.svc_bus_laws.specs.Refusals.{CacheState, table_cache, is_head, is_pinned, set_full, is_not_resident}
+use Rattle.svc_bus_laws.specs.Refusals.{table_cache, is_head, is_pinned, set_full, is_not_resident}
 use Rattle.svc_bus_laws.specs.Sound.{IsSound}
 use Rattle.svc_bus_laws.proofs.Maps.{survivors_are}
 use Rattle.svc_bus_laws.proofs.Tables.{rows_count}
 use Rattle.svc_renaming_laws.specs.Renamings.{Renaming, IsRenaming}
 use Rattle.svc_renaming_laws.specs.RenamedLines.{renamed_lines}
-use Rattle.svc_renaming_laws.proofs.Names.{same_name, both_names, named_at, is_at, map_take, map_drop, map_append}
+use Rattle.svc_renaming_laws.proofs.Names.{same_name, both_names, is_at, map_take, map_drop, map_append}
 use Rattle.svc_renaming_laws.proofs.LineNames.{units_count, same_line, same_overtaken, same_cut, same_committed, same_map}
 
 -- two tables that differ in nothing

@@ -2,15 +2,15 @@
 use Rattle.std.proofs.Common.{◌≡◌, ◌⊎◌, refl, sym, ap, ap₂, ◌∙◌, subst, ℕ, suc, ◌+◌, ◌<◌, ◌≤◌, Some, None, true, false, Bool, cond, not, ◌&&◌, ◌||◌, leb, ltb, Option, List, map, length, get_or, inl, inr, arith, true≢false, is_some, option_map}
 use Rattle.std.specs.Bool.{◌==◌}
 use Rattle.std.specs.Option.{option_or}
-use Rattle.std.proofs.lemmas.Bool.{cases_Bool, cases_eq, and_parts, leb-true}
+use Rattle.std.proofs.lemmas.Bool.{cases_eq, and_parts, leb-true}
 use Rattle.std.proofs.lemmas.List.{length-map}
-use Rattle.svc_bus_laws.specs.Search.{least, greatest, all_below, any_below, tabulate}
-use Rattle.svc_bus_laws.specs.Versioned.{Row, Versioned, view}
+use Rattle.svc_bus_laws.specs.Search.{greatest, any_below, tabulate}
+use Rattle.svc_bus_laws.specs.Versioned.{view}
 use Rattle.svc_bus_laws.specs.LineTable.{Line, LineTable, is_active, version_in, exposed_in, is_committed_dirty, is_reusable, task_in, unit_at, line_at, is_newest, newest, value_of, committed_value, own_version, row_of, versioned, is_cut}
-use Rattle.svc_bus_laws.specs.Supplier.{Supplier, Hit, Reuse, Version, Spill, Committed, Memory, by_committed, by_version, supplier}
+use Rattle.svc_bus_laws.specs.Supplier.{Supplier, Hit, Reuse, Version, Spill, by_committed, by_version, supplier}
 use Rattle.svc_bus_laws.specs.Steps.{is_overtaken}
-use Rattle.svc_bus_laws.specs.Sound.{IsActiveLine, IsCommittedLine, IsSoundLine, IsSpilled, IsSound}
-use Rattle.svc_bus_laws.proofs.Searches.{least_cases, least_none, least_found, Found, all_true, any_same, greatest_same, greatest_cases}
+use Rattle.svc_bus_laws.specs.Sound.{IsSoundLine, IsSound}
+use Rattle.svc_bus_laws.proofs.Searches.{all_true, any_same, greatest_same, greatest_cases}
 use Rattle.svc_renaming_laws.specs.Renamings.{Renaming, IsRenaming}
 use Rattle.svc_renaming_laws.specs.RenamedLines.{renamed_lines, renamed_supplier}
 use Rattle.svc_renaming_laws.proofs.LeastNames.{least_renamed}

@@ -1,9 +1,8 @@
 -- Moves, plays and what they show, of renamed units.
-use Rattle.std.proofs.Common.{ℕ, suc, ◌≡◌, ◌+◌, Bool, List, [], ◌∷◌, ◌++◌, map, length, Option, Some, None, inl, inr, refl, sym, ap, ap₂, ◌∙◌, subst, option_map, unwrap_or}
+use Rattle.std.proofs.Common.{ℕ, ◌≡◌, ◌+◌, List, [], ◌∷◌, ◌++◌, map, Option, Some, None, inl, inr, refl, sym, ap, ap₂, ◌∙◌, subst, option_map, unwrap_or}
 use Rattle.std.specs.Prelude.{◌↔◌, option_and_then, option_to_list, slice_get}
 use Rattle.std.proofs.lemmas.List.{length-map}
 use Rattle.svc_base.specs.declared.config.Config.{Config}
-use Rattle.svc_base.specs.declared.ids.WordAddr.{WordAddr}
 use Rattle.svc_base.specs.declared.refusal.Refusal.{Refusal}
 use Rattle.svc_base.specs.declared.served.Served.{Served}
 use Rattle.svc_base.specs.declared.served.Served.TheVariants as served
@@ -12,14 +11,14 @@ use Rattle.svc_core_laws.specs.declared.end.End.{End}
 use Rattle.svc_core_laws.specs.State.{State}
 use Rattle.svc_core_laws.specs.Program.{Program, seq}
 use Rattle.svc_core_laws.specs.Words.{program}
-use Rattle.svc_core_laws.specs.Bursts.{Advance, IsAdvance}
+use Rattle.svc_core_laws.specs.Bursts.{Advance}
 use Rattle.svc_machine_laws.specs.declared.reply.Reply.{Reply}
 use Rattle.svc_machine_laws.specs.PlainMachine.{Task, Plain, Running, running, run_done}
 use Rattle.svc_machine_laws.specs.WholeMachine.{Seat, Machine, machine_of}
 use Rattle.svc_machine_laws.specs.Guess.{guess, guess_after, successor_at, last_end, youngest}
 use Rattle.svc_machine_laws.specs.Refusals.{seat_at}
-use Rattle.svc_machine_laws.specs.Events.{Event, Submit, IsEvent, seat_place, task_place}
-use Rattle.svc_machine_laws.specs.Standing.{Standing, refused, stepped, reply_to}
+use Rattle.svc_machine_laws.specs.Events.{Event, Submit, IsEvent, seat_place}
+use Rattle.svc_machine_laws.specs.Standing.{Standing, refused, reply_to}
 use Rattle.svc_machine_laws.specs.Reached.{IsReached}
 use Rattle.svc_machine_laws.proofs.Given.{given}
 use Rattle.svc_machine_laws.proofs.Standings.{step_reached}
@@ -29,19 +28,17 @@ use Rattle.svc_history_laws.specs.declared.entry.Entry.{Entry}
 use Rattle.svc_history_laws.specs.Entries.{kind_served, unit_served, served_told, entry_of}
 use Rattle.svc_explore_laws.specs.declared.observation.Happening.{Happening}
 use Rattle.svc_explore_laws.specs.declared.observation.Happening.TheVariants as what
-use Rattle.svc_explore_laws.specs.declared.observation.By.{By}
 use Rattle.svc_explore_laws.specs.declared.observation.By.TheVariants as by
 use Rattle.svc_explore_laws.specs.declared.observation.Observation.{Observation}
-use Rattle.svc_explore_laws.specs.Moves.{IsBurstAt, SubmitsOrReplaces, AsksWith, AsksBy, Asks, Moves, IsTurn, Plays}
-use Rattle.svc_explore_laws.specs.Observations.{Numbers, numbers, happening_of, value_of, supplier_of, task_of, address_of, happened_so, happened, squashed_so, squashed, observed, observations}
-use Rattle.svc_explore_laws.specs.Closed.{IsIn}
+use Rattle.svc_explore_laws.specs.Moves.{IsBurstAt, SubmitsOrReplaces, AsksWith, AsksBy, Moves, IsTurn, Plays}
+use Rattle.svc_explore_laws.specs.Observations.{Numbers, numbers, happening_of, value_of, supplier_of, task_of, address_of, happened_so, squashed_so, observations}
 use Rattle.svc_explore_laws.proofs.ClosedPlays.{moves_event}
 use Rattle.svc_renaming_laws.specs.Renamings.{Renaming, IsRenaming, unchanged, undone, followed_by}
 use Rattle.svc_renaming_laws.specs.Renamed.{renamed_task, renamed_plain, renamed_standing, renamed_unit, renamed_burst, renamed_event, renamed_entry}
-use Rattle.svc_renaming_laws.specs.Sights.{sights, CanBeSeen}
+use Rattle.svc_renaming_laws.specs.Sights.{CanBeSeen}
 use Rattle.svc_renaming_laws.specs.SightLaws.{PlaysRenamed}
 use Rattle.svc_renaming_laws.proofs.Names.{undone_renames, map_both}
-use Rattle.svc_renaming_laws.proofs.TaskNames.{renamed_run, renamed_seat, renamed_machine, machine_renamed, runs_renamed, tasks_entries, same_place, same_seat_place, same_seat}
+use Rattle.svc_renaming_laws.proofs.TaskNames.{renamed_run, renamed_seat, machine_renamed, runs_renamed, tasks_entries, same_place, same_seat_place, same_seat}
 use Rattle.svc_renaming_laws.proofs.RefusalNames.{renamed_refused}
 use Rattle.svc_renaming_laws.proofs.ReachedNames.{renamed_reached}
 use Rattle.svc_renaming_laws.proofs.EventNames.{follows_renamed, renamed_step}

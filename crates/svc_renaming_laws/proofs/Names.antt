@@ -1,5 +1,5 @@
 -- Renamings, and lists of names.
-use Rattle.std.proofs.Common.{◌≡◌, ◌≢◌, refl, sym, ap, ◌∙◌, subst, ℕ, zero, suc, ◌<◌, ◌≤◌, leb, Bool, true, false, cond, List, [], ◌∷◌, ◌++◌, map, take, drop, length, get_or, inl, inr, arith, true≢false, eq-eqb, ne_eqb}
+use Rattle.std.proofs.Common.{◌≡◌, ◌≢◌, refl, sym, ap, ◌∙◌, subst, ℕ, zero, suc, ◌<◌, ◌≤◌, leb, Bool, false, List, [], ◌∷◌, ◌++◌, map, take, drop, length, get_or, inl, inr, arith, eq-eqb, ne_eqb}
 use Rattle.std.specs.Bool.{◌==◌}
 use Rattle.std.proofs.lemmas.Bool.{cases_Bool, cases_eq, leb-true, leb-false, lt-leb}
 use Rattle.std.proofs.lemmas.List.{get_or-map}

@@ -1,15 +1,15 @@
 -- A list of all units is a renaming.
 use Rattle.std.proofs.Common.{◌≡◌, ◌≢◌, refl, sym, ap, ◌∙◌, subst, ℕ, zero, suc, ◌<◌, ◌≤◌, Bool, true, false, ◌||◌, List, [], ◌∷◌, length, get_or, Option, Some, None, inl, inr, arith, true≢false, slice_get, unwrap_or, ne_eqb}
 use Rattle.std.specs.Bool.{◌==◌}
-use Rattle.std.specs.List.{IsDistinct, list_any}
-use Rattle.std.proofs.lemmas.Bool.{cases_Bool, cases_eq, eqb-true, leb-true, leb-false}
+use Rattle.std.specs.List.{list_any}
+use Rattle.std.proofs.lemmas.Bool.{cases_Bool, eqb-true, leb-true, leb-false}
 use Rattle.std.proofs.lemmas.List.{get_or_default}
-use Rattle.std.proofs.lemmas.Option.{none-some, same_Some, slice_get_past, slice_get-get_or, get_or_from_slice_get}
+use Rattle.std.proofs.lemmas.Option.{slice_get_past, slice_get-get_or, get_or_from_slice_get}
 use Rattle.std.proofs.lemmas.Map.Keys.{IsDistinct-from_apart}
 use Rattle.std.proofs.lemmas.Map.Steps.{length-le_from_distinct_below}
 use Rattle.svc_machine_laws.specs.Events.{place_in}
 use Rattle.svc_machine_laws.proofs.Places.{not_found, found, within}
-use Rattle.svc_renaming_laws.specs.Renamings.{Renaming, IsRenaming}
+use Rattle.svc_renaming_laws.specs.Renamings.{IsRenaming}
 use Rattle.svc_renaming_laws.specs.Orders.{IsOrder, by_order}
 
 -- what holds of the number at each place holds of each number in the list

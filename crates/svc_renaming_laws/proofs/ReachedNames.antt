@@ -1,13 +1,13 @@
 -- The renamed standing is one that events could lead to.
-use Rattle.std.proofs.Common.{ℕ, ◌≡◌, ◌+◌, ◌≤◌, List, [], ◌∷◌, map, length, Option, Some, refl, sym, ap, ◌∙◌, subst}
+use Rattle.std.proofs.Common.{ℕ, ◌≡◌, ◌+◌, ◌≤◌, List, [], ◌∷◌, map, length, Option, refl, sym, ap, ◌∙◌, subst}
 use Rattle.std.specs.List.{AllByRecursion}
 use Rattle.svc_base.specs.declared.config.Config.{Config}
 use Rattle.svc_image.specs.Image.{Image}
 use Rattle.svc_core_laws.specs.State.{State}
 use Rattle.svc_core_laws.specs.Program.{output, seq}
 use Rattle.svc_core_laws.specs.Words.{program}
-use Rattle.svc_machine_laws.specs.PlainMachine.{Task, Running, running, unit_of, IsDue}
-use Rattle.svc_machine_laws.specs.WholeMachine.{Machine, machine_of}
+use Rattle.svc_machine_laws.specs.PlainMachine.{Task, Running, running, IsDue}
+use Rattle.svc_machine_laws.specs.WholeMachine.{Machine}
 use Rattle.svc_machine_laws.specs.Standing.{Standing}
 use Rattle.svc_machine_laws.specs.Reached.{BeganAtEntry, IsCounted, words_waiting, IsReached}
 use Rattle.svc_renaming_laws.specs.Renamings.{Renaming, IsRenaming}

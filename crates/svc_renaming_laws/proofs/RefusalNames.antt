@@ -1,8 +1,7 @@
 -- An event is refused for the same reason whatever the units' names.
-use Rattle.std.proofs.Common.{ℕ, ◌≡◌, ◌<◌, ◌≤◌, ◌^◌, ◌-◌, ◌==◌, Bool, true, false, cond, not, ◌&&◌, List, [], ◌∷◌, map, Option, Some, None, refl, sym, ap, ◌∙◌, subst, is_some, is_none, option_map, unwrap_or, slice_get}
+use Rattle.std.proofs.Common.{ℕ, ◌≡◌, ◌^◌, ◌-◌, ◌==◌, false, not, ◌&&◌, [], ◌∷◌, Option, Some, None, refl, sym, ap, ◌∙◌, subst, is_some, is_none, option_map, unwrap_or, slice_get}
 use Rattle.std.proofs.lemmas.Option.{slice_get-map}
 use Rattle.svc_base.specs.declared.config.Config.{Config}
-use Rattle.svc_base.specs.declared.refusal.Refusal.{Refusal}
 use Rattle.svc_base.specs.declared.refusal.Refusal.TheVariants as refusal
 use Rattle.svc_image.specs.Image.{Image, is_entry}
 use Rattle.svc_core_laws.specs.State.{State}
@@ -17,7 +16,7 @@ use Rattle.svc_machine_laws.specs.Standing.{Standing, refused}
 use Rattle.svc_machine_laws.specs.Reached.{IsReached}
 use Rattle.svc_renaming_laws.specs.Renamings.{Renaming, IsRenaming}
 use Rattle.svc_renaming_laws.specs.RenamedLines.{renamed_lines}
-use Rattle.svc_renaming_laws.specs.Renamed.{renamed_plain, renamed_standing, renamed_burst, renamed_event}
+use Rattle.svc_renaming_laws.specs.Renamed.{renamed_standing, renamed_burst, renamed_event}
 use Rattle.svc_renaming_laws.proofs.Names.{same_known}
 use Rattle.svc_renaming_laws.proofs.LineMoves.{same_full, same_resident, same_pinned}
 use Rattle.svc_renaming_laws.proofs.TaskNames.{renamed_seat, renamed_machine, machine_renamed, same_seat_place, same_seat}

@@ -1,5 +1,5 @@
 -- The answer to an event of renamed units, and its entry.
-use Rattle.std.proofs.Common.{ℕ, zero, suc, ◌≡◌, ◌+◌, ◌<◌, Bool, true, false, cond, List, [], ◌∷◌, map, length, Option, Some, None, refl, sym, ap, ap₂, ◌∙◌, subst, arith, option_map, slice_get, unwrap_or, is_some}
+use Rattle.std.proofs.Common.{ℕ, suc, ◌≡◌, ◌+◌, ◌<◌, Bool, true, false, cond, List, [], ◌∷◌, map, length, Option, Some, None, refl, sym, ap, ◌∙◌, subst, arith, option_map, slice_get, unwrap_or, is_some}
 use Rattle.std.specs.Prelude.{option_and_then}
 use Rattle.std.proofs.lemmas.Option.{slice_get-map}
 use Rattle.std.proofs.lemmas.List.{length-map}
@@ -12,7 +12,6 @@ use Rattle.svc_core_laws.specs.State.{State}
 use Rattle.svc_core_laws.specs.Program.{Memory, Program, Run, Want, Local, Load, Store, Narrow, Emit, wrote, over, part, seq}
 use Rattle.svc_core_laws.specs.Words.{program}
 use Rattle.svc_bus_laws.specs.Versioned.{Row}
-use Rattle.svc_bus_laws.specs.LineTable.{LineTable}
 use Rattle.svc_bus_laws.specs.Supplier.{Supplier, supplier}
 use Rattle.svc_bus_laws.specs.Supplier as supply
 use Rattle.svc_machine_laws.specs.declared.reply.What.{What}
@@ -31,7 +30,7 @@ use Rattle.svc_renaming_laws.specs.Renamings.{Renaming, IsRenaming}
 use Rattle.svc_renaming_laws.specs.RenamedLines.{renamed_lines, renamed_supplier}
 use Rattle.svc_renaming_laws.specs.Renamed.{renamed_task, renamed_plain, renamed_standing, renamed_unit, renamed_event, renamed_served, renamed_what, renamed_reply, renamed_entry}
 use Rattle.svc_renaming_laws.proofs.LineNames.{same_supplier}
-use Rattle.svc_renaming_laws.proofs.TaskNames.{renamed_run, tasks_entries, runs_renamed, memory_renamed, rows_renamed, submit_renamed, misled_renamed, same_place}
+use Rattle.svc_renaming_laws.proofs.TaskNames.{tasks_entries, runs_renamed, memory_renamed, rows_renamed, submit_renamed, misled_renamed, same_place}
 
 module _ (r : Renaming) where
   -- ---- the entry

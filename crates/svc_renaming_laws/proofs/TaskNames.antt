@@ -1,13 +1,10 @@
 -- The plain and the whole machine of renamed units.
-use Rattle.std.proofs.Common.{ℕ, zero, suc, ◌≡◌, ◌+◌, Bool, true, false, cond, List, [], ◌∷◌, ◌++◌, map, take, length, Option, Some, None, refl, sym, ap, ap₂, ◌∙◌, option_map, slice_get, unwrap_or, is_some}
+use Rattle.std.proofs.Common.{ℕ, zero, suc, ◌≡◌, Bool, true, false, cond, List, [], ◌∷◌, ◌++◌, map, Option, Some, None, refl, sym, ap, ap₂, ◌∙◌, option_map, slice_get, unwrap_or, is_some}
 use Rattle.std.proofs.lemmas.Option.{slice_get-map}
-use Rattle.std.proofs.lemmas.List.{length-map}
 use Rattle.svc_image.specs.Image.{Image}
 use Rattle.svc_core_laws.specs.declared.end.End.{End}
-use Rattle.svc_core_laws.specs.State.{State}
 use Rattle.svc_core_laws.specs.Program.{Memory, Program, Run, Want, Local, Load, Store, Narrow, Emit, seq, part, over, wrote}
 use Rattle.svc_core_laws.specs.Words.{program}
-use Rattle.svc_core_laws.specs.Bursts.{Advance}
 use Rattle.svc_bus_laws.specs.Versioned.{with_head}
 use Rattle.svc_bus_laws.specs.ByRows.{edit}
 use Rattle.svc_machine_laws.specs.PlainMachine.{Task, Plain, Running, unit_of, entry_of, runs_of, running, row_of, memory_at, more, one_more, cut_by, asked_by, asked, submitted, stays, settled, cuts_after, run_done, run_entry, entry_for, accept}

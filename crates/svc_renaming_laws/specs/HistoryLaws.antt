@@ -5,7 +5,6 @@ use Rattle.svc_base.specs.declared.config.Config.{Config}
 use Rattle.svc_image.specs.Image.{Image, IsImage}
 use Rattle.svc_machine_laws.specs.Events.{Event, IsEvent}
 use Rattle.svc_machine_laws.specs.Standing.{Standing, after_events}
-use Rattle.svc_machine_laws.specs.Reached.{IsReached}
 use Rattle.svc_history_laws.specs.declared.entry.Entry.{Entry}
 use Rattle.svc_history_laws.specs.Legal.{Legal, LegalHistory, last, led_to}
 use Rattle.svc_renaming_laws.specs.Renamings.{Renaming, IsRenaming}

@@ -1,6 +1,6 @@
 -- The bus has nothing to do with the names of units.
-use Rattle.std.specs.Prelude.{◌≡◌, ℕ, ◌<◌, ◌≤◌, length, option_map}
-use Rattle.svc_bus_laws.specs.LineTable.{LineTable, newest, committed_value, versioned}
+use Rattle.std.specs.Prelude.{◌≡◌, ℕ, ◌<◌, length, option_map}
+use Rattle.svc_bus_laws.specs.LineTable.{LineTable, newest, versioned}
 use Rattle.svc_bus_laws.specs.Supplier.{supplier}
 use Rattle.svc_bus_laws.specs.Steps.{read, write, replace, squash, commit, begin}
 use Rattle.svc_bus_laws.specs.Sound.{IsSound}

@@ -1,5 +1,5 @@
 -- A standing, an event, an answer and an entry whose units are renamed. Tasks keep their numbers.
-use Rattle.std.specs.Prelude.{Option, map, option_map}
+use Rattle.std.specs.Prelude.{map, option_map}
 use Rattle.svc_base.specs.declared.ids.UnitId.{UnitId}
 use Rattle.svc_base.specs.declared.served.Served.{Served}
 use Rattle.svc_base.specs.declared.served.Served.TheVariants as served
