@@ -27,7 +27,9 @@ opened_at d text = said_by OPENED (name_at text) >>= (λ s. said_at d s (past_na
 -- a number that may have a minus sign, or a label's address
 abbrev pub datum_from : Layout → List ℕ → Read Signed
 datum_from d [] = None
-datum_from d (c ∷ rest) = if c == 45 then behind_sign true rest else option_map (λ n. (record { negative = false; magnitude = n.0 }, n.1)) (value_at d (c ∷ rest))
+datum_from d (c ∷ rest) =
+    if c == 45 then behind_sign true rest else
+    option_map (λ n. (record { negative = false; magnitude = n.0 }, n.1)) (value_at d (c ∷ rest))
 
 unfoldable pub datum_at : Layout → List ℕ → Read Signed
 datum_at d text = datum_from d (past_spaces text)
@@ -40,7 +42,9 @@ half wide.Word = 2147483648
 
 -- behind a part of a list: a comma and what begins the next one, or the end of the line, behind which a line is read
 unfoldable pub going_at : Next → List ℕ → Read Next
-going_at n text = found (mark_at 44 text) (λ more. option_map (λ rest. (n, rest)) (begun_at n more)) (option_map (λ rest. (go.Line, rest)) (end_at text))
+going_at n text =
+    found (mark_at 44 text) (λ more. option_map (λ rest. (n, rest)) (begun_at n more))
+    (option_map (λ rest. (go.Line, rest)) (end_at text))
 
 unfoldable pub item_at : Layout → Width → List ℕ → Read Statement
 item_at d w text = do
@@ -72,7 +76,8 @@ octal_on n text = found (octal_digit text) (λ d. (8 * n + d.0, d.1)) (n, text)
 unfoldable pub octal_at : Ending → List ℕ → Read Statement
 octal_at e text = do
   d ← octal_digit text
-  put_at e ((octal_on (octal_on d.0 d.1).0 (octal_on d.0 d.1).1).0 % 256) (octal_on (octal_on d.0 d.1).0 (octal_on d.0 d.1).1).1
+  put_at e ((octal_on (octal_on d.0 d.1).0 (octal_on d.0 d.1).1).0 % 256)
+      (octal_on (octal_on d.0 d.1).0 (octal_on d.0 d.1).1).1
 
 -- a byte and the hexadecimal digits that follow, of which the last two count
 unfoldable pub hex_on : ℕ → List ℕ → ℕ × List ℕ
@@ -88,7 +93,8 @@ hex_at e (c ∷ rest) = do
 
 unfoldable pub escape_at : Ending → List ℕ → Read Statement
 escape_at e [] = None
-escape_at e (c ∷ rest) = if c == 120 then hex_at e rest else found (escaped c) (λ b. put_at e b rest) (octal_at e (c ∷ rest))
+escape_at e (c ∷ rest) =
+    if c == 120 then hex_at e rest else found (escaped c) (λ b. put_at e b rest) (octal_at e (c ∷ rest))
 
 -- a character of a string, or the quote behind its last one; a string ends on its line
 unfoldable pub character_at : Ending → List ℕ → Read Statement
@@ -100,12 +106,15 @@ character_at e (c ∷ rest) =
     put_at e c rest
 
 unfoldable pub moved_by : Bool → Spot → List ℕ → Read Spot
-moved_by negative s text = option_map (λ n. (record { section = s.section; offset = sum s.offset (bits_of n.0) }, n.1)) (behind_sign negative text)
+moved_by negative s text =
+    option_map (λ n. (record { section = s.section; offset = sum s.offset (bits_of n.0) }, n.1))
+    (behind_sign negative text)
 
 -- a place and what is added to it or taken away
 abbrev pub moved_from : Spot → List ℕ → List ℕ → Read Spot
 moved_from s rest [] = Some (s, rest)
-moved_from s rest (c ∷ more) = if c == 43 then moved_by false s more else if c == 45 then moved_by true s more else Some (s, rest)
+moved_from s rest (c ∷ more) =
+    if c == 43 then moved_by false s more else if c == 45 then moved_by true s more else Some (s, rest)
 
 -- what a dot or a name before stands for
 unfoldable pub spot_named : Layout → List ℕ → Option Spot
@@ -113,7 +122,9 @@ spot_named d name = if bytes_eq name (codes ".") then Some (spot_here d) else d.
 
 -- what a number, a dot or a name before stands for
 unfoldable pub first_spot_at : Layout → List ℕ → Read Spot
-first_spot_at d text = found (number_at text) (λ n. Some (record { section = section.Text; offset = n.0 }, n.1)) (option_map (λ s. (s, past_name text)) (spot_named d (name_at text)))
+first_spot_at d text =
+    found (number_at text) (λ n. Some (record { section = section.Text; offset = n.0 }, n.1))
+    (option_map (λ s. (s, past_name text)) (spot_named d (name_at text)))
 
 unfoldable pub spot_at : Layout → List ℕ → Read Spot
 spot_at d text = do

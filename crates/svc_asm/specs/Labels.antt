@@ -31,7 +31,8 @@ label_in d name s = if names_place s && not (is_hidden name) then told_by name (
 abbrev pub Gives : List Statement → List ℕ → Layout → Layout → (labels : List (List ℕ × ℕ)) → Type 0
 Gives [] text old new labels = (text ≡ []) × (old ≡ new) × (labels ≡ [])
 Gives (s ∷ ss) text old new labels =
-    (rest : List ℕ) × (next : Layout) × (more : List (List ℕ × ℕ)) × Takes text old s rest next × (labels ≡ label_in next (name_at text) s ++ more)
+    (rest : List ℕ) × (next : Layout) × (more : List (List ℕ × ℕ)) × Takes text old s rest next
+    × (labels ≡ label_in next (name_at text) s ++ more)
     × Gives ss rest next new more
 
 -- the labels of a text, in the order of their lines: those that its second pass gives

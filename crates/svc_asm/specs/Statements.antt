@@ -47,7 +47,8 @@ section_by name = section_in SECTIONS name
 abbrev pub said_of : Number → ℕ → Option Statement
 said_of number.Power n = if nat_le n 16 then Some (say.Align (2 ^ n)) else None
 said_of number.Step n = Some (say.Align n)
-said_of number.Version n = if n == 1 then Some (say.Version version.One) else if n == 2 then Some (say.Version version.Two) else None
+said_of number.Version n =
+    if n == 1 then Some (say.Version version.One) else if n == 2 then Some (say.Version version.Two) else None
 said_of number.Limit n = Some (say.Limit n)
 said_of number.Own n = Some (say.Entry (Some n))
 
@@ -59,7 +60,8 @@ numbered_at number text = do
 
 -- behind a comma a number that may have a minus sign, as 32 bits, and without one this number
 unfoldable pub number_or : ℕ → List ℕ → Read ℕ
-number_or default text = found (mark_at 44 text) (λ rest. option_map (λ s. (bits_of s.0, s.1)) (signed_at rest)) (Some (default, text))
+number_or default text =
+    found (mark_at 44 text) (λ rest. option_map (λ s. (bits_of s.0, s.1)) (signed_at rest)) (Some (default, text))
 
 -- so many bytes, which are 0 where no other number is said
 unfoldable pub zeros_at : List ℕ → Read Statement
@@ -88,7 +90,8 @@ entry_before (c ∷ name) text = numbered_at number.Own text
 abbrev pub is_inside : ℕ → Bool
 is_inside c = not (c == 10)
 
--- what the rest of a line that is passed over has stood before the next character: a line feed ends it, but not in a comment between a slash and a star and a star and a slash, and a semicolon outside of strings and comments
+-- what the rest of a line that is passed over has stood before the next character: a line feed ends it, but not in a
+-- comment between a slash and a star and a star and a slash, and a semicolon outside of strings and comments
 abbrev pub rest_behind : Passed → ℕ → List ℕ → Option Passed
 rest_behind passed.Plain c rest =
     if c == 10 || c == 59 then None else
@@ -101,7 +104,8 @@ rest_behind passed.Escaped c rest = if c == 10 then None else Some passed.Quoted
 rest_behind passed.Remark c rest = if c == 10 then None else Some passed.Remark
 rest_behind passed.Opening c rest = Some passed.Inside
 rest_behind passed.Inside c rest = if c == 42 then Some passed.Star else Some passed.Inside
-rest_behind passed.Star c rest = if c == 47 then Some passed.Plain else if c == 42 then Some passed.Star else Some passed.Inside
+rest_behind passed.Star c rest =
+    if c == 47 then Some passed.Plain else if c == 42 then Some passed.Star else Some passed.Inside
 
 unfoldable pub past_rest : Passed → List ℕ → List ℕ
 past_rest p [] = []
@@ -144,7 +148,8 @@ said_at d says.Fill text = fill_at text
 said_at d says.ReadOnly text = Some (say.ReadOnly, text)
 said_at d says.Entry text = entry_before (name_at text) text
 said_at d says.Start text = option_map (λ n. (say.Start n.0, n.1)) (value_at d text)
-said_at d says.Register text = first_register_at text >>= (λ r. option_map (λ n. (say.Register r.0 n.0, n.1)) (value_at d r.1))
+said_at d says.Register text =
+    first_register_at text >>= (λ r. option_map (λ n. (say.Register r.0 n.0, n.1)) (value_at d r.1))
 said_at d says.Passed text = Some (say.Nothing, past_rest passed.Plain text)
 said_at d says.Unread text = None
 said_at d (says.Open n) text = option_map (λ rest. (say.Open n, rest)) (begun_at n text)
@@ -194,7 +199,8 @@ is_label (c ∷ name) = not (is_from_to 48 57 c)
 
 -- what a name, or a local label's number, and a colon say
 abbrev pub label_with : List ℕ → List ℕ → Read Statement
-label_with name rest = if is_label name then Some (say.Label, rest) else option_map (λ n. (say.Local n, rest)) (value_of 10 name)
+label_with name rest =
+    if is_label name then Some (say.Label, rest) else option_map (λ n. (say.Local n, rest)) (value_of 10 name)
 
 -- a line, up to the colon where it begins with a label: what it says, and the text behind it
 unfoldable pub line_at : Layout → List ℕ → Read Statement

@@ -12,7 +12,8 @@ use Rattle.svc_depend.specs.Pairs.{pair_told}
 use Rattle.svc_depend.specs.Tables.{text_over}
 use Rattle.svc_depend.specs.Words.{is_touched, untouched}
 
--- the task from which the word comes, if the one that reads it needs it here for the first time and it comes from a task
+-- the task from which the word comes, if the one that reads it needs it here for the first time and it comes from a
+-- task
 abbrev pub origin_of : (task : ℕ) → Word → Option ℕ
 origin_of task x = cond (is_touched task x || (x.writer == 0)) None (Some (x.writer - 1))
 
@@ -31,7 +32,8 @@ is_link on word l = (l.on == on) && (l.word == word)
 
 -- the links are those of a task that has exposed these words, each once
 abbrev pub AreLinks : {C : Type 0} → Program C → (task : ℕ) → (exposes : ℕ → Bool) → List Link → Type 0
-AreLinks p task exposes links = (on word : ℕ) → count_by (is_link on word) links ≡ cond (is_needed_of p task exposes on word) 1 0
+AreLinks p task exposes links =
+    (on word : ℕ) → count_by (is_link on word) links ≡ cond (is_needed_of p task exposes on word) 1 0
 
 -- the words of the links to a task
 abbrev pub words_on : List Link → (on : ℕ) → List ℕ
@@ -44,4 +46,5 @@ links_text form task links = text_over (λ on. pair_told form task on (words_on 
 -- links in the order of the tasks that are needed, and those of one in the order of their words
 pub record IsOrdered (links : List Link) : Type 0 where
   pub by_task : IsNonDecreasingBy (λ l. l.on) links
-  pub by_word : (i j : ℕ) (d : Link) → i ≤ j → j < length links → (get_or links j d).on ≡ (get_or links i d).on → (get_or links i d).word ≤ (get_or links j d).word
+  pub by_word : (i j : ℕ) (d : Link) → i ≤ j → j < length links → (get_or links j d).on ≡ (get_or links i d).on
+      → (get_or links i d).word ≤ (get_or links j d).word

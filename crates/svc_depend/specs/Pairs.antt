@@ -32,7 +32,8 @@ label names words = spaced names (take 3 words) ++ more_text (length words - 3)
 
 abbrev pub edge : Option (List Name) → (task on : ℕ) → List ℕ → List ℕ
 edge names task on words =
-    codes "  " ++ decimal task ++ codes " -> " ++ decimal on ++ codes " [label=\"" ++ label names words ++ codes "\"];\n"
+    codes "  " ++ decimal task ++ codes " -> " ++ decimal on ++ codes " [label=\"" ++ label names words
+    ++ codes "\"];\n"
 
 abbrev pub pair_text : PairForm → (task on : ℕ) → List ℕ → List ℕ
 pair_text pair.Rows task on words = pair_row task on words

@@ -20,7 +20,8 @@ named_row name number = row name (number ∷ [])
 abbrev pub totals_rows : Totals → List ℕ
 totals_rows t =
     named_row (codes "turns") t.turns ++ named_row (codes "needs") t.needs ++ named_row (codes "memory") t.memory
-    ++ named_row (codes "nearest") (unwrap_or t.nearest 0) ++ named_row (codes "units") (units_of 16 t.nearest) ++ named_row (codes "chain") t.chain
+    ++ named_row (codes "nearest") (unwrap_or t.nearest 0) ++ named_row (codes "units") (units_of 16 t.nearest)
+    ++ named_row (codes "chain") t.chain
 
 -- so many tasks and their ending, as a summary tells them, and what they need together
 abbrev pub totals_text : (tasks : ℕ) → Ending → Totals → List ℕ
@@ -49,11 +50,14 @@ text_over text (suc n) = text_over text n ++ text n
 
 -- the row of a word that tasks need or write
 abbrev pub word_row_of : (word readers writers nearest : ℕ) → List ℕ
-word_row_of word readers writers nearest = cond (nat_lt 0 readers || nat_lt 0 writers) (row (decimal word) (readers ∷ writers ∷ nearest ∷ [])) []
+word_row_of word readers writers nearest =
+    cond (nat_lt 0 readers || nat_lt 0 writers) (row (decimal word) (readers ∷ writers ∷ nearest ∷ [])) []
 
 -- that of a word, for the first so many tasks
 abbrev pub word_row : Image → (tasks word : ℕ) → List ℕ
-word_row img tasks word = word_row_of word (readers (program img) tasks word) (writers (program img) tasks word) (unwrap_or (nearest_of_word (program img) tasks word) 0)
+word_row img tasks word =
+    word_row_of word (readers (program img) tasks word) (writers (program img) tasks word)
+    (unwrap_or (nearest_of_word (program img) tasks word) 0)
 
 abbrev pub word_header : List ℕ
 word_header = codes "word,readers,writers,nearest\n"

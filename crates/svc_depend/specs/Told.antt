@@ -39,9 +39,12 @@ totals img tasks = record {
 -- what the first so many tasks did with the words
 pub record AreWords (img : Image) (tasks : ℕ) (words : List Word) : Type 0 where
   pub size : length words ≡ data_words img
-  pub readers_are : (word : ℕ) → word < length words → (get_or words word untouched).readers ≡ readers (program img) tasks word
-  pub writers_are : (word : ℕ) → word < length words → (get_or words word untouched).writers ≡ writers (program img) tasks word
-  pub nearest_is : (word : ℕ) → word < length words → (get_or words word untouched).nearest ≡ nearest_of_word (program img) tasks word
+  pub readers_are : (word : ℕ) → word < length words
+      → (get_or words word untouched).readers ≡ readers (program img) tasks word
+  pub writers_are : (word : ℕ) → word < length words
+      → (get_or words word untouched).writers ≡ writers (program img) tasks word
+  pub nearest_is : (word : ℕ) → word < length words
+      → (get_or words word untouched).nearest ≡ nearest_of_word (program img) tasks word
 
 -- ---- totals, task by task
 

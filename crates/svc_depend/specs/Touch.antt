@@ -20,12 +20,14 @@ part_read store.Word word = None
 
 -- the word of a store to data of so many words, of which so many are read-only
 abbrev pub stored_word : (words read_only : ℕ) → StoreKind → (addr : ℕ) → Option ℕ
-stored_word words read_only kind addr = unless_trap (store_trap words read_only (store_bytes kind) addr) (word_address addr)
+stored_word words read_only kind addr =
+    unless_trap (store_trap words read_only (store_bytes kind) addr) (word_address addr)
 
 -- the word that is read where this is asked, and the one that is written
 abbrev pub asked_read : (words read_only : ℕ) → Ask → Option ℕ
 asked_read words read_only ask.Nothing = None
-asked_read words read_only (ask.Load kind rd addr) = unless_trap (access_trap words (load_bytes kind) addr) (word_address addr)
+asked_read words read_only (ask.Load kind rd addr) =
+    unless_trap (access_trap words (load_bytes kind) addr) (word_address addr)
 asked_read words read_only (ask.Store kind addr value) = part_read kind (stored_word words read_only kind addr)
 asked_read words read_only (ask.Emit w) = None
 

@@ -16,19 +16,25 @@ abbrev pub place_of : Option ℕ → ℕ
 place_of None = 0
 place_of (Some task) = task + 1
 
--- what is kept of a word says what the tasks did with it, where the one that runs has exposed it or not, and written it or not, and it was stored so
-pub record IsWord {C : Type 0} (p : Program C) (task word : ℕ) (exposed written : Bool) (time : ℕ) (x : Word) : Type 0 where
+-- what is kept of a word says what the tasks did with it, where the one that runs has exposed it or not, and written it
+-- or not, and it was stored so
+pub record IsWord {C : Type 0} (p : Program C) (task word : ℕ) (exposed written : Bool) (time : ℕ)
+    (x : Word) : Type 0 where
   pub reader : (x.reader == task + 1) ≡ exposed
   pub no_later : x.reader ≤ task + 1
   pub writer : x.writer ≡ place_of (cond written (Some task) (comes_from p task word))
   pub stored : x.stored ≡ time
   pub readers : x.readers ≡ counts.readers p task word + cond exposed 1 0
   pub writers : x.writers ≡ counts.writers p task word + cond written 1 0
-  pub nearest : x.nearest ≡ lesser (cond exposed (back_to task (comes_from p task word)) None) (nearest_of_word p task word)
+  pub nearest : x.nearest
+      ≡ lesser (cond exposed (back_to task (comes_from p task word)) None) (nearest_of_word p task word)
 
--- a tracker has followed the sequential run through the tasks before its own, and its own has exposed and written these words, has stored each word at these times, and has come to this time
-pub record IsTracked {C : Type 0} (p : Program C) (exposes : ℕ → Bool) (writes : Words) (times : Times) (time : ℕ) (t : Tracker) : Type 0 where
-  pub words : (word : ℕ) → word < length t.words.items → IsWord p t.task word (exposes word) (is_written writes word) (times word) (get_or t.words.items word untouched)
+-- a tracker has followed the sequential run through the tasks before its own, and its own has exposed and written these
+-- words, has stored each word at these times, and has come to this time
+pub record IsTracked {C : Type 0} (p : Program C) (exposes : ℕ → Bool) (writes : Words) (times : Times) (time : ℕ)
+    (t : Tracker) : Type 0 where
+  pub words : (word : ℕ) → word < length t.words.items
+      → IsWord p t.task word (exposes word) (is_written writes word) (times word) (get_or t.words.items word untouched)
   pub needs : t.needs ≡ count_over exposes (length t.words.items)
   pub memory : t.memory ≡ count_over (is_from_memory p t.task exposes) (length t.words.items)
   pub stores : t.stores ≡ count_over (is_written writes) (length t.words.items)
@@ -69,7 +75,8 @@ pub record HasRead (word : ℕ) (s t : Tracker) (ready : ℕ) : Type 0 where
 -- a word was written
 pub record HasWritten (word : ℕ) (s t : Tracker) : Type 0 where
   pub same : IsSameTask s t
-  pub words : t.words.items ≡ slice_set s.words.items word (written_by s.task s.time (get_or s.words.items word untouched)).word
+  pub words : t.words.items
+      ≡ slice_set s.words.items word (written_by s.task s.time (get_or s.words.items word untouched)).word
   pub needs : t.needs ≡ s.needs
   pub memory : t.memory ≡ s.memory
   pub stores : t.stores ≡ s.stores + (written_by s.task s.time (get_or s.words.items word untouched)).stores

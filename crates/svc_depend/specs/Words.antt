@@ -19,7 +19,11 @@ is_touched task x = (x.reader == task + 1) || (x.writer == task + 1)
 -- a read by a task that needs it here for the first time
 abbrev pub first_read : (task : ℕ) → Word → Read
 first_read task x = record {
-  word = record x { reader = task + 1; readers = x.readers + 1; nearest = lesser (distance_back task x.writer) x.nearest };
+  word = record x {
+    reader = task + 1;
+    readers = x.readers + 1;
+    nearest = lesser (distance_back task x.writer) x.nearest;
+  };
   needs = 1;
   memory = cond (x.writer == 0) 1 0;
   distance = distance_back task x.writer;

@@ -147,7 +147,8 @@ fn put_pair(
 ) -> Result<(), AllocError>
     requires some { 0 < length links.now }
     requires before { on ≤ task }
-    ensures { OnOk result (text.new.items ≡ text.old.items ++ pair_text form.entry task on (map (λ l. l.word) links.now)) }
+    ensures { OnOk result (text.new.items ≡ text.old.items ++ pair_text form.entry task on
+        (map (λ l. l.word) links.now)) }
 {
     match form {
         PairForm::Rows => put_pair_row(text, task, on, links),
@@ -239,9 +240,9 @@ fn write_rows<W: Write>(
     Ok(Ending::of(false, stopped, due))
 }
 
-/// Follows the first `k` tasks of a program, or as many as there are, one after another on one flat memory, and writes for
-/// each what it needs of which earlier ones: a header and rows, or a graph. It tells how the run ended, or which task
-/// would be next.
+/// Follows the first `k` tasks of a program, or as many as there are, one after another on one flat memory, and writes
+/// for each what it needs of which earlier ones: a header and rows, or a graph. It tells how the run ended, or which
+/// task would be next.
 ///
 /// Errors: [`ReportError::Memory`], [`ReportError::Write`].
 pub fn write_pairs<W: Write>(

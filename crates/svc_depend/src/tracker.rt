@@ -39,7 +39,8 @@ impl Tracker {
         ensures turns { IfOk result (λ t. t.turns ≡ 0) }
         ensures size { IfOk result (λ t. length t.words.items ≡ words) }
         ensures below { IfOk result (IsBelow 0) }
-        ensures tracked { IfOk result (λ t. (p : Program State) → IsTracked p no_reads no_words (times_before p 0) 0 t) }
+        ensures tracked { IfOk result
+            (λ t. (p : Program State) → IsTracked p no_reads no_words (times_before p 0) 0 t) }
     {
         let words = vec![in alloc; Word::untouched(); words]?;
         Ok(Tracker {

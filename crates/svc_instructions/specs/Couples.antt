@@ -32,7 +32,8 @@ apart first second rd number = say.Pair (with_high first rd number) (with_low se
 
 -- what is left behind @plt, which changes nothing where all is in one image
 abbrev pub past_plt : List ℕ → List ℕ
-past_plt text = found (mark_at 64 text) (λ rest. if bytes_eq (name_at rest) (codes "plt") then past_name rest else text) text
+past_plt text =
+    found (mark_at 64 text) (λ rest. if bytes_eq (name_at rest) (codes "plt") then past_name rest else text) text
 
 -- two instructions by how far it is from here to a value
 unfoldable pub pair_at : Layout → (first second rd : ℕ) → List ℕ → Read Statement
@@ -47,7 +48,8 @@ linked_at d rd text = pair_at d 791 (joined 196711 part.Rd rd) 0 text
 abbrev pub through_at : Layout → Couple → Through → List ℕ → Read Statement
 through_at d c through.Own text = pair_at d c.1 c.2 0 text
 through_at d c through.First text = first_register_at text >>= (λ r. pair_at d c.1 c.2 r.0.number r.1)
-through_at d c through.Link text = found (first_register_at text) (λ r. linked_at d r.0.number r.1) (pair_at d c.1 c.2 0 text)
+through_at d c through.Link text =
+    found (first_register_at text) (λ r. linked_at d r.0.number r.1) (pair_at d c.1 c.2 0 text)
 
 unfoldable pub couple_at : Layout → Couple → List ℕ → Read Statement
 couple_at d c text = through_at d c c.3 text
@@ -72,11 +74,17 @@ store_at d word text = do
   n ← label_at d rs.1
   rest ← mark_at 44 n.1
   r ← register_at rest
-  Some (say.Pair (with_high 23 r.0.number (from_here d n.0)) (with_store word rs.0.number r.0.number (from_here d n.0)), r.1)
+  Some (
+    say.Pair (with_high 23 r.0.number (from_here d n.0))
+        (with_store word rs.0.number r.0.number (from_here d n.0)),
+    r.1,
+  )
 
 -- an access by a label
 unfoldable pub access_at : Layout → (name text : List ℕ) → Read Statement
-access_at d name text = found (number_named LOADS name) (λ word. load_at d word text) (number_named STORES name >>= (λ word. store_at d word text))
+access_at d name text =
+    found (number_named LOADS name) (λ word. load_at d word text)
+    (number_named STORES name >>= (λ word. store_at d word text))
 
 -- a number of 32 bits into a register, by the fewest instructions of addi (0x13) and lui (0x37)
 abbrev pub set_to : (rd number : ℕ) → Statement
@@ -113,11 +121,14 @@ alone_on_line read = if is_over read.1 then Some read else None
 
 -- one instruction, or an access by a label
 unfoldable pub other_at : Layout → (name letters text : List ℕ) → Read Statement
-other_at d name letters text = found (single_at d name letters text) (λ read. Some read) (access_at d name text >>= alone_on_line)
+other_at d name letters text =
+    found (single_at d name letters text) (λ read. Some read) (access_at d name text >>= alone_on_line)
 
 abbrev pub lettered_at : Layout → (name letters text : List ℕ) → Read Statement
-lettered_at d name letters text = found (find (has_name letters) COUPLES) (λ c. couple_at d c text) (other_at d name letters text)
+lettered_at d name letters text =
+    found (find (has_name letters) COUPLES) (λ c. couple_at d c text) (other_at d name letters text)
 
 -- the instruction, or the two, that a name and its operands stand for
 unfoldable pub instruction_at : Layout → (name text : List ℕ) → Read Statement
-instruction_at d name text = if bytes_eq name (codes "li") then set_at text else padded name >>= (λ letters. lettered_at d name letters text)
+instruction_at d name text =
+    if bytes_eq name (codes "li") then set_at text else padded name >>= (λ letters. lettered_at d name letters text)

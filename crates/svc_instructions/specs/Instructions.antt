@@ -50,7 +50,8 @@ placed part.Order n = n % 2 ^ 12 * 2 ^ 20
 placed part.StoreOffset n = n % 2 ^ 5 * 2 ^ 7 + n / 2 ^ 5 % 2 ^ 7 * 2 ^ 25
 placed part.Branch n = n % 2 ^ 4 * 2 ^ 8 + n / 2 ^ 4 % 2 ^ 6 * 2 ^ 25 + n / 2 ^ 10 % 2 * 2 ^ 7 + n / 2 ^ 11 % 2 * 2 ^ 31
 placed part.Upper n = n % 2 ^ 20 * 2 ^ 12
-placed part.Jump n = n % 2 ^ 10 * 2 ^ 21 + n / 2 ^ 10 % 2 * 2 ^ 20 + n / 2 ^ 11 % 2 ^ 8 * 2 ^ 12 + n / 2 ^ 19 % 2 * 2 ^ 31
+placed part.Jump n =
+    n % 2 ^ 10 * 2 ^ 21 + n / 2 ^ 10 % 2 * 2 ^ 20 + n / 2 ^ 11 % 2 ^ 8 * 2 ^ 12 + n / 2 ^ 19 % 2 * 2 ^ 31
 placed part.Comma n = 0
 placed part.End n = 0
 
@@ -66,7 +67,8 @@ taken part.Order w = w / 2 ^ 20 % 2 ^ 12
 taken part.StoreOffset w = w / 2 ^ 7 % 2 ^ 5 + w / 2 ^ 25 % 2 ^ 7 * 2 ^ 5
 taken part.Branch w = w / 2 ^ 8 % 2 ^ 4 + w / 2 ^ 25 % 2 ^ 6 * 2 ^ 4 + w / 2 ^ 7 % 2 * 2 ^ 10 + w / 2 ^ 31 % 2 * 2 ^ 11
 taken part.Upper w = w / 2 ^ 12 % 2 ^ 20
-taken part.Jump w = w / 2 ^ 21 % 2 ^ 10 + w / 2 ^ 20 % 2 * 2 ^ 10 + w / 2 ^ 12 % 2 ^ 8 * 2 ^ 11 + w / 2 ^ 31 % 2 * 2 ^ 19
+taken part.Jump w =
+    w / 2 ^ 21 % 2 ^ 10 + w / 2 ^ 20 % 2 * 2 ^ 10 + w / 2 ^ 12 % 2 ^ 8 * 2 ^ 11 + w / 2 ^ 31 % 2 * 2 ^ 19
 taken part.Comma w = 0
 taken part.End w = 0
 
@@ -110,7 +112,8 @@ row_at d r text = parts_at d (parts_of r) text r.1 >>= over
 abbrev pub rows_at : Layout → List Row → List ℕ → List ℕ → Read ℕ
 rows_at d [] name text = None
 rows_at d (r ∷ more) name text =
-    if bytes_eq name r.0 then found (row_at d r text) (λ read. Some read) (rows_at d more name text) else rows_at d more name text
+    if bytes_eq name r.0 then found (row_at d r text) (λ read. Some read) (rows_at d more name text) else
+    rows_at d more name text
 
 abbrev pub either_at : Layout → List Row → List Row → List ℕ → List ℕ → Read ℕ
 either_at d rows more name text = found (rows_at d rows name text) (λ read. Some read) (rows_at d more name text)
@@ -119,7 +122,8 @@ either_at d rows more name text = found (rows_at d rows name text) (λ read. Som
 unfoldable pub alone_at : Layout → List ℕ → List ℕ → Read Statement
 alone_at d letters text = option_map (λ read. (say.Instruction read.0, read.1)) (either_at d ROWS ALIASES letters text)
 
--- the bits of a word that no operand has, by its opcode (RV32I, section 2.2 Base Instruction Formats): funct3 stands beside it but in formats U and J, funct7 in format R and in shifts, and system calls have no operands
+-- the bits of a word that no operand has, by its opcode (RV32I, section 2.2 Base Instruction Formats): funct3 stands
+-- beside it but in formats U and J, funct7 in format R and in shifts, and system calls have no operands
 abbrev pub with_funct3 : ℕ → ℕ
 with_funct3 w = w % 2 ^ 7 + w / 2 ^ 12 % 2 ^ 3 * 2 ^ 12
 

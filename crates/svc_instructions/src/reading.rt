@@ -131,7 +131,8 @@ fn read_part<'a>(draft: &Draft, part: Part, text: &'a [u8]) -> Read<'a, u32>
 }
 
 fn read_parts<'a>(draft: &Draft, row: &Row, text: &'a [u8]) -> Read<'a, u32>
-    ensures { Gives (λ x. (x.0, x.1.now)) result (parts_at (layout_of draft.now) (parts_of row.now) text.now row.now.1) }
+    ensures { Gives (λ x. (x.0, x.1.now)) result
+        (parts_at (layout_of draft.now) (parts_of row.now) text.now row.now.1) }
 {
     let mut word = row.1;
     let mut rest = text;

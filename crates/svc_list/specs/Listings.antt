@@ -43,7 +43,8 @@ short_text n = 32 ∷ signed_text 2048 n
 
 -- an offset from here, which is twice a number of so many
 abbrev pub offset_text : ℕ → ℕ → List ℕ
-offset_text half n = if nat_lt n half then codes " . + " ++ decimal (2 * n) else codes " . - " ++ decimal (2 * (2 * half - n))
+offset_text half n =
+    if nat_lt n half then codes " . + " ++ decimal (2 * n) else codes " . - " ++ decimal (2 * (2 * half - n))
 
 abbrev pub upper_text : ℕ → List ℕ
 upper_text n = 32 ∷ decimal n
@@ -54,7 +55,8 @@ hex_digit n = if nat_lt n 10 then 48 + n else 87 + n
 
 unfoldable pub hex_text : ℕ → List ℕ
 hex_text n =
-    hex_digit (n / 2 ^ 28 % 16) ∷ hex_digit (n / 2 ^ 24 % 16) ∷ hex_digit (n / 2 ^ 20 % 16) ∷ hex_digit (n / 2 ^ 16 % 16)
+    hex_digit (n / 2 ^ 28 % 16) ∷ hex_digit (n / 2 ^ 24 % 16) ∷ hex_digit (n / 2 ^ 20 % 16)
+    ∷ hex_digit (n / 2 ^ 16 % 16)
     ∷ hex_digit (n / 2 ^ 12 % 16) ∷ hex_digit (n / 2 ^ 8 % 16) ∷ hex_digit (n / 2 ^ 4 % 16) ∷ hex_digit (n % 16) ∷ []
 
 -- the label of a place in the text, by its address
@@ -140,15 +142,16 @@ HasText _ = ⊥
 abbrev pub address_note : ℕ → List ℕ
 address_note address = 9 ∷ (codes "# 0x" ++ hex_text address)
 
--- the comments behind a word of the text, which tells its bits, and behind a word of the data: both end with the name of
--- the address, if names are given and it has one
+-- the comments behind a word of the text, which tells its bits, and behind a word of the data: both end with the name
+-- of the address, if names are given and it has one
 abbrev pub word_note : Option (List Name) → (address word : ℕ) → List ℕ
 word_note names address word = address_note address ++ (32 ∷ (hex_text word ++ noted_by names address))
 
 abbrev pub datum_note : Option (List Name) → (address : ℕ) → List ℕ
 datum_note names address = address_note address ++ noted_by names address
 
--- a line: a statement and the comment behind it, if any; a label; a word of the text, the address that it leads to, if any, and the comment behind it; or the start, by its label
+-- a line: a statement and the comment behind it, if any; a label; a word of the text, the address that it leads to, if
+-- any, and the comment behind it; or the start, by its label
 pub data Line : Type 0 where
   Says : Statement → List ℕ → Line
   Labels : ℕ → Line
@@ -240,10 +243,13 @@ labels labelled n = if labelled n then Labels (4 * n) ∷ [] else []
 -- the lines of text words, of which the first is the n-th, of the entries among them, and of their labels
 unfoldable pub code : Option (List Name) → ℕ → (ℕ → Bool) → ℕ → List (ℕ × Option ℕ) → List ℕ → List Line
 code names count labelled n ms [] = []
-code names count labelled n [] (w ∷ ws) = labels labelled n ++ (coded names count (4 * n) w ∷ code names count labelled (suc n) [] ws)
+code names count labelled n [] (w ∷ ws) =
+    labels labelled n ++ (coded names count (4 * n) w ∷ code names count labelled (suc n) [] ws)
 code names count labelled n (m ∷ ms) (w ∷ ws) =
     labels labelled n
-    ++ (if m.0 == 4 * n then bare (say.Entry m.1) ∷ coded names count (4 * n) w ∷ code names count labelled (suc n) ms ws else coded names count (4 * n) w ∷ code names count labelled (suc n) (m ∷ ms) ws)
+    ++ (if m.0 == 4 * n then
+    bare (say.Entry m.1) ∷ coded names count (4 * n) w ∷ code names count labelled (suc n) ms ws else
+    coded names count (4 * n) w ∷ code names count labelled (suc n) (m ∷ ms) ws)
 
 -- the lines of data words from an address on
 abbrev pub data_lines : Option (List Name) → ℕ → List ℕ → List Line
@@ -253,7 +259,9 @@ data_lines names address (w ∷ ws) = datum names address w ∷ data_lines names
 -- the lines of the data, where in version 2 the first ones are read-only
 abbrev pub all_data : Option (List Name) → Version → ℕ → List ℕ → List Line
 all_data names version.One n words = data_lines names DATA_START words
-all_data names version.Two n words = data_lines names DATA_START (take n words) ++ (bare say.ReadOnly ∷ data_lines names (DATA_START + 4 * n) (drop n words))
+all_data names version.Two n words =
+    data_lines names DATA_START (take n words)
+    ++ (bare say.ReadOnly ∷ data_lines names (DATA_START + 4 * n) (drop n words))
 
 -- the lines before the registers: in version 1 the limit of all tasks is one of them
 abbrev pub head_lines : Version → (limit start : ℕ) → List Line
@@ -264,7 +272,9 @@ head_lines version.Two limit start = bare (say.Version version.Two) ∷ Starts s
 unfoldable pub lines_of : Option (List Name) → Image → List Line
 lines_of names img =
     head_lines img.version (slice_index img.limits 0) img.start ++ (settings 1 img.registers
-    ++ (code names (length img.text) (is_labelled img.entries img.text) 0 (marks img.version img.entries img.limits) img.text ++ (bare (say.Section section.Data) ∷ all_data names img.version img.read_only img.words)))
+    ++ (code names (length img.text) (is_labelled img.entries img.text) 0
+    (marks img.version img.entries img.limits) img.text ++
+    (bare (say.Section section.Data) ∷ all_data names img.version img.read_only img.words)))
 
 -- the listing of an image, with the names of addresses, if names are given
 unfoldable pub listing_of : Option (List Name) → Image → List ℕ

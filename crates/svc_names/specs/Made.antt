@@ -44,5 +44,6 @@ NotBelow (n ∷ m ∷ names) pair = NotBelow (m ∷ names) pair
 -- the table of some labels: each label that a table may have, once, and nothing else
 pub record IsTableOf (labels : List (List ℕ × ℕ)) (names : List Name) : Type 0 where
   pub table : IsTable names
-  pub all : (name : List ℕ) (address : ℕ) → Contains labels (name, address) → is_name_text name ≡ true → Contains (pairs_of names) (name, address)
+  pub all : (name : List ℕ) (address : ℕ) → Contains labels (name, address) → is_name_text name ≡ true
+      → Contains (pairs_of names) (name, address)
   pub only : (name : List ℕ) (address : ℕ) → Contains (pairs_of names) (name, address) → Contains labels (name, address)

@@ -15,7 +15,8 @@ is_at_or_below address n = nat_le (kind_start address) n.address && nat_le n.add
 -- a name before the nearest of those behind it: it is nearer or as near, or there is no other
 abbrev pub nearer : (address : ℕ) → Name → Option Name → Option Name
 nearer address n None = if is_at_or_below address n then Some n else None
-nearer address n (Some other) = if is_at_or_below address n && nat_le other.address n.address then Some n else Some other
+nearer address n (Some other) =
+    if is_at_or_below address n && nat_le other.address n.address then Some n else Some other
 
 -- the nearest name at or below an address, of its kind; of several at one address the first
 abbrev pub nearest : (address : ℕ) → List Name → Option Name

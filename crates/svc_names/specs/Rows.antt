@@ -35,7 +35,8 @@ field place row = before_comma (past_commas place row)
 
 -- the column of a row's address, by the row's first field
 unfoldable pub ending_column : List ℕ → Option Column
-ending_column first = if bytes_eq first (codes "full") || bytes_eq first (codes "open") then Some (column.Text 1) else None
+ending_column first =
+    if bytes_eq first (codes "full") || bytes_eq first (codes "open") then Some (column.Text 1) else None
 
 unfoldable pub shown_column : List ℕ → Option Column
 shown_column first =
@@ -43,7 +44,8 @@ shown_column first =
     if bytes_eq first (codes "due") || bytes_eq first (codes "guess") then Some (column.Text 1) else
     if bytes_eq first (codes "pc") then Some (column.Text 2) else
     if bytes_eq first (codes "line") then Some (column.Word 2) else
-    if bytes_eq first (codes "spill") || bytes_eq first (codes "order") || bytes_eq first (codes "memory") then Some (column.Word 1) else
+    if bytes_eq first (codes "spill") || bytes_eq first (codes "order")
+    || bytes_eq first (codes "memory") then Some (column.Word 1) else
     ending_column first
 
 -- that of a row of what may come next, by its kind: an assignment tells an entry, a replacement a word
@@ -104,13 +106,16 @@ is_header (rows.Table column) row = not (is_some (value_of 10 (field 0 row)))
 
 -- a row with one field more: the name of its address
 abbrev pub named_row : List Name → Rows → List ℕ → List ℕ
-named_row names told row = row ++ codes "," ++ (if is_header told row then codes "name" else name_text names (addressed told row)) ++ codes "\n"
+named_row names told row =
+    row ++ codes "," ++ (if is_header told row then codes "name" else name_text names (addressed told row))
+    ++ codes "\n"
 
 -- the rows of a text, of which one has begun with these bytes, each with one field more
 unfoldable pub with_names_from : List Name → Rows → (row text : List ℕ) → List ℕ
 with_names_from names told row [] = row
 with_names_from names told row (b ∷ text) =
-    if b == 10 then named_row names told row ++ with_names_from names told [] text else with_names_from names told (row ++ (b ∷ [])) text
+    if b == 10 then named_row names told row
+    ++ with_names_from names told [] text else with_names_from names told (row ++ (b ∷ [])) text
 
 -- the rows of a text, each with one field more
 abbrev pub with_names : List Name → Rows → (text : List ℕ) → List ℕ

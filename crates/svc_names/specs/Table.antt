@@ -76,13 +76,15 @@ pub record IsNext (names : List Name) (fields : List (List ℕ)) (address : ℕ)
 unfoldable pub FirstBad : List Name → List (List ℕ) → ℕ → Type 0
 FirstBad names fields zero = length fields ≢ 2
 FirstBad names fields (suc zero) = (length fields ≡ 2) × (is_name_text (get_or fields 0 []) ≡ false)
-FirstBad names fields (suc (suc zero)) = (length fields ≡ 2) × (is_name_text (get_or fields 0 []) ≡ true) × ((address : ℕ) → IsNext names fields address → ⊥)
+FirstBad names fields (suc (suc zero)) =
+    (length fields ≡ 2) × (is_name_text (get_or fields 0 []) ≡ true) × ((address : ℕ) → IsNext names fields address → ⊥)
 FirstBad names fields _ = ⊥
 
 -- a bad record follows the rows of some table
 abbrev pub IsBadName : List ℕ → (row column : ℕ) → Type 0
 IsBadName text row column =
-    (names : List Name) × IsTable names × (row ≡ length names + 2) × (fields : List (List ℕ)) × BeginsWith text (table_records names ++ (fields ∷ []))
+    (names : List Name) × IsTable names × (row ≡ length names + 2) × (fields : List (List ℕ))
+    × BeginsWith text (table_records names ++ (fields ∷ []))
     × FirstBad names fields column
 
 -- a reading fails for memory or the reader, or names the text's first bad record, if the text is known, with its first

@@ -68,10 +68,12 @@ fn add_names<R: Read + Drop>(
     requires open { IsOpen reader.old }
     requires state { reader_state reader.old ≡ st.StartRecord }
     requires empty { names.old.items ≡ [] }
-    ensures ok { (known : Option (List ℕ)) → source_of (known_through R.remaining) reader.old ≡ option_map readable known
+    ensures ok { (known : Option (List ℕ)) → source_of
+        (known_through R.remaining) reader.old ≡ option_map readable known
         → IfOk result (λ _. IsTable names.new.items
         × IfSome known (λ text. IsRead text (table_records names.new.items))) }
-    ensures err { (known : Option (List ℕ)) → source_of (known_through R.remaining) reader.old ≡ option_map readable known
+    ensures err { (known : Option (List ℕ)) → source_of
+        (known_through R.remaining) reader.old ≡ option_map readable known
         → IfErr result (λ e. IsNamesFault known e) }
 {
     if !next_row(reader, row)? {

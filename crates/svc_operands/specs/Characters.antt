@@ -26,10 +26,12 @@ opens c (next ∷ rest) = c == 47 && next == 42
 
 -- what stands before the next character, where a space or a comment does
 abbrev pub blank_behind : Blank → ℕ → List ℕ → Option Blank
-blank_behind blank.Outside c rest = if is_space c then Some blank.Outside else if opens c rest then Some blank.Opening else None
+blank_behind blank.Outside c rest =
+    if is_space c then Some blank.Outside else if opens c rest then Some blank.Opening else None
 blank_behind blank.Opening c rest = Some blank.Inside
 blank_behind blank.Inside c rest = if c == 42 then Some blank.Star else Some blank.Inside
-blank_behind blank.Star c rest = if c == 47 then Some blank.Outside else if c == 42 then Some blank.Star else Some blank.Inside
+blank_behind blank.Star c rest =
+    if c == 47 then Some blank.Outside else if c == 42 then Some blank.Star else Some blank.Inside
 
 -- what is left behind spaces and comments; a comment that no star and slash end goes up to the end of the text
 unfoldable pub past_blanks : Blank → List ℕ → List ℕ
@@ -88,7 +90,8 @@ base_of radices.Hexadecimal = 16
 
 -- the number so far and one digit more, where it still has 32 bits
 abbrev pub push_value : ℕ → ℕ → ℕ → Option ℕ
-push_value radix value d = if nat_lt d radix && nat_lt (value * radix + d) (2 ^ 32) then Some (value * radix + d) else None
+push_value radix value d =
+    if nat_lt d radix && nat_lt (value * radix + d) (2 ^ 32) then Some (value * radix + d) else None
 
 unfoldable pub push_digit : ℕ → ℕ → ℕ → Option ℕ
 push_digit radix value c = do

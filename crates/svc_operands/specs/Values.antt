@@ -18,8 +18,10 @@ is_decimal c = is_from_to 48 57 c
 -- a decimal number, and b for the last label of this number before here, or f for the next one
 unfoldable pub reference_named : List ℕ → Option Reference
 reference_named name =
-    if bytes_eq (past is_decimal name) (codes "b") then option_map (λ n. label.Back n) (value_of 10 (take_while is_decimal name)) else
-    if bytes_eq (past is_decimal name) (codes "f") then option_map (λ n. label.Ahead n) (value_of 10 (take_while is_decimal name)) else
+    if bytes_eq (past is_decimal name) (codes "b") then option_map (λ n. label.Back n)
+    (value_of 10 (take_while is_decimal name)) else
+    if bytes_eq (past is_decimal name) (codes "f") then option_map (λ n. label.Ahead n)
+    (value_of 10 (take_while is_decimal name)) else
     None
 
 abbrev pub referred : Layout → Reference → Option ℕ
@@ -28,10 +30,13 @@ referred d (label.Ahead n) = address_ahead d n
 
 -- what a name stands for: a dot for the address of what comes next, and a label for its own
 unfoldable pub place_of : Layout → List ℕ → Option ℕ
-place_of d name = if bytes_eq name (codes ".") then Some (here d) else found (reference_named name) (λ r. referred d r) (address_of d name)
+place_of d name =
+    if bytes_eq name (codes ".") then Some (here d) else found (reference_named name) (λ r. referred d r)
+    (address_of d name)
 
 unfoldable pub plain_term_at : Layout → List ℕ → Read ℕ
-plain_term_at d text = found (number_at text) (λ n. Some n) (option_map (λ n. (n, past_name text)) (place_of d (name_at text)))
+plain_term_at d text =
+    found (number_at text) (λ n. Some n) (option_map (λ n. (n, past_name text)) (place_of d (name_at text)))
 
 -- a number with its sign, as 32 bits
 abbrev pub bits_of : Signed → ℕ
@@ -45,7 +50,8 @@ fitted half s =
 
 abbrev pub term_from : Layout → List ℕ → Read ℕ
 term_from d [] = None
-term_from d (c ∷ rest) = if c == 45 then option_map (λ s. (bits_of s.0, s.1)) (behind_sign true rest) else plain_term_at d (c ∷ rest)
+term_from d (c ∷ rest) =
+    if c == 45 then option_map (λ s. (bits_of s.0, s.1)) (behind_sign true rest) else plain_term_at d (c ∷ rest)
 
 -- what a sum begins with: a number, which may have a minus sign, a dot or a label
 unfoldable pub term_at : Layout → List ℕ → Read ℕ
@@ -63,7 +69,8 @@ sum_with n negative text = do
 -- the number that a sign adds or takes away, where one follows
 abbrev pub sum_from : ℕ → List ℕ → List ℕ → Read ℕ
 sum_from n rest [] = Some (n, rest)
-sum_from n rest (c ∷ more) = if c == 43 then sum_with n false more else if c == 45 then sum_with n true more else Some (n, rest)
+sum_from n rest (c ∷ more) =
+    if c == 43 then sum_with n false more else if c == 45 then sum_with n true more else Some (n, rest)
 
 -- a value: a number, a dot, a label, or one of them and a number that is added or taken away
 unfoldable pub value_at : Layout → List ℕ → Read ℕ
@@ -71,7 +78,8 @@ value_at d text = do
   n ← term_at d text
   sum_from n.0 n.1 (past_spaces n.1)
 
--- a value of 32 bits in two parts, for two instructions: its low part counts with a sign, so the high part is one more where that is below 0
+-- a value of 32 bits in two parts, for two instructions: its low part counts with a sign, so the high part is one more
+-- where that is below 0
 abbrev pub high_part : ℕ → ℕ
 high_part n = (n + 2048) / 4096 % 2 ^ 20
 
@@ -89,12 +97,15 @@ enclosed_at d text = do
 
 -- behind a percent sign: pcrel_hi(VALUE), and how far it is from here to the value
 unfoldable pub relative_at : Layout → List ℕ → Read ℕ
-relative_at d text = if bytes_eq (name_at text) (codes "pcrel_hi") then option_map (λ n. (from_here d n.0, n.1)) (enclosed_at d (past_name text)) else None
+relative_at d text =
+    if bytes_eq (name_at text) (codes "pcrel_hi") then option_map (λ n. (from_here d n.0, n.1))
+    (enclosed_at d (past_name text)) else None
 
 -- behind a percent sign: hi(VALUE), or pcrel_hi(VALUE)
 unfoldable pub high_at : Layout → List ℕ → Read ℕ
 high_at d text =
-    if bytes_eq (name_at text) (codes "hi") then option_map (λ n. (high_part n.0, n.1)) (enclosed_at d (past_name text)) else
+    if bytes_eq (name_at text) (codes "hi") then option_map (λ n. (high_part n.0, n.1))
+    (enclosed_at d (past_name text)) else
     option_map (λ n. (high_part n.0, n.1)) (relative_at d text)
 
 -- how far it is from the instruction with %pcrel_hi that a name is the label of to that one's value
@@ -114,8 +125,10 @@ completed_at d text = do
 -- behind a percent sign: lo(VALUE), or pcrel_lo(LABEL)
 unfoldable pub low_at : Layout → List ℕ → Read ℕ
 low_at d text =
-    if bytes_eq (name_at text) (codes "lo") then option_map (λ n. (n.0 % 2 ^ 12, n.1)) (enclosed_at d (past_name text)) else
-    if bytes_eq (name_at text) (codes "pcrel_lo") then option_map (λ n. (n.0 % 2 ^ 12, n.1)) (completed_at d (past_name text)) else
+    if bytes_eq (name_at text) (codes "lo") then option_map (λ n. (n.0 % 2 ^ 12, n.1))
+    (enclosed_at d (past_name text)) else
+    if bytes_eq (name_at text) (codes "pcrel_lo") then option_map (λ n. (n.0 % 2 ^ 12, n.1))
+    (completed_at d (past_name text)) else
     None
 
 -- an immediate: a number that fits, or the part of a value
@@ -144,7 +157,9 @@ offset_from rest (c ∷ more) =
 
 -- how far it is from the instruction's own address: . + N or . - N, or to a value
 unfoldable pub offset_at : Layout → List ℕ → Read Signed
-offset_at d text = if bytes_eq (name_at text) (codes ".") then offset_from (past_name text) (past_spaces (past_name text)) else reach_at d text
+offset_at d text =
+    if bytes_eq (name_at text) (codes ".") then offset_from (past_name text)
+    (past_spaces (past_name text)) else reach_at d text
 
 -- how many steps a branch and a jump can go forward
 abbrev pub half_of : Target → ℕ
