@@ -147,6 +147,7 @@ pub static SECTIONS: [Beginning; 15] = [
     Beginning(*b".stab           ", Kept::Nowhere),
 ];
 
+// Compared as slices, whose first letters decide: of arrays the compiler would compare sixteen rows at once.
 fn says_in(rows: &[Directive], name: Name) -> Option<Says>
     ensures { result ≡ says_in rows.now name }
 {

@@ -23,7 +23,7 @@ pub fn couple_named(couples: &[Couple], name: Name) -> Option<Couple>
     ensures { result ≡ find (has_name name) couples.now }
 {
     for couple in couples {
-        if name.as_slice() == couple.0.as_slice() {
+        if name == couple.0 {
             return Some(*couple);
         }
     }

@@ -179,7 +179,7 @@ fn read_rows<'a>(
 {
     let mut fault = fault;
     for row in rows {
-        if name.as_slice() == row.0.as_slice() {
+        if name == row.0 {
             match read_row(draft, row, text) {
                 Ok(read) => return Ok(read),
                 Err(later) => fault = further(fault, later),

@@ -8,8 +8,7 @@ ghost use Rattle.svc_operands.specs.Names.{padded, number_named, numbered, regis
 use crate::characters::{Radix, value_of};
 use svc_rv32i::Register;
 
-/// A name as a table has it, with spaces behind it. Names are compared as slices, whose first letters decide mostly: of
-/// two arrays all letters are looked at.
+/// A name as a table has it, with spaces behind it.
 pub type Name = [u8; 16];
 
 /// A name, and the number that it has.
@@ -80,7 +79,7 @@ pub fn number_named(rows: &[Named], name: &[u8]) -> Option<u32>
 {
     let letters = padded(name)?;
     for row in rows {
-        if letters.as_slice() == row.0.as_slice() {
+        if letters == row.0 {
             return Some(row.1);
         }
     }
