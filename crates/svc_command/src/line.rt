@@ -46,7 +46,8 @@ impl<'a> Line<'_, 'a> {
         let Some(text) = self.given.get_str(name) else {
             return Ok(default);
         };
-        let number = number_of::<u32>(text)?;
+        // The parser accepts no other text as a number.
+        let number = number_of::<u32>(text).ok_or(Fault::File)?;
         if number == default || has_value(self.words, name, text) {
             return Ok(number);
         }
@@ -59,7 +60,7 @@ impl<'a> Line<'_, 'a> {
         ensures { IfOk result (λ number. IsGivenNumber name.now number (texts self.entry.words.now)) }
     {
         match self.option(name)? {
-            Some(text) => number_of::<u32>(text),
+            Some(text) => number_of::<u32>(text).ok_or(Fault::File),
             // The parser reads no line without it.
             None => Err(Fault::File),
         }
@@ -70,7 +71,7 @@ impl<'a> Line<'_, 'a> {
         ensures { IfOk result (λ index. IfSome index (λ n. IsGivenNumber name.now n (texts self.entry.words.now))) }
     {
         match self.option(name)? {
-            Some(text) => Ok(Some(number_of::<u64>(text)?)),
+            Some(text) => Ok(Some(number_of::<u64>(text).ok_or(Fault::File)?)),
             None => Ok(None),
         }
     }
@@ -83,16 +84,13 @@ impl<'a> Line<'_, 'a> {
     }
 }
 
-// The number that a text reads as. The parser accepts no other text as a number.
-fn number_of<N: FromStr>(text: &str) -> Result<N, Fault>
+// The number that a text reads as, if it reads as one.
+pub(crate) fn number_of<N: FromStr>(text: &str) -> Option<N>
 where
     N::Err: Drop,
-    ensures { IfOk result (λ number. N.from_str_gives text.now (Ok number)) }
+    ensures { IfSome result (λ number. N.from_str_gives text.now (Ok number)) }
 {
-    match text.parse::<N>() {
-        Ok(number) => Ok(number),
-        Err(_) => Err(Fault::File),
-    }
+    text.parse::<N>().ok()
 }
 
 // This is one of the words.

@@ -4,7 +4,7 @@ ghost use Rattle.std.specs.Prelude.{◌≡◌, ◌++◌, IfOk, IfSome, codes};
 ghost use Rattle.svc_command.specs.Given.{GivesCompared, GivesConfig, GivesExtras, GivesFormat, GivesImage, GivesNeedsTable, GivesOrder, GivesRow, GivesSchedule, GivesSought, GivesSpan, GivesTable};
 ghost use Rattle.svc_command.specs.Line.{IsValueOf, ReadsAs, ReadsSpan, texts};
 
-use crate::line::Line;
+use crate::line::{Line, number_of};
 use std::alloc::Global;
 use svc_base::Config;
 use svc_core::MAX_BURST_TURNS;
@@ -160,22 +160,12 @@ fn dashed(text: &str) -> Option<(&str, &str)>
     text.split_once("-")
 }
 
-// The number that a text reads as, if it reads as one of 32 bits.
-fn number_in(text: &str) -> Option<u32>
-    ensures { IfSome result (ReadsAs text.now) }
-{
-    match text.parse::<u32>() {
-        Ok(number) => Some(number),
-        Err(_) => None,
-    }
-}
-
 // The words from a first number to a last one.
 fn span_between(first: &str, last: &str) -> Option<Span>
     ensures { IfSome result (λ span. ReadsAs first.now span.first × ReadsAs last.now span.last) }
 {
-    let first = number_in(first)?;
-    let last = number_in(last)?;
+    let first = number_of::<u32>(first)?;
+    let last = number_of::<u32>(last)?;
     if first <= last {
         Some(Span { first, last })
     } else {
@@ -187,7 +177,7 @@ fn span_between(first: &str, last: &str) -> Option<Span>
 fn single(text: &str) -> Option<Span>
     ensures { IfSome result (λ span. ReadsAs text.now span.first × (span.last ≡ span.first)) }
 {
-    let word = number_in(text)?;
+    let word = number_of::<u32>(text)?;
     Some(Span {
         first: word,
         last: word,
