@@ -71,6 +71,8 @@ export async function what_is_to_come_is_pale_or_hidden() {
   ok(hidden.includes('hidden until you have said'));
   // What is pale has no text in it, which would have too little contrast.
   deepEqual(open.match(/<g opacity="0.55">.*?<\/g>/g).filter((it) => it.includes('<text')), []);
+  const numbers = (svg) => [...svg.matchAll(/text-anchor="middle">(\d+)</g)].map((it) => Number(it[1]));
+  deepEqual([numbers(open).length, numbers(hidden)], [10, [0, 1, 2]]);
   // No arrow before both of its ends were seen, and no colour of a squash that is to come.
   equal(count(open, /marker-end/g), 0);
   equal(count(hidden, /fill:url\(#hv\)/g), 0);

@@ -207,6 +207,15 @@ export async function all_schedules_are_listed_beside_the_run() {
   equal(requests.library.calls.filter((it) => it.startsWith('explore image.svci --of trace.csv')).length, 1);
 }
 
+// Of 23 rows: 3 begin a task, 4 store; of 8 loads by task 1, 4 of each word, and of 3 outputs the first ones; 2 commit,
+// and of the squashes each has another task or word.
+export async function a_row_of_another_word_has_its_own_witness() {
+  const { session } = await opened(0), explored = explored_of(printed('explore_full_set_on_2_by_63'));
+  Object.assign(tables, { explored, of: explored_key(session), begun: 0 });
+  const html = await all_html(session, UNPREDICTED);
+  deepEqual([count(html, /<li>/g), count(html, /data-witness/g)], [23, 3 + 4 + 2 + 1 + 2 + 3]);
+}
+
 export async function an_exploration_that_met_a_limit_says_so() {
   const { session } = await opened(0);
   const explored = explored_of(printed('explore_p_of_1_states'));
@@ -220,9 +229,11 @@ export async function an_exploration_that_met_a_limit_says_so() {
 }
 
 export function what_is_seen_has_a_phrase() {
-  const names = ['explore_p_on_2_by_63', 'explore_a_task_that_traps', 'explore_full_set_of_one_line', 'explore_of_a_spill',
+  const names = ['explore_p_on_2_by_63', 'explore_a_task_that_traps', 'explore_full_set_of_one_line',
+    'explore_of_a_spill',
     'explore_of_a_reuse', 'explore_of_a_replacement', 'explore_of_a_cancel'];
-  const rows = names.flatMap((it) => explored_of(printed(it)).seen), of = (what) => rows.filter((it) => it.what === what);
+  const rows = names.flatMap((it) => explored_of(printed(it)).seen);
+  const of = (what) => rows.filter((it) => it.what === what);
   deepEqual(rows.filter((it) => !TEXTS.seen[it.what]).map((it) => it.what), []);
   deepEqual(of('load').map((it) => it.by).filter((it) => !it.startsWith('version:') && !TEXTS.seen_by[it]), []);
 }

@@ -97,7 +97,8 @@ export function a_wrong_guess_is_told_behind_the_store() {
 export function several_squashed_tasks_are_counted() {
   const tasks = ['task,0,0,0,0,running', 'task,1,1,0,0,running', 'task,2,2,12,0,running', 'task,3,3,12,0,running'];
   const said = told('submit,0,,2,1,stored,0,5,,,violation,1,3', [...OPEN, ...tasks], [...OPEN, 'task,0,0,0,3,next']);
-  equal(said, 'Task 0 stores 5 to shared, but task 1 had loaded it too early: task 1 is squashed, and tasks 2 and 3 after it.');
+  equal(said,
+    'Task 0 stores 5 to shared, but task 1 had loaded it too early: task 1 is squashed, and tasks 2 and 3 after it.');
 }
 
 export function a_trap_and_other_suppliers_are_told() {

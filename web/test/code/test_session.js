@@ -115,6 +115,16 @@ export async function moments_before_the_first_change_are_kept() {
   equal(library.calls.length, before + 1, 'moment 2 alone was not looked at');
 }
 
+// In this script task 0 stores before task 1 loads, so its entry 2 is another one, and with it the moment behind that.
+export async function moments_behind_the_first_change_are_forgotten() {
+  const { session, requests, faults } = await opened(3), script = text('scripts/a_version_of_an_earlier_task_is_read.csv');
+  requests.draw = async () => NO_PICTURE;
+  await session.go(1);
+  deepEqual([...session.moments.keys()].sort(), [0, 1, 2, 3]);
+  await session.rewrite(script.trim().split('\n').slice(1), 0);
+  deepEqual([faults, session.entries[2].unit, [...session.moments.keys()].sort()], [[], 0, [0, 1, 2]]);
+}
+
 export async function a_failed_change_leaves_all_as_it_was() {
   const { session, faults } = await opened(4), before = session.state();
   await session.rewrite(['no,such,step'], 0);
