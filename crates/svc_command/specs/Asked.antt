@@ -61,7 +61,8 @@ Names words (request.List image names) = IsNamed (codes "list") words
 -- what the words of a line may ask for: the built-in run if there is only the program's name, otherwise what they name,
 -- with what they give
 abbrev pub MayAsk : List (List ℕ) → Request → Type 0
-MayAsk words asked = ((length words ≤ 1) × IsBuiltInRun asked) ⊎ ((1 < length words) × Names words asked × Gives words asked)
+MayAsk words asked =
+    ((length words ≤ 1) × IsBuiltInRun asked) ⊎ ((1 < length words) × Names words asked × Gives words asked)
 
 -- no file is changed, unless what the words may ask for may change one
 abbrev pub KeepsAsked : List (List ℕ) → (held saved : Held) → Type 0

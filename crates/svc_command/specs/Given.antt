@@ -111,7 +111,8 @@ pub record GivesTraced (words : List (List ℕ)) (traced : Traced) : Type 0 wher
   pub config_is : GivesConfig words traced.config
   pub trace : HasWord traced.trace.now words
 
--- all schedules are those of the line's image and configuration, by bursts of its number of turns, as many standings as it says
+-- all schedules are those of the line's image and configuration, by bursts of its number of turns, as many standings as
+-- it says
 pub record GivesExplored (words : List (List ℕ)) (explored : Explored) : Type 0 where
   pub image : GivesImage words explored.image
   pub config_is : GivesConfig words explored.config
@@ -181,13 +182,16 @@ Gives words (request.Run run) = GivesRun words run
 Gives words (request.Sequential tasks) = GivesImage words tasks.image × IsGivenNumber (codes "tasks") tasks.most words
 Gives words (request.Depend depended) = GivesDepended words depended
 Gives words (request.Explore explored) = GivesExplored words explored
-Gives words (request.Find explored sought trace) = GivesExplored words explored × GivesSought words sought × GivesTrace words trace
+Gives words (request.Find explored sought trace) =
+    GivesExplored words explored × GivesSought words sought × GivesTrace words trace
 Gives words (request.Observe traced names) = GivesObserved words traced × GivesNames words names
 Gives words (request.Script scripted) = GivesScripted words scripted
 Gives words (request.Check traced compared script) =
-    GivesTraced words traced × GivesCompared words compared × IfSome script (λ name. IsValueOf (codes "script") name.now words)
+    GivesTraced words traced × GivesCompared words compared
+    × IfSome script (λ name. IsValueOf (codes "script") name.now words)
 Gives words (request.Profile traced to by names) =
-    GivesTraced words traced × IfSome to (λ n. IsGivenNumber (codes "to") n words) × IfSome by (GivesTable words) × GivesNames words names
+    GivesTraced words traced × IfSome to (λ n. IsGivenNumber (codes "to") n words) × IfSome by (GivesTable words)
+    × GivesNames words names
 Gives words (request.Show traced shown) = GivesTraced words traced × GivesShown words shown
 Gives words (request.Draw traced picture) =
     GivesTraced words traced × HasWord picture.file.now words

@@ -26,7 +26,8 @@ option_word name = codes "--" ++ name
 
 -- the value is the word behind the option of this name
 abbrev pub IsNext : (name value : List ℕ) → List (List ℕ) → Type 0
-IsNext name value words = (k : ℕ) × (slice_get words k ≡ Some (option_word name)) × (slice_get words (k + 1) ≡ Some value)
+IsNext name value words =
+    (k : ℕ) × (slice_get words k ≡ Some (option_word name)) × (slice_get words (k + 1) ≡ Some value)
 
 -- the word is the option of this name with the value behind `=`
 abbrev pub IsJoined : (name value : List ℕ) → List ℕ → Type 0

@@ -9,7 +9,8 @@ use Rattle.svc_command.specs.Asked.{MayAsk}
 
 -- what explains a fault: by what the words may ask for, or by the fault alone
 abbrev pub IsReasonFor : List (List ℕ) → Held → Fault → List ℕ → Type 0
-IsReasonFor words held fault text = ((asked : Request) × MayAsk words asked × TellsWhy held asked fault text) ⊎ TellsAlone fault text
+IsReasonFor words held fault text =
+    ((asked : Request) × MayAsk words asked × TellsWhy held asked fault text) ⊎ TellsAlone fault text
 
 -- a writer's text has grown by it
 pub record TellsReason (words : List (List ℕ)) (held : Held) (fault : Fault) (old new : Option (List ℕ)) : Type 0 where

@@ -39,8 +39,8 @@ pub fn execute<R: Threads + Wait + Sync, F: Files, O: Write, E: Write>(
     }
 }
 
-/// Does what the words of a command line ask for where there are no threads: as [`execute`], but a run without a schedule is run
-/// fault 2.
+/// Does what the words of a command line ask for where there are no threads: as [`execute`], but a run without a
+/// schedule is run fault 2.
 pub fn execute_alone<F: Files, O: Write, E: Write>(
     alloc: Global,
     words: &[String],

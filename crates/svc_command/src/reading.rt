@@ -109,7 +109,8 @@ fn asked<'a>(
     }
 }
 
-// What the subcommand of this name asks for. A match of all names in one function would cost several times as much to prove.
+// What the subcommand of this name asks for. A match of all names in one function would cost several times as much to
+// prove.
 fn asked_by<'a>(alloc: Global, name: &str, line: Line<'_, 'a>) -> Result<Request<'a>, Fault>
     ensures named { IsNamed name.now (texts line.entry.words.now)
         → IfOk result (Names (texts line.entry.words.now)) }

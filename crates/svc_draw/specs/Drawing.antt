@@ -56,7 +56,8 @@ letters_in s b = (bar_width s b - 8) / 7
 unfoldable pub bar_name : Sheet → Bar → List ℕ
 bar_name s b =
     cond (nat_lt (letters_in s b) (length (decimal b.task.number))) []
-    (label (bar_left s b + 4) (bar_top s b.task.unit.0 + 12) (codes "font-size='12'") (name_words (letters_in s b) b.task.number b.task.entry))
+    (label (bar_left s b + 4) (bar_top s b.task.unit.0 + 12) (codes "font-size='12'")
+    (name_words (letters_in s b) b.task.number b.task.entry))
 
 -- ---- marks
 
@@ -107,7 +108,8 @@ value_words (Some word) value = concat (codes "word " ∷ decimal word.0 ∷ cod
 -- it stands before its shape
 unfoldable pub value_text : Sheet → Mark → List ℕ
 value_text s m =
-    label (mark_x s m - radius s - 6) (mark_y s m + 5) (codes "text-anchor='end'") (value_words m.entry.addr (unwrap_or m.entry.word 0))
+    label (mark_x s m - radius s - 6) (mark_y s m + 5) (codes "text-anchor='end'")
+    (value_words m.entry.addr (unwrap_or m.entry.word 0))
 
 -- the task that is committed, at the top of its line
 unfoldable pub committed_text : Sheet → Mark → List ℕ
@@ -118,7 +120,8 @@ committed_text s m =
 -- what an arrow says, at its middle
 unfoldable pub saying : Sheet → Mark → (words : List ℕ) → List ℕ
 saying s m words =
-    label ((mark_x s m + end_x s m m.other) / 2 + 12) ((mark_y s m + end_y s m m.other) / 2 + 2) (codes "font-style='italic'") words
+    label ((mark_x s m + end_x s m m.other) / 2 + 12) ((mark_y s m + end_y s m m.other) / 2 + 2)
+    (codes "font-style='italic'") words
 
 -- the words of a mark of a kind
 abbrev pub words_of : Sheet → Mark → MarkKind → List ℕ

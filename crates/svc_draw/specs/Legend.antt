@@ -14,8 +14,10 @@ use Rattle.svc_shapes.specs.Shapes.{axis_words, bold_sample, border, commit_samp
 -- the hatchings of the fates that have one
 unfoldable pub hatchings : List ℕ
 hatchings =
-    hatching (codes "violation") (codes " patternTransform='rotate(45)'") (codes "#fbd5d0") (codes "<rect width='2' height='8' fill='#d9655a'/>")
-    ++ hatching (codes "guess") (codes " patternTransform='rotate(135)'") (codes "#fdeac3") (codes "<rect width='2' height='8' fill='#c9922e'/>")
+    hatching (codes "violation") (codes " patternTransform='rotate(45)'") (codes "#fbd5d0")
+    (codes "<rect width='2' height='8' fill='#d9655a'/>")
+    ++ hatching (codes "guess") (codes " patternTransform='rotate(135)'") (codes "#fdeac3")
+    (codes "<rect width='2' height='8' fill='#c9922e'/>")
     ++ hatching (codes "cancel") [] (codes "#e6ddf3") (codes "<circle cx='4' cy='4' r='2' fill='#7a5bb0'/>")
     ++ hatching (codes "active") [] (codes "#ffffff") (codes "<rect width='8' height='1' y='4' fill='#9ab4d0'/>")
 
@@ -56,7 +58,8 @@ arrow_samples size =
 
 unfoldable pub legend : Sheet → (total : ℕ) → List ℕ
 legend s total =
-    headline (s.window.to - s.window.from) total s.window.from s.units ++ fate_samples ++ mark_samples ++ arrow_samples (radius s)
+    headline (s.window.to - s.window.from) total s.window.from s.units ++ fate_samples ++ mark_samples
+    ++ arrow_samples (radius s)
 
 -- ---- lanes
 

@@ -16,7 +16,8 @@ unit_variables unit =
 
 -- the committed value of a word
 unfoldable pub word_variable : (word : ℕ) → List ℕ
-word_variable word = concat (codes "$var wire 32 w" ∷ decimal word ∷ codes " word" ∷ decimal word ∷ codes " $end\n" ∷ [])
+word_variable word =
+    concat (codes "$var wire 32 w" ∷ decimal word ∷ codes " word" ∷ decimal word ∷ codes " $end\n" ∷ [])
 
 -- the end of the declarations, and the beginning of the first values
 unfoldable pub dump_start : List ℕ
@@ -31,15 +32,19 @@ bits (suc count) number = bits count (number / 2) ++ (48 + number % 2) ∷ []
 
 -- a unit has no task
 unfoldable pub idle : (unit : ℕ) → List ℕ
-idle unit = concat (codes "bx t" ∷ decimal unit ∷ codes "\nbx a" ∷ decimal unit ∷ codes "\n0b" ∷ decimal unit ∷ codes "\n" ∷ [])
+idle unit =
+    concat (codes "bx t" ∷ decimal unit ∷ codes "\nbx a" ∷ decimal unit ∷ codes "\n0b" ∷ decimal unit ∷ codes "\n" ∷ [])
 
 -- the value of the variable that this letter and number name
 unfoldable pub value_line : (letter : List ℕ) → (number value : ℕ) → List ℕ
-value_line letter number value = (codes "b" ++ bits 32 value) ++ concat (codes " " ∷ letter ∷ decimal number ∷ codes "\n" ∷ [])
+value_line letter number value =
+    (codes "b" ++ bits 32 value) ++ concat (codes " " ∷ letter ∷ decimal number ∷ codes "\n" ∷ [])
 
 -- a unit has a task
 unfoldable pub busy : (unit task address : ℕ) → List ℕ
-busy unit task address = value_line (codes "t") unit task ++ value_line (codes "a") unit address ++ concat (codes "1b" ∷ decimal unit ∷ codes "\n" ∷ [])
+busy unit task address =
+    value_line (codes "t") unit task ++ value_line (codes "a") unit address
+    ++ concat (codes "1b" ∷ decimal unit ∷ codes "\n" ∷ [])
 
 -- the committed value of a word isn't known
 unfoldable pub unknown : (word : ℕ) → List ℕ

@@ -31,7 +31,8 @@ bar_slice total b = slice b.task.number b.task.entry (fate_word b.task.fate) b.t
 -- what an entry's mark says of its task and its word
 unfoldable pub mark_fields : Mark → List ℕ
 mark_fields m =
-    task_field m.task ++ word_field m.entry.addr ++ number_field (codes "value") m.entry.word ++ supplier_field m.entry.served
+    task_field m.task ++ word_field m.entry.addr ++ number_field (codes "value") m.entry.word
+    ++ supplier_field m.entry.served
 
 -- a load, a store or an output word
 unfoldable pub mark_instant : (name : List ℕ) → Mark → List ℕ
@@ -39,7 +40,8 @@ mark_instant name m = instant name m.place m.entry.unit.0 ++ mark_fields m ++ ev
 
 -- a commit, with the number of its task
 unfoldable pub commit_instant : Mark → List ℕ
-commit_instant m = instant (codes "commit") m.place m.entry.unit.0 ++ number_field (codes "task") m.entry.word ++ event_end
+commit_instant m =
+    instant (codes "commit") m.place m.entry.unit.0 ++ number_field (codes "task") m.entry.word ++ event_end
 
 -- a version's way to its reader from the entry that stored it, if that is known
 abbrev pub version_from : Mark → Spot → Option ℕ → Option Flow

@@ -1,4 +1,5 @@
--- The events of a trace for viewers, as JSON objects. Numbers and fixed words are all that they hold, so nothing needs an escape.
+-- The events of a trace for viewers, as JSON objects. Numbers and fixed words are all that they hold, so nothing needs
+-- an escape.
 use Rattle.std.specs.Prelude.{ℕ, List, [], ◌∷◌, ◌++◌, Option, Some, None, codes, decimal}
 use Rattle.std.specs.List.{concat}
 use Rattle.svc_base.specs.declared.ids.WordAddr.{WordAddr}
@@ -21,7 +22,8 @@ closing = codes "\n]}\n"
 -- the name of a unit's track
 unfoldable pub track : (unit : ℕ) → List ℕ
 track unit =
-    concat (codes ",\n{\"name\":\"thread_name\",\"ph\":\"M\",\"pid\":0,\"tid\":" ∷ decimal unit ∷ codes ",\"args\":{\"name\":\"unit "
+    concat (codes ",\n{\"name\":\"thread_name\",\"ph\":\"M\",\"pid\":0,\"tid\":" ∷ decimal unit
+    ∷ codes ",\"args\":{\"name\":\"unit "
     ∷ decimal unit ∷ codes "\"}}" ∷ [])
 
 -- ---- slices
@@ -29,8 +31,10 @@ track unit =
 -- a task that begins at an address, on a unit, from an entry on and for as many
 unfoldable pub slice : (task address : ℕ) → (fate : List ℕ) → (unit start count : ℕ) → List ℕ
 slice task address fate unit start count =
-    concat (codes ",\n{\"name\":\"task " ∷ decimal task ∷ codes "\",\"cat\":\"" ∷ fate ∷ codes "\",\"ph\":\"X\",\"ts\":" ∷ decimal start
-    ∷ codes ",\"dur\":" ∷ decimal count ∷ codes ",\"pid\":0,\"tid\":" ∷ decimal unit ∷ codes ",\"args\":{\"task\":" ∷ decimal task
+    concat (codes ",\n{\"name\":\"task " ∷ decimal task ∷ codes "\",\"cat\":\"" ∷ fate ∷ codes "\",\"ph\":\"X\",\"ts\":"
+    ∷ decimal start
+    ∷ codes ",\"dur\":" ∷ decimal count ∷ codes ",\"pid\":0,\"tid\":" ∷ decimal unit ∷ codes ",\"args\":{\"task\":"
+    ∷ decimal task
     ∷ codes ",\"address\":" ∷ decimal address ∷ codes "}}" ∷ [])
 
 -- ---- arguments that may not apply
@@ -57,7 +61,8 @@ supplier_field (Some served) = concat (codes ",\"by\":\"" ∷ served_word served
 -- what an entry did on its unit's track, with room for more arguments
 unfoldable pub instant : (name : List ℕ) → (entry unit : ℕ) → List ℕ
 instant name entry unit =
-    concat (codes ",\n{\"name\":\"" ∷ name ∷ codes "\",\"ph\":\"i\",\"s\":\"t\",\"ts\":" ∷ decimal entry ∷ codes ",\"pid\":0,\"tid\":"
+    concat (codes ",\n{\"name\":\"" ∷ name ∷ codes "\",\"ph\":\"i\",\"s\":\"t\",\"ts\":" ∷ decimal entry
+    ∷ codes ",\"pid\":0,\"tid\":"
     ∷ decimal unit ∷ codes ",\"args\":{\"entry\":" ∷ decimal entry ∷ [])
 
 -- the end of an event's arguments
@@ -78,7 +83,8 @@ way_digit way.Violation = codes "2"
 -- an end of a flow, at an entry on a unit's track; its phase says which
 unfoldable pub flow_end : (name phase digit : List ℕ) → (number entry unit : ℕ) → List ℕ
 flow_end name phase digit number entry unit =
-    concat (codes ",\n{\"name\":\"" ∷ name ∷ codes "\",\"cat\":\"flow\",\"ph\":\"" ∷ phase ∷ codes "\",\"id\":" ∷ digit ∷ decimal number
+    concat (codes ",\n{\"name\":\"" ∷ name ∷ codes "\",\"cat\":\"flow\",\"ph\":\"" ∷ phase ∷ codes "\",\"id\":" ∷ digit
+    ∷ decimal number
     ∷ codes ",\"ts\":" ∷ decimal entry ∷ codes ",\"pid\":0,\"tid\":" ∷ decimal unit ∷ [])
 
 -- from the store to the entry that made it; with the entry of the store, and room for more arguments

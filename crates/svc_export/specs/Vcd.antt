@@ -62,18 +62,21 @@ beginning e s _ = []
 
 -- the changes of the entry at this index, and then the next time
 unfoldable pub entry_changes : List Entry → (words : List ℕ) → (at : ℕ) → Entry → Runs → List ℕ
-entry_changes es words at e s = beginning e s e.kind ++ flat_map (decision es words at) (decided at e s) ++ time (at + 1)
+entry_changes es words at e s =
+    beginning e s e.kind ++ flat_map (decision es words at) (decided at e s) ++ time (at + 1)
 
 -- those of the entries from this index on, after which there are these tasks
 unfoldable pub changes_from : List Entry → (words : List ℕ) → Runs → (at : ℕ) → List Entry → List ℕ
 changes_from es words s at [] = []
-changes_from es words s at (e ∷ rest) = entry_changes es words at e s ++ changes_from es words (step at e s) (suc at) rest
+changes_from es words s at (e ∷ rest) =
+    entry_changes es words at e s ++ changes_from es words (step at e s) (suc at) rest
 
 -- ---- the file
 
 -- the variables of so many units and of these words
 unfoldable pub declarations : (units : ℕ) → (words : List ℕ) → List ℕ
-declarations units words = dump_opening ++ flat_map unit_variables (range_with_len 0 units) ++ flat_map word_variable words ++ dump_start
+declarations units words =
+    dump_opening ++ flat_map unit_variables (range_with_len 0 units) ++ flat_map word_variable words ++ dump_start
 
 -- their values before any entry
 unfoldable pub first_values : (units : ℕ) → (words : List ℕ) → List ℕ

@@ -10,8 +10,8 @@ ghost use Rattle.svc_export.specs.Changes.{idle, unit_variables, unknown, word_v
 ghost use Rattle.svc_export.specs.Vcd.{beginning, changes_from, decided, decision, declarations, entry_changes, first_values, is_store_of, is_word, left_by, stored_in, value_change, vcd_of, word_change, words_after};
 
 use crate::changes::{
-    put_busy, put_dump_opening, put_dump_start, put_idle, put_time,
-    put_unit_variables, put_unknown, put_value, put_word_variable,
+    put_busy, put_dump_opening, put_dump_start, put_idle, put_time, put_unit_variables,
+    put_unknown, put_value, put_word_variable,
 };
 use std::alloc::{AllocError, Global};
 use svc_base::{UnitId, WordAddr};

@@ -19,4 +19,5 @@ last_store s unit (Some word) = get is_key s.places (unit.0, word.0)
 
 -- these are the last stores of the entries that are shown before an index
 abbrev pub AreLastShown : List Entry → Window → (at : ℕ) → LastStores → Type 0
-AreLastShown es w at s = (unit : UnitId) (word : Option WordAddr) → last_store s unit word ≡ last_shown es w at unit word
+AreLastShown es w at s =
+    (unit : UnitId) (word : Option WordAddr) → last_store s unit word ≡ last_shown es w at unit word

@@ -1,4 +1,5 @@
--- The shapes of a picture, as elements of SVG. Numbers and fixed words are all that they hold, so nothing needs an escape.
+-- The shapes of a picture, as elements of SVG. Numbers and fixed words are all that they hold, so nothing needs an
+-- escape.
 use Rattle.std.specs.Prelude.{ℕ, ◌+◌, ◌-◌, ◌*◌, List, [], ◌∷◌, ◌++◌, codes, decimal}
 use Rattle.std.specs.List.{concat}
 use Rattle.svc_shapes.specs.declared.sheet.TheConstants.{BOTTOM, TOP}
@@ -14,14 +15,17 @@ ring x y size =
 -- a full square: a store
 unfoldable pub square : (x y size : ℕ) → List ℕ
 square x y size =
-    concat (codes "<rect x='" ∷ decimal (x - size) ∷ codes "' y='" ∷ decimal (y - size) ∷ codes "' width='" ∷ decimal (2 * size)
+    concat (codes "<rect x='" ∷ decimal (x - size) ∷ codes "' y='" ∷ decimal (y - size) ∷ codes "' width='"
+    ∷ decimal (2 * size)
     ∷ codes "' height='" ∷ decimal (2 * size) ∷ codes "' fill='#111'>" ∷ [])
 
 -- a diamond: an output word
 unfoldable pub diamond : (x y size : ℕ) → List ℕ
 diamond x y size =
-    concat (codes "<path d='M" ∷ decimal (x - (size + 2)) ∷ codes " " ∷ decimal y ∷ codes "L" ∷ decimal x ∷ codes " " ∷ decimal (y - (size + 2))
-    ∷ codes "L" ∷ decimal (x + (size + 2)) ∷ codes " " ∷ decimal y ∷ codes "L" ∷ decimal x ∷ codes " " ∷ decimal (y + (size + 2))
+    concat (codes "<path d='M" ∷ decimal (x - (size + 2)) ∷ codes " " ∷ decimal y ∷ codes "L" ∷ decimal x ∷ codes " "
+    ∷ decimal (y - (size + 2))
+    ∷ codes "L" ∷ decimal (x + (size + 2)) ∷ codes " " ∷ decimal y ∷ codes "L" ∷ decimal x ∷ codes " "
+    ∷ decimal (y + (size + 2))
     ∷ codes "Z' fill='#ffe04a' stroke='#111' stroke-width='2'>" ∷ [])
 
 -- a broken line across all lanes: a commit
@@ -33,12 +37,14 @@ commit_line x =
 -- an arrow from one place to another: thin where a version goes to its reader, bold where a store squashes one
 unfoldable pub thin_arrow : (x y right down : ℕ) → List ℕ
 thin_arrow x y right down =
-    concat (codes "<path d='M" ∷ decimal x ∷ codes " " ∷ decimal y ∷ codes "L" ∷ decimal right ∷ codes " " ∷ decimal down
+    concat (codes "<path d='M" ∷ decimal x ∷ codes " " ∷ decimal y ∷ codes "L" ∷ decimal right ∷ codes " "
+    ∷ decimal down
     ∷ codes "' fill='none' stroke='#14508c' stroke-width='2' marker-end='url(#thin)'>" ∷ [])
 
 unfoldable pub bold_arrow : (x y right down : ℕ) → List ℕ
 bold_arrow x y right down =
-    concat (codes "<path d='M" ∷ decimal x ∷ codes " " ∷ decimal y ∷ codes "L" ∷ decimal right ∷ codes " " ∷ decimal down
+    concat (codes "<path d='M" ∷ decimal x ∷ codes " " ∷ decimal y ∷ codes "L" ∷ decimal right ∷ codes " "
+    ∷ decimal down
     ∷ codes "' fill='none' stroke='#b01010' stroke-width='4' marker-end='url(#bold)'>" ∷ [])
 
 -- the end of such an element
@@ -54,13 +60,15 @@ title_open place = concat (codes "<title>entry " ∷ decimal place ∷ codes ": 
 -- a box, which stays open for a title: a bar
 unfoldable pub bar_box : (x y width height : ℕ) → (fill : List ℕ) → List ℕ
 bar_box x y width height fill =
-    concat (codes "<rect x='" ∷ decimal x ∷ codes "' y='" ∷ decimal y ∷ codes "' width='" ∷ decimal width ∷ codes "' height='" ∷ decimal height
+    concat (codes "<rect x='" ∷ decimal x ∷ codes "' y='" ∷ decimal y ∷ codes "' width='" ∷ decimal width
+    ∷ codes "' height='" ∷ decimal height
     ∷ codes "' rx='3' fill='" ∷ fill ∷ codes "' stroke='#333'>" ∷ [])
 
 -- the title of a bar, and its end
 unfoldable pub box_title : (number entry first : ℕ) → (fate : List ℕ) → (turns : ℕ) → List ℕ
 box_title number entry first fate turns =
-    concat (codes "<title>task " ∷ decimal number ∷ codes " at address " ∷ decimal entry ∷ codes ", begun by entry " ∷ decimal first
+    concat (codes "<title>task " ∷ decimal number ∷ codes " at address " ∷ decimal entry ∷ codes ", begun by entry "
+    ∷ decimal first
     ∷ codes ": " ∷ fate ∷ codes "; turns: " ∷ decimal turns ∷ codes "</title></rect>\n" ∷ [])
 
 -- words in black on a white rim
@@ -80,13 +88,15 @@ label x y style words = label_open x y style ++ words ++ label_close
 -- what is shown
 unfoldable pub headline : (count total from units : ℕ) → List ℕ
 headline count total from units =
-    concat (codes "<text x='90' y='30' font-size='18' font-weight='bold'>" ∷ decimal count ∷ codes " of " ∷ decimal total
+    concat (codes "<text x='90' y='30' font-size='18' font-weight='bold'>" ∷ decimal count ∷ codes " of "
+    ∷ decimal total
     ∷ codes " entries, from entry " ∷ decimal from ∷ codes "; units: " ∷ decimal units ∷ codes "</text>\n" ∷ [])
 
 -- a sample of a fate
 unfoldable pub fate_sample : (x : ℕ) → (fill name : List ℕ) → List ℕ
 fate_sample x fill name =
-    concat (codes "<rect x='" ∷ decimal x ∷ codes "' y='48' width='32' height='18' fill='" ∷ fill ∷ codes "' stroke='#111'/><text x='"
+    concat (codes "<rect x='" ∷ decimal x ∷ codes "' y='48' width='32' height='18' fill='" ∷ fill
+    ∷ codes "' stroke='#111'/><text x='"
     ∷ decimal (x + 40) ∷ codes "' y='62'>" ∷ name ∷ codes "</text>\n" ∷ [])
 
 -- the end of a sample of a mark, and what it is
@@ -107,7 +117,8 @@ arrow_heads size =
 -- a lane, with its name before it
 unfoldable pub lane : (number top height : ℕ) → (fill : List ℕ) → (middle : ℕ) → List ℕ
 lane number top height fill middle =
-    concat (codes "<rect x='90' y='" ∷ decimal top ∷ codes "' width='1490' height='" ∷ decimal height ∷ codes "' fill='" ∷ fill
+    concat (codes "<rect x='90' y='" ∷ decimal top ∷ codes "' width='1490' height='" ∷ decimal height ∷ codes "' fill='"
+    ∷ fill
     ∷ codes "'/><text x='20' y='" ∷ decimal middle ∷ codes "'>unit " ∷ decimal number ∷ codes "</text>\n" ∷ [])
 
 -- an entry's number, below its place
@@ -122,7 +133,8 @@ tick x place =
 unfoldable pub opening : List ℕ
 opening =
     concat (codes "<?xml version='1.0' encoding='UTF-8'?>\n<svg xmlns='http://www.w3.org/2000/svg' width='1600' height='900' "
-    ∷ codes "viewBox='0 0 1600 900' font-family='Helvetica, Arial, sans-serif' font-size='14' fill='#111'>\n<defs>\n" ∷ [])
+    ∷ codes "viewBox='0 0 1600 900' font-family='Helvetica, Arial, sans-serif' font-size='14' fill='#111'>\n<defs>\n"
+    ∷ [])
 
 -- a hatching of 8 by 8
 unfoldable pub hatching : (name turn paper lines : List ℕ) → List ℕ
