@@ -16,4 +16,3 @@ mod told;
 
 pub use extras::Extras;
 pub use show::show_text;
-pub use svc_held::Span;
