@@ -20,7 +20,6 @@ use crate::helps::{
 };
 use clap::{Arg, ArgAction, Command};
 use std::alloc::{AllocError, Global};
-
 use svc_request::VERSION;
 
 // A subcommand.
