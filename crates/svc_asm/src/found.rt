@@ -61,7 +61,7 @@ fn first_word(text: &[u8]) -> Word {
 }
 
 /// What a text begins with.
-pub fn found_in(text: &[u8]) -> Found {
+pub(crate) fn found_in(text: &[u8]) -> Found {
     match text {
         [] => Found::TextEnd,
         [b'\n' | b'#' | b';', ..] => Found::LineEnd,
