@@ -1,3 +1,4 @@
 pub mod Counting
 pub mod OrdersHeld
 pub mod TaskFields
+mod NoVersions

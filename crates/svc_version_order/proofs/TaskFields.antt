@@ -1,5 +1,5 @@
 -- The field of an active task's line, by what is shown of the task.
-use Rattle.std.proofs.Common.{◌≡◌, ℕ, [], List, Option, Some, None, refl, ap, sym}
+use Rattle.std.proofs.Common.{◌≡◌, ℕ, [], Option, Some, None, refl, ap, sym}
 use Rattle.std.specs.Prelude.{option_map}
 use Rattle.std.proofs.lemmas.Option.{none-some}
 use Rattle.svc_core_laws.specs.State.{State}

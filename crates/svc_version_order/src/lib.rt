@@ -1,5 +1,5 @@
-//! The lines of a word in the order of their versions, as rows: those of committed tasks, oldest first, and then those of
-//! the active tasks.
+//! The lines of a word in the order of their versions, as rows: those of committed tasks, oldest first, and then those
+//! of the active tasks.
 #![tactic(auto)]
 
 mod active;

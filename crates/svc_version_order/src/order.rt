@@ -18,8 +18,8 @@ use svc_held::{Named, holds_line};
 use svc_machine::Machine;
 use svc_text::{Piece, put_fields};
 
-// One of them, or both.
-fn either(one: bool, other: bool) -> bool
+/// One of them, or both.
+pub(crate) fn either(one: bool, other: bool) -> bool
     ensures { result ≡ (one || other) }
 {
     one || other

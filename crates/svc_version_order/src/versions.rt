@@ -6,9 +6,10 @@ ghost use Rattle.svc_bus.specs.Calls.{line_shown};
 ghost use Rattle.svc_bus.specs.Observed.{observed};
 ghost use Rattle.svc_bus_laws.specs.BusLine.{is_committed_dirty_line};
 ghost use Rattle.svc_held.specs.Held.{HasItsLines};
-ghost use Rattle.svc_version_order.specs.Order.{older_count, version_field, version_fields, versions_at};
+ghost use Rattle.svc_version_order.specs.Order.{has_version, older_count, version_field, version_fields, versions_at};
 
 use crate::fields::put_committed;
+use crate::order::either;
 use std::alloc::AllocError;
 use svc_base::UnitId;
 use svc_held::{Named, is_committed, is_stored, line_of_named};
@@ -106,8 +107,22 @@ fn put_versions_at(
     Ok(())
 }
 
-/// Adds the fields of the committed versions of a named word, oldest first.
-pub(crate) fn put_versions(
+// Some unit has a committed version of a named word.
+fn has_version(machine: &Machine, named: Named, units: u32) -> bool
+    requires few { units ≤ 16 }
+    requires own { HasItsLines (observed machine.now.bus) (data_words machine.now.image) named }
+    ensures { result ≡ has_version units (observed machine.now.bus) named.word.0 }
+{
+    let mut found = false;
+    for unit in 0..units {
+        let line = line_of_named(machine, UnitId(unit as u8), named);
+        found = either(found, is_version(line));
+    }
+    found
+}
+
+// Adds the fields of the committed versions of a named word, oldest first, by counting for each how many are older.
+fn put_each_version(
     machine: &Machine,
     named: Named,
     units: u32,
@@ -122,4 +137,24 @@ pub(crate) fn put_versions(
         put_versions_at(machine, named, units, older, rows)?;
     }
     Ok(())
+}
+
+/// Adds the fields of the committed versions of a named word, oldest first. Most words have none, which one look at
+/// each unit tells.
+pub(crate) fn put_versions(
+    machine: &Machine,
+    named: Named,
+    units: u32,
+    rows: &mut Vec<u8>,
+) -> Result<(), AllocError>
+    requires few { units ≤ 16 }
+    requires own { HasItsLines (observed machine.now.bus) (data_words machine.now.image) named }
+    ensures { OnOk result
+        (rows.new.items ≡ rows.old.items ++ version_fields units (observed machine.now.bus) named.word.0) }
+{
+    if has_version(machine, named, units) {
+        put_each_version(machine, named, units, rows)
+    } else {
+        Ok(())
+    }
 }

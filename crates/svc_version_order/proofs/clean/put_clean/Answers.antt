@@ -1,4 +1,4 @@
-use Rattle.std.proofs.Common.{Some, ◌∙◌, Option, List, ℕ, subst}
+use Rattle.std.proofs.Common.{Some, ◌∙◌, Option, subst}
 use Rattle.std.specs.Io.KnownBytes.{Appends}
 use Rattle.svc_core_laws.specs.Turns.{data_words}
 use Rattle.svc_bus.specs.Observed.{observed}

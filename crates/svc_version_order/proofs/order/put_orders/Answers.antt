@@ -1,4 +1,4 @@
-use Rattle.std.proofs.Common.{Some, ◌∙◌, List, ℕ, ap, subst}
+use Rattle.std.proofs.Common.{Some, ◌∙◌, ap, subst}
 use Rattle.std.specs.Io.KnownBytes.{Appends}
 use Rattle.svc_base.specs.declared.config.Config.{Config}
 use Rattle.svc_core_laws.specs.Turns.{data_words}

@@ -1,12 +1,10 @@
-use Rattle.std.proofs.Common.{Some, ℕ}
+use Rattle.std.proofs.Common.{◌∙◌, ◌++◌, ℕ, List, ap, sym}
+use Rattle.std.proofs.lemmas.List.{append-nil}
 use Rattle.svc_bus.specs.Observed.{observed}
-use Rattle.svc_held.proofs.Ranges.{row_more}
-use Rattle.svc_version_order.specs.Order.{versions_at}
+use Rattle.svc_version_order.proofs.NoVersions.{no_versions}
 use Rattle.svc_version_order.proofs.versions.put_versions.Goals as goal
 
-pub loop-older-preserved : goal.loop-older-preserved
-loop-older-preserved c =
-    let a = Some c.args.rows.now.items in
-    let b = Some c.loop-older.rows.items in
-    let d = Some c.put_versions_at.new.rows.items in
-    row_more (versions_at c.args.units (observed c.args.machine.now.bus) c.args.named.word.0) c.loop-older.older a b d c.loop-older.invariant c.in_ok-put_versions_at.ensures
+pub returns-else-has_version : goal.returns-else-has_version
+returns-else-has_version c =
+    let none = no_versions c.args.units (observed c.args.machine.now.bus) c.args.named.word.0 (sym c.has_version.ensures ∙ c.if-has_version.false) in
+    sym (append-nil c.args.rows.now.items) ∙ ap (λ (l : List ℕ). c.args.rows.now.items ++ l) (sym none)
