@@ -4,8 +4,9 @@
 #
 #   examples/c/build.sh [JOINED]
 #
-# With PROGRAM=apart it does so with apart.c and apart_start.s. Saves the joined text as JOINED where that is given. Needs gcc and Debian's gcc-riscv64-unknown-elf. SVCSIM is the program, without
-# it crates/svcsim/out/svcsim. With GNU=1 the image is made by GNU's assembler and linker in place of `svcsim assemble`.
+# With PROGRAM=apart it does so with apart.c and apart_start.s. Saves the joined text as JOINED where that is given. Needs gcc
+# and Debian's gcc-riscv64-unknown-elf. SVCSIM is the program, without it crates/svcsim/out/svcsim. With GNU=1 GNU's assembler
+# and linker make the image in place of `svcsim assemble`.
 set -euo pipefail
 
 here=$(cd "$(dirname "${BASH_SOURCE[0]}")" && pwd)
