@@ -170,7 +170,7 @@ export class Requests {
     return explored_of((await this.get(this.explore_words(how), this.other)).out);
   }
 
-  // A shortest schedule that shows what the row says, with the row that it shows.
+  // A schedule that shows what the row says, with the row that it shows.
   async witness(how, seen) {
     this.other.put(FILES.image, this.library.files.get(FILES.image));
     const words = [...this.explore_words(how), '--find', [seen.what, seen.task, seen.word].join().replace(/,+$/, ''),

@@ -198,11 +198,11 @@ export const TEXTS = {
   by_word: (word) => `it read ${word} too early`, by_guess: 'a wrong guess', by_cancel: 'by hand',
     version_of: (n) => `task ${n}’s version`,
   steps: (n) => many(n, 'step', 'steps'), in_run: (n) => `, entry ${n}`, filled: '●', empty: '○',
-  seen_key: '● seen in the run above, ○ not in it. A row loads a shortest schedule that shows it; of rows with the same task and word the library finds the first alone.',
+  seen_key: '● seen in the run above, ○ not in it. A row loads a schedule that shows it; of rows with the same task and word the library finds the first alone.',
   whole: (units, burst) =>
     `On ${many(units, 'unit', 'units')}, by bursts of at most ${burst}, no schedule whatever shows anything else: what is not listed never happens.`,
   not_whole: 'A limit was met: what is not listed may be seen too.',
-    witness: (row) => `A shortest schedule that shows: ${row}.`,
+    witness: (row) => `A schedule that shows: ${row}.`,
   script_says: 'The buttons write this script; it is what is saved, and what a link carries. Edit it here, one step a line.',
     apply: 'Apply', script_label: 'Script, one step a line: kind,unit,arg',
   answer_head: ['step', 'answer'], rows_left_out: (count) => `${count} rows are left out here; Save has them all.`,
