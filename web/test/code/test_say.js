@@ -58,26 +58,25 @@ const OPEN = ['due,0', 'guess,0', 'open,0'];
 const told = (entry, before, after, more = {}) =>
   says(shown({ entries: [entry], before: moment(...before), after: moment(...after), names: ['shared'], ...more }), 0);
 
+// What is said of an entry that leads to the machine that a case prints, from these rows on.
+const said = (name, entry, ...before) =>
+  says(shown({ entries: [entry], before: moment(...OPEN, ...before), after: shown_of(printed(name)), names: ['shared'] }), 0);
+
 export function a_version_is_told_with_its_task_and_unit() {
-  const after = shown_of(printed('show_of_a_version'));
-  const before = moment(...OPEN, 'task,0,0,0,3,next', 'task,1,1,12,0,running', 'memory,0,0,0');
-  const session = shown({ entries: ['submit,1,,1,1,loaded,0,5,version,0,,,'], before, after, names: ['shared'] });
-  equal(says(session, 0),
+  equal(said('show_of_a_version', 'submit,1,,1,1,loaded,0,5,version,0,,,',
+    'task,0,0,0,3,next', 'task,1,1,12,0,running', 'memory,0,0,0'),
     'Task 1 loads shared and gets 5: task 0’s version in unit 0’s cache served it, before that task is committed.');
 }
 
 export function a_spilled_version_serves_a_load() {
-  const after = shown_of(printed('show_of_a_spill'));
-  const before = moment(...OPEN, 'task,0,0,0,3,next', 'task,1,1,12,0,running', 'spill,0,5', 'memory,0,0,0');
-  const session = shown({ entries: ['submit,1,,1,1,loaded,0,5,spill,,,,'], before, after, names: ['shared'] });
-  equal(says(session, 0), 'Task 1 loads shared and gets 5: the oldest task’s spilled version served it.');
+  equal(said('show_of_a_spill', 'submit,1,,1,1,loaded,0,5,spill,,,,',
+    'task,0,0,0,3,next', 'task,1,1,12,0,running', 'spill,0,5', 'memory,0,0,0'),
+    'Task 1 loads shared and gets 5: the oldest task’s spilled version served it.');
 }
 
 export function a_replaced_version_is_told_as_spilled() {
-  const after = shown_of(printed('show_of_a_replacement'));
-  const before = moment(...OPEN, 'task,0,0,0,3,next', 'line,0,0,5,VS---', 'memory,0,0,0');
-  const session = shown({ entries: ['replace,0,0,,,replaced,0,,,,,,'], before, after, names: ['shared'] });
-  equal(says(session, 0),
+  equal(said('show_of_a_replacement', 'replace,0,0,,,replaced,0,,,,,,',
+    'task,0,0,0,3,next', 'line,0,0,5,VS---', 'memory,0,0,0'),
     'Unit 0 lets go of its line of shared: the version 5 is kept aside until task 0 is committed (spilled).');
 }
 
