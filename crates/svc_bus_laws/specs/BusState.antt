@@ -27,7 +27,8 @@ pub record BusState : Type 0 where
 -- a line without its number
 abbrev pub unnumbered : Option Line → Option BusLine
 unnumbered None = None
-unnumbered (Some l) = Some (record { value = l.value; store = l.store; load = l.load; commit = l.commit; stale = l.stale })
+unnumbered (Some l) =
+    Some (record { value = l.value; store = l.store; load = l.load; commit = l.commit; stale = l.stale })
 
 -- S set
 abbrev pub is_dirty : Option Line → Bool
@@ -36,7 +37,8 @@ is_dirty (Some l) = l.store
 
 -- both units have a dirty line of the word, and the first unit's has the lower number
 abbrev pub is_lower : LineTable → ℕ → ℕ → ℕ → Bool
-is_lower t a u v = (is_dirty (t.lines u a) && is_dirty (t.lines v a)) && ltb (task_in (t.lines u a)) (task_in (t.lines v a))
+is_lower t a u v =
+    (is_dirty (t.lines u a) && is_dirty (t.lines v a)) && ltb (task_in (t.lines u a)) (task_in (t.lines v a))
 
 -- a bus agrees with a sound line table if they differ at most in the lines' numbers, and the numbers put each word's
 -- dirty lines in the bus's order

@@ -1,10 +1,12 @@
 -- The steps of a bus without numbers: what its lines, its order and its queue become. A body has to show these.
-use Rattle.std.specs.Prelude.{List, ℕ, suc, Bool, true, false, cond, not, ◌&&◌, ◌==◌, ltb, Option, Some, None, is_some, unwrap_or, [], ◌∷◌, ◌++◌, length, get_or, take, drop}
+use Rattle.std.specs.Prelude.{List, ℕ, suc, Bool, true, false, cond, not, ◌&&◌, ◌==◌, ltb, Option, Some, None, is_some}
+use Rattle.std.specs.Prelude.{unwrap_or, [], ◌∷◌, ◌++◌, length, get_or, take, drop}
 use Rattle.std.specs.Option.{option_or}
 use Rattle.svc_bus_laws.specs.Search.{any_below}
 use Rattle.svc_bus_laws.specs.Versioned.{view, survivors}
 use Rattle.svc_bus_laws.specs.LineTable.{is_cut}
-use Rattle.svc_bus_laws.specs.BusLine.{BusLine, is_active_line, is_dirty_line, is_reusable_line, is_exposed_line, version_of_line, settled_line, reused_line, purged_line, marked_line}
+use Rattle.svc_bus_laws.specs.BusLine.{BusLine, is_active_line, is_dirty_line, is_reusable_line, is_exposed_line}
+use Rattle.svc_bus_laws.specs.BusLine.{version_of_line, settled_line, reused_line, purged_line, marked_line}
 use Rattle.svc_bus_laws.specs.BusState.{BusState}
 use Rattle.svc_bus_laws.specs.BusView.{bus_line_at, bus_committed, bus_map}
 
@@ -46,7 +48,8 @@ line_after_cut b n v a = cond (is_cut b.units n v && is_active_line (b.lines v a
 abbrev pub bus_squash : BusState → ℕ → BusState
 bus_squash b n = record b {
   lines = line_after_cut b n;
-  is_older = λ a u v. (is_dirty_line (line_after_cut b n u a) && is_dirty_line (line_after_cut b n v a)) && b.is_older a u v;
+  is_older =
+      λ a u v. (is_dirty_line (line_after_cut b n u a) && is_dirty_line (line_after_cut b n v a)) && b.is_older a u v;
   units = take n b.units;
 }
 
@@ -75,14 +78,16 @@ written_bus_line b n p a w = record {
 abbrev pub line_after_write : BusState → ℕ → ℕ → ℕ → ℕ → ℕ → ℕ → Option BusLine
 line_after_write b n p a w v x =
     cond (x == a)
-    (cond (v == get_or b.units p 0) (Some (written_bus_line b n p a w)) (marked_line (is_below b p v) (purged_line (line_after_cut b n v x))))
+    (cond (v == get_or b.units p 0) (Some (written_bus_line b n p a w))
+    (marked_line (is_below b p v) (purged_line (line_after_cut b n v x))))
     (line_after_cut b n v x)
 
 -- the order after the write: the written line stands between those of the tasks below and those of the tasks above
 abbrev pub order_after_write : BusState → ℕ → ℕ → ℕ → ℕ → ℕ → ℕ → ℕ → Bool
 order_after_write b n p a w x u v =
     (is_dirty_line (line_after_write b n p a w u x) && is_dirty_line (line_after_write b n p a w v x))
-    && cond ((x == a) && (u == get_or b.units p 0)) (is_above b n p v) (cond ((x == a) && (v == get_or b.units p 0)) (is_below b p u) (b.is_older x u v))
+    && cond ((x == a) && (u == get_or b.units p 0)) (is_above b n p v)
+    (cond ((x == a) && (v == get_or b.units p 0)) (is_below b p u) (b.is_older x u v))
 
 -- a write of the word by the task at a place that leaves n tasks
 abbrev pub bus_write_leaving : BusState → ℕ → ℕ → ℕ → ℕ → BusState
@@ -105,7 +110,9 @@ line_after_request b u a line v x = cond (x == a) (cond (v == u) line (purged_li
 
 -- the order of the dirty lines that a request leaves
 abbrev pub order_after_request : BusState → ℕ → ℕ → Option BusLine → ℕ → ℕ → ℕ → Bool
-order_after_request b u a line x y z = (is_dirty_line (line_after_request b u a line y x) && is_dirty_line (line_after_request b u a line z x)) && b.is_older x y z
+order_after_request b u a line x y z =
+    (is_dirty_line (line_after_request b u a line y x) && is_dirty_line (line_after_request b u a line z x))
+    && b.is_older x y z
 
 -- the line that a read with this value fills
 abbrev pub filled_bus_line : BusState → ℕ → ℕ → ℕ → BusLine

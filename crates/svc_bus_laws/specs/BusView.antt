@@ -1,12 +1,14 @@
 -- What the state that callers see says, without numbers, of committed values, the versioned map and the supplier of a
 -- read.
-use Rattle.std.specs.Prelude.{suc, ◌-◌, ℕ, Bool, cond, not, ◌&&◌, ◌||◌, ◌==◌, Option, Some, None, is_some, length, get_or}
+use Rattle.std.specs.Prelude.{suc, ◌-◌, ℕ, Bool, cond, not, ◌&&◌, ◌||◌, ◌==◌, Option, Some, None, is_some, length}
+use Rattle.std.specs.Prelude.{get_or}
 use Rattle.std.specs.Option.{option_or}
 use Rattle.svc_bus_laws.specs.Search.{least, greatest, all_below, tabulate}
 use Rattle.svc_bus_laws.specs.Versioned.{Row, Versioned, Victim, view, victim_answer}
 use Rattle.svc_bus_laws.specs.Supplier.{Supplier, Hit, Reuse, Version, Spill, Committed, Memory, by_committed}
 use Rattle.svc_bus_laws.specs.Walk.{walk}
-use Rattle.svc_bus_laws.specs.BusLine.{BusLine, is_active_line, is_reusable_line, is_committed_dirty_line, is_exposed_line, value_of_line, version_of_line}
+use Rattle.svc_bus_laws.specs.BusLine.{BusLine, is_active_line, is_reusable_line, is_committed_dirty_line}
+use Rattle.svc_bus_laws.specs.BusLine.{is_exposed_line, value_of_line, version_of_line}
 use Rattle.svc_bus_laws.specs.BusState.{BusState}
 
 -- the line of the word in the unit of the task at a place
@@ -15,7 +17,9 @@ bus_line_at b p a = b.lines (get_or b.units p 0) a
 
 -- the unit has a committed dirty line of the word, and none is newer
 abbrev pub is_newest_line : BusState → ℕ → ℕ → Bool
-is_newest_line b a u = is_committed_dirty_line (b.lines u a) && all_below b.caches (λ v. not (is_committed_dirty_line (b.lines v a)) || not (b.is_older a u v))
+is_newest_line b a u =
+    is_committed_dirty_line (b.lines u a)
+    && all_below b.caches (λ v. not (is_committed_dirty_line (b.lines v a)) || not (b.is_older a u v))
 
 -- the unit of the newest committed dirty line of the word
 abbrev pub bus_newest : BusState → ℕ → Option ℕ
@@ -75,4 +79,6 @@ bus_supplied b p a Memory = Some (b.backing a)
 
 -- the walk of a write over the lines of the tasks above the writer
 abbrev pub bus_walk : BusState → ℕ → ℕ → Option ℕ
-bus_walk b p a = walk (λ q. is_exposed_line (bus_line_at b q a)) (λ q. is_some (version_of_line (bus_line_at b q a))) (suc p) (length b.units - suc p)
+bus_walk b p a =
+    walk (λ q. is_exposed_line (bus_line_at b q a)) (λ q. is_some (version_of_line (bus_line_at b q a))) (suc p)
+    (length b.units - suc p)

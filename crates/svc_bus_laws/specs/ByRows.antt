@@ -1,5 +1,6 @@
 -- The same view, victim and steps by recursion on the rows, as proofs about programs use them.
-use Rattle.std.specs.Prelude.{ℕ, zero, suc, cond, ◌||◌, ◌&&◌, ◌==◌, Option, Some, None, is_some, is_none, unwrap_or, option_map, List, [], ◌∷◌, take}
+use Rattle.std.specs.Prelude.{ℕ, zero, suc, cond, ◌||◌, ◌&&◌, ◌==◌, Option, Some, None, is_some, is_none, unwrap_or}
+use Rattle.std.specs.Prelude.{option_map, List, [], ◌∷◌, take}
 use Rattle.svc_bus_laws.specs.Versioned.{Row, Versioned, written_row, with_head}
 
 -- memory with a task's versions over it
@@ -15,7 +16,8 @@ view_of (row ∷ rows) memory (suc p) = view_of rows (over row.versions memory) 
 -- the walk: the first row that exposed the word, unless one before it has a version
 abbrev pub first_exposed : List Row → ℕ → Option ℕ
 first_exposed [] a = None
-first_exposed (row ∷ rows) a = cond (row.exposed a) (Some 0) (cond (is_some (row.versions a)) None (option_map suc (first_exposed rows a)))
+first_exposed (row ∷ rows) a =
+    cond (row.exposed a) (Some 0) (cond (is_some (row.versions a)) None (option_map suc (first_exposed rows a)))
 
 -- the victim of a write by the task at a place, counted from the task after it
 abbrev pub victim_after : List Row → ℕ → ℕ → Option ℕ
@@ -54,7 +56,8 @@ write m p a w = record m { rows = edit p (λ row. written_row row a w) (victim_a
 -- the first of the rows is committed
 abbrev pub commit_rows : Versioned → List Row → Versioned
 commit_rows m [] = m
-commit_rows m (row ∷ rows) = record { commits = suc m.commits; committed = over row.versions m.committed; rows = with_head rows }
+commit_rows m (row ∷ rows) =
+    record { commits = suc m.commits; committed = over row.versions m.committed; rows = with_head rows }
 
 -- the head is committed
 abbrev pub commit : Versioned → Versioned

@@ -1,6 +1,7 @@
 -- The line table: every cache's lines, the spill table and the backing memory.
 -- The bits V, S, L, C and T are those of "Speculative Versioning Cache" (HPCA 1998), the efficient commit design (EC).
-use Rattle.std.specs.Prelude.{ℕ, Bool, false, cond, not, ◌&&◌, ◌||◌, ◌==◌, leb, Option, Some, None, List, [], length, get_or}
+use Rattle.std.specs.Prelude.{ℕ, Bool, false, cond, not, ◌&&◌, ◌||◌, ◌==◌, leb, Option, Some, None, List, [], length}
+use Rattle.std.specs.Prelude.{get_or}
 use Rattle.std.specs.Option.{option_or}
 use Rattle.svc_bus_laws.specs.Search.{least, all_below, any_below, tabulate}
 use Rattle.svc_bus_laws.specs.Versioned.{Row, Versioned}
@@ -86,7 +87,10 @@ line_at t p a = t.lines (unit_at t p) a
 
 -- the unit has a committed dirty line of the word, and none has a greater number
 abbrev pub is_newest : LineTable → ℕ → ℕ → Bool
-is_newest t a u = is_committed_dirty (t.lines u a) && all_below t.caches (λ v. not (is_committed_dirty (t.lines v a)) || leb (task_in (t.lines v a)) (task_in (t.lines u a)))
+is_newest t a u =
+    is_committed_dirty (t.lines u a)
+    && all_below t.caches
+    (λ v. not (is_committed_dirty (t.lines v a)) || leb (task_in (t.lines v a)) (task_in (t.lines u a)))
 
 -- the unit of the committed dirty line of the word with the greatest number
 abbrev pub newest : LineTable → ℕ → Option ℕ

@@ -1,5 +1,6 @@
 -- The laws of the versioned map alone.
-use Rattle.std.specs.Prelude.{◌≡◌, ℕ, suc, ◌+◌, ◌-◌, ◌<◌, ◌≤◌, true, false, Some, None, is_some, is_none, option_map, length}
+use Rattle.std.specs.Prelude.{◌≡◌, ℕ, suc, ◌+◌, ◌-◌, ◌<◌, ◌≤◌, true, false, Some, None, is_some, is_none, option_map}
+use Rattle.std.specs.Prelude.{length}
 use Rattle.svc_bus_laws.specs.Versioned.{Versioned, version, is_exposed, view, victim}
 use Rattle.svc_bus_laws.specs.Versioned as map
 use Rattle.svc_bus_laws.specs.ByRows as rows
@@ -12,7 +13,8 @@ CommittedView = (m : Versioned) (p a : ℕ) → ((q : ℕ) → q ≤ p → versi
 
 -- otherwise it reads the version of the greatest place not above its own that has one
 abbrev pub NearestView : Type 0
-NearestView = (m : Versioned) (p q a x : ℕ) → q ≤ p → version m q a ≡ Some x → ((r : ℕ) → q < r → r ≤ p → version m r a ≡ None) → view m p a ≡ x
+NearestView = (m : Versioned) (p q a x : ℕ) → q ≤ p → version m q a ≡ Some x
+    → ((r : ℕ) → q < r → r ≤ p → version m r a ≡ None) → view m p a ≡ x
 
 -- the task at place v is the victim of a write of the word at place p
 pub record IsVictim (m : Versioned) (p a v : ℕ) : Type 0 where
@@ -41,11 +43,13 @@ pub record IsWalked (m : Versioned) (p a v : ℕ) : Type 0 where
 
 -- a walk that reaches a task that exposed the word has found the victim
 abbrev pub WalkFinds : Type 0
-WalkFinds = (m : Versioned) (p a v : ℕ) → IsWalked m p a v → p < v → v < length m.rows → is_exposed m v a ≡ true → victim m p a ≡ Some v
+WalkFinds = (m : Versioned) (p a v : ℕ) → IsWalked m p a v → p < v → v < length m.rows → is_exposed m v a ≡ true
+    → victim m p a ≡ Some v
 
 -- a walk that reaches a version of a task that did not expose the word ends without a victim
 abbrev pub WalkStops : Type 0
-WalkStops = (m : Versioned) (p a v : ℕ) → IsWalked m p a v → p < v → is_exposed m v a ≡ false → is_none (version m v a) ≡ false → victim m p a ≡ None
+WalkStops = (m : Versioned) (p a v : ℕ) → IsWalked m p a v → p < v → is_exposed m v a ≡ false
+    → is_none (version m v a) ≡ false → victim m p a ≡ None
 
 -- so does one that reaches the end
 abbrev pub WalkEnds : Type 0
@@ -53,7 +57,8 @@ WalkEnds = (m : Versioned) (p a : ℕ) → IsWalked m p a (length m.rows) → vi
 
 -- the walk over all later tasks gives the victim
 abbrev pub WalkIs : Type 0
-WalkIs = (m : Versioned) (p a : ℕ) → walk (λ q. is_exposed m q a) (λ q. is_some (version m q a)) (suc p) (length m.rows - suc p) ≡ victim m p a
+WalkIs = (m : Versioned) (p a : ℕ)
+    → walk (λ q. is_exposed m q a) (λ q. is_some (version m q a)) (suc p) (length m.rows - suc p) ≡ victim m p a
 
 -- the view, the victim and the steps by recursion on the rows are the same
 abbrev pub ViewByRows : Type 0

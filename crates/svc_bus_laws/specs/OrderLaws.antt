@@ -7,24 +7,29 @@ use Rattle.svc_bus_laws.specs.BusView.{bus_line_at}
 
 -- only dirty lines are ordered
 abbrev pub OrderDirty : Type 0
-OrderDirty = (b : BusState) (t : LineTable) (a u v : ℕ) → Agrees b t → b.is_older a u v ≡ true → (is_dirty_line (b.lines u a) ≡ true) × (is_dirty_line (b.lines v a) ≡ true)
+OrderDirty = (b : BusState) (t : LineTable) (a u v : ℕ) → Agrees b t → b.is_older a u v ≡ true
+    → (is_dirty_line (b.lines u a) ≡ true) × (is_dirty_line (b.lines v a) ≡ true)
 
 -- no two are each older than the other
 abbrev pub OrderStrict : Type 0
-OrderStrict = (b : BusState) (t : LineTable) (a u v : ℕ) → Agrees b t → b.is_older a u v ≡ true → b.is_older a v u ≡ false
+OrderStrict = (b : BusState) (t : LineTable) (a u v : ℕ) → Agrees b t → b.is_older a u v ≡ true
+    → b.is_older a v u ≡ false
 
 -- a line older than an older one is older
 abbrev pub OrderTransitive : Type 0
-OrderTransitive = (b : BusState) (t : LineTable) (a u v w : ℕ) → Agrees b t → b.is_older a u v ≡ true → b.is_older a v w ≡ true → b.is_older a u w ≡ true
+OrderTransitive = (b : BusState) (t : LineTable) (a u v w : ℕ) → Agrees b t → b.is_older a u v ≡ true
+    → b.is_older a v w ≡ true → b.is_older a u w ≡ true
 
 -- of any two one is older
 abbrev pub OrderTotal : Type 0
-OrderTotal = (b : BusState) (t : LineTable) (a u v : ℕ) → Agrees b t → u ≢ v → is_dirty_line (b.lines u a) ≡ true → is_dirty_line (b.lines v a) ≡ true
+OrderTotal = (b : BusState) (t : LineTable) (a u v : ℕ) → Agrees b t → u ≢ v → is_dirty_line (b.lines u a) ≡ true
+    → is_dirty_line (b.lines v a) ≡ true
     → (b.is_older a u v ≡ true) ⊎ (b.is_older a v u ≡ true)
 
 -- committed ones are older than active ones
 abbrev pub CommittedFirst : Type 0
-CommittedFirst = (b : BusState) (t : LineTable) (a u v : ℕ) → Agrees b t → is_committed_dirty_line (b.lines u a) ≡ true → is_some (version_of_line (b.lines v a)) ≡ true → b.is_older a u v ≡ true
+CommittedFirst = (b : BusState) (t : LineTable) (a u v : ℕ) → Agrees b t → is_committed_dirty_line (b.lines u a) ≡ true
+    → is_some (version_of_line (b.lines v a)) ≡ true → b.is_older a u v ≡ true
 
 -- and active ones are in the order of their tasks
 abbrev pub TaskOrder : Type 0

@@ -1,6 +1,7 @@
 -- When a read, a write or a replacement is refused. This depends on one unit's cache as callers see it, so it is the
 -- same for a bus and for a line table.
-use Rattle.std.specs.Prelude.{◌≡◌, ℕ, ◌<◌, ◌%◌, Bool, true, false, cond, not, ◌&&◌, ◌==◌, ltb, leb, Option, None, is_some, is_none, List, length, get_or}
+use Rattle.std.specs.Prelude.{◌≡◌, ℕ, ◌<◌, ◌%◌, Bool, true, false, cond, not, ◌&&◌, ◌==◌, ltb, leb, Option, None}
+use Rattle.std.specs.Prelude.{is_some, is_none, List, length, get_or}
 use Rattle.std.specs.Option.{option_or}
 use Rattle.svc_bus_laws.specs.Search.{least, how_many}
 use Rattle.svc_bus_laws.specs.LineTable.{LineTable}
@@ -58,6 +59,7 @@ pub record IsNamed (c : CacheState) (a b : ℕ) : Type 0 where
   pub in_memory : b < c.words
   pub in_set : is_in_set c a b ≡ true
   -- a lower line of the set is passed over only if it is uncommitted and the named one is committed
-  pub least : (w : ℕ) → w < b → is_in_set c a w ≡ true → (is_committed_line (c.lines w) ≡ false) × (is_committed_line (c.lines b) ≡ true)
+  pub least : (w : ℕ) → w < b → is_in_set c a w ≡ true
+      → (is_committed_line (c.lines w) ≡ false) × (is_committed_line (c.lines b) ≡ true)
   -- an uncommitted line is named only if none of the set is committed
   pub preferred : (w : ℕ) → w < c.words → is_committed_in_set c a w ≡ true → is_committed_line (c.lines b) ≡ true

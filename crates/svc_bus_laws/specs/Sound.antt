@@ -1,7 +1,8 @@
 -- What holds of every line table that the bus reaches.
 use Rattle.std.specs.Prelude.{◌≡◌, ◌⊎◌, ℕ, ◌+◌, ◌<◌, true, false, Some, None, is_some, length}
 use Rattle.svc_bus_laws.specs.Versioned.{view}
-use Rattle.svc_bus_laws.specs.LineTable.{Line, LineTable, is_committed_dirty, version_in, unit_at, line_at, own_version, committed_value, versioned}
+use Rattle.svc_bus_laws.specs.LineTable.{Line, LineTable, is_committed_dirty, version_in, unit_at, line_at, own_version}
+use Rattle.svc_bus_laws.specs.LineTable.{committed_value, versioned}
 
 -- what holds of an active line of the word, in the unit of the task at a place
 pub record IsActiveLine (t : LineTable) (a : ℕ) (l : Line) (p : ℕ) : Type 0 where
@@ -42,5 +43,6 @@ pub record IsSound (t : LineTable) : Type 0 where
   pub known_units : (p : ℕ) → p < length t.units → unit_at t p < t.caches
   pub sound_lines : (u a : ℕ) (l : Line) → t.lines u a ≡ Some l → IsSoundLine t u a l
   -- committed lines of one word in two caches have different numbers
-  pub distinct_versions : (u v a : ℕ) (k l : Line) → t.lines u a ≡ Some k → t.lines v a ≡ Some l → k.commit ≡ true → l.commit ≡ true → k.task ≡ l.task → u ≡ v
+  pub distinct_versions : (u v a : ℕ) (k l : Line) → t.lines u a ≡ Some k → t.lines v a ≡ Some l → k.commit ≡ true
+      → l.commit ≡ true → k.task ≡ l.task → u ≡ v
   pub sound_spills : (a : ℕ) → is_some (t.spill a) ≡ true → IsSpilled t a

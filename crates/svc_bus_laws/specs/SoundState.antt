@@ -14,11 +14,13 @@ pub record IsSpilledState (b : BusState) (a : ℕ) : Type 0 where
 -- what such a state satisfies
 pub record IsSoundState (b : BusState) : Type 0 where
   -- the active tasks run on different units, each with a cache
-  pub distinct_units : (p q : ℕ) → p < length b.units → q < length b.units → get_or b.units p 0 ≡ get_or b.units q 0 → p ≡ q
+  pub distinct_units : (p q : ℕ) → p < length b.units → q < length b.units → get_or b.units p 0 ≡ get_or b.units q 0
+      → p ≡ q
   pub known_units : (p : ℕ) → p < length b.units → get_or b.units p 0 < b.caches
   -- no line lies past the caches or past the memory
   pub cached : (u a : ℕ) → b.caches ≤ u → b.lines u a ≡ None
   pub in_memory : (u a : ℕ) → b.words ≤ a → b.lines u a ≡ None
   -- a unit with an active line runs a task
-  pub at_work : (u a : ℕ) → is_active_line (b.lines u a) ≡ true → (p : ℕ) × (p < length b.units) × (get_or b.units p 0 ≡ u)
+  pub at_work : (u a : ℕ) → is_active_line (b.lines u a) ≡ true
+      → (p : ℕ) × (p < length b.units) × (get_or b.units p 0 ≡ u)
   pub spilled : (a : ℕ) → is_some (b.spill a) ≡ true → IsSpilledState b a

@@ -1,11 +1,13 @@
 -- The steps of the bus on the line table, pointwise. What is not named stays. A commit writes back nothing but spilled
 -- values: versions go to memory when their word is next purged (lazy commit).
-use Rattle.std.specs.Prelude.{ℕ, suc, ◌+◌, Bool, true, false, cond, not, ◌&&◌, ◌||◌, ◌==◌, ltb, leb, Option, Some, None, is_some, unwrap_or, [], ◌∷◌, ◌++◌, length, take, drop}
+use Rattle.std.specs.Prelude.{ℕ, suc, ◌+◌, Bool, true, false, cond, not, ◌&&◌, ◌||◌, ◌==◌, ltb, leb, Option, Some, None}
+use Rattle.std.specs.Prelude.{is_some, unwrap_or, [], ◌∷◌, ◌++◌, length, take, drop}
 use Rattle.std.specs.Option.{option_or}
 use Rattle.svc_bus_laws.specs.Search.{any_below}
 use Rattle.svc_bus_laws.specs.Versioned.{Versioned, view}
 use Rattle.svc_bus_laws.specs.Versioned as map
-use Rattle.svc_bus_laws.specs.LineTable.{Line, LineTable, is_active, version_in, exposed_in, is_committed_dirty, is_reusable, is_cut, place_of, unit_at, line_at, committed_value, versioned}
+use Rattle.svc_bus_laws.specs.LineTable.{Line, LineTable, is_active, version_in, exposed_in, is_committed_dirty}
+use Rattle.svc_bus_laws.specs.LineTable.{is_reusable, is_cut, place_of, unit_at, line_at, committed_value, versioned}
 
 -- a function changed at one argument
 abbrev pub with_at : {A : Type 0} → (ℕ → A) → ℕ → A → ℕ → A
@@ -102,7 +104,8 @@ squash_from t u = squash t (unwrap_or (place_of t.units u) (length t.units))
 -- a write of the word by the task at a place, without the squash that follows it
 abbrev pub store : LineTable → ℕ → ℕ → ℕ → LineTable
 store t p a w = record t {
-  lines = with_line t.lines (unit_at t p) a (Some (written_line t p a w)) (λ line. marked (t.commits + p) (purged line));
+  lines =
+      with_line t.lines (unit_at t p) a (Some (written_line t p a w)) (λ line. marked (t.commits + p) (purged line));
   backing = with_at t.backing a (committed_value t a);
   spill = with_at t.spill a (cond (p == 0) None (t.spill a));
 }

@@ -1,7 +1,8 @@
 -- Who supplies the value of a read.
 use Rattle.std.specs.Prelude.{true, false, Bool, ℕ, cond, Option, Some, None, is_some}
 use Rattle.svc_bus_laws.specs.Search.{greatest}
-use Rattle.svc_bus_laws.specs.LineTable.{LineTable, is_active, is_reusable, version_in, value_in, unit_at, line_at, newest}
+use Rattle.svc_bus_laws.specs.LineTable.{LineTable, is_active, is_reusable, version_in, value_in, unit_at, line_at}
+use Rattle.svc_bus_laws.specs.LineTable.{newest}
 
 -- the unit's own active line; its own reusable line; the active dirty line of a unit; the spilled value; the committed
 -- dirty line of a unit; the backing memory

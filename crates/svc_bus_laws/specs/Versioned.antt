@@ -1,7 +1,9 @@
 -- The versioned map: one committed value for each word, and what each active task has written and read. The bus stands
 -- for it; it has no caches. Tasks retire in order, the head first ("Multiscalar Processors", ISCA 1995). A task is
 -- named by its place, which is its number less the number of commits: place 0 is the head, and above means later.
-use Rattle.std.specs.Prelude.{ℕ, zero, suc, ◌+◌, ◌-◌, Bool, false, cond, not, ◌&&◌, ◌||◌, ◌==◌, ltb, leb, Option, Some, None, is_none, unwrap_or, option_map, List, [], ◌∷◌, ◌++◌, length, get_or, take, drop, set}
+use Rattle.std.specs.Prelude.{ℕ, zero, suc, ◌+◌, ◌-◌, Bool, false, cond, not, ◌&&◌, ◌||◌, ◌==◌, ltb, leb, Option, Some}
+use Rattle.std.specs.Prelude.{None, is_none, unwrap_or, option_map, List, [], ◌∷◌, ◌++◌, length, get_or, take, drop}
+use Rattle.std.specs.Prelude.{set}
 use Rattle.svc_bus_laws.specs.Search.{least, all_below}
 
 -- what one active task has written, and which words it read before it wrote them

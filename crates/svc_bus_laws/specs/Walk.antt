@@ -10,4 +10,5 @@ walk exposes stores v (suc n) = cond (exposes v) (Some v) (cond (stores v) None 
 
 -- the walk over the tasks above the writer: it finds an active line with L, and ends at an active dirty line without it
 abbrev pub walk_lines : LineTable → ℕ → ℕ → Option ℕ
-walk_lines t p a = walk (λ q. exposed_in (line_at t q a)) (λ q. is_some (version_in (line_at t q a))) (suc p) (length t.units - suc p)
+walk_lines t p a =
+    walk (λ q. exposed_in (line_at t q a)) (λ q. is_some (version_in (line_at t q a))) (suc p) (length t.units - suc p)

@@ -1,7 +1,12 @@
 // A bus without numbers, and the line tables that it agrees with.
 
-ghost use Rattle.svc_bus_laws.specs.AgreementLaws.{OpenedAgrees, OwnState, SameAgrees, SoundSeen, CommittedSeen, MapSeen, ViewSeen, VictimSeen, SupplierSeen, SuppliedSeen, WalkSeen, ReadAgrees, WriteAgrees, ReplaceAgrees, SquashAgrees, CommitAgrees, BeginAgrees, AlikeReads, AlikeWrites, AlikeReplacements, AlikeSquashes, AlikeCommits, AlikeBeginnings, AlikeMaps};
-ghost use Rattle.svc_bus_laws.specs.OrderLaws.{OrderDirty, OrderStrict, OrderTransitive, OrderTotal, CommittedFirst, TaskOrder};
+ghost use Rattle.svc_bus_laws.specs.AgreementLaws.{OpenedAgrees, OwnState, SameAgrees, SoundSeen, CommittedSeen};
+ghost use Rattle.svc_bus_laws.specs.AgreementLaws.{MapSeen, ViewSeen, VictimSeen, SupplierSeen, SuppliedSeen, WalkSeen};
+ghost use Rattle.svc_bus_laws.specs.AgreementLaws.{ReadAgrees, WriteAgrees, ReplaceAgrees, SquashAgrees, CommitAgrees};
+ghost use Rattle.svc_bus_laws.specs.AgreementLaws.{BeginAgrees, AlikeReads, AlikeWrites, AlikeReplacements};
+ghost use Rattle.svc_bus_laws.specs.AgreementLaws.{AlikeSquashes, AlikeCommits, AlikeBeginnings, AlikeMaps};
+ghost use Rattle.svc_bus_laws.specs.OrderLaws.{OrderDirty, OrderStrict, OrderTransitive, OrderTotal, CommittedFirst};
+ghost use Rattle.svc_bus_laws.specs.OrderLaws.{TaskOrder};
 
 /// The opened bus agrees with the opened table, and a sound table's own state with the table. A state that agrees
 /// satisfies what its table satisfies, and its look-ups decide nothing.

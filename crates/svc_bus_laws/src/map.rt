@@ -1,6 +1,8 @@
 // The versioned map alone.
 
-ghost use Rattle.svc_bus_laws.specs.MapLaws.{CommittedView, NearestView, VictimIs, IsTheVictim, NoVictim, WalkFinds, WalkStops, WalkEnds, WalkIs, ViewByRows, VictimByRows, ReadByRows, WriteByRows, CommitByRows};
+ghost use Rattle.svc_bus_laws.specs.MapLaws.{CommittedView, NearestView, VictimIs, IsTheVictim, NoVictim, WalkFinds};
+ghost use Rattle.svc_bus_laws.specs.MapLaws.{WalkStops, WalkEnds, WalkIs, ViewByRows, VictimByRows, ReadByRows};
+ghost use Rattle.svc_bus_laws.specs.MapLaws.{WriteByRows, CommitByRows};
 
 /// A task reads the version of the latest task not after it that has one, otherwise the committed value.
 pub fn view_law()

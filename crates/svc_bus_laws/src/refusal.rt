@@ -1,6 +1,7 @@
 // When a read, a write or a replacement is refused.
 
-ghost use Rattle.svc_bus_laws.specs.RefusalLaws.{FullRefuses, RoomAllows, NamedAddress, PinnedResides, UnpinnedHead, SameCache, SameFull, SameResident, SamePinned};
+ghost use Rattle.svc_bus_laws.specs.RefusalLaws.{FullRefuses, RoomAllows, NamedAddress, PinnedResides, UnpinnedHead};
+ghost use Rattle.svc_bus_laws.specs.RefusalLaws.{SameCache, SameFull, SameResident, SamePinned};
 
 /// A read or a write is refused exactly when the word has no valid line in the unit's cache and its set is full. The
 /// refusal names the lowest word of the set's committed lines or, if none is committed, of all its lines.

@@ -1,6 +1,8 @@
 // The line table: each step keeps what every reached table satisfies, and is the versioned map's step.
 
-ghost use Rattle.svc_bus_laws.specs.TableLaws.{OpenedLaw, ReachedLaw, MemoryLaw, ReadLaw, OwnLineLaw, SupplierLaw, SpillSupplies, WriteLaw, LineWalkLaw, ReplaceLaw, SquashLaw, SquashNumbers, SquashFrom, CommitLaw, SpillLaw, BeginLaw, PurgeLaw};
+ghost use Rattle.svc_bus_laws.specs.TableLaws.{OpenedLaw, ReachedLaw, MemoryLaw, ReadLaw, OwnLineLaw, SupplierLaw};
+ghost use Rattle.svc_bus_laws.specs.TableLaws.{SpillSupplies, WriteLaw, LineWalkLaw, ReplaceLaw, SquashLaw};
+ghost use Rattle.svc_bus_laws.specs.TableLaws.{SquashNumbers, SquashFrom, CommitLaw, SpillLaw, BeginLaw, PurgeLaw};
 
 /// An opened bus is sound, and stands for the map of its memory without tasks.
 pub fn opened_law()
