@@ -7,7 +7,7 @@ use Rattle.clap.specs.declared.builder.arg.Arg.{Arg}
 use Rattle.clap.specs.declared.builder.command.Command.{Command}
 use Rattle.clap.specs.declared.builder.command.Command.TheViews.{out-Command as fields_of}
 use Rattle.svc_arguments.specs.Told.{TakesMore, Told, all_told, described, explain, is_told, tells, told}
-use Rattle.svc_arguments.specs.declared.arguments.Argument.{Argument}
+use Rattle.svc_arguments.specs.declared.argument.Argument.{Argument}
 use Rattle.svc_arguments.specs.declared.command.Subcommand.{Subcommand}
 
 or_false : (b : Bool) → (b || false) ≡ b

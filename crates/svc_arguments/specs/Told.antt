@@ -5,7 +5,7 @@ use Rattle.clap.specs.Words.{Rule, Shape, app_of, items_of, rule_of, shape_of}
 use Rattle.clap.specs.declared.builder.arg.Arg.{Arg}
 use Rattle.clap.specs.declared.builder.command.Command.{Command}
 use Rattle.clap.specs.declared.builder.command.Command.TheViews.{out-Command as fields_of}
-use Rattle.svc_arguments.specs.declared.arguments.Argument.{Argument}
+use Rattle.svc_arguments.specs.declared.argument.Argument.{Argument}
 use Rattle.svc_arguments.specs.declared.command.Subcommand.{Subcommand}
 
 -- an argument's name, whether it has to be given, and its value if it isn't

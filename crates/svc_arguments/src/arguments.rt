@@ -1,47 +1,10 @@
-//! The arguments of the subcommands.
+//! The arguments of the subcommands, by their names.
 
+use crate::argument::{Argument, Takes};
 use svc_base::limits::MAX_BURST_TURNS;
 
 /// The greatest number of tasks that may be asked of the plain runner.
 const MAX_TASKS: u32 = 1_000_000;
-
-/// What an argument takes.
-#[derive(Clone, Copy)]
-pub(crate) enum Takes {
-    /// A file, by its place among the words. It has to be named.
-    File,
-    /// Any word.
-    Word,
-    /// One of these names.
-    Name(&'static [&'static str]),
-    /// A number from the first of these to the second.
-    Number(u32, u32),
-    /// A number of 64 bits.
-    Index,
-    /// Nothing: it is given or not.
-    Nothing,
-}
-
-/// An argument of a subcommand.
-#[derive(Clone, Copy)]
-pub(crate) struct Argument {
-    /// Its name: for an option the word after `--`, for a file what help calls it.
-    pub(crate) name: &'static str,
-    /// What it takes.
-    pub(crate) takes: Takes,
-    /// What help calls its value.
-    pub(crate) value: &'static str,
-    /// Its value if none is given.
-    pub(crate) default: Option<&'static str>,
-    /// Whether it has to be given.
-    pub(crate) is_required: bool,
-    /// The option without which it is a mistake.
-    pub(crate) needs: Option<&'static str>,
-    /// The options beside which it is a mistake.
-    pub(crate) excludes: &'static [&'static str],
-    /// Its line of help.
-    pub(crate) help: &'static str,
-}
 
 // An option that takes a number, and may be left out.
 const OPTION: Argument = Argument {
@@ -159,7 +122,7 @@ pub(crate) const BY: Argument = Argument {
     name: "by",
     takes: Takes::Name(&["task", "unit", "word", "pair", "supplier", "pc"]),
     value: "TABLE",
-    help: "Prints a table instead: by task, unit or word, by who squashed whom, by whose version was read, or by instruction",
+    help: "Prints a table instead: by task, unit, word, pair of tasks, supplier or instruction",
     ..OPTION
 };
 
@@ -277,7 +240,7 @@ pub(crate) const TASKS_FOLLOWED: Argument = Argument {
 // The tables of needs.
 pub(crate) const BY_OF_NEEDS: Argument = Argument {
     takes: Takes::Name(&["task", "pair", "word"]),
-    help: "Prints a table instead, with a row for each task, for each task and one that it needs, or for each word that a task needs or writes",
+    help: "Prints a table instead: by task, by task and one that it needs, or by word that is needed or written",
     ..BY
 };
 
@@ -401,4 +364,10 @@ pub(crate) const TURNS: Argument = Argument {
     default: Some("1000000"),
     help: "How many turns each unit takes at most, with an event or two in each: 1 to 10000000",
     ..OPTION
+};
+
+// The same number, where nothing is run by it.
+pub(crate) const IDLE_TURNS: Argument = Argument {
+    help: "Taken as run takes it, and without effect here: 1 to 10000000",
+    ..TURNS
 };

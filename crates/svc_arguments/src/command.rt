@@ -7,12 +7,13 @@ ghost use Rattle.svc_arguments.specs.Grammar.{grammar};
 ghost use Rattle.svc_arguments.specs.Told.{IsNamed, IsSame, TakesMore, all_told, described, is_told};
 ghost use Rattle.svc_arguments.specs.Told.{tells, told, with_default};
 
+use crate::argument::{Argument, Takes};
 use crate::arguments::{
-    AFTER, AT, Argument, BURST, BURST_OF_MOVES, BY, BY_OF_NEEDS, COUNT, DETAIL, DOT, EVENTS,
-    EVENTS_FILE, EXPLAIN, EXPORTED, FIND, FORMAT, FROM, HEADER, IGNORE, IMAGE, MADE_IMAGE, MEMORY,
+    AFTER, AT, BURST, BURST_OF_MOVES, BY, BY_OF_NEEDS, COUNT, DETAIL, DOT, EVENTS, EVENTS_FILE,
+    EXPLAIN, EXPORTED, FIND, FORMAT, FROM, HEADER, IDLE_TURNS, IGNORE, IMAGE, MADE_IMAGE, MEMORY,
     MOVES, NAMES, NAMES_OF_LISTING, NAMES_OF_PROFILE, NAMES_OF_TEXT, OF, PICTURE, ROW,
     ROW_OF_PROFILE, ROWS, SCHEDULE, SCRIPT_FILE, SEED, SETS, STATES, TASKS, TASKS_FOLLOWED, TEXT,
-    TO, TRACE, TRACE_FILE, TRACE_OF_FINDING, TURNS, Takes, UNITS, WAYS, WORDS,
+    TO, TRACE, TRACE_FILE, TRACE_OF_FINDING, TURNS, UNITS, WAYS, WORDS,
 };
 use crate::helps::{
     ABOUT, ASSEMBLE, CHECK, DEPEND, DRAW, EXPLORE, EXPORT, FAULTS, LIST, PROFILE, RUN, SCRIPT, SEQ,
@@ -77,7 +78,7 @@ const SUBCOMMANDS: [Subcommand; 12] = [
             SETS,
             WAYS,
             EVENTS,
-            TURNS,
+            IDLE_TURNS,
         ],
     },
     Subcommand {
@@ -85,7 +86,16 @@ const SUBCOMMANDS: [Subcommand; 12] = [
         about: "Applies the events of a script, and prints a line for each, and the summary",
         help: SCRIPT,
         statuses: STATUSES,
-        arguments: &[IMAGE, EVENTS_FILE, UNITS, SETS, WAYS, EVENTS, TURNS, TRACE],
+        arguments: &[
+            IMAGE,
+            EVENTS_FILE,
+            UNITS,
+            SETS,
+            WAYS,
+            EVENTS,
+            IDLE_TURNS,
+            TRACE,
+        ],
     },
     Subcommand {
         name: "check",
@@ -99,7 +109,7 @@ const SUBCOMMANDS: [Subcommand; 12] = [
             SETS,
             WAYS,
             EVENTS,
-            TURNS,
+            IDLE_TURNS,
             IGNORE,
             SCRIPT_FILE,
         ],
@@ -121,7 +131,7 @@ const SUBCOMMANDS: [Subcommand; 12] = [
             SETS,
             WAYS,
             EVENTS,
-            TURNS,
+            IDLE_TURNS,
         ],
     },
     Subcommand {
@@ -130,7 +140,8 @@ const SUBCOMMANDS: [Subcommand; 12] = [
         help: SHOW,
         statuses: STATUSES,
         arguments: &[
-            IMAGE, TRACE_FILE, AT, DETAIL, MOVES, MEMORY, NAMES, UNITS, SETS, WAYS, EVENTS, TURNS,
+            IMAGE, TRACE_FILE, AT, DETAIL, MOVES, MEMORY, NAMES, UNITS, SETS, WAYS, EVENTS,
+            IDLE_TURNS,
         ],
     },
     Subcommand {
@@ -139,7 +150,7 @@ const SUBCOMMANDS: [Subcommand; 12] = [
         help: DRAW,
         statuses: STATUSES,
         arguments: &[
-            IMAGE, TRACE_FILE, PICTURE, FROM, COUNT, ROWS, UNITS, SETS, WAYS, EVENTS, TURNS,
+            IMAGE, TRACE_FILE, PICTURE, FROM, COUNT, ROWS, UNITS, SETS, WAYS, EVENTS, IDLE_TURNS,
         ],
     },
     Subcommand {
@@ -148,7 +159,7 @@ const SUBCOMMANDS: [Subcommand; 12] = [
         help: EXPORT,
         statuses: STATUSES,
         arguments: &[
-            IMAGE, TRACE_FILE, EXPORTED, FORMAT, WORDS, UNITS, SETS, WAYS, EVENTS, TURNS,
+            IMAGE, TRACE_FILE, EXPORTED, FORMAT, WORDS, UNITS, SETS, WAYS, EVENTS, IDLE_TURNS,
         ],
     },
     Subcommand {

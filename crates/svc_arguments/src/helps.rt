@@ -109,7 +109,7 @@ With --after FILE the events of a script come first, in this thread: a refused o
 give are faults of their rows. The schedule goes on from where they lead, by as many steps as --turns says; the
 summary and the trace are of both.
 
-Example: svcsim run sum.svci --units 8 --schedule rotate --row 8,rotate";
+Example: svcsim run sum.svci --schedule rotate --trace sum.csv";
 
 /// The help of `seq`.
 pub(crate) const SEQ: &str =
@@ -133,8 +133,8 @@ word comes from the last earlier task that wrote it, if any. The rows, in this o
   memory,M               of these, those whose word comes from no task
   nearest,D              how many tasks back the nearest source of a needed word is; 0 if there is none
   units,U                D, and 16 at most; 16 if D is 0
-  chain,C                the turns of the longest chain, in which each turn needs the one before: the turn before
-                         it in its task, or the last store of a word that it loads first
+  chain,C                the turns of the longest chain, in which each turn needs the one before: the turn
+                         before it in its task, or the last store of a word that it loads first
 
 On U units or fewer no violation ever squashes one of these tasks, whatever the schedule, if it and all active
 tasks before it began at their entries in this order.
@@ -191,12 +191,12 @@ A script is a CSV text with the header kind,unit,arg. Its rows are:
   take,U,T      runs U's task on likewise, and keeps that burst to be submitted later
   give,U,       submits the burst kept for U
 
-It has no comments, no spaces and no other columns. An accepted event prints its row of a trace; a refused one prints refused,N with the number of the refusal.
-A kept burst prints taken,L,A: its local turns, and 1 if it asks for the bus, otherwise 0. If there is
-nothing to keep or to give, none is printed. With --trace the trace of the accepted events is saved before
-anything is printed.
+It has no comments, no spaces and no other columns. An accepted event prints its row of a trace; a refused one
+prints refused,N with the number of the refusal. A kept burst prints taken,L,A: its local turns, and 1 if it
+asks for the bus, otherwise 0. If there is nothing to keep or to give, none is printed. With --trace the trace
+of the accepted events is saved before anything is printed.
 
-Example: svcsim script sum.svci sum.events.csv --units 2";
+Example: svcsim script sum.svci sum.events.csv";
 
 /// The help of `check`.
 pub(crate) const CHECK: &str =
@@ -206,14 +206,14 @@ It prints sound,N for the N rows of a sound trace. Otherwise it names the first 
 as trace fault K at entry I. K is 1 if memory ran out, 2 if the row's event is refused there, and 3 if the
 event has another answer. Give the options that the trace was made with.
 
-With --ignore served any supplier of a read is taken, in the columns served and from, and the others are compared:
-so a trace of another model of the cache can be sound, which has the same values from other places.
+With --ignore served any supplier of a read is taken, in the columns served and from, and the others are
+compared: so a trace of another model of the cache can be sound, which has the same values from other places.
 
 With --script FILE it saves the script that leads to a sound trace, before anything is printed: a step for each
 row, a submit with as many turns as the row has, local ones and the one that asked. The subcommand script makes
 the same trace of it. For a faulty trace it saves nothing.
 
-Example: svcsim check sum.svci sum.csv --units 8 --script sum.events.csv";
+Example: svcsim check sum.svci sum.csv --script sum.events.csv";
 
 /// The help of `profile`.
 pub(crate) const PROFILE: &str =
@@ -229,8 +229,8 @@ each unit, or for each word of data that was touched; --by pair has one for each
 another, that task and the word, --by supplier one for each task whose version another read, that task
 and the word, and --by pc one for each instruction that asked for a load, a store or an output. With --row it
 prints the counts as one row of a table, after a label, so that the rows of many traces join. With --to N it
-covers the first N entries, and those after them may be faulty. With --names a row ends with the name of its entry or word, by a table: a CSV text with the
-header name,address, in order of address and then name.
+covers the first N entries, and those after them may be faulty. With --names a row ends with the name of its
+entry or word, by a table: a CSV text with the header name,address, in order of address and then name.
 
 Example: svcsim profile sum.svci sum.csv --by task";
 
@@ -258,10 +258,11 @@ With --detail there are two more behind a task's row, and one for each word with
   register,U,xN,V        a register of the task whose value isn't the image's
   order,A,U:T,..         the word's lines from the oldest version on: a unit, and its task or committed
 
-With --moves there is a row behind all others for each event that each unit could ask for, whose last field is the
-number of its refusal, or empty if it would be accepted:
+With --moves there is a row behind all others for each event that each unit could ask for, whose last field is
+the number of its refusal, or empty if it would be accepted:
 
-  move,U,KIND,ARG,R      assign at the guess, submit of one turn, replace of each word that it holds, cancel, commit
+  move,U,KIND,ARG,R      assign at the guess, submit of one turn, replace of each word that it holds, cancel,
+                         commit
 
 With --memory A-B the words A to B have their memory rows also where no line holds them.
 
@@ -290,7 +291,7 @@ thousand on, a browser takes long to open it.
 With --rows it saves what the picture shows as rows instead: bar,TASK,UNIT,ADDRESS,FIRST,LAST,FATE for each bar,
 mark,ENTRY,UNIT,TASK,KIND,WORD,VALUE,BY for each mark, and arrow,FROM,TO,KIND,WORD for each arrow.
 
-Example: svcsim draw sum.svci sum.csv sum.svg --from 100 --count 200";
+Example: svcsim draw sum.svci sum.csv sum.svg --from 10 --count 20";
 
 /// The help of `export`.
 pub(crate) const EXPORT: &str =

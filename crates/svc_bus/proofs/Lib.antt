@@ -8,7 +8,7 @@ pub mod Keeping
 pub mod Beginning
 pub mod Committed
 pub mod Newest
-pub mod OlderVersions
+pub mod ItsVersions
 pub mod Squashing
 pub mod Committing
 pub mod Opening

@@ -8,4 +8,4 @@ pub mod Carried
 pub mod Marks
 pub mod Stores
 pub mod Looking
-pub mod Older
+pub mod Versions

@@ -9,16 +9,17 @@
 
 pub mod bus;
 mod marks;
-mod older;
 mod read;
 mod reads;
 mod replace;
 mod request;
 mod store;
 mod tasks;
+mod versions;
 pub mod victim;
 mod write;
 
 pub use bus::Bus;
 pub use svc_base::Served;
+pub use versions::UnitList;
 pub use victim::Victim;

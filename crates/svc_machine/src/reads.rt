@@ -11,7 +11,7 @@ ghost use Rattle.svc_bus_laws.specs.BusState.{unnumbered};
 ghost use Rattle.svc_bus_laws.specs.BusView.{bus_newest};
 ghost use Rattle.svc_bus.specs.Observed.{observed};
 ghost use Rattle.svc_bus.specs.Calls.{line_shown};
-ghost use Rattle.svc_bus.specs.Older.{is_older_version};
+ghost use Rattle.svc_bus.specs.Versions.{AreItsVersions};
 ghost use Rattle.svc_machine_laws.specs.Guess.{guess};
 ghost use Rattle.svc_machine_laws.specs.Reached.{IsReached};
 ghost use Rattle.svc_machine_laws.specs.Refusals.{history_full};
@@ -23,6 +23,7 @@ ghost use Rattle.svc_machine.specs.Refusing.{machine_at};
 use crate::machine::Machine;
 use crate::seat::last_end;
 use svc_base::{Config, UnitId, WordAddr};
+use svc_bus::UnitList;
 use svc_core::Lease;
 use svc_core_laws::{End, Ending};
 use svc_image::Image;
@@ -104,12 +105,12 @@ impl Machine {
         self.bus.newest_committed(addr)
     }
 
-    /// Whether both units have a committed version of the word, and the first unit's is the older one.
-    pub fn is_older(&self, addr: WordAddr, first: UnitId, second: UnitId) -> bool
+    /// The units that have a committed version of the word. The unit of the oldest version is the first.
+    pub fn committed_versions(&self, addr: WordAddr) -> UnitList
         requires in_data { addr.0 < data_words self.now.image }
-        ensures { result ≡ is_older_version (observed self.now.bus) addr.0 first.0 second.0 }
+        ensures { AreItsVersions (observed self.now.bus) addr.0 result.items }
     {
-        self.bus.is_older(addr, first, second)
+        self.bus.committed_versions(addr)
     }
 
     /// The word in the backing memory itself.

@@ -1,4 +1,4 @@
-pub mod Counting
+mod Counting
+pub mod VersionFields
 pub mod OrdersHeld
 pub mod TaskFields
-mod NoVersions

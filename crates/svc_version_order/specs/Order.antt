@@ -1,9 +1,9 @@
 -- The lines of a word in the order of their versions: first the clean lines of committed tasks, by unit, then the
 -- versions of committed tasks, the oldest first, and then the lines of the active tasks, the oldest first.
 use Rattle.std.specs.Prelude.{ℕ, Bool, ◌&&◌, ◌==◌, cond, not, List, [], ◌∷◌, ◌++◌, Option, codes, count_by, flat_map}
-use Rattle.std.specs.List.{list_any, range_with_len}
+use Rattle.std.specs.List.{range_with_len}
 use Rattle.svc_core_laws.specs.State.{State}
-use Rattle.svc_bus.specs.Older.{is_older_version}
+use Rattle.svc_bus.specs.Versions.{is_older_version}
 use Rattle.svc_bus_laws.specs.BusLine.{BusLine, is_active_line, is_committed_dirty_line, is_committed_line, is_dirty_line}
 use Rattle.svc_bus_laws.specs.BusState.{BusState}
 use Rattle.svc_machine_laws.specs.PlainMachine.{Running}
@@ -42,10 +42,6 @@ versions_at units b word older =
 -- the committed versions, oldest first: that with no older one, that with one older one, and so on
 abbrev pub version_fields : (units : ℕ) → BusState → (word : ℕ) → List ℕ
 version_fields units b word = flat_map (versions_at units b word) (range_with_len 0 units)
-
--- some unit has one
-abbrev pub has_version : (units : ℕ) → BusState → (word : ℕ) → Bool
-has_version units b word = list_any (λ unit. is_committed_dirty_line (b.lines unit word)) (range_with_len 0 units)
 
 -- the field of a unit's line, if it is that of its active task, which has this number
 abbrev pub unit_field : (number unit : ℕ) → Option BusLine → List ℕ

@@ -54,13 +54,14 @@ fn put_lines(
     rows: &mut Vec<u8>,
 ) -> Result<(), AllocError>
     requires few { units ≤ 16 }
+    requires all { units ≡ machine.now.config.units }
     requires own { HasItsLines (observed machine.now.bus) (data_words machine.now.image) named }
     ensures { let m = machine.now in
         OnOk result (rows.new.items ≡ rows.old.items
         ++ line_fields units (observed m.bus) m.plain.commits (running (program m.image) m.plain) named.word.0) }
 {
     put_all_clean(machine, named, units, rows)?;
-    put_versions(machine, named, units, rows)?;
+    put_versions(machine, named, rows)?;
     put_tasks(machine, named, rows)?;
     "\n".put(rows)
 }
@@ -73,6 +74,7 @@ fn put_row(
     rows: &mut Vec<u8>,
 ) -> Result<(), AllocError>
     requires few { units ≤ 16 }
+    requires all { units ≡ machine.now.config.units }
     requires own { HasItsLines (observed machine.now.bus) (data_words machine.now.image) named }
     ensures { let m = machine.now in
         OnOk result (rows.new.items ≡ rows.old.items
@@ -90,6 +92,7 @@ fn put_order(
     rows: &mut Vec<u8>,
 ) -> Result<(), AllocError>
     requires few { units ≤ 16 }
+    requires all { units ≡ machine.now.config.units }
     requires own { HasItsLines (observed machine.now.bus) (data_words machine.now.image) named }
     ensures { let m = machine.now in
         OnOk result (rows.new.items ≡ rows.old.items
@@ -110,6 +113,7 @@ fn put_all(
     rows: &mut Vec<u8>,
 ) -> Result<(), AllocError>
     requires few { units ≤ 16 }
+    requires all { units ≡ machine.now.config.units }
     requires own { AllByRecursion (HasItsLines (observed machine.now.bus) (data_words machine.now.image)) named.now }
     ensures { let m = machine.now in
         OnOk result (rows.new.items ≡ rows.old.items
