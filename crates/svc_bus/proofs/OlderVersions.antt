@@ -8,11 +8,11 @@ use Rattle.svc_bus_laws.specs.BusLine.{BusLine, is_committed_line, is_committed_
 use Rattle.svc_bus_laws.specs.BusState.{BusState, Agrees}
 use Rattle.svc_bus_laws.proofs.OrderProofs.{order_strict, order_total}
 use Rattle.svc_bus_laws.proofs.SoundSeen.{sound_seen}
-use Rattle.svc_vol.specs.declared.version.Version.{Version}
+use Rattle.svc_vol.specs.declared.held_line.HeldLine.{HeldLine}
 use Rattle.svc_vol.specs.Lines.{lines_in}
-use Rattle.svc_vol.specs.Versions.{AreCommitted, Versions, active_versions, seen_version, unit_at, version_at}
+use Rattle.svc_vol.specs.Value.{AreCommitted, ListValue, active_lines, seen_held_line, unit_at, held_at}
 use Rattle.svc_vcl.specs.Described.{Describes}
-use Rattle.svc_vcl.proofs.Entries.{dirty_bits}
+use Rattle.svc_vcl.proofs.Slots.{dirty_bits}
 use Rattle.svc_bus.specs.Older.{IsPlaceOf, IsAtPlace, comes_before, is_older_version, is_version_at}
 use Rattle.svc_bus.specs.Value.{BusValue, IsSoundBus, state_in}
 use Rattle.svc_bus.proofs.Requests.{listed_describes}
@@ -30,17 +30,17 @@ no_second true y = refl
 no_second false y = refl
 
 -- the list has each unit once
-abbrev Once : List Version → Type 0
+abbrev Once : List HeldLine → Type 0
 Once versions = (i j : ℕ) → i < length versions → j < length versions → unit_at versions i ≡ unit_at versions j → i ≡ j
 
-module _ (b : BusState) (t : LineTable) (a : ℕ) (list : Versions) (agrees : Agrees b t) (described : Describes b a list) (once : Once list.committed) where
+module _ (b : BusState) (t : LineTable) (a : ℕ) (list : ListValue) (agrees : Agrees b t) (described : Describes b a list) (once : Once list.committed) where
   unit_is : (u i : ℕ) → IsAtPlace list.committed u i → unit_at list.committed i ≡ u
   unit_is u i at = eqb-true (unit_at list.committed i) u (and_parts _ _ at.here).0
 
-  dirty_here : (i : ℕ) → i < length list.committed → is_dirty (bits_of (version_at list.committed i).line.bits) ≡ is_committed_dirty_line (b.lines (unit_at list.committed i) a)
+  dirty_here : (i : ℕ) → i < length list.committed → is_dirty (bits_of (held_at list.committed i).line.bits) ≡ is_committed_dirty_line (b.lines (unit_at list.committed i) a)
   dirty_here i here =
       let only = described.only i here in
-      dirty_bits (bits_of (version_at list.committed i).line.bits) (version_at list.committed i).line.value only.committed ∙ ap is_committed_dirty_line (sym only.held)
+      dirty_bits (bits_of (held_at list.committed i).line.bits) (held_at list.committed i).line.value only.committed ∙ ap is_committed_dirty_line (sym only.held)
 
   has : (u i : ℕ) → IsAtPlace list.committed u i → is_committed_dirty_line (b.lines u a) ≡ true
   has u i at = ap (λ w. is_committed_dirty_line (b.lines w a)) (sym (unit_is u i at)) ∙ sym (dirty_here i at.within) ∙ (and_parts _ _ at.here).1
@@ -56,7 +56,7 @@ module _ (b : BusState) (t : LineTable) (a : ℕ) (list : Versions) (agrees : Ag
     | inr clean ↦ clean
     | inl dirty ↦
         let found = described.each u (cached u dirty) (committed_of (b.lines u a) dirty) in
-        let set : is_dirty (bits_of (version_at list.committed found.0).line.bits) ≡ true = dirty_here found.0 found.1 ∙ ap (λ w. is_committed_dirty_line (b.lines w a)) found.2 ∙ dirty in
+        let set : is_dirty (bits_of (held_at list.committed found.0).line.bits) ≡ true = dirty_here found.0 found.1 ∙ ap (λ w. is_committed_dirty_line (b.lines w a)) found.2 ∙ dirty in
         absurd (true≢false (sym (and_from _ _ (eq-eqb _ _ found.2) set) ∙ none found.0 found.1))
   ]
 
@@ -94,7 +94,7 @@ module _ (b : BusState) (t : LineTable) (a : ℕ) (list : Versions) (agrees : Ag
   older_by_place u v (Some i) None at none = no_second (is_committed_dirty_line (b.lines u a)) (b.is_older a u v) ∙ sym (ap (λ x. (is_committed_dirty_line (b.lines u a) && x) && b.is_older a u v) (lacks v none))
   older_by_place u v (Some i) (Some j) at other = order u v i j at other ∙ sym (ap₂ (λ x y. (x && y) && b.is_older a u v) (has u i at) (has v j other))
 
-pub older_told : (b : BusValue) → IsSoundBus b → (word u v : ℕ) (list : Versions) (cs : List CacheValue) → cs ≡ b.caches → AreCommitted (lines_in cs word) (length cs) list.committed → map (option_map seen_version) list.active ≡ active_versions (lines_in cs word) b.units
+pub older_told : (b : BusValue) → IsSoundBus b → (word u v : ℕ) (list : ListValue) (cs : List CacheValue) → cs ≡ b.caches → AreCommitted (lines_in cs word) (length cs) list.committed → map (option_map seen_held_line) list.active ≡ active_lines (lines_in cs word) b.units
     → (place other : Option ℕ) → IsPlaceOf list.committed u place → IsPlaceOf list.committed v other → comes_before place other ≡ is_older_version (state_in b) word u v
 older_told b sound word u v list cs same committed active =
     older_by_place (state_in b) sound.linked.table word list sound.linked.agrees (listed_describes b sound cs same word list committed active) committed.once u v

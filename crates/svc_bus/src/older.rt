@@ -7,15 +7,15 @@ ghost use Rattle.svc_bus.specs.Older.{IsPlaceOf, comes_before, is_older_version}
 use crate::Bus;
 use svc_base::{UnitId, WordAddr};
 use svc_cache::Probes;
-use svc_vol::{Version, VersionList};
+use svc_vol::{HeldLine, VersionList};
 
 // The place of the unit's version among a word's committed lines, if it has one.
-fn place_of(committed: &[Version], unit: UnitId) -> Option<usize>
+fn version_place(committed: &[HeldLine], unit: UnitId) -> Option<usize>
     ensures { IsPlaceOf committed.now unit.0 result }
 {
     for place in 0..committed.len() {
-        let version = committed[place];
-        if version.unit.0 == unit.0 && version.line.bits.is_dirty() {
+        let held = committed[place];
+        if held.unit.0 == unit.0 && held.line.bits.is_dirty() {
             return Some(place);
         }
     }
@@ -44,8 +44,8 @@ impl Bus {
         ensures order { result ≡ is_older_version (observed self.now) word.0 first.0 second.0 }
     {
         let list = VersionList::of(&self.caches, &self.queue, word, &mut Probes::new());
-        let place = place_of(list.committed(), first);
-        let other = place_of(list.committed(), second);
+        let place = version_place(list.committed(), first);
+        let other = version_place(list.committed(), second);
         comes_before(place, other)
     }
 }

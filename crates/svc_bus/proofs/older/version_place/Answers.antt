@@ -1,11 +1,11 @@
 use Rattle.std.proofs.Common.{◌∙◌, ◌≤◌, sym, length, arith}
 use Rattle.std.proofs.lemmas.Bool.{and_from, eq-eqb}
-use Rattle.svc_bus.proofs.older.place_of.Goals as goal
+use Rattle.svc_bus.proofs.older.version_place.Goals as goal
 
 pub returns-then-is_dirty : goal.returns-then-is_dirty
 returns-then-is_dirty c = record {
   within = omega arith;
-  here = and_from _ _ (eq-eqb _ _ c.if-version-unit.true) (sym c.is_dirty.ensures ∙ c.if-is_dirty.true);
+  here = and_from _ _ (eq-eqb _ _ c.if-held-unit.true) (sym c.is_dirty.ensures ∙ c.if-is_dirty.true);
 }
 
 pub returns : goal.returns
