@@ -9,13 +9,13 @@ use Rattle.svc_vol.specs.Lines.{is_committed_version}
 use Rattle.svc_vcl.specs.Planned.{is_named}
 use Rattle.svc_retire.specs.Caches.{held_line}
 use Rattle.svc_retire.specs.Purges.{purged_line}
-use Rattle.svc_bus.specs.Lines.{Held, with_line}
+use Rattle.svc_bus.specs.Lines.{LinesByUnit, with_line}
 use Rattle.svc_bus.specs.Marks.{AreHeld, overtaken_where}
 
 -- the unit's line of the word is the stored one, the word's other lines are purged, the lines of the named units get T,
 -- and the one before links to the writer
-abbrev pub stored_line : (lines : Held) → (unit word : ℕ) → Option SeenLine → (previous : Option ℕ) → List HeldLine
-    → Held
+abbrev pub stored_line : (lines : LinesByUnit) → (unit word : ℕ) → Option SeenLine → (previous : Option ℕ)
+    → (changed : List HeldLine) → LinesByUnit
 stored_line lines unit word line previous changed u a =
     overtaken_where previous unit u ((a == word) && is_named changed u) (with_line lines unit word line purged_line u a)
 
@@ -23,7 +23,7 @@ stored_line lines unit word line previous changed u a =
 abbrev pub left_line : (units : List ℕ) → (left u : ℕ) → Option SeenLine → Option SeenLine
 left_line units left u line = cond (is_cut units left u) (squash_line line) line
 
--- at most one line changes in each other cache: a marked line is not purged, and neither is in the unit's own cache
+-- at most one line changes in each other cache, and none of these in the unit's own: a marked line is not purged
 pub record ChangeOnce (caches : List CacheValue) (unit word : ℕ) (changed : List HeldLine) : Type 0 where
   pub others : is_named changed unit ≡ false
   pub apart : (u : ℕ) → is_named changed u ≡ true → is_committed_version (held_line caches u word) ≡ false

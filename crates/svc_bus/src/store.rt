@@ -86,7 +86,8 @@ pub(crate) fn store_line(
         changed,
         left,
     } = *store;
-    put_line(caches, backing, list, unit, word, line, probes)?;
+    let put = put_line(caches, backing, list, unit, word, line, probes);
+    put.map_err(|full| Refusal::SetFull(full.0))?;
     let mark = MarkingStore {
         word,
         writer: unit,
