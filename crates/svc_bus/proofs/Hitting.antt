@@ -5,7 +5,7 @@ use Rattle.std.proofs.lemmas.Bool.{and_parts}
 use Rattle.svc_base.specs.declared.served.Served.{Served}
 use Rattle.svc_base.specs.declared.served.Served.TheVariants.{Hit as by_hit, Reuse, Version, Spill, Committed, Memory}
 use Rattle.svc_line.specs.Bits.{Bits, bits_of, is_active}
-use Rattle.svc_line.specs.Line.{SeenLine, seen}
+use Rattle.svc_line.specs.Line.{SeenLine, seen_line}
 use Rattle.svc_line.specs.declared.line.Line.{Line}
 use Rattle.svc_cache.specs.Places.{CacheValue, line_of}
 use Rattle.svc_vol.specs.Lines.{lines_in}
@@ -31,9 +31,9 @@ use Rattle.svc_bus.specs.Carried.{is_hit}
 use Rattle.svc_bus.proofs.Reading.{IsPlanned, TellsKind, read_hit, told}
 
 -- a valid line that was found in a unit's cache, as callers of the bus see it
-pub found_is : (caches : List CacheValue) (word unit : ℕ) (line : Line) → lines_in caches word unit ≡ Some (seen line) → (bits_of line.bits).valid ≡ true
+pub found_is : (caches : List CacheValue) (word unit : ℕ) (line : Line) → lines_in caches word unit ≡ Some (seen_line line) → (bits_of line.bits).valid ≡ true
     → line_in caches unit word ≡ Some (line_with line.value (bits_of line.bits))
-found_is caches word unit line found valid = ap bus_line_of (sym (lines_are caches word unit) ∙ found) ∙ some_shown (seen line) valid
+found_is caches word unit line found valid = ap bus_line_of (sym (lines_are caches word unit) ∙ found) ∙ some_shown (seen_line line) valid
 
 module _ (b : BusState) (t : LineTable) (place word unit : ℕ) (agrees : Agrees b t) (within : place < length t.units) (at : unit_at t place ≡ unit)
     (line : Line) (held : b.lines unit word ≡ Some (line_with line.value (bits_of line.bits))) (active : is_active (bits_of line.bits) ≡ true) (known : word < t.words) where
@@ -61,14 +61,14 @@ module _ (b : BusState) (t : LineTable) (place word unit : ℕ) (agrees : Agrees
 
 -- a read of a unit without an active line of the word is no hit
 module _ (b : BusValue) (sound : IsSoundBus b) (p a : ℕ) (served : Served) (value : ℕ) (bits : Bits) (planned : IsPlanned b p a served value bits) (line : Option Line)
-    (found : lines_in b.caches a (get_or b.units p 0) ≡ option_map seen line) (idle : ForSome line (λ own. is_active (bits_of own.bits) ≡ false)) where
+    (found : lines_in b.caches a (get_or b.units p 0) ≡ option_map seen_line line) (idle : ForSome line (λ own. is_active (bits_of own.bits) ≡ false)) where
   not_active : (valid commit : Bool) → valid ≡ true → (valid && not commit) ≡ false → not commit ≡ false
   not_active true commit h e = e
   not_active false commit h e = absurd (true≢false (sym h))
 
-  is_idle : (held : Option SeenLine) → HasV held → (own : Option Line) → held ≡ option_map seen own → ForSome own (λ (l : Line). is_active (bits_of l.bits) ≡ false) → is_active_line (bus_line_of held) ≡ false
+  is_idle : (held : Option SeenLine) → HasV held → (own : Option Line) → held ≡ option_map seen_line own → ForSome own (λ (l : Line). is_active (bits_of l.bits) ≡ false) → is_active_line (bus_line_of held) ≡ false
   is_idle held valid None is none = ap (λ (l : Option SeenLine). is_active_line (bus_line_of l)) is
-  is_idle held valid (Some line) is idle = ap (λ (l : Option SeenLine). is_active_line (bus_line_of l)) is ∙ ap is_active_line (some_shown (seen line) (subst HasV is valid)) ∙ not_active (bits_of line.bits).valid (bits_of line.bits).commit (subst HasV is valid) (idle line refl)
+  is_idle held valid (Some line) is idle = ap (λ (l : Option SeenLine). is_active_line (bus_line_of l)) is ∙ ap is_active_line (some_shown (seen_line line) (subst HasV is valid)) ∙ not_active (bits_of line.bits).valid (bits_of line.bits).commit (subst HasV is valid) (idle line refl)
 
   misses : (s : Served) (active reusable : Bool) → TellsKind s active reusable → active ≡ false → is_hit s ≡ false
   misses by_hit active reusable tells e = absurd (true≢false (sym tells ∙ e))

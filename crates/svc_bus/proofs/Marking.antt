@@ -7,10 +7,10 @@ use Rattle.std.proofs.lemmas.Bool.{eq-eqb}
 use Rattle.svc_cache.specs.declared.probes.Probes.{Probes}
 use Rattle.svc_cache.specs.Places.{CacheValue}
 use Rattle.svc_bus_laws.specs.Search.{how_many}
-use Rattle.svc_line.specs.Bits.{overtaken_now}
+use Rattle.svc_line.specs.Bits.{after_overtaking}
 use Rattle.svc_line.specs.Line.{SeenLine}
-use Rattle.svc_vol.specs.declared.version.Version.{Version}
-use Rattle.svc_vol.specs.Versions.{no_version, unit_at, version_at}
+use Rattle.svc_vol.specs.declared.held_line.HeldLine.{HeldLine}
+use Rattle.svc_vol.specs.Value.{no_held_line, unit_at, held_at}
 use Rattle.svc_vcl.specs.Planned.{is_named}
 use Rattle.svc_links_laws.specs.LinkSteps.{is_unit}
 use Rattle.svc_retire.specs.Caches.{held_line, SameSizes}
@@ -20,13 +20,13 @@ use Rattle.svc_bus.specs.Marks.{overtaken_line, overtaken_where, AreHeld, EndBel
 
 -- ---- the units of the versions so far
 
-named_more : (versions : List Version) (k u : ℕ) → k < length versions → is_named (take (suc k) versions) u ≡ (is_named (take k versions) u || (unit_at versions k == u))
-named_more versions k u within = ap (λ n. is_named (take n versions) u) one_more ∙ list_any_more (λ (version : Version). version.unit.0 == u) versions k no_version within
+named_more : (versions : List HeldLine) (k u : ℕ) → k < length versions → is_named (take (suc k) versions) u ≡ (is_named (take k versions) u || (unit_at versions k == u))
+named_more versions k u within = ap (λ n. is_named (take n versions) u) one_more ∙ list_any_more (λ (version : HeldLine). version.unit.0 == u) versions k no_held_line within
   where
     one_more : suc k ≡ k + 1
     one_more = omega arith
 
-named_none : (versions : List Version) (k u : ℕ) → k ≤ length versions → ((i : ℕ) → i < k → unit_at versions i ≢ u) → is_named (take k versions) u ≡ false
+named_none : (versions : List HeldLine) (k u : ℕ) → k ≤ length versions → ((i : ℕ) → i < k → unit_at versions i ≢ u) → is_named (take k versions) u ≡ false
 named_none versions zero u within apart = refl
 named_none versions (suc k) u within apart =
     named_more versions k u (omega (arith, within))
@@ -36,13 +36,13 @@ named_none versions (suc k) u within apart =
     neither true y e f = e
     neither false y e f = f
 
-pub named_at : (versions : List Version) (k : ℕ) → k < length versions → is_named versions (unit_at versions k) ≡ true
-named_at versions k within = list_any_at (λ (version : Version). version.unit.0 == unit_at versions k) versions k no_version within (eq-eqb (unit_at versions k) (unit_at versions k) refl)
+pub named_at : (versions : List HeldLine) (k : ℕ) → k < length versions → is_named versions (unit_at versions k) ≡ true
+named_at versions k within = list_any_at (λ (version : HeldLine). version.unit.0 == unit_at versions k) versions k no_held_line within (eq-eqb (unit_at versions k) (unit_at versions k) refl)
 
 -- versions in different caches are as many as their units
-pub as_many : (caches : List CacheValue) (word : ℕ) (versions : List Version) → AreHeld caches word versions → how_many (length caches) (is_named versions) ≡ length versions
+pub as_many : (caches : List CacheValue) (word : ℕ) (versions : List HeldLine) → AreHeld caches word versions → how_many (length caches) (is_named versions) ≡ length versions
 as_many caches word versions held =
-    ap (λ (xs : List Version). how_many (length caches) (is_named xs)) (sym (take_all (length versions) versions (omega arith))) ∙ go (length versions) (omega arith)
+    ap (λ (xs : List HeldLine). how_many (length caches) (is_named xs)) (sym (take_all (length versions) versions (omega arith))) ∙ go (length versions) (omega arith)
   where
     go : (k : ℕ) → k ≤ length versions → how_many (length caches) (is_named (take k versions)) ≡ k
     go zero within = how_many_none (length caches) (is_named (take 0 versions)) (λ u below. refl)
@@ -66,7 +66,7 @@ as_many caches word versions held =
 -- ---- one version after another
 
 -- what has become of the caches after the first so many versions
-pub record IsMarked (before now : List CacheValue) (previous : Option ℕ) (writer : ℕ) (stale : List Version) (word count : ℕ) (probes_before probes_now : Probes) : Type 0 where
+pub record IsMarked (before now : List CacheValue) (previous : Option ℕ) (writer : ℕ) (stale : List HeldLine) (word count : ℕ) (probes_before probes_now : Probes) : Type 0 where
   pub lines : (u a : ℕ) → held_line now u a ≡ overtaken_where previous writer u ((a == word) && is_named (take count stale) u) (held_line before u a)
   pub sizes : SameSizes before now
   pub counted : CountsSearches probes_before probes_now count
@@ -87,7 +87,7 @@ twice : (previous : Option ℕ) (writer u : ℕ) (line : Option SeenLine) → ov
 twice previous writer u None = refl
 twice previous writer u (Some l) = go (is_unit previous u)
   where
-    go : (x : Bool) → ◌≡◌ {A = Option SeenLine} (Some (record { value = l.value; bits = overtaken_now l.bits; next = cond x (Some writer) (cond x (Some writer) l.next) })) (Some (record { value = l.value; bits = overtaken_now l.bits; next = cond x (Some writer) l.next }))
+    go : (x : Bool) → ◌≡◌ {A = Option SeenLine} (Some (record { value = l.value; bits = after_overtaking l.bits; next = cond x (Some writer) (cond x (Some writer) l.next) })) (Some (record { value = l.value; bits = after_overtaking l.bits; next = cond x (Some writer) l.next }))
     go true = refl
     go false = refl
 
@@ -98,16 +98,16 @@ marked_on previous writer u true false n line = refl
 marked_on previous writer u true true false line = refl
 marked_on previous writer u true true true line = twice previous writer u line
 
-pub mark_begins : (caches : List CacheValue) (previous : Option ℕ) (writer : ℕ) (stale : List Version) (word : ℕ) (probes : Probes) → IsMarked caches caches previous writer stale word 0 probes probes
+pub mark_begins : (caches : List CacheValue) (previous : Option ℕ) (writer : ℕ) (stale : List HeldLine) (word : ℕ) (probes : Probes) → IsMarked caches caches previous writer stale word 0 probes probes
 mark_begins caches previous writer stale word probes = record {
   lines = λ u a. sym (unmarked previous writer u (a == word) (is_named (take 0 stale) u) (held_line caches u a) refl);
   sizes = record { count = refl; sets = λ u. refl; ways = λ u. refl };
   counted = record { searches = omega arith; places = omega arith };
 }
 
-module _ (before now : List CacheValue) (previous : Option ℕ) (writer : ℕ) (stale : List Version) (word count : ℕ) (probes_before probes_now : Probes) (done : IsMarked before now previous writer stale word count probes_before probes_now) where
+module _ (before now : List CacheValue) (previous : Option ℕ) (writer : ℕ) (stale : List HeldLine) (word count : ℕ) (probes_before probes_now : Probes) (done : IsMarked before now previous writer stale word count probes_before probes_now) where
   -- the next version is still its unit's line
-  pub mark_held : count < length stale → AreHeld before word stale → IsHeld now word (version_at stale count)
+  pub mark_held : count < length stale → AreHeld before word stale → IsHeld now word (held_at stale count)
   mark_held below held =
       let h = held.each count below in
       let fresh = named_none stale count (unit_at stale count) (omega (arith, below)) (λ i less. held.apart.apart i count less below) in
@@ -155,7 +155,7 @@ module _ (before now : List CacheValue) (previous : Option ℕ) (writer : ℕ) (
   }
 
 -- all of them
-pub mark_ends : (before now : List CacheValue) (previous : Option ℕ) (writer : ℕ) (stale : List Version) (word : ℕ) (probes_before probes_now : Probes) → IsMarked before now previous writer stale word (length stale) probes_before probes_now
+pub mark_ends : (before now : List CacheValue) (previous : Option ℕ) (writer : ℕ) (stale : List HeldLine) (word : ℕ) (probes_before probes_now : Probes) → IsMarked before now previous writer stale word (length stale) probes_before probes_now
     → (u a : ℕ) → held_line now u a ≡ overtaken_where previous writer u ((a == word) && is_named stale u) (held_line before u a)
 mark_ends before now previous writer stale word probes_before probes_now done u a =
-    done.lines u a ∙ ap (λ (xs : List Version). overtaken_where previous writer u ((a == word) && is_named xs u) (held_line before u a)) (take_all (length stale) stale (omega arith))
+    done.lines u a ∙ ap (λ (xs : List HeldLine). overtaken_where previous writer u ((a == word) && is_named xs u) (held_line before u a)) (take_all (length stale) stale (omega arith))

@@ -5,7 +5,7 @@ use Rattle.std.proofs.lemmas.List.{length-replicate, get_or_past}
 use Rattle.svc_base.specs.declared.config.TheConstants.{MAX_WAYS}
 use Rattle.svc_vol.specs.declared.list.TheConstants.{CAPACITY}
 use Rattle.svc_cache.specs.Lines.{LineMap, no_lines}
-use Rattle.svc_cache.specs.Places.{CacheValue, found, line_of}
+use Rattle.svc_cache.specs.Places.{CacheValue, line_among, line_of}
 use Rattle.svc_bus_laws.specs.LineTable.{opened}
 use Rattle.svc_bus_laws.specs.BusState.{Agrees}
 use Rattle.svc_bus_laws.specs.BusSteps.{bus_opened}
@@ -21,7 +21,7 @@ use Rattle.svc_bus.proofs.Committing.{none_spilled}
 
 -- there is no line where there is no cache
 no_line : (a : ℕ) → line_of no_cache a ≡ None
-unfolding line_of found
+unfolding line_of line_among
 no_line a = refl
 
 pub none_empty : (sets ways : ℕ) → AreEmpty [] sets ways

@@ -1,7 +1,7 @@
 -- What the plan of a write says of a sound bus.
 use Rattle.std.proofs.Common.{◌≡◌, ◌≢◌, ◌∙◌, refl, sym, ap, ap₂, subst, ℕ, ◌+◌, ◌-◌, ◌<◌, Bool, true, false, is_some, Option, Some, List, length, map, get_or, option_map, unwrap_or, inl, inr, arith}
 use Rattle.std.specs.Prelude.{IfSome}
-use Rattle.svc_vol.specs.declared.version.Version.{Version}
+use Rattle.svc_vol.specs.declared.held_line.HeldLine.{HeldLine}
 use Rattle.svc_base.specs.declared.refusal.Refusal.TheVariants as refusal
 use Rattle.svc_line.specs.Bits.{Bits}
 use Rattle.svc_line.specs.Line.{SeenLine}
@@ -19,7 +19,7 @@ use Rattle.svc_links_laws.specs.LinkSteps.{place_after, place_before, unit_of}
 use Rattle.svc_bus_laws.proofs.Searches.{least_cases, length-tabulate}
 use Rattle.svc_bus_laws.proofs.SeenLaws.{map_seen}
 use Rattle.svc_vol.specs.Lines.{CountsOneOfEach, lines_in}
-use Rattle.svc_vol.specs.Versions.{AreCommitted, Versions, active_versions, seen_version}
+use Rattle.svc_vol.specs.Value.{IsListOf, ListValue}
 use Rattle.svc_vcl.specs.Described.{IsRequest, line_with}
 use Rattle.svc_vcl.specs.Planned.{changed_in, is_named, marked_where}
 use Rattle.svc_retire.specs.Purges.{HasRoomFor}
@@ -57,15 +57,11 @@ refusal_is b sound unit word known cs same memory also =
     ∙ ap (option_map (λ (named : ℕ). refusal.SetFull (record { 0 = named }))) (full_shown b unit sound known word)
 
 -- the version list of a word of the bus
-pub record HasList (b : BusValue) (word : ℕ) (list : Versions) : Type 0 where
-  pub committed : AreCommitted (lines_in b.caches word) (length b.caches) list.committed
-  pub active : map (option_map seen_version) list.active ≡ active_versions (lines_in b.caches word) b.units
+abbrev pub HasList : BusValue → (word : ℕ) → ListValue → Type 0
+HasList b word list = IsListOf (lines_in b.caches word) (length b.caches) b.units list
 
-pub listed : (b : BusValue) → IsSoundBus b → (word : ℕ) (list : Versions) (cs : List CacheValue) → cs ≡ b.caches → AreCommitted (lines_in cs word) (length cs) list.committed → map (option_map seen_version) list.active ≡ active_versions (lines_in cs word) b.units → HasList b word list
-listed b sound word list cs same committed active = record {
-  committed = subst (λ (xs : List CacheValue). AreCommitted (lines_in xs word) (length xs) list.committed) same committed;
-  active = active ∙ ap (λ (xs : List CacheValue). active_versions (lines_in xs word) b.units) same;
-}
+pub listed : (b : BusValue) → IsSoundBus b → (word : ℕ) (list : ListValue) (cs : List CacheValue) → cs ≡ b.caches → IsListOf (lines_in cs word) (length cs) b.units list → HasList b word list
+listed b sound word list cs same lists = subst (λ (xs : List CacheValue). IsListOf (lines_in xs word) (length xs) b.units list) same lists
 
 -- the unit of a task has a cache
 pub unit_known : (b : BusValue) → IsSoundBus b → (unit place : ℕ) → place < length b.units → get_or b.units place 0 ≡ unit → unit < length b.caches
@@ -78,7 +74,7 @@ least_within n test = elim (least_cases n test) [
   | inr (m, is, found) ↦ rw is found.within
 ]
 
-module _ (b : BusValue) (sound : IsSoundBus b) (unit place word : ℕ) (within : place < length b.units) (at : get_or b.units place 0 ≡ unit) (list : Versions) (has : HasList b word list) where
+module _ (b : BusValue) (sound : IsSoundBus b) (unit place word : ℕ) (within : place < length b.units) (at : get_or b.units place 0 ≡ unit) (list : ListValue) (has : HasList b word list) where
   pub request : IsRequest (state_in b) (sound.linked.table) word list unit place
   request = record { agrees = sound.linked.agrees; described = list_describes b sound word list has.committed has.active; within = within; at_work = at }
 
@@ -105,12 +101,12 @@ module _ (b : BusValue) (sound : IsSoundBus b) (unit place word : ℕ) (within :
         ∙ ap₂ (λ (m : Versioned) (q : ℕ). victim_answer m q word) (map_seen (state_in b) s agrees) (sym (place_is b s agrees place p sound within here (is ∙ sym at)))
 
   -- the lines that change
-  module _ (changed : List Version) (are : changed ≡ changed_in list unit place) where
+  module _ (changed : List HeldLine) (are : changed ≡ changed_in list unit place) where
     pub held_lines : (cs : List CacheValue) → cs ≡ b.caches → AreHeld cs word changed
-    held_lines cs same = subst (λ (vs : List Version). AreHeld cs word vs) (sym are) (subst (λ (xs : List CacheValue). AreHeld xs word (changed_in list unit place)) (sym same) (changed_held b sound place word unit within at list has.committed has.active))
+    held_lines cs same = subst (λ (vs : List HeldLine). AreHeld cs word vs) (sym are) (subst (λ (xs : List CacheValue). AreHeld xs word (changed_in list unit place)) (sym same) (changed_held b sound place word unit within at list has.committed has.active))
 
     pub once_each : (cs : List CacheValue) → cs ≡ b.caches → ChangeOnce cs unit word changed
-    once_each cs same = subst (λ (vs : List Version). ChangeOnce cs unit word vs) (sym are) (subst (λ (xs : List CacheValue). ChangeOnce xs unit word (changed_in list unit place)) (sym same) (changed_once b sound place word unit within at list has.committed has.active))
+    once_each cs same = subst (λ (vs : List HeldLine). ChangeOnce cs unit word vs) (sym are) (subst (λ (xs : List CacheValue). ChangeOnce xs unit word (changed_in list unit place)) (sym same) (changed_once b sound place word unit within at list has.committed has.active))
 
     -- all of it
     module _ (value left : ℕ) (bits : Bits) (next previous : Option ℕ) (is_left : left ≡ survivors (bus_map (state_in b)) place word) (valid : bits.valid ≡ true)

@@ -5,7 +5,7 @@ use Rattle.std.specs.Bool.{◌==◌}
 use Rattle.std.proofs.lemmas.Bool.{and_parts, cases_Bool, cases_eq, eqb-true}
 use Rattle.std.proofs.lemmas.List.Folds.{list_any_at}
 use Rattle.svc_base.specs.declared.ids.UnitId.{UnitId}
-use Rattle.svc_line.specs.Line.{SeenLine, seen}
+use Rattle.svc_line.specs.Line.{SeenLine, seen_line}
 use Rattle.svc_cache.specs.declared.probes.Probes.{Probes}
 use Rattle.svc_cache.specs.declared.row.SetFull.{SetFull}
 use Rattle.svc_cache.specs.Lines.{LineMap, EndsBelow, full_address}
@@ -13,10 +13,10 @@ use Rattle.svc_cache.specs.Lines as cache_lines
 use Rattle.svc_cache.specs.Places.{CacheValue, line_of}
 use Rattle.svc_bus_laws.specs.Search.{all_below, how_many, least}
 use Rattle.svc_bus_laws.proofs.Searches.{least_cases}
-use Rattle.svc_vol.specs.declared.version.Version.{Version}
+use Rattle.svc_vol.specs.declared.held_line.HeldLine.{HeldLine}
 use Rattle.svc_vol.specs.Lines.{is_committed_version, is_older_line, lines_in, link_of, IsRanked}
 use Rattle.svc_vol.proofs.Ranking.{older_kept, ranked_kept, SameVersions}
-use Rattle.svc_vol.specs.Versions.{AreCommitted, no_version, unit_at, version_at}
+use Rattle.svc_vol.specs.Value.{AreCommitted, no_held_line, unit_at, held_at}
 use Rattle.svc_vcl.specs.Planned.{is_named}
 use Rattle.svc_retire.specs.Caches.{cache_at, held_line, SameSizes}
 use Rattle.svc_retire.specs.Purges.{committed_in, is_newest, keeps, line_after_purge, line_value, purges, value_of, CountsSearches}
@@ -25,13 +25,13 @@ use Rattle.svc_vol.proofs.Validity.{HasV, line_valid}
 use Rattle.svc_bus.specs.Lines.{with_line}
 
 -- a version of the unit is listed, or none is
-abbrev pub HasOwn : List Version → ℕ → Type 0
+abbrev pub HasOwn : List HeldLine → ℕ → Type 0
 HasOwn versions unit = (k : ℕ) × (k < length versions) × (unit_at versions k ≡ unit)
 
-abbrev pub LacksOwn : List Version → ℕ → Type 0
+abbrev pub LacksOwn : List HeldLine → ℕ → Type 0
 LacksOwn versions unit = (k : ℕ) → k < length versions → unit_at versions k ≢ unit
 
-pub has_own : (versions : List Version) (unit : ℕ) → is_named versions unit ≡ true → HasOwn versions unit
+pub has_own : (versions : List HeldLine) (unit : ℕ) → is_named versions unit ≡ true → HasOwn versions unit
 has_own [] unit named = absurd (true≢false (sym named))
 has_own (version ∷ versions) unit named = elim (cases_Bool (version.unit.0 == unit)) [
   | inl here ↦ (0, omega arith, eqb-true version.unit.0 unit here)
@@ -40,8 +40,8 @@ has_own (version ∷ versions) unit named = elim (cases_Bool (version.unit.0 == 
       (suc rest.0, omega (arith, rest.1), rest.2)
 ]
 
-pub lacks_own : (versions : List Version) (unit : ℕ) → is_named versions unit ≡ false → LacksOwn versions unit
-lacks_own versions unit none k within same = true≢false (sym (list_any_at (λ (version : Version). version.unit.0 == unit) versions k no_version within (eq-eqb (unit_at versions k) unit same)) ∙ none)
+pub lacks_own : (versions : List HeldLine) (unit : ℕ) → is_named versions unit ≡ false → LacksOwn versions unit
+lacks_own versions unit none k within same = true≢false (sym (list_any_at (λ (version : HeldLine). version.unit.0 == unit) versions k no_held_line within (eq-eqb (unit_at versions k) unit same)) ∙ none)
 
 -- ---- a line over the unit's own committed one
 
@@ -65,13 +65,13 @@ fits : {A : Type 0} (r : Result A SetFull) (cache : CacheValue) (bound word : �
 fits (Ok x) cache bound word line is answers = (x, refl)
 fits (Err e) cache bound word line is answers = let none = never_full cache.sets cache.ways bound (line_of cache) word line is in cc
 
-module _ {A : Type 0} (r : Result A SetFull) (before now : List CacheValue) (versions : List Version) (unit : UnitId) (word bound : ℕ)
+module _ {A : Type 0} (r : Result A SetFull) (before now : List CacheValue) (versions : List HeldLine) (unit : UnitId) (word bound : ℕ)
     (listed : AreCommitted (lines_in before word) (length before) versions) (k : ℕ) (within : k < length versions) (own : unit_at versions k ≡ unit.0)
     (ends : EndsBelow (line_of (cache_at before unit.0)) bound)
     (lines : (u a : ℕ) → held_line now u a ≡ line_after_purge (Some unit) word u a (held_line before u a))
     (answers : (b : ℕ) → EndsBelow (line_of (cache_at now unit.0)) b → Answers r (cache_at now unit.0) b word) where
   line : SeenLine
-  line = seen (version_at versions k).line
+  line = seen_line (held_at versions k).line
 
   there : line_of (cache_at before unit.0) word ≡ Some line
   unfolding line
@@ -112,7 +112,7 @@ counts_both first second third m n both is one two = record {
   places = omega (arith, is, one.places, two.places);
 }
 
-module _ (before now : List CacheValue) (versions : List Version) (unit : UnitId) (word : ℕ) (line : SeenLine)
+module _ (before now : List CacheValue) (versions : List HeldLine) (unit : UnitId) (word : ℕ) (line : SeenLine)
     (listed : AreCommitted (lines_in before word) (length before) versions) (absent : (k : ℕ) → k < length versions → unit_at versions k ≢ unit.0) (known : unit.0 < length before)
     (clear : line.bits.commit ≡ false)
     (lines : (u a : ℕ) → held_line now u a ≡ with_line (held_line before) unit.0 word (Some line) (λ other. other) u a)

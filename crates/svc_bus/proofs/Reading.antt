@@ -24,7 +24,7 @@ use Rattle.svc_bus_laws.proofs.AgreeReads.{read_agrees}
 use Rattle.svc_links_laws.specs.LinkedBus.{IsLinkedBus, SameButOrder}
 use Rattle.svc_links_laws.proofs.LinkedBuses.{read_bus as linked_read}
 use Rattle.svc_vol.specs.Lines.{link_of}
-use Rattle.svc_vol.specs.Versions.{Versions}
+use Rattle.svc_vol.specs.Value.{ListValue}
 use Rattle.svc_vol.proofs.Validity.{line_valid}
 use Rattle.svc_vcl.specs.Described.{Describes, IsReadRequest, bus_line_of, line_with}
 use Rattle.svc_vcl.specs.Planned.{supplier_of}
@@ -295,7 +295,7 @@ module _ (b : BusValue) (sound : IsSoundBus b) (p a : ℕ) (served : Served) (va
         (read_agrees s t p a agrees (subst (λ us. p < length us) agrees.units planned.within) (subst (λ n. a < n) agrees.words planned.in_memory)))
 
 -- what a read has looked up before it asks for a plan
-pub record IsLookedUp (b : BusValue) (list : Versions) (p a unit backing : ℕ) (spill : Option ℕ) : Type 0 where
+pub record IsLookedUp (b : BusValue) (list : ListValue) (p a unit backing : ℕ) (spill : Option ℕ) : Type 0 where
   pub in_memory : a < length b.backing
   pub described : Describes (state_in b) a list
   pub within : p < length b.units
@@ -304,18 +304,18 @@ pub record IsLookedUp (b : BusValue) (list : Versions) (p a unit backing : ℕ) 
   pub backing_is : backing ≡ get_or b.backing a 0
 
 -- so the plan is asked for in any table that the bus agrees with
-pub asked : (b : BusValue) (t : LineTable) (list : Versions) (p a unit backing : ℕ) (spill : Option ℕ) → Agrees (state_in b) t → IsLookedUp b list p a unit backing spill → IsReadRequest (state_in b) t a list unit p spill backing
+pub asked : (b : BusValue) (t : LineTable) (list : ListValue) (p a unit backing : ℕ) (spill : Option ℕ) → Agrees (state_in b) t → IsLookedUp b list p a unit backing spill → IsReadRequest (state_in b) t a list unit p spill backing
 asked b t list p a unit backing spill agrees is = record {
   request = record { agrees = agrees; described = is.described; within = is.within; at_work = is.at_work };
   spill_is = sym is.spill_is;
   backing_is = sym is.backing_is;
 }
 
-pub own_asked : (b : BusValue) (list : Versions) (p a unit backing : ℕ) (spill : Option ℕ) (sound : IsSoundBus b) → IsLookedUp b list p a unit backing spill → IsReadRequest (state_in b) sound.linked.table a list unit p spill backing
+pub own_asked : (b : BusValue) (list : ListValue) (p a unit backing : ℕ) (spill : Option ℕ) (sound : IsSoundBus b) → IsLookedUp b list p a unit backing spill → IsReadRequest (state_in b) sound.linked.table a list unit p spill backing
 own_asked b list p a unit backing spill sound is = asked b sound.linked.table list p a unit backing spill sound.linked.agrees is
 
 -- and it is one of the own table
-pub planned_read : (b : BusValue) (list : Versions) (p a unit backing : ℕ) (spill : Option ℕ) (served : Served) (value : ℕ) (bits : Bits) → IsSoundBus b → IsLookedUp b list p a unit backing spill
+pub planned_read : (b : BusValue) (list : ListValue) (p a unit backing : ℕ) (spill : Option ℕ) (served : Served) (value : ℕ) (bits : Bits) → IsSoundBus b → IsLookedUp b list p a unit backing spill
     → ((s : BusState) (t : LineTable) (x : ℕ) → IsReadRequest s t x list unit p spill backing → supplier_of served ≡ bus_supplier s p x)
     → ((s : BusState) (t : LineTable) (x : ℕ) → IsReadRequest s t x list unit p spill backing → (bus_read s p x).lines unit x ≡ Some (line_with value bits))
     → ((s : BusState) (t : LineTable) (x : ℕ) → IsReadRequest s t x list unit p spill backing → bits.valid ≡ true) → IsPlanned b p a served value bits

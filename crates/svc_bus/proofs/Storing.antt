@@ -8,8 +8,8 @@ use Rattle.svc_cache.specs.Places.{CacheValue}
 use Rattle.svc_bus_laws.specs.Search.{how_many}
 use Rattle.svc_line.specs.Line.{SeenLine}
 use Rattle.svc_vol.specs.Lines.{is_committed_version}
-use Rattle.svc_vol.specs.declared.version.Version.{Version}
-use Rattle.svc_vol.specs.Versions.{unit_at}
+use Rattle.svc_vol.specs.declared.held_line.HeldLine.{HeldLine}
+use Rattle.svc_vol.specs.Value.{unit_at}
 use Rattle.svc_vcl.specs.Planned.{is_named}
 use Rattle.svc_retire.specs.Caches.{held_line, SameSizes}
 use Rattle.svc_retire.specs.Purges.{is_purged, keeps, purged_line, purges, CountsSearches, HasRoomFor}
@@ -58,14 +58,14 @@ own_kept false true e = refl
 own_kept x false e = absurd (false≢true e)
 
 -- one line is put, some are purged and others marked: at most one in each cache
-pub changes_few : (caches : List CacheValue) (unit : UnitId) (word : ℕ) (stale : List Version) → unit.0 < length caches → ChangeOnce caches unit.0 word stale → (purges caches (Some unit) word + how_many (length caches) (is_named stale)) + 1 ≤ length caches
+pub changes_few : (caches : List CacheValue) (unit : UnitId) (word : ℕ) (stale : List HeldLine) → unit.0 < length caches → ChangeOnce caches unit.0 word stale → (purges caches (Some unit) word + how_many (length caches) (is_named stale)) + 1 ≤ length caches
 changes_few caches unit word stale known once =
     both_few (length caches) (is_purged caches (Some unit) word) (is_named stale) unit.0 known
     (own_kept (is_committed_version (held_line caches unit.0 word)) (unit.0 == unit.0) (eq-eqb unit.0 unit.0 refl))
     once.others
     (λ u named. not_purged (is_committed_version (held_line caches u word)) (not (keeps (Some unit) u)) (once.apart u named))
 
-pub room_left : (before now : List CacheValue) (probes_before probes_now : Probes) (unit : UnitId) (word : ℕ) (stale : List Version) → AreHeld before word stale → SameSizes before now → CountsSearches probes_before probes_now (purges before (Some unit) word + 1) → HasRoomFor probes_before before (1 + (length before + length before)) → HasRoomFor probes_now now (length stale)
+pub room_left : (before now : List CacheValue) (probes_before probes_now : Probes) (unit : UnitId) (word : ℕ) (stale : List HeldLine) → AreHeld before word stale → SameSizes before now → CountsSearches probes_before probes_now (purges before (Some unit) word + 1) → HasRoomFor probes_before before (1 + (length before + length before)) → HasRoomFor probes_now now (length stale)
 room_left before now probes_before probes_now unit word stale held sizes counted room =
     let short = how_many_within (length before) (is_named stale) in
     let all = as_many before word stale held in
@@ -81,7 +81,7 @@ room_left before now probes_before probes_now unit word stale held sizes counted
       ways = λ u h. let e = sizes.ways u in let low = room.ways u (omega (arith, h, same)) in omega (arith, e, low);
     }
 
-pub searches_few : (before now : List CacheValue) (first second third : Probes) (unit : UnitId) (word : ℕ) (stale : List Version) → unit.0 < length before → ChangeOnce before unit.0 word stale → AreHeld before word stale → SameSizes before now
+pub searches_few : (before now : List CacheValue) (first second third : Probes) (unit : UnitId) (word : ℕ) (stale : List HeldLine) → unit.0 < length before → ChangeOnce before unit.0 word stale → AreHeld before word stale → SameSizes before now
     → CountsSearches first second (purges before (Some unit) word + 1) → CountsSearches second third (length stale) → CountsUpTo first third (length before)
 searches_few before now first second third unit word stale known once held sizes put marked =
     let few = changes_few before unit word stale known once in
@@ -92,7 +92,7 @@ searches_few before now first second third unit word stale known once held sizes
 
 -- ---- the lines that are to be marked stay
 
-pub held_after : (before now : List CacheValue) (unit word : ℕ) (line : Option SeenLine) (stale : List Version) → ChangeOnce before unit word stale → SameSizes before now
+pub held_after : (before now : List CacheValue) (unit word : ℕ) (line : Option SeenLine) (stale : List HeldLine) → ChangeOnce before unit word stale → SameSizes before now
     → ((u a : ℕ) → held_line now u a ≡ with_line (held_line before) unit word line purged_line u a) → AreHeld before word stale → AreHeld now word stale
 held_after before now unit word line stale once sizes lines held = record {
   each = λ k below.

@@ -2,7 +2,7 @@
 use Rattle.std.proofs.Common.{◌≡◌, ◌≢◌, ◌∙◌, refl, sym, ap, ap₂, subst, ℕ, ◌<◌, ◌≤◌, ◌^◌, Bool, true, false, cond, not, ◌&&◌, ◌||◌, Option, Some, None, List, length, get_or, take, inl, inr, eq-eqb, ne_eqb, is_some, true≢false}
 use Rattle.std.specs.Bool.{◌==◌}
 use Rattle.std.proofs.lemmas.Bool.{cases_eq, eqb-true}
-use Rattle.svc_line.specs.Bits.{overtaken_now}
+use Rattle.svc_line.specs.Bits.{after_overtaking}
 use Rattle.svc_line.specs.Line.{SeenLine}
 use Rattle.svc_cache.specs.Lines.{squash_line}
 use Rattle.svc_bus_laws.specs.Versioned.{survivors}
@@ -19,7 +19,7 @@ use Rattle.svc_bus_laws.proofs.AgreeWrites.{write_agrees}
 use Rattle.svc_links_laws.specs.LinkSteps.{is_unit, place_after, place_before, unit_of}
 use Rattle.svc_links_laws.specs.LinkedBus.{bus_links_after_write}
 use Rattle.svc_links_laws.proofs.LinkedBuses.{write_bus}
-use Rattle.svc_vol.specs.declared.version.Version.{Version}
+use Rattle.svc_vol.specs.declared.held_line.HeldLine.{HeldLine}
 use Rattle.svc_vol.specs.Lines.{link_of}
 use Rattle.svc_vol.proofs.Validity.{HasV, line_valid}
 use Rattle.svc_vcl.specs.Described.{bus_line_of, line_with}
@@ -37,7 +37,7 @@ use Rattle.svc_bus.proofs.Shown.{some_shown, link_stays, purge_stays, Stays}
 use Rattle.svc_bus.proofs.Squashing.{cut_shown, cut_stays}
 
 -- what the plan of a write says
-pub record IsPlanned (b : BusValue) (place word value : ℕ) (line : SeenLine) (previous : Option ℕ) (changed : List Version) (left : ℕ) : Type 0 where
+pub record IsPlanned (b : BusValue) (place word value : ℕ) (line : SeenLine) (previous : Option ℕ) (changed : List HeldLine) (left : ℕ) : Type 0 where
   pub left_is : left ≡ survivors (bus_map (state_in b)) place word
   pub own : (bus_write (state_in b) place word value).lines (get_or b.units place 0) word ≡ Some (line_with value line.bits)
   pub value_is : line.value ≡ value
@@ -49,7 +49,7 @@ pub record IsPlanned (b : BusValue) (place word value : ℕ) (line : SeenLine) (
   pub linked : (u : ℕ) → previous ≡ Some u → is_named changed u ≡ true
 
 -- what the body does
-pub record IsWritten (old new : BusValue) (place word : ℕ) (line : SeenLine) (previous : Option ℕ) (changed : List Version) (left : ℕ) : Type 0 where
+pub record IsWritten (old new : BusValue) (place word : ℕ) (line : SeenLine) (previous : Option ℕ) (changed : List HeldLine) (left : ℕ) : Type 0 where
   pub lines : (u a : ℕ) → held_line new.caches u a ≡ left_line old.units left u (stored_line (held_line old.caches) (get_or old.units place 0) word (Some line) previous changed u a)
   pub memory : (a : ℕ) → get_or new.backing a 0 ≡ with_at (λ x. get_or old.backing x 0) word (committed_in old.caches old.backing word) a
   pub versions : (a : ℕ) → get_or new.spill a None ≡ with_at (λ x. get_or old.spill x None) word (cond (place == 0) None (get_or old.spill word None)) a
@@ -70,7 +70,7 @@ module _ (previous : Option ℕ) (writer u : ℕ) where
 
   marked_some : (l : SeenLine) (named : Bool) → l.bits.valid ≡ true → bus_line_of (overtaken_where previous writer u named (Some l)) ≡ Some (record (line_with l.value l.bits) { stale = l.bits.stale || named })
   marked_some l true valid =
-      some_shown (record { value = l.value; bits = overtaken_now l.bits; next = link_after previous writer u l.next }) valid
+      some_shown (record { value = l.value; bits = after_overtaking l.bits; next = link_after previous writer u l.next }) valid
       ∙ ap (λ (s : Bool). Some (record (line_with l.value l.bits) { stale = s })) (or_true l.bits.stale)
   marked_some l false valid = some_shown l valid ∙ ap (λ (s : Bool). Some (record (line_with l.value l.bits) { stale = s })) (or_false l.bits.stale)
 
@@ -153,7 +153,7 @@ module _ (previous : Option ℕ) (writer u : ℕ) where
         ∙ marked_link cut named new line left dirty names
   ]
 
-module _ (b : BusValue) (sound : IsSoundBus b) (place word value : ℕ) (line : SeenLine) (previous : Option ℕ) (changed : List Version) (left : ℕ) (within : place < length b.units) (known : word < length b.backing) (plan : IsPlanned b place word value line previous changed left) where
+module _ (b : BusValue) (sound : IsSoundBus b) (place word value : ℕ) (line : SeenLine) (previous : Option ℕ) (changed : List HeldLine) (left : ℕ) (within : place < length b.units) (known : word < length b.backing) (plan : IsPlanned b place word value line previous changed left) where
   abbrev s : BusState
   s = state_in b
 

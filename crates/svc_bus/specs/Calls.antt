@@ -9,6 +9,7 @@ use Rattle.svc_bus_laws.specs.BusLine.{BusLine}
 use Rattle.svc_bus_laws.specs.BusState.{BusState, Agrees}
 use Rattle.svc_bus_laws.specs.LineTable.{LineTable, unit_at}
 use Rattle.svc_bus_laws.specs.Refusals.{bus_cache, set_full, is_not_resident, is_pinned}
+use Rattle.svc_vcl.specs.Described.{line_with}
 use Rattle.svc_bus.specs.declared.victim.Victim.{Victim}
 
 -- the unit runs the task at this place
@@ -28,7 +29,8 @@ pub record RunsAt (b : BusState) (unit : ℕ) (t : LineTable) (place : ℕ) : Ty
 
 -- a full set refuses a read or a write, and names the word to replace first
 abbrev pub full_refusal : BusState → (unit word : ℕ) → Option Refusal
-full_refusal b unit word = option_map (λ named. refusal.SetFull (record { 0 = named })) (set_full (bus_cache b unit) word)
+full_refusal b unit word =
+    option_map (λ named. refusal.SetFull (record { 0 = named })) (set_full (bus_cache b unit) word)
 
 -- why a replacement of the word by the unit is refused, if it is
 abbrev pub replace_refusal : BusState → (unit word : ℕ) → Option Refusal
@@ -42,4 +44,4 @@ victim_shown v = record { first = v.first.0; tasks = v.tasks }
 
 -- the line of bits and a value
 abbrev pub line_shown : LineBits × ℕ → BusLine
-line_shown line = record { value = line.1; store = (bits_of line.0).store; load = (bits_of line.0).load; commit = (bits_of line.0).commit; stale = (bits_of line.0).stale }
+line_shown line = line_with line.1 (bits_of line.0)

@@ -5,7 +5,7 @@ use Rattle.svc_base.specs.declared.served.Served.TheVariants.{Hit, Reuse, Versio
 use Rattle.svc_line.specs.Line.{SeenLine}
 use Rattle.svc_bus_laws.specs.Steps.{with_at}
 use Rattle.svc_retire.specs.Purges.{purged_line}
-use Rattle.svc_bus.specs.Lines.{Held, with_line}
+use Rattle.svc_bus.specs.Lines.{LinesByUnit, with_line}
 
 -- the unit's own active line supplied it
 abbrev pub is_hit : Served → Bool
@@ -18,7 +18,7 @@ is_hit Memory = false
 
 -- a hit changes no line, and a reuse the unit's own; otherwise there was a bus request, which purged the word's other
 -- lines
-abbrev pub lines_after : Served → Held → (unit word : ℕ) → Option SeenLine → Held
+abbrev pub lines_after : Served → LinesByUnit → (unit word : ℕ) → Option SeenLine → LinesByUnit
 lines_after Hit lines unit word line = lines
 lines_after Reuse lines unit word line = with_line lines unit word line (λ other. other)
 lines_after (Version supplier) lines unit word line = with_line lines unit word line purged_line

@@ -2,8 +2,10 @@ pub mod Lines
 pub mod Value
 pub mod Observed
 pub mod Calls
+pub mod Reads
 pub mod Opened
 pub mod Room
+pub mod Requests
 pub mod Carried
 pub mod Marks
 pub mod Stores

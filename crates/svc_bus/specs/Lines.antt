@@ -7,9 +7,9 @@ use Rattle.svc_vol.specs.Lines.{link_of}
 use Rattle.svc_vcl.specs.Described.{bus_line_of}
 use Rattle.svc_retire.specs.Caches.{held_line}
 
--- by unit and word
-abbrev pub Held : Type 0
-Held = ℕ → ℕ → Option SeenLine
+-- the lines of caches, by unit and word
+abbrev pub LinesByUnit : Type 0
+LinesByUnit = ℕ → ℕ → Option SeenLine
 
 -- the unit's line of the word as callers see it, and the unit that it links to
 abbrev pub line_in : List CacheValue → ℕ → ℕ → Option BusLine
@@ -19,5 +19,5 @@ abbrev pub link_in : List CacheValue → ℕ → ℕ → Option ℕ
 link_in caches u a = link_of (held_line caches u a)
 
 -- one line of a word changes, and the word's other lines by a rule
-abbrev pub with_line : Held → ℕ → ℕ → Option SeenLine → (Option SeenLine → Option SeenLine) → Held
+abbrev pub with_line : LinesByUnit → ℕ → ℕ → Option SeenLine → (Option SeenLine → Option SeenLine) → LinesByUnit
 with_line lines u a line others v b = cond (b == a) (cond (v == u) line (others (lines v b))) (lines v b)

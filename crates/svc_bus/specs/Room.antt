@@ -7,4 +7,5 @@ use Rattle.svc_retire.specs.Caches.{cache_at}
 -- the word to replace first, if the unit's cache has no line of the word and no room for one; no line lies past the
 -- bound
 abbrev pub full_in : List CacheValue → (unit bound word : ℕ) → Option ℕ
-full_in caches unit bound word = full_address (cache_at caches unit).sets (cache_at caches unit).ways bound (line_of (cache_at caches unit)) word
+full_in caches unit bound word =
+    full_address (cache_at caches unit).sets (cache_at caches unit).ways bound (line_of (cache_at caches unit)) word

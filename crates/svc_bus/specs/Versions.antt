@@ -5,7 +5,7 @@ use Rattle.svc_base.specs.declared.ids.UnitId.{UnitId}
 use Rattle.svc_line.specs.Bits.{bits_of, is_dirty}
 use Rattle.svc_bus_laws.specs.BusLine.{is_committed_dirty_line}
 use Rattle.svc_bus_laws.specs.BusState.{BusState}
-use Rattle.svc_vol.specs.declared.version.Version.{Version}
+use Rattle.svc_vol.specs.declared.held_line.HeldLine.{HeldLine}
 
 -- the unit has a committed version of the word
 abbrev pub HasVersion : BusState → (word : ℕ) → UnitId → Type 0
@@ -27,8 +27,8 @@ pub record AreItsVersions (b : BusState) (word : ℕ) (units : List UnitId) : Ty
   pub oldest_first : AllPairs (IsOlder b word) units
 
 -- the units of those lines of a list that were stored to
-abbrev pub is_stored : Version → Bool
-is_stored version = is_dirty (bits_of version.line.bits)
+abbrev pub is_stored : HeldLine → Bool
+is_stored held = is_dirty (bits_of held.line.bits)
 
-abbrev pub version_units : List Version → List UnitId
-version_units versions = map (λ (version : Version). version.unit) (filter is_stored versions)
+abbrev pub version_units : List HeldLine → List UnitId
+version_units lines = map (λ (held : HeldLine). held.unit) (filter is_stored lines)

@@ -18,7 +18,7 @@ use svc_cache::Cache;
 use svc_order::TaskQueue;
 use svc_retire::Spill;
 use svc_vcl::STALE_CAPACITY;
-use svc_vol::{Version, VersionList};
+use svc_vol::{HeldLine, VersionList};
 
 /// The bus: it serves one call at a time, and each is one step.
 ///
@@ -38,7 +38,7 @@ pub struct Bus {
     // The last request's version list, and the lines that the last write changed. They are kept only for their room:
     // each request fills them again, so they say nothing of the bus.
     pub(crate) list: VersionList,
-    pub(crate) changed: ArrayVec<Version, STALE_CAPACITY>,
+    pub(crate) changed: ArrayVec<HeldLine, STALE_CAPACITY>,
 }
 
 impl Model for Bus {

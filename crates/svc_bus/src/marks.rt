@@ -3,7 +3,7 @@
 ghost use Rattle.std.specs.Prelude.{◌≡◌, ◌<◌, ℕ, ◌==◌, true, ◌&&◌, cond, Some, is_some, length, option_map};
 ghost use Rattle.svc_base.specs.declared.ids.UnitId.{UnitId};
 ghost use Rattle.svc_line.specs.Bits.{bits_of};
-ghost use Rattle.svc_line.specs.Line.{seen};
+ghost use Rattle.svc_line.specs.Line.{seen_line};
 ghost use Rattle.svc_cache.specs.Lines.{EndsBelow};
 ghost use Rattle.svc_cache.specs.Places.{line_of};
 ghost use Rattle.svc_cache.specs.Probes.{CountsOneSearch, HasRoom};
@@ -16,11 +16,11 @@ ghost use Rattle.svc_bus.specs.Marks.{link_after, overtaken_line, overtaken_wher
 use svc_base::{UnitId, WordAddr};
 use svc_cache::{Cache, Probes};
 use svc_line::Line;
-use svc_vol::Version;
+use svc_vol::HeldLine;
 
 /// The store that marks other lines of its word.
 #[derive(Clone, Copy)]
-pub(crate) struct Mark {
+pub(crate) struct MarkingStore {
     /// The word.
     pub word: WordAddr,
     /// The unit that stores.
@@ -39,20 +39,20 @@ fn is_same(unit: Option<UnitId>, other: UnitId) -> bool
     }
 }
 
-// The version's line with T, linked to the writer if it is the one before.
-fn marked(version: &Version, mark: &Mark) -> Line
-    ensures line { Some (seen result) ≡ overtaken_line (option_map (λ (u : UnitId). u.0) mark.now.previous)
-        mark.now.writer.0 version.now.unit.0 (Some (seen version.now.line)) }
-    ensures valid { (bits_of version.now.line.bits).valid ≡ true → (bits_of result.bits).valid ≡ true }
+// The line with T, linked to the writer if its version is the one before the stored one.
+fn overtaken_line(held: &HeldLine, mark: &MarkingStore) -> Line
+    ensures line { Some (seen_line result) ≡ overtaken_line (option_map (λ (u : UnitId). u.0) mark.now.previous)
+        mark.now.writer.0 held.now.unit.0 (Some (seen_line held.now.line)) }
+    ensures valid { (bits_of held.now.line.bits).valid ≡ true → (bits_of result.bits).valid ≡ true }
 {
-    let next = if is_same(mark.previous, version.unit) {
+    let next = if is_same(mark.previous, held.unit) {
         Some(mark.writer)
     } else {
-        version.line.next
+        held.line.next
     };
     Line {
-        value: version.line.value,
-        bits: version.line.bits.on_overtaken(),
+        value: held.line.value,
+        bits: held.line.bits.on_overtaken(),
         next,
     }
 }
@@ -63,7 +63,7 @@ fn refill(cache: &mut Cache, word: WordAddr, line: Line, probes: &mut Probes)
     requires valid { (bits_of line.bits).valid ≡ true }
     requires ends { (bound : ℕ) × EndsBelow (line_of cache.old) bound }
     requires room { HasRoom probes.old cache.old.ways }
-    ensures lines { (a : ℕ) → line_of cache.new a ≡ cond (a == word.0) (Some (seen line)) (line_of cache.old a) }
+    ensures lines { (a : ℕ) → line_of cache.new a ≡ cond (a == word.0) (Some (seen_line line)) (line_of cache.old a) }
     ensures sets { cache.new.sets ≡ cache.old.sets }
     ensures ways { cache.new.ways ≡ cache.old.ways }
     ensures counted { CountsOneSearch probes.old probes.new cache.old.ways }
@@ -72,44 +72,39 @@ fn refill(cache: &mut Cache, word: WordAddr, line: Line, probes: &mut Probes)
     let _ = cache.fill(word, line, probes);
 }
 
-// The version, which is its unit's line of the word, gets the mark.
-fn mark_version(caches: &mut [Cache], version: &Version, mark: &Mark, probes: &mut Probes)
-    requires held { IsHeld caches.old mark.now.word.0 version.now }
+// Marks the line, which is its unit's line of the word.
+fn mark_line(caches: &mut [Cache], held: &HeldLine, mark: &MarkingStore, probes: &mut Probes)
+    requires held { IsHeld caches.old mark.now.word.0 held.now }
     requires ends { (bound : ℕ) × EndBelow caches.old bound }
     requires room { HasRoomFor probes.old caches.old 1 }
     ensures lines { (u a : ℕ) → held_line caches.new u a ≡ overtaken_where
         (option_map (λ (u : UnitId). u.0) mark.now.previous) mark.now.writer.0 u
-        ((a == mark.now.word.0) && (version.now.unit.0 == u)) (held_line caches.old u a) }
+        ((a == mark.now.word.0) && (held.now.unit.0 == u)) (held_line caches.old u a) }
     ensures sizes { SameSizes caches.old caches.new }
     ensures counted { CountsSearches probes.old probes.new 1 }
 {
-    let line = marked(version, mark);
-    refill(
-        &mut caches[version.unit.0 as usize],
-        mark.word,
-        line,
-        probes,
-    );
+    let line = overtaken_line(held, mark);
+    refill(&mut caches[held.unit.0 as usize], mark.word, line, probes);
 }
 
-/// The versions, which are their units' lines of the word, get the mark: T is set on each, and the one before the
-/// stored version links to the writer. Each takes one search.
-pub(crate) fn mark_versions(
+/// Marks these lines, each its unit's line of the word: sets T on each, and links the version before the stored one to
+/// the writer. Each takes one search.
+pub(crate) fn mark_lines(
     caches: &mut [Cache],
-    versions: &[Version],
-    mark: &Mark,
+    lines: &[HeldLine],
+    mark: &MarkingStore,
     probes: &mut Probes,
 )
-    requires held { AreHeld caches.old mark.now.word.0 versions.now }
+    requires held { AreHeld caches.old mark.now.word.0 lines.now }
     requires ends { (bound : ℕ) × EndBelow caches.old bound }
-    requires room { HasRoomFor probes.old caches.old (length versions.now) }
+    requires room { HasRoomFor probes.old caches.old (length lines.now) }
     ensures lines { (u a : ℕ) → held_line caches.new u a ≡ overtaken_where
         (option_map (λ (u : UnitId). u.0) mark.now.previous) mark.now.writer.0 u
-        ((a == mark.now.word.0) && is_named versions.now u) (held_line caches.old u a) }
+        ((a == mark.now.word.0) && is_named lines.now u) (held_line caches.old u a) }
     ensures sizes { SameSizes caches.old caches.new }
-    ensures counted { CountsSearches probes.old probes.new (length versions.now) }
+    ensures counted { CountsSearches probes.old probes.new (length lines.now) }
 {
-    for version in versions {
-        mark_version(caches, version, mark, probes);
+    for held in lines {
+        mark_line(caches, held, mark, probes);
     }
 }

@@ -1,26 +1,22 @@
 //! A read of a word by a task.
 
 ghost use Rattle.std.specs.Option.{ForSome};
-ghost use Rattle.std.specs.Prelude.{◌≡◌, ℕ, ◌+◌, ◌<◌, true, false, Some, None, length, get_or, option_map, IfOk, IfSome, OnOk, OnErr, MatchResult};
+ghost use Rattle.std.specs.Prelude.{◌≡◌, ℕ, ◌+◌, ◌<◌, true, false, Some, None, length, get_or, option_map, IfOk};
+ghost use Rattle.std.specs.Prelude.{IfSome, OnOk, OnErr, MatchResult};
 ghost use Rattle.svc_line.specs.Bits.{bits_of, is_active};
-ghost use Rattle.svc_line.specs.Line.{seen};
+ghost use Rattle.svc_line.specs.Line.{seen_line};
 ghost use Rattle.svc_cache.specs.Places.{line_of};
 ghost use Rattle.svc_cache.specs.Lines.{EndsBelow};
-ghost use Rattle.svc_vol.specs.Lines.{lines_in, IsRanked};
-ghost use Rattle.svc_vol.specs.Versions.{AreCommitted};
+ghost use Rattle.svc_vol.specs.Lines.{lines_in};
 ghost use Rattle.svc_retire.specs.Caches.{cache_at, held_line, SameSizes};
 ghost use Rattle.svc_retire.specs.Purges.{committed_in, HasRoomFor};
-ghost use Rattle.svc_vcl.specs.Planned.{supplier_of};
-ghost use Rattle.svc_bus_laws.specs.Versioned.{view};
-ghost use Rattle.svc_bus_laws.specs.LineTable.{LineTable, versioned};
-ghost use Rattle.svc_bus_laws.specs.Supplier.{supplier};
-ghost use Rattle.svc_bus_laws.specs.Steps.{read};
-ghost use Rattle.svc_bus_laws.specs.BusState.{Agrees};
 ghost use Rattle.svc_bus.specs.Observed.{observed};
+ghost use Rattle.svc_bus.specs.Requests.{IsBusRequest};
 ghost use Rattle.svc_bus.specs.Room.{full_in};
 ghost use Rattle.svc_bus.specs.Carried.{is_hit, lines_after, memory_after};
-ghost use Rattle.svc_bus.specs.Calls.{IsAtWork, RunsAt, full_refusal};
+ghost use Rattle.svc_bus.specs.Calls.{IsAtWork};
 ghost use Rattle.svc_bus.specs.Looking.{CountsUpTo, IsOne, LookUps};
+ghost use Rattle.svc_bus.specs.Reads.{AgreesAfterRead, GivesView, IsRefusedIfFull, NamesSupplier};
 
 use crate::Bus;
 use crate::request::{fill_in, place_of, put_line};
@@ -30,9 +26,9 @@ use svc_line::Line;
 use svc_vcl::plan_read;
 use svc_vol::VersionList;
 
-// What a read comes to: the unit's line after it, and who supplied the value.
+// What a read does: the unit's line after it, and who supplied the value.
 #[derive(Clone, Copy)]
-struct Outcome {
+struct ReadEffect {
     served: Served,
     line: Line,
 }
@@ -44,35 +40,32 @@ fn carry_out(
     list: &VersionList,
     unit: UnitId,
     word: WordAddr,
-    outcome: &Outcome,
+    effect: &ReadEffect,
     probes: &mut Probes,
 ) -> Result<(), SetFull>
-    requires known { unit.0 < length caches.old }
-    requires listed { AreCommitted (lines_in caches.old word.0) (length caches.old) list.now.committed }
-    requires ranked { IsRanked (length caches.old) (lines_in caches.old word.0) }
-    requires in_memory { word.0 < length backing.old }
+    requires request { IsBusRequest caches.old backing.old list.now unit.0 word.0 }
     requires ends { EndsBelow (line_of (cache_at caches.old unit.0)) (length backing.old) }
-    requires valid { (bits_of outcome.now.line.bits).valid ≡ true }
-    requires active { (bits_of outcome.now.line.bits).commit ≡ false }
+    requires valid { (bits_of effect.now.line.bits).valid ≡ true }
+    requires active { (bits_of effect.now.line.bits).commit ≡ false }
     requires room { HasRoomFor probes.old caches.old (1 + length caches.old) }
-    ensures refused { MatchResult result (λ _. is_hit outcome.now.served ≡ false
+    ensures refused { MatchResult result (λ _. is_hit effect.now.served ≡ false
         → full_in caches.old unit.0 (length backing.old) word.0 ≡ None)
         (λ e. full_in caches.old unit.0 (length backing.old) word.0 ≡ Some e.0.0) }
     ensures same_caches { OnErr result (caches.new ≡ caches.old) }
     ensures same_memory { OnErr result (backing.new ≡ backing.old) }
     ensures lines { OnOk result ((u a : ℕ) → held_line caches.new u a
-        ≡ lines_after outcome.now.served (held_line caches.old) unit.0 word.0 (Some (seen outcome.now.line)) u a) }
+        ≡ lines_after effect.now.served (held_line caches.old) unit.0 word.0 (Some (seen_line effect.now.line)) u a) }
     ensures memory { OnOk result ((a : ℕ) → get_or backing.new a 0
-        ≡ memory_after outcome.now.served (λ x. get_or backing.old x 0) word.0
+        ≡ memory_after effect.now.served (λ x. get_or backing.old x 0) word.0
         (committed_in caches.old backing.old word.0) a) }
     ensures sizes { SameSizes caches.old caches.new }
     ensures searches { OnOk result (CountsUpTo probes.old probes.new (length caches.old)) }
 {
-    match outcome.served {
+    match effect.served {
         Served::Hit => Ok(()),
-        Served::Reuse => fill_in(caches, unit, word, outcome.line, probes),
+        Served::Reuse => fill_in(caches, unit, word, effect.line, probes),
         Served::Version(_) | Served::Spill | Served::Committed(_) | Served::Memory => {
-            put_line(caches, backing, list, unit, word, outcome.line, probes)
+            put_line(caches, backing, list, unit, word, effect.line, probes)
         }
     }
 }
@@ -87,15 +80,11 @@ impl Bus {
     pub fn read(&mut self, unit: UnitId, word: WordAddr) -> Result<(u32, Served), Refusal>
         requires at_work { IsAtWork (observed self.old) unit.0 }
         requires in_memory { word.0 < (observed self.old).words }
-        ensures refused { MatchResult result (λ _. full_refusal (observed self.old) unit.0 word.0 ≡ None)
-            (λ e. full_refusal (observed self.old) unit.0 word.0 ≡ Some e) }
+        ensures refused { IsRefusedIfFull (observed self.old) unit.0 word.0 result }
         ensures unchanged { OnErr result (self.new ≡ self.old) }
-        ensures value { (t : LineTable) → (place : ℕ) → RunsAt (observed self.old) unit.0 t place
-            → IfOk result (λ r. r.0 ≡ view (versioned t) place word.0) }
-        ensures served { (t : LineTable) → (place : ℕ) → RunsAt (observed self.old) unit.0 t place
-            → IfOk result (λ r. supplier_of r.1 ≡ supplier t place word.0) }
-        ensures table { (t : LineTable) → (place : ℕ) → RunsAt (observed self.old) unit.0 t place
-            → OnOk result (Agrees (observed self.new) (read t place word.0)) }
+        ensures value { GivesView (observed self.old) unit.0 word.0 result }
+        ensures served { NamesSupplier (observed self.old) unit.0 word.0 result }
+        ensures table { AgreesAfterRead (observed self.old) (observed self.new) unit.0 word.0 result }
         ensures probes { IfOk result (λ r. LookUps r.1 (observed self.new).probes (observed self.old).caches) }
     {
         let mut look = Probes::new();
@@ -113,14 +102,14 @@ impl Bus {
     fn own_line(&self, unit: UnitId, word: WordAddr, probes: &mut Probes) -> Option<Line>
         requires known { unit.0 < (observed self.now).caches }
         requires none { (probes.old.searches ≡ 0) × (probes.old.places ≡ 0) }
-        ensures line { lines_in self.now.caches word.0 unit.0 ≡ option_map seen result }
+        ensures line { lines_in self.now.caches word.0 unit.0 ≡ option_map seen_line result }
         ensures valid { IfSome result (λ line. (bits_of line.bits).valid ≡ true) }
         ensures one { IsOne probes.new }
     {
         self.caches[unit.0 as usize].lookup(word, probes)
     }
 
-    // A read for which the unit's line is known and isn't a hit: it searches the other caches.
+    // Reads the word once the unit's own line is known to be no hit. It searches the other caches.
     #[tactic(auto, unfolding(crate::specs::Observed::observed))]
     fn read_beside(
         &mut self,
@@ -131,18 +120,14 @@ impl Bus {
     ) -> Result<(u32, Served), Refusal>
         requires at_work { IsAtWork (observed self.old) unit.0 }
         requires in_memory { word.0 < (observed self.old).words }
-        requires line { lines_in self.old.caches word.0 unit.0 ≡ option_map seen line }
+        requires line { lines_in self.old.caches word.0 unit.0 ≡ option_map seen_line line }
         requires idle { ForSome line (λ own. is_active (bits_of own.bits) ≡ false) }
         requires one { IsOne probes }
-        ensures refused { MatchResult result (λ _. full_refusal (observed self.old) unit.0 word.0 ≡ None)
-            (λ e. full_refusal (observed self.old) unit.0 word.0 ≡ Some e) }
+        ensures refused { IsRefusedIfFull (observed self.old) unit.0 word.0 result }
         ensures unchanged { OnErr result (self.new ≡ self.old) }
-        ensures value { (t : LineTable) → (place : ℕ) → RunsAt (observed self.old) unit.0 t place
-            → IfOk result (λ r. r.0 ≡ view (versioned t) place word.0) }
-        ensures served { (t : LineTable) → (place : ℕ) → RunsAt (observed self.old) unit.0 t place
-            → IfOk result (λ r. supplier_of r.1 ≡ supplier t place word.0) }
-        ensures table { (t : LineTable) → (place : ℕ) → RunsAt (observed self.old) unit.0 t place
-            → OnOk result (Agrees (observed self.new) (read t place word.0)) }
+        ensures value { GivesView (observed self.old) unit.0 word.0 result }
+        ensures served { NamesSupplier (observed self.old) unit.0 word.0 result }
+        ensures table { AgreesAfterRead (observed self.old) (observed self.new) unit.0 word.0 result }
         ensures probes { IfOk result (λ r. LookUps r.1 (observed self.new).probes (observed self.old).caches) }
     {
         let place = place_of(&self.queue, unit);
@@ -150,7 +135,7 @@ impl Bus {
             .fill_beside(&self.caches, &self.queue, word, unit, line, &mut probes);
         let backing = self.backing[word.0 as usize];
         let plan = plan_read(&self.list, unit, place, self.spill.get(word), backing);
-        let outcome = Outcome {
+        let effect = ReadEffect {
             served: plan.served,
             line: Line {
                 value: plan.value,
@@ -164,7 +149,7 @@ impl Bus {
             &self.list,
             unit,
             word,
-            &outcome,
+            &effect,
             &mut probes,
         ) {
             return Err(Refusal::SetFull(named));

@@ -13,7 +13,7 @@ use crate::Bus;
 use svc_base::{UnitId, WordAddr};
 use svc_cache::Probes;
 use svc_line::LineBits;
-use svc_retire::purging::newest;
+use svc_retire::purging::newest_value;
 use svc_vol::VersionList;
 
 impl Bus {
@@ -58,7 +58,7 @@ impl Bus {
         ensures value { (t : LineTable) → Agrees (observed self.now) t → result ≡ committed_value t word.0 }
     {
         let list = VersionList::of(&self.caches, &self.queue, word, &mut Probes::new());
-        match newest(list.committed()) {
+        match newest_value(list.committed()) {
             Some(value) => value,
             None => self.backing(word),
         }
@@ -105,11 +105,10 @@ impl Bus {
         ensures named { IfSome result (λ line. (bits_of line.0).unnamed ≡ 0) }
     {
         let line = self.caches[unit.0 as usize].lookup(word, &mut Probes::new())?;
-        Some((line.bits.named(), line.value))
+        Some((line.bits.named_bits(), line.value))
     }
 
-    /// The word that a read or a write of this word by the unit would name as the one to replace first, if its set is
-    /// full.
+    /// The word to replace first before the unit can read or write this word, if its set is full.
     #[tactic(auto, unfolding(crate::specs::Observed::observed))]
     pub fn set_full(&self, unit: UnitId, word: WordAddr) -> Option<WordAddr>
         requires known { unit.0 < (observed self.now).caches }

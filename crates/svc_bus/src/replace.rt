@@ -3,7 +3,7 @@
 ghost use Rattle.std.specs.Prelude.{◌≡◌, ℕ, ◌<◌, true, not, ◌&&◌, Some, None, OnOk, OnErr, MatchResult, length, get_or};
 ghost use Rattle.std.specs.Option.{option_or};
 ghost use Rattle.svc_line.specs.Bits.{bits_of};
-ghost use Rattle.svc_line.specs.Line.{seen};
+ghost use Rattle.svc_line.specs.Line.{seen_line};
 ghost use Rattle.svc_bus_laws.specs.LineTable.{LineTable};
 ghost use Rattle.svc_bus_laws.specs.Refusals.{is_head};
 ghost use Rattle.svc_bus_laws.specs.Steps.{replace, with_at};
@@ -26,7 +26,7 @@ fn spill_version(spill: &mut Spill, word: WordAddr, line: &Line)
     requires known { word.0 < length spill.old }
     requires valid { (bits_of line.now.bits).valid ≡ true }
     ensures versions { (a : ℕ) → get_or spill.new a None ≡ with_at (λ x. get_or spill.old x None) word.0
-        (option_or (version_of_line (bus_line_of (Some (seen line.now)))) (get_or spill.old word.0 None)) a }
+        (option_or (version_of_line (bus_line_of (Some (seen_line line.now)))) (get_or spill.old word.0 None)) a }
     ensures size { length spill.new ≡ length spill.old }
 {
     if line.bits.is_active() && line.bits.is_dirty() {

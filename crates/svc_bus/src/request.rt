@@ -1,18 +1,18 @@
 //! A bus request: a line of the word is put into the asking unit's cache, and the word is purged.
 
-ghost use Rattle.std.specs.Prelude.{◌≡◌, ◌≢◌, ℕ, ◌+◌, ◌*◌, ◌<◌, ◌≤◌, ◌==◌, Bool, true, false, Option, Some, None, length, get_or, OnOk, OnErr, MatchResult};
+ghost use Rattle.std.specs.Prelude.{◌≡◌, ◌≢◌, ℕ, ◌+◌, ◌*◌, ◌<◌, ◌≤◌, ◌==◌, Bool, true, false, Option, Some, None};
+ghost use Rattle.std.specs.Prelude.{length, get_or, OnOk, OnErr, MatchResult};
 ghost use Rattle.svc_line.specs.Bits.{bits_of, is_committed};
-ghost use Rattle.svc_line.specs.Line.{seen};
+ghost use Rattle.svc_line.specs.Line.{seen_line};
 ghost use Rattle.svc_cache.specs.Places.{line_of};
 ghost use Rattle.svc_cache.specs.Lines.{EndsBelow};
-ghost use Rattle.svc_vol.specs.Lines.{lines_in, IsRanked};
-ghost use Rattle.svc_vol.specs.Versions.{AreCommitted};
 ghost use Rattle.svc_vcl.specs.Planned.{is_named};
 ghost use Rattle.svc_bus_laws.specs.Refusals.{is_head};
 ghost use Rattle.svc_bus_laws.specs.Steps.{with_at};
 ghost use Rattle.svc_retire.specs.Caches.{cache_at, held_line, SameSizes};
 ghost use Rattle.svc_retire.specs.Purges.{committed_in, purged_line, purges, CountsSearches, HasRoomFor};
 ghost use Rattle.svc_bus.specs.Lines.{with_line};
+ghost use Rattle.svc_bus.specs.Requests.{IsBusRequest};
 ghost use Rattle.svc_bus.specs.Room.{full_in};
 
 use svc_base::{UnitId, WordAddr};
@@ -20,7 +20,7 @@ use svc_cache::{Cache, Probes, SetFull};
 use svc_line::Line;
 use svc_order::TaskQueue;
 use svc_retire::purge;
-use svc_vol::{Version, VersionList};
+use svc_vol::{HeldLine, VersionList};
 
 /// The unit runs the head.
 pub(crate) fn is_head(queue: &TaskQueue, unit: UnitId) -> bool
@@ -60,7 +60,7 @@ pub(crate) fn fill_in(
         (λ e. full_in caches.old unit.0 bound word.0 ≡ Some e.0.0) }
     ensures unchanged { OnErr result (caches.new ≡ caches.old) }
     ensures lines { OnOk result ((u a : ℕ) → held_line caches.new u a
-        ≡ with_line (held_line caches.old) unit.0 word.0 (Some (seen line)) (λ other. other) u a) }
+        ≡ with_line (held_line caches.old) unit.0 word.0 (Some (seen_line line)) (λ other. other) u a) }
     ensures others { OnOk result ((u : ℕ) → u ≢ unit.0 → cache_at caches.new u ≡ cache_at caches.old u) }
     ensures sizes { SameSizes caches.old caches.new }
     ensures counted { CountsSearches probes.old probes.new 1 }
@@ -81,10 +81,10 @@ fn drop_in(caches: &mut [Cache], unit: UnitId, word: WordAddr, probes: &mut Prob
 }
 
 // One of the lines is the unit's.
-fn has_line_of(versions: &[Version], unit: UnitId) -> bool
-    ensures { result ≡ is_named versions.now unit.0 }
+fn has_line_of(lines: &[HeldLine], unit: UnitId) -> bool
+    ensures { result ≡ is_named lines.now unit.0 }
 {
-    versions.iter().any(|version| version.unit.0 == unit.0)
+    lines.iter().any(|held| held.unit.0 == unit.0)
 }
 
 /// A bus request of the unit for the word: its line of the word becomes this one, and the word is purged in the other
@@ -101,10 +101,7 @@ pub(crate) fn put_line(
     line: Line,
     probes: &mut Probes,
 ) -> Result<(), SetFull>
-    requires known { unit.0 < length caches.old }
-    requires listed { AreCommitted (lines_in caches.old word.0) (length caches.old) list.now.committed }
-    requires ranked { IsRanked (length caches.old) (lines_in caches.old word.0) }
-    requires in_memory { word.0 < length backing.old }
+    requires request { IsBusRequest caches.old backing.old list.now unit.0 word.0 }
     requires ends { EndsBelow (line_of (cache_at caches.old unit.0)) (length backing.old) }
     requires valid { (bits_of line.bits).valid ≡ true }
     requires active { (bits_of line.bits).commit ≡ false }
@@ -114,7 +111,7 @@ pub(crate) fn put_line(
     ensures same_caches { OnErr result (caches.new ≡ caches.old) }
     ensures same_memory { OnErr result (backing.new ≡ backing.old) }
     ensures lines { OnOk result ((u a : ℕ) → held_line caches.new u a
-        ≡ with_line (held_line caches.old) unit.0 word.0 (Some (seen line)) purged_line u a) }
+        ≡ with_line (held_line caches.old) unit.0 word.0 (Some (seen_line line)) purged_line u a) }
     ensures memory { OnOk result ((a : ℕ) → get_or backing.new a 0
         ≡ with_at (λ x. get_or backing.old x 0) word.0 (committed_in caches.old backing.old word.0) a) }
     ensures sizes { SameSizes caches.old caches.new }
@@ -139,10 +136,7 @@ pub(crate) fn take_line(
     word: WordAddr,
     probes: &mut Probes,
 )
-    requires known { unit.0 < length caches.old }
-    requires listed { AreCommitted (lines_in caches.old word.0) (length caches.old) list.now.committed }
-    requires ranked { IsRanked (length caches.old) (lines_in caches.old word.0) }
-    requires in_memory { word.0 < length backing.old }
+    requires request { IsBusRequest caches.old backing.old list.now unit.0 word.0 }
     requires room { HasRoomFor probes.old caches.old (1 + length caches.old) }
     ensures lines { (u a : ℕ) → held_line caches.new u a ≡ with_line
         (held_line caches.old) unit.0 word.0 None purged_line u a }

@@ -1,29 +1,29 @@
 //! The lines of a word after a store.
 
-ghost use Rattle.std.specs.Prelude.{◌≡◌, ℕ, ◌+◌, ◌<◌, ◌≤◌, ◌==◌, true, false, cond, Option, Some, None, length, get_or, option_map, IfOk, OnOk, OnErr, MatchResult};
+ghost use Rattle.std.specs.Prelude.{◌≡◌, ℕ, ◌+◌, ◌<◌, ◌≤◌, ◌==◌, true, false, cond, Option, Some, None, length, get_or};
+ghost use Rattle.std.specs.Prelude.{option_map, IfOk, OnOk, OnErr, MatchResult};
 ghost use Rattle.svc_base.specs.declared.ids.UnitId.{UnitId};
 ghost use Rattle.svc_base.specs.declared.refusal.Refusal.TheVariants as refusal;
 ghost use Rattle.svc_line.specs.Bits.{bits_of};
-ghost use Rattle.svc_line.specs.Line.{seen};
-ghost use Rattle.svc_vol.specs.Lines.{lines_in, IsRanked};
-ghost use Rattle.svc_vol.specs.Versions.{AreCommitted};
+ghost use Rattle.svc_line.specs.Line.{seen_line};
 ghost use Rattle.svc_vol.specs.declared.list.TheConstants.{CAPACITY};
 ghost use Rattle.svc_bus_laws.specs.Steps.{with_at};
 ghost use Rattle.svc_retire.specs.Caches.{held_line, SameSizes};
 ghost use Rattle.svc_retire.specs.Purges.{committed_in, HasRoomFor};
 ghost use Rattle.svc_bus.specs.Looking.{CountsUpTo};
-ghost use Rattle.svc_bus.specs.Marks.{AreHeld, EndBelow};
+ghost use Rattle.svc_bus.specs.Marks.{EndBelow};
+ghost use Rattle.svc_bus.specs.Requests.{IsBusRequest};
 ghost use Rattle.svc_bus.specs.Room.{full_in};
-ghost use Rattle.svc_bus.specs.Stores.{left_line, stored_line, ChangeOnce};
+ghost use Rattle.svc_bus.specs.Stores.{CanChange, left_line, stored_line};
 
-use crate::marks::{Mark, mark_versions};
+use crate::marks::{MarkingStore, mark_lines};
 use crate::request::put_line;
 use svc_base::{Refusal, UnitId, WordAddr};
 use svc_cache::{Cache, Probes};
 use svc_line::Line;
 use svc_order::TaskQueue;
 use svc_retire::{Spill, squash_lines};
-use svc_vol::{Version, VersionList};
+use svc_vol::{HeldLine, VersionList};
 
 /// What a store does to the lines of its word.
 #[derive(Clone, Copy)]
@@ -37,7 +37,7 @@ pub(crate) struct Store<'a> {
     /// The unit of the version before the stored one.
     pub previous: Option<UnitId>,
     /// The other lines of the word that change, with their units: those that it overtakes, and the version before.
-    pub changed: &'a [Version],
+    pub changed: &'a [HeldLine],
     /// How many tasks it leaves.
     pub left: usize,
 }
@@ -55,14 +55,10 @@ pub(crate) fn store_line(
     store: &Store,
     probes: &mut Probes,
 ) -> Result<(), Refusal>
-    requires known { store.now.unit.0 < length caches.old }
+    requires request { IsBusRequest caches.old backing.old list.now store.now.unit.0 store.now.word.0 }
     requires few { length caches.old ≤ CAPACITY }
     requires units { (p : ℕ) → p < length queue.now → get_or queue.now p 0 < length caches.old }
-    requires listed { AreCommitted (lines_in caches.old store.now.word.0) (length caches.old) list.now.committed }
-    requires held { AreHeld caches.old store.now.word.0 store.now.changed.now }
-    requires once { ChangeOnce caches.old store.now.unit.0 store.now.word.0 store.now.changed.now }
-    requires ranked { IsRanked (length caches.old) (lines_in caches.old store.now.word.0) }
-    requires in_memory { store.now.word.0 < length backing.old }
+    requires change { CanChange caches.old store.now.unit.0 store.now.word.0 store.now.changed.now }
     requires ends { EndBelow caches.old (length backing.old) }
     requires valid { (bits_of store.now.line.bits).valid ≡ true }
     requires active { (bits_of store.now.line.bits).commit ≡ false }
@@ -74,7 +70,8 @@ pub(crate) fn store_line(
     ensures same_memory { OnErr result (backing.new ≡ backing.old) }
     ensures lines { OnOk result ((u a : ℕ) → held_line caches.new u a
         ≡ left_line queue.now store.now.left u (stored_line (held_line caches.old) store.now.unit.0 store.now.word.0
-        (Some (seen store.now.line)) (option_map (λ (u : UnitId). u.0) store.now.previous) store.now.changed.now u a)) }
+        (Some (seen_line store.now.line))
+        (option_map (λ (u : UnitId). u.0) store.now.previous) store.now.changed.now u a)) }
     ensures memory { OnOk result ((a : ℕ) → get_or backing.new a 0
         ≡ with_at (λ x. get_or backing.old x 0) store.now.word.0
         (committed_in caches.old backing.old store.now.word.0) a) }
@@ -91,12 +88,12 @@ pub(crate) fn store_line(
     } = *store;
     let put = put_line(caches, backing, list, unit, word, line, probes);
     put.map_err(|full| Refusal::SetFull(full.0))?;
-    let mark = Mark {
+    let mark = MarkingStore {
         word,
         writer: unit,
         previous,
     };
-    mark_versions(caches, changed, &mark, probes);
+    mark_lines(caches, changed, &mark, probes);
     squash_lines(caches, queue, left);
     Ok(())
 }

@@ -8,20 +8,20 @@ use crate::Bus;
 use arrayvec::ArrayVec;
 use svc_base::{UnitId, WordAddr};
 use svc_cache::Probes;
-use svc_vol::{CAPACITY, Version, VersionList};
+use svc_vol::{CAPACITY, HeldLine, VersionList};
 
 /// Units, each at most once.
 pub type UnitList = ArrayVec<UnitId, CAPACITY>;
 
 // The units of those of a word's committed lines that were stored to.
-fn units_of(committed: &[Version]) -> UnitList
+fn units_of(committed: &[HeldLine]) -> UnitList
     requires few { length committed.now ≤ CAPACITY }
     ensures { result.items ≡ version_units committed.now }
 {
     let mut units = ArrayVec::new();
-    for version in committed {
-        if version.line.bits.is_dirty() {
-            units.push(version.unit);
+    for held in committed {
+        if held.line.bits.is_dirty() {
+            units.push(held.unit);
         }
     }
     units

@@ -1,14 +1,16 @@
 //! A write of a word by a task.
 
-ghost use Rattle.std.specs.Prelude.{◌≡◌, ℕ, ◌+◌, ◌-◌, ◌^◌, ◌<◌, ◌≤◌, Option, Some, None, length, option_map, IfOk, IfSome, OnOk, OnErr, MatchResult};
+ghost use Rattle.std.specs.Prelude.{◌≡◌, ℕ, ◌+◌, ◌-◌, ◌^◌, ◌<◌, ◌≤◌, Option, Some, None, length, option_map, IfOk};
+ghost use Rattle.std.specs.Prelude.{IfSome, OnOk, OnErr, MatchResult};
 ghost use Rattle.svc_vol.specs.declared.list.TheConstants.{CAPACITY};
 ghost use Rattle.svc_bus_laws.specs.Versioned.{victim_answer};
 ghost use Rattle.svc_bus_laws.specs.LineTable.{LineTable, versioned};
 ghost use Rattle.svc_bus_laws.specs.Steps.{write};
 ghost use Rattle.svc_bus_laws.specs.BusState.{Agrees};
 ghost use Rattle.svc_bus.specs.Observed.{observed};
-ghost use Rattle.svc_bus.specs.Calls.{IsAtWork, RunsAt, full_refusal, victim_shown};
+ghost use Rattle.svc_bus.specs.Calls.{IsAtWork, RunsAt, victim_shown};
 ghost use Rattle.svc_bus.specs.Looking.{LookUpsFrom};
+ghost use Rattle.svc_bus.specs.Reads.{IsRefusedIfFull};
 
 use crate::Bus;
 use crate::request::place_of;
@@ -50,8 +52,7 @@ impl Bus {
     ) -> Result<Option<Victim>, Refusal>
         requires at_work { IsAtWork (observed self.old) unit.0 }
         requires in_memory { word.0 < (observed self.old).words }
-        ensures refused { MatchResult result (λ _. full_refusal (observed self.old) unit.0 word.0 ≡ None)
-            (λ e. full_refusal (observed self.old) unit.0 word.0 ≡ Some e) }
+        ensures refused { IsRefusedIfFull (observed self.old) unit.0 word.0 result }
         ensures unchanged { OnErr result (self.new ≡ self.old) }
         ensures victim { (t : LineTable) → (place : ℕ) → RunsAt (observed self.old) unit.0 t place
             → IfOk result (λ v. option_map victim_shown v ≡ victim_answer (versioned t) place word.0) }

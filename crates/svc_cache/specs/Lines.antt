@@ -1,7 +1,8 @@
 -- A cache as its callers see it: a map from word address to line.
-use Rattle.std.specs.Prelude.{◌≡◌, ℕ, ◌%◌, ◌≤◌, ◌==◌, nat_le, Bool, false, ◌&&◌, Option, Some, None, is_some, is_none, if◌then◌else◌}
+use Rattle.std.specs.Prelude.{◌≡◌, ℕ, ◌%◌, ◌≤◌, ◌==◌, nat_le, Bool, false, ◌&&◌, Option, Some, None, is_some, is_none}
+use Rattle.std.specs.Prelude.{if◌then◌else◌}
 use Rattle.std.specs.Option.{option_or}
-use Rattle.svc_line.specs.Bits.{is_active, is_committed, committed}
+use Rattle.svc_line.specs.Bits.{is_active, is_committed, after_commit}
 use Rattle.svc_line.specs.Line.{SeenLine}
 use Rattle.svc_cache.specs.Search.{least, how_many}
 
@@ -24,7 +25,7 @@ pub record EndsBelow (lines : LineMap) (bound : ℕ) : Type 0 where
 -- C is set on an active line
 abbrev pub commit_line : Option SeenLine → Option SeenLine
 commit_line None = None
-commit_line (Some line) = Some (record line { bits = committed line.bits })
+commit_line (Some line) = Some (record line { bits = after_commit line.bits })
 
 -- an active line becomes invalid
 abbrev pub squash_line : Option SeenLine → Option SeenLine
@@ -46,12 +47,15 @@ is_committed_in_set sets lines word other = is_in_set sets lines word other && i
 
 -- the word has no line, and below the bound as many words of its set have one as there are ways
 abbrev pub is_set_full : (sets ways bound : ℕ) → LineMap → ℕ → Bool
-is_set_full sets ways bound lines word = is_none (lines word) && nat_le ways (how_many bound (is_in_set sets lines word))
+is_set_full sets ways bound lines word =
+    is_none (lines word) && nat_le ways (how_many bound (is_in_set sets lines word))
 
 -- the lowest word of the set whose line is committed; if no line of the set is, the lowest with a line
 abbrev pub first_to_leave : (sets bound : ℕ) → LineMap → ℕ → Option ℕ
-first_to_leave sets bound lines word = option_or (least bound (is_committed_in_set sets lines word)) (least bound (is_in_set sets lines word))
+first_to_leave sets bound lines word =
+    option_or (least bound (is_committed_in_set sets lines word)) (least bound (is_in_set sets lines word))
 
 -- the word to replace before the given one can have a line, if its set is full
 abbrev pub full_address : (sets ways bound : ℕ) → LineMap → ℕ → Option ℕ
-full_address sets ways bound lines word = if is_set_full sets ways bound lines word then first_to_leave sets bound lines word else None
+full_address sets ways bound lines word =
+    if is_set_full sets ways bound lines word then first_to_leave sets bound lines word else None

@@ -1,17 +1,18 @@
 //! A cache: sets of places for lines.
 
-ghost use Rattle.std.specs.Prelude.{◌≡◌, ◌<◌, ◌≤◌, ◌+◌, ◌*◌, ◌^◌, ◌%◌, ℕ, true, false, Some, None, Option, length, option_map, IsTrue, IfOk, IfSome, OnOk, OnErr, MatchResult, All};
+ghost use Rattle.std.specs.Prelude.{◌≡◌, ◌<◌, ◌≤◌, ◌+◌, ◌*◌, ◌^◌, ◌%◌, ℕ, true, false, Some, None, Option, length};
+ghost use Rattle.std.specs.Prelude.{option_map, IsTrue, IfOk, IfSome, OnOk, OnErr, MatchResult, All};
 ghost use Rattle.std.specs.Int.{is_power_of_two};
 ghost use Rattle.svc_base.specs.declared.config.TheConstants.{MAX_SETS, MAX_WAYS};
 ghost use Rattle.svc_line.specs.Bits.{bits_of};
-ghost use Rattle.svc_line.specs.Line.{seen};
+ghost use Rattle.svc_line.specs.Line.{seen_line};
 ghost use Rattle.svc_cache.specs.Probes.{CountsOneSearch, HasRoom};
 ghost use Rattle.svc_cache.specs.Lines.{EndsBelow, commit_line, full_address, no_lines, squash_line, with_line};
 ghost use Rattle.svc_cache.specs.Places.{is_held, line_of, row_at};
 
-use crate::place::Place;
+use crate::place::CachePlace;
 use crate::probes::Probes;
-use crate::row::{SetFull, find, seat_of};
+use crate::row::{SetFull, find, place_for};
 use std::alloc::{AllocError, Global};
 use std::marker::Model;
 use svc_base::{OpenError, WordAddr};
@@ -24,7 +25,7 @@ use svc_line::Line;
 pub struct Cache {
     sets: u32,
     ways: u32,
-    places: Vec<Place>,
+    places: Vec<CachePlace>,
 }
 
 impl Model for Cache {
@@ -40,11 +41,11 @@ impl Model for Cache {
 }
 
 // A number of empty places.
-fn empty_places(alloc: Global, count: usize) -> Result<Vec<Place>, AllocError>
+fn empty_places(alloc: Global, count: usize) -> Result<Vec<CachePlace>, AllocError>
     ensures size { IfOk result (λ places. length places.items ≡ count) }
     ensures empty { IfOk result (λ places. All (λ place. is_held place ≡ false) places.items) }
 {
-    vec![in alloc; Place::empty(); count]
+    vec![in alloc; CachePlace::empty(); count]
 }
 
 impl Cache {
@@ -80,7 +81,7 @@ impl Cache {
     }
 
     // The places of the word's set.
-    fn row(&self, word: WordAddr) -> &[Place]
+    fn row(&self, word: WordAddr) -> &[CachePlace]
         ensures places { result.now ≡ row_at self.now (word.0 % self.now.sets) }
         ensures ways { length result.now ≡ self.now.ways }
         ensures sound { IsSound self.now }
@@ -92,7 +93,7 @@ impl Cache {
     /// The line of the word.
     pub fn lookup(&self, word: WordAddr, probes: &mut Probes) -> Option<Line>
         requires room { HasRoom probes.old self.now.ways }
-        ensures line { option_map seen result ≡ line_of self.now word.0 }
+        ensures line { option_map seen_line result ≡ line_of self.now word.0 }
         ensures valid { IfSome result (λ line. (bits_of line.bits).valid ≡ true) }
         ensures counted { CountsOneSearch probes.old probes.new self.now.ways }
     {
@@ -110,7 +111,7 @@ impl Cache {
             (line_of self.now) word.0 }
         ensures counted { CountsOneSearch probes.old probes.new self.now.ways }
     {
-        match seat_of(self.row(word), word, probes) {
+        match place_for(self.row(word), word, probes) {
             Ok(_) => None,
             Err(SetFull(named)) => Some(named),
         }
@@ -126,14 +127,14 @@ impl Cache {
             → MatchResult result (λ _. full_address self.old.sets self.old.ways bound (line_of self.old) word.0 ≡ None)
             (λ e. full_address self.old.sets self.old.ways bound (line_of self.old) word.0 ≡ Some e.0.0) }
         ensures unchanged { OnErr result (self.new ≡ self.old) }
-        ensures line { OnOk result (line_of self.new ≡ with_line (line_of self.old) word.0 (Some (seen line))) }
+        ensures line { OnOk result (line_of self.new ≡ with_line (line_of self.old) word.0 (Some (seen_line line))) }
         ensures sets { self.new.sets ≡ self.old.sets }
         ensures ways { self.new.ways ≡ self.old.ways }
         ensures counted { CountsOneSearch probes.old probes.new self.old.ways }
     {
-        let place = seat_of(self.row(word), word, probes)?;
+        let place = place_for(self.row(word), word, probes)?;
         let start = self.row_start(word);
-        self.places[start + place] = Place { word, line };
+        self.places[start + place] = CachePlace { word, line };
         Ok(())
     }
 
@@ -147,7 +148,7 @@ impl Cache {
     {
         if let Some(place) = find(self.row(word), word, probes) {
             let start = self.row_start(word);
-            self.places[start + place] = Place::empty();
+            self.places[start + place] = CachePlace::empty();
         }
     }
 

@@ -10,20 +10,20 @@ use svc_line::{Line, LineBits};
 
 /// A place of a cache. It holds its word while the line's bits have V; otherwise it is empty.
 #[derive(Clone, Copy)]
-pub struct Place {
+pub struct CachePlace {
     /// The word of the line.
     pub word: WordAddr,
     /// The line.
     pub line: Line,
 }
 
-impl Place {
+impl CachePlace {
     /// A place without a line.
     #[tactic(auto, unfolding(svc_line::specs::Bits::bits_of))]
-    pub fn empty() -> Place
+    pub fn empty() -> CachePlace
         ensures { is_held result ≡ false }
     {
-        Place {
+        CachePlace {
             word: WordAddr(0),
             line: Line {
                 value: 0,
@@ -56,7 +56,7 @@ impl Place {
 
     /// Of two places that hold lines, this one's leaves first when a line has to: a committed line
     /// before an active one, otherwise the lower word.
-    pub fn precedes(&self, other: &Place) -> bool
+    pub fn precedes(&self, other: &CachePlace) -> bool
         ensures { result ≡ precedes self.now other.now }
     {
         let lower = self.word.0 < other.word.0;

@@ -56,26 +56,26 @@ abbrev pub is_reusable : Bits → Bool
 is_reusable b = is_committed b && not b.store && not b.stale
 
 -- a load fills the line: it is valid, has L unless the value is the task's own, and has T if a later task has a version
-abbrev pub loaded : (first_use overtaken : Bool) → Bits
-loaded first_use overtaken = record no_bits { valid = true; load = first_use; stale = overtaken }
+abbrev pub after_load : (first_use overtaken : Bool) → Bits
+after_load first_use overtaken = record no_bits { valid = true; load = first_use; stale = overtaken }
 
 -- a store writes the line: it is valid and stored to, keeps L if it was exposed, and has T if a later task has a
 -- version
-abbrev pub stored : Bits → (overtaken : Bool) → Bits
-stored b overtaken = record no_bits { valid = true; store = true; load = is_exposed b; stale = overtaken }
+abbrev pub after_store : Bits → (overtaken : Bool) → Bits
+after_store b overtaken = record no_bits { valid = true; store = true; load = is_exposed b; stale = overtaken }
 
 -- the unit's task is committed: C is set on an active line
-abbrev pub committed : Bits → Bits
-committed b = if is_active b then record b { commit = true } else b
+abbrev pub after_commit : Bits → Bits
+after_commit b = if is_active b then record b { commit = true } else b
 
 -- the unit's task is squashed: an active line becomes invalid
-abbrev pub squashed : Bits → Bits
-squashed b = if is_active b then no_bits else b
+abbrev pub after_squash : Bits → Bits
+after_squash b = if is_active b then no_bits else b
 
 -- the unit's next task takes over the line: L replaces C
-abbrev pub reused : Bits → Bits
-reused b = record b { commit = false; load = true }
+abbrev pub after_reuse : Bits → Bits
+after_reuse b = record b { commit = false; load = true }
 
 -- a later task has stored the word: T is set
-abbrev pub overtaken_now : Bits → Bits
-overtaken_now b = record b { stale = true }
+abbrev pub after_overtaking : Bits → Bits
+after_overtaking b = record b { stale = true }

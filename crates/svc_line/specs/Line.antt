@@ -11,5 +11,6 @@ pub record SeenLine : Type 0 where
   pub next : Option ℕ
 
 -- a line's value, bits and link
-abbrev pub seen : Line → SeenLine
-seen line = record { value = line.value; bits = bits_of line.bits; next = option_map (λ (unit : UnitId). unit.0) line.next }
+abbrev pub seen_line : Line → SeenLine
+seen_line line =
+    record { value = line.value; bits = bits_of line.bits; next = option_map (λ (unit : UnitId). unit.0) line.next }

@@ -1,7 +1,8 @@
 //! The bits of a line.
 
 ghost use Rattle.std.specs.Prelude.{⊤, ◌≡◌, Bool, if◌then◌else◌, [], ◌∷◌, codes};
-ghost use Rattle.svc_line.specs.Bits.{bits_of, loaded, stored, committed, squashed, reused, overtaken_now, is_active, is_committed, is_dirty, is_exposed, is_reusable};
+ghost use Rattle.svc_line.specs.Bits.{bits_of, after_load, after_store, after_commit, after_squash, after_reuse};
+ghost use Rattle.svc_line.specs.Bits.{after_overtaking, is_active, is_committed, is_dirty, is_exposed, is_reusable};
 
 use bitflags::{Flag, Flags, bitflag_items};
 
@@ -33,7 +34,8 @@ impl Flags for LineBits {
 
     ghost exact = { ⊤ };
 
-    ghost table = { (codes "VALID", 1) ∷ (codes "STORE", 2) ∷ (codes "LOAD", 4) ∷ (codes "COMMIT", 8) ∷ (codes "STALE", 16) ∷ [] };
+    ghost table = { (codes "VALID", 1) ∷ (codes "STORE", 2) ∷ (codes "LOAD", 4) ∷ (codes "COMMIT", 8)
+        ∷ (codes "STALE", 16) ∷ [] };
 
     ghost set_of = { λ line. line.0 };
 
@@ -50,7 +52,7 @@ impl Flags for LineBits {
     }
 }
 
-#[tactic(auto, unfolding(crate::specs::Bits::bits_of), using(crate::proofs::Changes::with_commit, crate::proofs::Changes::with_stale, crate::proofs::Changes::with_reuse))]
+#[tactic(auto, unfolding(crate::specs::Bits::bits_of))]
 impl LineBits {
     /// The line is valid.
     pub fn is_valid(self) -> bool
@@ -98,7 +100,7 @@ impl LineBits {
     /// The bits of a line that a load fills. `first_use` says that the task depends on the value, as it does unless the
     /// value is its own; `overtaken` says that a later task has a version.
     pub fn on_load(first_use: bool, overtaken: bool) -> LineBits
-        ensures { bits_of result ≡ loaded first_use overtaken }
+        ensures { bits_of result ≡ after_load first_use overtaken }
     {
         let mut bits = LineBits::VALID;
         bits.set(LineBits::LOAD, first_use);
@@ -108,7 +110,7 @@ impl LineBits {
 
     /// The bits after a store to the line. `overtaken` says that a later task has a version.
     pub fn on_store(self, overtaken: bool) -> LineBits
-        ensures { bits_of result ≡ stored (bits_of self) overtaken }
+        ensures { bits_of result ≡ after_store (bits_of self) overtaken }
     {
         let mut bits = LineBits::VALID.union(LineBits::STORE);
         bits.set(LineBits::LOAD, self.is_exposed());
@@ -117,8 +119,9 @@ impl LineBits {
     }
 
     /// The bits after the commit of the unit's task.
+    #[tactic(auto, unfolding(crate::specs::Bits::bits_of), using(crate::proofs::Changes::with_commit))]
     pub fn on_commit(self) -> LineBits
-        ensures { bits_of result ≡ committed (bits_of self) }
+        ensures { bits_of result ≡ after_commit (bits_of self) }
     {
         if self.is_valid() {
             self.union(LineBits::COMMIT)
@@ -129,7 +132,7 @@ impl LineBits {
 
     /// The bits after the squash of the unit's task.
     pub fn on_squash(self) -> LineBits
-        ensures { bits_of result ≡ squashed (bits_of self) }
+        ensures { bits_of result ≡ after_squash (bits_of self) }
     {
         if self.is_active() {
             LineBits::empty()
@@ -139,21 +142,23 @@ impl LineBits {
     }
 
     /// The bits after the unit's next task has taken over a reusable line.
+    #[tactic(auto, unfolding(crate::specs::Bits::bits_of), using(crate::proofs::Changes::with_reuse))]
     pub fn on_reuse(self) -> LineBits
-        ensures { bits_of result ≡ reused (bits_of self) }
+        ensures { bits_of result ≡ after_reuse (bits_of self) }
     {
         self.difference(LineBits::COMMIT).union(LineBits::LOAD)
     }
 
     /// The bits after a later task has stored the word.
+    #[tactic(auto, unfolding(crate::specs::Bits::bits_of), using(crate::proofs::Changes::with_stale))]
     pub fn on_overtaken(self) -> LineBits
-        ensures { bits_of result ≡ overtaken_now (bits_of self) }
+        ensures { bits_of result ≡ after_overtaking (bits_of self) }
     {
         self.union(LineBits::STALE)
     }
 
     /// The bits with names, as they are.
-    pub fn named(self) -> LineBits
+    pub fn named_bits(self) -> LineBits
         ensures { bits_of result ≡ record (bits_of self) { unnamed = 0 } }
     {
         LineBits(self.0 & NAMED)

@@ -16,7 +16,7 @@ fn the_bits_have_their_weights(rt: HostRuntime) {
         LineBits::LOAD.bits(),
         LineBits::COMMIT.bits(),
         LineBits::STALE.bits(),
-        bits(255).named().bits(),
+        bits(255).named_bits().bits(),
     ];
     assert!(rt; weights == [1, 2, 4, 8, 16, 1 + 2 + 4 + 8 + 16]);
 }

@@ -1,13 +1,15 @@
 //! The queue of active tasks.
 
-ghost use Rattle.std.specs.Prelude.{◌≡◌, ◌<◌, ◌≤◌, ◌==◌, ◌↔◌, ℕ, Option, Some, [], ◌∷◌, ◌++◌, length, get_or, take, option_map, slice_get, Contains};
+ghost use Rattle.std.specs.Prelude.{◌≡◌, ◌<◌, ◌≤◌, ◌==◌, ◌↔◌, ℕ, Option, Some, [], ◌∷◌, ◌++◌, length, get_or, take};
+ghost use Rattle.std.specs.Prelude.{option_map, slice_get, Contains};
 
 use arrayvec::ArrayVec;
 use std::marker::Model;
 use svc_base::UnitId;
+use svc_base::config::MAX_UNITS;
 
 /// How many tasks can be active at once: as many as there can be units.
-pub const CAPACITY: usize = 16;
+pub const CAPACITY: usize = MAX_UNITS as usize;
 
 /// The units of the active tasks, oldest first. No unit is in it twice.
 ///

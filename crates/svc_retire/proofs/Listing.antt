@@ -6,19 +6,19 @@ use Rattle.std.proofs.lemmas.Bool.{cases_eq}
 use Rattle.std.proofs.lemmas.List.{length-replicate, length-map}
 use Rattle.svc_bus_laws.specs.Search.{how_many}
 use Rattle.svc_bus_laws.proofs.Searches.{any_same, any_found}
-use Rattle.svc_retire.specs.declared.spill.Place.{Place}
-use Rattle.svc_retire.specs.declared.spill.Place.TheVariants.{Unlisted}
-use Rattle.svc_retire.specs.Spills.{spilled, is_listed, place_at, is_among, IsListed}
+use Rattle.svc_retire.specs.declared.spill.SpillPlace.{SpillPlace}
+use Rattle.svc_retire.specs.declared.spill.SpillPlace.TheVariants.{Unlisted}
+use Rattle.svc_retire.specs.Spills.{spilled_version, is_listed, place_at, is_among, IsListed}
 use Rattle.svc_retire.proofs.Counts.{how_many_same, how_many_room, how_many_more, how_many_none}
 
 -- a place that is no more and no less in the list
-same_listing : (places : List Place) (at : ℕ) (new : Place) → at < length places → is_listed new ≡ is_listed (place_at places at) → (word : ℕ) → is_listed (place_at (set places at new) word) ≡ is_listed (place_at places word)
+same_listing : (places : List SpillPlace) (at : ℕ) (new : SpillPlace) → at < length places → is_listed new ≡ is_listed (place_at places at) → (word : ℕ) → is_listed (place_at (set places at new) word) ≡ is_listed (place_at places word)
 same_listing places at new h same word = elim (cases_eq word at) [
   | inl e ↦ rw e (ap is_listed (get_or-set_same places at new Unlisted h) ∙ same)
   | inr ne ↦ ap is_listed (get_or-set_other places at word new Unlisted ne)
 ]
 
-pub kept_list : (places : List Place) (words : List ℕ) (count at : ℕ) (new : Place) → at < length places → is_listed new ≡ is_listed (place_at places at) → IsListed places words count → IsListed (set places at new) words count
+pub kept_list : (places : List SpillPlace) (words : List ℕ) (count at : ℕ) (new : SpillPlace) → at < length places → is_listed new ≡ is_listed (place_at places at) → IsListed places words count → IsListed (set places at new) words count
 kept_list places words count at new h same list =
     let size : length (set places at new) ≡ length places = length-set places at new in
     record {
@@ -29,7 +29,7 @@ kept_list places words count at new h same list =
     }
 
 -- there is room in the list for a word that is not in it
-pub list_room : (places : List Place) (words : List ℕ) (count at : ℕ) → at < length places → is_listed (place_at places at) ≡ false → IsListed places words count → count < length words
+pub list_room : (places : List SpillPlace) (words : List ℕ) (count at : ℕ) → at < length places → is_listed (place_at places at) ≡ false → IsListed places words count → count < length words
 list_room places words count at h out list =
     let few = how_many_room (length places) (λ word. is_listed (place_at places word)) at h out in
     let counted = list.counted in
@@ -37,7 +37,7 @@ list_room places words count at h out list =
     omega (arith, few, counted, room)
 
 -- a word that was not in the list goes last
-pub longer_list : (places : List Place) (words : List ℕ) (count at : ℕ) (new : Place) → at < length places → is_listed (place_at places at) ≡ false → is_listed new ≡ true → IsListed places words count → IsListed (set places at new) (set words count at) (count + 1)
+pub longer_list : (places : List SpillPlace) (words : List ℕ) (count at : ℕ) (new : SpillPlace) → at < length places → is_listed (place_at places at) ≡ false → is_listed new ≡ true → IsListed places words count → IsListed (set places at new) (set words count at) (count + 1)
 longer_list places words count at new h out in_list list =
     let size : length (set places at new) ≡ length places = length-set places at new in
     record {
@@ -94,13 +94,13 @@ empty_list words size room = record {
         any_place (suc n) (suc w) = any_place n w
 
 -- and no word is spilled
-pub empty_view : (size : ℕ) → map spilled (replicate size Unlisted) ≡ replicate size None
+pub empty_view : (size : ℕ) → map spilled_version (replicate size Unlisted) ≡ replicate size None
 empty_view zero = refl
 empty_view (suc n) = ap (λ (rest : List (Option ℕ)). None ∷ rest) (empty_view n)
 
 -- a word of the table has a place
-pub places_known : (places : List Place) (table : List (Option ℕ)) (word : ℕ) → map spilled places ≡ table → word < length table → word < length places
-places_known places table word view h = omega (arith, h, ap (λ (t : List (Option ℕ)). length t) view, length-map places spilled)
+pub places_known : (places : List SpillPlace) (table : List (Option ℕ)) (word : ℕ) → map spilled_version places ≡ table → word < length table → word < length places
+places_known places table word view h = omega (arith, h, ap (λ (t : List (Option ℕ)). length t) view, length-map places spilled_version)
 
 -- what an index reads is the item, whatever stands past the end
 pub read_item : {A : Type 0} (xs : List A) (i : ℕ) (x d : A) → x ≡ get_or xs i x → i < length xs → get_or xs i d ≡ x
@@ -108,8 +108,8 @@ read_item [] i x d e h = absurd (omega (arith, h))
 read_item (y ∷ ys) zero x d e h = sym e
 read_item (y ∷ ys) (suc i) x d e h = read_item ys i x d e (omega (arith, h))
 
-pub place_read : (places : List Place) (word : ℕ) (place : Place) → place ≡ get_or places word place → word < length places → false ≡ is_listed place → is_listed (place_at places word) ≡ false
+pub place_read : (places : List SpillPlace) (word : ℕ) (place : SpillPlace) → place ≡ get_or places word place → word < length places → false ≡ is_listed place → is_listed (place_at places word) ≡ false
 place_read places word place e h out = ap is_listed (read_item places word place Unlisted e h) ∙ sym out
 
-pub place_listed : (places : List Place) (word : ℕ) (place : Place) → place ≡ get_or places word place → word < length places → true ≡ is_listed place → true ≡ is_listed (place_at places word)
+pub place_listed : (places : List SpillPlace) (word : ℕ) (place : SpillPlace) → place ≡ get_or places word place → word < length places → true ≡ is_listed place → true ≡ is_listed (place_at places word)
 place_listed places word place e h into = into ∙ sym (ap is_listed (read_item places word place Unlisted e h))

@@ -2,28 +2,28 @@
 use Rattle.std.proofs.Common.{◌≡◌, ◌⊎◌, ◌∙◌, refl, sym, ap, ap₂, ℕ, ◌<◌, Bool, true, false, not, ◌&&◌, ◌||◌, Option, Some, None, List, length, get_or, unwrap_or, inl, inr, arith, true≢false, cond, eq-eqb, ne_eqb}
 use Rattle.std.specs.Bool.{◌==◌}
 use Rattle.std.proofs.lemmas.Bool.{cases_Bool, cases_eq}
-use Rattle.svc_line.specs.Line.{seen}
+use Rattle.svc_line.specs.Line.{seen_line}
 use Rattle.svc_cache.specs.Places.{CacheValue}
 use Rattle.svc_bus_laws.proofs.Searches.{least_cases, least_none, all_from, all_true}
-use Rattle.svc_vol.specs.declared.version.Version.{Version}
+use Rattle.svc_vol.specs.declared.held_line.HeldLine.{HeldLine}
 use Rattle.svc_vol.specs.Lines.{is_committed_version, is_older_line, lines_in, IsRanked}
-use Rattle.svc_vol.specs.Versions.{version_at, unit_at, AreCommitted}
+use Rattle.svc_vol.specs.Value.{held_at, unit_at, AreCommitted}
 use Rattle.svc_vol.proofs.Ranking.{ranked_strict, ranked_total}
 use Rattle.svc_retire.specs.Caches.{held_line}
 use Rattle.svc_retire.specs.Memory.{with_version}
-use Rattle.svc_retire.specs.Purges.{is_dirty_version, is_newest, line_value, value_of, committed_in, IsNewestAt, IsNewest}
+use Rattle.svc_retire.specs.Purges.{holds_version, is_newest, line_value, value_of, committed_in, IsNewestAt, IsNewest}
 use Rattle.svc_retire.proofs.Emptying.{version_same, version_other}
 use Rattle.svc_retire.proofs.Dropping.{both, dirty_listed, lines_are, version_line, version_dirty}
 
 -- the last dirty version is older than no committed version of the word
-oldest_none : (caches : List CacheValue) (word : ℕ) (versions : List Version) (value k v : ℕ) → AreCommitted (lines_in caches word) (length caches) versions → IsRanked (length caches) (lines_in caches word) → IsNewestAt versions (length versions) value k
+oldest_none : (caches : List CacheValue) (word : ℕ) (versions : List HeldLine) (value k v : ℕ) → AreCommitted (lines_in caches word) (length caches) versions → IsRanked (length caches) (lines_in caches word) → IsNewestAt versions (length versions) value k
     → is_committed_version (held_line caches v word) ≡ true → is_older_line (length caches) (lines_in caches word) (unit_at versions k) v ≡ false
 oldest_none caches word versions value k v list ranked at dirty =
     let place = dirty_listed caches word versions v list dirty in
     ap (is_older_line (length caches) (lines_in caches word) (unit_at versions k)) (sym place.2)
     ∙ before place.0 place.1 (version_dirty caches word versions place.0 list place.1 ∙ ap (λ u. is_committed_version (held_line caches u word)) place.2 ∙ dirty)
   where
-    before : (j : ℕ) → j < length versions → is_dirty_version (version_at versions j) ≡ true → is_older_line (length caches) (lines_in caches word) (unit_at versions k) (unit_at versions j) ≡ false
+    before : (j : ℕ) → j < length versions → holds_version (held_at versions j) ≡ true → is_older_line (length caches) (lines_in caches word) (unit_at versions k) (unit_at versions j) ≡ false
     before j h e = elim (cases j k) [
       | inl low ↦ elim low [
         | inl lt ↦ list.oldest_first j k lt at.within
@@ -35,7 +35,7 @@ oldest_none caches word versions value k v list ranked at dirty =
         cases : (x y : ℕ) → ((x < y) ⊎ (x ≡ y)) ⊎ (y < x)
         cases x y = grind arith
 
-pub newest_value : (caches : List CacheValue) (memory : List ℕ) (word : ℕ) (versions : List Version) (last : Option ℕ) → AreCommitted (lines_in caches word) (length caches) versions → IsRanked (length caches) (lines_in caches word) → IsNewest versions (length versions) last → committed_in caches memory word ≡ unwrap_or last (get_or memory word 0)
+pub newest_value : (caches : List CacheValue) (memory : List ℕ) (word : ℕ) (versions : List HeldLine) (last : Option ℕ) → AreCommitted (lines_in caches word) (length caches) versions → IsRanked (length caches) (lines_in caches word) → IsNewest versions (length versions) last → committed_in caches memory word ≡ unwrap_or last (get_or memory word 0)
 newest_value caches memory word versions None list ranked never = ap (value_of caches memory word) (least_none (length caches) (is_newest caches word) (λ u h. first_fails (is_committed_version (held_line caches u word)) _ (clean u)))
   where
     first_fails : (x y : Bool) → x ≡ false → (x && y) ≡ false
@@ -54,7 +54,7 @@ newest_value caches memory word versions (Some value) list ranked (k, at) = elim
   | inr (m, is, found) ↦ ap (value_of caches memory word) is ∙ same m found.passes
 ]
   where
-    own : held_line caches (unit_at versions k) word ≡ Some (seen (version_at versions k).line)
+    own : held_line caches (unit_at versions k) word ≡ Some (seen_line (held_at versions k).line)
     own = version_line caches word versions k list at.within
 
     dirty : is_committed_version (held_line caches (unit_at versions k) word) ≡ true
@@ -83,7 +83,7 @@ newest_value caches memory word versions (Some value) list ranked (k, at) = elim
         not_true false e = refl
 
 -- the memory after a purge of the word
-pub memory_after_purge : (caches : List CacheValue) (memory : List ℕ) (word : ℕ) (versions : List Version) (last : Option ℕ) → AreCommitted (lines_in caches word) (length caches) versions → IsRanked (length caches) (lines_in caches word) → IsNewest versions (length versions) last → word < length memory
+pub memory_after_purge : (caches : List CacheValue) (memory : List ℕ) (word : ℕ) (versions : List HeldLine) (last : Option ℕ) → AreCommitted (lines_in caches word) (length caches) versions → IsRanked (length caches) (lines_in caches word) → IsNewest versions (length versions) last → word < length memory
     → (a : ℕ) → get_or (with_version memory word last) a 0 ≡ cond (a == word) (committed_in caches memory word) (get_or memory a 0)
 memory_after_purge caches memory word versions last list ranked is within a = elim (cases_eq a word) [
   | inl e ↦

@@ -1,5 +1,6 @@
 -- What a purge of a word removes, what it writes back, and what it costs.
-use Rattle.std.specs.Prelude.{◌≡◌, ℕ, ◌+◌, ◌*◌, ◌<◌, ◌≤◌, ◌^◌, ◌==◌, Bool, true, false, cond, not, ◌&&◌, ◌||◌, Option, Some, None, List, length, get_or}
+use Rattle.std.specs.Prelude.{◌≡◌, ℕ, ◌+◌, ◌*◌, ◌<◌, ◌≤◌, ◌^◌, ◌==◌, Bool, true, false, cond, not, ◌&&◌, ◌||◌, Option}
+use Rattle.std.specs.Prelude.{Some, None, List, length, get_or}
 use Rattle.svc_base.specs.declared.config.TheConstants.{MAX_WAYS}
 use Rattle.svc_base.specs.declared.ids.UnitId.{UnitId}
 use Rattle.svc_line.specs.Bits.{bits_of, is_dirty}
@@ -7,9 +8,9 @@ use Rattle.svc_cache.specs.declared.probes.Probes.{Probes}
 use Rattle.svc_cache.specs.Places.{CacheValue}
 use Rattle.svc_line.specs.Line.{SeenLine}
 use Rattle.svc_bus_laws.specs.Search.{all_below, how_many, least}
-use Rattle.svc_vol.specs.declared.version.Version.{Version}
-use Rattle.svc_vol.specs.Lines.{is_committed_version, is_older_line, lines_in}
-use Rattle.svc_vol.specs.Versions.{version_at}
+use Rattle.svc_vol.specs.declared.held_line.HeldLine.{HeldLine}
+use Rattle.svc_vol.specs.Lines.{IsRanked, is_committed_version, is_older_line, lines_in}
+use Rattle.svc_vol.specs.Value.{AreCommitted, ListValue, held_at}
 use Rattle.svc_retire.specs.Caches.{cache_at, held_line}
 
 -- the unit's line stays
@@ -33,19 +34,21 @@ is_purged caches keep word u = is_committed_version (held_line caches u word) &&
 abbrev pub purges : List CacheValue → Option UnitId → (word : ℕ) → ℕ
 purges caches keep word = how_many (length caches) (is_purged caches keep word)
 
--- the committed line is dirty
-abbrev pub is_dirty_version : Version → Bool
-is_dirty_version version = is_dirty (bits_of version.line.bits)
+-- the line holds a version
+abbrev pub holds_version : HeldLine → Bool
+holds_version held = is_dirty (bits_of held.line.bits)
 
 -- it is removed
-abbrev pub drops : Option UnitId → Version → Bool
-drops keep version = is_dirty_version version && not (keeps keep version.unit.0)
+abbrev pub drops : Option UnitId → HeldLine → Bool
+drops keep held = holds_version held && not (keeps keep held.unit.0)
 
 -- the unit has a committed version of the word, and none is newer
 abbrev pub is_newest : List CacheValue → (word u : ℕ) → Bool
 is_newest caches word u =
     is_committed_version (held_line caches u word)
-    && all_below (length caches) (λ v. not (is_committed_version (held_line caches v word)) || not (is_older_line (length caches) (lines_in caches word) u v))
+    && all_below (length caches)
+    (λ v. not (is_committed_version (held_line caches v word))
+    || not (is_older_line (length caches) (lines_in caches word) u v))
 
 -- the line's value, 0 if there is none
 abbrev pub line_value : Option SeenLine → ℕ
@@ -61,17 +64,24 @@ value_of caches memory word (Some u) = line_value (held_line caches u word)
 abbrev pub committed_in : List CacheValue → (memory : List ℕ) → ℕ → ℕ
 committed_in caches memory word = value_of caches memory word (least (length caches) (is_newest caches word))
 
--- the version at a place is dirty, and no later one is
-pub record IsNewestAt (versions : List Version) (count value place : ℕ) : Type 0 where
+-- the line at a place holds this value as a version, and no later line holds one
+pub record IsNewestAt (lines : List HeldLine) (count value place : ℕ) : Type 0 where
   pub within : place < count
-  pub dirty : is_dirty_version (version_at versions place) ≡ true
-  pub value_is : value ≡ (version_at versions place).line.value
-  pub last : (later : ℕ) → place < later → later < count → is_dirty_version (version_at versions later) ≡ false
+  pub dirty : holds_version (held_at lines place) ≡ true
+  pub value_is : value ≡ (held_at lines place).line.value
+  pub last : (later : ℕ) → place < later → later < count → holds_version (held_at lines later) ≡ false
 
--- the value of the last dirty one among the first n versions
-abbrev pub IsNewest : List Version → (count : ℕ) → Option ℕ → Type 0
-IsNewest versions count None = (place : ℕ) → place < count → is_dirty_version (version_at versions place) ≡ false
-IsNewest versions count (Some value) = (place : ℕ) × IsNewestAt versions count value place
+-- the value of the last version among the first n lines
+abbrev pub IsNewest : List HeldLine → (count : ℕ) → Option ℕ → Type 0
+IsNewest lines count None = (place : ℕ) → place < count → holds_version (held_at lines place) ≡ false
+IsNewest lines count (Some value) = (place : ℕ) × IsNewestAt lines count value place
+
+-- the word can be purged: the list has its committed lines, the links of its versions make one chain, and the memory
+-- has the word
+pub record CanPurge (caches : List CacheValue) (memory : List ℕ) (list : ListValue) (word : ℕ) : Type 0 where
+  pub listed : AreCommitted (lines_in caches word) (length caches) list.committed
+  pub ranked : IsRanked (length caches) (lines_in caches word)
+  pub in_memory : word < length memory
 
 -- there is room to count this many searches
 pub record HasRoomFor (probes : Probes) (caches : List CacheValue) (count : ℕ) : Type 0 where

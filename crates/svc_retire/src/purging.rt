@@ -1,24 +1,26 @@
 //! A purge: a word's newest committed version goes to memory, and its committed versions leave the caches.
 
 ghost use Rattle.std.specs.Prelude.{◌≡◌, ◌+◌, ◌<◌, ◌==◌, ◌&&◌, ℕ, None, cond, length, get_or};
-ghost use Rattle.svc_vol.specs.Lines.{lines_in, IsRanked};
-ghost use Rattle.svc_vol.specs.Versions.{AreCommitted};
+ghost use Rattle.svc_vol.specs.Lines.{lines_in};
+ghost use Rattle.svc_vol.specs.Value.{AreCommitted};
 ghost use Rattle.svc_retire.specs.Caches.{held_line, SameSizes};
-ghost use Rattle.svc_retire.specs.Purges.{committed_in, CountsSearches, drops, HasRoomFor, is_purged, IsNewest, keeps, line_after_purge, purges};
+ghost use Rattle.svc_retire.specs.Purges.{CanPurge, CountsSearches, HasRoomFor, IsNewest, committed_in, drops};
+ghost use Rattle.svc_retire.specs.Purges.{is_purged};
+ghost use Rattle.svc_retire.specs.Purges.{keeps, line_after_purge, purges};
 
 use crate::memory::store;
 use svc_base::{UnitId, WordAddr};
 use svc_cache::{Cache, Probes};
-use svc_vol::{Version, VersionList};
+use svc_vol::{HeldLine, VersionList};
 
 /// The value of the newest version among committed lines; the oldest comes first.
-pub fn newest(committed: &[Version]) -> Option<u32>
+pub fn newest_value(committed: &[HeldLine]) -> Option<u32>
     ensures { IsNewest committed.now (length committed.now) result }
 {
     let mut newest = None;
-    for version in committed {
-        if version.line.bits.is_dirty() {
-            newest = Some(version.line.value);
+    for held in committed {
+        if held.line.bits.is_dirty() {
+            newest = Some(held.line.value);
         }
     }
     newest
@@ -37,28 +39,28 @@ fn is_kept(keep: Option<UnitId>, unit: UnitId) -> bool
 // The committed line becomes invalid if it holds a version, unless its unit keeps it.
 fn drop_version(
     caches: &mut [Cache],
-    version: &Version,
+    held: &HeldLine,
     word: WordAddr,
     keep: Option<UnitId>,
     probes: &mut Probes,
 )
-    requires known { version.now.unit.0 < length caches.old }
+    requires known { held.now.unit.0 < length caches.old }
     requires room { HasRoomFor probes.old caches.old 1 }
     ensures lines { (u a : ℕ) → held_line caches.new u a
-        ≡ cond ((a == word.0) && (drops keep version.now && (version.now.unit.0 == u))) None
+        ≡ cond ((a == word.0) && (drops keep held.now && (held.now.unit.0 == u))) None
         (held_line caches.old u a) }
     ensures sizes { SameSizes caches.old caches.new }
-    ensures counted { CountsSearches probes.old probes.new (cond (drops keep version.now) 1 0) }
+    ensures counted { CountsSearches probes.old probes.new (cond (drops keep held.now) 1 0) }
 {
-    if version.line.bits.is_dirty() && !is_kept(keep, version.unit) {
-        caches[version.unit.0 as usize].drop_line(word, probes);
+    if held.line.bits.is_dirty() && !is_kept(keep, held.unit) {
+        caches[held.unit.0 as usize].drop_line(word, probes);
     }
 }
 
 // All of these that hold versions become invalid, except that of the unit that keeps its line.
 fn drop_versions(
     caches: &mut [Cache],
-    committed: &[Version],
+    committed: &[HeldLine],
     word: WordAddr,
     keep: Option<UnitId>,
     probes: &mut Probes,
@@ -69,8 +71,8 @@ fn drop_versions(
     ensures sizes { SameSizes caches.old caches.new }
     ensures counted { CountsSearches probes.old probes.new (purges caches.old keep word.0) }
 {
-    for version in committed {
-        drop_version(caches, version, word, keep, probes);
+    for held in committed {
+        drop_version(caches, held, word, keep, probes);
     }
 }
 
@@ -87,9 +89,7 @@ pub fn purge(
     keep: Option<UnitId>,
     probes: &mut Probes,
 )
-    requires listed { AreCommitted (lines_in caches.old word.0) (length caches.old) list.now.committed }
-    requires ranked { IsRanked (length caches.old) (lines_in caches.old word.0) }
-    requires in_memory { word.0 < length backing.old }
+    requires purge { CanPurge caches.old backing.old list.now word.0 }
     requires room { HasRoomFor probes.old caches.old (length caches.old) }
     ensures lines { (u a : ℕ) → held_line caches.new u a ≡ line_after_purge keep word.0 u a (held_line caches.old u a) }
     ensures memory { (a : ℕ) → get_or backing.new a 0 ≡ cond (a == word.0) (committed_in caches.old backing.old word.0)
@@ -98,6 +98,6 @@ pub fn purge(
     ensures counted { CountsSearches probes.old probes.new (purges caches.old keep word.0) }
 {
     let committed = list.committed();
-    store(backing, word.0 as usize, newest(committed));
+    store(backing, word.0 as usize, newest_value(committed));
     drop_versions(caches, committed, word, keep, probes);
 }

@@ -1,8 +1,9 @@
 //! The spill table: the head's versions whose lines were replaced.
 
-ghost use Rattle.std.specs.Prelude.{◌≡◌, ◌<◌, ℕ, Option, Some, None, All, IfOk, length, get_or, set, replicate, unwrap_or};
-ghost use Rattle.svc_retire.specs.Spills.{is_listed, spilled};
-ghost use Rattle.svc_retire.specs.declared.spill.Place.TheVariants.{Unlisted};
+ghost use Rattle.std.specs.Prelude.{◌≡◌, ◌<◌, ℕ, Option, Some, None, All, IfOk, length, get_or, set, replicate};
+ghost use Rattle.std.specs.Prelude.{unwrap_or};
+ghost use Rattle.svc_retire.specs.Spills.{is_listed, spilled_version};
+ghost use Rattle.svc_retire.specs.declared.spill.SpillPlace.TheVariants.{Unlisted};
 
 use crate::memory::store;
 use std::alloc::{AllocError, Global};
@@ -11,7 +12,7 @@ use svc_base::{OpenError, WordAddr};
 
 /// What the table holds for a word.
 #[derive(Clone, Copy)]
-enum Place {
+enum SpillPlace {
     /// No version of the word was spilled since the last commit.
     Unlisted,
     /// One was, and then the head stored the word again.
@@ -20,38 +21,38 @@ enum Place {
     Spilled(u32),
 }
 
-impl Place {
+impl SpillPlace {
     // The word is in the list of words.
     fn is_listed(&self) -> bool
         ensures { result ≡ is_listed self.now }
     {
         match self {
-            Place::Unlisted => false,
-            Place::Emptied => true,
-            Place::Spilled(_) => true,
+            SpillPlace::Unlisted => false,
+            SpillPlace::Emptied => true,
+            SpillPlace::Spilled(_) => true,
         }
     }
 
     // The spilled version.
     fn version(&self) -> Option<u32>
-        ensures { result ≡ spilled self.now }
+        ensures { result ≡ spilled_version self.now }
     {
         match self {
-            Place::Unlisted => None,
-            Place::Emptied => None,
-            Place::Spilled(value) => Some(*value),
+            SpillPlace::Unlisted => None,
+            SpillPlace::Emptied => None,
+            SpillPlace::Spilled(value) => Some(*value),
         }
     }
 
     // The place after its word was stored again.
-    fn emptied(&self) -> Place
+    fn emptied(&self) -> SpillPlace
         ensures listed { is_listed result ≡ is_listed self.now }
-        ensures empty { spilled result ≡ None }
+        ensures empty { spilled_version result ≡ None }
     {
         match self {
-            Place::Unlisted => Place::Unlisted,
-            Place::Emptied => Place::Emptied,
-            Place::Spilled(_) => Place::Emptied,
+            SpillPlace::Unlisted => SpillPlace::Unlisted,
+            SpillPlace::Emptied => SpillPlace::Emptied,
+            SpillPlace::Spilled(_) => SpillPlace::Emptied,
         }
     }
 }
@@ -65,27 +66,27 @@ impl Place {
 /// Contracts see the list of the versions by word.
 #[derive(Drop)]
 pub struct Spill {
-    places: Vec<Place>,
+    places: Vec<SpillPlace>,
     words: Vec<u32>,
     count: usize,
 }
 
 impl Model for Spill {
     ghost use Rattle.std.specs.Prelude.{List, Option, ℕ, map};
-    ghost use Rattle.svc_retire.specs.Spills.{spilled, IsListed};
+    ghost use Rattle.svc_retire.specs.Spills.{spilled_version, IsListed};
 
     ghost Value = { List (Option ℕ) };
 
-    ghost view = { λ table. map spilled table.places.items };
+    ghost view = { λ table. map spilled_version table.places.items };
 
     ghost invariant = { λ table. IsListed table.places.items table.words.items table.count };
 }
 
 // A number of places without a version.
-fn empty_places(alloc: Global, words: usize) -> Result<Vec<Place>, AllocError>
+fn empty_places(alloc: Global, words: usize) -> Result<Vec<SpillPlace>, AllocError>
     ensures { IfOk result (λ places. places.items ≡ replicate words Unlisted) }
 {
-    vec![in alloc; Place::Unlisted; words]
+    vec![in alloc; SpillPlace::Unlisted; words]
 }
 
 // A number of places for words.
@@ -140,7 +141,7 @@ impl Spill {
             self.words[self.count] = word.0;
             self.count += 1;
         }
-        self.places[place] = Place::Spilled(value);
+        self.places[place] = SpillPlace::Spilled(value);
     }
 
     /// The head stored the word again: the spilled version is no longer its version.
@@ -163,7 +164,7 @@ impl Spill {
             let place = self.words[k] as usize;
             let version = self.places[place].version();
             store(backing, place, version);
-            self.places[place] = Place::Unlisted;
+            self.places[place] = SpillPlace::Unlisted;
         }
         self.count = 0;
     }

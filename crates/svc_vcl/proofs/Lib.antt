@@ -1,5 +1,5 @@
 pub mod Searching
-pub mod Entries
+pub mod Slots
 pub mod Newest
 pub mod ReadPlans
 pub mod WritePlans

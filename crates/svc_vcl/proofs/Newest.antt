@@ -8,10 +8,10 @@ use Rattle.svc_bus_laws.specs.BusState.{BusState, Agrees}
 use Rattle.svc_bus_laws.specs.BusView.{bus_newest, is_newest_line}
 use Rattle.svc_bus_laws.proofs.Searches.{greatest_cases, least_found, least_none, all_from, all_true, some_is}
 use Rattle.svc_bus_laws.proofs.OrderProofs.{order_strict, order_total}
-use Rattle.svc_vol.specs.Versions.{Versions, version_at, unit_at}
+use Rattle.svc_vol.specs.Value.{ListValue, held_at, unit_at}
 use Rattle.svc_vcl.specs.Listed.{newest_in}
 use Rattle.svc_vcl.specs.Described.{Describes}
-use Rattle.svc_vcl.proofs.Entries.{dirty_bits}
+use Rattle.svc_vcl.proofs.Slots.{dirty_bits}
 
 committed_of : (line : Option BusLine) → is_committed_dirty_line line ≡ true → is_committed_line line ≡ true
 committed_of None e = e
@@ -30,14 +30,14 @@ or_from : (x y : Bool) → (x ≡ true → y ≡ false) → (not x || not y) ≡
 or_from true y e = rw (e refl) refl
 or_from false y e = refl
 
-module _ (b : BusState) (t : LineTable) (a : ℕ) (list : Versions) (agrees : Agrees b t) (described : Describes b a list) where
+module _ (b : BusState) (t : LineTable) (a : ℕ) (list : ListValue) (agrees : Agrees b t) (described : Describes b a list) where
   abbrev dirty_at : ℕ → Bool
-  dirty_at i = is_dirty (bits_of (version_at list.committed i).line.bits)
+  dirty_at i = is_dirty (bits_of (held_at list.committed i).line.bits)
 
   is_dirty_unit : (i : ℕ) → i < length list.committed → dirty_at i ≡ is_committed_dirty_line (b.lines (unit_at list.committed i) a)
   is_dirty_unit i here =
       let only = described.only i here in
-      dirty_bits (bits_of (version_at list.committed i).line.bits) (version_at list.committed i).line.value only.committed ∙ ap is_committed_dirty_line (sym only.held)
+      dirty_bits (bits_of (held_at list.committed i).line.bits) (held_at list.committed i).line.value only.committed ∙ ap is_committed_dirty_line (sym only.held)
 
   never_itself : (u : ℕ) → b.is_older a u u ≡ false
   never_itself u = elim (cases_Bool (b.is_older a u u)) [

@@ -1,7 +1,7 @@
 -- The victim of a write, the line that it leaves, and the lines that it makes stale.
 use Rattle.std.proofs.Common.{◌≡◌, ◌≢◌, ◌∙◌, refl, sym, ap, ap₂, subst, ℕ, zero, suc, ◌+◌, ◌-◌, ◌<◌, ◌≤◌, Bool, true, false, cond, not, ◌&&◌, ◌||◌, ◌==◌, Option, Some, None, List, length, get_or, inl, inr, arith, true≢false, unwrap_or}
 use Rattle.std.proofs.lemmas.Bool.{and_parts, and_from, cases_Bool, cases_lt, eq-eqb, eqb-true, ne_eqb}
-use Rattle.svc_line.specs.Bits.{Bits, bits_of, is_dirty, is_exposed, stored}
+use Rattle.svc_line.specs.Bits.{Bits, bits_of, is_dirty, is_exposed, after_store}
 use Rattle.svc_bus_laws.specs.Search.{any_below}
 use Rattle.svc_bus_laws.specs.Walk.{walk}
 use Rattle.svc_bus_laws.specs.LineTable.{LineTable, is_cut}
@@ -12,12 +12,12 @@ use Rattle.svc_bus_laws.specs.BusView.{bus_line_at, bus_map, bus_row}
 use Rattle.svc_bus_laws.specs.BusSteps.{bus_write, is_below, is_overtaken_line, line_after_cut, written_bus_line}
 use Rattle.svc_bus_laws.proofs.Searches.{any_found, length-tabulate}
 use Rattle.svc_bus_laws.proofs.SoundSeen.{sound_seen}
-use Rattle.svc_vol.specs.declared.version.Version.{Version}
-use Rattle.svc_vol.specs.Versions.{Versions, version_at, unit_at}
-use Rattle.svc_vcl.specs.Listed.{entry_at, is_exposure, is_overtaken_in, is_version, victim_in}
-use Rattle.svc_vcl.specs.Described.{IsEntryOf, IsRequest, line_with, line_shown}
+use Rattle.svc_vol.specs.declared.held_line.HeldLine.{HeldLine}
+use Rattle.svc_vol.specs.Value.{ListValue, held_at, unit_at}
+use Rattle.svc_vcl.specs.Listed.{slot_at, is_exposure, is_overtaken_in, is_version, victim_in}
+use Rattle.svc_vcl.specs.Described.{IsSlotOf, IsRequest, line_with, line_shown}
 use Rattle.svc_vcl.specs.Planned.{becomes_stale, is_copy_of, is_marked_anew, is_passed_in, is_unmarked_in, marked_where, own_bits}
-use Rattle.svc_vcl.proofs.Entries.{are_active, are_settled, exposed_is, overtaken_is, own_entry, victim_is}
+use Rattle.svc_vcl.proofs.Slots.{are_active, are_settled, exposed_is, overtaken_is, own_entry, victim_is}
 
 -- ---- how many tasks are left
 
@@ -31,9 +31,9 @@ walk_within e s v (suc n) len fits = elim (cases_Bool (e v)) [
   ]
 ]
 
-pub few_left : (active : List (Option Version)) (place : ℕ) → place < length active → unwrap_or (victim_in active place) (length active) ≤ length active
+pub few_left : (active : List (Option HeldLine)) (place : ℕ) → place < length active → unwrap_or (victim_in active place) (length active) ≤ length active
 few_left active place within =
-    walk_within (λ q. is_exposure (entry_at active q)) (λ q. is_version (entry_at active q)) (suc place) (length active - suc place) (length active) (omega (arith, within))
+    walk_within (λ q. is_exposure (slot_at active q)) (λ q. is_version (slot_at active q)) (suc place) (length active - suc place) (length active) (omega (arith, within))
 
 -- ---- truth values that imply each other are the same
 
@@ -64,7 +64,7 @@ not_true : (x : Bool) → not x ≡ true → x ≡ false
 not_true true e = sym e
 not_true false e = refl
 
-module _ (b : BusState) (t : LineTable) (a : ℕ) (list : Versions) (unit place : ℕ) (request : IsRequest b t a list unit place) where
+module _ (b : BusState) (t : LineTable) (a : ℕ) (list : ListValue) (unit place : ℕ) (request : IsRequest b t a list unit place) where
   pub left : unwrap_or (victim_in list.active place) (length list.active) ≡ survivors (bus_map b) place a
   left = ap₂ (λ (o : Option ℕ) (n : ℕ). unwrap_or o n) (victim_is b t a list unit place request) (request.described.places ∙ sym (length-tabulate {A = Row} (length b.units) (bus_row b)))
 
@@ -78,21 +78,21 @@ module _ (b : BusState) (t : LineTable) (a : ℕ) (list : Versions) (unit place 
   own_line : bus_line_at b place a ≡ b.lines unit a
   own_line = ap (λ u. b.lines u a) request.at_work
 
-  exposed_own : is_exposed (own_bits (entry_at list.active place)) ≡ is_exposed_line (bus_line_at b place a)
-  exposed_own = go (entry_at list.active place) ∙ exposed_is b a unit (entry_at list.active place) (own_entry b t a list unit place request) ∙ ap is_exposed_line (sym own_line)
+  exposed_own : is_exposed (own_bits (slot_at list.active place)) ≡ is_exposed_line (bus_line_at b place a)
+  exposed_own = go (slot_at list.active place) ∙ exposed_is b a unit (slot_at list.active place) (own_entry b t a list unit place request) ∙ ap is_exposed_line (sym own_line)
     where
-      go : (entry : Option Version) → is_exposed (own_bits entry) ≡ is_exposure entry
+      go : (entry : Option HeldLine) → is_exposed (own_bits entry) ≡ is_exposure entry
       go None = refl
       go (Some version) = refl
 
-  pub written_line : (value : ℕ) (bits : Bits) (overtaken : Bool) → bits ≡ stored (own_bits (entry_at list.active place)) overtaken
+  pub written_line : (value : ℕ) (bits : Bits) (overtaken : Bool) → bits ≡ after_store (own_bits (slot_at list.active place)) overtaken
       → overtaken ≡ is_overtaken_line b (survivors (bus_map b) place a) place a → (bus_write b place a value).lines unit a ≡ Some (line_with value bits)
   written_line value bits overtaken are passed =
       let here : (a == a) ≡ true = eq-eqb a a refl in
       let unit_same : (unit == get_or b.units place 0) ≡ true = eq-eqb unit (get_or b.units place 0) (sym request.at_work) in
       rw (here, unit_same) (written ∙ ap (λ x. Some (line_with value x)) (sym are))
     where
-      written : ◌≡◌ {A = Option BusLine} (Some (written_bus_line b (survivors (bus_map b) place a) place a value)) (Some (line_with value (stored (own_bits (entry_at list.active place)) overtaken)))
+      written : ◌≡◌ {A = Option BusLine} (Some (written_bus_line b (survivors (bus_map b) place a) place a value)) (Some (line_with value (after_store (own_bits (slot_at list.active place)) overtaken)))
       written = λ i. Some (record {
         value = value;
         store = true;
@@ -121,7 +121,7 @@ module _ (b : BusState) (t : LineTable) (a : ℕ) (list : Versions) (unit place 
     copy_stale : copies ≡ true → becomes_stale b place a other ≡ true
     copy_stale e =
         let found = any_witness (length list.committed) _ e in
-        let version = version_at list.committed found.0 in
+        let version = held_at list.committed found.0 in
         let only = request.described.only found.0 found.1 in
         let parts = and_parts _ _ found.2 in
         let tests = and_parts _ _ parts.0 in
@@ -136,9 +136,9 @@ module _ (b : BusState) (t : LineTable) (a : ℕ) (list : Versions) (unit place 
     earlier_stale : earlier ≡ true → becomes_stale b place a other ≡ true
     earlier_stale e =
         let found = any_witness place _ e in
-        go found.0 found.1 (entry_at list.active found.0) (request.described.active found.0 (let low = found.1 in let within = request.within in omega arith)) found.2
+        go found.0 found.1 (slot_at list.active found.0) (request.described.active found.0 (let low = found.1 in let within = request.within in omega arith)) found.2
       where
-        go : (q : ℕ) → q < place → (entry : Option Version) → IsEntryOf b a (get_or b.units q 0) entry → is_unmarked_in entry other ≡ true → becomes_stale b place a other ≡ true
+        go : (q : ℕ) → q < place → (entry : Option HeldLine) → IsSlotOf b a (get_or b.units q 0) entry → is_unmarked_in entry other ≡ true → becomes_stale b place a other ≡ true
         go q low None is test = absurd (true≢false (sym test))
         go q low (Some version) is test =
             let bits = bits_of version.line.bits in
@@ -155,8 +155,8 @@ module _ (b : BusState) (t : LineTable) (a : ℕ) (list : Versions) (unit place 
       copy_named commit clean =
           let found = request.described.each other known (ap is_committed_line held ∙ commit) in
           let only = request.described.only found.0 found.1 in
-          let bits = bits_of (version_at list.committed found.0).line.bits in
-          let same : line_shown (version_at list.committed found.0) ≡ l = some_line (sym only.held ∙ ap (λ u. b.lines u a) found.2 ∙ held) in
+          let bits = bits_of (held_at list.committed found.0).line.bits in
+          let same : line_shown (held_at list.committed found.0) ≡ l = some_line (sym only.held ∙ ap (λ u. b.lines u a) found.2 ∙ held) in
           let store : bits.store ≡ false = ap (λ (x : BusLine). x.store) same ∙ clean in
           let stale : bits.stale ≡ false = ap (λ (x : BusLine). x.stale) same ∙ fresh in
           let valid = (are_settled bits only.committed).valid in
@@ -176,12 +176,12 @@ module _ (b : BusState) (t : LineTable) (a : ℕ) (list : Versions) (unit place 
       earlier_named active below =
           let found = any_witness place _ below in
           let of_unit : get_or b.units found.0 0 ≡ other = eqb-true _ _ found.2 in
-          any_found place _ found.0 found.1 (go (entry_at list.active found.0) (subst (λ u. IsEntryOf b a u (entry_at list.active found.0)) of_unit (request.described.active found.0 (let low = found.1 in let within = request.within in omega arith))))
+          any_found place _ found.0 found.1 (go (slot_at list.active found.0) (subst (λ u. IsSlotOf b a u (slot_at list.active found.0)) of_unit (request.described.active found.0 (let low = found.1 in let within = request.within in omega arith))))
         where
           some_line : {x y : BusLine} → ◌≡◌ {A = Option BusLine} (Some x) (Some y) → x ≡ y
           some_line e = cc
 
-          go : (entry : Option Version) → IsEntryOf b a other entry → is_unmarked_in entry other ≡ true
+          go : (entry : Option HeldLine) → IsSlotOf b a other entry → is_unmarked_in entry other ≡ true
           go None is = absurd (true≢false (sym (ap is_active_line held ∙ ap not active) ∙ is))
           go (Some version) is =
               let same : line_shown version ≡ l = some_line (sym is.held ∙ held) in

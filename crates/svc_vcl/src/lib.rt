@@ -7,6 +7,6 @@ mod search;
 pub mod write;
 
 pub use read::{ReadPlan, plan_read};
-pub use search::newest as newest_version;
+pub use search::newest_version;
 pub use svc_base::Served;
 pub use write::{STALE_CAPACITY, WritePlan, plan_write};

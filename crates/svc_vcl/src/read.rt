@@ -11,7 +11,7 @@ ghost use Rattle.svc_bus_laws.specs.BusView.{bus_by_version, bus_line_at, bus_su
 ghost use Rattle.svc_vcl.specs.Described.{IsReadRequest, line_with};
 ghost use Rattle.svc_vcl.specs.Planned.{supplier_of};
 
-use crate::search::{is_overtaken, nearest, newest, reusable};
+use crate::search::{is_overtaken, nearest_version, newest_version, reusable_copy};
 use svc_base::{Served, UnitId};
 use svc_line::LineBits;
 use svc_vol::VersionList;
@@ -38,13 +38,13 @@ fn supplier(list: &VersionList, place: usize, spill: Option<u32>, backing: u32) 
     ensures value { (b : BusState) (t : LineTable) (a unit : ℕ) → IsReadRequest b t a list.now unit place spill backing
         → bus_supplied b place a (supplier_of result.0) ≡ Some result.1 }
 {
-    if let Some(version) = nearest(list.active(), place) {
+    if let Some(version) = nearest_version(list.active(), place) {
         return (Served::Version(version.unit), version.line.value);
     }
     if let Some(value) = spill {
         return (Served::Spill, value);
     }
-    match newest(list.committed()) {
+    match newest_version(list.committed()) {
         Some(version) => (Served::Committed(version.unit), version.line.value),
         None => (Served::Memory, backing),
     }
@@ -83,7 +83,7 @@ pub fn plan_read(
             bits: own.line.bits,
         };
     }
-    if let Some(copy) = reusable(list.committed(), unit) {
+    if let Some(copy) = reusable_copy(list.committed(), unit) {
         return ReadPlan {
             served: Served::Reuse,
             value: copy.line.value,

@@ -1,33 +1,34 @@
 //! Searches in a version list: the nearest version, the victim, and what a store overtakes.
 
 ghost use Rattle.std.specs.Prelude.{◌≡◌, ◌<◌, ◌≤◌, length};
-ghost use Rattle.svc_vcl.specs.Listed.{entry_at, is_exposure, is_overtaken_in, is_version, nearest_version_in, next_version_in, newest_version_in, reusable_version_in, victim_in};
+ghost use Rattle.svc_vcl.specs.Listed.{is_exposure, is_overtaken_in, is_version, nearest_version_in, next_version_in};
+ghost use Rattle.svc_vcl.specs.Listed.{newest_version_in, reusable_copy_in, victim_in};
 
 use svc_base::UnitId;
-use svc_vol::Version;
+use svc_vol::HeldLine;
 
-/// The task has a version: an active line that it stored to.
-pub(crate) fn is_version(entry: &Option<Version>) -> bool
-    ensures { result ≡ is_version entry.now }
+/// The task of the slot has a version: an active line that it stored to.
+pub(crate) fn is_version(slot: &Option<HeldLine>) -> bool
+    ensures { result ≡ is_version slot.now }
 {
-    match entry {
+    match slot {
         Some(version) => version.line.bits.is_dirty(),
         None => false,
     }
 }
 
-/// The task read the word before it wrote it.
-pub(crate) fn is_exposure(entry: &Option<Version>) -> bool
-    ensures { result ≡ is_exposure entry.now }
+/// The task of the slot read the word before it wrote it.
+pub(crate) fn is_exposure(slot: &Option<HeldLine>) -> bool
+    ensures { result ≡ is_exposure slot.now }
 {
-    match entry {
+    match slot {
         Some(version) => version.line.bits.is_exposed(),
         None => false,
     }
 }
 
 /// The version of the nearest earlier task that has one.
-pub(crate) fn nearest(active: &[Option<Version>], place: usize) -> Option<Version>
+pub(crate) fn nearest_version(active: &[Option<HeldLine>], place: usize) -> Option<HeldLine>
     requires { place ≤ length active.now }
     ensures { result ≡ nearest_version_in active.now place }
 {
@@ -40,8 +41,12 @@ pub(crate) fn nearest(active: &[Option<Version>], place: usize) -> Option<Versio
     nearest
 }
 
-/// The version of the nearest later task that has one, of the first `count` tasks.
-pub(crate) fn next(active: &[Option<Version>], count: usize, place: usize) -> Option<Version>
+/// The version of the nearest later task that has one, among the first `count` tasks.
+pub(crate) fn next_version(
+    active: &[Option<HeldLine>],
+    count: usize,
+    place: usize,
+) -> Option<HeldLine>
     requires within { place < length active.now }
     requires few { count ≤ length active.now }
     ensures { result ≡ next_version_in active.now count place }
@@ -54,9 +59,9 @@ pub(crate) fn next(active: &[Option<Version>], count: usize, place: usize) -> Op
     None
 }
 
-/// The place of the task that a write squashes: of the tasks after the writer's, in order, the first that read the word
-/// before it wrote it, unless an earlier one has a version.
-pub(crate) fn victim(active: &[Option<Version>], place: usize) -> Option<usize>
+/// The place of the task that a write squashes. It is the first after the writer's that read the word before it wrote
+/// it, unless a task between the two has a version.
+pub(crate) fn victim(active: &[Option<HeldLine>], place: usize) -> Option<usize>
     requires { place < length active.now }
     ensures { result ≡ victim_in active.now place }
 {
@@ -71,8 +76,8 @@ pub(crate) fn victim(active: &[Option<Version>], place: usize) -> Option<usize>
     None
 }
 
-/// A task after the place has a version, one of the first `count` tasks.
-pub(crate) fn is_overtaken(active: &[Option<Version>], count: usize, place: usize) -> bool
+/// One of the first `count` tasks stands after the place and has a version.
+pub(crate) fn is_overtaken(active: &[Option<HeldLine>], count: usize, place: usize) -> bool
     requires { count ≤ length active.now }
     ensures { result ≡ is_overtaken_in active.now count place }
 {
@@ -84,7 +89,7 @@ pub(crate) fn is_overtaken(active: &[Option<Version>], count: usize, place: usiz
 }
 
 /// The newest committed version.
-pub fn newest(committed: &[Version]) -> Option<Version>
+pub fn newest_version(committed: &[HeldLine]) -> Option<HeldLine>
     ensures { result ≡ newest_version_in committed.now }
 {
     let mut newest = None;
@@ -97,13 +102,13 @@ pub fn newest(committed: &[Version]) -> Option<Version>
 }
 
 /// The unit's committed copy, if no later store has made it stale.
-pub(crate) fn reusable(committed: &[Version], unit: UnitId) -> Option<Version>
-    ensures { result ≡ reusable_version_in committed.now unit.0 }
+pub(crate) fn reusable_copy(committed: &[HeldLine], unit: UnitId) -> Option<HeldLine>
+    ensures { result ≡ reusable_copy_in committed.now unit.0 }
 {
     for place in 0..committed.len() {
-        let version = committed[place];
-        if version.unit.0 == unit.0 && version.line.bits.is_reusable() {
-            return Some(version);
+        let held = committed[place];
+        if held.unit.0 == unit.0 && held.line.bits.is_reusable() {
+            return Some(held);
         }
     }
     None

@@ -1,6 +1,7 @@
 //! The plan of a write.
 
-ghost use Rattle.std.specs.Prelude.{◌≡◌, ◌≢◌, ◌<◌, ◌≤◌, ◌+◌, ◌++◌, ◌||◌, ℕ, Bool, Option, Some, true, is_some, length, option_map};
+ghost use Rattle.std.specs.Prelude.{◌≡◌, ◌≢◌, ◌<◌, ◌≤◌, ◌+◌, ◌++◌, ◌||◌, ℕ, Bool, Option, Some, true, is_some, length};
+ghost use Rattle.std.specs.Prelude.{option_map};
 ghost use Rattle.svc_line.specs.Bits.{bits_of};
 ghost use Rattle.svc_bus_laws.specs.LineTable.{LineTable};
 ghost use Rattle.svc_bus_laws.specs.Versioned.{survivors, victim};
@@ -11,16 +12,17 @@ ghost use Rattle.svc_bus_laws.specs.BusView.{bus_line_at, bus_map};
 ghost use Rattle.svc_links_laws.specs.LinkSteps.{place_after, place_before, unit_of};
 ghost use Rattle.svc_vcl.specs.Listed.{nearest_version_in};
 ghost use Rattle.svc_vcl.specs.Described.{IsRequest, line_with};
-ghost use Rattle.svc_vcl.specs.Planned.{becomes_stale, copies_in, is_fresh_copy, is_named, changed_in, marked_where, own_bits, passed_in, relinked_in, unit_in, unmarked_entry};
+ghost use Rattle.svc_vcl.specs.Planned.{becomes_stale, copies_in, is_fresh_copy, is_named, changed_in, marked_where};
+ghost use Rattle.svc_vcl.specs.Planned.{own_bits, passed_in, relinked_in, unit_in, unmarked_line};
 
-use crate::search::{is_overtaken, nearest, next, victim};
+use crate::search::{is_overtaken, nearest_version, next_version, victim};
 use arrayvec::ArrayVec;
 use bitflags::Flags;
 use svc_base::UnitId;
 use svc_line::LineBits;
-use svc_vol::{CAPACITY, Version, VersionList};
+use svc_vol::{CAPACITY, HeldLine, VersionList};
 
-/// How many lines can become stale at most, as far as the types say: all of a version list.
+/// The types allow at most this many lines to become stale: all of a version list.
 pub const STALE_CAPACITY: usize = 2 * CAPACITY;
 
 /// What a write does, apart from the lines of other units that change.
@@ -30,10 +32,9 @@ pub struct WritePlan {
     pub victim: Option<usize>,
     /// The bits of the unit's line after the write.
     pub bits: LineBits,
-    /// The unit that the unit's line links to after the write: that of the next newer version among the tasks that are
-    /// left.
+    /// The link of the unit's line after the write: the unit of the next newer version among the tasks that are left.
     pub next: Option<UnitId>,
-    /// The unit whose version is the nearest older one among active tasks. Its line is to link to the writer's unit.
+    /// The unit with the nearest older version of an active task. The write links that version to the writer's unit.
     pub previous: Option<UnitId>,
 }
 
@@ -47,60 +48,64 @@ fn is_stale(bits: LineBits) -> bool
 
 // The bits of the unit's active line, or no bits if it has no such line.
 #[tactic(auto, unfolding(svc_line::specs::Bits::bits_of))]
-fn own_bits(entry: &Option<Version>) -> LineBits
-    ensures { bits_of result ≡ own_bits entry.now }
+fn own_bits(slot: &Option<HeldLine>) -> LineBits
+    ensures { bits_of result ≡ own_bits slot.now }
 {
-    match entry {
-        Some(version) => version.line.bits,
+    match slot {
+        Some(own) => own.line.bits,
         None => LineBits::empty(),
     }
 }
 
-// The version is a clean line on which T is clear.
-fn is_fresh_copy(version: &Version) -> bool
-    ensures { result ≡ is_fresh_copy version.now }
+// The line is clean, and T is clear on it.
+fn is_fresh_copy(held: &HeldLine) -> bool
+    ensures { result ≡ is_fresh_copy held.now }
 {
-    !version.line.bits.is_dirty() && !is_stale(version.line.bits)
+    !held.line.bits.is_dirty() && !is_stale(held.line.bits)
 }
 
 // Lists the committed copies that become stale.
-fn list_copies(stale: &mut ArrayVec<Version, STALE_CAPACITY>, committed: &[Version], writer: UnitId)
+fn list_copies(
+    stale: &mut ArrayVec<HeldLine, STALE_CAPACITY>,
+    committed: &[HeldLine],
+    writer: UnitId,
+)
     requires room { length stale.old.items + length committed.now ≤ STALE_CAPACITY }
     ensures size { length stale.new.items ≤ length stale.old.items + length committed.now }
     ensures listed { stale.new.items ≡ stale.old.items ++ copies_in committed.now writer.0 }
 {
-    for version in committed {
-        if version.unit.0 != writer.0 && is_fresh_copy(version) {
-            stale.push(*version);
+    for held in committed {
+        if held.unit.0 != writer.0 && is_fresh_copy(held) {
+            stale.push(*held);
         }
     }
 }
 
-// The entry's line, if T is clear.
-fn unmarked(entry: &Option<Version>) -> Option<Version>
-    ensures { result ≡ unmarked_entry entry.now }
+// The line in a slot, if T is clear on it.
+fn unmarked_line(slot: &Option<HeldLine>) -> Option<HeldLine>
+    ensures { result ≡ unmarked_line slot.now }
 {
-    match entry {
-        Some(version) if !is_stale(version.line.bits) => Some(*version),
+    match slot {
+        Some(held) if !is_stale(held.line.bits) => Some(*held),
         _ => None,
     }
 }
 
 // Lists the lines of earlier tasks that become stale.
-fn list_earlier(stale: &mut ArrayVec<Version, STALE_CAPACITY>, earlier: &[Option<Version>])
+fn list_earlier(stale: &mut ArrayVec<HeldLine, STALE_CAPACITY>, earlier: &[Option<HeldLine>])
     requires room { length stale.old.items + length earlier.now ≤ STALE_CAPACITY }
     ensures size { length stale.new.items ≤ length stale.old.items + length earlier.now }
     ensures listed { stale.new.items ≡ stale.old.items ++ passed_in earlier.now }
 {
-    for entry in earlier {
-        if let Some(version) = unmarked(entry) {
-            stale.push(version);
+    for slot in earlier {
+        if let Some(held) = unmarked_line(slot) {
+            stale.push(held);
         }
     }
 }
 
 // Lists the version, if T is set on it already.
-fn list_previous(stale: &mut ArrayVec<Version, STALE_CAPACITY>, previous: Option<Version>)
+fn list_previous(stale: &mut ArrayVec<HeldLine, STALE_CAPACITY>, previous: Option<HeldLine>)
     requires room { length stale.old.items < STALE_CAPACITY }
     ensures listed { stale.new.items ≡ stale.old.items ++ relinked_in previous }
 {
@@ -112,7 +117,7 @@ fn list_previous(stale: &mut ArrayVec<Version, STALE_CAPACITY>, previous: Option
 }
 
 // The version's unit.
-fn unit_of(version: Option<Version>) -> Option<UnitId>
+fn unit_of(version: Option<HeldLine>) -> Option<UnitId>
     ensures { option_map (λ unit. unit.0) result ≡ unit_in version }
 {
     match version {
@@ -124,14 +129,14 @@ fn unit_of(version: Option<Version>) -> Option<UnitId>
 /// The plan of a write by the unit of the task at a place: the victim, if any, the bits of the unit's line after it,
 /// and the links of that line and of the version before it. (A write purges the word, so no committed version is left.)
 ///
-/// `changed` becomes the lines of other units that change, as they were before: the committed copies and the lines of
-/// earlier tasks, which become stale, and that of the version before, which is linked. It is filled in place, since it
-/// is large.
+/// `changed` is large, so it is filled in place. It gets the lines of other units that the write changes, as they were
+/// before it: the committed copies and the lines of earlier tasks, which become stale, and the version before, which is
+/// linked.
 pub fn plan_write(
     list: &VersionList,
     unit: UnitId,
     place: usize,
-    changed: &mut ArrayVec<Version, STALE_CAPACITY>,
+    changed: &mut ArrayVec<HeldLine, STALE_CAPACITY>,
 ) -> WritePlan
     requires { place < length list.now.active }
     ensures victim { (b : BusState) (t : LineTable) (a : ℕ) → IsRequest b t a list.now unit.0 place
@@ -163,8 +168,8 @@ pub fn plan_write(
     let left = victim.unwrap_or(active.len());
     let overtaken = is_overtaken(active, left, place);
     let bits = own_bits(&active[place]).on_store(overtaken);
-    let next = unit_of(next(active, left, place));
-    let nearest = nearest(active, place);
+    let next = unit_of(next_version(active, left, place));
+    let nearest = nearest_version(active, place);
     changed.clear();
     list_copies(changed, list.committed(), unit);
     list_earlier(changed, &active[..place]);

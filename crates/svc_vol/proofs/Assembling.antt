@@ -3,17 +3,17 @@ use Rattle.std.proofs.Common.{◌≡◌, ◌≢◌, ◌⊎◌, ◌∙◌, refl, 
 use Rattle.std.proofs.lemmas.Bool.{cases_Bool, cases_lt, cases_eq}
 use Rattle.std.proofs.lemmas.List.{get_or_append_left, get_or-append_right}
 use Rattle.svc_line.specs.Bits.{is_committed}
-use Rattle.svc_line.specs.Line.{SeenLine, seen}
+use Rattle.svc_line.specs.Line.{SeenLine, seen_line}
 use Rattle.svc_cache.specs.Lines.{is_committed_line}
 use Rattle.svc_links_laws.specs.LinkOrder.{reaches}
 use Rattle.svc_links_laws.specs.Walks.{IsWalk}
 use Rattle.svc_links_laws.proofs.Orders.{reaches_above}
 use Rattle.svc_links_laws.proofs.Walking.{walk_dirty, walk_has_all, walk_once, walk_ordered}
-use Rattle.svc_vol.specs.declared.version.Version.{Version}
+use Rattle.svc_vol.specs.declared.held_line.HeldLine.{HeldLine}
 use Rattle.svc_vol.specs.Lines.{UnitLines, is_committed_version, is_older_line, links_of, versions_of, AreValid, IsRanked}
 use Rattle.svc_vol.specs.Listed.{is_copy, AreCopies, ListsAfter}
 use Rattle.svc_vol.specs.Walked.{AreWalked}
-use Rattle.svc_vol.specs.Versions.{no_version, unit_at, version_at, AreCommitted, IsCommittedVersion}
+use Rattle.svc_vol.specs.Value.{no_held_line, unit_at, held_at, AreCommitted, IsCommittedHeldLine}
 use Rattle.svc_vol.proofs.Fewness.{few_numbers}
 
 -- ---- a walk
@@ -79,7 +79,7 @@ version_settled l valid version = ap (λ v. v && l.bits.commit) valid ∙ go l.b
     go true y e = refl
     go false y e = e
 
-module _ (lines : UnitLines) (n : ℕ) (copies : List Version) (order : List ℕ) (clean : AreCopies lines n copies) (walked : AreWalked lines n order) (ranked : IsRanked n lines) where
+module _ (lines : UnitLines) (n : ℕ) (copies : List HeldLine) (order : List ℕ) (clean : AreCopies lines n copies) (walked : AreWalked lines n order) (ranked : IsRanked n lines) where
   -- a clean line's unit is not one of the order
   crossed : (k i : ℕ) → k < length copies → i < length order → unit_at copies k ≡ get_or order i 0 → ⊥
   crossed k i h j same = never_both (lines (unit_at copies k)) (clean.clean k h) (ap (versions_of lines) same ∙ walked.only i j)
@@ -132,40 +132,40 @@ module _ (lines : UnitLines) (n : ℕ) (copies : List Version) (order : List ℕ
 
   -- ---- the whole list
 
-  module _ (versions : List Version) (valid : AreValid lines) (lists : ListsAfter lines copies order (length order) versions) where
+  module _ (versions : List HeldLine) (valid : AreValid lines) (lists : ListsAfter lines copies order (length order) versions) where
     size : length versions ≡ length copies + length order
     size = ap length lists.are ∙ length-append copies lists.later ∙ ap (λ m. length copies + m) lists.size
 
-    at_copy : (k : ℕ) → k < length copies → version_at versions k ≡ version_at copies k
-    at_copy k h = ap (λ (vs : List Version). version_at vs k) lists.are ∙ get_or_append_left copies lists.later no_version k h
+    at_copy : (k : ℕ) → k < length copies → held_at versions k ≡ held_at copies k
+    at_copy k h = ap (λ (vs : List HeldLine). held_at vs k) lists.are ∙ get_or_append_left copies lists.later no_held_line k h
 
-    at_later : (k : ℕ) → length copies ≤ k → version_at versions k ≡ version_at lists.later (k - length copies)
-    at_later k h = ap (λ (vs : List Version). version_at vs k) lists.are ∙ get_or-append_right copies lists.later (length copies) k no_version refl h
+    at_later : (k : ℕ) → length copies ≤ k → held_at versions k ≡ held_at lists.later (k - length copies)
+    at_later k h = ap (λ (vs : List HeldLine). held_at vs k) lists.are ∙ get_or-append_right copies lists.later (length copies) k no_held_line refl h
 
     copy_unit : (k : ℕ) → k < length copies → unit_at versions k ≡ unit_at copies k
-    copy_unit k h = ap (λ (v : Version). v.unit.0) (at_copy k h)
+    copy_unit k h = ap (λ (v : HeldLine). v.unit.0) (at_copy k h)
 
     later_unit : (k : ℕ) → k < length versions → length copies ≤ k → unit_at versions k ≡ get_or order (k - length copies) 0
-    later_unit k h low = ap (λ (v : Version). v.unit.0) (at_later k low) ∙ lists.units (k - length copies) (past k (let e = size in omega (arith, h, e)) low)
+    later_unit k h low = ap (λ (v : HeldLine). v.unit.0) (at_later k low) ∙ lists.units (k - length copies) (past k (let e = size in omega (arith, h, e)) low)
 
     in_order : (k : ℕ) → k < length versions → length copies ≤ k → k - length copies < length order
     in_order k h low = past k (let e = size in omega (arith, h, e)) low
 
-    only : (k : ℕ) → k < length versions → IsCommittedVersion lines n (version_at versions k)
+    only : (k : ℕ) → k < length versions → IsCommittedHeldLine lines n (held_at versions k)
     only k h = elim (cases_lt k (length copies)) [
-      | inl low ↦ subst (IsCommittedVersion lines n) (sym (at_copy k low)) (record {
+      | inl low ↦ subst (IsCommittedHeldLine lines n) (sym (at_copy k low)) (record {
         within = clean.within k low;
         held = clean.held k low;
-        committed = copy_settled (seen (version_at copies k).line) (ap is_copy (sym (clean.held k low)) ∙ clean.clean k low);
+        committed = copy_settled (seen_line (held_at copies k).line) (ap is_copy (sym (clean.held k low)) ∙ clean.clean k low);
       })
       | inr high ↦
           let i = in_order k h high in
           let held = lists.held (k - length copies) i in
           let version : versions_of lines (unit_at lists.later (k - length copies)) ≡ true = ap (versions_of lines) (lists.units (k - length copies) i) ∙ walked.only (k - length copies) i in
-          subst (IsCommittedVersion lines n) (sym (at_later k high)) (record {
+          subst (IsCommittedHeldLine lines n) (sym (at_later k high)) (record {
             within = ranked.within _ version;
             held = held;
-            committed = version_settled (seen (version_at lists.later (k - length copies)).line) (valid.valid _ _ held) (ap is_committed_version (sym held) ∙ version);
+            committed = version_settled (seen_line (held_at lists.later (k - length copies)).line) (valid.valid _ _ held) (ap is_committed_version (sym held) ∙ version);
           })
     ]
 

@@ -1,4 +1,4 @@
 pub mod Lines
-pub mod Versions
+pub mod Value
 pub mod Walked
 pub mod Listed

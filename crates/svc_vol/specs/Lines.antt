@@ -1,11 +1,14 @@
 -- The lines of one word by unit, and which committed version is older.
-use Rattle.std.specs.Prelude.{◌≡◌, ℕ, ◌+◌, ◌<◌, ◌≤◌, ◌^◌, Bool, true, false, ◌&&◌, Option, Some, None, List, length, map, get_or}
+use Rattle.std.specs.Prelude.{◌≡◌, ℕ, ◌+◌, ◌<◌, ◌≤◌, ◌^◌, Bool, true, false, ◌&&◌, Option, Some, None, List, length}
+use Rattle.std.specs.Prelude.{map, get_or, option_map}
 use Rattle.std.specs.List.{sum_by}
-use Rattle.svc_line.specs.Line.{SeenLine}
+use Rattle.svc_line.specs.Line.{SeenLine, seen_line}
+use Rattle.svc_line.specs.declared.line.Line.{Line}
 use Rattle.svc_cache.specs.declared.probes.Probes.{Probes}
 use Rattle.svc_cache.specs.Places.{CacheValue, line_of}
 use Rattle.svc_links_laws.specs.LinkOrder.{reaches}
 use Rattle.svc_links_laws.specs.Walks as chain
+use Rattle.svc_vol.specs.declared.list.TheConstants.{CAPACITY}
 
 -- the line of one word in each unit's cache
 abbrev pub UnitLines : Type 0
@@ -14,6 +17,10 @@ UnitLines = (unit : ℕ) → Option SeenLine
 -- the lines of the list's places
 abbrev pub lines_at : List (Option SeenLine) → UnitLines
 lines_at lines unit = get_or lines unit None
+
+-- the lines that a search found, each at its unit's place
+abbrev pub lines_found : List (Option Line) → UnitLines
+lines_found found = lines_at (map (option_map seen_line) found)
 
 -- the lines of a word in these caches, each unit's cache at its place
 abbrev pub lines_in : List CacheValue → (word : ℕ) → UnitLines
@@ -39,11 +46,19 @@ links_of lines unit = link_of (lines unit)
 -- of n units: both have a committed version of the word, and links lead from the first's to the second's, so it is
 -- older
 abbrev pub is_older_line : (units : ℕ) → UnitLines → (unit other : ℕ) → Bool
-is_older_line units lines unit other = versions_of lines unit && reaches (versions_of lines) (links_of lines) units unit other
+is_older_line units lines unit other =
+    versions_of lines unit && reaches (versions_of lines) (links_of lines) units unit other
 
 -- the links of the word's committed versions make one chain
 abbrev pub IsRanked : (units : ℕ) → UnitLines → Type 0
 IsRanked units lines = chain.IsRanked units (versions_of lines) (links_of lines)
+
+-- the word's lines can be listed: a list has a place for each cache, each active task's unit has a cache, and the links
+-- of the committed versions make one chain
+pub record CanBeListed (caches : List CacheValue) (units : List ℕ) (word : ℕ) : Type 0 where
+  pub few : length caches ≤ CAPACITY
+  pub known : (place : ℕ) → place < length units → get_or units place 0 < length caches
+  pub ranked : IsRanked (length caches) (lines_in caches word)
 
 -- every line has V
 pub record AreValid (lines : UnitLines) : Type 0 where

@@ -14,4 +14,5 @@ pub record AreWalked (lines : UnitLines) (units : ℕ) (list : List ℕ) : Type 
   pub all : (u : ℕ) → versions_of lines u ≡ true → StandsIn list u
   pub only : (i : ℕ) → i < length list → versions_of lines (get_or list i 0) ≡ true
   pub once : (i j : ℕ) → i < length list → j < length list → get_or list i 0 ≡ get_or list j 0 → i ≡ j
-  pub oldest_first : (i j : ℕ) → i < j → j < length list → is_older_line units lines (get_or list j 0) (get_or list i 0) ≡ false
+  pub oldest_first : (i j : ℕ) → i < j → j < length list
+      → is_older_line units lines (get_or list j 0) (get_or list i 0) ≡ false

@@ -2,9 +2,9 @@
 //! HPCA 1998): its valid lines in all caches, in the order of their tasks.
 #![tactic(auto)]
 
+pub mod held_line;
 pub mod list;
-pub mod version;
 mod walk;
 
+pub use held_line::HeldLine;
 pub use list::{CAPACITY, VersionList};
-pub use version::Version;

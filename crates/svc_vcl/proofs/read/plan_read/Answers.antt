@@ -1,10 +1,10 @@
 use Rattle.std.proofs.Common.{◌≡◌, ◌∙◌, sym, ap, ap₂, Some, None, length, arith}
 use Rattle.svc_line.specs.Bits.{bits_of}
 use Rattle.svc_bus_laws.specs.BusSteps.{is_overtaken_line}
-use Rattle.svc_vcl.specs.Listed.{entry_at, is_overtaken_in, reusable_version_in}
+use Rattle.svc_vcl.specs.Listed.{slot_at, is_overtaken_in, reusable_copy_in}
 use Rattle.svc_vcl.specs.Planned.{supplier_of}
 use Rattle.svc_bus_laws.specs.Supplier.{Hit, Reuse}
-use Rattle.svc_vcl.proofs.Entries.{overtaken_is}
+use Rattle.svc_vcl.proofs.Slots.{overtaken_is}
 use Rattle.svc_vcl.proofs.ReadPlans.{fill_line, fill_supplier, hit_supplier, hit_value, reuse_line, reuse_supplier, reuse_valid, reuse_value, view_is}
 use Rattle.svc_vcl.proofs.read.plan_read.Goals as goal
 
@@ -12,50 +12,50 @@ pub returns-in-Some-clause-value : goal.returns-in-Some-clause-value
 returns-in-Some-clause-value c = λ b t a read.
     let list = c.args.list.now in
     let own = c.in-Some.own in
-    let entry : entry_at list.active c.args.place ≡ Some own = ap (λ active. entry_at active c.args.place) (sym c.active.ensures.lines) ∙ c.in-Some.is in
+    let entry : slot_at list.active c.args.place ≡ Some own = ap (λ active. slot_at active c.args.place) (sym c.active.ensures.lines) ∙ c.in-Some.is in
     view_is b t a list c.args.unit.0 c.args.place c.args.spill c.args.backing read Hit own.line.value
     (hit_supplier b t a list c.args.unit.0 c.args.place c.args.spill c.args.backing read own entry)
     (hit_value b t a list c.args.unit.0 c.args.place c.args.spill c.args.backing read own entry)
 
 -- the task has no active line, and its unit has a copy of the word
-unowned : (c : goal.After-on_reuse) → entry_at c.args.list.now.active c.args.place ≡ None
-unowned c = ap (λ active. entry_at active c.args.place) (sym c.active.ensures.lines) ∙ c.in_default.is
+unowned : (c : goal.After-on_reuse) → slot_at c.args.list.now.active c.args.place ≡ None
+unowned c = ap (λ active. slot_at active c.args.place) (sym c.active.ensures.lines) ∙ c.in_default.is
 
-copied : (c : goal.After-on_reuse) → reusable_version_in c.args.list.now.committed c.args.unit.0 ≡ Some c.in-Some-reusable.copy
-copied c = ap (λ committed. reusable_version_in committed c.args.unit.0) (sym c.committed.ensures.lines) ∙ sym c.reusable.ensures ∙ c.in-Some-reusable.is
+copied : (c : goal.After-on_reuse) → reusable_copy_in c.args.list.now.committed c.args.unit.0 ≡ Some c.in-Some-reusable_copy.copy
+copied c = ap (λ committed. reusable_copy_in committed c.args.unit.0) (sym c.committed.ensures.lines) ∙ sym c.reusable_copy.ensures ∙ c.in-Some-reusable_copy.is
 
-pub returns-in-Some-reusable-clause-served : goal.returns-in-Some-reusable-clause-served
-returns-in-Some-reusable-clause-served c = λ b t a read.
+pub returns-in-Some-reusable_copy-clause-served : goal.returns-in-Some-reusable_copy-clause-served
+returns-in-Some-reusable_copy-clause-served c = λ b t a read.
     let list = c.args.list.now in
-    let copy = c.in-Some-reusable.copy in
+    let copy = c.in-Some-reusable_copy.copy in
     reuse_supplier b t a list c.args.unit.0 c.args.place c.args.spill c.args.backing read (unowned c) copy (copied c)
 
-pub returns-in-Some-reusable-clause-value : goal.returns-in-Some-reusable-clause-value
-returns-in-Some-reusable-clause-value c = λ b t a read.
+pub returns-in-Some-reusable_copy-clause-value : goal.returns-in-Some-reusable_copy-clause-value
+returns-in-Some-reusable_copy-clause-value c = λ b t a read.
     let list = c.args.list.now in
-    let copy = c.in-Some-reusable.copy in
+    let copy = c.in-Some-reusable_copy.copy in
     view_is b t a list c.args.unit.0 c.args.place c.args.spill c.args.backing read Reuse copy.line.value
     (reuse_supplier b t a list c.args.unit.0 c.args.place c.args.spill c.args.backing read (unowned c) copy (copied c))
     (reuse_value b t a list c.args.unit.0 c.args.place c.args.spill c.args.backing read (unowned c) copy (copied c))
 
-pub returns-in-Some-reusable-clause-line : goal.returns-in-Some-reusable-clause-line
-returns-in-Some-reusable-clause-line c = λ b t a read.
+pub returns-in-Some-reusable_copy-clause-line : goal.returns-in-Some-reusable_copy-clause-line
+returns-in-Some-reusable_copy-clause-line c = λ b t a read.
     let list = c.args.list.now in
-    let copy = c.in-Some-reusable.copy in
+    let copy = c.in-Some-reusable_copy.copy in
     reuse_line b t a list c.args.unit.0 c.args.place c.args.spill c.args.backing read (unowned c) copy (copied c) (bits_of c.on_reuse.result) c.on_reuse.ensures
 
-pub returns-in-Some-reusable-clause-valid : goal.returns-in-Some-reusable-clause-valid
-returns-in-Some-reusable-clause-valid c = λ b t a read.
+pub returns-in-Some-reusable_copy-clause-valid : goal.returns-in-Some-reusable_copy-clause-valid
+returns-in-Some-reusable_copy-clause-valid c = λ b t a read.
     let list = c.args.list.now in
-    let copy = c.in-Some-reusable.copy in
+    let copy = c.in-Some-reusable_copy.copy in
     reuse_valid b t a list c.args.unit.0 c.args.place c.args.spill c.args.backing read (unowned c) copy (copied c) (bits_of c.on_reuse.result) c.on_reuse.ensures
 
 -- the task has no active line, and its unit no copy
-unread : (c : goal.After-on_load) → entry_at c.args.list.now.active c.args.place ≡ None
-unread c = ap (λ active. entry_at active c.args.place) (sym c.active.ensures.lines) ∙ c.in_default.is
+unread : (c : goal.After-on_load) → slot_at c.args.list.now.active c.args.place ≡ None
+unread c = ap (λ active. slot_at active c.args.place) (sym c.active.ensures.lines) ∙ c.in_default.is
 
-uncopied : (c : goal.After-on_load) → reusable_version_in c.args.list.now.committed c.args.unit.0 ≡ None
-uncopied c = ap (λ committed. reusable_version_in committed c.args.unit.0) (sym c.committed.ensures.lines) ∙ sym c.reusable.ensures ∙ c.in_default-reusable.is
+uncopied : (c : goal.After-on_load) → reusable_copy_in c.args.list.now.committed c.args.unit.0 ≡ None
+uncopied c = ap (λ committed. reusable_copy_in committed c.args.unit.0) (sym c.committed.ensures.lines) ∙ sym c.reusable_copy.ensures ∙ c.in_default-reusable_copy.is
 
 pub returns-clause-served : goal.returns-clause-served
 returns-clause-served c = λ b t a read.

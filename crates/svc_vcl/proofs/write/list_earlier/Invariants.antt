@@ -2,8 +2,8 @@ use Rattle.std.proofs.Common.{◌≡◌, ◌≤◌, ◌+◌, ◌++◌, length, t
 use Rattle.svc_vcl.specs.Planned.{passed_in}
 use Rattle.svc_vcl.proofs.write.list_earlier.Given as goal
 
-abbrev pub invariant-loop-entry : goal.invariant-loop-entry
-invariant-loop-entry l = record {
-  size : length l.stale.items ≤ length l.initial.stale.items + l.entry-index;
-  listed : l.stale.items ≡ l.initial.stale.items ++ passed_in (take l.entry-index l.earlier);
+abbrev pub invariant-loop-slot : goal.invariant-loop-slot
+invariant-loop-slot l = record {
+  size : length l.stale.items ≤ length l.initial.stale.items + l.slot-index;
+  listed : l.stale.items ≡ l.initial.stale.items ++ passed_in (take l.slot-index l.earlier);
 }

@@ -1,6 +1,6 @@
 use Rattle.std.proofs.Common.{◌∙◌, ◌<◌, sym, ap, length, map, option_map, inl, inr, arith, below_more, true≢false, rules}
 use Rattle.std.proofs.lemmas.Bool.{cases_Bool}
-use Rattle.svc_line.specs.Line.{seen}
+use Rattle.svc_line.specs.Line.{seen_line}
 use Rattle.svc_links_laws.proofs.Walking.{walk_begins}
 use Rattle.svc_vol.specs.Lines.{is_committed_version, lines_at, links_of, versions_of}
 use Rattle.svc_vol.proofs.Finding.{line_at}
@@ -17,7 +17,7 @@ loop-place-preserved c = elim c.else-is_version.branch [
 pub returns : goal.returns
 returns c = λ u.
     let found = c.args.found.now in
-    let lines = lines_at (map (option_map seen) found) in
+    let lines = lines_at (map (option_map seen_line) found) in
     elim (cases_Bool (versions_of lines u)) [
       | inr clean ↦ clean
       | inl version ↦

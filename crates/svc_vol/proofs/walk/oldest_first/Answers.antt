@@ -1,7 +1,7 @@
 use Rattle.std.proofs.Common.{◌≡◌, ◌+◌, ◌-◌, ◌∙◌, refl, true, [], ◌∷◌, ◌++◌, sym, ap, subst, length, get_or, map, option_map, inl, inr, arith, length-append}
 use Rattle.std.proofs.lemmas.Bool.{cases_Bool}
 use Rattle.std.proofs.lemmas.List.{get_or_at}
-use Rattle.svc_line.specs.Line.{seen}
+use Rattle.svc_line.specs.Line.{seen_line}
 use Rattle.svc_links_laws.specs.Walks.{IsWalkSoFar}
 use Rattle.svc_links_laws.proofs.Walking.{walk_dirty, walk_goes_on}
 use Rattle.svc_vol.specs.Lines.{lines_at, links_of, versions_of}
@@ -10,7 +10,7 @@ use Rattle.svc_vol.proofs.walk.oldest_first.Goals as goal
 
 pub next_of-requires : goal.next_of-requires
 next_of-requires c =
-    let lines = lines_at (map (option_map seen) c.args.found.now) in
+    let lines = lines_at (map (option_map seen_line) c.args.found.now) in
     let walk = c.loop-count.invariant.walk in
     let items = c.loop-count.order.items in
     let e : length items - 1 + 1 ≡ length items = omega (arith, walk.some) in
@@ -20,7 +20,7 @@ next_of-requires c =
 pub returns-in_default-next_of : goal.returns-in_default-next_of
 returns-in_default-next_of c =
     let found = c.args.found.now in
-    let lines = lines_at (map (option_map seen) found) in
+    let lines = lines_at (map (option_map seen_line) found) in
     record {
       walked = are_walked lines (length found) c.loop-count.order.items c.requires.ranked (record {
         so_far = c.loop-count.invariant.walk;
@@ -31,7 +31,7 @@ returns-in_default-next_of c =
 pub loop-count-preserved : goal.loop-count-preserved
 loop-count-preserved c =
     let found = c.args.found.now in
-    let lines = lines_at (map (option_map seen) found) in
+    let lines = lines_at (map (option_map seen_line) found) in
     let walk = c.loop-count.invariant.walk in
     let items = c.loop-count.order.items in
     let next = c.in-Some-next_of.next in
@@ -48,7 +48,7 @@ loop-count-preserved c =
 pub returns : goal.returns
 returns c =
     let found = c.args.found.now in
-    let lines = lines_at (map (option_map seen) found) in
+    let lines = lines_at (map (option_map seen_line) found) in
     let walk = c.loop-count.invariant.walk in
     let items = c.loop-count.order.items in
     record {

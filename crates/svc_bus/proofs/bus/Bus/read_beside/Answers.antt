@@ -2,7 +2,7 @@ use Rattle.std.proofs.Common.{◌≡◌, ◌∙◌, refl, sym, ap, ap₂, subst,
 use Rattle.std.proofs.lemmas.List.{with_items_is}
 use Rattle.svc_base.specs.declared.refusal.Refusal.TheVariants as refusal
 use Rattle.svc_line.specs.Bits.{bits_of}
-use Rattle.svc_line.specs.Line.{SeenLine, seen as seen_of}
+use Rattle.svc_line.specs.Line.{SeenLine, seen_line as seen_of}
 use Rattle.svc_cache.specs.Places.{CacheValue, line_of}
 use Rattle.svc_cache.specs.Lines.{EndsBelow}
 use Rattle.svc_cache.specs.declared.probes.Probes.{Probes}
@@ -17,7 +17,7 @@ use Rattle.svc_bus.specs.Room.{full_in}
 use Rattle.svc_bus.specs.Carried.{lines_after, memory_after, is_hit}
 use Rattle.svc_bus.proofs.Full.{lines_end, full_shown}
 use Rattle.svc_bus.proofs.Keeping.{KeepsSizes}
-use Rattle.svc_bus.proofs.Requests.{AreFew, listed_describes, room_to_list, room_to_change, ranked_in}
+use Rattle.svc_bus.proofs.Requests.{AreFew, bus_request, listed_describes, room_to_list, room_to_change, listable}
 use Rattle.svc_bus.proofs.Knowing.{units_known}
 use Rattle.svc_bus.proofs.Reading.{IsPlanned, never_refused, plan_clear, IsLookedUp, asked, own_asked, planned_read, read_bus, read_kept, served_seen, value_seen}
 use Rattle.svc_bus.proofs.Counting.{look_ups}
@@ -32,11 +32,17 @@ fill_beside-requires-clause-room c =
     let few : AreFew c.args.probes = record { searches = omega (arith, one.searches); places = one.places } in
     subst (HasRoomForEach c.args.probes) (sym c.deref.ensures.value) (room_to_list old c.self.invariant c.args.probes few)
 
-pub fill_beside-requires-clause-ranked : goal.fill_beside-requires-clause-ranked
-fill_beside-requires-clause-ranked c = ranked_in _ c.self.invariant c.deref.result.now c.deref.ensures.value c.args.word.0
+pub fill_beside-requires-clause-listed : goal.fill_beside-requires-clause-listed
+fill_beside-requires-clause-listed c = listable _ c.self.invariant c.deref.result.now c.deref.ensures.value c.args.word.0
 
-pub carry_out-requires-clause-ranked : goal.carry_out-requires-clause-ranked
-carry_out-requires-clause-ranked c = ranked_in _ c.self.invariant c.deref_mut.result.now c.deref_mut.ensures.value c.args.word.0
+pub carry_out-requires-clause-request : goal.carry_out-requires-clause-request
+unfolding observed
+carry_out-requires-clause-request c =
+    let inside = c.self.inside in
+    let old : BusValue = record { caches = inside.caches.items; spill = inside.spill; backing = inside.backing.items; units = inside.queue; commits = inside.commits; probes = inside.probes } in
+    let cached : c.args.unit.0 < length old.caches = subst (λ u. u < length old.caches) c.place_of-place.ensures.at_work (units_known old c.self.invariant c.place_of-place.result c.place_of-place.ensures.within) in
+    let known : c.args.word.0 < length old.backing = rw (← c.self.view_is) at c.requires.in_memory in
+    bus_request old c.self.invariant c.deref_mut.result.now c.deref_mut.ensures.value c.deref_mut-2.result.now c.deref_mut-2.ensures.value c.args.unit.0 c.args.word.0 c.fill_beside.new.self c.deref.result.now c.deref.ensures.value c.fill_beside.ensures.list cached known
 
 pub carry_out-requires-clause-ends : goal.carry_out-requires-clause-ends
 carry_out-requires-clause-ends c =
@@ -54,7 +60,7 @@ looked : (c : goal.After-probes-2-1) → c.args.word.0 < length (old c).backing 
 unfolding observed
 looked c known = record {
   in_memory = known;
-  described = listed_describes (old c) c.self.invariant c.deref.result.now c.deref.ensures.value c.args.word.0 c.fill_beside.new.self c.fill_beside.ensures.committed c.fill_beside.ensures.active;
+  described = listed_describes (old c) c.self.invariant c.deref.result.now c.deref.ensures.value c.args.word.0 c.fill_beside.new.self c.fill_beside.ensures.list.committed c.fill_beside.ensures.list.active;
   within = c.place_of-place.ensures.within;
   at_work = c.place_of-place.ensures.at_work;
   spill_is = c.get.ensures;
@@ -112,7 +118,7 @@ seen : (c : goal.After-self-3-1) → c.args.word.0 < length (before c).backing �
 unfolding observed
 seen c known = record {
   in_memory = known;
-  described = listed_describes (before c) c.self.invariant c.deref.result.now c.deref.ensures.value c.args.word.0 c.fill_beside.new.self c.fill_beside.ensures.committed c.fill_beside.ensures.active;
+  described = listed_describes (before c) c.self.invariant c.deref.result.now c.deref.ensures.value c.args.word.0 c.fill_beside.new.self c.fill_beside.ensures.list.committed c.fill_beside.ensures.list.active;
   within = c.place_of-place.ensures.within;
   at_work = c.place_of-place.ensures.at_work;
   spill_is = c.get.ensures;

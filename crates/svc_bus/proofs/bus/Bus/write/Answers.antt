@@ -1,6 +1,6 @@
 use Rattle.std.proofs.Common.{rules, ◌≡◌, ◌∙◌, ◌<◌, refl, sym, ap, ap₂, subst, ℕ, Option, Some, List, length, get_or, option_map, arith}
 use Rattle.std.proofs.lemmas.List.{with_items_is}
-use Rattle.svc_vol.specs.declared.version.Version.{Version}
+use Rattle.svc_vol.specs.declared.held_line.HeldLine.{HeldLine}
 use Rattle.svc_base.specs.declared.ids.UnitId.{UnitId}
 use Rattle.svc_base.specs.declared.refusal.Refusal.TheVariants as refusal
 use Rattle.svc_line.specs.Bits.{bits_of}
@@ -14,11 +14,11 @@ use Rattle.svc_bus.specs.Value.{BusValue}
 use Rattle.svc_bus.specs.Observed.{observed}
 use Rattle.svc_bus.specs.Calls.{full_refusal}
 use Rattle.svc_bus.specs.Looking.{CountsUpTo}
-use Rattle.svc_bus.specs.Stores.{left_line, stored_line}
+use Rattle.svc_bus.specs.Stores.{CanChange, left_line, stored_line}
 use Rattle.svc_bus.proofs.Keeping.{KeepsSizes}
 use Rattle.svc_bus.proofs.Full.{all_end}
 use Rattle.svc_bus.proofs.Knowing.{units_known}
-use Rattle.svc_bus.proofs.Requests.{ranked_in}
+use Rattle.svc_bus.proofs.Requests.{bus_request, listable}
 use Rattle.svc_bus.proofs.Rooms.{room_for_each}
 use Rattle.svc_bus.proofs.Planning.{HasList, listed, room_to_store, refusal_is, unit_known, chosen_within, left_is, chosen_shown, held_lines, once_each, planned, line_active}
 use Rattle.svc_bus.proofs.Writing.{IsPlanned, IsWritten, written_bus, written_agreed}
@@ -33,11 +33,15 @@ place_of-place-requires c =
 pub fill-requires-clause-room : goal.fill-requires-clause-room
 fill-requires-clause-room c = room_for_each _ c.self.invariant c.new-probes.result c.deref.result.now c.new-probes.ensures.searches c.new-probes.ensures.places c.deref.ensures.value
 
-pub fill-requires-clause-ranked : goal.fill-requires-clause-ranked
-fill-requires-clause-ranked c = ranked_in _ c.self.invariant c.deref.result.now c.deref.ensures.value c.args.word.0
+pub fill-requires-clause-listed : goal.fill-requires-clause-listed
+fill-requires-clause-listed c = listable _ c.self.invariant c.deref.result.now c.deref.ensures.value c.args.word.0
 
-pub store_line-requires-clause-ranked : goal.store_line-requires-clause-ranked
-store_line-requires-clause-ranked c = ranked_in _ c.self.invariant c.deref_mut.result.now c.deref_mut.ensures.value c.args.word.0
+pub store_line-requires-clause-request : goal.store_line-requires-clause-request
+unfolding observed
+store_line-requires-clause-request c =
+    let unit = unit_known _ c.self.invariant c.args.unit.0 c.place_of-place.result c.place_of-place.ensures.within c.place_of-place.ensures.at_work in
+    let known : c.args.word.0 < length c.self.inside.backing.items = rw (← c.self.view_is) at c.requires.in_memory in
+    bus_request _ c.self.invariant c.deref_mut.result.now c.deref_mut.ensures.value c.deref_mut-2.result.now c.deref_mut-2.ensures.value c.args.unit.0 c.args.word.0 c.fill.new.self c.deref.result.now c.deref.ensures.value c.fill.ensures.list unit known
 
 pub store_line-requires-clause-ends : goal.store_line-requires-clause-ends
 store_line-requires-clause-ends c = all_end _ c.self.invariant c.deref_mut.result.now c.deref_mut.ensures.value c.deref_mut-2.result.now c.deref_mut-2.ensures.value
@@ -45,28 +49,24 @@ store_line-requires-clause-ends c = all_end _ c.self.invariant c.deref_mut.resul
 pub store_line-requires-clause-units : goal.store_line-requires-clause-units
 store_line-requires-clause-units c = rw c.deref_mut.ensures.value (units_known _ c.self.invariant)
 
-pub store_line-requires-clause-held : goal.store_line-requires-clause-held
-store_line-requires-clause-held c =
-    let list = listed _ c.self.invariant c.args.word.0 c.fill.new.self c.deref.result.now c.deref.ensures.value c.fill.ensures.committed c.fill.ensures.active in
-    rw c.deref-2.ensures.0 (held_lines _ c.self.invariant c.args.unit.0 c.place_of-place.result c.args.word.0 c.place_of-place.ensures.within c.place_of-place.ensures.at_work c.fill.new.self list c.plan_write-plan.new.changed.items c.plan_write-plan.ensures.listed c.deref_mut.result.now c.deref_mut.ensures.value)
-
-pub store_line-requires-clause-once : goal.store_line-requires-clause-once
-store_line-requires-clause-once c =
-    let list = listed _ c.self.invariant c.args.word.0 c.fill.new.self c.deref.result.now c.deref.ensures.value c.fill.ensures.committed c.fill.ensures.active in
-    rw c.deref-2.ensures.0 (once_each _ c.self.invariant c.args.unit.0 c.place_of-place.result c.args.word.0 c.place_of-place.ensures.within c.place_of-place.ensures.at_work c.fill.new.self list c.plan_write-plan.new.changed.items c.plan_write-plan.ensures.listed c.deref_mut.result.now c.deref_mut.ensures.value)
+pub store_line-requires-clause-change : goal.store_line-requires-clause-change
+store_line-requires-clause-change c =
+    let list = listed _ c.self.invariant c.args.word.0 c.fill.new.self c.deref.result.now c.deref.ensures.value c.fill.ensures.list in
+    let changed = c.plan_write-plan.new.changed.items in
+    let can : CanChange c.deref_mut.result.now c.args.unit.0 c.args.word.0 changed = record {
+      held = held_lines _ c.self.invariant c.args.unit.0 c.place_of-place.result c.args.word.0 c.place_of-place.ensures.within c.place_of-place.ensures.at_work c.fill.new.self list changed c.plan_write-plan.ensures.listed c.deref_mut.result.now c.deref_mut.ensures.value;
+      once = once_each _ c.self.invariant c.args.unit.0 c.place_of-place.result c.args.word.0 c.place_of-place.ensures.within c.place_of-place.ensures.at_work c.fill.new.self list changed c.plan_write-plan.ensures.listed c.deref_mut.result.now c.deref_mut.ensures.value;
+    } in
+    rw c.deref-2.ensures.0 can
 
 pub store_line-requires-clause-active : goal.store_line-requires-clause-active
 unfolding observed
 store_line-requires-clause-active c =
-    let list = listed _ c.self.invariant c.args.word.0 c.fill.new.self c.deref.result.now c.deref.ensures.value c.fill.ensures.committed c.fill.ensures.active in
+    let list = listed _ c.self.invariant c.args.word.0 c.fill.new.self c.deref.result.now c.deref.ensures.value c.fill.ensures.list in
     let known : c.args.word.0 < length c.self.inside.backing.items = rw (← c.self.view_is) at c.requires.in_memory in
     line_active _ c.self.invariant c.args.unit.0 c.place_of-place.result c.args.word.0 c.place_of-place.ensures.within c.place_of-place.ensures.at_work c.fill.new.self list c.plan_write-plan.new.changed.items c.plan_write-plan.ensures.listed c.args.value c.unwrap_or-left.result (bits_of c.plan_write-plan.result.bits) (option_map (λ (u : UnitId). u.0) c.plan_write-plan.result.next) (option_map (λ (u : UnitId). u.0) c.plan_write-plan.result.previous)
     (left_is _ c.self.invariant c.args.unit.0 c.place_of-place.result c.args.word.0 c.place_of-place.ensures.within c.place_of-place.ensures.at_work c.fill.new.self list c.plan_write-plan.result.victim c.len-tasks.result c.len-tasks.ensures.count c.plan_write-plan.ensures.victim c.unwrap_or-left.result c.unwrap_or-left.ensures)
     c.plan_write-plan.ensures.valid c.plan_write-plan.ensures.line c.plan_write-plan.ensures.others c.plan_write-plan.ensures.next c.plan_write-plan.ensures.previous c.plan_write-plan.ensures.linked known
-
-pub store_line-requires-clause-in_memory : goal.store_line-requires-clause-in_memory
-unfolding observed
-store_line-requires-clause-in_memory c = rw c.deref_mut-2.ensures.value (rw (← c.self.view_is) at c.requires.in_memory)
 
 pub store_line-requires-clause-room : goal.store_line-requires-clause-room
 store_line-requires-clause-room c = room_to_store _ c.self.invariant c.deref_mut.result.now c.deref_mut.ensures.value c.new-probes.result c.fill.new.probes c.new-probes.ensures.searches c.new-probes.ensures.places (subst (CountsOneOfEach c.new-probes.result c.fill.new.probes) c.deref.ensures.value c.fill.ensures.counted)
@@ -85,7 +85,7 @@ empty_spill-requires c = rw c.self.invariant.spills (rw (← c.self.view_is) at 
 
 pub victim_of-requires-clause-within : goal.victim_of-requires-clause-within
 victim_of-requires-clause-within c =
-    let list = listed _ c.self.invariant c.args.word.0 c.fill.new.self c.deref.result.now c.deref.ensures.value c.fill.ensures.committed c.fill.ensures.active in
+    let list = listed _ c.self.invariant c.args.word.0 c.fill.new.self c.deref.result.now c.deref.ensures.value c.fill.ensures.list in
     chosen_within _ c.self.invariant c.args.unit.0 c.place_of-place.result c.args.word.0 c.place_of-place.ensures.within c.place_of-place.ensures.at_work c.fill.new.self list c.plan_write-plan.result.victim c.len-tasks.result c.len-tasks.ensures.count c.plan_write-plan.ensures.victim
 
 abbrev before : goal.After-victim_of → BusValue
@@ -101,12 +101,12 @@ line c = record { value = c.args.value; bits = bits_of c.plan_write-plan.result.
 abbrev previous : goal.After-victim_of → Option ℕ
 previous c = option_map (λ (u : UnitId). u.0) c.plan_write-plan.result.previous
 
-abbrev changed : goal.After-victim_of → List Version
+abbrev changed : goal.After-victim_of → List HeldLine
 changed c = c.plan_write-plan.new.changed.items
 
 plan_of : (c : goal.After-victim_of) → IsPlanned (before c) c.place_of-place.result c.args.word.0 c.args.value (line c) (previous c) (changed c) c.unwrap_or-left.result
 plan_of c =
-    let list : HasList (before c) c.args.word.0 c.fill.new.self = listed (before c) c.self.invariant c.args.word.0 c.fill.new.self c.deref.result.now c.deref.ensures.value c.fill.ensures.committed c.fill.ensures.active in
+    let list : HasList (before c) c.args.word.0 c.fill.new.self = listed (before c) c.self.invariant c.args.word.0 c.fill.new.self c.deref.result.now c.deref.ensures.value c.fill.ensures.list in
     planned (before c) c.self.invariant c.args.unit.0 c.place_of-place.result c.args.word.0 c.place_of-place.ensures.within c.place_of-place.ensures.at_work c.fill.new.self list
     c.plan_write-plan.new.changed.items c.plan_write-plan.ensures.listed c.args.value c.unwrap_or-left.result (bits_of c.plan_write-plan.result.bits) (option_map (λ (u : UnitId). u.0) c.plan_write-plan.result.next) (option_map (λ (u : UnitId). u.0) c.plan_write-plan.result.previous)
     (left_is (before c) c.self.invariant c.args.unit.0 c.place_of-place.result c.args.word.0 c.place_of-place.ensures.within c.place_of-place.ensures.at_work c.fill.new.self list c.plan_write-plan.result.victim c.len-tasks.result c.len-tasks.ensures.count c.plan_write-plan.ensures.victim c.unwrap_or-left.result c.unwrap_or-left.ensures)
@@ -126,7 +126,7 @@ written c told =
     record {
       lines = λ u a.
           c.in_ok-store_line.ensures.lines u a
-          ∙ ap₂ (λ (xs : List CacheValue) (us : List Version). left_line (before c).units c.unwrap_or-left.result u (stored_line (held_line xs) c.args.unit.0 c.args.word.0 (Some (line c)) (previous c) us u a)) caches c.deref-2.ensures.0
+          ∙ ap₂ (λ (xs : List CacheValue) (us : List HeldLine). left_line (before c).units c.unwrap_or-left.result u (stored_line (held_line xs) c.args.unit.0 c.args.word.0 (Some (line c)) (previous c) us u a)) caches c.deref-2.ensures.0
           ∙ ap (λ unit. left_line (before c).units c.unwrap_or-left.result u (stored_line (held_line (before c).caches) unit c.args.word.0 (Some (line c)) (previous c) (changed c) u a)) (sym c.place_of-place.ensures.at_work);
       memory = λ a. c.in_ok-store_line.ensures.memory a ∙ ap₂ (λ (xs : List ℕ) (ys : List CacheValue). with_at (λ x. get_or xs x 0) c.args.word.0 (committed_in ys xs c.args.word.0) a) memory caches;
       versions = c.empty_spill.ensures.versions;
@@ -155,7 +155,7 @@ returns-clause-refused c =
 pub returns-clause-victim : goal.returns-clause-victim
 unfolding observed
 returns-clause-victim c =
-    let list : HasList (before c) c.args.word.0 c.fill.new.self = listed (before c) c.self.invariant c.args.word.0 c.fill.new.self c.deref.result.now c.deref.ensures.value c.fill.ensures.committed c.fill.ensures.active in
+    let list : HasList (before c) c.args.word.0 c.fill.new.self = listed (before c) c.self.invariant c.args.word.0 c.fill.new.self c.deref.result.now c.deref.ensures.value c.fill.ensures.list in
     rw (← c.self.view_is) (λ s p runs. c.victim_of.ensures ∙ chosen_shown (before c) c.self.invariant c.args.unit.0 c.place_of-place.result c.args.word.0 c.place_of-place.ensures.within c.place_of-place.ensures.at_work c.fill.new.self list c.plan_write-plan.result.victim c.len-tasks.result c.len-tasks.ensures.count c.plan_write-plan.ensures.victim s p runs.agrees runs.within runs.unit_is)
 
 pub returns-clause-table : goal.returns-clause-table

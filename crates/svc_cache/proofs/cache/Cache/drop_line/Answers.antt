@@ -1,7 +1,7 @@
 use Rattle.std.proofs.Common.{◌≡◌, ◌∙◌, sym, ap, subst, ◌+◌, ◌*◌, ◌%◌, None, List, length}
 use Rattle.svc_cache.specs.Places.{CacheValue, line_of, row_at}
 use Rattle.svc_cache.specs.Sound.{IsSound, value_of}
-use Rattle.svc_cache.specs.declared.place.Place.{Place}
+use Rattle.svc_cache.specs.declared.place.CachePlace.{CachePlace}
 use Rattle.svc_cache.specs.Rows.{IsFirstHolder, LacksBelow}
 use Rattle.svc_cache.specs.Lines.{LineMap, with_line}
 use Rattle.svc_cache.proofs.Caches.{take_line, with_place, without_line}
@@ -15,7 +15,7 @@ taken c =
     let place = c.in-Some.place in
     let row : c.row.result.now ≡ row_at cache (word % cache.sets) = c.row.ensures.places ∙ ap (λ (v : CacheValue). row_at v (word % v.sets)) (sym c.self.view_is) in
     let start : c.row_start-start.result ≡ (word % cache.sets) * cache.ways = c.row_start-start.ensures.start ∙ ap (λ (v : CacheValue). (word % v.sets) * v.ways) (sym c.self.view_is) in
-    take_line cache word place (c.row_start-start.result + place) c.empty.result c.self.invariant (subst (λ (places : List Place). IsFirstHolder places word place) row c.in-Some.ensures.found) (ap (λ n. n + place) start) c.empty.ensures
+    take_line cache word place (c.row_start-start.result + place) c.empty.result c.self.invariant (subst (λ (places : List CachePlace). IsFirstHolder places word place) row c.in-Some.ensures.found) (ap (λ n. n + place) start) c.empty.ensures
 
 pub invariant_of-self : goal.invariant_of-self
 invariant_of-self c = (taken c).0
@@ -27,4 +27,4 @@ returns-in-Some-clause-line c =
 pub returns-in_default-clause-line : goal.returns-in_default-clause-line
 returns-in_default-clause-line c =
     let word = c.args.word.0 in
-    without_line c.args.self.now word (subst (λ (places : List Place). LacksBelow places (length places) word) c.row.ensures.places c.in_default.ensures.found)
+    without_line c.args.self.now word (subst (λ (places : List CachePlace). LacksBelow places (length places) word) c.row.ensures.places c.in_default.ensures.found)

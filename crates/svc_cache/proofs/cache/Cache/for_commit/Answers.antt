@@ -1,7 +1,7 @@
 use Rattle.std.proofs.Common.{◌≡◌, ◌≤◌, ◌∙◌, List, length, ap, arith, refl, subst, sym}
 use Rattle.std.proofs.lemmas.List.{with_items_is}
-use Rattle.svc_line.specs.Bits.{committed}
-use Rattle.svc_cache.specs.declared.place.Place.{Place}
+use Rattle.svc_line.specs.Bits.{after_commit}
+use Rattle.svc_cache.specs.declared.place.CachePlace.{CachePlace}
 use Rattle.svc_cache.specs.Changes.{IsChangedBelow}
 use Rattle.svc_cache.specs.Lines.{LineMap, commit_line}
 use Rattle.svc_cache.specs.Places.{CacheValue, line_of}
@@ -10,14 +10,14 @@ use Rattle.svc_cache.proofs.Caches.{committed_places}
 use Rattle.svc_cache.proofs.cache.Cache.for_commit.Goals as goal
 
 module _ (c : goal.After-self-1) where
-  abbrev items : List Place
+  abbrev items : List CachePlace
   items = c.loop-place.place-items
 
   abbrev after : CacheValue
   after = record (value_of c.self.inside) { places = items }
 
-  changed : IsChangedBelow committed c.loop-place.place-index c.self.inside.places.items items
-  changed = subst (λ (l : List Place). IsChangedBelow committed c.loop-place.place-index l items) c.deref_mut-place-items.ensures.value c.loop-place.invariant
+  changed : IsChangedBelow after_commit c.loop-place.place-index c.self.inside.places.items items
+  changed = subst (λ (l : List CachePlace). IsChangedBelow after_commit c.loop-place.place-index l items) c.deref_mut-place-items.ensures.value c.loop-place.invariant
 
   every : length c.self.inside.places.items ≤ c.loop-place.place-index
   every = omega (arith, c.loop-place-test.false, ap length c.deref_mut-place-items.ensures.value)

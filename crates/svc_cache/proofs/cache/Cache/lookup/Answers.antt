@@ -1,6 +1,6 @@
 use Rattle.std.proofs.Common.{◌∙◌, sym, ap, Option}
 use Rattle.std.specs.Prelude.{option_map}
-use Rattle.svc_line.specs.Line.{seen}
+use Rattle.svc_line.specs.Line.{seen_line}
 use Rattle.svc_line.specs.declared.line.Line.{Line}
 use Rattle.svc_cache.specs.Rows.{place_at}
 use Rattle.svc_cache.proofs.Caches.{line-found}
@@ -9,7 +9,7 @@ use Rattle.svc_cache.proofs.cache.Cache.lookup.Goals as goal
 
 pub returns-in_err-place-clause-line : goal.returns-in_err-place-clause-line
 returns-in_err-place-clause-line c =
-    ap (λ (line : Option Line). option_map seen line) c.from_residual.ensures
+    ap (λ (line : Option Line). option_map seen_line line) c.from_residual.ensures
     ∙ sym (found-lacks c.row-row.result.now c.args.word.0 c.in_err-place.ensures.found) ∙ line-found c.args.self.now c.args.word.0 c.row-row.result.now c.row-row.ensures.places
 
 pub returns-clause-line : goal.returns-clause-line

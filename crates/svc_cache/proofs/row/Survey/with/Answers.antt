@@ -18,5 +18,5 @@ returns-then-precedes c =
             let here : is_held (place_at row k) ≡ false = sym c.is_held.ensures ∙ w.if-is_held.false in
             subst (IsRoomBelow row (k + 1)) (sym w.empty-is) (room-empty row k here)
       ];
-      leaves = leaves-new row k c.args.self.victim c.requires.before.leaves c.requires.within (sym c.precedes.ensures ∙ c.if-precedes.true);
+      leaves = leaves-new row k c.args.self.leaver c.requires.before.leaves c.requires.within (sym c.precedes.ensures ∙ c.if-precedes.true);
     }

@@ -1,9 +1,9 @@
 use Rattle.std.proofs.Common.{◌≡◌, ◌∙◌, ap, sym, subst, refl, arith, List, Option, Some, ℕ, set}
 use Rattle.std.specs.Prelude.{map}
 use Rattle.std.proofs.lemmas.List.{map-set}
-use Rattle.svc_retire.specs.declared.spill.Place.TheVariants.{Spilled}
+use Rattle.svc_retire.specs.declared.spill.SpillPlace.TheVariants.{Spilled}
 use Rattle.svc_retire.specs.declared.spill.Spill.TheInside.{Inside}
-use Rattle.svc_retire.specs.Spills.{spilled, IsListed}
+use Rattle.svc_retire.specs.Spills.{spilled_version, IsListed}
 use Rattle.svc_retire.proofs.Listing.{kept_list, longer_list, list_room, place_read, place_listed, places_known}
 use Rattle.svc_retire.proofs.spill.Spill.put.Goals as goal
 use Rattle.svc_retire.proofs.spill.Spill.put.Goals.{then-not-is_listed, else-not-is_listed}
@@ -43,8 +43,8 @@ returns c =
     let places = c.self.inside.places.items in
     let word = c.args.word.0 in
     let table : List (Option ℕ) = c.args.self.now in
-    let P : Inside → Type 0 = λ s. map spilled (set s.places.items word (Spilled c.args.value)) ≡ set table word (Some c.args.value) in
-    let put = map-set spilled places word (Spilled c.args.value) ∙ ap (λ (t : List (Option ℕ)). set t word (Some c.args.value)) c.self.view_is in
+    let P : Inside → Type 0 = λ s. map spilled_version (set s.places.items word (Spilled c.args.value)) ≡ set table word (Some c.args.value) in
+    let put = map-set spilled_version places word (Spilled c.args.value) ∙ ap (λ (t : List (Option ℕ)). set t word (Some c.args.value)) c.self.view_is in
     elim c.if-not-is_listed.branch [
       | then-not-is_listed w ↦ subst P (sym w.self-inside-is) put
       | else-not-is_listed w ↦ subst P (sym w.self-inside-is) put

@@ -1,10 +1,10 @@
 use Rattle.std.proofs.Common.{◌≡◌, ◌<◌, ◌+◌, ◌∙◌, ap, sym, subst, refl, arith, List, Option, None, ℕ, set, length, get_or, replicate, unwrap_or}
 use Rattle.std.specs.Prelude.{map}
 use Rattle.std.proofs.lemmas.List.{length-map}
-use Rattle.svc_retire.specs.declared.spill.Place.{Place}
-use Rattle.svc_retire.specs.declared.spill.Place.TheVariants.{Unlisted}
+use Rattle.svc_retire.specs.declared.spill.SpillPlace.{SpillPlace}
+use Rattle.svc_retire.specs.declared.spill.SpillPlace.TheVariants.{Unlisted}
 use Rattle.svc_retire.specs.Memory.{with_version}
-use Rattle.svc_retire.specs.Spills.{spilled, place_at, IsListed}
+use Rattle.svc_retire.specs.Spills.{spilled_version, place_at, IsListed}
 use Rattle.svc_retire.proofs.Listing.{empty_list, empty_view, read_item}
 use Rattle.svc_retire.proofs.Emptying.{IsEmptied, next_word, emptying_begins, emptying_steps, all_emptied, all_stored, view_at}
 use Rattle.svc_retire.proofs.spill.Spill.write_back.Goals as goal
@@ -56,8 +56,8 @@ loop-k-preserved c =
     let next = next_word inside.words.items inside.count c.loop-k.k inside.places.items now c.args.backing.now memory c.args.self.now c.self.invariant c.loop-k.invariant.emptied c.loop-k-test.true c.self.view_is c.requires in
     let read : get_or inside.words.items c.loop-k.k 0 ≡ at = read_item inside.words.items c.loop-k.k at 0 (c.index.ensures ∙ ap (λ (words : List ℕ). get_or words c.loop-k.k at) c.loop-k.invariant.words) next.seated in
     let placed : at < length now = subst (λ n. n < length now) read next.placed in
-    let stored : c.store.new.backing ≡ with_version memory at (spilled (place_at now at)) =
-    c.store.ensures ∙ ap (λ (version : Option ℕ). with_version memory at version) c.version-version.ensures ∙ ap (λ (place : Place). with_version memory at (spilled place)) (sym (read_item now at c.index-in-loop-k.result.now Unlisted c.index-in-loop-k.ensures placed)) in
+    let stored : c.store.new.backing ≡ with_version memory at (spilled_version (place_at now at)) =
+    c.store.ensures ∙ ap (λ (version : Option ℕ). with_version memory at version) c.version-version.ensures ∙ ap (λ (place : SpillPlace). with_version memory at (spilled_version place)) (sym (read_item now at c.index-in-loop-k.result.now Unlisted c.index-in-loop-k.ensures placed)) in
     record {
       words = c.loop-k.invariant.words;
       count = c.loop-k.invariant.count;
@@ -75,7 +75,7 @@ pub invariant_of-self : goal.invariant_of-self
 invariant_of-self c =
     let inside = c.self.inside in
     let emptied = all_emptied inside.words.items inside.count inside.places.items c.loop-k.self-inside.places.items c.args.backing.now c.loop-k.backing c.self.invariant (done c) in
-    subst (λ (places : List Place). IsListed places c.loop-k.self-inside.words.items 0) (sym emptied)
+    subst (λ (places : List SpillPlace). IsListed places c.loop-k.self-inside.words.items 0) (sym emptied)
     (empty_list c.loop-k.self-inside.words.items (length inside.places.items) (ap (λ (words : List ℕ). length words) c.loop-k.invariant.words ∙ c.self.invariant.room))
 
 pub returns-clause-memory : goal.returns-clause-memory
@@ -89,5 +89,5 @@ returns-clause-empty c =
     let inside = c.self.inside in
     let table : List (Option ℕ) = c.args.self.now in
     let emptied = all_emptied inside.words.items inside.count inside.places.items c.loop-k.self-inside.places.items c.args.backing.now c.loop-k.backing c.self.invariant (done c) in
-    let size : length inside.places.items ≡ length table = sym (length-map inside.places.items spilled) ∙ ap (λ (t : List (Option ℕ)). length t) c.self.view_is in
-    ap (λ (places : List Place). map spilled places) emptied ∙ empty_view (length inside.places.items) ∙ ap (λ n. replicate {A = Option ℕ} n None) size
+    let size : length inside.places.items ≡ length table = sym (length-map inside.places.items spilled_version) ∙ ap (λ (t : List (Option ℕ)). length t) c.self.view_is in
+    ap (λ (places : List SpillPlace). map spilled_version places) emptied ∙ empty_view (length inside.places.items) ∙ ap (λ n. replicate {A = Option ℕ} n None) size

@@ -1,6 +1,6 @@
 use Rattle.std.proofs.Common.{refl}
 use Rattle.svc_line.proofs.Changes.{with_names}
-use Rattle.svc_line.proofs.bits.LineBits.named.Goals as goal
+use Rattle.svc_line.proofs.bits.LineBits.named_bits.Goals as goal
 
 pub returns : goal.returns
 returns c = with_names c.args.self _ refl

@@ -11,10 +11,10 @@ use Rattle.svc_bus_laws.specs.BusView.{bus_line_at, bus_map}
 use Rattle.svc_bus_laws.specs.BusSteps.{is_overtaken_line}
 use Rattle.svc_bus_laws.proofs.Searches.{greatest_same, any_same}
 use Rattle.svc_bus_laws.proofs.LineWalks.{walk_seen}
-use Rattle.svc_vol.specs.declared.version.Version.{Version}
-use Rattle.svc_vol.specs.Versions.{Versions}
-use Rattle.svc_vcl.specs.Listed.{entry_at, is_exposure, is_version, nearest_in, victim_in, is_overtaken_in}
-use Rattle.svc_vcl.specs.Described.{IsEntryOf, IsRequest, line_with}
+use Rattle.svc_vol.specs.declared.held_line.HeldLine.{HeldLine}
+use Rattle.svc_vol.specs.Value.{ListValue}
+use Rattle.svc_vcl.specs.Listed.{slot_at, is_exposure, is_version, nearest_in, victim_in, is_overtaken_in}
+use Rattle.svc_vcl.specs.Described.{IsSlotOf, IsRequest, line_with}
 
 -- ---- one line's bits
 
@@ -75,11 +75,11 @@ not_exposed_here : (line : Option BusLine) → is_active_line line ≡ false →
 not_exposed_here None e = refl
 not_exposed_here (Some l) e = rw e refl
 
-pub version_is : (b : BusState) (a unit : ℕ) (entry : Option Version) → IsEntryOf b a unit entry → is_version entry ≡ is_some (version_of_line (b.lines unit a))
+pub version_is : (b : BusState) (a unit : ℕ) (entry : Option HeldLine) → IsSlotOf b a unit entry → is_version entry ≡ is_some (version_of_line (b.lines unit a))
 version_is b a unit None is = no_version_here (b.lines unit a) is
 version_is b a unit (Some version) is = version_bits (bits_of version.line.bits) version.line.value is.active ∙ ap (λ line. is_some (version_of_line line)) (sym is.held)
 
-pub exposed_is : (b : BusState) (a unit : ℕ) (entry : Option Version) → IsEntryOf b a unit entry → is_exposure entry ≡ is_exposed_line (b.lines unit a)
+pub exposed_is : (b : BusState) (a unit : ℕ) (entry : Option HeldLine) → IsSlotOf b a unit entry → is_exposure entry ≡ is_exposed_line (b.lines unit a)
 exposed_is b a unit None is = not_exposed_here (b.lines unit a) is
 exposed_is b a unit (Some version) is = exposed_bits (bits_of version.line.bits) version.line.value is.active ∙ ap is_exposed_line (sym is.held)
 
@@ -94,12 +94,12 @@ walk_same e f s r v (suc n) same =
 
 -- ---- the list of a request
 
-module _ (b : BusState) (t : LineTable) (a : ℕ) (list : Versions) (unit place : ℕ) (request : IsRequest b t a list unit place) where
-  pub version_here : (q : ℕ) → q < length b.units → is_version (entry_at list.active q) ≡ is_some (version_of_line (bus_line_at b q a))
-  version_here q below = version_is b a (get_or b.units q 0) (entry_at list.active q) (request.described.active q below)
+module _ (b : BusState) (t : LineTable) (a : ℕ) (list : ListValue) (unit place : ℕ) (request : IsRequest b t a list unit place) where
+  pub version_here : (q : ℕ) → q < length b.units → is_version (slot_at list.active q) ≡ is_some (version_of_line (bus_line_at b q a))
+  version_here q below = version_is b a (get_or b.units q 0) (slot_at list.active q) (request.described.active q below)
 
-  exposed_here : (q : ℕ) → q < length b.units → is_exposure (entry_at list.active q) ≡ is_exposed_line (bus_line_at b q a)
-  exposed_here q below = exposed_is b a (get_or b.units q 0) (entry_at list.active q) (request.described.active q below)
+  exposed_here : (q : ℕ) → q < length b.units → is_exposure (slot_at list.active q) ≡ is_exposed_line (bus_line_at b q a)
+  exposed_here q below = exposed_is b a (get_or b.units q 0) (slot_at list.active q) (request.described.active q below)
 
   pub nearest_is : nearest_in list.active place ≡ greatest place (λ q. is_some (version_of_line (bus_line_at b q a)))
   nearest_is = greatest_same place _ _ (λ q below. version_here q (let within = request.within in omega (arith, below)))
@@ -109,10 +109,10 @@ module _ (b : BusState) (t : LineTable) (a : ℕ) (list : Versions) (unit place 
 
   pub victim_is : victim_in list.active place ≡ victim (bus_map b) place a
   victim_is =
-      ap (λ n. walk (λ q. is_exposure (entry_at list.active q)) (λ q. is_version (entry_at list.active q)) (suc place) (n - suc place)) request.described.places
+      ap (λ n. walk (λ q. is_exposure (slot_at list.active q)) (λ q. is_version (slot_at list.active q)) (suc place) (n - suc place)) request.described.places
       ∙ walk_same _ _ _ _ (suc place) (length b.units - suc place) (λ k below. let low : k < length b.units = (let within = request.within in omega (arith, below)) in (exposed_here k low, version_here k low))
       ∙ walk_seen b place a
 
   -- the unit's own entry
-  pub own_entry : IsEntryOf b a unit (entry_at list.active place)
-  own_entry = subst (λ u. IsEntryOf b a u (entry_at list.active place)) request.at_work (request.described.active place request.within)
+  pub own_entry : IsSlotOf b a unit (slot_at list.active place)
+  own_entry = subst (λ u. IsSlotOf b a u (slot_at list.active place)) request.at_work (request.described.active place request.within)

@@ -1,6 +1,6 @@
 use Rattle.std.proofs.Common.{◌≡◌, ◌+◌}
 use Rattle.svc_cache.specs.Rows.{IsSurvey, LacksBelow}
-use Rattle.svc_cache.proofs.row.seat_of.Given as goal
+use Rattle.svc_cache.proofs.row.place_for.Given as goal
 
 abbrev pub invariant-loop-place : goal.invariant-loop-place
 invariant-loop-place l = record {
