@@ -8,6 +8,9 @@ use Rattle.std.proofs.lemmas.List.{append-nil}
 use Rattle.std.proofs.lemmas.List.Sums.{sum_by_push}
 use Rattle.svc_held.proofs.Ranges.{from_zero, lists_more}
 
+abbrev one_if : Bool → ℕ
+one_if x = cond x 1 0
+
 -- one number more
 pub count_more : (p : ℕ → Bool) (n : ℕ) → count_by p (range_with_len 0 (n + 1)) ≡ count_by p (range_with_len 0 n) + cond (p n) 1 0
 count_more p n = ap (count_by p) (from_zero n) ∙ sum_by_push (λ (x : ℕ). cond (p x) 1 0) (range_with_len 0 n) n
@@ -30,7 +33,7 @@ count_none (suc n) =
     ap (λ m. count_by (λ (x : ℕ). false) (range_with_len 0 m)) (sym e) ∙ count_more (λ x. false) n ∙ ap (λ m. m + 0) none
 
 neither : (u x : ℕ) → u ≢ x → (u == x) ≡ false
-neither u x apart = elim (cases_Bool (u == x)) [ inr no ↦ no | inl same ↦ absurd (apart (eqb-true u x same)) ]
+neither u x apart = elim (cases_Bool (u == x)) [ inr differs ↦ differs | inl same ↦ absurd (apart (eqb-true u x same)) ]
 
 -- a test that one number more passes
 pub count_one_more : (p : ℕ → Bool) (u n : ℕ) → p u ≡ false → u < n → count_by (λ x. p x || (u == x)) (range_with_len 0 n) ≡ suc (count_by p (range_with_len 0 n))
@@ -39,20 +42,21 @@ count_one_more p u (suc n) fails below =
     let e : n + 1 ≡ suc n = omega arith in
     let q : ℕ → Bool = λ x. p x || (u == x) in
     ap (λ m. count_by q (range_with_len 0 m)) (sym e) ∙ count_more q n
-    ∙ last (cases_eq u n)
+    ∙ last (λ less. count_one_more p u n fails less) (cases_eq u n)
     ∙ ap suc (sym (ap (λ m. count_by p (range_with_len 0 m)) (sym e) ∙ count_more p n))
   where
-    last : (u ≡ n) ⊎ (u ≢ n) → count_by (λ x. p x || (u == x)) (range_with_len 0 n) + cond (p n || (u == n)) 1 0 ≡ suc (count_by p (range_with_len 0 n) + cond (p n) 1 0)
-    last (inl same) =
+    last : (u < n → count_by (λ x. p x || (u == x)) (range_with_len 0 n) ≡ suc (count_by p (range_with_len 0 n)))
+        → (u ≡ n) ⊎ (u ≢ n) → count_by (λ x. p x || (u == x)) (range_with_len 0 n) + cond (p n || (u == n)) 1 0 ≡ suc (count_by p (range_with_len 0 n) + cond (p n) 1 0)
+    last more (inl same) =
         let others = count_same (λ x. p x || (u == x)) p n (λ x less. ap (λ y. p x || y) (neither u x (λ e. omega (arith, e, same, less))) ∙ or-false (p x)) in
         let mine : p n ≡ false = ap p (sym same) ∙ fails in
         let passes : (p n || (u == n)) ≡ true = ap (λ y. y || (u == n)) mine ∙ eq-eqb u n same in
-        let one : cond (p n || (u == n)) 1 0 ≡ 1 = ap (λ y. cond y 1 0) passes in
-        let zero_more : cond (p n) 1 0 ≡ 0 = ap (λ y. cond y 1 0) mine in
-        omega (arith, others, one, zero_more)
-    last (inr apart) =
-        let others = count_one_more p u n fails (omega (arith, below, apart)) in
-        let same : cond (p n || (u == n)) 1 0 ≡ cond (p n) 1 0 = ap (λ y. cond y 1 0) (ap (λ y. p n || y) (neither u n apart) ∙ or-false (p n)) in
+        let one : one_if (p n || (u == n)) ≡ one_if true = ap one_if passes in
+        let none : one_if (p n) ≡ one_if false = ap one_if mine in
+        omega (arith, others, one, none)
+    last more (inr apart) =
+        let others = more (omega (arith, below, apart)) in
+        let same : one_if (p n || (u == n)) ≡ one_if (p n) = ap one_if (ap (λ y. p n || y) (neither u n apart) ∙ or-false (p n)) in
         omega (arith, others, same)
 
 -- rows over a range of which at most one number has any
@@ -66,9 +70,9 @@ pub one_row : (f : ℕ → List ℕ) (u n : ℕ) → u < n → ((x : ℕ) → x 
 one_row f u zero below none = absurd (omega (arith, below))
 one_row f u (suc n) below none =
     let e : n + 1 ≡ suc n = omega arith in
-    ap (λ m. flat_map f (range_with_len 0 m)) (sym e) ∙ lists_more f n ∙ last (cases_eq u n)
+    ap (λ m. flat_map f (range_with_len 0 m)) (sym e) ∙ lists_more f n ∙ last (λ less. one_row f u n less (λ x small. none x (omega (arith, small)))) (cases_eq u n)
   where
-    last : (u ≡ n) ⊎ (u ≢ n) → flat_map f (range_with_len 0 n) ++ f n ≡ f u
-    last (inl same) = ap (λ l. l ++ f n) (no_rows f n (λ x less. none x (omega (arith, less)) (λ e. omega (arith, e, same, less)))) ∙ ap f (sym same)
-    last (inr apart) =
-        ap₂ (λ l m. l ++ m) (one_row f u n (omega (arith, below, apart)) (λ x less. none x (omega (arith, less)))) (none n (omega arith) apart) ∙ append-nil (f u)
+    last : (u < n → flat_map f (range_with_len 0 n) ≡ f u) → (u ≡ n) ⊎ (u ≢ n) → flat_map f (range_with_len 0 n) ++ f n ≡ f u
+    last more (inl same) = ap (λ l. l ++ f n) (no_rows f n (λ x less. none x (omega (arith, less)) (λ e. omega (arith, e, same, less)))) ∙ ap f (sym same)
+    last more (inr apart) =
+        ap₂ (λ l m. l ++ m) (more (omega (arith, below, apart))) (none n (omega arith) apart) ∙ append-nil (f u)

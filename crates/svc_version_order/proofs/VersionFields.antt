@@ -58,12 +58,12 @@ module _ (b : BusState) (t : LineTable) (word : ℕ) (units : List UnitId) (agre
 
   strict : (u v : ℕ) → older u v ≡ true → older v u ≡ false
   strict u v is = elim (cases_Bool (older v u)) [
-    | inr no ↦ no
+    | inr never ↦ never
     | inl back ↦ absurd (true≢false (sym (and_parts _ _ back).1 ∙ order_strict b t word u v agrees (and_parts _ _ is).1))
   ]
 
   never_itself : (u : ℕ) → older u u ≡ false
-  never_itself u = elim (cases_Bool (older u u)) [ inr no ↦ no | inl is ↦ strict u u is ]
+  never_itself u = elim (cases_Bool (older u u)) [ inr never ↦ never | inl is ↦ strict u u is ]
 
   -- the places are in the order of the versions
   in_order : (i j : ℕ) → i < length units → j < length units → older (id i) (id j) ≡ ltb i j
@@ -85,7 +85,7 @@ module _ (b : BusState) (t : LineTable) (word : ℕ) (units : List UnitId) (agre
   ]
 
   -- one of the first k units
-  stands : (k u : ℕ) → Bool
+  abbrev stands : (k u : ℕ) → Bool
   stands zero u = false
   stands (suc k) u = stands k u || (id k == u)
 
@@ -98,18 +98,18 @@ module _ (b : BusState) (t : LineTable) (word : ℕ) (units : List UnitId) (agre
 
   stands_only : (k u : ℕ) → stands k u ≡ true → (i : ℕ) × (i < k) × (id i ≡ u)
   stands_only zero u is = absurd (true≢false (sym is))
-  stands_only (suc k) u is = by (cases_Bool (stands k u))
+  stands_only (suc k) u is = by (λ before. stands_only k u before) (cases_Bool (stands k u))
     where
-      by : (stands k u ≡ true) ⊎ (stands k u ≡ false) → (i : ℕ) × (i < suc k) × (id i ≡ u)
-      by (inl before) = let found = stands_only k u before in (found.0, omega (arith, found.1), found.2)
-      by (inr no) = (k, omega arith, eqb-true (id k) u (sym (ap (λ x. x || (id k == u)) no) ∙ is))
+      by : (stands k u ≡ true → (i : ℕ) × (i < k) × (id i ≡ u)) → (stands k u ≡ true) ⊎ (stands k u ≡ false) → (i : ℕ) × (i < suc k) × (id i ≡ u)
+      by earlier (inl before) = let found = earlier before in (found.0, omega (arith, found.1), found.2)
+      by earlier (inr new) = (k, omega arith, eqb-true (id k) u (sym (ap (λ x. x || (id k == u)) new) ∙ is))
 
   count_stands : (k : ℕ) → k ≤ length units → count_by (stands k) (range_with_len 0 b.caches) ≡ k
   count_stands zero few = count_none b.caches
   count_stands (suc k) few =
       let here : k < length units = omega (arith, few) in
       let new : stands k (id k) ≡ false = elim (cases_Bool (stands k (id k))) [
-        | inr no ↦ no
+        | inr never ↦ never
         | inl is ↦ let found = stands_only k (id k) is in
             let same : found.0 ≡ k = once found.0 k (omega (arith, found.1, here)) here found.2 in
             let below = found.1 in
@@ -123,14 +123,14 @@ module _ (b : BusState) (t : LineTable) (word : ℕ) (units : List UnitId) (agre
     | inl is ↦ let found = stands_only k u is in
         let below = found.1 in
         ap (λ v. older v (id k)) (sym found.2) ∙ in_order found.0 k (omega (arith, below, here)) here ∙ lt-ltb found.0 k below ∙ sym is
-    | inr no ↦ elim (cases_Bool (older u (id k))) [
-      | inr never ↦ never ∙ sym no
+    | inr fails ↦ elim (cases_Bool (older u (id k))) [
+      | inr never ↦ never ∙ sym fails
       | inl is ↦ let found = place u (first_has u (id k) is) in
           let before : true ≡ stands k u = elim (cases_lt found.0 k) [
             | inl below ↦ sym (ap (stands k) (sym found.2) ∙ stands_at k found.0 below)
             | inr past ↦ absurd (true≢false (sym is ∙ ap (λ v. older v (id k)) (sym found.2) ∙ in_order found.0 k found.1 here ∙ le-ltb found.0 k past))
           ] in
-          absurd (true≢false (before ∙ no))
+          absurd (true≢false (before ∙ fails))
     ]
   ]
 
@@ -142,7 +142,7 @@ module _ (b : BusState) (t : LineTable) (word : ℕ) (units : List UnitId) (agre
 
   none_at : (k u : ℕ) → ((i : ℕ) → i < length units → id i ≡ u → i ≢ k) → field_at k u ≡ []
   none_at k u other = elim (cases_Bool (is_version u && (older_count b.caches b word u == k))) [
-    | inr no ↦ ap (λ x. cond x (committed_field u) []) no
+    | inr fails ↦ ap (λ x. cond x (committed_field u) []) fails
     | inl is ↦ let found = place u (and_parts _ _ is).0 in
         let same : found.0 ≡ k = sym (rank found.0 found.1) ∙ ap (older_count b.caches b word) found.2 ∙ eqb-true _ k (and_parts _ _ is).1 in
         absurd (other found.0 found.1 found.2 same)

@@ -12,8 +12,8 @@ returns c =
     let m = c.args.machine.now in
     let bus = observed m.bus in
     let word = c.args.named.word.0 in
-    let at = c.config.ensures.standing in
-    let caches = at.1.lines.caches ∙ (c.config.ensures.reached at.0 at.1).lines.caches in
-    let are = subst (AreItsVersions bus word) (sym c.deref.ensures.value) c.committed_versions.ensures in
+    let at = c.config-standing.ensures.standing in
+    let caches = at.1.lines.caches ∙ (c.config-standing.ensures.reached at.0 at.1).lines.caches in
+    let are = subst (AreItsVersions bus word) (sym c.deref.ensures.0) c.committed_versions.ensures in
     let same = fields_of_versions bus at.0.lines word c.deref.result.now at.1.lines are ∙ ap (λ n. version_fields n bus word) caches in
     on_ok c.put_each.result (subst (Appends (Some c.args.rows.now.items) (Some c.put_each.new.rows.items)) same) c.put_each.ensures
