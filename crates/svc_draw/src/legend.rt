@@ -111,12 +111,7 @@ fn write_arrows(text: &mut Vec<u8>) -> Result<(), AllocError>
 
 // Writes a sample of a load that a supplier served.
 #[tactic(auto, unfolding(crate::specs::Legend::supplier_sample))]
-fn write_supplier(
-    text: &mut Vec<u8>,
-    x: u32,
-    after: u32,
-    by: ServedKind,
-) -> Result<(), AllocError>
+fn write_supplier(text: &mut Vec<u8>, x: u32, after: u32, by: ServedKind) -> Result<(), AllocError>
     ensures { OnOk result (text.new.items ≡ text.old.items ++ supplier_sample x after by) }
 {
     let letter = letter_of(Some(by));
@@ -135,7 +130,14 @@ fn write_suppliers(text: &mut Vec<u8>) -> Result<(), AllocError>
     write_supplier(text, 1095, 1115, ServedKind::Spill)?;
     write_supplier(text, 1190, 1210, ServedKind::Committed)?;
     write_supplier(text, 1325, 1345, ServedKind::Memory)?;
-    mark_sample(text, Point { x: 1445, y: 25 }, "replace", "", 1465, replaced)?;
+    mark_sample(
+        text,
+        Point { x: 1445, y: 25 },
+        "replace",
+        "",
+        1465,
+        replaced,
+    )?;
     Ok(())
 }
 

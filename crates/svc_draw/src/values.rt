@@ -121,12 +121,7 @@ fn write_sentence(frame: &Frame, mark: &Mark, text: &mut Vec<u8>) -> Result<(), 
 }
 
 // Writes a mark's words, where the one before it on its lane ends at an edge.
-fn write_words(
-    frame: &Frame,
-    edge: u64,
-    mark: &Mark,
-    text: &mut Vec<u8>,
-) -> Result<(), AllocError>
+fn write_words(frame: &Frame, edge: u64, mark: &Mark, text: &mut Vec<u8>) -> Result<(), AllocError>
     ensures { OnOk result (text.new.items ≡ text.old.items ++ words_of frame.now.sheet edge mark.now mark.now.kind) }
 {
     match mark.kind {

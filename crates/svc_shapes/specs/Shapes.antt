@@ -53,7 +53,8 @@ kind_close = codes "</g>\n"
 -- a mark of a kind
 unfoldable pub mark_at : (x y : ℕ) → (name letter : List ℕ) → List ℕ
 mark_at x y name letter =
-    concat (codes "<use href='#" ∷ name ∷ letter ∷ codes "' x='" ∷ decimal x ∷ codes "' y='" ∷ decimal y ∷ codes "'>" ∷ [])
+    concat (codes "<use href='#" ∷ name ∷ letter ∷ codes "' x='" ∷ decimal x ∷ codes "' y='" ∷ decimal y ∷ codes "'>"
+    ∷ [])
 
 -- a broken line across all lanes: a commit
 unfoldable pub commit_line : (x : ℕ) → List ℕ
@@ -136,7 +137,8 @@ fate_sample x fill name =
 unfoldable pub mark_sample : (x y : ℕ) → (name letter : List ℕ) → (after : ℕ) → (words : List ℕ) → List ℕ
 mark_sample x y name letter after words =
     concat (codes "<use href='#" ∷ name ∷ letter ∷ codes "' x='" ∷ decimal x ∷ codes "' y='" ∷ decimal y
-    ∷ codes "'/><text x='" ∷ decimal after ∷ codes "' y='" ∷ decimal (y + 5) ∷ codes "'>" ∷ words ∷ codes "</text>\n" ∷ [])
+    ∷ codes "'/><text x='" ∷ decimal after ∷ codes "' y='" ∷ decimal (y + 5) ∷ codes "'>" ∷ words ∷ codes "</text>\n"
+    ∷ [])
 
 -- the heads of arrows, which end at the rim of a mark of this size
 unfoldable pub arrow_heads : (size : ℕ) → List ℕ

@@ -141,11 +141,7 @@ pub fn letter_above(text: &mut Vec<u8>, size: u32, letter: &str) -> Result<(), A
 
 /// The beginning of a kind of mark.
 #[tactic(auto, unfolding(crate::specs::Shapes::kind_open))]
-pub fn kind_open<'a>(
-    text: &mut Vec<u8>,
-    name: &'a str,
-    letter: &'a str,
-) -> Result<(), AllocError>
+pub fn kind_open<'a>(text: &mut Vec<u8>, name: &'a str, letter: &'a str) -> Result<(), AllocError>
     ensures { OnOk result (text.new.items ≡ text.old.items ++ kind_open name.now letter.now) }
 {
     put_parts(
