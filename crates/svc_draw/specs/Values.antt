@@ -73,7 +73,7 @@ edges_after s m edges = set edges m.entry.unit.0 (mark_x s m + radius s)
 unfoldable pub words_from : Sheet → (edges : List ℕ) → List Mark → List ℕ
 words_from s edges [] = []
 words_from s edges (m ∷ ms) =
-    words_of s (get_or edges m.entry.unit.0 LEFT) m m.kind ++ words_from s (edges_after s m edges) ms
+    words_of s (get_or edges m.entry.unit.0 0) m m.kind ++ words_from s (edges_after s m edges) ms
 
 -- those of all marks
 abbrev pub values_text : Sheet → List Mark → List ℕ
