@@ -1,6 +1,6 @@
 // The kinds of marks, each made once for a picture.
 
-ghost use Rattle.std.specs.Prelude.{◌≡◌, ◌++◌, OnOk};
+ghost use Rattle.std.specs.Prelude.{◌≡◌, ◌++◌, ◌≤◌, OnOk};
 ghost use Rattle.svc_draw.specs.Kinds.{kinds_of, letter_of, letter_text, load_kind, output_kind, plain_kinds, plain_load, plain_store, replace_kind, store_kind, supplied_kinds};
 
 use std::alloc::AllocError;
