@@ -1,7 +1,7 @@
 // What stands beside the marks of a picture.
 
-ghost use Rattle.std.specs.Prelude.{◌≡◌, ◌++◌, ◌≤◌, OnOk, unwrap_or};
-ghost use Rattle.svc_draw.specs.Values.{committed_text, letters_before, saying, sentence, value_text, value_words, values_text, words_of};
+ghost use Rattle.std.specs.Prelude.{◌≡◌, ◌++◌, ◌≤◌, OnOk, get_or, unwrap_or};
+ghost use Rattle.svc_draw.specs.Values.{committed_text, edges_after, letters_before, saying, sentence, value_text, value_words, values_text, words_of};
 ghost use Rattle.svc_shapes.specs.Shapes.{label};
 
 use crate::drawing::digits;
@@ -134,6 +134,23 @@ fn write_words(frame: &Frame, edge: u64, mark: &Mark, text: &mut Vec<u8>) -> Res
     }
 }
 
+// Writes a mark's words, and notes where the mark ends on its lane.
+fn write_next(
+    frame: &Frame,
+    mark: &Mark,
+    edges: &mut [u64; 256],
+    text: &mut Vec<u8>,
+) -> Result<(), AllocError>
+    ensures text { OnOk result (text.new.items ≡ text.old.items
+        ++ words_of frame.now.sheet (get_or edges.old mark.now.entry.unit.0 0) mark.now mark.now.kind) }
+    ensures edges { OnOk result (edges.new ≡ edges_after frame.now.sheet mark.now edges.old) }
+{
+    let lane = mark.entry.unit.0 as usize;
+    write_words(frame, edges[lane], mark, text)?;
+    edges[lane] = frame.x(mark.place) + frame.radius() as u64;
+    Ok(())
+}
+
 /// Writes the words of the marks.
 pub(crate) fn write_values(
     frame: &Frame,
@@ -144,9 +161,7 @@ pub(crate) fn write_values(
 {
     let mut edges = [LEFT; 256];
     for mark in marks {
-        let lane = mark.entry.unit.0 as usize;
-        write_words(frame, edges[lane], mark, text)?;
-        edges[lane] = frame.x(mark.place) + frame.radius() as u64;
+        write_next(frame, mark, &mut edges, text)?;
     }
     Ok(())
 }
