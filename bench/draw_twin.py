@@ -6,7 +6,7 @@ draw_twin.py TRACE [FROM] [COUNT]
 import csv
 import sys
 
-KINDS = {"loaded": "load", "stored": "store", "emitted": "output", "committed": "commit"}
+KINDS = {"loaded": "load", "stored": "store", "emitted": "output", "replaced": "replace", "committed": "commit"}
 FATES = {"violation": "violation", "guess": "guess", "cancel": "cancel"}
 
 

@@ -43,7 +43,7 @@ def chrome(rows, units):
     stores = {}
     for at, row in enumerate(rows):
         unit, word, value = int(row["unit"]), number(row["addr"]), number(row["word"])
-        kind = KINDS.get(row["reply"])
+        kind = None if row["reply"] == "replaced" else KINDS.get(row["reply"])
         runs = [t for t in tasks if t.unit == row["unit"] and t.first <= at and (t.last is None or at <= t.last)]
         if kind == "commit":
             yield event(kind, "i", at, unit, after={"s": "t"}, args=fields(entry=at, task=value))

@@ -17,24 +17,44 @@ NAMES = {
     "cancel": "squashed: cancelled",
 }
 STEPS = [1, 2, 5, 10, 20, 50, 100, 200, 500, 1000, 2000, 5000, 10000, 20000, 50000, 100000]
-RIM = "paint-order='stroke' stroke='#fff' stroke-width='4' stroke-linejoin='round'"
+LETTERS = {"": "", "hit": "H", "reuse": "R", "version": "V", "spill": "S", "committed": "C", "memory": "M"}
+RIM = "<g paint-order='stroke' stroke='#fff' stroke-width='4' stroke-linejoin='round'>\n"
 
 
-def ring(x, y, size):
-    return f"<circle cx='{x}' cy='{y}' r='{size}' fill='#fff' stroke='#111' stroke-width='2'>"
+def shape(kind, size):
+    """A kind of mark, about its middle."""
+    more = size + 2
+    return {
+        "load": f"<circle r='{size}' fill='#fff' stroke='#111' stroke-width='2'/>",
+        "store": f"<rect x='-{size}' y='-{size}' width='{2 * size}' height='{2 * size}' fill='#111'/>",
+        "output": f"<path d='M-{more} 0L0 -{more}L{more} 0L0 {more}Z' fill='#ffe04a' stroke='#111' stroke-width='2'/>",
+        "replace": f"<path d='M-{size} -{size}L{size} {size}M-{size} {size}L{size} -{size}' stroke='#111' stroke-width='3'/>",
+    }[kind]
 
 
-def square(x, y, size):
-    return f"<rect x='{x - size}' y='{y - size}' width='{2 * size}' height='{2 * size}' fill='#111'>"
+def letter(size, fill, text):
+    if size >= 7:
+        style = f"font-size='{size + 2}' font-weight='bold' text-anchor='middle' fill='{fill}'"
+        return f"<text y='{(size + 2) * 9 // 25}' {style}>{text}</text>"
+    return f"<text y='-{size + 2}' font-size='9' font-weight='bold' text-anchor='middle'>{text}</text>"
 
 
-def diamond(x, y, size):
-    half = size + 2
-    return f"<path d='M{x - half} {y}L{x} {y - half}L{x + half} {y}L{x} {y + half}Z' fill='#ffe04a' stroke='#111' stroke-width='2'>"
+def kinds(size):
+    text = ""
+    for kind in ["load", "store", "output", "replace"]:
+        text += f"<g id='{kind}'>{shape(kind, size)}</g>\n"
+    for supplier in "HRVSCM":
+        for kind, fill in [("load", "#111"), ("store", "#fff")]:
+            text += f"<g id='{kind}{supplier}'>{shape(kind, size)}{letter(size, fill, supplier)}</g>\n"
+    return text
+
+
+def sample(x, y, kind, after, words):
+    return f"<use href='#{kind}' x='{x}' y='{y}'/><text x='{after}' y='{y + 5}'>{words}</text>\n"
 
 
 def label(x, y, style, words):
-    return f"<text x='{x}' y='{y}' {style} {RIM}>{words}</text>\n"
+    return f"<text x='{x}' y='{y}' {style}>{words}</text>\n"
 
 
 class Picture:
@@ -96,34 +116,33 @@ class Picture:
         for name, turn, paper, lines in patterns:
             text += f"<pattern id='{name}' width='8' height='8' patternUnits='userSpaceOnUse'{turn}>"
             text += f"<rect width='8' height='8' fill='{paper}'/>{lines}</pattern>\n"
-        text += "</defs>\n<rect width='1600' height='900' fill='#fff'/>\n<defs>"
+        text += "</defs>\n<rect width='1600' height='900' fill='#fff'/>\n<defs>\n"
         for name, width, height, tip, path, color in [
             ("thin", 12, 10, 11, "M0 0L11 5L0 10Z", "#14508c"), ("bold", 18, 16, 18, "M0 0L17 8L0 16Z", "#b01010"),
         ]:
             text += f"<marker id='{name}' markerWidth='{width}' markerHeight='{height}' refX='{tip + self.radius}' refY='{height // 2}' "
             text += f"orient='auto' markerUnits='userSpaceOnUse'><path d='{path}' fill='{color}'/></marker>"
-        return text + "</defs>\n"
+        return text + "\n" + kinds(self.radius) + "</defs>\n"
 
     def legend(self):
         count = self.end - self.begin
         text = "<text x='90' y='30' font-size='18' font-weight='bold'>"
         text += f"{count} of {self.total} entries, from entry {self.begin}; units: {self.units}</text>\n"
+        for x, by in [(790, "hit"), (875, "reuse"), (980, "version"), (1095, "spill"), (1190, "committed"), (1325, "memory")]:
+            text += sample(x, 25, "load" + LETTERS[by], x + 20, by)
+        text += sample(1445, 25, "replace", 1465, "line replaced")
         for x, fate in zip(range(90, 1011, 230), ["committed", "violation", "guess", "cancel", "active"]):
             text += f"<rect x='{x}' y='48' width='32' height='18' fill='{FILLS[fate]}' stroke='#111'/>"
             text += f"<text x='{x + 40}' y='62'>{NAMES[fate]}</text>\n"
-        samples = [
-            (ring(106, 90, 8), "circle", 130, "load"), (square(226, 90, 8), "rect", 250, "store"),
-            (diamond(346, 90, 8), "path", 370, "word put out"),
-        ]
-        for shape, element, x, name in samples:
-            text += f"{shape}</{element}><text x='{x}' y='95'>{name}</text>\n"
+        for x, kind, words in [(106, "load", "load"), (226, "store", "store"), (346, "output", "word put out")]:
+            text += sample(x, 90, kind, x + 24, words)
         text += "<path d='M550 80V100' stroke='#2e7d32' stroke-width='2' stroke-dasharray='6 4'/><text x='562' y='95'>commit</text>\n"
         for color, width, name, start, end, words in [
             ("#14508c", 2, "thin", 670, 735, "a version goes from its store to a reader"),
             ("#b01010", 4, "bold", 1090, 1160, "a store finds a read too early, and squashes its task"),
         ]:
             text += f"<path d='M{start} 90H{end}' stroke='{color}' stroke-width='{width}' marker-end='url(#{name})'/>"
-            text += f"{ring(end, 90, self.radius)}</circle><text x='{end + 20}' y='95'>{words}</text>\n"
+            text += sample(end, 90, "load", end + 20, words)
         return text
 
     def lanes(self):
@@ -156,7 +175,7 @@ class Picture:
         stores, found = {}, []
         for at in range(self.begin, self.end):
             row = self.rows[at]
-            kind = {"loaded": "load", "stored": "store", "emitted": "output", "committed": "commit"}.get(row["reply"])
+            kind = {"loaded": "load", "stored": "store", "emitted": "output", "replaced": "replace", "committed": "commit"}.get(row["reply"])
             if kind:
                 found.append((kind, at, None))
             if row["from"] and row["served"] in ("version", "spill", "committed"):
@@ -186,28 +205,42 @@ class Picture:
     def mark(self, mark):
         kind, at, _ = mark
         (x, y), (right, down) = self.ends(mark)
+        row = self.rows[at]
+        used = kind + (LETTERS[row["served"]] if kind in ("load", "store") else "")
         shape, element = {
-            "load": (ring(x, y, self.radius), "circle"),
-            "store": (square(x, y, self.radius), "rect"),
-            "output": (diamond(x, y, self.radius), "path"),
             "commit": (f"<path d='M{x} 118V838' fill='none' stroke='#2e7d32' stroke-width='2' stroke-dasharray='6 4'>", "path"),
             "version": (f"<path d='M{right} {down}L{x} {y}' fill='none' stroke='#14508c' stroke-width='2' marker-end='url(#thin)'>", "path"),
             "violation": (f"<path d='M{x} {y}L{right} {down}' fill='none' stroke='#b01010' stroke-width='4' marker-end='url(#bold)'>", "path"),
-        }[kind]
+        }.get(kind, (f"<use href='#{used}' x='{x}' y='{y}'>", "use"))
         return f"{shape}<title>entry {at}: {self.lines[at + 1]}</title></{element}>\n"
 
-    def words(self, mark):
+    def all_words(self, marks):
+        """The words of marks, which have room up to the mark before theirs on the lane."""
+        edges, text = {}, ""
+        for mark in marks:
+            unit = self.rows[mark[1]]["unit"]
+            text += self.words(mark, edges.get(unit, LEFT))
+            edges[unit] = self.x(mark[1]) + self.radius
+        return text
+
+    def words(self, mark, edge):
         kind, at, _ = mark
         row = self.rows[at]
         (x, y), (right, down) = self.ends(mark)
         value = row["word"] or "0"
         ended = "text-anchor='end'"
+        if kind in ("load", "store", "output"):
+            end = x - self.radius - 6
+            letters = max(end - edge, 0) // 8
+            both = f"word {row['addr']} = {value}" if row["addr"] else value
+            words = both if len(both) <= letters else value
+            return label(end, y + 5, ended, words) if len(value) <= letters else ""
+        if kind == "replace" or WIDTH // self.shown < 100 or self.bar_height < 60:
+            return ""
         if kind == "commit":
             return label(x - 6, 136, ended, f"task {value} is committed")
-        if kind in ("version", "violation"):
-            words = "the version goes to a reader" if kind == "version" else "read too early"
-            return label((x + right) // 2 + 12, (y + down) // 2 + 2, "font-style='italic'", words)
-        return label(x - self.radius - 6, y + 5, ended, f"word {row['addr']} = {value}" if row["addr"] else value)
+        words = "the version goes to a reader" if kind == "version" else "read too early"
+        return label((x + right) // 2 + 12, (y + down) // 2 + 2, "font-style='italic'", words)
 
     def axis(self):
         step = next((s for s in STEPS if 44 * self.shown <= s * WIDTH), 100000)
@@ -221,12 +254,11 @@ class Picture:
 
     def text(self):
         marks = self.marks()
-        layers = [["commit"], ["version", "violation"], ["load", "store", "output"]]
+        layers = [["commit"], ["version", "violation"], ["load", "store", "output", "replace"]]
         parts = [self.head(), self.legend(), self.lanes(), *map(self.bar, self.bars)]
         parts += [self.mark(m) for layer in layers for m in marks if m[0] in layer]
-        if WIDTH // self.shown >= 100 and self.bar_height >= 60:
-            parts += map(self.words, marks)
-        return "".join(parts + [*map(self.bar_name, self.bars), self.axis(), "</svg>\n"])
+        parts += [RIM, self.all_words(marks), *map(self.bar_name, self.bars), "</g>\n"]
+        return "".join(parts + [self.axis(), "</svg>\n"])
 
 
 def main(path, units, begin=0, count=400):

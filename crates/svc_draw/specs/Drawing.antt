@@ -1,7 +1,6 @@
 -- The bars and marks of a picture, as they are drawn.
-use Rattle.std.specs.Prelude.{ℕ, ◌+◌, ◌-◌, ◌/◌, ◌==◌, nat_le, nat_lt, cond, List, [], ◌∷◌, ◌++◌, Option, Some, None, unwrap_or, length, flat_map, codes, decimal}
+use Rattle.std.specs.Prelude.{ℕ, ◌+◌, ◌-◌, ◌/◌, ◌==◌, nat_le, nat_lt, cond, List, [], ◌∷◌, ◌++◌, length, flat_map, codes, decimal}
 use Rattle.std.specs.List.{concat}
-use Rattle.svc_base.specs.declared.ids.WordAddr.{WordAddr}
 use Rattle.svc_history_laws.specs.declared.entry.Entry.{Entry}
 use Rattle.svc_report.specs.Trace.{row_of}
 use Rattle.svc_task_runs.specs.declared.task_run.Fate.{Fate}
@@ -11,9 +10,9 @@ use Rattle.svc_marks.specs.declared.marks.Mark.{Mark}
 use Rattle.svc_marks.specs.declared.marks.MarkKind.{MarkKind}
 use Rattle.svc_marks.specs.declared.marks.MarkKind.TheVariants as mark
 use Rattle.svc_draw.specs.declared.sheet.Sheet.{Sheet}
-use Rattle.svc_shapes.specs.declared.sheet.TheConstants.{TOP}
-use Rattle.svc_draw.specs.Frame.{bar_height, bar_left, bar_top, bar_width, end_x, end_y, is_wide, mark_x, mark_y, radius}
-use Rattle.svc_shapes.specs.Shapes.{bar_box, bold_arrow, box_title, close, commit_line, diamond, label, ring, square, thin_arrow, title_open}
+use Rattle.svc_draw.specs.Frame.{bar_height, bar_left, bar_top, bar_width, end_x, end_y, mark_x, mark_y}
+use Rattle.svc_draw.specs.Kinds.{letter_of}
+use Rattle.svc_shapes.specs.Shapes.{bar_box, bold_arrow, box_title, close, commit_line, label, mark_at, thin_arrow, title_open}
 
 -- ---- bars
 
@@ -61,20 +60,22 @@ bar_name s b =
 
 -- ---- marks
 
--- the shape of a mark of a kind
+-- the mark of a kind, with the letter of who supplied what it read
 abbrev pub mark_shape : Sheet → Mark → MarkKind → List ℕ
-mark_shape s m mark.Load = ring (mark_x s m) (mark_y s m) (radius s)
-mark_shape s m mark.Store = square (mark_x s m) (mark_y s m) (radius s)
-mark_shape s m mark.PutOut = diamond (mark_x s m) (mark_y s m) (radius s)
+mark_shape s m mark.Load = mark_at (mark_x s m) (mark_y s m) (codes "load") (letter_of m.entry.served)
+mark_shape s m mark.Store = mark_at (mark_x s m) (mark_y s m) (codes "store") (letter_of m.entry.served)
+mark_shape s m mark.PutOut = mark_at (mark_x s m) (mark_y s m) (codes "output") []
+mark_shape s m mark.Replace = mark_at (mark_x s m) (mark_y s m) (codes "replace") []
 mark_shape s m mark.Commit = commit_line (mark_x s m)
 mark_shape s m mark.Handed = thin_arrow (end_x s m m.other) (end_y s m m.other) (mark_x s m) (mark_y s m)
 mark_shape s m mark.Squash = bold_arrow (mark_x s m) (mark_y s m) (end_x s m m.other) (end_y s m m.other)
 
--- the element of that shape
+-- the element of that mark
 abbrev pub element_of : MarkKind → List ℕ
-element_of mark.Load = codes "circle"
-element_of mark.Store = codes "rect"
-element_of _ = codes "path"
+element_of mark.Commit = codes "path"
+element_of mark.Handed = codes "path"
+element_of mark.Squash = codes "path"
+element_of _ = codes "use"
 
 -- the title of a mark: its entry's number, and that entry's row of the trace
 unfoldable pub title : (place : ℕ) → Entry → List ℕ
@@ -97,39 +98,3 @@ mark_in s wanted m = cond (layer m.kind == wanted) (mark_text s m) []
 
 unfoldable pub layer_text : Sheet → (wanted : ℕ) → List Mark → List ℕ
 layer_text s wanted ms = flat_map (mark_in s wanted) ms
-
--- ---- what stands beside marks
-
--- the value of a load or a store, with its word, or the word that was output
-abbrev pub value_words : Option WordAddr → (value : ℕ) → List ℕ
-value_words None value = concat (decimal value ∷ [])
-value_words (Some word) value = concat (codes "word " ∷ decimal word.0 ∷ codes " = " ∷ decimal value ∷ [])
-
--- it stands before its shape
-unfoldable pub value_text : Sheet → Mark → List ℕ
-value_text s m =
-    label (mark_x s m - radius s - 6) (mark_y s m + 5) (codes "text-anchor='end'")
-    (value_words m.entry.addr (unwrap_or m.entry.word 0))
-
--- the task that is committed, at the top of its line
-unfoldable pub committed_text : Sheet → Mark → List ℕ
-committed_text s m =
-    label (mark_x s m - 6) (TOP + 18) (codes "text-anchor='end'")
-    (concat (codes "task " ∷ decimal (unwrap_or m.entry.word 0) ∷ codes " is committed" ∷ []))
-
--- what an arrow says, at its middle
-unfoldable pub saying : Sheet → Mark → (words : List ℕ) → List ℕ
-saying s m words =
-    label ((mark_x s m + end_x s m m.other) / 2 + 12) ((mark_y s m + end_y s m m.other) / 2 + 2)
-    (codes "font-style='italic'") words
-
--- the words of a mark of a kind
-abbrev pub words_of : Sheet → Mark → MarkKind → List ℕ
-words_of s m mark.Commit = committed_text s m
-words_of s m mark.Handed = saying s m (codes "the version goes to a reader")
-words_of s m mark.Squash = saying s m (codes "read too early")
-words_of s m _ = value_text s m
-
--- those of all marks, if there is room
-unfoldable pub values_text : Sheet → List Mark → List ℕ
-values_text s ms = cond (is_wide s) (flat_map (λ m. words_of s m m.kind) ms) []

@@ -1,13 +1,17 @@
 -- What surrounds the bars and marks of a picture: its legend, its lanes and its axis.
-use Rattle.std.specs.Prelude.{ℕ, ◌+◌, ◌-◌, ◌*◌, ◌/◌, ◌%◌, ◌==◌, nat_le, max, Bool, cond, List, [], ◌∷◌, ◌++◌, unwrap_or, flat_map, codes}
+use Rattle.std.specs.Prelude.{ℕ, ◌+◌, ◌-◌, ◌*◌, ◌/◌, ◌%◌, ◌==◌, nat_le, max, Bool, cond, List, [], ◌∷◌, ◌++◌, Some, unwrap_or, flat_map, codes}
 use Rattle.std.specs.List.{find, range_with_len}
+use Rattle.svc_history_laws.specs.declared.entry.ServedKind.{ServedKind}
+use Rattle.svc_history_laws.specs.declared.entry.ServedKind.TheVariants as by
+use Rattle.svc_report.specs.Fields.{served_word}
 use Rattle.svc_task_runs.specs.declared.task_run.Fate.{Fate}
 use Rattle.svc_task_runs.specs.declared.task_run.Fate.TheVariants as fate
 use Rattle.svc_draw.specs.declared.sheet.Sheet.{Sheet}
 use Rattle.svc_shapes.specs.declared.sheet.TheConstants.{WIDTH}
 use Rattle.svc_draw.specs.Drawing.{fill_of, name_of}
-use Rattle.svc_draw.specs.Frame.{lane_top, radius, shown, x_of}
-use Rattle.svc_shapes.specs.Shapes.{axis_words, bold_sample, border, commit_sample, diamond, fate_sample, paper_text, hatching, headline, lane, opening, ring, sample_end, square, thin_sample, tick}
+use Rattle.svc_draw.specs.Frame.{lane_top, shown, x_of}
+use Rattle.svc_draw.specs.Kinds.{letter_of}
+use Rattle.svc_shapes.specs.Shapes.{axis_words, bold_sample, border, commit_sample, fate_sample, paper_text, hatching, headline, lane, mark_sample, opening, thin_sample, tick}
 
 -- ---- what each picture begins with
 
@@ -37,29 +41,36 @@ fate_samples =
     ++ sample_of 1010 fate.Active
 
 -- samples of marks, with their names after them
-unfoldable pub ring_sample : (x size after : ℕ) → (name : List ℕ) → List ℕ
-ring_sample x size after name = ring x 90 size ++ sample_end (codes "circle") after name
+unfoldable pub load_sample : (x after : ℕ) → (words : List ℕ) → List ℕ
+load_sample x after words = mark_sample x 90 (codes "load") [] after words
 
-unfoldable pub square_sample : List ℕ
-square_sample = square 226 90 8 ++ sample_end (codes "rect") 250 (codes "store")
-
-unfoldable pub diamond_sample : List ℕ
-diamond_sample = diamond 346 90 8 ++ sample_end (codes "path") 370 (codes "word put out")
-
--- one of each shape
+-- one of each kind
 unfoldable pub mark_samples : List ℕ
-mark_samples = ring_sample 106 8 130 (codes "load") ++ square_sample ++ diamond_sample ++ commit_sample
+mark_samples =
+    load_sample 106 130 (codes "load") ++ mark_sample 226 90 (codes "store") [] 250 (codes "store")
+    ++ mark_sample 346 90 (codes "output") [] 370 (codes "word put out") ++ commit_sample
 
--- a sample of each arrow, whose head ends at the rim of a mark of this size
-unfoldable pub arrow_samples : (size : ℕ) → List ℕ
-arrow_samples size =
-    thin_sample ++ ring_sample 735 size 755 (codes "a version goes from its store to a reader")
-    ++ bold_sample ++ ring_sample 1160 size 1180 (codes "a store finds a read too early, and squashes its task")
+-- a sample of each arrow
+unfoldable pub arrow_samples : List ℕ
+arrow_samples =
+    thin_sample ++ load_sample 735 755 (codes "a version goes from its store to a reader") ++ bold_sample
+    ++ load_sample 1160 1180 (codes "a store finds a read too early, and squashes its task")
+
+-- a load that a supplier served
+unfoldable pub supplier_sample : (x after : ℕ) → ServedKind → List ℕ
+supplier_sample x after by = mark_sample x 25 (codes "load") (letter_of (Some by)) after (served_word by)
+
+-- one of each, and a line that was let go
+unfoldable pub supplier_samples : List ℕ
+supplier_samples =
+    supplier_sample 790 810 by.Hit ++ supplier_sample 875 895 by.Reuse ++ supplier_sample 980 1000 by.Version
+    ++ supplier_sample 1095 1115 by.Spill ++ supplier_sample 1190 1210 by.Committed
+    ++ supplier_sample 1325 1345 by.Memory ++ mark_sample 1445 25 (codes "replace") [] 1465 (codes "line replaced")
 
 unfoldable pub legend : Sheet → (total : ℕ) → List ℕ
 legend s total =
-    headline (s.window.to - s.window.from) total s.window.from s.units ++ fate_samples ++ mark_samples
-    ++ arrow_samples (radius s)
+    headline (s.window.to - s.window.from) total s.window.from s.units ++ supplier_samples ++ fate_samples
+    ++ mark_samples ++ arrow_samples
 
 -- ---- lanes
 

@@ -5,15 +5,21 @@ use Rattle.svc_marks.specs.declared.bars.Bar.{Bar}
 use Rattle.svc_marks.specs.declared.marks.Mark.{Mark}
 use Rattle.svc_draw.specs.declared.sheet.Sheet.{Sheet}
 use Rattle.svc_marks.specs.Bars.{bars_of, window_of}
-use Rattle.svc_draw.specs.Drawing.{bar_name, bar_text, layer_text, values_text}
+use Rattle.svc_draw.specs.Drawing.{bar_name, bar_text, layer_text}
 use Rattle.svc_draw.specs.Frame.{radius}
+use Rattle.svc_draw.specs.Kinds.{plain_kinds, supplied_kinds}
 use Rattle.svc_draw.specs.Legend.{axis, head, lanes, legend}
 use Rattle.svc_marks.specs.Marks.{marks_of}
-use Rattle.svc_shapes.specs.Shapes.{arrow_heads, closing}
+use Rattle.svc_draw.specs.Values.{values_text}
+use Rattle.svc_shapes.specs.Shapes.{arrow_heads, closing, parts_close, parts_open, rim_close, rim_open}
 
--- what lies below: the heads of arrows, the legend and the lanes
+-- what is made once, and used where it stands: the heads of arrows and the kinds of marks
+unfoldable pub parts : (size : ℕ) → List ℕ
+parts size = parts_open ++ arrow_heads size ++ plain_kinds size ++ supplied_kinds size ++ parts_close
+
+-- what lies below: these, the legend and the lanes
 unfoldable pub surroundings : Sheet → (total : ℕ) → List ℕ
-surroundings s total = head ++ arrow_heads (radius s) ++ legend s total ++ lanes s
+surroundings s total = head ++ parts (radius s) ++ legend s total ++ lanes s
 
 -- the bars, and on them the marks, layer by layer
 unfoldable pub things : Sheet → List Bar → List Mark → List ℕ
@@ -21,7 +27,7 @@ things s bs ms = flat_map (bar_text s) bs ++ layer_text s 0 ms ++ layer_text s 1
 
 -- and on these the words
 unfoldable pub words : Sheet → List Bar → List Mark → List ℕ
-words s bs ms = values_text s ms ++ flat_map (bar_name s) bs ++ axis s
+words s bs ms = rim_open ++ values_text s ms ++ flat_map (bar_name s) bs ++ rim_close ++ axis s
 
 -- a picture of these bars and marks, of a history of so many entries
 unfoldable pub picture_text : Sheet → (total : ℕ) → List Bar → List Mark → List ℕ

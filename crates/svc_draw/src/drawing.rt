@@ -5,14 +5,14 @@ ghost use Rattle.svc_draw.specs.Drawing.{bar_name, bar_text, element_of, fill_of
 ghost use Rattle.svc_shapes.specs.Shapes.{label};
 
 use crate::frame::Frame;
+use crate::kinds::letter_of;
 use crate::row::put_row;
 use itoa::Buffer;
 use std::alloc::AllocError;
 use svc_history_laws::Entry;
 use svc_marks::{Bar, Mark, MarkKind};
 use svc_shapes::{
-    bar_box, bold_arrow, box_title, close, commit_line, diamond, label, ring, square, thin_arrow,
-    title_open,
+    bar_box, bold_arrow, box_title, close, commit_line, label, mark_at, thin_arrow, title_open,
 };
 use svc_task_runs::Fate;
 use svc_text::{Part, Piece};
@@ -70,8 +70,8 @@ pub(crate) fn write_bars(frame: &Frame, bars: &[Bar], text: &mut Vec<u8>) -> Res
     Ok(())
 }
 
-// How many digits a number has.
-fn digits(number: u64) -> u64
+/// How many digits a number has.
+pub(crate) fn digits(number: u64) -> u64
     ensures value { result ≡ length (decimal number) }
     ensures few { result ≤ 20 }
 {
@@ -150,9 +150,8 @@ fn element_of(kind: MarkKind) -> &'static str
     ensures { result.now ≡ element_of kind }
 {
     match kind {
-        MarkKind::Load => "circle",
-        MarkKind::Store => "rect",
-        MarkKind::PutOut | MarkKind::Commit | MarkKind::Handed | MarkKind::Squash => "path",
+        MarkKind::Load | MarkKind::Store | MarkKind::PutOut | MarkKind::Replace => "use",
+        MarkKind::Commit | MarkKind::Handed | MarkKind::Squash => "path",
     }
 }
 
@@ -161,11 +160,12 @@ fn write_shape(frame: &Frame, mark: &Mark, text: &mut Vec<u8>) -> Result<(), All
     ensures { OnOk result (text.new.items ≡ text.old.items ++ mark_shape frame.now.sheet mark.now mark.now.kind) }
 {
     let middle = frame.at(mark);
-    let size = frame.radius();
+    let letter = letter_of(mark.entry.served);
     match mark.kind {
-        MarkKind::Load => ring(text, middle, size),
-        MarkKind::Store => square(text, middle, size),
-        MarkKind::PutOut => diamond(text, middle, size),
+        MarkKind::Load => mark_at(text, middle, "load", letter),
+        MarkKind::Store => mark_at(text, middle, "store", letter),
+        MarkKind::PutOut => mark_at(text, middle, "output", ""),
+        MarkKind::Replace => mark_at(text, middle, "replace", ""),
         MarkKind::Commit => commit_line(text, middle.x as u64),
         MarkKind::Handed => thin_arrow(text, frame.other_end(mark), middle),
         MarkKind::Squash => bold_arrow(text, middle, frame.other_end(mark)),
@@ -190,7 +190,7 @@ fn layer(kind: MarkKind) -> u8
     match kind {
         MarkKind::Commit => 0,
         MarkKind::Handed | MarkKind::Squash => 1,
-        MarkKind::Load | MarkKind::Store | MarkKind::PutOut => 2,
+        MarkKind::Load | MarkKind::Store | MarkKind::PutOut | MarkKind::Replace => 2,
     }
 }
 

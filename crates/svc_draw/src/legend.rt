@@ -4,15 +4,18 @@ ghost use Rattle.std.specs.Prelude.{◌≡◌, ◌++◌, ◌≤◌, ◌<◌, ◌
 ghost use Rattle.std.specs.List.{find};
 ghost use Rattle.svc_base.specs.declared.config.TheConstants.{MAX_EVENTS};
 ghost use Rattle.svc_draw.specs.Frame.{shown};
-ghost use Rattle.svc_draw.specs.Legend.{arrow_samples, axis, diamond_sample, fate_samples, has_room, hatchings, head, lane_fill, lane_text, lanes, legend, mark_samples, number_at, ring_sample, sample_of, square_sample, step_for};
+ghost use Rattle.svc_draw.specs.Legend.{arrow_samples, axis, fate_samples, has_room, hatchings, head, lane_fill, lane_text, lanes, legend, load_sample, mark_samples, number_at, sample_of, step_for, supplier_sample, supplier_samples};
 
 use crate::drawing::{fill_of, name_of};
 use crate::frame::Frame;
+use crate::kinds::letter_of;
 use std::alloc::AllocError;
+use svc_history_laws::ServedKind;
+use svc_report::Word;
 use svc_shapes::sheet::WIDTH;
 use svc_shapes::{
-    Point, axis_words, bold_sample, border, commit_sample, diamond, fate_sample, hatching,
-    headline, lane, opening, paper_text, ring, sample_end, square, thin_sample, tick,
+    Point, axis_words, bold_sample, border, commit_sample, fate_sample, hatching, headline, lane,
+    mark_sample, opening, paper_text, thin_sample, tick,
 };
 use svc_task_runs::Fate;
 
@@ -71,65 +74,70 @@ fn write_fates(text: &mut Vec<u8>) -> Result<(), AllocError>
     Ok(())
 }
 
-// Writes a sample of a load, with a name after it.
-#[tactic(auto, unfolding(crate::specs::Legend::ring_sample))]
-fn write_ring(
-    text: &mut Vec<u8>,
-    x: u32,
-    size: u32,
-    after: u64,
-    name: &str,
-) -> Result<(), AllocError>
-    ensures { OnOk result (text.new.items ≡ text.old.items ++ ring_sample x size after name.now) }
+// Writes a sample of a load, with words after it.
+#[tactic(auto, unfolding(crate::specs::Legend::load_sample))]
+fn write_load(text: &mut Vec<u8>, x: u32, after: u32, words: &str) -> Result<(), AllocError>
+    ensures { OnOk result (text.new.items ≡ text.old.items ++ load_sample x after words.now) }
 {
-    ring(text, Point { x, y: 90 }, size)?;
-    sample_end(text, "circle", after, name)?;
-    Ok(())
+    mark_sample(text, Point { x, y: 90 }, "load", "", after, words)
 }
 
-// Writes a sample of a store.
-#[tactic(auto, unfolding(crate::specs::Legend::square_sample))]
-fn write_square(text: &mut Vec<u8>) -> Result<(), AllocError>
-    ensures { OnOk result (text.new.items ≡ text.old.items ++ square_sample) }
-{
-    square(text, Point { x: 226, y: 90 }, 8)?;
-    sample_end(text, "rect", 250, "store")?;
-    Ok(())
-}
-
-// Writes a sample of an output word.
-#[tactic(auto, unfolding(crate::specs::Legend::diamond_sample))]
-fn write_diamond(text: &mut Vec<u8>) -> Result<(), AllocError>
-    ensures { OnOk result (text.new.items ≡ text.old.items ++ diamond_sample) }
-{
-    diamond(text, Point { x: 346, y: 90 }, 8)?;
-    sample_end(text, "path", 370, "word put out")?;
-    Ok(())
-}
-
-// Writes a sample of each shape.
+// Writes a sample of each kind of mark.
 #[tactic(auto, unfolding(crate::specs::Legend::mark_samples))]
-fn write_shapes(text: &mut Vec<u8>) -> Result<(), AllocError>
+fn write_marks(text: &mut Vec<u8>) -> Result<(), AllocError>
     ensures { OnOk result (text.new.items ≡ text.old.items ++ mark_samples) }
 {
-    write_ring(text, 106, 8, 130, "load")?;
-    write_square(text)?;
-    write_diamond(text)?;
+    let output = "word put out";
+    write_load(text, 106, 130, "load")?;
+    mark_sample(text, Point { x: 226, y: 90 }, "store", "", 250, "store")?;
+    mark_sample(text, Point { x: 346, y: 90 }, "output", "", 370, output)?;
     commit_sample(text)?;
     Ok(())
 }
 
-// Writes a sample of each arrow, whose head ends at the rim of a mark of this size.
+// Writes a sample of each arrow.
 #[tactic(auto, unfolding(crate::specs::Legend::arrow_samples))]
-fn write_arrows(size: u32, text: &mut Vec<u8>) -> Result<(), AllocError>
-    ensures { OnOk result (text.new.items ≡ text.old.items ++ arrow_samples size) }
+fn write_arrows(text: &mut Vec<u8>) -> Result<(), AllocError>
+    ensures { OnOk result (text.new.items ≡ text.old.items ++ arrow_samples) }
 {
     let thin = "a version goes from its store to a reader";
     let bold = "a store finds a read too early, and squashes its task";
     thin_sample(text)?;
-    write_ring(text, 735, size, 755, thin)?;
+    write_load(text, 735, 755, thin)?;
     bold_sample(text)?;
-    write_ring(text, 1160, size, 1180, bold)?;
+    write_load(text, 1160, 1180, bold)?;
+    Ok(())
+}
+
+// Writes a sample of a load that a supplier served.
+#[tactic(auto, unfolding(crate::specs::Legend::supplier_sample))]
+fn write_supplier(text: &mut Vec<u8>, x: u32, after: u32, by: ServedKind) -> Result<(), AllocError>
+    ensures { OnOk result (text.new.items ≡ text.old.items ++ supplier_sample x after by) }
+{
+    let letter = letter_of(Some(by));
+    mark_sample(text, Point { x, y: 25 }, "load", letter, after, by.text())
+}
+
+// Writes a sample of each of these, and one of a replacement.
+#[tactic(auto, unfolding(crate::specs::Legend::supplier_samples))]
+fn write_suppliers(text: &mut Vec<u8>) -> Result<(), AllocError>
+    ensures { OnOk result (text.new.items ≡ text.old.items ++ supplier_samples) }
+{
+    let replaced = "line replaced";
+    write_supplier(text, 790, 810, ServedKind::Hit)?;
+    write_supplier(text, 875, 895, ServedKind::Reuse)?;
+    write_supplier(text, 980, 1000, ServedKind::Version)?;
+    write_supplier(text, 1095, 1115, ServedKind::Spill)?;
+    write_supplier(text, 1190, 1210, ServedKind::Committed)?;
+    write_supplier(text, 1325, 1345, ServedKind::Memory)?;
+    mark_sample(
+        text,
+        Point { x: 1445, y: 25 },
+        "replace",
+        "",
+        1465,
+        replaced,
+    )?;
     Ok(())
 }
 
@@ -141,9 +149,10 @@ pub(crate) fn write_legend(frame: &Frame, total: u64, text: &mut Vec<u8>) -> Res
     let from = frame.sheet.window.from;
     let count = frame.sheet.window.to - from;
     headline(text, count, total, from, u64::from(frame.sheet.units))?;
+    write_suppliers(text)?;
     write_fates(text)?;
-    write_shapes(text)?;
-    write_arrows(frame.radius(), text)?;
+    write_marks(text)?;
+    write_arrows(text)?;
     Ok(())
 }
 

@@ -3,6 +3,7 @@
 
 mod drawing;
 mod frame;
+mod kinds;
 mod legend;
 mod picture;
 mod row;

@@ -3,10 +3,11 @@
 ghost use Rattle.std.specs.Prelude.{◌≡◌, ◌++◌, ◌≤◌, IfErr, IfOk, OnOk, length};
 ghost use Rattle.svc_base.specs.declared.config.TheConstants.{MAX_EVENTS, MAX_UNITS};
 ghost use Rattle.svc_report.specs.Faults.{IsMemoryFault};
-ghost use Rattle.svc_draw.specs.Picture.{picture_of, picture_text, surroundings, things, words};
+ghost use Rattle.svc_draw.specs.Picture.{parts, picture_of, picture_text, surroundings, things, words};
 
 use crate::drawing::{write_bars, write_layer, write_names};
 use crate::frame::Frame;
+use crate::kinds::{write_plain_kinds, write_supplied_kinds};
 use crate::legend::{write_axis, write_head, write_lanes, write_legend};
 use crate::sheet::Sheet;
 use crate::values::write_values;
@@ -14,15 +15,29 @@ use std::alloc::{AllocError, Global};
 use svc_history_laws::Entry;
 use svc_marks::{Bar, Mark, Window, bars_of, marks_of};
 use svc_report::ReportError;
-use svc_shapes::{arrow_heads, closing};
+use svc_shapes::{arrow_heads, closing, parts_close, parts_open, rim_close, rim_open};
 
-// Writes what lies below: the heads of arrows, the legend and the lanes.
+// Writes what is made once: the heads of arrows and the kinds of marks.
+#[tactic(auto, unfolding(crate::specs::Picture::parts))]
+fn write_parts(size: u32, text: &mut Vec<u8>) -> Result<(), AllocError>
+    requires small { size ≤ 10 }
+    ensures { OnOk result (text.new.items ≡ text.old.items ++ parts size) }
+{
+    parts_open(text)?;
+    arrow_heads(text, size)?;
+    write_plain_kinds(size, text)?;
+    write_supplied_kinds(size, text)?;
+    parts_close(text)?;
+    Ok(())
+}
+
+// Writes what lies below: these, the legend and the lanes.
 #[tactic(auto, unfolding(crate::specs::Picture::surroundings))]
 fn write_surroundings(frame: &Frame, total: u64, text: &mut Vec<u8>) -> Result<(), AllocError>
     ensures { OnOk result (text.new.items ≡ text.old.items ++ surroundings frame.now.sheet total) }
 {
     write_head(text)?;
-    arrow_heads(text, frame.radius())?;
+    write_parts(frame.radius(), text)?;
     write_legend(frame, total, text)?;
     write_lanes(frame, text)?;
     Ok(())
@@ -55,8 +70,10 @@ fn write_words(
 ) -> Result<(), AllocError>
     ensures { OnOk result (text.new.items ≡ text.old.items ++ words frame.now.sheet bars.now marks.now) }
 {
+    rim_open(text)?;
     write_values(frame, marks, text)?;
     write_names(frame, bars, text)?;
+    rim_close(text)?;
     write_axis(frame, text)?;
     Ok(())
 }

@@ -1,57 +1,81 @@
 // What stands beside the marks of a picture.
 
-ghost use Rattle.std.specs.Prelude.{◌≡◌, ◌++◌, ◌≤◌, OnOk, unwrap_or};
-ghost use Rattle.svc_draw.specs.Drawing.{committed_text, saying, value_text, value_words, values_text, words_of};
+ghost use Rattle.std.specs.Prelude.{◌≡◌, ◌++◌, ◌≤◌, OnOk, get_or, unwrap_or};
+ghost use Rattle.svc_draw.specs.Values.{committed_text, edges_after, letters_before, saying, sentence, value_text, value_words, values_text, words_of};
 ghost use Rattle.svc_shapes.specs.Shapes.{label};
 
+use crate::drawing::digits;
 use crate::frame::Frame;
 use std::alloc::AllocError;
 use svc_base::WordAddr;
 use svc_marks::{Mark, MarkKind};
 use svc_shapes::label;
-use svc_shapes::sheet::TOP;
+use svc_shapes::sheet::{LEFT, TOP};
 use svc_text::Part;
 
 // Words that end at a place.
 const ENDED: &str = "text-anchor='end'";
 
-// Writes a value that ends at a place, with its word, if it has one.
+// For how many letters there is room before a mark, where the one before it on its lane ends at an edge.
+fn letters_before(frame: &Frame, edge: u64, mark: &Mark) -> u64
+    ensures { result ≡ letters_before frame.now.sheet edge mark.now }
+{
+    let end = frame.x(mark.place) - (frame.radius() as u64 + 6);
+    end.saturating_sub(edge) / 8
+}
+
+// Writes a value that ends at a place, with its word if so many letters have room for both.
 fn write_value_at(
     text: &mut Vec<u8>,
     x: u64,
     y: u64,
+    letters: u64,
     word: Option<WordAddr>,
     value: u64,
 ) -> Result<(), AllocError>
-    ensures { OnOk result (text.new.items ≡ text.old.items ++ label x y ENDED.now (value_words word value)) }
+    ensures { OnOk result (text.new.items
+        ≡ text.old.items ++ label x y ENDED.now (value_words letters word value)) }
 {
-    match word {
-        Some(word) => {
-            let words = [
-                Part::Text("word "),
-                Part::Number(u64::from(word.0)),
-                Part::Text(" = "),
-                Part::Number(value),
-            ];
-            label(text, x, y, ENDED, &words)
-        }
-        None => label(text, x, y, ENDED, &[Part::Number(value)]),
+    let Some(word) = word else {
+        return label(text, x, y, ENDED, &[Part::Number(value)]);
+    };
+    let number = u64::from(word.0);
+    if digits(number) + digits(value) + 8 <= letters {
+        let words = [
+            Part::Text("word "),
+            Part::Number(number),
+            Part::Text(" = "),
+            Part::Number(value),
+        ];
+        label(text, x, y, ENDED, &words)
+    } else {
+        label(text, x, y, ENDED, &[Part::Number(value)])
     }
 }
 
-// Writes the value of a load or a store, with its word, or the word that was output, before its shape.
-#[tactic(auto, unfolding(crate::specs::Drawing::value_text))]
-fn write_value(frame: &Frame, mark: &Mark, text: &mut Vec<u8>) -> Result<(), AllocError>
-    ensures { OnOk result (text.new.items ≡ text.old.items ++ value_text frame.now.sheet mark.now) }
+// Writes what was loaded, stored or output, before its mark, if there is room.
+#[tactic(auto, unfolding(crate::specs::Values::value_text))]
+fn write_value(
+    frame: &Frame,
+    edge: u64,
+    mark: &Mark,
+    value: u32,
+    text: &mut Vec<u8>,
+) -> Result<(), AllocError>
+    ensures { OnOk result (text.new.items ≡ text.old.items ++ value_text frame.now.sheet edge mark.now value) }
 {
-    let x = frame.x(mark.place) - frame.radius() as u64 - 6;
+    let value = u64::from(value);
+    let letters = letters_before(frame, edge, mark);
+    if letters < digits(value) {
+        return Ok(());
+    }
+    let x = frame.x(mark.place) - (frame.radius() as u64 + 6);
     let y = frame.at(mark).y as u64 + 5;
-    let value = u64::from(mark.entry.word.unwrap_or(0));
-    write_value_at(text, x, y, mark.entry.addr, value)
+    write_value_at(text, x, y, letters, mark.entry.addr, value)
 }
 
 // Writes the task that is committed, at the top of its line.
-#[tactic(auto, unfolding(crate::specs::Drawing::committed_text))]
+#[tactic(auto, unfolding(crate::specs::Values::committed_text))]
 fn write_committed(frame: &Frame, mark: &Mark, text: &mut Vec<u8>) -> Result<(), AllocError>
     ensures { OnOk result (text.new.items ≡ text.old.items ++ committed_text frame.now.sheet mark.now) }
 {
@@ -65,7 +89,7 @@ fn write_committed(frame: &Frame, mark: &Mark, text: &mut Vec<u8>) -> Result<(),
 }
 
 // Writes what an arrow says, at its middle.
-#[tactic(auto, unfolding(crate::specs::Drawing::saying))]
+#[tactic(auto, unfolding(crate::specs::Values::saying))]
 fn write_saying(
     frame: &Frame,
     mark: &Mark,
@@ -81,20 +105,53 @@ fn write_saying(
     label(text, x, y, "font-style='italic'", &[Part::Text(words)])
 }
 
-// Writes a mark's words.
-fn write_words(frame: &Frame, mark: &Mark, text: &mut Vec<u8>) -> Result<(), AllocError>
-    ensures { OnOk result (text.new.items ≡ text.old.items ++ words_of frame.now.sheet mark.now mark.now.kind) }
+// Writes the words of a mark that isn't a value, if there is room for sentences.
+fn write_sentence(frame: &Frame, mark: &Mark, text: &mut Vec<u8>) -> Result<(), AllocError>
+    ensures { OnOk result (text.new.items ≡ text.old.items ++ sentence frame.now.sheet mark.now mark.now.kind) }
 {
+    if !frame.is_wide() {
+        return Ok(());
+    }
     match mark.kind {
-        MarkKind::Load | MarkKind::Store | MarkKind::PutOut => write_value(frame, mark, text),
         MarkKind::Commit => write_committed(frame, mark, text),
         MarkKind::Handed => write_saying(frame, mark, "the version goes to a reader", text),
         MarkKind::Squash => write_saying(frame, mark, "read too early", text),
+        MarkKind::Load | MarkKind::Store | MarkKind::PutOut | MarkKind::Replace => Ok(()),
     }
 }
 
-/// Writes the words of the marks, if there is room.
-#[tactic(auto, unfolding(crate::specs::Drawing::values_text))]
+// Writes a mark's words, where the one before it on its lane ends at an edge.
+fn write_words(frame: &Frame, edge: u64, mark: &Mark, text: &mut Vec<u8>) -> Result<(), AllocError>
+    ensures { OnOk result (text.new.items ≡ text.old.items ++ words_of frame.now.sheet edge mark.now mark.now.kind) }
+{
+    match mark.kind {
+        MarkKind::Load | MarkKind::Store | MarkKind::PutOut => {
+            write_value(frame, edge, mark, mark.entry.word.unwrap_or(0), text)
+        }
+        MarkKind::Commit | MarkKind::Handed | MarkKind::Squash | MarkKind::Replace => {
+            write_sentence(frame, mark, text)
+        }
+    }
+}
+
+// Writes a mark's words, and notes where the mark ends on its lane.
+fn write_next(
+    frame: &Frame,
+    mark: &Mark,
+    edges: &mut [u64; 256],
+    text: &mut Vec<u8>,
+) -> Result<(), AllocError>
+    ensures text { OnOk result (text.new.items ≡ text.old.items
+        ++ words_of frame.now.sheet (get_or edges.old mark.now.entry.unit.0 0) mark.now mark.now.kind) }
+    ensures edges { OnOk result (edges.new ≡ edges_after frame.now.sheet mark.now edges.old) }
+{
+    let lane = mark.entry.unit.0 as usize;
+    write_words(frame, edges[lane], mark, text)?;
+    edges[lane] = frame.x(mark.place) + frame.radius() as u64;
+    Ok(())
+}
+
+/// Writes the words of the marks.
 pub(crate) fn write_values(
     frame: &Frame,
     marks: &[Mark],
@@ -102,11 +159,9 @@ pub(crate) fn write_values(
 ) -> Result<(), AllocError>
     ensures { OnOk result (text.new.items ≡ text.old.items ++ values_text frame.now.sheet marks.now) }
 {
-    if !frame.is_wide() {
-        return Ok(());
-    }
+    let mut edges = [LEFT; 256];
     for mark in marks {
-        write_words(frame, mark, text)?;
+        write_next(frame, mark, &mut edges, text)?;
     }
     Ok(())
 }

@@ -69,13 +69,14 @@ event_of m mark.Load = mark_instant (codes "load") m
 event_of m mark.Store = mark_instant (codes "store") m
 event_of m mark.PutOut = mark_instant (codes "output") m
 event_of m mark.Commit = commit_instant m
+event_of m mark.Replace = []
 event_of m mark.Handed = some_flow (version_flow m m.other)
 event_of m mark.Squash = some_flow (violation_flow m m.other)
 
 abbrev pub mark_event : Mark → List ℕ
 mark_event m = event_of m m.kind
 
--- ---- replacements, which are no marks
+-- ---- replacements, which come after all marks
 
 unfoldable pub replacement : (at : ℕ) → Entry → List ℕ
 replacement at e = instant (codes "replacement") at e.unit.0 ++ word_field e.addr ++ event_end

@@ -106,6 +106,7 @@ fn put_mark(mark: &Mark, text: &mut Vec<u8>) -> Result<(), AllocError>
         MarkKind::Store => put_mark_instant("store", mark, text),
         MarkKind::PutOut => put_mark_instant("output", mark, text),
         MarkKind::Commit => put_commit(mark, text),
+        MarkKind::Replace => Ok(()),
         MarkKind::Handed => put_some_flow(version_flow(mark, mark.other), text),
         MarkKind::Squash => put_some_flow(violation_flow(mark, mark.other), text),
     }

@@ -24,6 +24,7 @@ abbrev pub kind_of : ReplyKind → Option MarkKind
 kind_of reply.Loaded = Some mark.Load
 kind_of reply.Stored = Some mark.Store
 kind_of reply.Emitted = Some mark.PutOut
+kind_of reply.Replaced = Some mark.Replace
 kind_of reply.Committed = Some mark.Commit
 kind_of _ = None
 

@@ -63,6 +63,7 @@ abbrev pub row_of_kind : Mark → MarkKind → List ℕ
 row_of_kind m mark.Load = shape_row m (codes "load")
 row_of_kind m mark.Store = shape_row m (codes "store")
 row_of_kind m mark.PutOut = shape_row m (codes "output")
+row_of_kind m mark.Replace = shape_row m (codes "replace")
 row_of_kind m mark.Commit = shape_row m (codes "commit")
 row_of_kind m mark.Handed =
     arrow_fields (other_place m.other) (Some m.place) (codes "version") (word_number m.entry.addr)

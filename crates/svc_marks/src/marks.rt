@@ -22,6 +22,8 @@ pub enum MarkKind {
     Store,
     /// A word was output.
     PutOut,
+    /// A line was replaced.
+    Replace,
     /// A task was committed.
     Commit,
     /// A read was given another unit's version: an arrow from where that was stored.
@@ -62,6 +64,7 @@ fn kind_of(reply: ReplyKind) -> Option<MarkKind>
         ReplyKind::Loaded => Some(MarkKind::Load),
         ReplyKind::Stored => Some(MarkKind::Store),
         ReplyKind::Emitted => Some(MarkKind::PutOut),
+        ReplyKind::Replaced => Some(MarkKind::Replace),
         ReplyKind::Committed => Some(MarkKind::Commit),
         _ => None,
     }

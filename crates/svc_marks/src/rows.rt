@@ -198,6 +198,7 @@ fn put_mark_row(text: &mut Vec<u8>, mark: &Mark) -> Result<(), AllocError>
         MarkKind::Load => put_shape(text, mark, "load"),
         MarkKind::Store => put_shape(text, mark, "store"),
         MarkKind::PutOut => put_shape(text, mark, "output"),
+        MarkKind::Replace => put_shape(text, mark, "replace"),
         MarkKind::Commit => put_shape(text, mark, "commit"),
         MarkKind::Handed => put_arrow(text, there, here, "version", word),
         MarkKind::Squash => put_arrow(text, here, there, "violation", word),

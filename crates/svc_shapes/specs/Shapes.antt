@@ -1,32 +1,60 @@
 -- The shapes of a picture, as elements of SVG. Numbers and fixed words are all that they hold, so nothing needs an
 -- escape.
-use Rattle.std.specs.Prelude.{ℕ, ◌+◌, ◌-◌, ◌*◌, List, [], ◌∷◌, ◌++◌, codes, decimal}
+use Rattle.std.specs.Prelude.{ℕ, ◌+◌, ◌*◌, ◌/◌, List, [], ◌∷◌, ◌++◌, codes, decimal}
 use Rattle.std.specs.List.{concat}
 use Rattle.svc_shapes.specs.declared.sheet.TheConstants.{BOTTOM, TOP}
 
--- ---- marks: elements that stay open for a title
+-- ---- marks: each kind is made once, about the place where it is used
 
 -- a ring: a load
-unfoldable pub ring : (x y size : ℕ) → List ℕ
-ring x y size =
-    concat (codes "<circle cx='" ∷ decimal x ∷ codes "' cy='" ∷ decimal y ∷ codes "' r='" ∷ decimal size
-    ∷ codes "' fill='#fff' stroke='#111' stroke-width='2'>" ∷ [])
+unfoldable pub ring : (size : ℕ) → List ℕ
+ring size = concat (codes "<circle r='" ∷ decimal size ∷ codes "' fill='#fff' stroke='#111' stroke-width='2'/>" ∷ [])
 
 -- a full square: a store
-unfoldable pub square : (x y size : ℕ) → List ℕ
-square x y size =
-    concat (codes "<rect x='" ∷ decimal (x - size) ∷ codes "' y='" ∷ decimal (y - size) ∷ codes "' width='"
-    ∷ decimal (2 * size)
-    ∷ codes "' height='" ∷ decimal (2 * size) ∷ codes "' fill='#111'>" ∷ [])
+unfoldable pub square : (size : ℕ) → List ℕ
+square size =
+    concat (codes "<rect x='-" ∷ decimal size ∷ codes "' y='-" ∷ decimal size ∷ codes "' width='" ∷ decimal (2 * size)
+    ∷ codes "' height='" ∷ decimal (2 * size) ∷ codes "' fill='#111'/>" ∷ [])
 
 -- a diamond: an output word
-unfoldable pub diamond : (x y size : ℕ) → List ℕ
-diamond x y size =
-    concat (codes "<path d='M" ∷ decimal (x - (size + 2)) ∷ codes " " ∷ decimal y ∷ codes "L" ∷ decimal x ∷ codes " "
-    ∷ decimal (y - (size + 2))
-    ∷ codes "L" ∷ decimal (x + (size + 2)) ∷ codes " " ∷ decimal y ∷ codes "L" ∷ decimal x ∷ codes " "
-    ∷ decimal (y + (size + 2))
-    ∷ codes "Z' fill='#ffe04a' stroke='#111' stroke-width='2'>" ∷ [])
+unfoldable pub diamond : (half : ℕ) → List ℕ
+diamond half =
+    concat (codes "<path d='M-" ∷ decimal half ∷ codes " 0L0 -" ∷ decimal half ∷ codes "L" ∷ decimal half
+    ∷ codes " 0L0 " ∷ decimal half ∷ codes "Z' fill='#ffe04a' stroke='#111' stroke-width='2'/>" ∷ [])
+
+-- a cross: a line that is let go
+unfoldable pub cross : (half : ℕ) → List ℕ
+cross half =
+    concat (codes "<path d='M-" ∷ decimal half ∷ codes " -" ∷ decimal half ∷ codes "L" ∷ decimal half ∷ codes " "
+    ∷ decimal half ∷ codes "M-" ∷ decimal half ∷ codes " " ∷ decimal half ∷ codes "L" ∷ decimal half ∷ codes " -"
+    ∷ decimal half ∷ codes "' stroke='#111' stroke-width='3'/>" ∷ [])
+
+-- the letter of a supplier, in a mark that has room for it
+unfoldable pub letter_within : (size : ℕ) → (fill letter : List ℕ) → List ℕ
+letter_within size fill letter =
+    concat (codes "<text y='" ∷ decimal ((size + 2) * 9 / 25) ∷ codes "' font-size='" ∷ decimal (size + 2)
+    ∷ codes "' font-weight='bold' text-anchor='middle' fill='" ∷ fill ∷ codes "'>" ∷ letter ∷ codes "</text>" ∷ [])
+
+-- and above a smaller one
+unfoldable pub letter_above : (size : ℕ) → (letter : List ℕ) → List ℕ
+letter_above size letter =
+    concat (codes "<text y='-" ∷ decimal (size + 2)
+    ∷ codes "' font-size='9' font-weight='bold' text-anchor='middle'>" ∷ letter ∷ codes "</text>" ∷ [])
+
+-- the beginning of a kind of mark, and its end
+unfoldable pub kind_open : (name letter : List ℕ) → List ℕ
+kind_open name letter = concat (codes "<g id='" ∷ name ∷ letter ∷ codes "'>" ∷ [])
+
+unfoldable pub kind_close : List ℕ
+kind_close = codes "</g>\n"
+
+-- ---- marks: elements that stay open for a title
+
+-- a mark of a kind
+unfoldable pub mark_at : (x y : ℕ) → (name letter : List ℕ) → List ℕ
+mark_at x y name letter =
+    concat (codes "<use href='#" ∷ name ∷ letter ∷ codes "' x='" ∷ decimal x ∷ codes "' y='" ∷ decimal y ∷ codes "'>"
+    ∷ [])
 
 -- a broken line across all lanes: a commit
 unfoldable pub commit_line : (x : ℕ) → List ℕ
@@ -71,17 +99,23 @@ box_title number entry first fate turns =
     ∷ decimal first
     ∷ codes ": " ∷ fate ∷ codes "; turns: " ∷ decimal turns ∷ codes "</title></rect>\n" ∷ [])
 
--- words in black on a white rim
+-- words
 unfoldable pub label_open : (x y : ℕ) → (style : List ℕ) → List ℕ
 label_open x y style =
-    concat (codes "<text x='" ∷ decimal x ∷ codes "' y='" ∷ decimal y ∷ codes "' " ∷ style
-    ∷ codes " paint-order='stroke' stroke='#fff' stroke-width='4' stroke-linejoin='round'>" ∷ [])
+    concat (codes "<text x='" ∷ decimal x ∷ codes "' y='" ∷ decimal y ∷ codes "' " ∷ style ∷ codes ">" ∷ [])
 
 unfoldable pub label_close : List ℕ
 label_close = codes "</text>\n"
 
 unfoldable pub label : (x y : ℕ) → (style words : List ℕ) → List ℕ
 label x y style words = label_open x y style ++ words ++ label_close
+
+-- words between these have a white rim
+unfoldable pub rim_open : List ℕ
+rim_open = codes "<g paint-order='stroke' stroke='#fff' stroke-width='4' stroke-linejoin='round'>\n"
+
+unfoldable pub rim_close : List ℕ
+rim_close = codes "</g>\n"
 
 -- ---- the legend
 
@@ -99,18 +133,27 @@ fate_sample x fill name =
     ∷ codes "' stroke='#111'/><text x='"
     ∷ decimal (x + 40) ∷ codes "' y='62'>" ∷ name ∷ codes "</text>\n" ∷ [])
 
--- the end of a sample of a mark, and what it is
-unfoldable pub sample_end : (element : List ℕ) → (x : ℕ) → (name : List ℕ) → List ℕ
-sample_end element x name =
-    concat (codes "</" ∷ element ∷ codes "><text x='" ∷ decimal x ∷ codes "' y='95'>" ∷ name ∷ codes "</text>\n" ∷ [])
+-- a sample of a mark, and what it is
+unfoldable pub mark_sample : (x y : ℕ) → (name letter : List ℕ) → (after : ℕ) → (words : List ℕ) → List ℕ
+mark_sample x y name letter after words =
+    concat (codes "<use href='#" ∷ name ∷ letter ∷ codes "' x='" ∷ decimal x ∷ codes "' y='" ∷ decimal y
+    ∷ codes "'/><text x='" ∷ decimal after ∷ codes "' y='" ∷ decimal (y + 5) ∷ codes "'>" ∷ words ∷ codes "</text>\n"
+    ∷ [])
 
 -- the heads of arrows, which end at the rim of a mark of this size
 unfoldable pub arrow_heads : (size : ℕ) → List ℕ
 arrow_heads size =
-    concat (codes "<defs><marker id='thin' markerWidth='12' markerHeight='10' refX='" ∷ decimal (11 + size)
+    concat (codes "<marker id='thin' markerWidth='12' markerHeight='10' refX='" ∷ decimal (11 + size)
     ∷ codes "' refY='5' orient='auto' markerUnits='userSpaceOnUse'><path d='M0 0L11 5L0 10Z' fill='#14508c'/></marker>"
     ∷ codes "<marker id='bold' markerWidth='18' markerHeight='16' refX='" ∷ decimal (18 + size)
-    ∷ codes "' refY='8' orient='auto' markerUnits='userSpaceOnUse'><path d='M0 0L17 8L0 16Z' fill='#b01010'/></marker></defs>\n" ∷ [])
+    ∷ codes "' refY='8' orient='auto' markerUnits='userSpaceOnUse'><path d='M0 0L17 8L0 16Z' fill='#b01010'/></marker>\n" ∷ [])
+
+-- the beginning and the end of what is made once
+unfoldable pub parts_open : List ℕ
+parts_open = codes "<defs>\n"
+
+unfoldable pub parts_close : List ℕ
+parts_close = codes "</defs>\n"
 
 -- ---- lanes and the axis
 

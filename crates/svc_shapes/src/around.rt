@@ -1,8 +1,9 @@
 // The shapes of what surrounds them.
 
 ghost use Rattle.std.specs.Prelude.{◌≡◌, ◌++◌, OnOk};
-ghost use Rattle.svc_shapes.specs.Shapes.{headline, fate_sample, sample_end, arrow_heads, lane, tick, opening, hatching, paper_text, commit_sample, thin_sample, bold_sample, closing, border, axis_words};
+ghost use Rattle.svc_shapes.specs.Shapes.{headline, fate_sample, mark_sample, arrow_heads, parts_open, parts_close, lane, tick, opening, hatching, paper_text, commit_sample, thin_sample, bold_sample, closing, border, axis_words};
 
+use crate::sheet::Point;
 use std::alloc::AllocError;
 use svc_text::{Part, put_parts};
 
@@ -60,25 +61,36 @@ pub fn fate_sample<'a>(
     )
 }
 
-/// The end of a sample of a mark, and what it is.
-#[tactic(auto, unfolding(crate::specs::Shapes::sample_end))]
-pub fn sample_end<'a>(
+/// A sample of a mark, and what it is.
+#[tactic(auto, unfolding(crate::specs::Shapes::mark_sample))]
+pub fn mark_sample<'a>(
     text: &mut Vec<u8>,
-    element: &'a str,
-    x: u64,
+    middle: Point,
     name: &'a str,
+    letter: &'a str,
+    after: u32,
+    words: &'a str,
 ) -> Result<(), AllocError>
-    ensures { OnOk result (text.new.items ≡ text.old.items ++ sample_end element.now x name.now) }
+    ensures { OnOk result (text.new.items
+        ≡ text.old.items ++ mark_sample middle.x middle.y name.now letter.now after words.now) }
 {
+    let y = middle.y as u64;
     put_parts(
         text,
         &[
-            Part::Text("</"),
-            Part::Text(element),
-            Part::Text("><text x='"),
-            Part::Number(x),
-            Part::Text("' y='95'>"),
+            Part::Text("<use href='#"),
             Part::Text(name),
+            Part::Text(letter),
+            Part::Text("' x='"),
+            Part::Number(middle.x as u64),
+            Part::Text("' y='"),
+            Part::Number(y),
+            Part::Text("'/><text x='"),
+            Part::Number(after as u64),
+            Part::Text("' y='"),
+            Part::Number(y + 5),
+            Part::Text("'>"),
+            Part::Text(words),
             Part::Text("</text>\n"),
         ],
     )
@@ -93,7 +105,7 @@ pub fn arrow_heads(text: &mut Vec<u8>, size: u32) -> Result<(), AllocError>
     put_parts(
         text,
         &[
-            Part::Text("<defs><marker id='thin' markerWidth='12' markerHeight='10' refX='"),
+            Part::Text("<marker id='thin' markerWidth='12' markerHeight='10' refX='"),
             Part::Number(11 + size),
             Part::Text(
                 "' refY='5' orient='auto' markerUnits='userSpaceOnUse'><path d='M0 0L11 5L0 10Z' fill='#14508c'/></marker>",
@@ -101,10 +113,26 @@ pub fn arrow_heads(text: &mut Vec<u8>, size: u32) -> Result<(), AllocError>
             Part::Text("<marker id='bold' markerWidth='18' markerHeight='16' refX='"),
             Part::Number(18 + size),
             Part::Text(
-                "' refY='8' orient='auto' markerUnits='userSpaceOnUse'><path d='M0 0L17 8L0 16Z' fill='#b01010'/></marker></defs>\n",
+                "' refY='8' orient='auto' markerUnits='userSpaceOnUse'><path d='M0 0L17 8L0 16Z' fill='#b01010'/></marker>\n",
             ),
         ],
     )
+}
+
+/// The beginning of what is made once.
+#[tactic(auto, unfolding(crate::specs::Shapes::parts_open))]
+pub fn parts_open(text: &mut Vec<u8>) -> Result<(), AllocError>
+    ensures { OnOk result (text.new.items ≡ text.old.items ++ parts_open) }
+{
+    put_parts(text, &[Part::Text("<defs>\n")])
+}
+
+/// Its end.
+#[tactic(auto, unfolding(crate::specs::Shapes::parts_close))]
+pub fn parts_close(text: &mut Vec<u8>) -> Result<(), AllocError>
+    ensures { OnOk result (text.new.items ≡ text.old.items ++ parts_close) }
+{
+    put_parts(text, &[Part::Text("</defs>\n")])
 }
 
 /// A lane, with its name before it.

@@ -2,15 +2,17 @@
 #![tactic(auto)]
 
 mod around;
+mod kinds;
 mod shapes;
 pub mod sheet;
 
 pub use around::{
     arrow_heads, axis_words, bold_sample, border, closing, commit_sample, fate_sample, hatching,
-    headline, lane, opening, paper_text, sample_end, thin_sample, tick,
+    headline, lane, mark_sample, opening, paper_text, parts_close, parts_open, thin_sample, tick,
 };
+pub use kinds::{cross, diamond, kind_close, kind_open, letter_above, letter_within, ring, square};
 pub use shapes::{
-    bar_box, bold_arrow, box_title, close, commit_line, diamond, label, ring, square, thin_arrow,
-    title_open,
+    bar_box, bold_arrow, box_title, close, commit_line, label, mark_at, rim_close, rim_open,
+    thin_arrow, title_open,
 };
 pub use sheet::Point;

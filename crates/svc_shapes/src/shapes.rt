@@ -2,83 +2,33 @@
 
 ghost use Rattle.std.specs.Prelude.{◌≡◌, ◌++◌, OnOk, flat_map};
 ghost use Rattle.svc_text.specs.Parts.{part_text};
-ghost use Rattle.svc_shapes.specs.Shapes.{label, ring, square, diamond, commit_line, thin_arrow, bold_arrow, close, title_open, bar_box, box_title, label_open, label_close};
+ghost use Rattle.svc_shapes.specs.Shapes.{label, mark_at, rim_open, rim_close, commit_line, thin_arrow, bold_arrow, close, title_open, bar_box, box_title, label_open, label_close};
 
 use crate::sheet::{BOTTOM, Point, TOP};
 use std::alloc::AllocError;
 use svc_text::{Part, put_parts};
 
-/// A ring: a load.
-#[tactic(auto, unfolding(crate::specs::Shapes::ring))]
-pub fn ring(text: &mut Vec<u8>, middle: Point, size: u32) -> Result<(), AllocError>
-    ensures { OnOk result (text.new.items ≡ text.old.items ++ ring middle.x middle.y size) }
+/// A mark of a kind, at a place.
+#[tactic(auto, unfolding(crate::specs::Shapes::mark_at))]
+pub fn mark_at<'a>(
+    text: &mut Vec<u8>,
+    middle: Point,
+    name: &'a str,
+    letter: &'a str,
+) -> Result<(), AllocError>
+    ensures { OnOk result (text.new.items ≡ text.old.items ++ mark_at middle.x middle.y name.now letter.now) }
 {
     put_parts(
         text,
         &[
-            Part::Text("<circle cx='"),
+            Part::Text("<use href='#"),
+            Part::Text(name),
+            Part::Text(letter),
+            Part::Text("' x='"),
             Part::Number(middle.x as u64),
-            Part::Text("' cy='"),
-            Part::Number(middle.y as u64),
-            Part::Text("' r='"),
-            Part::Number(size as u64),
-            Part::Text("' fill='#fff' stroke='#111' stroke-width='2'>"),
-        ],
-    )
-}
-
-/// A full square: a store.
-#[tactic(auto, unfolding(crate::specs::Shapes::square))]
-pub fn square(text: &mut Vec<u8>, middle: Point, size: u32) -> Result<(), AllocError>
-    ensures { OnOk result (text.new.items ≡ text.old.items ++ square middle.x middle.y size) }
-{
-    let x = middle.x as u64;
-    let y = middle.y as u64;
-    let size = size as u64;
-    put_parts(
-        text,
-        &[
-            Part::Text("<rect x='"),
-            Part::Number(x.saturating_sub(size)),
             Part::Text("' y='"),
-            Part::Number(y.saturating_sub(size)),
-            Part::Text("' width='"),
-            Part::Number(2 * size),
-            Part::Text("' height='"),
-            Part::Number(2 * size),
-            Part::Text("' fill='#111'>"),
-        ],
-    )
-}
-
-/// A diamond: an output word.
-#[tactic(auto, unfolding(crate::specs::Shapes::diamond))]
-pub fn diamond(text: &mut Vec<u8>, middle: Point, size: u32) -> Result<(), AllocError>
-    ensures { OnOk result (text.new.items ≡ text.old.items ++ diamond middle.x middle.y size) }
-{
-    let x = middle.x as u64;
-    let y = middle.y as u64;
-    let half = size as u64 + 2;
-    put_parts(
-        text,
-        &[
-            Part::Text("<path d='M"),
-            Part::Number(x.saturating_sub(half)),
-            Part::Text(" "),
-            Part::Number(y),
-            Part::Text("L"),
-            Part::Number(x),
-            Part::Text(" "),
-            Part::Number(y.saturating_sub(half)),
-            Part::Text("L"),
-            Part::Number(x + half),
-            Part::Text(" "),
-            Part::Number(y),
-            Part::Text("L"),
-            Part::Number(x),
-            Part::Text(" "),
-            Part::Number(y + half),
-            Part::Text("Z' fill='#ffe04a' stroke='#111' stroke-width='2'>"),
+            Part::Number(middle.y as u64),
+            Part::Text("'>"),
         ],
     )
 }
@@ -230,7 +180,7 @@ pub fn box_title(
     )
 }
 
-/// The beginning of words in black on a white rim.
+/// The beginning of words.
 #[tactic(auto, unfolding(crate::specs::Shapes::label_open))]
 pub fn label_open(text: &mut Vec<u8>, x: u64, y: u64, style: &str) -> Result<(), AllocError>
     ensures { OnOk result (text.new.items ≡ text.old.items ++ label_open x y style.now) }
@@ -244,9 +194,7 @@ pub fn label_open(text: &mut Vec<u8>, x: u64, y: u64, style: &str) -> Result<(),
             Part::Number(y),
             Part::Text("' "),
             Part::Text(style),
-            Part::Text(
-                " paint-order='stroke' stroke='#fff' stroke-width='4' stroke-linejoin='round'>",
-            ),
+            Part::Text(">"),
         ],
     )
 }
@@ -259,7 +207,7 @@ pub fn label_close(text: &mut Vec<u8>) -> Result<(), AllocError>
     put_parts(text, &[Part::Text("</text>\n")])
 }
 
-/// Words in black on a white rim.
+/// Words.
 #[tactic(auto, unfolding(crate::specs::Shapes::label))]
 pub fn label(
     text: &mut Vec<u8>,
@@ -274,4 +222,25 @@ pub fn label(
     put_parts(text, words)?;
     label_close(text)?;
     Ok(())
+}
+
+/// The beginning of words that have a white rim.
+#[tactic(auto, unfolding(crate::specs::Shapes::rim_open))]
+pub fn rim_open(text: &mut Vec<u8>) -> Result<(), AllocError>
+    ensures { OnOk result (text.new.items ≡ text.old.items ++ rim_open) }
+{
+    put_parts(
+        text,
+        &[Part::Text(
+            "<g paint-order='stroke' stroke='#fff' stroke-width='4' stroke-linejoin='round'>\n",
+        )],
+    )
+}
+
+/// Their end.
+#[tactic(auto, unfolding(crate::specs::Shapes::rim_close))]
+pub fn rim_close(text: &mut Vec<u8>) -> Result<(), AllocError>
+    ensures { OnOk result (text.new.items ≡ text.old.items ++ rim_close) }
+{
+    put_parts(text, &[Part::Text("</g>\n")])
 }
