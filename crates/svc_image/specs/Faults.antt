@@ -1,7 +1,8 @@
 -- The numbers of the faults of images.
 use Rattle.std.specs.Prelude.{ℕ}
 use Rattle.svc_image.specs.declared.error.ImageError.{ImageError}
-use Rattle.svc_image.specs.declared.error.ImageError.TheVariants.{Short, Magic, Version, Count, EntryOrder, EntryPlace, Start, Trailing, Memory}
+use Rattle.svc_image.specs.declared.error.ImageError.TheVariants.{Short, Magic, Version, Count, EntryOrder, EntryPlace}
+use Rattle.svc_image.specs.declared.error.ImageError.TheVariants.{Start, Trailing, Memory}
 
 -- the fault's number, in the order of the checks, and 9 for memory
 abbrev pub fault_number : ImageError → ℕ

@@ -1,10 +1,13 @@
--- Image files: where each field stands, the bytes of an image, and the first fault of any bytes. Numbers stand lowest byte first.
--- Version 2 has other than version 1 one number of the header and, after the entries, a limit for each of them.
-use Rattle.std.specs.Prelude.{ℕ, zero, suc, ◌+◌, ◌*◌, ◌%◌, Bool, false, not, ◌&&◌, List, [], ◌∷◌, ◌++◌, length, drop, Option, Some, None, nat_eq, nat_lt, nat_le, ◌==◌, if◌then◌else◌, slice_index}
+-- Image files: where each field stands, the bytes of an image, and the first fault of any bytes. Numbers stand lowest
+-- byte first. Version 2 differs from version 1 in one number of the header, and lists a limit for each entry after the
+-- entries.
+use Rattle.std.specs.Prelude.{ℕ, zero, suc, ◌+◌, ◌*◌, ◌%◌, Bool, false, not, ◌&&◌, List, [], ◌∷◌, ◌++◌, length, drop}
+use Rattle.std.specs.Prelude.{Option, Some, None, nat_eq, nat_lt, nat_le, ◌==◌, if◌then◌else◌, slice_index}
 use Rattle.std.specs.List.{flat_map, list_any, starts_with}
 use Rattle.byteorder.specs.Endian.{little_bytes, little_number}
 use Rattle.svc_image.specs.declared.error.ImageError.{ImageError}
-use Rattle.svc_image.specs.declared.error.ImageError.TheVariants.{Short, Magic, Count, EntryOrder, EntryPlace, Start, Trailing}
+use Rattle.svc_image.specs.declared.error.ImageError.TheVariants.{Short, Magic, Count, EntryOrder, EntryPlace, Start}
+use Rattle.svc_image.specs.declared.error.ImageError.TheVariants.{Trailing}
 use Rattle.svc_image.specs.declared.error.ImageError.TheVariants as error
 use Rattle.svc_image.specs.declared.version.Version.{Version}
 use Rattle.svc_image.specs.declared.version.Version.TheVariants as version
@@ -25,15 +28,17 @@ bytes_of_word number = little_bytes 4 number
 unfoldable pub bytes_of_words : List ℕ → List ℕ
 bytes_of_words words = flat_map bytes_of_word words
 
--- the number of an image's header that only its version has
+-- the number of an image's header that depends on the version
 abbrev pub own_of : Image → ℕ
 own_of img = own_number img.version (slice_index img.limits 0) img.read_only
 
--- the bytes of an image: magic, version, the counts of entries, text words and data words, the version's own number, the start, then the registers, the entries, the limits where the version lists them, the text and the data
+-- the bytes of an image: magic, version, the counts of entries, text words and data words, the version's own number,
+-- the start, then the registers, the entries, the limits where the version lists them, the text and the data
 unfoldable pub file_of : Image → List ℕ
 file_of img =
-    magic ++ (bytes_of_half (version_number img.version) ++ (bytes_of_half (length img.entries) ++ (bytes_of_word (length img.text)
-    ++ (bytes_of_word (length img.words) ++ (bytes_of_word (own_of img) ++ (bytes_of_word img.start
+    magic ++ (bytes_of_half (version_number img.version) ++ (bytes_of_half (length img.entries)
+    ++ (bytes_of_word (length img.text) ++ (bytes_of_word (length img.words)
+    ++ (bytes_of_word (own_of img) ++ (bytes_of_word img.start
     ++ (bytes_of_words img.registers ++ (bytes_of_words img.entries ++ (bytes_of_words (listed img.version img.limits)
     ++ (bytes_of_words img.text ++ bytes_of_words img.words))))))))))
 
@@ -91,7 +96,9 @@ abbrev pub limit_in : List ℕ → ℕ → ℕ
 limit_in bytes k = word_at bytes (limits_place bytes + 4 * k)
 
 abbrev pub limits_in : List ℕ → List ℕ
-limits_in bytes = limits_by (version_in bytes) (entry_count_in bytes) (own_in bytes) (words_in (listed_in bytes) (drop (limits_place bytes) bytes))
+limits_in bytes =
+    limits_by (version_in bytes) (entry_count_in bytes) (own_in bytes)
+    (words_in (listed_in bytes) (drop (limits_place bytes) bytes))
 
 -- where the text begins, where the data begins, and where the file ends
 abbrev pub text_place : List ℕ → ℕ
@@ -116,22 +123,22 @@ first_of (check ∷ rest) = if check.0 then Some check.1 else first_of rest
 abbrev pub ends_before : List ℕ → ℕ → Check
 ends_before bytes place = (nat_lt (length bytes) place, Short)
 
--- a count isn't from 1 to the most
+-- a count isn't in the range from 1 to the most
 unfoldable pub is_outside : ℕ → ℕ → Bool
 is_outside most count = not (nat_le 1 count && nat_le count most)
 
--- in version 1 the limit isn't one; in version 2 more words are read-only than there are
+-- in version 1 the limit is out of its range; in version 2 more words are read-only than there are
 abbrev pub is_own_outside : Version → (words own : ℕ) → Bool
 is_own_outside version.One words own = is_outside 65536 own
 is_own_outside version.Two words own = nat_lt words own
 
--- the checks of magic and version, each field's after that it is whole
+-- the checks of magic and version; each field is first checked to be whole
 unfoldable pub version_checks : List ℕ → List Check
 version_checks bytes =
     ends_before bytes 4 ∷ (not (starts_with nat_eq bytes magic), Magic)
     ∷ ends_before bytes 6 ∷ (not (is_known (number_in bytes)), error.Version) ∷ []
 
--- the checks from there up to the registers; the start waits for the entries, and any register is sound
+-- the checks from there up to the registers; the start is checked after the entries, and a register may hold any value
 unfoldable pub count_checks : List ℕ → List Check
 count_checks bytes =
     ends_before bytes 8 ∷ (is_outside 1024 (entry_count_in bytes), Count)
@@ -157,7 +164,8 @@ is_misplaced words entry = not (entry % 4 == 0 && nat_lt entry (4 * words))
 -- the checks of the k-th entry
 unfoldable pub entry_checks : List ℕ → ℕ → List Check
 entry_checks bytes k =
-    ends_before bytes (148 + 4 * k + 4) ∷ (falls (entry_in bytes) k, EntryOrder) ∷ (is_misplaced (text_count_in bytes) (entry_in bytes k), EntryPlace) ∷ []
+    ends_before bytes (148 + 4 * k + 4) ∷ (falls (entry_in bytes) k, EntryOrder)
+    ∷ (is_misplaced (text_count_in bytes) (entry_in bytes k), EntryPlace) ∷ []
 
 -- the checks of the first n of a run, in turn
 unfoldable pub each_of : (ℕ → List Check) → ℕ → List Check
@@ -170,7 +178,8 @@ start_checks bytes = (not (list_any (λ e. e == start_in bytes) (entries_in byte
 
 -- the checks of the k-th limit
 unfoldable pub limit_checks : List ℕ → ℕ → List Check
-limit_checks bytes k = ends_before bytes (limits_place bytes + 4 * k + 4) ∷ (is_outside 65536 (limit_in bytes k), Count) ∷ []
+limit_checks bytes k =
+    ends_before bytes (limits_place bytes + 4 * k + 4) ∷ (is_outside 65536 (limit_in bytes k), Count) ∷ []
 
 -- the last checks: that text and data are whole, and that nothing follows
 unfoldable pub end_checks : List ℕ → List Check
@@ -182,4 +191,6 @@ checks_after_entries bytes = start_checks bytes ++ (each_of (limit_checks bytes)
 
 -- the first fault of any bytes
 unfoldable pub fault : List ℕ → Option ImageError
-fault bytes = first_of (header_checks bytes ++ (each_of (entry_checks bytes) (entry_count_in bytes) ++ checks_after_entries bytes))
+fault bytes =
+    first_of
+    (header_checks bytes ++ (each_of (entry_checks bytes) (entry_count_in bytes) ++ checks_after_entries bytes))

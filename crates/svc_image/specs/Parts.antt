@@ -12,7 +12,7 @@ use Rattle.svc_image.specs.Version.{read_only_by, limits_by}
 use Rattle.svc_image.specs.Image.{Image, AreWords}
 use Rattle.svc_image.specs.Format.{Check, first_of, each_of, is_outside, is_own_outside, falls, is_misplaced}
 
--- the version, the number that only its header has, and the limits that a file of it lists
+-- the version, the number of the header that depends on it, and the limits that a file of it lists
 abbrev pub version_by : Own → Version
 version_by (own.One limit) = version.One
 version_by (own.Two read_only limits) = version.Two
@@ -49,7 +49,7 @@ pub record AreFit (p : Parts) : Type 0 where
   pub text_fits : AreWords p.text.items
   pub words_fit : AreWords p.words.items
 
--- the checks of the counts, and of the number that only the version has
+-- the checks of the counts, and of the number that depends on the version
 abbrev pub size_checks : Parts → List Check
 size_checks p =
     (is_outside 1024 (length p.entries.items), Count)
@@ -59,7 +59,8 @@ size_checks p =
 
 -- the checks of the k-th entry: it is above the one before it, and at one of so many words of the text
 unfoldable pub place_checks : (entries : List ℕ) (words k : ℕ) → List Check
-place_checks entries words k = (falls (slice_index entries) k, EntryOrder) ∷ (is_misplaced words (slice_index entries k), EntryPlace) ∷ []
+place_checks entries words k =
+    (falls (slice_index entries) k, EntryOrder) ∷ (is_misplaced words (slice_index entries k), EntryPlace) ∷ []
 
 -- the check of the start
 unfoldable pub start_checks : (entries : List ℕ) (start : ℕ) → List Check

@@ -6,7 +6,9 @@ use Rattle.svc_image.specs.declared.version.Version.{Version}
 use Rattle.svc_image.specs.declared.version.Version.TheVariants as version
 use Rattle.svc_image.specs.Version.{version_number, read_only_by, listed_count}
 use Rattle.svc_image.specs.Image.{Image, IsLimit}
-use Rattle.svc_image.specs.Format.{magic, bytes_of_half, bytes_of_word, words_in, version_in, entry_count_in, text_count_in, data_count_in, own_in, own_of, start_in, registers_in, entries_in, limits_in, text_place, data_place}
+use Rattle.svc_image.specs.Format.{magic, bytes_of_half, bytes_of_word, words_in, version_in, entry_count_in}
+use Rattle.svc_image.specs.Format.{text_count_in, data_count_in, own_in, own_of, start_in, registers_in, entries_in}
+use Rattle.svc_image.specs.Format.{limits_in, text_place, data_place}
 
 -- the value where there is no fault, and else the fault
 abbrev pub checked : {T : Type 0} → Option ImageError → T → Result T ImageError
@@ -15,11 +17,19 @@ checked (Some error) value = Err error
 
 -- the numbers of a file's header
 abbrev pub header_in : List ℕ → Header
-header_in bytes = record { version = version_in bytes; entries = entry_count_in bytes; text = text_count_in bytes; words = data_count_in bytes; own = own_in bytes; start = start_in bytes }
+header_in bytes = record {
+  version = version_in bytes;
+  entries = entry_count_in bytes;
+  text = text_count_in bytes;
+  words = data_count_in bytes;
+  own = own_in bytes;
+  start = start_in bytes;
+}
 
 -- the size of a file with this header
 abbrev pub size_of : Header → ℕ
-size_of header = 148 + 4 * header.entries + 4 * listed_count header.version header.entries + 4 * header.text + 4 * header.words
+size_of header =
+    148 + 4 * header.entries + 4 * listed_count header.version header.entries + 4 * header.text + 4 * header.words
 
 -- a version's own number is a limit, or counts no more words than there are
 abbrev pub IsOwn : Version → (words own : ℕ) → Type 0
@@ -38,13 +48,21 @@ pub record InLimits (header : Header) : Type 0 where
 
 -- the numbers of an image's header
 abbrev pub header_of : Image → Header
-header_of img = record { version = img.version; entries = length img.entries; text = length img.text; words = length img.words; own = own_of img; start = img.start }
+header_of img = record {
+  version = img.version;
+  entries = length img.entries;
+  text = length img.text;
+  words = length img.words;
+  own = own_of img;
+  start = img.start;
+}
 
 -- the bytes of a header
 abbrev pub header_bytes : Header → List ℕ
 header_bytes header =
-    magic ++ (bytes_of_half (version_number header.version) ++ (bytes_of_half header.entries ++ (bytes_of_word header.text
-    ++ (bytes_of_word header.words ++ (bytes_of_word header.own ++ bytes_of_word header.start)))))
+    magic ++ (bytes_of_half (version_number header.version) ++ (bytes_of_half header.entries
+    ++ (bytes_of_word header.text ++ (bytes_of_word header.words
+    ++ (bytes_of_word header.own ++ bytes_of_word header.start)))))
 
 -- the image whose fields stand in a file
 unfoldable pub image_in : List ℕ → Image

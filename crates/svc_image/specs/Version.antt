@@ -1,4 +1,4 @@
--- The versions of the format, and what of a file hangs on its version.
+-- The versions of the format, and what in a file depends on its version.
 use Rattle.std.specs.Prelude.{ℕ, ◌==◌, ◌||◌, Bool, List, [], if◌then◌else◌, replicate}
 use Rattle.svc_image.specs.declared.version.Version.{Version}
 use Rattle.svc_image.specs.declared.version.Version.TheVariants as version
@@ -15,7 +15,8 @@ is_known number = (number == 1) || (number == 2)
 abbrev pub version_of : ℕ → Version
 version_of number = if number == 2 then version.Two else version.One
 
--- a header has one number that only its version has: in version 1 the limit of every task, in version 2 how many words are read-only
+-- one number of a header depends on the version: version 1 has the limit of every task there, and version 2 the number
+-- of read-only words
 abbrev pub own_number : Version → (limit read_only : ℕ) → ℕ
 own_number version.One limit read_only = limit
 own_number version.Two limit read_only = read_only

@@ -2,7 +2,9 @@
 
 ghost use Rattle.std.specs.Prelude.{◌≡◌, ◌<◌, ◌≤◌, ◌+◌, ◌*◌, ◌^◌, length, nat_eq, drop, IfOk, OnOk};
 ghost use Rattle.std.specs.List.{list_any};
-ghost use Rattle.svc_image.specs.Format.{first_of, fault, each_of, entry_checks, start_checks, limit_checks, end_checks, listed_in, limits_place as limits_place_in, text_place, text_count_in, words_in};
+ghost use Rattle.svc_image.specs.Format.{first_of, fault, each_of, entry_checks, start_checks, limit_checks};
+ghost use Rattle.svc_image.specs.Format.{end_checks, listed_in, limits_place as limits_place_in, text_place};
+ghost use Rattle.svc_image.specs.Format.{text_count_in, words_in};
 ghost use Rattle.svc_image.specs.Reading.{InLimits, checked, header_in, size_of};
 
 use crate::error::ImageError;

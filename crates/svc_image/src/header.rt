@@ -2,7 +2,8 @@
 
 ghost use Rattle.std.specs.Prelude.{◌≡◌, ◌<◌, ◌≤◌, ◌+◌, ◌*◌, ◌^◌, length, nat_lt, if◌then◌else◌, IfOk, OnOk};
 ghost use Rattle.svc_image.specs.Version.{listed_count, read_only_by};
-ghost use Rattle.svc_image.specs.Format.{half_at, word_at, first_of, version_in, version_checks, count_checks, header_checks, is_outside, is_own_outside};
+ghost use Rattle.svc_image.specs.Format.{half_at, word_at, first_of, version_in, version_checks, count_checks};
+ghost use Rattle.svc_image.specs.Format.{header_checks, is_outside, is_own_outside};
 ghost use Rattle.svc_image.specs.Reading.{InLimits, IsOwn, checked, header_in, size_of};
 
 use crate::error::ImageError;
@@ -82,7 +83,7 @@ pub fn half(bytes: &[u8], place: usize) -> Result<u32, ImageError>
     Ok(LittleEndian::read_u16(&bytes[place..]) as u32)
 }
 
-/// The number of 32 bits at a place of the file that has it whole.
+/// The number of 32 bits at a place of the file, which has all of its bytes.
 #[tactic(auto, unfolding(crate::specs::Format::word_at))]
 pub fn whole_word(bytes: &[u8], place: usize) -> u32
     requires { place + 4 ≤ length bytes.now }

@@ -7,8 +7,8 @@ pub const MAGIC: [u8; 4] = *b"SVCI";
 pub const MOST_ENTRIES: u32 = 1024;
 /// The most text words, the most data words, and the largest limit of turns.
 pub const MOST_WORDS: u32 = 65_536;
-/// The most bytes of an image file, which is one of version 2: the header with the registers, the entries, as many limits,
-/// the text and the data.
+/// The most bytes of an image file, which is one of version 2: the header with the registers, the entries, as many
+/// limits, the text and the data.
 pub const MOST_BYTES: u32 = 148 + 4 * (2 * MOST_ENTRIES + 2 * MOST_WORDS);
 
 /// The byte address of the first data word; the first text word stands at 0.
@@ -26,8 +26,8 @@ pub const TEXT_COUNT_PLACE: usize = 8;
 /// The offset of the number of data words.
 pub const DATA_COUNT_PLACE: usize = 12;
 
-/// The offset of the number that only its version has: in version 1 the limit of every task, in version 2 how many words
-/// are read-only.
+/// The offset of the number that depends on the version: in version 1 the limit of every task, in version 2 the number
+/// of read-only words.
 pub const OWN_PLACE: usize = 16;
 
 /// The offset of the first task's entry.

@@ -4,7 +4,8 @@ ghost use Rattle.std.specs.Prelude.{◌≡◌, ◌<◌, ◌^◌, Ok, length, IfO
 ghost use Rattle.svc_image.specs.Version.{read_only_by, limits_by};
 ghost use Rattle.svc_image.specs.Format.{first_of, each_of, is_outside};
 ghost use Rattle.svc_image.specs.Image.{AreWords};
-ghost use Rattle.svc_image.specs.Parts.{AreFit, version_by, number_by, listed_by, size_checks, place_checks, start_checks, limit_checks, fault_in};
+ghost use Rattle.svc_image.specs.Parts.{AreFit, version_by, number_by, listed_by, size_checks, place_checks};
+ghost use Rattle.svc_image.specs.Parts.{start_checks, limit_checks, fault_in};
 ghost use Rattle.svc_image.specs.Reading.{checked};
 
 use crate::error::ImageError;
@@ -13,7 +14,7 @@ use crate::layout::{MOST_ENTRIES, MOST_WORDS};
 use crate::version::Version;
 use std::alloc::{AllocError, Global};
 
-/// What each version has in its own way.
+/// What only one of the versions has.
 #[derive(Drop)]
 pub enum Own {
     /// Version 1: the limit of turns of every task.
@@ -25,7 +26,7 @@ pub enum Own {
 /// What an image is made of.
 #[derive(Drop)]
 pub struct Parts {
-    /// The version, with what it has in its own way.
+    /// The version, with what only it has.
     pub own: Own,
     /// The first task's entry.
     pub start: u32,
@@ -50,7 +51,7 @@ impl Own {
         }
     }
 
-    // The number that only this version's header has.
+    // The number of the header that depends on the version.
     fn number(&self) -> u32
         ensures { result ≡ number_by self.now }
     {
@@ -131,7 +132,7 @@ fn size(len: usize, most: u32) -> Result<u32, ImageError>
     Ok(len as u32)
 }
 
-// The counts, and the number that only the version has.
+// The counts, and the number that depends on the version.
 fn check_sizes(parts: &Parts) -> Result<(), ImageError>
     ensures { result ≡ checked (first_of (size_checks parts.now)) tt }
 {

@@ -1,7 +1,7 @@
-//! The built-in image, for a first run. Each line holds, in order: the magic; the version and the number of entries; the
-//! counts of text and data words; the limit and the start; two registers at a time, all 0; the last register; the entry;
-//! one instruction per line; the two data words. The file p1.svci under images/ holds the same bytes: it was made from
-//! this table, and has to be made again if it changes.
+//! The built-in image, for a first run. Each line holds, in order: the magic; the version and the number of entries;
+//! the counts of text and data words; the limit and the start; two registers at a time, all 0; the last register; the
+//! entry; one instruction per line; the two data words. The file p1.svci under images/ holds the same bytes: it was
+//! made from this table, and has to be made again if it changes.
 
 /// One task, which begins at 0 and takes 9 turns. It stores 5 into data word 0 (`lui x5, 0x100`, `addi x1, x0, 5`,
 /// `sw x1, 0(x5)`), loads that word (`lui x5, 0x100`, `lw x10, 0(x5)`), outputs it (`addi x17, x0, 1`, `ecall`) and

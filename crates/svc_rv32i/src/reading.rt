@@ -2,7 +2,8 @@
 
 ghost use Rattle.std.specs.Prelude.{◌≡◌, ℕ, ◌<◌, ◌^◌, ◌↔◌, Some};
 ghost use Rattle.svc_rv32i.specs.Words.{word_of};
-ghost use Rattle.svc_rv32i.specs.Meaning.{register, short, long, amount_at, fields_at, i_imm, s_imm, b_imm, u_imm, j_imm, system_of, immediate_or_shift, instr_of, meaning};
+ghost use Rattle.svc_rv32i.specs.Meaning.{register, short, long, amount_at, fields_at, i_imm, s_imm, b_imm, u_imm};
+ghost use Rattle.svc_rv32i.specs.Meaning.{j_imm, system_of, immediate_or_shift, instr_of, meaning};
 
 use crate::fields::Fields;
 use crate::instr::{
