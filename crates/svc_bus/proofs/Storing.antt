@@ -1,5 +1,5 @@
 -- A store: its searches are few, and what it makes of the lines is what a write makes of the line table.
-use Rattle.std.proofs.Common.{◌≡◌, ◌∙◌, refl, sym, ap, ℕ, zero, suc, ◌+◌, ◌<◌, ◌≤◌, Bool, true, false, cond, not, ◌&&◌, ◌||◌, Option, Some, None, Result, List, length, arith, true≢false, OnOk, is_ok, Ok, Err, eq-eqb, ne_eqb}
+use Rattle.std.proofs.Common.{◌≡◌, ◌∙◌, refl, sym, ap, ℕ, zero, suc, ◌+◌, ◌<◌, ◌≤◌, Bool, true, false, cond, not, ◌&&◌, ◌||◌, Option, Some, None, List, length, arith, true≢false, eq-eqb, ne_eqb}
 use Rattle.std.specs.Bool.{◌==◌}
 use Rattle.std.proofs.lemmas.Bool.{false≢true}
 use Rattle.svc_base.specs.declared.ids.UnitId.{UnitId}
@@ -19,11 +19,6 @@ use Rattle.svc_bus.specs.Looking.{CountsUpTo}
 use Rattle.svc_bus.specs.Marks.{AreHeld, EndBelow}
 use Rattle.svc_bus.specs.Stores.{ChangeOnce}
 use Rattle.svc_bus.proofs.Marking.{as_many, named_at}
-
--- what holds of an answer that is there
-pub on_ok : {T E : Type 0} (r : Result T E) (P : Type 0) → is_ok r ≡ true → OnOk r P → P
-on_ok (Ok x) P e h = h
-on_ok (Err x) P e h = absurd (false≢true e)
 
 -- ---- the searches
 

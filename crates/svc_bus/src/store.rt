@@ -86,8 +86,7 @@ pub(crate) fn store_line(
         changed,
         left,
     } = *store;
-    let put = put_line(caches, backing, list, unit, word, line, probes);
-    put.map_err(|full| Refusal::SetFull(full.0))?;
+    put_line(caches, backing, list, unit, word, line, probes)?;
     let mark = MarkingStore {
         word,
         writer: unit,

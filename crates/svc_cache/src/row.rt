@@ -68,8 +68,8 @@ impl Survey {
     }
 }
 
-/// The place of a row that a line of the word takes: the one that holds the word, otherwise an empty one. A full row has
-/// none, and the error names the word whose line should leave first.
+/// The place of a row that a line of the word takes: the one that holds the word, otherwise an empty one. A full row
+/// has none, and the error names the word whose line should leave first.
 pub(crate) fn place_for(
     row: &[CachePlace],
     word: WordAddr,
