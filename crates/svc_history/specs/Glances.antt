@@ -22,7 +22,12 @@ IsUnitKnown config unit answer =
 
 -- what a unit sees of a machine
 abbrev pub seen : MachineValue → (unit : ℕ) → Glance
-seen m unit = record { ended = has_ended m; lease = lease_of m unit; is_head = runs_head m unit; guess = guess (program m.image) m.image.entries m.plain }
+seen m unit = record {
+  ended = has_ended m;
+  lease = lease_of m unit;
+  is_head = runs_head m unit;
+  guess = guess (program m.image) m.image.entries m.plain;
+}
 
 -- the glance shows the machine as it stands
 pub record IsGlance (m : MachineValue) (unit : ℕ) (g : Glance) : Type 0 where

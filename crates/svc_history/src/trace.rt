@@ -41,8 +41,8 @@ pub struct TraceFault {
     pub kind: TraceFaultKind,
 }
 
-// Makes the burst that an entry of a submission names, where its machine stands, in the place of another one. None if
-// the entry lacks what that needs.
+// Replaces a burst by the one that an entry of a submission names where its machine stands. The answer is none if the
+// entry lacks what that needs.
 fn make_burst(burst: &mut Burst, machine: &Machine, entry: &Entry) -> Option<()>
     ensures replay { IfSome result (λ _.
         ReplaysAs Kind.Submit machine.now.image machine.now.plain entry.now (Submit burst.new)) }
@@ -54,7 +54,7 @@ fn make_burst(burst: &mut Burst, machine: &Machine, entry: &Entry) -> Option<()>
     Some(())
 }
 
-// Replays the event that the entry names. A submission's burst is made in the place of another one.
+// Replays the event that the entry names. A submission's burst replaces another one.
 fn replay(recorder: &mut Recorder, burst: &mut Burst, entry: &Entry) -> Result<(), TraceFaultKind>
     ensures entries { OnOk result (recorder.new.entries ≡ recorder.old.entries ++ entry.now ∷ []) }
     ensures image { recorder.new.machine.image ≡ recorder.old.machine.image }

@@ -33,7 +33,8 @@ IsFound m (admitted.Commit by end) = head_end (machine_at m).seats ≡ Some end
 
 -- why the unit has no room for the word that a burst asks for, if it has none
 abbrev pub room_refusal : Image → LineTable → Advance → Option Refusal
-room_refusal img t b = option_map (λ named. refusal.SetFull (record { 0 = named })) (full_set t b.unit.0 (asked_word img b.ask))
+room_refusal img t b =
+    option_map (λ named. refusal.SetFull (record { 0 = named })) (full_set t b.unit.0 (asked_word img b.ask))
 
 -- no other case of the table of refusals holds for the burst
 abbrev pub IsAdmitted : MachineValue → Advance → Type 0

@@ -23,7 +23,7 @@ use Rattle.svc_machine_laws.specs.WholeMachine.{Seat, seat_turn}
 use Rattle.svc_machine_laws.specs.LineEvents.{line_ask}
 use Rattle.svc_machine_laws.specs.Replies.{ran, serves_at, turn_done}
 
--- some line table and place are such
+-- some task of the unit is active
 abbrev pub IsRunning : BusState → (unit : ℕ) → Type 0
 IsRunning b unit = (t : LineTable) × (place : ℕ) × RunsAt b unit t place
 

@@ -28,7 +28,12 @@ is_full m = nat_le m.config.events m.plain.accepted
 
 -- an active task as it stands: its unit, its entry, its turns so far, and how it has ended, if it has
 abbrev pub task_shown : Running State → ActiveTask
-task_shown x = record { unit = record { 0 = x.task.unit }; entry = x.task.entry; turns = x.task.turns; done = x.run.core.done }
+task_shown x = record {
+  unit = record { 0 = x.task.unit };
+  entry = x.task.entry;
+  turns = x.task.turns;
+  done = x.run.core.done;
+}
 
 -- the active task at a place, counted from the oldest
 abbrev pub task_of : MachineValue → (place : ℕ) → Option ActiveTask

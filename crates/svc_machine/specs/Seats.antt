@@ -8,7 +8,12 @@ use Rattle.svc_machine.specs.declared.seat.Seat.{Seat}
 
 -- a seat's task: its turns are its core's count
 abbrev pub task_of : Seat → Task
-task_of seat = record { unit = seat.lease.unit.0; epoch = seat.lease.epoch; entry = seat.entry; turns = seat.lease.core.count }
+task_of seat = record {
+  unit = seat.lease.unit.0;
+  epoch = seat.lease.epoch;
+  entry = seat.entry;
+  turns = seat.lease.core.count;
+}
 
 -- the plain machine of these counts and seats, oldest task first
 abbrev pub plain_of : (commits accepted epoch : ℕ) → List Seat → Plain

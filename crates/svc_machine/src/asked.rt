@@ -31,7 +31,7 @@ use svc_image::Image;
 use svc_machine_laws::{Cause, Cut, Reply, What};
 use svc_rv32i::{LoadKind, Register, StoreKind};
 
-/// The task in the seat moves to this core, and does the asked turn, if there is one. A load or store that is
+/// Moves the task in the seat to this core, and does its asked turn, if there is one. A load or store that is
 /// misaligned or outside the data traps, and so does a store to a read-only word. A store of less than a word reads its
 /// word and writes it. An output word waits in the seat. The tasks that a store squashes stay in their seats: the
 /// answer names them.
@@ -149,7 +149,7 @@ fn do_store(
     }
 }
 
-// A word is output. It waits for the task's commit.
+// Outputs a word, which waits for the task's commit.
 fn do_emit(image: &Image, seat: &mut Seat, word: u32) -> Reply
     requires going { seat.old.lease.core.done ≡ None }
     requires in_time { seat.old.lease.core.count < seat.old.lease.core.limit }
@@ -164,7 +164,7 @@ fn do_emit(image: &Image, seat: &mut Seat, word: u32) -> Reply
     without_cut(What::Emitted(word))
 }
 
-// The task comes to this core, and traps.
+// Moves the task to this core, where it traps.
 fn trapped(seat: &mut Seat, core: &Core, trap: u8) -> Reply
     requires { core.now.done ≡ None }
     ensures seat { whole_seat seat.new ≡ at_core (ends (end.Trap trap) core.now) (whole_seat seat.old) }
@@ -211,7 +211,7 @@ fn word_to_store(
     }
 }
 
-// The unit's task stores the word. It answers which tasks that squashed.
+// Stores the word for the unit's task, and answers which tasks that squashed.
 //
 // Errors: the bus's, if the unit has no room for the word. Then nothing changes.
 fn write(bus: &mut Bus, unit: UnitId, addr: WordAddr, word: u32) -> Result<Option<Cut>, Refusal>

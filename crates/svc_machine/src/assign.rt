@@ -11,8 +11,7 @@ use svc_core::{Core, Lease};
 use svc_machine_laws::{Reply, What};
 
 impl Machine {
-    // The next task begins on the unit: at the guess or, if no task is active, at the entry that is
-    // due.
+    // Begins the next task on the unit: at the guess or, if no task is active, at the entry that is due.
     pub(crate) fn assign(&mut self, unit: UnitId, guess: u32) -> Reply
         requires { Accepts self.old (Assign unit.0 guess) }
         ensures { IsTaken self.old self.new (Assign unit.0 guess) result }

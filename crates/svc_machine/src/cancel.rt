@@ -11,7 +11,7 @@ use svc_base::{TaskNo, UnitId};
 use svc_machine_laws::{Cause, Cut, Reply, What};
 
 impl Machine {
-    // The unit's task, in the seat at this place, and all after it are squashed.
+    // Squashes the unit's task, in the seat at this place, and all after it.
     pub(crate) fn cancel(&mut self, unit: UnitId, place: usize) -> Reply
         requires accepted { Accepts self.old (Cancel unit.0) }
         requires found { seat_place (machine_at self.old) unit.0 ≡ Some place }
@@ -29,8 +29,7 @@ impl Machine {
     }
 }
 
-/// The cut of the active tasks from a place on, given how many tasks are active and how many were
-/// committed.
+/// The cut of the active tasks from a place on, given how many tasks are active and how many are committed.
 pub(crate) fn cut_from(cause: Cause, commits: u64, count: usize, place: usize) -> Cut
     requires number { commits + place < 2 ^ 64 }
     requires few { count < 2 ^ 32 }

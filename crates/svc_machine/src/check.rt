@@ -19,8 +19,9 @@ use svc_core_laws::End;
 use svc_machine_laws::{Cause, Cut};
 use svc_sequencer::Sequencer;
 
-/// Once the task at a place has ended, the tasks after it are squashed if the next one was guessed wrongly. The cut
-/// counts them out of the given number of tasks, including those that the same event has already squashed.
+/// Checks the guess after the task at a place: if that task has ended and the next one was guessed wrongly, all tasks
+/// after it are squashed. The cut counts them out of the given number of tasks, including those that the same event has
+/// already squashed.
 pub(crate) fn check_guess(
     bus: &mut Bus,
     sequencer: &mut Sequencer,
@@ -51,8 +52,7 @@ pub(crate) fn check_guess(
     }
 }
 
-/// The tasks after the one at a place, which has this end, are squashed if the next one was guessed
-/// wrongly.
+/// Squashes the tasks after the one at a place, which has this end, if the next one was guessed wrongly.
 pub(crate) fn settle(
     bus: &mut Bus,
     sequencer: &mut Sequencer,

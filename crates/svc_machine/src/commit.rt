@@ -13,8 +13,8 @@ use svc_core_laws::End;
 use svc_machine_laws::{Reply, What};
 
 impl Machine {
-    // The head, which has this end, is committed, with its output. If the run stops with it, or the next task began at
-    // an entry other than the one that is due, the tasks after it are squashed first, while it is still the head.
+    // Commits the head, which has this end, with its output. If the run stops with it, or the next task began at an
+    // entry other than the due one, it first squashes the tasks after the head, which is still the head then.
     pub(crate) fn commit(&mut self, by: UnitId, end: End) -> Reply
         requires accepted { Accepts self.old (Commit by.0) }
         requires found { head_end (machine_at self.old).seats ≡ Some end }

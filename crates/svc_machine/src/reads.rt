@@ -55,8 +55,8 @@ impl Machine {
         }
     }
 
-    /// What the unit may run its task on from, without the machine; none if the unit has no task. Its core is that of
-    /// the task's part, run again on what the tasks before it leave.
+    /// The lease from which the unit may run its task on, without the machine; none if the unit has no task. Its core
+    /// is where the task's turns lead, taken again on what the tasks before it leave.
     #[tactic(auto, unfolding(crate::specs::Refusing::machine_at))]
     pub fn lease(&self, unit: UnitId) -> Option<&Lease>
         ensures { option_map (λ lease. lease.now) result ≡ lease_of self.now unit.0 }

@@ -8,7 +8,7 @@ use svc_base::{UnitId, WordAddr};
 use svc_machine_laws::{Reply, What};
 
 impl Machine {
-    // The unit's line of the word leaves its cache.
+    // Removes the unit's line of the word from its cache.
     pub(crate) fn replace(&mut self, unit: UnitId, addr: WordAddr) -> Reply
         requires { Accepts self.old (Replace unit.0 addr.0) }
         ensures { IsTaken self.old self.new (Replace unit.0 addr.0) result }

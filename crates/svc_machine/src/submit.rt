@@ -15,9 +15,9 @@ use svc_core::Burst;
 use svc_machine_laws::{Cut, Reply};
 
 impl Machine {
-    // The seat at this place, which is the unit's, takes over the burst's local turns, and then does the asked turn, if
-    // there is one. If the task has then ended, the guess for the next one is checked; a wrong guess is reported
-    // instead of a later victim.
+    // Takes the burst's local turns over into the unit's seat, which is at this place, and then does the asked turn, if
+    // there is one. If the task has then ended, it checks the guess for the next one, and reports a wrong guess instead
+    // of a later victim.
     //
     // Errors: the bus's, if the unit's cache has no room for the asked word. Then nothing changes.
     pub(crate) fn submit(&mut self, place: usize, burst: &Burst) -> Result<Reply, Refusal>

@@ -64,7 +64,8 @@ pub record CommitsAnswers {C : Type 0} (p : Program C) (before after : Plain) : 
 
 -- what each kind of event adds to the logs
 abbrev pub LogsFollow : {C : Type 0} → Program C → Plain → Plain → Event → What → Type 0
-LogsFollow p before after (Assign unit guess) done = logs_of p after ≡ logs_of p before ++ record { unit = unit; log = [] } ∷ []
+LogsFollow p before after (Assign unit guess) done =
+    logs_of p after ≡ logs_of p before ++ record { unit = unit; log = [] } ∷ []
 LogsFollow p before after (Submit b) done = AddsItsAnswer p before after b.unit.0 done
 LogsFollow p before after (Replace unit address) done = logs_of p after ≡ logs_of p before
 LogsFollow p before after (Cancel unit) done = LeavesEarlier p before after unit

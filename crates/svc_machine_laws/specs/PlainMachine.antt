@@ -1,8 +1,10 @@
 -- The plain machine: counts of turns, from which all else follows by running the program again.
-use Rattle.std.specs.Prelude.{ℕ, zero, suc, ◌≡◌, ◌==◌, ◌+◌, Bool, true, false, cond, not, List, [], ◌∷◌, ◌++◌, map, take, Option, Some, None, unwrap_or, slice_get}
+use Rattle.std.specs.Prelude.{ℕ, zero, suc, ◌≡◌, ◌==◌, ◌+◌, Bool, true, false, cond, not, List, [], ◌∷◌, ◌++◌, map}
+use Rattle.std.specs.Prelude.{take, Option, Some, None, unwrap_or, slice_get}
 use Rattle.svc_core_laws.specs.declared.end.End.{End}
 use Rattle.svc_core_laws.specs.declared.end.End.TheVariants as end
-use Rattle.svc_core_laws.specs.Program.{Memory, Want, Local, Load, Store, Narrow, Emit, Program, Run, wrote, exposed, over, part, seq}
+use Rattle.svc_core_laws.specs.Program.{Memory, Want, Local, Load, Store, Narrow, Emit, Program, Run, wrote, exposed}
+use Rattle.svc_core_laws.specs.Program.{over, part, seq}
 use Rattle.svc_bus_laws.specs.Versioned.{Row}
 use Rattle.svc_bus_laws.specs.ByRows.{victim_after, edit}
 
@@ -149,7 +151,12 @@ assign p s unit guess =
     record s {
       accepted = suc s.accepted;
       epoch = suc s.epoch;
-      tasks = s.tasks ++ record { unit = unit; epoch = s.epoch; entry = entry_for (seq p s.commits).due (map entry_of s.tasks) guess; turns = 0 } ∷ [];
+      tasks = s.tasks ++ record {
+        unit = unit;
+        epoch = s.epoch;
+        entry = entry_for (seq p s.commits).due (map entry_of s.tasks) guess;
+        turns = 0;
+      } ∷ [];
     }
 
 -- turns of the task at a place: this many local ones, and one more if there is an ask

@@ -1,11 +1,13 @@
 // The sequencer.
 
-ghost use Rattle.std.specs.Prelude.{◌≡◌, ◌<◌, suc, Some, Decides, IfOk, IfErr, length, slice_index, drop, slice_get, unwrap_or};
+ghost use Rattle.std.specs.Prelude.{◌≡◌, ◌<◌, suc, Some, Decides, IfOk, IfErr, length, slice_index, drop, slice_get};
+ghost use Rattle.std.specs.Prelude.{unwrap_or};
 ghost use Rattle.std.specs.List.Sorted.{IsStrictlyIncreasing};
 ghost use Rattle.svc_core_laws.specs.Program.{due_after};
 ghost use Rattle.svc_machine_laws.specs.PlainMachine.{cuts_next, entry_for};
 ghost use Rattle.svc_machine_laws.specs.Guess.{entry_after};
-ghost use Rattle.svc_machine_laws.specs.Guide.{guess_of, guide_opened, guide_assigned, guide_cut, guide_committed, successor_in, with_successor};
+ghost use Rattle.svc_machine_laws.specs.Guide.{guess_of, guide_opened, guide_assigned, guide_cut, guide_committed};
+ghost use Rattle.svc_machine_laws.specs.Guide.{successor_in, with_successor};
 ghost use Rattle.svc_sequencer.specs.Tables.{IsPlace};
 
 use arrayvec::ArrayVec;
