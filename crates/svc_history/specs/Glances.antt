@@ -21,8 +21,8 @@ IsUnitKnown config unit answer =
     MatchResult answer (λ _. unit.0 < config.units) (λ why. (why ≡ refusal.NoSuchUnit) × (config.units ≤ unit.0))
 
 -- what a unit sees of a machine
-abbrev pub seen : MachineValue → (unit : ℕ) → Glance
-seen m unit = record {
+abbrev pub glance_of : MachineValue → (unit : ℕ) → Glance
+glance_of m unit = record {
   ended = has_ended m;
   lease = lease_of m unit;
   is_head = runs_head m unit;
