@@ -26,7 +26,7 @@ use Rattle.svc_machine_laws.specs.Replies.{cut_from, turn_cut, turn_done, serves
 use Rattle.svc_machine_laws.proofs.EditedLists.{edit_edit, victim_edit}
 use Rattle.svc_machine_laws.proofs.Lines.{read_step}
 use Rattle.svc_machine_laws.proofs.Places.{take_edit}
-use Rattle.svc_machine.specs.Asked.{IsDone, asked_cut, violated}
+use Rattle.svc_machine.specs.Asked.{IsDone, asked_cut, violation_cut}
 
 -- ---- lists
 
@@ -54,14 +54,14 @@ edit_cut f place c xs within =
 
 -- the victim and all after it, of so many tasks
 shown_cut : (a k count place : ℕ) (o : Option ℕ) → let cut : ℕ → Cut = λ n. cut_from (cause.Violation (record { 0 = a })) k count (suc place + n) in
-    option_map (violated a) (option_map (λ (v : ℕ). let w : Victim = record { first = k + v; tasks = count - v } in w) (option_map (λ n. suc place + n) o)) ≡ option_map cut o
+    option_map (violation_cut a) (option_map (λ (v : ℕ). let w : Victim = record { first = k + v; tasks = count - v } in w) (option_map (λ n. suc place + n) o)) ≡ option_map cut o
 shown_cut a k count place None = refl
 shown_cut a k count place (Some n) = refl
 
-stored_cut_is : (v : Versioned) (place a : ℕ) → option_map (violated a) (victim_answer v place a)
+stored_cut_is : (v : Versioned) (place a : ℕ) → option_map (violation_cut a) (victim_answer v place a)
     ≡ option_map (λ n. cut_from (cause.Violation (record { 0 = a })) v.commits (length v.rows) (suc place + n)) (victim_after v.rows place a)
 stored_cut_is v place a =
-    ap (λ o. option_map (violated a) (option_map (λ (q : ℕ). let w : Victim = record { first = v.commits + q; tasks = length v.rows - q } in w) o)) (victim_by_rows v place a)
+    ap (λ o. option_map (violation_cut a) (option_map (λ (q : ℕ). let w : Victim = record { first = v.commits + q; tasks = length v.rows - q } in w) o)) (victim_by_rows v place a)
     ∙ shown_cut a v.commits (length v.rows) place (victim_after v.rows place a)
 
 -- a read of one task has no part in the victims of its writes

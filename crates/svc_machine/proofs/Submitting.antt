@@ -62,7 +62,7 @@ use Rattle.svc_machine.specs.Seats.{is_misled}
 use Rattle.svc_machine.proofs.Keeping.{IsAccepted, Moved, own_standing, stands, reached_with, seat_task}
 use Rattle.svc_machine.proofs.EditedSeats.{IsTurn, few_cut, seats_done, reply_done, commits_done, accepted_done, others_done}
 
--- the words that a task has put out are those that its core has counted, also after local turns
+-- the words that a task has output are those that its core has counted, also after local turns
 waiting_counted : (img : Image) (t : Task) (m : Memory) (local : ℕ) (last : State) (x : Running State) → run_of (program img) m t ≡ x
     → are_local (program img) local x.run.core ≡ true → locals (program img) local x.run.core ≡ last → length (output x.run.log) ≡ last.emitted
 waiting_counted img t m local last x is own end =

@@ -1,13 +1,15 @@
 -- An event that is admitted, and what was found about it.
-use Rattle.std.specs.Prelude.{◌≡◌, Option, None, Some, Result, Ok, Err, option_map}
+use Rattle.std.specs.Prelude.{◌≡◌, Option, None, Some, Result, Ok, Err, IfOk, option_map}
 use Rattle.svc_base.specs.declared.refusal.Refusal.{Refusal}
 use Rattle.svc_base.specs.declared.refusal.Refusal.TheVariants as refusal
 use Rattle.svc_image.specs.Image.{Image}
 use Rattle.svc_core_laws.specs.Bursts.{Advance}
+use Rattle.svc_bus_laws.specs.BusState.{Agrees}
 use Rattle.svc_bus_laws.specs.LineTable.{LineTable}
+use Rattle.svc_bus.specs.Observed.{observed}
 use Rattle.svc_machine_laws.specs.Events as laws
 use Rattle.svc_machine_laws.specs.Events.{Submit, seat_place}
-use Rattle.svc_machine_laws.specs.Refusals.{asked_word, full_set}
+use Rattle.svc_machine_laws.specs.Refusals.{asked_word, full_set, refuse}
 use Rattle.svc_machine_laws.specs.Standing.{Standing, refused}
 use Rattle.svc_machine.specs.declared.admit.Admitted.{Admitted}
 use Rattle.svc_machine.specs.declared.admit.Admitted.TheVariants as admitted
@@ -52,3 +54,11 @@ refused_yet img t (admitted.Commit by end) = None
 abbrev pub refusal_by : Image → LineTable → Result Admitted Refusal → Option Refusal
 refusal_by img t (Ok a) = refused_yet img t a
 refusal_by img t (Err why) = Some why
+
+-- an event's admission: over each line table that the bus agrees with it is refused as the table of refusals says, and
+-- what isn't refused is the event, with what was found about it
+pub record IsAdmission (m : MachineValue) (x : laws.Event) (result : Result Admitted Refusal) : Type 0 where
+  pub refused : (t : LineTable) → Agrees (observed m.bus) t
+      → refusal_by m.image t result ≡ refuse m.image m.config (machine_at m) t x
+  pub event : IfOk result (λ a. event_in a ≡ x)
+  pub found : IfOk result (λ a. IsFound m a)

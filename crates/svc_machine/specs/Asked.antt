@@ -1,11 +1,13 @@
 -- What an asked turn does to its task's seat and to the lines, and how it is answered, over each line table that the
 -- bus agrees with.
-use Rattle.std.specs.Prelude.{◌≡◌, ◌⊎◌, ◌^◌, ◌%◌, ℕ, Option, Some, None, option_map}
+use Rattle.std.specs.Prelude.{◌≡◌, ◌⊎◌, ◌^◌, ◌%◌, ℕ, Option, Some, None, Result, IfOk, OnErr, option_map}
+use Rattle.std.specs.Result.{result_err}
 use Rattle.svc_base.specs.declared.refusal.Refusal.{Refusal}
 use Rattle.svc_base.specs.declared.served.Served.{Served}
 use Rattle.svc_rv32i.specs.declared.instr.StoreKind.{StoreKind}
 use Rattle.svc_rv32i.specs.declared.instr.StoreKind.TheVariants as store
 use Rattle.svc_image.specs.Image.{Image}
+use Rattle.svc_core_laws.specs.declared.ask.Ask.{Ask}
 use Rattle.svc_core_laws.specs.State.{State}
 use Rattle.svc_core_laws.specs.Program.{Memory, Want, Local, Load, Store, Narrow, Emit}
 use Rattle.svc_core_laws.specs.Words.{program, stored}
@@ -19,9 +21,12 @@ use Rattle.svc_bus.specs.Value.{BusValue}
 use Rattle.svc_machine_laws.specs.declared.reply.Cause.TheVariants as cause
 use Rattle.svc_machine_laws.specs.declared.reply.Cut.{Cut}
 use Rattle.svc_machine_laws.specs.declared.reply.Reply.{Reply}
-use Rattle.svc_machine_laws.specs.WholeMachine.{Seat, seat_turn}
+use Rattle.svc_machine_laws.specs.WholeMachine.{Seat, at_core, seat_turn}
 use Rattle.svc_machine_laws.specs.LineEvents.{line_ask}
 use Rattle.svc_machine_laws.specs.Replies.{ran, serves_at, turn_done}
+use Rattle.svc_machine_laws.specs.Refusals.{asked_word}
+use Rattle.svc_machine.specs.declared.seat.Seat as code
+use Rattle.svc_machine.specs.Kept.{whole_seat}
 
 -- some task of the unit is active
 abbrev pub IsRunning : BusState → (unit : ℕ) → Type 0
@@ -70,12 +75,16 @@ HasRoomYet old new unit a =
     (new ≡ old) ⊎ ((full_refusal (observed old) unit a ≡ None) × (full_refusal (observed new) unit a ≡ None))
 
 -- the tasks that a store of this word squashes, as a reply names them
-abbrev pub violated : (a : ℕ) → Victim → Cut
-violated a v = record { cause = cause.Violation (record { 0 = a }); first = record { 0 = v.first }; tasks = v.tasks }
+abbrev pub violation_cut : (a : ℕ) → Victim → Cut
+violation_cut a v = record {
+  cause = cause.Violation (record { 0 = a });
+  first = record { 0 = v.first };
+  tasks = v.tasks;
+}
 
 -- the tasks that a store of this word squashes
 abbrev pub stored_cut : LineTable → (place a : ℕ) → Option Cut
-stored_cut t place a = option_map (violated a) (victim_answer (versioned t) place a)
+stored_cut t place a = option_map (violation_cut a) (victim_answer (versioned t) place a)
 
 -- what such a turn squashes; a store of less than a word reads its word first
 abbrev pub asked_cut : Want State → LineTable → (place : ℕ) → Option Cut
@@ -104,3 +113,11 @@ pub record IsDone (img : Image) (want : Option (Want State)) (t : LineTable) (pl
   pub seat : after ≡ seat_asked want (view (versioned t) place) before
   pub table : Agrees bus (line_ask want t place)
   pub reply_is : reply ≡ asked_answer img want t place
+
+-- a task at this core asked, and its turn wants this: the bus has refused it, and nothing has changed, or it was done
+pub record IsAnswered (img : Image) (core : State) (ask : Ask) (want : Option (Want State)) (old new : code.Seat)
+    (old_bus new_bus : BusValue) (result : Result Reply Refusal) : Type 0 where
+  pub refused : result_err result ≡ refused_for (observed old_bus) old.lease.unit.0 (asked_word img ask)
+  pub unchanged : OnErr result ((new ≡ old) × (new_bus ≡ old_bus))
+  pub done : (t : LineTable) → (place : ℕ) → RunsAt (observed old_bus) old.lease.unit.0 t place
+      → IfOk result (IsDone img want t place (at_core core (whole_seat old)) (whole_seat new) (observed new_bus))

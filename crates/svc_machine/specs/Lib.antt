@@ -4,6 +4,7 @@ pub mod Value
 pub mod Kept
 pub mod Reads
 pub mod Asked
+pub mod Settled
 pub mod Refusing
 pub mod Admitted
 pub mod Steps

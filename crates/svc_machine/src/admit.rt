@@ -10,10 +10,10 @@ ghost use Rattle.svc_bus_laws.specs.LineTable.{LineTable};
 ghost use Rattle.svc_bus_laws.specs.Refusals.{is_not_resident, is_pinned, table_cache};
 ghost use Rattle.svc_bus.specs.Observed.{observed};
 ghost use Rattle.svc_machine_laws.specs.Events.{Assign, Cancel, Commit, Replace, Submit, seat_place};
-ghost use Rattle.svc_machine_laws.specs.Refusals.{history_full, is_current, no_unit, refuse, seat_at};
+ghost use Rattle.svc_machine_laws.specs.Refusals.{history_full, is_current, no_unit, seat_at};
 ghost use Rattle.svc_machine_laws.specs.Refusals.{asked_word, first_case, full_set};
 ghost use Rattle.svc_machine_laws.specs.Standing.{Standing, refused};
-ghost use Rattle.svc_machine.specs.Admitted.{IsFound, event_in, refusal_by};
+ghost use Rattle.svc_machine.specs.Admitted.{IsAdmission, IsFound, event_in, refusal_by};
 ghost use Rattle.svc_machine.specs.Events.{event_of};
 ghost use Rattle.svc_machine.specs.Kept.{whole_seat};
 ghost use Rattle.svc_machine.specs.Refusing.{is_empty, machine_at};
@@ -66,11 +66,7 @@ impl Machine {
 
     #[tactic(auto, unfolding(svc_machine_laws::specs::Refusals::refuse))]
     fn admit_assign(&self, unit: UnitId, guess: u32) -> Result<Admitted<'static>, Refusal>
-        ensures refused { (t : LineTable) → Agrees (observed self.now.bus) t
-            → refusal_by self.now.image t result
-            ≡ refuse self.now.image self.now.config (machine_at self.now) t (Assign unit.0 guess) }
-        ensures event { IfOk result (λ admitted. event_in admitted ≡ Assign unit.0 guess) }
-        ensures found { IfOk result (λ admitted. IsFound self.now admitted) }
+        ensures { IsAdmission self.now (Assign unit.0 guess) result }
     {
         if self.lacks(unit) {
             return Err(Refusal::NoSuchUnit);
@@ -95,11 +91,7 @@ impl Machine {
 
     #[tactic(auto, unfolding(svc_machine_laws::specs::Refusals::refuse))]
     fn admit_submit<'a>(&self, burst: &'a Burst) -> Result<Admitted<'a>, Refusal>
-        ensures refused { (t : LineTable) → Agrees (observed self.now.bus) t
-            → refusal_by self.now.image t result
-            ≡ refuse self.now.image self.now.config (machine_at self.now) t (Submit burst.now) }
-        ensures event { IfOk result (λ admitted. event_in admitted ≡ Submit burst.now) }
-        ensures found { IfOk result (λ admitted. IsFound self.now admitted) }
+        ensures { IsAdmission self.now (Submit burst.now) result }
     {
         let unit = burst.unit();
         if self.lacks(unit) {
@@ -139,11 +131,7 @@ impl Machine {
 
     #[tactic(auto, unfolding(svc_machine_laws::specs::Refusals::refuse))]
     fn admit_replace(&self, unit: UnitId, addr: WordAddr) -> Result<Admitted<'static>, Refusal>
-        ensures refused { (t : LineTable) → Agrees (observed self.now.bus) t
-            → refusal_by self.now.image t result
-            ≡ refuse self.now.image self.now.config (machine_at self.now) t (Replace unit.0 addr.0) }
-        ensures event { IfOk result (λ admitted. event_in admitted ≡ Replace unit.0 addr.0) }
-        ensures found { IfOk result (λ admitted. IsFound self.now admitted) }
+        ensures { IsAdmission self.now (Replace unit.0 addr.0) result }
     {
         if self.lacks(unit) {
             return Err(Refusal::NoSuchUnit);
@@ -151,7 +139,7 @@ impl Machine {
         if self.has_stopped() {
             return Err(Refusal::Stopped);
         }
-        match self.pinned(unit, addr) {
+        match self.pinning(unit, addr) {
             None => return Err(Refusal::NotResident),
             Some(true) => return Err(Refusal::Pinned),
             Some(false) => {}
@@ -164,11 +152,7 @@ impl Machine {
 
     #[tactic(auto, unfolding(svc_machine_laws::specs::Refusals::refuse))]
     fn admit_cancel(&self, unit: UnitId) -> Result<Admitted<'static>, Refusal>
-        ensures refused { (t : LineTable) → Agrees (observed self.now.bus) t
-            → refusal_by self.now.image t result
-            ≡ refuse self.now.image self.now.config (machine_at self.now) t (Cancel unit.0) }
-        ensures event { IfOk result (λ admitted. event_in admitted ≡ Cancel unit.0) }
-        ensures found { IfOk result (λ admitted. IsFound self.now admitted) }
+        ensures { IsAdmission self.now (Cancel unit.0) result }
     {
         if self.lacks(unit) {
             return Err(Refusal::NoSuchUnit);
@@ -187,11 +171,7 @@ impl Machine {
 
     #[tactic(auto, unfolding(svc_machine_laws::specs::Refusals::refuse))]
     fn admit_commit(&self, by: UnitId) -> Result<Admitted<'static>, Refusal>
-        ensures refused { (t : LineTable) → Agrees (observed self.now.bus) t
-            → refusal_by self.now.image t result
-            ≡ refuse self.now.image self.now.config (machine_at self.now) t (Commit by.0) }
-        ensures event { IfOk result (λ admitted. event_in admitted ≡ Commit by.0) }
-        ensures found { IfOk result (λ admitted. IsFound self.now admitted) }
+        ensures { IsAdmission self.now (Commit by.0) result }
     {
         if self.lacks(by) {
             return Err(Refusal::NoSuchUnit);
@@ -262,7 +242,7 @@ impl Machine {
     }
 
     // Whether the unit's valid line of the word, if any, is pinned: active, with a unit that doesn't run the head.
-    fn pinned(&self, unit: UnitId, addr: WordAddr) -> Option<bool>
+    fn pinning(&self, unit: UnitId, addr: WordAddr) -> Option<bool>
         requires { unit.0 < self.now.config.units }
         ensures resident { (t : LineTable) → Agrees (observed self.now.bus) t
             → is_some result ≡ not (is_not_resident (table_cache t unit.0) addr.0) }

@@ -18,8 +18,7 @@ ghost use Rattle.svc_bus.specs.Observed.{observed};
 ghost use Rattle.svc_machine_laws.specs.WholeMachine.{at_core, seat_turn};
 ghost use Rattle.svc_machine_laws.specs.Events.{want_of};
 ghost use Rattle.svc_machine_laws.specs.Refusals.{asked_word};
-ghost use Rattle.svc_machine.specs.Asked.{HasRoomYet, IsDone, IsPrepared, IsRunning};
-ghost use Rattle.svc_machine.specs.Asked.{refused_for, stored_cut, violated};
+ghost use Rattle.svc_machine.specs.Asked.{HasRoomYet, IsAnswered, IsPrepared, IsRunning, stored_cut, violation_cut};
 ghost use Rattle.svc_machine.specs.Kept.{whole_seat};
 
 use crate::seat::Seat;
@@ -48,12 +47,8 @@ pub(crate) fn do_asked(
     requires running { IsRunning (observed bus.old) seat.old.lease.unit.0 }
     requires size { (observed bus.old).words ≡ data_words image.now }
     requires waiting { asked_word image.now ask ≡ None → length seat.old.waiting.items ≡ core.now.emitted }
-    ensures refused { result_err result
-        ≡ refused_for (observed bus.old) seat.old.lease.unit.0 (asked_word image.now ask) }
-    ensures unchanged { OnErr result ((seat.new ≡ seat.old) × (bus.new ≡ bus.old)) }
-    ensures done { (t : LineTable) → (place : ℕ) → RunsAt (observed bus.old) seat.old.lease.unit.0 t place
-        → IfOk result (IsDone image.now (want_of image.now core.now ask) t place
-        (at_core core.now (whole_seat seat.old)) (whole_seat seat.new) (observed bus.new)) }
+    ensures { IsAnswered image.now core.now ask (want_of image.now core.now ask)
+        seat.old seat.new bus.old bus.new result }
 {
     match ask {
         Ask::Nothing => {
@@ -82,16 +77,12 @@ fn do_load(
     requires in_time { core.now.count < core.now.limit }
     requires running { IsRunning (observed bus.old) seat.old.lease.unit.0 }
     requires size { (observed bus.old).words ≡ data_words image.now }
-    ensures refused { result_err result
-        ≡ refused_for (observed bus.old) seat.old.lease.unit.0 (asked_word image.now (Ask.Load kind rd addr)) }
-    ensures unchanged { OnErr result ((seat.new ≡ seat.old) × (bus.new ≡ bus.old)) }
-    ensures done { let trap = access_trap (data_words image.now) (load_bytes kind) addr in
-        (t : LineTable) → (place : ℕ) → RunsAt (observed bus.old) seat.old.lease.unit.0 t place
-        → IfOk result (IsDone image.now (Some (wants_load image.now core.now kind rd addr trap)) t place
-        (at_core core.now (whole_seat seat.old)) (whole_seat seat.new) (observed bus.new)) }
+    ensures { let trap = access_trap (data_words image.now) (load_bytes kind) addr in
+        IsAnswered image.now core.now (Ask.Load kind rd addr)
+        (Some (wants_load image.now core.now kind rd addr trap)) seat.old seat.new bus.old bus.new result }
 {
     match load_place(kind, addr, image.data_words().len() as u32) {
-        Err(trap) => Ok(trapped(seat, core, trap)),
+        Err(trap) => Ok(trap_at(seat, core, trap)),
         Ok(access) => {
             let addr = WordAddr(access.word);
             let (word, served) = bus.read(seat.lease.unit, addr)?;
@@ -120,13 +111,9 @@ fn do_store(
     requires in_time { core.now.count < core.now.limit }
     requires running { IsRunning (observed bus.old) seat.old.lease.unit.0 }
     requires size { (observed bus.old).words ≡ data_words image.now }
-    ensures refused { result_err result
-        ≡ refused_for (observed bus.old) seat.old.lease.unit.0 (asked_word image.now (Ask.Store kind addr value)) }
-    ensures unchanged { OnErr result ((seat.new ≡ seat.old) × (bus.new ≡ bus.old)) }
-    ensures done { let trap = store_trap (data_words image.now) image.now.read_only (store_bytes kind) addr in
-        (t : LineTable) → (place : ℕ) → RunsAt (observed bus.old) seat.old.lease.unit.0 t place
-        → IfOk result (IsDone image.now (Some (wants_store image.now core.now kind addr value trap)) t place
-        (at_core core.now (whole_seat seat.old)) (whole_seat seat.new) (observed bus.new)) }
+    ensures { let trap = store_trap (data_words image.now) image.now.read_only (store_bytes kind) addr in
+        IsAnswered image.now core.now (Ask.Store kind addr value)
+        (Some (wants_store image.now core.now kind addr value trap)) seat.old seat.new bus.old bus.new result }
 {
     match store_place(
         kind,
@@ -134,7 +121,7 @@ fn do_store(
         image.data_words().len() as u32,
         image.read_only(),
     ) {
-        Err(trap) => Ok(trapped(seat, core, trap)),
+        Err(trap) => Ok(trap_at(seat, core, trap)),
         Ok(access) => {
             let addr = WordAddr(access.word);
             let (word, served) = word_to_store(bus, seat.lease.unit, kind, access, value)?;
@@ -165,7 +152,7 @@ fn do_emit(image: &Image, seat: &mut Seat, word: u32) -> Reply
 }
 
 // Moves the task to this core, where it traps.
-fn trapped(seat: &mut Seat, core: &Core, trap: u8) -> Reply
+fn trap_at(seat: &mut Seat, core: &Core, trap: u8) -> Reply
     requires { core.now.done ≡ None }
     ensures seat { whole_seat seat.new ≡ at_core (ends (end.Trap trap) core.now) (whole_seat seat.old) }
     ensures reply { result ≡ record { what = What.Trapped trap; cut = None } }
@@ -225,12 +212,12 @@ fn write(bus: &mut Bus, unit: UnitId, addr: WordAddr, word: u32) -> Result<Optio
         → OnOk result (Agrees (observed bus.new) (write t place addr.0 word)) }
 {
     let victim = bus.write(unit, addr, word)?;
-    Ok(violated(addr, victim))
+    Ok(violation_cut(addr, victim))
 }
 
 // The tasks that a store of the word squashed, as a reply names them.
-fn violated(addr: WordAddr, victim: Option<Victim>) -> Option<Cut>
-    ensures { result ≡ option_map (λ v. violated addr.0 (victim_shown v)) victim }
+fn violation_cut(addr: WordAddr, victim: Option<Victim>) -> Option<Cut>
+    ensures { result ≡ option_map (λ v. violation_cut addr.0 (victim_shown v)) victim }
 {
     match victim {
         Some(victim) => Some(Cut {
