@@ -1,7 +1,10 @@
 -- The numbers of the refusals.
 use Rattle.std.specs.Prelude.{ℕ}
 use Rattle.svc_base.specs.declared.refusal.Refusal.{Refusal}
-use Rattle.svc_base.specs.declared.refusal.Refusal.TheVariants.{NoSuchUnit, Busy, Idle, Stale, ForeignText, NotEntry, Stopped, Done, SetFull, NotResident, Pinned, HeadNotDone, NoTask, IsHead, HistoryFull, EpochsSpent, EmptyBurst}
+use Rattle.svc_base.specs.declared.refusal.Refusal.TheVariants.{NoSuchUnit, Busy, Idle, Stale, ForeignText, NotEntry}
+use Rattle.svc_base.specs.declared.refusal.Refusal.TheVariants.{Stopped, Done, SetFull, NotResident, Pinned}
+use Rattle.svc_base.specs.declared.refusal.Refusal.TheVariants.{HeadNotDone, NoTask, IsHead, HistoryFull, EpochsSpent}
+use Rattle.svc_base.specs.declared.refusal.Refusal.TheVariants.{EmptyBurst}
 
 -- the number of a refusal
 unfoldable pub number_of : Refusal → ℕ

@@ -11,7 +11,7 @@ use svc_rv32i::{LoadKind, StoreKind};
 
 /// Where an access lies in the data.
 #[derive(Clone, Copy)]
-pub struct Place {
+pub struct Access {
     /// The word address.
     pub word: u32,
     /// The first byte of that word, from 0 to 3.
@@ -23,7 +23,7 @@ pub struct Place {
 /// Errors: the number of its trap: 5 if it isn't aligned to its width, otherwise 6 if it lies outside the data,
 /// otherwise 10 if its word is read-only.
 #[inline(always)]
-pub fn store_place(kind: StoreKind, addr: u32, words: u32, read_only: u32) -> Result<Place, u8>
+pub fn store_place(kind: StoreKind, addr: u32, words: u32, read_only: u32) -> Result<Access, u8>
     requires { words ≤ 65536 }
     ensures trap { trap_of result ≡ store_trap words read_only (store_bytes kind) addr }
     ensures place { IfOk result (λ p. (p.word ≡ word_address addr) × (p.lane ≡ lane_of addr)) }
@@ -42,7 +42,7 @@ pub fn store_place(kind: StoreKind, addr: u32, words: u32, read_only: u32) -> Re
 ///
 /// Errors: the number of its trap: 5 if it isn't aligned to its width, otherwise 6 if it lies outside the data.
 #[inline(always)]
-pub fn load_place(kind: LoadKind, addr: u32, words: u32) -> Result<Place, u8>
+pub fn load_place(kind: LoadKind, addr: u32, words: u32) -> Result<Access, u8>
     requires { words ≤ 65536 }
     ensures trap { trap_of result ≡ access_trap words (load_bytes kind) addr }
     ensures place { IfOk result (λ p. (p.word ≡ word_address addr) × (p.lane ≡ lane_of addr)) }
@@ -54,7 +54,7 @@ pub fn load_place(kind: LoadKind, addr: u32, words: u32) -> Result<Place, u8>
 
 // Where an access of a store's width lies in data of this many words, or the number of its trap.
 #[inline(always)]
-fn data_place(kind: StoreKind, addr: u32, words: u32) -> Result<Place, u8>
+fn data_place(kind: StoreKind, addr: u32, words: u32) -> Result<Access, u8>
     requires { words ≤ 65536 }
     ensures trap { trap_of result ≡ access_trap words (store_bytes kind) addr }
     ensures place { IfOk result (λ p. (p.word ≡ word_address addr) × (p.lane ≡ lane_of addr)) }
@@ -71,7 +71,7 @@ fn data_place(kind: StoreKind, addr: u32, words: u32) -> Result<Place, u8>
     let place = addr - DATA_START;
     let word = place / 4;
     if word < words {
-        Ok(Place {
+        Ok(Access {
             word,
             lane: place % 4,
         })

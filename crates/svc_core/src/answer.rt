@@ -37,7 +37,7 @@ impl Core {
                 None
             }
             Ask::Emit(word) => {
-                self.put_out();
+                self.output_word();
                 Some(word)
             }
         }
@@ -53,9 +53,9 @@ impl Core {
             (access_trap (length memory.now) (load_bytes kind) addr)).core }
     {
         match load_place(kind, addr, memory.len() as u32) {
-            Ok(place) => {
-                let word = memory[place.word as usize];
-                self.set(rd, loaded(kind, place.lane, word));
+            Ok(access) => {
+                let word = memory[access.word as usize];
+                self.set(rd, loaded(kind, access.lane, word));
             }
             Err(trap) => self.trap(trap),
         }
@@ -75,9 +75,9 @@ impl Core {
             (slice_index memory.old) a }
     {
         match store_place(kind, addr, memory.len() as u32, read_only) {
-            Ok(place) => {
-                let at = place.word as usize;
-                memory[at] = stored(kind, place.lane, value, memory[at]);
+            Ok(access) => {
+                let at = access.word as usize;
+                memory[at] = stored(kind, access.lane, value, memory[at]);
                 self.pass();
             }
             Err(trap) => self.trap(trap),

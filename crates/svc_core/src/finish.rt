@@ -2,7 +2,7 @@
 
 ghost use Rattle.std.specs.Prelude.{◌≡◌, ◌<◌, None};
 ghost use Rattle.svc_core_laws.specs.Local.{goes_on, sets};
-ghost use Rattle.svc_core_laws.specs.Turns.{arrives, puts_out};
+ghost use Rattle.svc_core_laws.specs.Turns.{arrives, outputs};
 
 use crate::core_state::Core;
 use svc_image::Image;
@@ -34,9 +34,9 @@ impl Core {
         requires running { self.old.done ≡ None }
         requires in_time { self.old.count < self.old.limit }
         requires room { self.old.emitted < 64 }
-        ensures { self.new ≡ arrives image.now (puts_out self.old) }
+        ensures { self.new ≡ arrives image.now (outputs self.old) }
     {
-        self.put_out();
+        self.output_word();
         self.arrive_at(image);
     }
 }

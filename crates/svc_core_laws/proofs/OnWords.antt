@@ -11,7 +11,7 @@ use Rattle.svc_rv32i.specs.declared.instr.StoreKind.TheVariants as store
 use Rattle.svc_core_laws.specs.Numbers.{extended, load_bytes, store_bytes}
 use Rattle.svc_image.specs.Image.{Image}
 use Rattle.svc_core_laws.specs.State.{State}
-use Rattle.svc_core_laws.specs.Local.{Outcome, ends, goes_on, sets}
+use Rattle.svc_core_laws.specs.Local.{TurnOutcome, ends, goes_on, sets}
 use Rattle.svc_core_laws.specs.Local as out
 use Rattle.svc_core_laws.specs.Bytes.{number_at, word_at, with_bytes, extracted, replaced, IsMemory}
 use Rattle.svc_core_laws.specs.Turns.{Turn, data_words, data_start, word_address, access_trap, unless_read_only, store_trap, arrives, next, loads, stores, on_bytes, plain}
@@ -134,7 +134,7 @@ same_store img base log s m stands store.Word addr v is None e =
       is_memory = kept img m 4 x v is;
     }
 
-same_outcome : (img : Image) (base : Memory) (log : List Action) (s : State) (m : List ℕ) → Stands base log m → (x : Outcome) → IsMemory (data_words img) m → After img base log (on_bytes img s m x) (act (wanted img s x) (word_at m) log)
+same_outcome : (img : Image) (base : Memory) (log : List Action) (s : State) (m : List ℕ) → Stands base log m → (x : TurnOutcome) → IsMemory (data_words img) m → After img base log (on_bytes img s m x) (act (wanted img s x) (word_at m) log)
 same_outcome img base log s m stands (out.Local c) is = record { core = refl; memory = stands; output = sym (append-nil (output log)); is_memory = is }
 same_outcome img base log s m stands (out.Load kind rd addr) is = same_load img base log s m stands kind rd addr is (access_trap (data_words img) (load_bytes kind) addr) refl
 same_outcome img base log s m stands (out.Store kind addr v) is = same_store img base log s m stands kind addr v is (store_trap (data_words img) img.read_only (store_bytes kind) addr) refl

@@ -8,7 +8,7 @@ use Rattle.svc_core_laws.specs.declared.end.End.{End}
 use Rattle.svc_core_laws.specs.declared.ask.Ask.{Ask}
 use Rattle.svc_core_laws.specs.declared.ask.Ask.TheVariants as ask
 use Rattle.svc_core_laws.specs.State.{State}
-use Rattle.svc_core_laws.specs.Local.{Outcome}
+use Rattle.svc_core_laws.specs.Local.{TurnOutcome}
 use Rattle.svc_core_laws.specs.Local as out
 use Rattle.svc_core_laws.specs.Turns.{next}
 use Rattle.svc_core_laws.specs.Words.{program}

@@ -1,5 +1,6 @@
 -- A flat memory of bytes, and the words in it; the lowest byte of a number comes first (RV32I 2.1, section 2.6).
-use Rattle.std.specs.Prelude.{◌≡◌, ℕ, zero, suc, ◌+◌, ◌*◌, ◌^◌, ◌/◌, ◌%◌, ◌<◌, List, [], ◌∷◌, ◌++◌, length, slice_index, slice_set}
+use Rattle.std.specs.Prelude.{◌≡◌, ℕ, zero, suc, ◌+◌, ◌*◌, ◌^◌, ◌/◌, ◌%◌, ◌<◌, List, [], ◌∷◌, ◌++◌, length, slice_index}
+use Rattle.std.specs.Prelude.{slice_set}
 
 -- the number of the n bytes from place k
 abbrev pub number_at : (n k : ℕ) → List ℕ → ℕ

@@ -18,4 +18,6 @@ same_words (x ∷ xs) [] = false
 same_words (x ∷ xs) (y ∷ ys) = (x == y) && same_words xs ys
 
 abbrev pub same_state : State → State → Bool
-same_state a b = (a.pc == b.pc) && (a.count == b.count) && (a.emitted == b.emitted) && (a.limit == b.limit) && same_end a.done b.done && same_words a.regs b.regs
+same_state a b =
+    (a.pc == b.pc) && (a.count == b.count) && (a.emitted == b.emitted) && (a.limit == b.limit) && same_end a.done b.done
+    && same_words a.regs b.regs

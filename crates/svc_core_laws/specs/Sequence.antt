@@ -28,7 +28,12 @@ pub record PlainSeq : Type 0 where
 
 -- what is left once this task has run
 abbrev pub after_task : PlainSeq → Turn → PlainSeq
-after_task s t = record { memory = t.memory; output = s.output ++ t.output; due = due_after t.core.done; stopped = stopped_after t.core.done }
+after_task s t = record {
+  memory = t.memory;
+  output = s.output ++ t.output;
+  due = due_after t.core.done;
+  stopped = stopped_after t.core.done;
+}
 
 -- the next task, if one is due
 abbrev pub next_plain : Image → PlainSeq → Option ℕ → PlainSeq

@@ -1,6 +1,7 @@
 -- The longest chain of turns, each of which needs the one before.
 use Rattle.std.specs.Prelude.{ℕ, zero, suc, ◌==◌, max, Bool, cond, ◌||◌, List, Option, Some, None, is_some}
-use Rattle.svc_core_laws.specs.Program.{Memory, Words, Want, Local, Load, Store, Narrow, Emit, Program, Run, Action, wrote, exposed, part, seq}
+use Rattle.svc_core_laws.specs.Program.{Memory, Words, Want, Local, Load, Store, Narrow, Emit, Program, Run, Action}
+use Rattle.svc_core_laws.specs.Program.{wrote, exposed, part, seq}
 
 -- the word that a turn reads, if any: a store of less than a word reads its word too
 abbrev pub word_read : {C : Type 0} → Want C → Option ℕ
@@ -31,12 +32,14 @@ abbrev pub stored_at : Option ℕ → (now : ℕ) → Times → Times
 stored_at None now stores = stores
 stored_at (Some word) now stores = λ a. cond (word == a) now (stores a)
 
--- the time before which a turn can't read its word, in a task that has exposed and written these: that of the word's last store, where the task needs it here for the first time
+-- the time before which a turn can't read its word, in a task that has exposed and written these: that of the word's
+-- last store, where the task needs it here for the first time
 abbrev pub ready : (exposes : ℕ → Bool) → Words → Times → Option ℕ → ℕ
 ready exposes words stores None = 0
 ready exposes words stores (Some word) = cond (exposes word || is_some (words word)) 0 (stores word)
 
--- one turn more, after these actions of its task: one after the turn before it, and after the store of the word that it needs
+-- one turn more, after these actions of its task: one after the turn before it, and after the store of the word that it
+-- needs
 abbrev pub tick : {C : Type 0} → Want C → List Action → Clock → Clock
 tick want log clock =
     let now = suc (max clock.now (ready (exposed log) (wrote log) clock.stores (word_read want))) in

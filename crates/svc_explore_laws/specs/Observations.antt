@@ -1,5 +1,6 @@
 -- What can be seen of a run: what an entry says happened to which task, by tasks' numbers and not by units.
-use Rattle.std.specs.Prelude.{ℕ, ◌+◌, List, [], ◌∷◌, ◌++◌, length, Option, Some, None, option_map, option_to_list, unwrap_or}
+use Rattle.std.specs.Prelude.{ℕ, ◌+◌, List, [], ◌∷◌, ◌++◌, length, Option, Some, None, option_map, option_to_list}
+use Rattle.std.specs.Prelude.{unwrap_or}
 use Rattle.svc_base.specs.declared.ids.UnitId.{UnitId}
 use Rattle.svc_base.specs.declared.ids.WordAddr.{WordAddr}
 use Rattle.svc_machine_laws.specs.PlainMachine.{Plain}
@@ -17,8 +18,8 @@ use Rattle.svc_explore_laws.specs.declared.observation.By.{By}
 use Rattle.svc_explore_laws.specs.declared.observation.By.TheVariants as by
 use Rattle.svc_explore_laws.specs.declared.observation.Observation.{Observation}
 
--- the number of the head, or of the next task where none is active; and of each unit's active task, or of the next task to
--- begin where it has none
+-- the number of the head, or of the next task where none is active; and of each unit's active task, or of the next task
+-- to begin where it has none
 pub record Numbers : Type 0 where
   pub head : ℕ
   pub of_unit : (unit : ℕ) → ℕ
@@ -26,7 +27,8 @@ pub record Numbers : Type 0 where
 abbrev pub numbers : Plain → Numbers
 numbers s = record { head = s.commits; of_unit = λ unit. s.commits + unwrap_or (task_place s unit) (length s.tasks) }
 
--- what an answer says happened; that local turns were taken over, or that the squashed task was cancelled, says nothing more
+-- what an answer says happened; that local turns were taken over, or that the squashed task was cancelled, says nothing
+-- more
 abbrev pub happening_of : ReplyKind → Option Happening
 happening_of reply.Assigned = Some what.Begin
 happening_of reply.Ran = None
@@ -90,7 +92,13 @@ word_violated e cut.Guess = None
 word_violated e cut.Cancel = None
 
 abbrev pub squashed_so : Entry → CutKind → Observation
-squashed_so e why = record { what = what.Squash; task = unwrap_or e.first 0; word = word_violated e why; value = e.squashed; by = Some (why_of why) }
+squashed_so e why = record {
+  what = what.Squash;
+  task = unwrap_or e.first 0;
+  word = word_violated e why;
+  value = e.squashed;
+  by = Some (why_of why);
+}
 
 -- which tasks the entry says were squashed
 abbrev pub squashed : Entry → Option Observation

@@ -1,4 +1,5 @@
-//! All schedules of a machine: which standings have the same future, and what follows where a list of their keys is closed.
+//! All schedules of a machine: which standings have the same future, and what follows where a list of their keys is
+//! closed.
 #![tactic(auto)]
 
 mod closed;

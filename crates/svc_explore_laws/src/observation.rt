@@ -9,7 +9,7 @@ pub enum Happening {
     Load,
     /// It stored a word.
     Store,
-    /// It put a word out.
+    /// It output a word.
     Output,
     /// It trapped.
     Trap,
@@ -53,8 +53,8 @@ pub struct Observation {
     pub task: u64,
     /// The word that was loaded, stored or replaced, or that the first of the squashed tasks had read too early.
     pub word: Option<u32>,
-    /// The entry where it began; the value that was loaded, after extension; the whole word that was stored; what was put
-    /// out; the number of the trap; how many tasks were squashed.
+    /// The entry where it began; the value that was loaded, after extension; the whole word that was stored; the word
+    /// that was output; the number of the trap; how many tasks were squashed.
     pub value: Option<u32>,
     /// Who supplied the word that was read; why tasks were squashed.
     pub by: Option<By>,

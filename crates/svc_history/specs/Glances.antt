@@ -21,8 +21,13 @@ IsUnitKnown config unit answer =
     MatchResult answer (λ _. unit.0 < config.units) (λ why. (why ≡ refusal.NoSuchUnit) × (config.units ≤ unit.0))
 
 -- what a unit sees of a machine
-abbrev pub seen : MachineValue → (unit : ℕ) → Glance
-seen m unit = record { ended = has_ended m; lease = lease_of m unit; is_head = runs_head m unit; guess = guess (program m.image) m.image.entries m.plain }
+abbrev pub glance_of : MachineValue → (unit : ℕ) → Glance
+glance_of m unit = record {
+  ended = has_ended m;
+  lease = lease_of m unit;
+  is_head = runs_head m unit;
+  guess = guess (program m.image) m.image.entries m.plain;
+}
 
 -- the glance shows the machine as it stands
 pub record IsGlance (m : MachineValue) (unit : ℕ) (g : Glance) : Type 0 where

@@ -4,7 +4,7 @@ use Rattle.svc_core.specs.declared.burst.Lease.{Lease}
 use Rattle.svc_history.specs.declared.glance.Glance.{Glance}
 use Rattle.svc_history.specs.declared.glance.Move.{Move}
 use Rattle.svc_history.specs.declared.glance.Move.TheVariants as move
-use Rattle.svc_history.specs.Glances.{seen}
+use Rattle.svc_history.specs.Glances.{glance_of}
 use Rattle.svc_machine.specs.Value.{MachineValue}
 
 -- a unit's next move, with its lease as a value
@@ -48,4 +48,4 @@ next_move g = if g.ended then Ended else in_run g.lease g.is_head g.guess
 
 -- what a unit of a machine does next, given what it sees
 abbrev pub move_of : MachineValue → (unit : ℕ) → NextMove
-move_of m unit = next_move (seen m unit)
+move_of m unit = next_move (glance_of m unit)

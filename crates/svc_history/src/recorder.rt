@@ -10,7 +10,7 @@ ghost use Rattle.svc_history.specs.Glances.{IsGlance, IsUnitKnown, has_ended};
 ghost use Rattle.svc_history.specs.Moves.{move_of, told};
 
 use crate::glance::{Glance, Move, move_by};
-use crate::writing::{named, telling};
+use crate::writing::{fields_of, telling};
 use std::alloc::Global;
 use std::marker::Model;
 use svc_base::{Config, OpenError, Refusal, UnitId};
@@ -69,8 +69,8 @@ impl Recorder {
     {
         let index = self.entries.len();
         let reply = self.machine.step(event)?;
-        let named = named(event);
-        let entry = telling(named, &reply);
+        let fields = fields_of(event);
+        let entry = telling(fields, &reply);
         let _pushed = self.entries.push(entry);
         Ok(Slip {
             index,

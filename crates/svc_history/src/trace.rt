@@ -41,8 +41,8 @@ pub struct TraceFault {
     pub kind: TraceFaultKind,
 }
 
-// Makes the burst that an entry of a submission names, where its machine stands, in the place of another one. None if
-// the entry lacks what that needs.
+// Replaces a burst by the one that an entry of a submission names where its machine stands. The answer is none if the
+// entry lacks what that needs.
 fn make_burst(burst: &mut Burst, machine: &Machine, entry: &Entry) -> Option<()>
     ensures replay { IfSome result (λ _.
         ReplaysAs Kind.Submit machine.now.image machine.now.plain entry.now (Submit burst.new)) }
@@ -54,7 +54,7 @@ fn make_burst(burst: &mut Burst, machine: &Machine, entry: &Entry) -> Option<()>
     Some(())
 }
 
-// Replays the event that the entry names. A submission's burst is made in the place of another one.
+// Replays the event that the entry names. A submission's burst replaces another one.
 fn replay(recorder: &mut Recorder, burst: &mut Burst, entry: &Entry) -> Result<(), TraceFaultKind>
     ensures entries { OnOk result (recorder.new.entries ≡ recorder.old.entries ++ entry.now ∷ []) }
     ensures image { recorder.new.machine.image ≡ recorder.old.machine.image }
@@ -69,28 +69,28 @@ fn replay(recorder: &mut Recorder, burst: &mut Burst, entry: &Entry) -> Result<(
             let Some(guess) = entry.arg else {
                 return Err(TraceFaultKind::Refused);
             };
-            compared(recorder, entry, Event::Assign { unit, guess })
+            compare(recorder, entry, Event::Assign { unit, guess })
         }
         Kind::Submit => {
             let Some(()) = make_burst(burst, machine, entry) else {
                 return Err(TraceFaultKind::Refused);
             };
-            compared(recorder, entry, Event::Submit { burst })
+            compare(recorder, entry, Event::Submit { burst })
         }
         Kind::Replace => {
             let Some(word) = entry.arg else {
                 return Err(TraceFaultKind::Refused);
             };
             let addr = WordAddr(word);
-            compared(recorder, entry, Event::Replace { unit, addr })
+            compare(recorder, entry, Event::Replace { unit, addr })
         }
-        Kind::Cancel => compared(recorder, entry, Event::Cancel { unit }),
-        Kind::Commit => compared(recorder, entry, Event::Commit { by: unit }),
+        Kind::Cancel => compare(recorder, entry, Event::Cancel { unit }),
+        Kind::Commit => compare(recorder, entry, Event::Commit { by: unit }),
     }
 }
 
 // Applies the event that the entry names, and compares its entry.
-fn compared(recorder: &mut Recorder, entry: &Entry, event: Event<'_>) -> Result<(), TraceFaultKind>
+fn compare(recorder: &mut Recorder, entry: &Entry, event: Event<'_>) -> Result<(), TraceFaultKind>
     requires { IsReplay recorder.old.machine.image recorder.old.machine.plain entry.now (event_of event) }
     ensures entries { OnOk result (recorder.new.entries ≡ recorder.old.entries ++ entry.now ∷ []) }
     ensures image { recorder.new.machine.image ≡ recorder.old.machine.image }

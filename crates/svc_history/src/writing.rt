@@ -35,7 +35,7 @@ fn plain(kind: Kind, unit: UnitId, arg: Option<u32>) -> EventFields
 }
 
 /// The fields that an event gives its entry.
-pub(crate) fn named(event: Event<'_>) -> EventFields
+pub(crate) fn fields_of(event: Event<'_>) -> EventFields
     ensures entry { entry_with result ≡ named (event_of event.entry) }
     ensures sound { IsEvent (event_of event.entry) }
 {
@@ -103,7 +103,7 @@ fn word(what: What) -> Option<u32>
 }
 
 // Who supplied the word that was read.
-fn served(what: What) -> Option<Served>
+fn supplier(what: What) -> Option<Served>
     ensures { result ≡ served_told what }
 {
     match what {
@@ -151,7 +151,7 @@ fn supply(what: What) -> (Option<ServedKind>, Option<UnitId>)
     ensures kind { result.0 ≡ option_map kind_served (served_told what) }
     ensures unit { result.1 ≡ option_and_then unit_served (served_told what) }
 {
-    match served(what) {
+    match supplier(what) {
         Some(served) => (Some(served_kind(served)), served_unit(served)),
         None => (None, None),
     }

@@ -7,7 +7,7 @@ use Rattle.svc_image.specs.Image.{Image, fetch, fetched}
 use Rattle.svc_core_laws.specs.declared.ask.Ask.{Ask}
 use Rattle.svc_core_laws.specs.declared.ask.Ask.TheVariants as ask
 use Rattle.svc_core_laws.specs.State.{State}
-use Rattle.svc_core_laws.specs.Local.{Outcome, outcome_at}
+use Rattle.svc_core_laws.specs.Local.{TurnOutcome, outcome_at}
 use Rattle.svc_core_laws.specs.Local as out
 use Rattle.svc_core_laws.specs.Turns.{arrived, next}
 use Rattle.svc_core_laws.specs.Program.{Memory, part, seq}
@@ -70,7 +70,7 @@ word_last img b follows looks running =
 outcome_last : (img : Image) (b : Advance) → Follows b → AreOf img b.looks → b.end.done ≡ None → outcome_at b.end (word_seen (slice_get b.looks b.local)) ≡ next img b.end
 outcome_last img b follows looks running = ap (outcome_at b.end) (word_last img b follows looks running) ∙ sym (next_running img b.end running)
 
-local_core : (x : Outcome) → IsLocal x → (c : State) × (x ≡ out.Local c)
+local_core : (x : TurnOutcome) → IsLocal x → (c : State) × (x ≡ out.Local c)
 local_core (out.Local c) l = (c, refl)
 local_core (out.Load kind rd addr) l = absurd l
 local_core (out.Store kind addr v) l = absurd l
@@ -109,7 +109,7 @@ grown img unit epoch start n r at few =
     }
 
 -- what a running core asks
-ask_of : (s : State) (x : Outcome) → (IsLocal x → ⊥) → (a : Ask) × (x ≡ shown s a) × (is_nothing a ≡ false)
+ask_of : (s : State) (x : TurnOutcome) → (IsLocal x → ⊥) → (a : Ask) × (x ≡ shown s a) × (is_nothing a ≡ false)
 ask_of s (out.Local c) not_local = absurd (not_local tt)
 ask_of s (out.Load kind rd addr) not_local = (ask.Load kind rd addr, refl, refl)
 ask_of s (out.Store kind addr v) not_local = (ask.Store kind addr v, refl, refl)

@@ -17,22 +17,22 @@ use Rattle.svc_core_laws.specs.declared.end.End.{End}
 use Rattle.svc_core_laws.specs.declared.end.End.TheVariants as end
 use Rattle.svc_core_laws.specs.Numbers.{load_bytes, store_bytes}
 use Rattle.svc_core_laws.specs.State.{State}
-use Rattle.svc_core_laws.specs.Local.{Outcome, ends, goes_on, sets, calls, outcome_of, outcome_of_meaning, outcome_of_word, outcome_at}
+use Rattle.svc_core_laws.specs.Local.{TurnOutcome, ends, goes_on, sets, calls, outcome_of, outcome_of_meaning, outcome_of_word, outcome_at}
 use Rattle.svc_core_laws.specs.Local as out
-use Rattle.svc_core_laws.specs.Turns.{data_words, access_trap, store_trap, arrived_if, arrived, arrives, puts_out}
+use Rattle.svc_core_laws.specs.Turns.{data_words, access_trap, store_trap, arrived_if, arrived, arrives, outputs}
 use Rattle.svc_core_laws.specs.Words.{wants_load, wants_store, wanted, wants, program}
 use Rattle.svc_core_laws.specs.Program.{Memory, Want, Run, Action, act, part, over, wrote}
 use Rattle.svc_core_laws.specs.Bursts.{shown, IsReady}
-use Rattle.svc_core_laws.proofs.Ends.{Counts, Locally, outcome_counts, next_running, stays}
+use Rattle.svc_core_laws.proofs.Ends.{CountsTurn, Locally, outcome_counts, next_running, stays}
 
 -- what an outcome says of the turns and words left
-Leaves : State → Outcome → Type 0
+Leaves : State → TurnOutcome → Type 0
 Leaves s (out.Local c) = s.count ≡ s.limit → (e : End) × (c.done ≡ Some e)
 Leaves s (out.Load kind rd addr) = s.count ≡ s.limit → ⊥
 Leaves s (out.Store kind addr v) = s.count ≡ s.limit → ⊥
 Leaves s (out.Emit w) = (s.count ≡ s.limit → ⊥) × (s.emitted ≡ 64 → ⊥)
 
-FewWords : State → Outcome → Type 0
+FewWords : State → TurnOutcome → Type 0
 FewWords s (out.Local c) = Unit {0}
 FewWords s (out.Load kind rd addr) = Unit {0}
 FewWords s (out.Store kind addr v) = Unit {0}
@@ -41,7 +41,7 @@ FewWords s (out.Emit w) = s.emitted ≡ 64 → ⊥
 calls_few : (x17 : ℕ) (s : State) → FewWords s (calls x17 s)
 unfolding calls FewWords
 calls_few x17 s =
-    let P : Outcome → Type 0 = FewWords s in
+    let P : TurnOutcome → Type 0 = FewWords s in
     cond_both (x17 == 0) _ _ P (λ e. tt)
     (λ e. cond_both (x17 == 1) _ _ P (λ e. cond_both (s.emitted == 64) _ _ P (λ e. tt) (λ e. λ same. both_ways (s.emitted == 64) e (eq-eqb s.emitted 64 same))) (λ e. tt))
 
@@ -71,7 +71,7 @@ unfolding FewWords
 word_few s None = tt
 word_few s (Some w) = meaning_few s (meaning w)
 
-early : (s : State) (x : Outcome) → (s.count ≡ s.limit → ⊥) → FewWords s x → Leaves s x
+early : (s : State) (x : TurnOutcome) → (s.count ≡ s.limit → ⊥) → FewWords s x → Leaves s x
 unfolding FewWords Leaves
 early s (out.Local c) ne few = λ same. absurd (ne same)
 early s (out.Load kind rd addr) ne few = ne
@@ -85,13 +85,13 @@ leaves s word =
     (λ e. λ same. (end.Trap 1, refl))
     (λ e. early s (outcome_of_word s word) (λ same. both_ways (s.count == s.limit) e (eq-eqb s.count s.limit same)) (word_few s word))
 
--- a core within its limits: it has turned no more than its limit while it runs, and put out at most 64 words
+-- a core within its limits: it has turned no more than its limit while it runs, and has output at most 64 words
 pub record Fits (s : State) : Type 0 where
   pub turns : s.done ≡ None → s.count ≤ s.limit
   pub words : s.emitted ≤ 64
 
 -- what may come of a turn that is within them
-Moves : State → Outcome → Type 0
+Moves : State → TurnOutcome → Type 0
 Moves s (out.Local c) = Fits c
 Moves s (out.Load kind rd addr) = s.count < s.limit
 Moves s (out.Store kind addr v) = s.count < s.limit
@@ -100,7 +100,7 @@ Moves s (out.Emit w) = (s.count < s.limit) × (s.emitted < 64)
 below_limit : (a b : ℕ) → a ≤ b → (a ≡ b → ⊥) → a < b
 below_limit a b le ne = grind (arith, le, ne)
 
-moves : (s : State) (x : Outcome) → s.done ≡ None → Fits s → Locally (Counts (λ pc. Unit {0}) 0 s) x → Leaves s x → Moves s x
+moves : (s : State) (x : TurnOutcome) → s.done ≡ None → Fits s → Locally (CountsTurn (λ pc. Unit {0}) 0 s) x → Leaves s x → Moves s x
 unfolding Leaves Moves
 moves s (out.Local c) r fits counts left = record {
   turns = λ n. let lt : s.count < s.limit = below_limit s.count s.limit (fits.turns r) (λ same. let x = left same in none-some x.0 (sym n ∙ x.1)) in omega (arith, lt, counts.count, counts.limit);
@@ -129,7 +129,7 @@ set_fits r v s lt fits = record { turns = λ n. omega (arith, lt); words = fits.
 gone_fits : (s : State) → s.count < s.limit → Fits s → Fits (goes_on s)
 gone_fits s lt fits = record { turns = λ n. omega (arith, lt); words = fits.words }
 
-out_fits : (s : State) → s.count < s.limit → s.emitted < 64 → Fits (puts_out s)
+out_fits : (s : State) → s.count < s.limit → s.emitted < 64 → Fits (outputs s)
 out_fits s lt few = record { turns = λ n. omega (arith, lt); words = omega (arith, few) }
 
 load_fits : (img : Image) (s : State) (kind : LoadKind) (rd : Register) (addr : ℕ) (o : Option ℕ) (m : Memory) (log : List Action) → Fits s → s.count < s.limit → Fits (act (wants_load img s kind rd addr o) m log).core
@@ -142,17 +142,17 @@ store_fits img s store.Byte addr v None m log fits lt = arrives_fits img (goes_o
 store_fits img s store.Half addr v None m log fits lt = arrives_fits img (goes_on s) (gone_fits s lt fits)
 store_fits img s store.Word addr v None m log fits lt = arrives_fits img (goes_on s) (gone_fits s lt fits)
 
-wanted_fits : (img : Image) (s : State) (x : Outcome) (m : Memory) (log : List Action) → Fits s → Moves s x → Fits (act (wanted img s x) m log).core
+wanted_fits : (img : Image) (s : State) (x : TurnOutcome) (m : Memory) (log : List Action) → Fits s → Moves s x → Fits (act (wanted img s x) m log).core
 unfolding Moves
 wanted_fits img s (out.Local c) m log fits moved = arrives_fits img c moved
 wanted_fits img s (out.Load kind rd addr) m log fits moved = load_fits img s kind rd addr (access_trap (data_words img) (load_bytes kind) addr) m log fits moved
 wanted_fits img s (out.Store kind addr v) m log fits moved = store_fits img s kind addr v (store_trap (data_words img) img.read_only (store_bytes kind) addr) m log fits moved
-wanted_fits img s (out.Emit w) m log fits moved = arrives_fits img (puts_out s) (out_fits s moved.0 moved.1)
+wanted_fits img s (out.Emit w) m log fits moved = arrives_fits img (outputs s) (out_fits s moved.0 moved.1)
 
 turn_fits : (img : Image) (s : State) (m : Memory) (log : List Action) (o : Option End) → s.done ≡ o → Fits s → Fits (act (wants img s) m log).core
 unfolding wants
 turn_fits img s m log None r fits =
-    subst (λ (x : Outcome). Fits (act (wanted img s x) m log).core) (sym (next_running img s r))
+    subst (λ (x : TurnOutcome). Fits (act (wanted img s x) m log).core) (sym (next_running img s r))
     (wanted_fits img s (outcome_at s (fetch img s.pc)) m log fits (moves s (outcome_at s (fetch img s.pc)) r fits (outcome_counts (λ pc. Unit {0}) s (fetch img s.pc) r) (leaves s (fetch img s.pc))))
 turn_fits img s m log (Some e) h fits = subst (λ (w : Want State). Fits (act w m log).core) (sym (stays img s e h)) fits
 

@@ -30,7 +30,7 @@ use Rattle.svc_machine_laws.specs.Events.{Event, IsEvent, Assign, Submit, Replac
 use Rattle.svc_machine_laws.specs.Replies.{served_by, turn_done, serves_at, whole_asked, whole_submitted, whole_reply, plain_reply}
 use Rattle.svc_machine_laws.specs.Standing.{Standing, opened_at, refused, stepped, reply_to}
 use Rattle.svc_machine_laws.specs.Reached.{IsReached}
-use Rattle.svc_machine_laws.specs.Logs.{TaskLog, log_of, logs_of, told, plus, adds, LogsFollow}
+use Rattle.svc_machine_laws.specs.Logs.{TaskLog, log_of, logs_of, action_of, plus, adds, LogsFollow}
 use Rattle.svc_machine_laws.proofs.Given.{Given}
 use Rattle.svc_machine_laws.proofs.Accepted.{can_assign, seat_places}
 use Rattle.svc_machine_laws.proofs.Answering.{reply_is}
@@ -203,7 +203,7 @@ new_word a b log fresh h =
     let both = and_parts (b == a) (is_none (wrote log a)) (right_of (exposed log a) ((b == a) && is_none (wrote log a)) fresh h) in
     (eqb-true b a both.0, none_is (wrote log a) both.1)
 
-new_read : (t : LineTable) (place : ℕ) (w : What) (log : List Action) (a : ℕ) → IsServed t place w → exposed log a ≡ false → exposed (plus (told w) log) a ≡ true → NewRead t place w log a
+new_read : (t : LineTable) (place : ℕ) (w : What) (log : List Action) (a : ℕ) → IsServed t place w → exposed log a ≡ false → exposed (plus (action_of w) log) a ≡ true → NewRead t place w log a
 unfolding IsServed
 new_read t place (what.Assigned task entry epoch) log a served fresh h = absurd (both_ways (exposed log a) fresh h)
 new_read t place what.Ran log a served fresh h = absurd (both_ways (exposed log a) fresh h)
@@ -244,7 +244,7 @@ module _ (img : Image) (given : Given img) (config : Config) (es : List Entry) (
 
   -- a new read of the task at a place
   module _ (b : Advance) (is : IsEvent (Submit b)) (ok : refused img config s (Submit b) ≡ None) (same : e ≡ entry_of (Submit b) (reply_to img s (Submit b)))
-      (place : ℕ) (place_at : task_place s.plain b.unit.0 ≡ Some place) (cut : Option ℕ) (logs : logs_of (program img) (stepped img s (Submit b)).plain ≡ edit place (adds (told (reply_to img s (Submit b)).what)) cut (logs_of (program img) s.plain)) where
+      (place : ℕ) (place_at : task_place s.plain b.unit.0 ≡ Some place) (cut : Option ℕ) (logs : logs_of (program img) (stepped img s (Submit b)).plain ≡ edit place (adds (action_of (reply_to img s (Submit b)).what)) cut (logs_of (program img) s.plain)) where
     abbrev done : What
     done = (reply_to img s (Submit b)).what
 
@@ -262,13 +262,13 @@ module _ (img : Image) (given : Given img) (config : Config) (es : List Entry) (
     kept : (q a : ℕ) (t : TaskLog) → slice_get (logs_of p n) q ≡ Some t → (number : ℕ) → number < s.plain.commits + q → HasVersion img s.plain number a → HasVersion img n number a
     kept q a t h number lt = version_kept img s.plain n number a commits_same (λ u le there some.
         let below : number - s.plain.commits < q = omega (arith, lt, le) in
-        let left : slice_get (edit place (adds (told done)) cut (logs_of p s.plain)) q ≡ Some t = ap (λ l. slice_get l q) (sym logs) ∙ h in
-        elim (edit_before place (adds (told done)) cut (logs_of p s.plain) q (number - s.plain.commits) t u left below there) [
+        let left : slice_get (edit place (adds (action_of done)) cut (logs_of p s.plain)) q ≡ Some t = ap (λ l. slice_get l q) (sym logs) ∙ h in
+        elim (edit_before place (adds (action_of done)) cut (logs_of p s.plain) q (number - s.plain.commits) t u left below there) [
           | inl old ↦ record { log = u; at = ap (λ l. slice_get l (number - s.plain.commits)) logs ∙ old; some = some }
-          | inr new ↦ record { log = adds (told done) u; at = ap (λ l. slice_get l (number - s.plain.commits)) logs ∙ new; some = wrote_grows (told done) u.log a some }
+          | inr new ↦ record { log = adds (action_of done) u; at = ap (λ l. slice_get l (number - s.plain.commits)) logs ∙ new; some = wrote_grows (action_of done) u.log a some }
         ])
 
-    fresh : (q a : ℕ) (t : TaskLog) → slice_get (logs_of p n) q ≡ Some t → q ≢ 0 → (was : IsEdited (adds (told done)) (logs_of p s.plain) place q t) → exposed was.old.log a ≡ false → exposed (plus (told done) was.old.log) a ≡ true → Reader img config es (suc i) n q t.unit a
+    fresh : (q a : ℕ) (t : TaskLog) → slice_get (logs_of p n) q ≡ Some t → q ≢ 0 → (was : IsEdited (adds (action_of done)) (logs_of p s.plain) place q t) → exposed was.old.log a ≡ false → exposed (plus (action_of done) was.old.log) a ≡ true → Reader img config es (suc i) n q t.unit a
     unfolding entry_of
     fresh q a t h not_head was unread reads =
         let r : NewRead s.lines place done was.old.log a = new_read s.lines place done was.old.log a (served_reply img given config s b is ok place place_at) unread reads in
@@ -316,10 +316,10 @@ module _ (img : Image) (given : Given img) (config : Config) (es : List Entry) (
 
     submit_step : Next (Submit b)
     unfolding Readers
-    submit_step q t h not_head a ex = elim (get_edited place (adds (told done)) cut (logs_of p s.plain) q t (ap (λ l. slice_get l q) (sym logs) ∙ h)) [
+    submit_step q t h not_head a ex = elim (get_edited place (adds (action_of done)) cut (logs_of p s.plain) q t (ap (λ l. slice_get l q) (sym logs) ∙ h)) [
       | inr old ↦ carried img config es i s.plain n q q t.unit a e at (no_assign t.unit) (omega (arith, commits_same)) (kept q a t h) (readers q t old.1 not_head a ex)
       | inl was ↦
-          (let log_is : t.log ≡ plus (told done) was.old.log = ap (λ (y : TaskLog). y.log) (sym was.new) in
+          (let log_is : t.log ≡ plus (action_of done) was.old.log = ap (λ (y : TaskLog). y.log) (sym was.new) in
           let unit_is : was.old.unit ≡ t.unit = ap (λ (y : TaskLog). y.unit) was.new in
           elim (cases_Bool (exposed was.old.log a)) [
             | inl before ↦

@@ -17,7 +17,7 @@ use Rattle.svc_machine_laws.specs.Events.{Event, IsEvent, Assign, Submit, Replac
 use Rattle.svc_machine_laws.specs.Standing.{Standing, opened_at, refused, stepped, reply_to, is_commit}
 use Rattle.svc_machine_laws.specs.Reached.{IsReached}
 use Rattle.svc_machine_laws.specs.Replies.{plain_reply, plain_committed}
-use Rattle.svc_machine_laws.specs.Logs.{TaskLog, log_of, logs_of, told, plus, adds, CommitsAnswers, LogsFollow}
+use Rattle.svc_machine_laws.specs.Logs.{TaskLog, log_of, logs_of, action_of, plus, adds, CommitsAnswers, LogsFollow}
 use Rattle.svc_machine_laws.proofs.Given.{Given}
 use Rattle.svc_machine_laws.proofs.Accepted.{can_assign, can_commit}
 use Rattle.svc_bus_laws.proofs.Searches.{cases_below}
@@ -37,7 +37,7 @@ use Rattle.svc_history_laws.proofs.Leases.{has_event}
 use Rattle.svc_history_laws.proofs.Histories.{Stands, stands, tallies, kind_commits, last_take}
 
 -- an entry tells what its reply does
-told_what : (w : What) → told_reply (reply_told w) (unwrap_or (option_map the_address (address_told w)) 0) (unwrap_or (word_told w) 0) (is_some (option_map kind_served (served_told w))) ≡ told w
+told_what : (w : What) → told_reply (reply_told w) (unwrap_or (option_map the_address (address_told w)) 0) (unwrap_or (word_told w) 0) (is_some (option_map kind_served (served_told w))) ≡ action_of w
 told_what (what.Assigned task entry epoch) = refl
 told_what what.Ran = refl
 told_what (what.Loaded addr value by) = refl
@@ -49,7 +49,7 @@ told_what (what.Replaced addr) = refl
 told_what what.Cancelled = refl
 told_what (what.Committed task end) = refl
 
-entry_tells : (x : Event) (r : Reply) → told_by (entry_of x r) ≡ told r.what
+entry_tells : (x : Event) (r : Reply) → told_by (entry_of x r) ≡ action_of r.what
 unfolding entry_of
 entry_tells x r = told_what r.what
 
@@ -152,13 +152,13 @@ module _ (img : Image) (given : Given img) (config : Config) (s : Standing) (rea
       let done : What = (reply_to img s (Submit b)).what in
       let e : Entry = entry_of (Submit b) (reply_to img s (Submit b)) in
       let unit_here = found (map unit_of s.plain.tasks) b.unit.0 logs.place logs.at in
-      elim (get_edited logs.place (adds (told done)) logs.cut (logs_of p s.plain) q t (ap (λ l. slice_get l q) (sym logs.logs) ∙ h)) [
+      elim (get_edited logs.place (adds (action_of done)) logs.cut (logs_of p s.plain) q t (ap (λ l. slice_get l q) (sym logs.logs) ∙ h)) [
         | inl is ↦
             (let unit_is : b.unit.0 ≡ is.old.unit = same_Some b.unit.0 is.old.unit (sym unit_here ∙ unit_at_log img s.plain logs.place is.old is.there) in
             own_unit b.unit.0 t.unit (plus (told_by e) (f t.unit)) (f t.unit) (unit_is ∙ ap (λ (y : TaskLog). y.unit) is.new)
             ∙ (ap (λ o. plus o (f t.unit)) (entry_tells (Submit b) (reply_to img s (Submit b)))
-            ∙ (ap (λ u. plus (told done) (f u)) (sym (ap (λ (y : TaskLog). y.unit) is.new))
-            ∙ (ap (plus (told done)) (tells logs.place is.old is.there) ∙ ap (λ (y : TaskLog). y.log) is.new))))
+            ∙ (ap (λ u. plus (action_of done) (f u)) (sym (ap (λ (y : TaskLog). y.unit) is.new))
+            ∙ (ap (plus (action_of done)) (tells logs.place is.old is.there) ∙ ap (λ (y : TaskLog). y.log) is.new))))
         | inr same ↦
             other_unit b.unit.0 t.unit (plus (told_by e) (f t.unit)) (f t.unit) (λ u. same.0 (one_place img config s reached q logs.place t.unit (unit_at_log img s.plain q t same.1) (unit_here ∙ ap Some u)))
             ∙ tells q t same.1

@@ -1,5 +1,6 @@
 -- What the cause of a cut says, read off an entry.
-use Rattle.std.specs.Prelude.{◌⊎◌, ◌≡◌, ◌≢◌, ℕ, suc, ◌+◌, ◌-◌, ◌<◌, ◌≤◌, true, List, ◌∷◌, length, Option, Some, None, is_some, slice_get, take}
+use Rattle.std.specs.Prelude.{◌⊎◌, ◌≡◌, ◌≢◌, ℕ, suc, ◌+◌, ◌-◌, ◌<◌, ◌≤◌, true, List, ◌∷◌, length, Option, Some, None}
+use Rattle.std.specs.Prelude.{is_some, slice_get, take}
 use Rattle.svc_base.specs.declared.config.Config.{Config}
 use Rattle.svc_base.specs.declared.ids.UnitId.{UnitId}
 use Rattle.svc_base.specs.declared.ids.WordAddr.{WordAddr}
@@ -46,7 +47,8 @@ pub record IsWrongGuess (img : Image) (s : Plain) (e : Entry) : Type 0 where
   pub next : Task
   pub others : List Task
   pub tasks : s.tasks ≡ head ∷ next ∷ others
-  pub wrong : (is_some (seq (program img) (suc s.commits)).stopped ≡ true) ⊎ ((seq (program img) (suc s.commits)).due ≢ Some next.entry)
+  pub wrong : (is_some (seq (program img) (suc s.commits)).stopped ≡ true)
+      ⊎ ((seq (program img) (suc s.commits)).due ≢ Some next.entry)
   pub cuts : CutsFrom s e 1
 
 -- a wrong guess: the entry is a submit that ended its unit's task; the first task cut is the next one, which began at
@@ -55,7 +57,8 @@ pub record IsFoundWrong (img : Image) (s : Plain) (e : Entry) : Type 0 where
   pub kind : e.kind ≡ Submit
   pub place : ℕ
   pub at : task_place s e.unit.0 ≡ Some place
-  pub misleads : Misleads (run_done (program img)) run_entry (running (program img) (submit (program img) s place (the_local e) (the_ask e))) place
+  pub misleads : Misleads (run_done (program img)) run_entry
+      (running (program img) (submit (program img) s place (the_local e) (the_ask e))) place
   pub cuts : CutsFrom s e (suc place)
 
 -- a cancel: the entry is a cancel, and the first task cut is its unit's
@@ -115,4 +118,5 @@ pub record IsCaused (img : Image) (config : Config) (es : List Entry) (index : �
   pub task_is : slice_get (led_to img config (take index es)).plain.tasks victim ≡ Some task
   pub read : IsRead es index task.unit word.0
   pub not_above : read.served ≡ kind.Version
-      → (number : ℕ) × IsFrom (led_to img config (take read.at es)).plain read.entry number × (number ≤ (led_to img config (take index es)).plain.commits + place)
+      → (number : ℕ) × IsFrom (led_to img config (take read.at es)).plain read.entry number
+      × (number ≤ (led_to img config (take index es)).plain.commits + place)

@@ -6,7 +6,8 @@ use Rattle.svc_base.specs.declared.ids.WordAddr.{WordAddr}
 use Rattle.svc_base.specs.declared.served.Served.{Served}
 use Rattle.svc_base.specs.declared.served.Served.TheVariants as served
 use Rattle.svc_core_laws.specs.Bursts.{is_nothing}
-use Rattle.svc_machine_laws.specs.Events.{Event, Assign as AssignEvent, Submit as SubmitEvent, Replace as ReplaceEvent, Cancel as CancelEvent, Commit as CommitEvent}
+use Rattle.svc_machine_laws.specs.Events.{Event, Assign as AssignEvent, Submit as SubmitEvent, Replace as ReplaceEvent}
+use Rattle.svc_machine_laws.specs.Events.{Cancel as CancelEvent, Commit as CommitEvent}
 use Rattle.svc_machine_laws.specs.declared.reply.What.{What}
 use Rattle.svc_machine_laws.specs.declared.reply.What.TheVariants as what
 use Rattle.svc_machine_laws.specs.declared.reply.Cause.{Cause}
@@ -107,7 +108,21 @@ count_of cut = cut.tasks
 -- an entry with the fields of its event alone
 abbrev pub plain_entry : Kind → UnitId → (arg : Option ℕ) → (local : Option ℕ) → (ask : Option Bool) → Entry
 plain_entry k unit arg local ask =
-    record { kind = k; unit = unit; arg = arg; local = local; ask = ask; reply = reply.Ran; addr = None; word = None; served = None; from = None; cause = None; first = None; squashed = None }
+    record {
+      kind = k;
+      unit = unit;
+      arg = arg;
+      local = local;
+      ask = ask;
+      reply = reply.Ran;
+      addr = None;
+      word = None;
+      served = None;
+      from = None;
+      cause = None;
+      first = None;
+      squashed = None;
+    }
 
 -- the entry that has the fields of its event
 abbrev pub named : Event → Entry

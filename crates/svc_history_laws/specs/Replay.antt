@@ -31,7 +31,8 @@ pub record IsBurstOf (img : Image) (s : Plain) (unit turns : ℕ) (b : Advance) 
 abbrev pub ReplaysAs : Kind → Image → Plain → Entry → Event → Type 0
 ReplaysAs Assign img s e x = (is_some e.arg ≡ true) × (x ≡ event.Assign e.unit.0 (the_arg e))
 ReplaysAs Submit img s e x =
-    (is_some e.local ≡ true) × (is_some e.ask ≡ true) × (b : Advance) × IsBurstOf img s e.unit.0 (the_local e + turns_of (the_ask e)) b × (x ≡ event.Submit b)
+    (is_some e.local ≡ true) × (is_some e.ask ≡ true) × (b : Advance)
+    × IsBurstOf img s e.unit.0 (the_local e + turns_of (the_ask e)) b × (x ≡ event.Submit b)
 ReplaysAs Replace img s e x = (is_some e.arg ≡ true) × (x ≡ event.Replace e.unit.0 (the_arg e))
 ReplaysAs Cancel img s e x = x ≡ event.Cancel e.unit.0
 ReplaysAs Commit img s e x = x ≡ event.Commit e.unit.0

@@ -8,18 +8,24 @@ use Rattle.svc_history_laws.specs.Entries.{plain_entry}
 
 -- an assignment to the unit
 abbrev pub assigned : (unit : ℕ) → Entry
-assigned unit = let e : Entry = plain_entry Assign (record { 0 = unit }) (Some 0) None None in record e { reply = reply.Assigned; word = Some 0 }
+assigned unit =
+    let e : Entry = plain_entry Assign (record { 0 = unit }) (Some 0) None None in
+    record e { reply = reply.Assigned; word = Some 0 }
 
 -- an asked turn without local ones
 abbrev pub asking : (unit : ℕ) → Entry
 asking unit = plain_entry Submit (record { 0 = unit }) None (Some 0) (Some true)
 
 abbrev pub loading : (unit addr word : ℕ) → Entry
-loading unit addr word = let e : Entry = asking unit in record e { reply = reply.Loaded; addr = Some (record { 0 = addr }); word = Some word; served = Some kind.Memory }
+loading unit addr word =
+    let e : Entry = asking unit in
+    record e { reply = reply.Loaded; addr = Some (record { 0 = addr }); word = Some word; served = Some kind.Memory }
 
 -- a store of less than a word, which first read its word
 abbrev pub storing_part : (unit addr word : ℕ) → Entry
-storing_part unit addr word = let e : Entry = asking unit in record e { reply = reply.Stored; addr = Some (record { 0 = addr }); word = Some word; served = Some kind.Hit }
+storing_part unit addr word =
+    let e : Entry = asking unit in
+    record e { reply = reply.Stored; addr = Some (record { 0 = addr }); word = Some word; served = Some kind.Hit }
 
 abbrev pub putting_out : (unit word : ℕ) → Entry
 putting_out unit word = let e : Entry = asking unit in record e { reply = reply.Emitted; word = Some word }

@@ -25,7 +25,9 @@ turns_of ask = cond ask 1 0
 
 -- the core of the active task at a place after this many turns, if it runs alone on the memory of its place
 abbrev pub core_on : Image → Plain → (place : ℕ) → Task → (more : ℕ) → State
-core_on img s place task n = (part (program img) task.entry (n + task.turns) (memory_at (program img) (seq (program img) s.commits).memory s.tasks place)).core
+core_on img s place task n =
+    (part (program img) task.entry (n + task.turns)
+    (memory_at (program img) (seq (program img) s.commits).memory s.tasks place)).core
 
 -- a task that runs, and whose next turn asks for nothing
 abbrev pub IsLocalAt : Image → State → Type 0
@@ -41,7 +43,8 @@ word_wanted img core = word_of ((program img).want core)
 
 -- the unit's task, which stands at the place, may submit this many local turns, and after them an asked one if `ask`
 -- says so
-pub record IsSubmission (img : Image) (s : Standing) (unit place : ℕ) (task : Task) (local : ℕ) (ask : Bool) : Type 0 where
+pub record IsSubmission (img : Image) (s : Standing) (unit place : ℕ) (task : Task)
+    (local : ℕ) (ask : Bool) : Type 0 where
   pub some : 0 < local + turns_of ask
   pub few : local + turns_of ask ≤ 63
   -- the task hasn't ended
@@ -54,17 +57,22 @@ pub record IsSubmission (img : Image) (s : Standing) (unit place : ℕ) (task : 
 -- the lines after the turns: an asked turn takes its steps of the bus
 abbrev pub lines_asked : Image → Standing → (place : ℕ) → (local : ℕ) → Option Task → Bool → LineTable
 lines_asked img s place local None ask = s.lines
-lines_asked img s place local (Some task) ask = cond ask (line_turn ((program img).want (core_on img s.plain place task local)) s.lines place) s.lines
+lines_asked img s place local (Some task) ask =
+    cond ask (line_turn ((program img).want (core_on img s.plain place task local)) s.lines place) s.lines
 
 -- the check of the guess after the task at a place has taken its turns
 abbrev pub checked_at : Image → (place : ℕ) → (turned : Plain) → LineTable → Standing
-checked_at img place turned t = record { plain = plain.check (program img) turned place; lines = line_check (plain.is_misled (program img) turned place) t place }
+checked_at img place turned t = record {
+  plain = plain.check (program img) turned place;
+  lines = line_check (plain.is_misled (program img) turned place) t place;
+}
 
 -- where it leads
 abbrev pub submitted_at : Image → Standing → Option ℕ → (local : ℕ) (ask : Bool) → Standing
 submitted_at img s None local ask = s
 submitted_at img s (Some place) local ask =
-    checked_at img place (plain.submit (program img) s.plain place local ask) (lines_asked img s place local (slice_get s.plain.tasks place) ask)
+    checked_at img place (plain.submit (program img) s.plain place local ask)
+    (lines_asked img s place local (slice_get s.plain.tasks place) ask)
 
 -- where a submission of the unit leads
 abbrev pub after_submission : Image → Standing → (unit local : ℕ) → (ask : Bool) → Standing
@@ -72,4 +80,6 @@ after_submission img s unit local ask = submitted_at img s (task_place s.plain u
 
 -- its entry
 abbrev pub submission : Image → Standing → UnitId → (local : ℕ) (ask : Bool) → Entry
-submission img s unit local ask = telling (plain_submitted (program img) s.plain s.lines (task_place s.plain unit.0) local ask) (plain_entry Submit unit None (Some local) (Some ask))
+submission img s unit local ask =
+    telling (plain_submitted (program img) s.plain s.lines (task_place s.plain unit.0) local ask)
+    (plain_entry Submit unit None (Some local) (Some ask))

@@ -45,7 +45,7 @@ pub fn cuts_are_blamed()
 {}
 
 /// Whatever a committed task was answered, even while earlier tasks still ran, is what the sequential run answers it,
-/// in order; and each number below that of committed tasks is that of a commit.
+/// in order; and each number below the count of committed tasks is that of a commit.
 pub fn stories_are_sequential()
     ensures answers { (img : Image) → IsImage img → (config : Config) → (es : List Entry) → LegalHistory img config es
         → (index : ℕ) → (e : Entry) → slice_get es index ≡ Some e → e.kind ≡ Commit → IsAnswered img config es index e }
@@ -53,8 +53,8 @@ pub fn stories_are_sequential()
         → (number : ℕ) → number < (board es).committed → HasCommit es number }
 {}
 
-/// Each violation has its cause in the log: since the last assignment of the unit of the first task cut, an entry of
-/// that unit has the word, and a supplier other than a hit; if that is a version, its task was not above the one that
+/// Each violation has its cause in the log: since its last assignment, the unit of the first task cut has an entry that
+/// read the word, and not from its own line. If it was given a version, that version's task was not above the one that
 /// stored.
 pub fn violations_have_causes()
     ensures { (img : Image) → IsImage img → (config : Config) → (es : List Entry) → LegalHistory img config es

@@ -19,7 +19,7 @@ use Rattle.svc_machine_laws.specs.declared.reply.Cut.{Cut}
 use Rattle.svc_machine_laws.specs.Blame.{IsBlamedOn, IsCutAt, begun as tasks_begun, tasks_cut}
 use Rattle.svc_machine_laws.specs.Events.{Event, IsEvent}
 use Rattle.svc_machine_laws.specs.Events as event
-use Rattle.svc_machine_laws.specs.Logs.{LogsFollow, TaskLog, adds, log_of, logs_of, told}
+use Rattle.svc_machine_laws.specs.Logs.{LogsFollow, TaskLog, adds, log_of, logs_of, action_of}
 use Rattle.svc_machine_laws.specs.PlainMachine.{Plain, Task, runs_of, unit_of}
 use Rattle.svc_machine_laws.specs.Reached.{IsReached}
 use Rattle.svc_machine_laws.specs.Replies.{plain_committed, plain_reply}
@@ -378,8 +378,8 @@ module _ (img : Image) (given : Given img) (config : Config) (s : Standing) (rea
       let x : Event = event.Submit b in
       let logs : LogsFollow p s.plain (next x) x (reply_to img s x).what = logs_follow img given config s reached x is ok in
       let us : units (next x) ≡ edit logs.place (λ u. u) logs.cut (units s.plain) =
-      logs_units p (next x) (edit logs.place (adds (told (reply_to img s x).what)) logs.cut (logs_of p s.plain)) logs.logs
-      ∙ map_edit logged (adds (told (reply_to img s x).what)) (λ u. u) logs.place logs.cut (logs_of p s.plain) (λ t h. refl)
+      logs_units p (next x) (edit logs.place (adds (action_of (reply_to img s x).what)) logs.cut (logs_of p s.plain)) logs.logs
+      ∙ map_edit logged (adds (action_of (reply_to img s x).what)) (λ u. u) logs.place logs.cut (logs_of p s.plain) (λ t h. refl)
       ∙ ap (edit logs.place (λ u. u) logs.cut) (units_logged p s.plain) in
       none_begun x (same_commits x ok refl) refl
       (goes_on_with x is ok refl refl (is_front (units (next x)) (edit logs.place (λ u. u) logs.cut (units s.plain)) (units s.plain) us (front_edited logs.place logs.cut (units s.plain))) (λ m. refl))

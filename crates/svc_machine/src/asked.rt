@@ -8,7 +8,7 @@ ghost use Rattle.svc_core_laws.specs.Bursts.{IsReady};
 ghost use Rattle.svc_core_laws.specs.Local.{ends};
 ghost use Rattle.svc_core_laws.specs.Numbers.{load_bytes, store_bytes};
 ghost use Rattle.svc_core_laws.specs.Program.{Want, Emit};
-ghost use Rattle.svc_core_laws.specs.Turns.{access_trap, store_trap, arrives, data_words, puts_out};
+ghost use Rattle.svc_core_laws.specs.Turns.{access_trap, store_trap, arrives, data_words, outputs};
 ghost use Rattle.svc_core_laws.specs.Words.{wants_load, wants_store};
 ghost use Rattle.svc_bus_laws.specs.LineTable.{LineTable};
 ghost use Rattle.svc_bus_laws.specs.Steps.{write};
@@ -24,7 +24,7 @@ ghost use Rattle.svc_machine.specs.Kept.{whole_seat};
 use crate::seat::Seat;
 use svc_base::{Refusal, Served, UnitId, WordAddr};
 use svc_bus::{Bus, Victim};
-use svc_core::{Core, Place, load_place, loaded, store_place, stored};
+use svc_core::{Access, Core, load_place, loaded, store_place, stored};
 use svc_core_laws::Ask;
 use svc_image::Image;
 use svc_machine_laws::{Cause, Cut, Reply, What};
@@ -143,7 +143,7 @@ fn do_emit(image: &Image, seat: &mut Seat, word: u32) -> Reply
     requires few { seat.old.lease.core.emitted < 64 }
     requires waiting { length seat.old.waiting.items ≡ seat.old.lease.core.emitted }
     ensures seat { whole_seat seat.new
-        ≡ seat_turn (Emit word (arrives image.now (puts_out seat.old.lease.core))) (λ a. 0) (whole_seat seat.old) }
+        ≡ seat_turn (Emit word (arrives image.now (outputs seat.old.lease.core))) (λ a. 0) (whole_seat seat.old) }
     ensures reply { result ≡ record { what = What.Emitted word; cut = None } }
 {
     seat.waiting.push(word);
@@ -176,7 +176,7 @@ fn word_to_store(
     bus: &mut Bus,
     unit: UnitId,
     kind: StoreKind,
-    access: Place,
+    access: Access,
     value: u32,
 ) -> Result<(u32, Option<Served>), Refusal>
     requires running { IsRunning (observed bus.old) unit.0 }

@@ -11,7 +11,7 @@ use Rattle.svc_core_laws.specs.declared.end.End.{End}
 use Rattle.svc_core_laws.specs.Program.{Memory, Program, Run, part, seq, due_after, IsProgram}
 use Rattle.svc_core_laws.specs.Words.{program}
 use Rattle.svc_bus_laws.specs.ByRows.{cut_at, edit}
-use Rattle.svc_machine_laws.specs.PlainMachine.{Task, Plain, Running, runs_of, running, entry_of, entry_for, stays, settled, more, one_more, cut_by, asked_by, submitted, row_of, IsDue, cuts_next}
+use Rattle.svc_machine_laws.specs.PlainMachine.{Task, Plain, Running, runs_of, running, entry_of, entry_for, stays, settled, more, one_more, cut_by, take_turn_by, submitted, row_of, IsDue, cuts_next}
 use Rattle.svc_machine_laws.specs.PlainMachine as plain
 use Rattle.svc_machine_laws.specs.MachineLaws.{HasEnded}
 use Rattle.svc_machine_laws.specs.Guess.{newer_successor, successor_at, guess, guess_after, youngest, entry_after, last_end}
@@ -57,7 +57,7 @@ pub map_count : {A B : Type 0} (f : A → B) (xs : List A) → length (map f xs)
 map_count f [] = refl
 map_count f (x ∷ xs) = ap suc (map_count f xs)
 
-asked_front : {C : Type 0} (p : Program C) (runs : List (Running C)) (ts : List Task) (place : ℕ) (o : Option (Running C)) → map entry_of (asked_by p runs ts place o) ≡ take (length (asked_by p runs ts place o)) (map entry_of ts)
+asked_front : {C : Type 0} (p : Program C) (runs : List (Running C)) (ts : List Task) (place : ℕ) (o : Option (Running C)) → map entry_of (take_turn_by p runs ts place o) ≡ take (length (take_turn_by p runs ts place o)) (map entry_of ts)
 asked_front p runs ts place None = sym (take_all (length ts) (map entry_of ts) (let e = map_count entry_of ts in omega (arith, e)))
 asked_front p runs ts place (Some x) = edit_front entry_of place one_more (cut_by (p.want x.run.core) (map row_of runs) place) ts (λ t. refl)
 

@@ -6,7 +6,7 @@ use Rattle.svc_core_laws.specs.declared.end.End.{End}
 use Rattle.svc_core_laws.specs.declared.end.End.TheVariants as end
 use Rattle.svc_core_laws.specs.Program.{Memory, Program, part, task, Seq, seq, next_task, due_after, stopped_after, IsProgram}
 use Rattle.svc_bus_laws.specs.ByRows.{edit}
-use Rattle.svc_machine_laws.specs.PlainMachine.{Task, Running, IsDue, runs_of, settled, entry_of, entry_for, more, one_more, asked_by, submitted, cut_by, row_of}
+use Rattle.svc_machine_laws.specs.PlainMachine.{Task, Running, IsDue, runs_of, settled, entry_of, entry_for, more, one_more, take_turn_by, submitted, cut_by, row_of}
 use Rattle.svc_machine_laws.proofs.Parts.{seq_commit}
 
 -- the run goes on, or has stopped
@@ -50,7 +50,7 @@ due_edit due place f c [] same h = tt
 due_edit due zero f c (t ∷ ts) same h = h ∙ ap Some (same t)
 due_edit due (suc place) f c (t ∷ ts) same h = h
 
-pub due_asked : {C : Type 0} (p : Program C) (due : Option ℕ) (runs : List (Running C)) (ts : List Task) (place : ℕ) (o : Option (Running C)) → IsDue due ts → IsDue due (asked_by p runs ts place o)
+pub due_asked : {C : Type 0} (p : Program C) (due : Option ℕ) (runs : List (Running C)) (ts : List Task) (place : ℕ) (o : Option (Running C)) → IsDue due ts → IsDue due (take_turn_by p runs ts place o)
 due_asked p due runs ts place None h = h
 due_asked p due runs ts place (Some x) h = due_edit due place one_more (cut_by (p.want x.run.core) (map row_of runs) place) ts (λ t. refl) h
 

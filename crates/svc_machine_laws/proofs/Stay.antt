@@ -11,7 +11,7 @@ use Rattle.svc_core_laws.specs.Program.{Memory, Program, Want, Local, Load, Stor
 use Rattle.svc_core_laws.specs.Words.{program}
 use Rattle.svc_bus_laws.specs.Versioned.{Row}
 use Rattle.svc_bus_laws.specs.ByRows.{view_of, edit}
-use Rattle.svc_machine_laws.specs.PlainMachine.{Task, Plain, Running, runs_of, running, row_of, more, one_more, cut_by, asked_by, submitted, stays, settled, entry_of, entry_for, commit_tasks, IsDue}
+use Rattle.svc_machine_laws.specs.PlainMachine.{Task, Plain, Running, runs_of, running, row_of, more, one_more, cut_by, take_turn_by, submitted, stays, settled, entry_of, entry_for, commit_tasks, IsDue}
 use Rattle.svc_machine_laws.specs.PlainMachine as plain
 use Rattle.svc_machine_laws.specs.MachineLaws.{Taken}
 use Rattle.svc_machine_laws.specs.Reached.{BeganAtEntry, IsCounted}
@@ -20,7 +20,7 @@ use Rattle.svc_machine_laws.proofs.Parts.{seq_commit}
 use Rattle.svc_machine_laws.proofs.Runs.{turned}
 use Rattle.svc_machine_laws.proofs.Steps.{runs_append, runs_take}
 use Rattle.svc_machine_laws.proofs.Submits.{local_run, local_runs, asked_run, asked_runs}
-use Rattle.svc_machine_laws.proofs.Wants.{Counts}
+use Rattle.svc_machine_laws.proofs.Wants.{LeavesCount}
 
 -- ---- entries
 
@@ -30,7 +30,7 @@ pub entry_assigned : (img : Image) (due : Option ℕ) (ts : List Task) (guess : 
 entry_assigned img due [] guess enters some h = enters (unwrap_or due guess) some
 entry_assigned img due (t ∷ ts) guess enters some h = not-false (is_entry img guess) h
 
-asked_entries : {C : Type 0} (img : Image) (p : Program C) (runs : List (Running C)) (ts : List Task) (place : ℕ) (o : Option (Running C)) → AllByRecursion (BeganAtEntry img) ts → AllByRecursion (BeganAtEntry img) (asked_by p runs ts place o)
+asked_entries : {C : Type 0} (img : Image) (p : Program C) (runs : List (Running C)) (ts : List Task) (place : ℕ) (o : Option (Running C)) → AllByRecursion (BeganAtEntry img) ts → AllByRecursion (BeganAtEntry img) (take_turn_by p runs ts place o)
 asked_entries img p runs ts place None h = h
 asked_entries img p runs ts place (Some x) h = every_edit (BeganAtEntry img) place one_more (cut_by (p.want x.run.core) (map row_of runs) place) ts (λ t e k. k) h
 
@@ -73,7 +73,7 @@ pub take_counted : (img : Image) (m : Memory) (n : ℕ) (ts : List Task) → All
 take_counted img m n ts h = subst (AllByRecursion IsCounted) (sym (runs_take (program img) m n ts)) (every_take IsCounted n (runs_of (program img) m ts) h)
 
 -- a turn that counts so
-turn_counted : (n : ℕ) (w : Want State) (look : Memory) (x : Running State) → Counts n w → (turned w look x).run.core.count ≡ n
+turn_counted : (n : ℕ) (w : Want State) (look : Memory) (x : Running State) → LeavesCount n w → (turned w look x).run.core.count ≡ n
 turn_counted n (Local c) look x h = h
 turn_counted n (Load a value go) look x h = h (value (look a))
 turn_counted n (Store a v c) look x h = h
@@ -81,7 +81,7 @@ turn_counted n (Narrow a f c) look x h = h
 turn_counted n (Emit v c) look x h = h
 
 pub submit_counted : (img : Image) (s : Plain) (place local : ℕ) (last : State) (ask : Option (Want State)) → (t : Taken (program img) s place local last ask)
-    → last.count ≡ t.run.run.core.count + local → ((w : Want State) → ask ≡ Some w → Counts (last.count + 1) w)
+    → last.count ≡ t.run.run.core.count + local → ((w : Want State) → ask ≡ Some w → LeavesCount (last.count + 1) w)
     → AllByRecursion IsCounted (running (program img) s) → AllByRecursion IsCounted (running (program img) (plain.submit (program img) s place local (is_some ask)))
 submit_counted img s place local last None t counts asks h =
     let p : Program State = program img in

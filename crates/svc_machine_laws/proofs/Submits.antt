@@ -4,7 +4,7 @@ use Rattle.std.proofs.lemmas.Option.{same_Some, none-some}
 use Rattle.svc_core_laws.specs.Program.{Memory, Want, Program, Run, wrote, over, part, Seq, seq, locals, are_local}
 use Rattle.svc_bus_laws.specs.Versioned.{Row, with_head}
 use Rattle.svc_bus_laws.specs.ByRows.{view_of, edit}
-use Rattle.svc_machine_laws.specs.PlainMachine.{Task, Plain, Running, runs_of, running, row_of, more, cut_by, asked_by, asked, submit}
+use Rattle.svc_machine_laws.specs.PlainMachine.{Task, Plain, Running, runs_of, running, row_of, more, cut_by, take_turn_by, take_turn, submit}
 use Rattle.svc_machine_laws.specs.WholeMachine.{Seat, Machine, seat_of, machine_of, at_core, seat_turn, with_seats}
 use Rattle.svc_machine_laws.specs.WholeMachine as whole
 use Rattle.svc_machine_laws.specs.MachineLaws.{Taken}
@@ -52,7 +52,7 @@ module _ {C : Type 0} (p : Program C) (n : ℕ) (m : Memory) (ts : List Task) (p
   local_rows : map row_of (edit place (local_run p n) None runs) ≡ rows
   local_rows = map_edit row_of (local_run p n) (λ r. r) place None runs (λ y h. refl) ∙ edit_same place rows
 
-  pub asked_runs : runs_of p m (asked p m (edit place (more n) None ts) place)
+  pub asked_runs : runs_of p m (take_turn p m (edit place (more n) None ts) place)
       ≡ edit place (asked_run p n (p.want (locals p n x.run.core)) (view_of rows m place)) (cut_by (p.want (locals p n x.run.core)) rows place) runs
   asked_runs =
       let now : List Task = edit place (more n) None ts in
@@ -61,7 +61,7 @@ module _ {C : Type 0} (p : Program C) (n : ℕ) (m : Memory) (ts : List Task) (p
       let w : Want C = p.want y.run.core in
       let here : slice_get later place ≡ Some y = ap (λ l. slice_get l place) local_runs ∙ at_edited place (local_run p n) runs x at in
       let same : map row_of later ≡ rows = ap (map row_of) local_runs ∙ local_rows in
-      ap (λ o. runs_of p m (asked_by p later now place o)) here
+      ap (λ o. runs_of p m (take_turn_by p later now place o)) here
       ∙ turn_at p m now place y here
       ∙ ap (λ q. edit place (turned w (view_of q m place)) (cut_by w q place) later) same
       ∙ ap (edit place (turned w (view_of rows m place)) (cut_by w rows place)) local_runs

@@ -22,7 +22,7 @@ use Rattle.svc_machine_laws.specs.Events.{Event, Assign, Submit, Replace, Cancel
 use Rattle.svc_machine_laws.specs.Replies.{turn_done, serves_at, whole_asked, whole_submitted, whole_reply, plain_committed, plain_reply}
 use Rattle.svc_machine_laws.specs.Standing.{Standing, refused, stepped, reply_to}
 use Rattle.svc_machine_laws.specs.Reached.{IsReached}
-use Rattle.svc_machine_laws.specs.Logs.{TaskLog, log_of, logs_of, told, plus, adds, AddsItsAnswer, CommitsAnswers, LogsFollow, TellsTheEnd}
+use Rattle.svc_machine_laws.specs.Logs.{TaskLog, log_of, logs_of, action_of, plus, adds, AddsItsAnswer, CommitsAnswers, LogsFollow, TellsTheEnd}
 use Rattle.svc_machine_laws.proofs.Given.{Given}
 use Rattle.svc_machine_laws.proofs.Accepted.{can_submit, can_cancel, can_commit, seat_places}
 use Rattle.svc_machine_laws.specs.declared.reply.What.{What}
@@ -36,7 +36,7 @@ use Rattle.svc_machine_laws.proofs.Steps.{runs_append, runs_take}
 use Rattle.svc_machine_laws.proofs.Submits.{local_run, local_runs, asked_run, asked_runs}
 
 -- a turn puts on the log what its answer tells
-act_tells : {C : Type 0} (p : Program C) (w : Want C) (look : Memory) (serves : ℕ → Served) (log : List Action) → (act w look log).log ≡ plus (told (turn_done p w look serves)) log
+act_tells : {C : Type 0} (p : Program C) (w : Want C) (look : Memory) (serves : ℕ → Served) (log : List Action) → (act w look log).log ≡ plus (action_of (turn_done p w look serves)) log
 act_tells p (Local c) look serves log = refl
 act_tells p (Load a value go) look serves log = refl
 act_tells p (Store a v c) look serves log = refl
@@ -75,7 +75,7 @@ submit_logs {C} p s t unit place local last (Some w) at tk =
       logs = ap (map log_of) (asked_runs p local m s.tasks place tk.run tk.at tk.own)
           ∙ ap (λ v. map log_of (edit place (asked_run p local v look) (cut_by v rows place) all)) wants
           ∙ ap (λ l. map log_of (edit place (asked_run p local w l) (cut_by w rows place) all)) same
-          ∙ map_edit log_of (asked_run p local w sees) (adds (told (turn_done p w sees (serves_at t place)))) place (cut_by w rows place) all
+          ∙ map_edit log_of (asked_run p local w sees) (adds (action_of (turn_done p w sees (serves_at t place)))) place (cut_by w rows place) all
           (λ x h. ap {B = TaskLog} (λ l. record { unit = x.task.unit; log = l }) (act_tells p w sees (serves_at t place) x.run.log));
     }
 
@@ -89,7 +89,7 @@ check_logs {C} p s a unit done r = of (plain.is_misled p a r.place)
       place = r.place;
       at = r.at;
       cut = Some 0;
-      logs = cancel_logs p a (suc r.place) ∙ ap (take (suc r.place)) r.logs ∙ take_edit r.place (adds (told done)) r.cut (logs_of p s);
+      logs = cancel_logs p a (suc r.place) ∙ ap (take (suc r.place)) r.logs ∙ take_edit r.place (adds (action_of done)) r.cut (logs_of p s);
     }
 
 pub checked_what : (b : Bool) (k n place : ℕ) (r : Reply) → (checked b k n place r).what ≡ r.what

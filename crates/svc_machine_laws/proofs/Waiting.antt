@@ -1,4 +1,4 @@
--- The words put out are at most as many as the accepted events.
+-- The output words are at most as many as the accepted events.
 use Rattle.std.proofs.Common.{ℕ, zero, suc, ◌≡◌, ◌+◌, ◌≤◌, Bool, true, false, cond, List, [], ◌∷◌, ◌++◌, map, take, length, Option, Some, None, refl, ap, ◌∙◌, is_some, slice_get, arith, length-append}
 use Rattle.svc_core_laws.specs.declared.end.End.{End}
 use Rattle.svc_core_laws.specs.Program.{Memory, Program, Want, Local, Load, Store, Narrow, Emit, Run, Seq, act, over, wrote, output, part, seq, locals, IsProgram}
@@ -21,7 +21,7 @@ cut_waiting : {C : Type 0} (c : Option ℕ) (xs : List (Running C)) → words_wa
 cut_waiting None xs = omega arith
 cut_waiting (Some n) xs = take_waiting n xs
 
--- a change of one run that puts out at most so many words
+-- a change of one run that outputs at most so many words
 edit_waiting : {C : Type 0} (most place : ℕ) (f : Running C → Running C) (c : Option ℕ) (xs : List (Running C)) → ((x : Running C) → length (output (f x).run.log) ≤ length (output x.run.log) + most)
     → words_waiting (edit place f c xs) ≤ words_waiting xs + most
 edit_waiting most place f c [] h = omega arith
@@ -32,7 +32,7 @@ append_waiting : {C : Type 0} (xs : List (Running C)) (y : Running C) → words_
 append_waiting [] y = omega arith
 append_waiting (x ∷ xs) y = let ih = append_waiting xs y in omega (arith, ih)
 
--- a turn puts out at most one word
+-- a turn outputs at most one word
 act_outputs : {C : Type 0} (w : Want C) (look : Memory) (x : Running C) → length (output (act w look x.run.log).log) ≤ length (output x.run.log) + 1
 act_outputs (Local c) look x = omega arith
 act_outputs (Load a value go) look x = omega arith

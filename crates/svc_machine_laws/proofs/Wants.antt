@@ -13,10 +13,10 @@ use Rattle.svc_core_laws.specs.declared.ask.Ask.{Ask}
 use Rattle.svc_core_laws.specs.declared.ask.Ask.TheVariants as ask
 use Rattle.svc_core_laws.specs.declared.end.End.{End}
 use Rattle.svc_core_laws.specs.State.{State}
-use Rattle.svc_core_laws.specs.Local.{Outcome, ends, goes_on, sets}
+use Rattle.svc_core_laws.specs.Local.{TurnOutcome, ends, goes_on, sets}
 use Rattle.svc_core_laws.specs.Local as out
 use Rattle.svc_core_laws.specs.Numbers.{load_bytes, store_bytes}
-use Rattle.svc_core_laws.specs.Turns.{data_words, data_start, word_address, access_trap, unless_read_only, store_trap, arrived_if, arrived, arrives, puts_out, next}
+use Rattle.svc_core_laws.specs.Turns.{data_words, data_start, word_address, access_trap, unless_read_only, store_trap, arrived_if, arrived, arrives, outputs, next}
 use Rattle.svc_core_laws.specs.Program.{Want, Local, Load, Store, Narrow, Emit}
 use Rattle.svc_core_laws.specs.Words.{wanted, wants, wants_load, wants_store, wants_write}
 use Rattle.svc_core_laws.specs.Bursts.{Advance, Means, shown, is_nothing}
@@ -57,7 +57,7 @@ store_some store.Half = omega arith
 store_some store.Word = omega arith
 
 -- the wanted word is one of the data
-pub wanted_within : (img : Image) (s : State) (o : Outcome) → IsWithin (data_words img) (wanted img s o)
+pub wanted_within : (img : Image) (s : State) (o : TurnOutcome) → IsWithin (data_words img) (wanted img s o)
 wanted_within img s (out.Local c) = tt
 wanted_within img s (out.Load kind rd addr) = by (access_trap (data_words img) (load_bytes kind) addr) refl
   where
@@ -77,12 +77,12 @@ wanted_within img s (out.Store kind addr v) = by (store_trap (data_words img) im
 wanted_within img s (out.Emit w) = tt
 
 -- after such a turn the count is this
-abbrev pub Counts : ℕ → Want State → Type 0
-Counts n (Local c) = c.count ≡ n
-Counts n (Load a value go) = (v : ℕ) → (go v).count ≡ n
-Counts n (Store a w c) = c.count ≡ n
-Counts n (Narrow a f c) = c.count ≡ n
-Counts n (Emit w c) = c.count ≡ n
+abbrev pub LeavesCount : ℕ → Want State → Type 0
+LeavesCount n (Local c) = c.count ≡ n
+LeavesCount n (Load a value go) = (v : ℕ) → (go v).count ≡ n
+LeavesCount n (Store a w c) = c.count ≡ n
+LeavesCount n (Narrow a f c) = c.count ≡ n
+LeavesCount n (Emit w c) = c.count ≡ n
 
 arrived_counts : (entry : Bool) (s : State) → (arrived entry s).count ≡ s.count
 unfolding arrived
@@ -102,27 +102,27 @@ unfolding sets
 sets_counts r v s = refl
 
 -- an asked turn adds one to the count
-pub asked_counts : (img : Image) (s : State) (a : Ask) (w : Want State) → want_of img s a ≡ Some w → Counts (s.count + 1) w
+pub asked_counts : (img : Image) (s : State) (a : Ask) (w : Want State) → want_of img s a ≡ Some w → LeavesCount (s.count + 1) w
 asked_counts img s ask.Nothing w h = absurd (none-some w h)
-asked_counts img s (ask.Load kind rd addr) w h = subst (Counts (s.count + 1)) (same_Some _ w h) (by (access_trap (data_words img) (load_bytes kind) addr))
+asked_counts img s (ask.Load kind rd addr) w h = subst (LeavesCount (s.count + 1)) (same_Some _ w h) (by (access_trap (data_words img) (load_bytes kind) addr))
   where
-    by : (t : Option ℕ) → Counts (s.count + 1) (wants_load img s kind rd addr t)
+    by : (t : Option ℕ) → LeavesCount (s.count + 1) (wants_load img s kind rd addr t)
     by (Some trap) = refl
     by None = λ v. arrived_counts (is_entry img (sets rd.number v s).pc) (sets rd.number v s) ∙ sets_counts rd.number v s
-asked_counts img s (ask.Store kind addr v) w h = subst (Counts (s.count + 1)) (same_Some _ w h) (by (store_trap (data_words img) img.read_only (store_bytes kind) addr))
+asked_counts img s (ask.Store kind addr v) w h = subst (LeavesCount (s.count + 1)) (same_Some _ w h) (by (store_trap (data_words img) img.read_only (store_bytes kind) addr))
   where
     on : (arrives img (goes_on s)).count ≡ s.count + 1
     on = arrived_counts (is_entry img (goes_on s).pc) (goes_on s)
 
-    write : (k : StoreKind) → Counts (s.count + 1) (wants_write img s k addr v)
+    write : (k : StoreKind) → LeavesCount (s.count + 1) (wants_write img s k addr v)
     write store.Byte = on
     write store.Half = on
     write store.Word = on
 
-    by : (t : Option ℕ) → Counts (s.count + 1) (wants_store img s kind addr v t)
+    by : (t : Option ℕ) → LeavesCount (s.count + 1) (wants_store img s kind addr v t)
     by (Some trap) = refl
     by None = write kind
-asked_counts img s (ask.Emit e) w h = subst (Counts (s.count + 1)) (same_Some _ w h) (arrived_counts (is_entry img (puts_out s).pc) (puts_out s))
+asked_counts img s (ask.Emit e) w h = subst (LeavesCount (s.count + 1)) (same_Some _ w h) (arrived_counts (is_entry img (outputs s).pc) (outputs s))
 
 -- so is the word that an ask wants
 pub asked_within : (img : Image) (s : State) (a : Ask) (w : Want State) → want_of img s a ≡ Some w → IsWithin (data_words img) w

@@ -1,5 +1,6 @@
 -- What the cause of a cut says.
-use Rattle.std.specs.Prelude.{ℕ, suc, ◌≡◌, ◌≢◌, ◌+◌, ◌-◌, ◌⊎◌, true, List, ◌∷◌, length, Option, Some, None, is_some, slice_get}
+use Rattle.std.specs.Prelude.{ℕ, suc, ◌≡◌, ◌≢◌, ◌+◌, ◌-◌, ◌⊎◌, true, List, ◌∷◌, length, Option, Some, None, is_some}
+use Rattle.std.specs.Prelude.{slice_get}
 use Rattle.svc_image.specs.Image.{Image}
 use Rattle.svc_core_laws.specs.State.{State}
 use Rattle.svc_core_laws.specs.Program.{Want, Local, Load, Store, Narrow, Emit, seq, due_after, stopped_after}
@@ -50,7 +51,8 @@ pub record IsWrongGuess (img : Image) (s : Plain) (x : Event) (cut : Cut) : Type
   pub next : Task
   pub others : List Task
   pub tasks : s.tasks ≡ head ∷ next ∷ others
-  pub wrong : (is_some (seq (program img) (suc s.commits)).stopped ≡ true) ⊎ ((seq (program img) (suc s.commits)).due ≢ Some next.entry)
+  pub wrong : (is_some (seq (program img) (suc s.commits)).stopped ≡ true)
+      ⊎ ((seq (program img) (suc s.commits)).due ≢ Some next.entry)
   pub cut_at : IsCutAt s cut 1
 
 -- the task at a place has ended, and the next one began elsewhere than at its successor, or it has none
@@ -70,7 +72,8 @@ pub record IsFoundWrong (img : Image) (s : Plain) (x : Event) (cut : Cut) : Type
   pub event : x ≡ Submit burst
   pub place : ℕ
   pub at : task_place s burst.unit.0 ≡ Some place
-  pub misleads : Misleads (run_done (program img)) run_entry (running (program img) (submit (program img) s place burst.local (is_some (asked_want img burst)))) place
+  pub misleads : Misleads (run_done (program img)) run_entry
+      (running (program img) (submit (program img) s place burst.local (is_some (asked_want img burst)))) place
   pub cut_at : IsCutAt s cut (suc place)
 
 -- a cancel: the event is a cancel, and the first task cut is its unit's

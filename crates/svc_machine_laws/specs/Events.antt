@@ -58,7 +58,8 @@ asked_want img b = want_of img b.end b.ask
 -- an accepted event of the plain machine
 abbrev pub plain_submit : Image → Plain → Option ℕ → Advance → Plain
 plain_submit img s None b = s
-plain_submit img s (Some place) b = plain.check (program img) (plain.submit (program img) s place b.local (is_some (asked_want img b))) place
+plain_submit img s (Some place) b =
+    plain.check (program img) (plain.submit (program img) s place b.local (is_some (asked_want img b))) place
 
 abbrev pub plain_cancel : Plain → Option ℕ → Plain
 plain_cancel s None = s

@@ -1,5 +1,6 @@
 -- The entry that is due, and the guess for the next task, read off the sequential run.
-use Rattle.std.specs.Prelude.{ℕ, zero, suc, ◌≡◌, ◌==◌, true, false, cond, nat_lt, List, [], ◌∷◌, map, Option, Some, None, unwrap_or, is_some, slice_get}
+use Rattle.std.specs.Prelude.{ℕ, zero, suc, ◌≡◌, ◌==◌, true, false, cond, nat_lt, List, [], ◌∷◌, map, Option, Some}
+use Rattle.std.specs.Prelude.{None, unwrap_or, is_some, slice_get}
 use Rattle.svc_image.specs.Image.{Image, is_entry}
 use Rattle.svc_core_laws.specs.Program.{Program, seq, due_after}
 use Rattle.svc_core_laws.specs.declared.end.End.{End}
@@ -42,13 +43,17 @@ last_end done (x ∷ y ∷ xs) = last_end done (y ∷ xs)
 -- the guess. With no task active it is the due entry. Otherwise, if the youngest active task has handed on, it is that
 -- entry. Otherwise it is the successor of the last committed task that began where the youngest active one did or,
 -- without one, the entry after that.
-abbrev pub guess_after : (entries : List ℕ) → (due : Option ℕ) → (ℕ → Option ℕ) → (ended : Option End) → Option ℕ → Option ℕ
+abbrev pub guess_after : (entries : List ℕ) → (due : Option ℕ) → (ℕ → Option ℕ) → (ended : Option End)
+    → Option ℕ → Option ℕ
 guess_after entries due successor ended None = due
-guess_after entries due successor ended (Some e) = Some (unwrap_or (due_after ended) (unwrap_or (successor e) (entry_after entries e)))
+guess_after entries due successor ended (Some e) =
+    Some (unwrap_or (due_after ended) (unwrap_or (successor e) (entry_after entries e)))
 
 -- the guess of a plain machine
 abbrev pub guess : {C : Type 0} → Program C → List ℕ → Plain → Option ℕ
-guess p entries s = guess_after entries (seq p s.commits).due (successor_at p s.commits) (last_end (run_done p) (running p s)) (youngest (map entry_of s.tasks))
+guess p entries s =
+    guess_after entries (seq p s.commits).due (successor_at p s.commits) (last_end (run_done p) (running p s))
+    (youngest (map entry_of s.tasks))
 
 -- once the run has stopped there is no guess; until then there is one, and it is an entry
 pub record IsGuess (img : Image) (s : Plain) : Type 0 where

@@ -16,7 +16,12 @@ pub record Guide : Type 0 where
 -- what the plain machine says of it
 abbrev pub guide_of : {C : Type 0} → Program C → List ℕ → Plain → Guide
 guide_of p entries s =
-    record { entries = entries; due = (seq p s.commits).due; successors = map (successor_at p s.commits) entries; active = map entry_of s.tasks }
+    record {
+      entries = entries;
+      due = (seq p s.commits).due;
+      successors = map (successor_at p s.commits) entries;
+      active = map entry_of s.tasks;
+    }
 
 -- the successor that the table has for an entry
 abbrev pub successor_in : List ℕ → List (Option ℕ) → ℕ → Option ℕ
@@ -30,7 +35,12 @@ guess_of ended g = guess_after g.entries g.due (successor_in g.entries g.success
 
 -- before any event
 abbrev pub guide_opened : (entries : List ℕ) → (first : ℕ) → Guide
-guide_opened entries first = record { entries = entries; due = Some first; successors = map (λ e. None) entries; active = [] }
+guide_opened entries first = record {
+  entries = entries;
+  due = Some first;
+  successors = map (λ e. None) entries;
+  active = [];
+}
 
 -- one more task, as the youngest: at the due entry if no task is active, otherwise at the guess
 abbrev pub guide_assigned : (guess : ℕ) → Guide → Guide
@@ -44,7 +54,8 @@ guide_cut n g = record g { active = take n g.active }
 abbrev pub with_successor : List ℕ → (began successor : Option ℕ) → List (Option ℕ) → List (Option ℕ)
 with_successor [] began successor successors = successors
 with_successor (x ∷ entries) began successor [] = []
-with_successor (x ∷ entries) began successor (o ∷ successors) = newer_successor began x successor o ∷ with_successor entries began successor successors
+with_successor (x ∷ entries) began successor (o ∷ successors) =
+    newer_successor began x successor o ∷ with_successor entries began successor successors
 
 -- the oldest task is committed, with this end
 abbrev pub guide_committed : End → Guide → Guide

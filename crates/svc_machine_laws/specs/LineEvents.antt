@@ -40,7 +40,8 @@ line_check true t place = squash t (suc place)
 -- a submit: the asked turn, and then the check of the guess
 abbrev pub line_submit : {C : Type 0} → Program C → Machine C → C → Option (Want C) → LineTable → Option ℕ → LineTable
 line_submit p m end w t None = t
-line_submit p m end w t (Some place) = line_check (is_misled p (submit m place end w).seats place) (line_ask w t place) place
+line_submit p m end w t (Some place) =
+    line_check (is_misled p (submit m place end w).seats place) (line_ask w t place) place
 
 abbrev pub line_cancel : LineTable → Option ℕ → LineTable
 line_cancel t None = t

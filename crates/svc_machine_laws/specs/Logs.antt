@@ -21,17 +21,17 @@ abbrev pub logs_of : {C : Type 0} → Program C → Plain → List TaskLog
 logs_of p s = map log_of (running p s)
 
 -- what an answer says of memory or output; a store for which a word was read is one of less than a word
-abbrev pub told : What → Option Action
-told (what.Assigned task entry epoch) = None
-told what.Ran = None
-told (what.Loaded addr value served) = Some (Loaded addr.0 value)
-told (what.Stored addr word None) = Some (Stored addr.0 word)
-told (what.Stored addr word (Some served)) = Some (Replaced addr.0 word)
-told (what.Emitted word) = Some (Emitted word)
-told (what.Trapped number) = None
-told (what.Replaced addr) = None
-told what.Cancelled = None
-told (what.Committed task ended) = None
+abbrev pub action_of : What → Option Action
+action_of (what.Assigned task entry epoch) = None
+action_of what.Ran = None
+action_of (what.Loaded addr value served) = Some (Loaded addr.0 value)
+action_of (what.Stored addr word None) = Some (Stored addr.0 word)
+action_of (what.Stored addr word (Some served)) = Some (Replaced addr.0 word)
+action_of (what.Emitted word) = Some (Emitted word)
+action_of (what.Trapped number) = None
+action_of (what.Replaced addr) = None
+action_of what.Cancelled = None
+action_of (what.Committed task ended) = None
 
 -- one more action, if there is one
 abbrev pub plus : Option Action → List Action → List Action
@@ -46,7 +46,7 @@ pub record AddsItsAnswer {C : Type 0} (p : Program C) (before after : Plain) (un
   pub place : ℕ
   pub at : task_place before unit ≡ Some place
   pub cut : Option ℕ
-  pub logs : logs_of p after ≡ edit place (adds (told done)) cut (logs_of p before)
+  pub logs : logs_of p after ≡ edit place (adds (action_of done)) cut (logs_of p before)
 
 -- a cancel leaves the logs of the tasks before its unit's
 pub record LeavesEarlier {C : Type 0} (p : Program C) (before after : Plain) (unit : ℕ) : Type 0 where
@@ -64,7 +64,8 @@ pub record CommitsAnswers {C : Type 0} (p : Program C) (before after : Plain) : 
 
 -- what each kind of event adds to the logs
 abbrev pub LogsFollow : {C : Type 0} → Program C → Plain → Plain → Event → What → Type 0
-LogsFollow p before after (Assign unit guess) done = logs_of p after ≡ logs_of p before ++ record { unit = unit; log = [] } ∷ []
+LogsFollow p before after (Assign unit guess) done =
+    logs_of p after ≡ logs_of p before ++ record { unit = unit; log = [] } ∷ []
 LogsFollow p before after (Submit b) done = AddsItsAnswer p before after b.unit.0 done
 LogsFollow p before after (Replace unit address) done = logs_of p after ≡ logs_of p before
 LogsFollow p before after (Cancel unit) done = LeavesEarlier p before after unit

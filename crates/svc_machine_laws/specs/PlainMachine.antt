@@ -1,8 +1,10 @@
 -- The plain machine: counts of turns, from which all else follows by running the program again.
-use Rattle.std.specs.Prelude.{ℕ, zero, suc, ◌≡◌, ◌==◌, ◌+◌, Bool, true, false, cond, not, List, [], ◌∷◌, ◌++◌, map, take, Option, Some, None, unwrap_or, slice_get}
+use Rattle.std.specs.Prelude.{ℕ, zero, suc, ◌≡◌, ◌==◌, ◌+◌, Bool, true, false, cond, not, List, [], ◌∷◌, ◌++◌, map}
+use Rattle.std.specs.Prelude.{take, Option, Some, None, unwrap_or, slice_get}
 use Rattle.svc_core_laws.specs.declared.end.End.{End}
 use Rattle.svc_core_laws.specs.declared.end.End.TheVariants as end
-use Rattle.svc_core_laws.specs.Program.{Memory, Want, Local, Load, Store, Narrow, Emit, Program, Run, wrote, exposed, over, part, seq}
+use Rattle.svc_core_laws.specs.Program.{Memory, Want, Local, Load, Store, Narrow, Emit, Program, Run, wrote, exposed}
+use Rattle.svc_core_laws.specs.Program.{over, part, seq}
 use Rattle.svc_bus_laws.specs.Versioned.{Row}
 use Rattle.svc_bus_laws.specs.ByRows.{victim_after, edit}
 
@@ -73,18 +75,18 @@ cut_by (Narrow a f c) rows place = victim_after rows place a
 cut_by (Emit w c) rows place = None
 
 -- one more turn of the task at a place, if there is one; its victim and all after it go
-abbrev pub asked_by : {C : Type 0} → Program C → List (Running C) → List Task → ℕ → Option (Running C) → List Task
-asked_by p runs ts place None = ts
-asked_by p runs ts place (Some x) = edit place one_more (cut_by (p.want x.run.core) (map row_of runs) place) ts
+abbrev pub take_turn_by : {C : Type 0} → Program C → List (Running C) → List Task → ℕ → Option (Running C) → List Task
+take_turn_by p runs ts place None = ts
+take_turn_by p runs ts place (Some x) = edit place one_more (cut_by (p.want x.run.core) (map row_of runs) place) ts
 
 -- one more turn of the task at a place; its victim and all after it go
-abbrev pub asked : {C : Type 0} → Program C → Memory → List Task → ℕ → List Task
-asked p m ts place = asked_by p (runs_of p m ts) ts place (slice_get (runs_of p m ts) place)
+abbrev pub take_turn : {C : Type 0} → Program C → Memory → List Task → ℕ → List Task
+take_turn p m ts place = take_turn_by p (runs_of p m ts) ts place (slice_get (runs_of p m ts) place)
 
 -- this many local turns, and one more if there is an ask
 abbrev pub submitted : {C : Type 0} → Program C → Memory → List Task → ℕ → ℕ → Bool → List Task
 submitted p m ts place local false = edit place (more local) None ts
-submitted p m ts place local true = asked p m (edit place (more local) None ts) place
+submitted p m ts place local true = take_turn p m (edit place (more local) None ts) place
 
 -- whether the next task stays when a head with this end is committed: it does if it began where the head handed on
 abbrev pub stays : Option End → List ℕ → Bool
@@ -149,7 +151,12 @@ assign p s unit guess =
     record s {
       accepted = suc s.accepted;
       epoch = suc s.epoch;
-      tasks = s.tasks ++ record { unit = unit; epoch = s.epoch; entry = entry_for (seq p s.commits).due (map entry_of s.tasks) guess; turns = 0 } ∷ [];
+      tasks = s.tasks ++ record {
+        unit = unit;
+        epoch = s.epoch;
+        entry = entry_for (seq p s.commits).due (map entry_of s.tasks) guess;
+        turns = 0;
+      } ∷ [];
     }
 
 -- turns of the task at a place: this many local ones, and one more if there is an ask

@@ -47,5 +47,6 @@ pub record IsReached (img : Image) (config : Config) (s : Standing) : Type 0 whe
   pub commits_few : s.plain.commits ≤ s.plain.accepted
   pub accepted_few : s.plain.accepted ≤ config.events
   -- there are no more output words than accepted events
-  pub outputs_few : length (seq (program img) s.plain.commits).output + words_waiting (running (program img) s.plain) ≤ s.plain.accepted
+  pub outputs_few : length (seq (program img) s.plain.commits).output + words_waiting (running (program img) s.plain)
+      ≤ s.plain.accepted
   pub lines : AreItsLines img config s.plain s.lines

@@ -1,6 +1,7 @@
 -- When an event is refused. Each kind of event has its cases, in the order of their numbers; the first that holds is
 -- the refusal.
-use Rattle.std.specs.Prelude.{ℕ, ◌-◌, ◌^◌, ◌==◌, Bool, false, cond, not, ◌&&◌, nat_le, List, [], ◌∷◌, Option, Some, None, unwrap_or, option_map, is_some, is_none, slice_get}
+use Rattle.std.specs.Prelude.{ℕ, ◌-◌, ◌^◌, ◌==◌, Bool, false, cond, not, ◌&&◌, nat_le, List, [], ◌∷◌, Option, Some}
+use Rattle.std.specs.Prelude.{None, unwrap_or, option_map, is_some, is_none, slice_get}
 use Rattle.svc_base.specs.declared.config.Config.{Config}
 use Rattle.svc_base.specs.declared.refusal.Refusal.{Refusal}
 use Rattle.svc_base.specs.declared.refusal.Refusal.TheVariants as refusal
@@ -41,7 +42,8 @@ word_unless None addr = Some (word_address addr)
 abbrev pub asked_word : Image → Ask → Option ℕ
 asked_word img ask.Nothing = None
 asked_word img (ask.Load kind rd addr) = word_unless (access_trap (data_words img) (load_bytes kind) addr) addr
-asked_word img (ask.Store kind addr v) = word_unless (store_trap (data_words img) img.read_only (store_bytes kind) addr) addr
+asked_word img (ask.Store kind addr v) =
+    word_unless (store_trap (data_words img) img.read_only (store_bytes kind) addr) addr
 asked_word img (ask.Emit w) = None
 
 -- the word to replace before the unit has room for the asked word, if it has none

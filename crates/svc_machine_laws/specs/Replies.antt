@@ -1,5 +1,6 @@
 -- What the machine answers to an accepted event.
-use Rattle.std.specs.Prelude.{ℕ, suc, ◌+◌, ◌-◌, Bool, true, false, cond, List, [], ◌∷◌, length, map, Option, Some, None, unwrap_or, option_map, is_some, slice_get}
+use Rattle.std.specs.Prelude.{ℕ, suc, ◌+◌, ◌-◌, Bool, true, false, cond, List, [], ◌∷◌, length, map, Option, Some, None}
+use Rattle.std.specs.Prelude.{unwrap_or, option_map, is_some, slice_get}
 use Rattle.svc_base.specs.declared.served.Served.{Served}
 use Rattle.svc_base.specs.declared.served.Served.TheVariants as served
 use Rattle.svc_image.specs.Image.{Image}
@@ -23,7 +24,8 @@ use Rattle.svc_machine_laws.specs.PlainMachine.{Task, Plain, running, row_of, me
 use Rattle.svc_machine_laws.specs.PlainMachine as plain
 use Rattle.svc_machine_laws.specs.WholeMachine.{Machine, Seat, seat_entry, seen}
 use Rattle.svc_machine_laws.specs.WholeMachine as whole
-use Rattle.svc_machine_laws.specs.Events.{Event, Assign, Submit, Replace, Cancel, Commit, seat_place, task_place, asked_want}
+use Rattle.svc_machine_laws.specs.Events.{Event, Assign, Submit, Replace, Cancel, Commit, seat_place, task_place}
+use Rattle.svc_machine_laws.specs.Events.{asked_want}
 
 -- who serves a read
 abbrev pub served_by : Supplier → Served
@@ -58,8 +60,10 @@ cut_from why k count place = record { cause = why; first = record { 0 = k + plac
 abbrev pub turn_cut : {C : Type 0} → Want C → List Row → (k count place : ℕ) → Option Cut
 turn_cut (Local c) rows k count place = None
 turn_cut (Load a value go) rows k count place = None
-turn_cut (Store a w c) rows k count place = option_map (λ n. cut_from (cause.Violation (record { 0 = a })) k count (suc place + n)) (victim_after rows place a)
-turn_cut (Narrow a f c) rows k count place = option_map (λ n. cut_from (cause.Violation (record { 0 = a })) k count (suc place + n)) (victim_after rows place a)
+turn_cut (Store a w c) rows k count place =
+    option_map (λ n. cut_from (cause.Violation (record { 0 = a })) k count (suc place + n)) (victim_after rows place a)
+turn_cut (Narrow a f c) rows k count place =
+    option_map (λ n. cut_from (cause.Violation (record { 0 = a })) k count (suc place + n)) (victim_after rows place a)
 turn_cut (Emit w c) rows k count place = None
 
 -- what a commit cuts if the next task doesn't stay: all tasks after the head, if there are any
@@ -75,7 +79,10 @@ abbrev pub cancelled : (k count place : ℕ) → Reply
 cancelled k count place = record { what = what.Cancelled; cut = Some (cut_from cause.Cancelled k count place) }
 
 abbrev pub committed : {A : Type 0} → ℕ → Option End → Bool → List A → Reply
-committed k ended keep rest = record { what = what.Committed (record { 0 = k }) (unwrap_or ended (end.Next 0)); cut = cond keep None (wrong_guess k rest) }
+committed k ended keep rest = record {
+  what = what.Committed (record { 0 = k }) (unwrap_or ended (end.Next 0));
+  cut = cond keep None (wrong_guess k rest);
+}
 
 -- who serves a read of the task at a place
 abbrev pub serves_at : LineTable → (place a : ℕ) → Served
@@ -85,7 +92,10 @@ serves_at t place a = served_by (supplier t place a)
 abbrev pub whole_asked : {C : Type 0} → Program C → Machine C → LineTable → ℕ → Option (Want C) → Reply
 whole_asked p m t place None = ran
 whole_asked p m t place (Some w) =
-    record { what = turn_done p w (seen m.versioned place) (serves_at t place); cut = turn_cut w m.versioned.rows m.versioned.commits (length m.seats) place }
+    record {
+      what = turn_done p w (seen m.versioned place) (serves_at t place);
+      cut = turn_cut w m.versioned.rows m.versioned.commits (length m.seats) place;
+    }
 
 -- the one cut of a submit: a wrong guess if the check finds one among the tasks that the turn has left, otherwise the
 -- turn's own
@@ -95,7 +105,9 @@ checked true k count place r = record r { cut = Some (cut_from cause.WrongGuess 
 
 abbrev pub whole_submitted : {C : Type 0} → Program C → Machine C → LineTable → Option ℕ → C → Option (Want C) → Reply
 whole_submitted p m t None end w = ran
-whole_submitted p m t (Some place) end w = checked (whole.is_misled p (whole.submit m place end w).seats place) m.versioned.commits (length m.seats) place (whole_asked p m t place w)
+whole_submitted p m t (Some place) end w =
+    checked (whole.is_misled p (whole.submit m place end w).seats place) m.versioned.commits (length m.seats) place
+    (whole_asked p m t place w)
 
 abbrev pub whole_cancelled : {C : Type 0} → Machine C → Option ℕ → Reply
 whole_cancelled m None = ran
@@ -108,7 +120,12 @@ whole_committed p k (s ∷ seats) = committed k (p.done s.core) (stays (p.done s
 -- the whole machine's reply to an accepted event
 unfoldable pub whole_reply : Image → Machine State → LineTable → Event → Reply
 whole_reply img m t (Assign unit guess) =
-    record { what = what.Assigned (record { 0 = m.versioned.commits + length m.seats }) (entry_for m.due (map seat_entry m.seats) guess) m.epoch; cut = None }
+    record {
+      what =
+          what.Assigned (record { 0 = m.versioned.commits + length m.seats })
+          (entry_for m.due (map seat_entry m.seats) guess) m.epoch;
+      cut = None;
+    }
 whole_reply img m t (Submit b) = whole_submitted (program img) m t (seat_place m b.unit.0) b.end (asked_want img b)
 whole_reply img m t (Replace unit address) = record { what = what.Replaced (record { 0 = address }); cut = None }
 whole_reply img m t (Cancel unit) = whole_cancelled m (seat_place m unit)
@@ -131,7 +148,9 @@ plain_asked p s t place local true = plain_asked_of p s t place local (slice_get
 
 abbrev pub plain_submitted : {C : Type 0} → Program C → Plain → LineTable → Option ℕ → ℕ → Bool → Reply
 plain_submitted p s t None local ask = ran
-plain_submitted p s t (Some place) local ask = checked (plain.is_misled p (plain.submit p s place local ask) place) s.commits (length s.tasks) place (plain_asked p s t place local ask)
+plain_submitted p s t (Some place) local ask =
+    checked (plain.is_misled p (plain.submit p s place local ask) place) s.commits (length s.tasks) place
+    (plain_asked p s t place local ask)
 
 abbrev pub plain_cancelled : Plain → Option ℕ → Reply
 plain_cancelled s None = ran
@@ -146,8 +165,14 @@ plain_committed p k (t ∷ ts) =
 -- the plain machine's reply to an accepted event
 unfoldable pub plain_reply : Image → Plain → LineTable → Event → Reply
 plain_reply img s t (Assign unit guess) =
-    record { what = what.Assigned (record { 0 = s.commits + length s.tasks }) (entry_for (seq (program img) s.commits).due (map entry_of s.tasks) guess) s.epoch; cut = None }
-plain_reply img s t (Submit b) = plain_submitted (program img) s t (task_place s b.unit.0) b.local (is_some (asked_want img b))
+    record {
+      what =
+          what.Assigned (record { 0 = s.commits + length s.tasks })
+          (entry_for (seq (program img) s.commits).due (map entry_of s.tasks) guess) s.epoch;
+      cut = None;
+    }
+plain_reply img s t (Submit b) =
+    plain_submitted (program img) s t (task_place s b.unit.0) b.local (is_some (asked_want img b))
 plain_reply img s t (Replace unit address) = record { what = what.Replaced (record { 0 = address }); cut = None }
 plain_reply img s t (Cancel unit) = plain_cancelled s (task_place s unit)
 plain_reply img s t (Commit by) = plain_committed (program img) s.commits s.tasks

@@ -54,7 +54,10 @@ refused img config s x = whole_refuse img config (whole_of img s) x
 
 -- an accepted event
 unfoldable pub stepped : Image → Standing → Event → Standing
-stepped img s x = record { plain = plain_event img s.plain x; lines = line_event img (machine_of (program img) s.plain) s.lines x }
+stepped img s x = record {
+  plain = plain_event img s.plain x;
+  lines = line_event img (machine_of (program img) s.plain) s.lines x;
+}
 
 unfoldable pub whole_stepped : Image → Whole → Event → Whole
 whole_stepped img w x = record { machine = whole_event img w.machine x; lines = line_event img w.machine w.lines x }
@@ -89,4 +92,6 @@ is_commit (Commit by) = 1
 -- how many of these events are accepted commits
 unfoldable pub accepted_commits : Image → Config → Whole → List Event → ℕ
 accepted_commits img config w [] = 0
-accepted_commits img config w (x ∷ xs) = unless (whole_refuse img config w x) 0 (is_commit x) + accepted_commits img config (whole_after_event img config w x) xs
+accepted_commits img config w (x ∷ xs) =
+    unless (whole_refuse img config w x) 0 (is_commit x)
+    + accepted_commits img config (whole_after_event img config w x) xs

@@ -1,7 +1,8 @@
 -- The whole machine: a versioned map, and a seat for each active task. Its steps run nothing again.
 use Rattle.std.specs.Prelude.{ℕ, suc, Bool, true, false, cond, List, [], ◌∷◌, ◌++◌, map, take, Option, Some, None}
 use Rattle.svc_core_laws.specs.declared.end.End.{End}
-use Rattle.svc_core_laws.specs.Program.{Memory, Want, Local, Load, Store, Narrow, Emit, Program, output, seq, due_after, stopped_after}
+use Rattle.svc_core_laws.specs.Program.{Memory, Want, Local, Load, Store, Narrow, Emit, Program, output, seq, due_after}
+use Rattle.svc_core_laws.specs.Program.{stopped_after}
 use Rattle.svc_bus_laws.specs.Versioned.{Versioned, with_head, begin, squash}
 use Rattle.svc_bus_laws.specs.ByRows.{view_of, edit, read, write}
 use Rattle.svc_bus_laws.specs.ByRows as rows
@@ -35,7 +36,13 @@ seat_entry s = s.entry
 
 -- the seat of a task with this run
 abbrev pub seat_of : {C : Type 0} → Running C → Seat C
-seat_of x = record { unit = x.task.unit; epoch = x.task.epoch; entry = x.task.entry; core = x.run.core; waiting = output x.run.log }
+seat_of x = record {
+  unit = x.task.unit;
+  epoch = x.task.epoch;
+  entry = x.task.entry;
+  core = x.run.core;
+  waiting = output x.run.log;
+}
 
 -- what the plain machine says of the whole machine: the committed tasks are those of the sequential run, and each
 -- active task's core, waiting output, versions and exposed words are those of its run, taken again (the head's exposed
@@ -87,7 +94,8 @@ assign p m unit guess =
     let entry = entry_for m.due (map seat_entry m.seats) guess in
     record m {
       versioned = begin m.versioned;
-      seats = m.seats ++ record { unit = unit; epoch = m.epoch; entry = entry; core = p.start entry; waiting = [] } ∷ [];
+      seats = m.seats
+          ++ record { unit = unit; epoch = m.epoch; entry = entry; core = p.start entry; waiting = [] } ∷ [];
       accepted = suc m.accepted;
       epoch = suc m.epoch;
     }

@@ -33,8 +33,8 @@ pub fn accepted_event()
         ≡ reply_to img s x }
 {}
 
-/// The word that an asked turn wants, for which a unit's cache must have room, is the asked word of the table of
-/// refusals; and it is one of the data.
+/// The word that an asked turn wants, for which a unit's cache must have room, is the one that the table of refusals
+/// tests, and lies in the data.
 pub fn asked_word_is_wanted()
     ensures word { (img : Image) → (s : State) → (ask : Ask) → (w : Want State) → want_of img s ask ≡ Some w
         → word_of w ≡ asked_word img ask }

@@ -9,13 +9,14 @@ ghost use Rattle.svc_machine_laws.specs.PlainMachine as plain;
 ghost use Rattle.svc_machine_laws.specs.PlainMachine.{Plain, Running, IsDue, running, run_done, plain_opening};
 ghost use Rattle.svc_machine_laws.specs.MachineLaws.{HasEnded};
 ghost use Rattle.svc_machine_laws.specs.Guess.{guess, last_end, IsGuess};
-ghost use Rattle.svc_machine_laws.specs.Guide.{guide_of, guess_of, guide_opened, guide_assigned, guide_cut, guide_committed, guide_settled};
+ghost use Rattle.svc_machine_laws.specs.Guide.{guide_of, guess_of, guide_opened, guide_assigned, guide_cut};
+ghost use Rattle.svc_machine_laws.specs.Guide.{guide_committed, guide_settled};
 ghost use Rattle.svc_machine_laws.specs.Standing.{Standing};
 ghost use Rattle.svc_machine_laws.specs.Reached.{IsReached};
 
-/// What a sequencer keeps of the run follows the plain machine: it opens with it; a new task joins; tasks are cut, also
-/// after a task that ended with the next one guessed wrongly. At a commit the next tasks are cut if it says so, the
-/// successor is remembered, and the oldest task leaves.
+/// What a sequencer keeps of the run follows the plain machine: at the opening, at an assignment, and where tasks are
+/// cut, also after a wrong guess. At a commit it cuts the next tasks if the plain machine does, remembers the
+/// successor, and drops the oldest task.
 pub fn guide_steps<C>()
     ensures opening { (p : Program C) → (entries : List ℕ) → (first : ℕ)
         → guide_of p entries (plain_opening first) ≡ guide_opened entries p.first }

@@ -10,7 +10,8 @@ ghost use Rattle.svc_bus_laws.specs.Supplier.{supplier, supplied};
 ghost use Rattle.svc_machine_laws.specs.PlainMachine.{Task, memory_at};
 ghost use Rattle.svc_machine_laws.specs.MachineLaws.{run_at};
 ghost use Rattle.svc_machine_laws.specs.Events.{Event, IsEvent};
-ghost use Rattle.svc_machine_laws.specs.Standing.{Standing, whole_of, opened_at, whole_opened, after_events, whole_after_events, accepted_commits};
+ghost use Rattle.svc_machine_laws.specs.Standing.{Standing, whole_of, opened_at, whole_opened, after_events};
+ghost use Rattle.svc_machine_laws.specs.Standing.{whole_after_events, accepted_commits};
 ghost use Rattle.svc_machine_laws.specs.Reached.{IsReached};
 ghost use Rattle.svc_machine_laws.specs.Headline.{IsSequential};
 

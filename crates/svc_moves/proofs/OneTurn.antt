@@ -8,7 +8,7 @@ use Rattle.svc_core_laws.specs.declared.ask.Ask.{Ask}
 use Rattle.svc_core_laws.specs.declared.ask.Ask.TheVariants as ask
 use Rattle.svc_core_laws.specs.declared.end.End.{End}
 use Rattle.svc_core_laws.specs.Bursts.{Advance, AreOf, Follows, HasStopped, IsAdvance, IsAsked, IsLook, after, ask_turns, before, is_nothing, shown}
-use Rattle.svc_core_laws.specs.Local.{Outcome}
+use Rattle.svc_core_laws.specs.Local.{TurnOutcome}
 use Rattle.svc_core_laws.specs.Local as out
 use Rattle.svc_core_laws.specs.State.{State}
 use Rattle.svc_core_laws.specs.Turns.{arrives, next}

@@ -6,7 +6,7 @@ use Rattle.svc_image.specs.Image.{Image, fetched}
 use Rattle.svc_core_laws.specs.declared.ask.Ask.TheVariants as ask
 use Rattle.svc_core_laws.specs.declared.end.End.{End}
 use Rattle.svc_core_laws.specs.Bursts.{Advance}
-use Rattle.svc_core_laws.specs.Local.{Outcome}
+use Rattle.svc_core_laws.specs.Local.{TurnOutcome}
 use Rattle.svc_core_laws.specs.Local as out
 use Rattle.svc_core_laws.specs.State.{State}
 use Rattle.svc_core_laws.specs.Turns.{arrives, next}
@@ -25,7 +25,7 @@ before_turn img unit epoch c =
 
 -- the burst of a running task whose next turn comes to this: a local turn is done, and what follows it is looked at; any
 -- other is asked for
-abbrev pub turn_to : Image → UnitId → (epoch : ℕ) → State → Outcome → Advance
+abbrev pub turn_to : Image → UnitId → (epoch : ℕ) → State → TurnOutcome → Advance
 turn_to img unit epoch c (out.Local d) =
     record (before_turn img unit epoch c) { looks = fetched img c.pc ∷ look_at img d d.done; local = 1; end = arrives img d }
 turn_to img unit epoch c (out.Load kind rd addr) = record (before_turn img unit epoch c) { ask = ask.Load kind rd addr }

@@ -7,7 +7,7 @@ use Rattle.svc_core_laws.specs.Program.{Memory, Program, Run, Want, Local, Load,
 use Rattle.svc_core_laws.specs.Words.{program}
 use Rattle.svc_bus_laws.specs.Versioned.{with_head}
 use Rattle.svc_bus_laws.specs.ByRows.{edit}
-use Rattle.svc_machine_laws.specs.PlainMachine.{Task, Plain, Running, unit_of, entry_of, runs_of, running, row_of, memory_at, more, one_more, cut_by, asked_by, asked, submitted, stays, settled, cuts_after, run_done, run_entry, entry_for, accept}
+use Rattle.svc_machine_laws.specs.PlainMachine.{Task, Plain, Running, unit_of, entry_of, runs_of, running, row_of, memory_at, more, one_more, cut_by, take_turn_by, take_turn, submitted, stays, settled, cuts_after, run_done, run_entry, entry_for, accept}
 use Rattle.svc_machine_laws.specs.PlainMachine as plain
 use Rattle.svc_machine_laws.specs.WholeMachine.{Seat, Machine, machine_of, seat_of, seat_unit, seat_entry, seat_turn, at_core, seen}
 use Rattle.svc_machine_laws.specs.WholeMachine as whole
@@ -83,13 +83,13 @@ module _ (r : Renaming) where
   more_renamed : (local place : ℕ) (ts : List Task) → edit place (more local) None (map (renamed_task r) ts) ≡ map (renamed_task r) (edit place (more local) None ts)
   more_renamed local place ts = sym (map_edit (renamed_task r) (more local) (more local) place None ts (λ x h. refl))
 
-  asked_renamed : {C : Type 0} (p : Program C) (m : Memory) (ts : List Task) (place : ℕ) → asked p m (map (renamed_task r) ts) place ≡ map (renamed_task r) (asked p m ts place)
+  asked_renamed : {C : Type 0} (p : Program C) (m : Memory) (ts : List Task) (place : ℕ) → take_turn p m (map (renamed_task r) ts) place ≡ map (renamed_task r) (take_turn p m ts place)
   asked_renamed {C} p m ts place =
-      ap (λ xs. asked_by p xs (map (renamed_task r) ts) place (slice_get xs place)) (runs_renamed p m ts)
-      ∙ ap (asked_by p (map (renamed_run r) (runs_of p m ts)) (map (renamed_task r) ts) place) (slice_get-map (renamed_run r) (runs_of p m ts) place)
+      ap (λ xs. take_turn_by p xs (map (renamed_task r) ts) place (slice_get xs place)) (runs_renamed p m ts)
+      ∙ ap (take_turn_by p (map (renamed_run r) (runs_of p m ts)) (map (renamed_task r) ts) place) (slice_get-map (renamed_run r) (runs_of p m ts) place)
       ∙ of (slice_get (runs_of p m ts) place)
     where
-      of : (o : Option (Running C)) → asked_by p (map (renamed_run r) (runs_of p m ts)) (map (renamed_task r) ts) place (option_map (renamed_run r) o) ≡ map (renamed_task r) (asked_by p (runs_of p m ts) ts place o)
+      of : (o : Option (Running C)) → take_turn_by p (map (renamed_run r) (runs_of p m ts)) (map (renamed_task r) ts) place (option_map (renamed_run r) o) ≡ map (renamed_task r) (take_turn_by p (runs_of p m ts) ts place o)
       of None = refl
       of (Some x) =
           ap (λ rows. edit place one_more (cut_by (p.want x.run.core) rows place) (map (renamed_task r) ts)) (rows_renamed (runs_of p m ts))
@@ -98,7 +98,7 @@ module _ (r : Renaming) where
   submitted_renamed : {C : Type 0} (p : Program C) (m : Memory) (ts : List Task) (place local : ℕ) (ask : Bool) → submitted p m (map (renamed_task r) ts) place local ask ≡ map (renamed_task r) (submitted p m ts place local ask)
   submitted_renamed p m ts place local false = more_renamed local place ts
   submitted_renamed p m ts place local true =
-      ap (λ us. asked p m us place) (more_renamed local place ts) ∙ asked_renamed p m (edit place (more local) None ts) place
+      ap (λ us. take_turn p m us place) (more_renamed local place ts) ∙ asked_renamed p m (edit place (more local) None ts) place
 
   pub submit_renamed : {C : Type 0} (p : Program C) (s : Plain) (place local : ℕ) (ask : Bool) → plain.submit p (renamed_plain r s) place local ask ≡ renamed_plain r (plain.submit p s place local ask)
   submit_renamed p s place local ask = ap (accept s) (submitted_renamed p (seq p s.commits).memory s.tasks place local ask)

@@ -12,7 +12,7 @@ use Rattle.svc_machine_laws.specs.Guide.{successor_in, with_successor}
 not_below : (e x : ℕ) → x ≤ e → nat_lt e x ≡ false
 not_below e x h = lt-leb (suc e) x (omega (arith, h))
 
--- the first entry above, where those before a place are not above and those from there on are
+-- the first entry above, where those before an index are not above and those from there on are
 pub first_at : (xs : List ℕ) (e i : ℕ) → ((k : ℕ) → k < i → k < length xs → get_or xs k 0 ≤ e) → ((k : ℕ) → i ≤ k → k < length xs → e < get_or xs k 0) → first_above xs e ≡ slice_get xs i
 first_at [] e i low high = refl
 first_at (x ∷ xs) e zero low high = let h : e < x = high 0 (omega arith) (omega arith) in ap (λ b. cond b (Some x) (first_above xs e)) (lt-ltb e x h)
@@ -21,7 +21,7 @@ first_at (x ∷ xs) e (suc i) low high =
     ap (λ b. cond b (Some x) (first_above xs e)) (not_below e x h)
     ∙ first_at xs e i (λ k a b. low (suc k) (omega (arith, a)) (omega (arith, b))) (λ k a b. high (suc k) (omega (arith, a)) (omega (arith, b)))
 
--- the successor of an entry that stands at one place alone
+-- the successor of an entry that stands at one index alone
 pub successor_at_place : (xs : List ℕ) (os : List (Option ℕ)) (e i : ℕ) → length os ≡ length xs → i < length xs → get_or xs i 0 ≡ e → ((k : ℕ) → k < i → get_or xs k 0 ≢ e) → successor_in xs os e ≡ get_or os i None
 successor_at_place [] os e i n h at before = absurd (omega (arith, h))
 successor_at_place (x ∷ xs) [] e i n h at before = absurd (omega (arith, n))
@@ -45,7 +45,7 @@ nothing_set (x ∷ xs) (o ∷ os) e n len none =
     ap (λ b. cond b (Some n) o ∷ with_successor xs (Some e) (Some n) os) (ne_eqb e x (λ same. none 0 (omega arith) (sym same)))
     ∙ ap (λ l. o ∷ l) (nothing_set xs os e n (omega (arith, len)) (λ k a. none (suc k) (omega (arith, a))))
 
--- the one that stands at one place alone is remembered there
+-- the one that stands at one index alone is remembered there
 pub successor_set : (xs : List ℕ) (os : List (Option ℕ)) (e n i : ℕ) → length os ≡ length xs → i < length xs → get_or xs i 0 ≡ e → ((k : ℕ) → k < length xs → k ≢ i → get_or xs k 0 ≢ e)
     → with_successor xs (Some e) (Some n) os ≡ set os i (Some n)
 successor_set [] os e n i len h at other = absurd (omega (arith, h))
@@ -70,7 +70,7 @@ rising_below xs rise (suc j) i h within =
     cases : (i j : ℕ) → i < suc j → (i < j) ⊎ (i ≡ j)
     cases i j h = grind arith
 
--- one that stands at a place stands at no other
+-- one that stands at an index stands at no other
 pub alone : (xs : List ℕ) → IsStrictlyIncreasing xs → (i e : ℕ) → i < length xs → get_or xs i 0 ≡ e → (k : ℕ) → k < length xs → k ≢ i → get_or xs k 0 ≢ e
 alone xs rise i e inside at k within apart same = elim (cases k i apart) [
   | inl lt ↦ let h = rising_below xs rise i k lt inside in absurd (omega (arith, h, at, same))

@@ -3,20 +3,20 @@ use Rattle.std.specs.Prelude.{◌≡◌, ◌<◌, ◌≤◌, ℕ, List, [], ◌�
 use Rattle.std.specs.List.Sorted.{IsStrictlyIncreasing}
 use Rattle.svc_machine_laws.specs.Guide.{Guide}
 
--- among rising entries, this one stands at the place, or would
-pub record IsPlace (entries : List ℕ) (e place : ℕ) : Type 0 where
-  pub before : (k : ℕ) → k < place → slice_index entries k < e
-  pub after : (k : ℕ) → place ≤ k → k < length entries → e ≤ slice_index entries k
+-- among rising entries, this one stands at the index, or would
+pub record IsIndex (entries : List ℕ) (e index : ℕ) : Type 0 where
+  pub before : (k : ℕ) → k < index → slice_index entries k < e
+  pub after : (k : ℕ) → index ≤ k → k < length entries → e ≤ slice_index entries k
 
--- as many places as active tasks, each that of the task's entry
-abbrev pub ArePlaces : List ℕ → (active places : List ℕ) → Type 0
-ArePlaces entries [] [] = Unit {0}
-ArePlaces entries [] (place ∷ places) = ⊥
-ArePlaces entries (e ∷ active) [] = ⊥
-ArePlaces entries (e ∷ active) (place ∷ places) = IsPlace entries e place × ArePlaces entries active places
+-- as many indices as active tasks, each that of the task's entry
+abbrev pub AreIndices : List ℕ → (active indices : List ℕ) → Type 0
+AreIndices entries [] [] = Unit {0}
+AreIndices entries [] (index ∷ indices) = ⊥
+AreIndices entries (e ∷ active) [] = ⊥
+AreIndices entries (e ∷ active) (index ∷ indices) = IsIndex entries e index × AreIndices entries active indices
 
--- the entries rise, and each has a place for its successor; the places of the active tasks' entries stand beside them
-pub record AreTables (g : Guide) (places : List ℕ) : Type 0 where
+-- the entries rise, and each has an index for its successor; the indices of the active tasks' entries stand beside them
+pub record AreTables (g : Guide) (indices : List ℕ) : Type 0 where
   pub rising : IsStrictlyIncreasing g.entries
   pub as_many : length g.successors ≡ length g.entries
-  pub placed : ArePlaces g.entries g.active places
+  pub placed : AreIndices g.entries g.active indices

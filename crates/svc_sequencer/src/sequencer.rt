@@ -1,25 +1,28 @@
 // The sequencer.
 
-ghost use Rattle.std.specs.Prelude.{◌≡◌, ◌<◌, suc, Some, Decides, IfOk, IfErr, length, slice_index, drop, slice_get, unwrap_or};
+ghost use Rattle.std.specs.Prelude.{◌≡◌, ◌<◌, suc, Some, Decides, IfOk, IfErr, length, slice_index, drop, slice_get};
+ghost use Rattle.std.specs.Prelude.{unwrap_or};
 ghost use Rattle.std.specs.List.Sorted.{IsStrictlyIncreasing};
 ghost use Rattle.svc_core_laws.specs.Program.{due_after};
 ghost use Rattle.svc_machine_laws.specs.PlainMachine.{cuts_next, entry_for};
 ghost use Rattle.svc_machine_laws.specs.Guess.{entry_after};
-ghost use Rattle.svc_machine_laws.specs.Guide.{guess_of, guide_opened, guide_assigned, guide_cut, guide_committed, successor_in, with_successor};
-ghost use Rattle.svc_sequencer.specs.Tables.{IsPlace};
+ghost use Rattle.svc_machine_laws.specs.Guide.{guess_of, guide_opened, guide_assigned, guide_cut, guide_committed};
+ghost use Rattle.svc_machine_laws.specs.Guide.{successor_in, with_successor};
+ghost use Rattle.svc_sequencer.specs.Tables.{IsIndex};
 
 use arrayvec::ArrayVec;
 use std::alloc::{AllocError, Global};
 use std::marker::Model;
 use svc_base::OpenError;
+use svc_base::config::MAX_UNITS;
 use svc_core_laws::End;
 use svc_image::Image;
 
 /// How many tasks can be active at once: as many as there can be units.
-pub const CAPACITY: usize = 16;
+pub const CAPACITY: usize = MAX_UNITS as usize;
 
 /// Keeps the due entry, the successor of the last committed task that began at each entry, and the entries of the
-/// active tasks, oldest first, each with its place in the table of entries, so that a guess needs no search.
+/// active tasks, oldest first, each with its index in the table of entries, so that a guess needs no search.
 ///
 /// Contracts see it as a guide, stated in terms of the plain machine.
 #[derive(Drop)]
@@ -28,7 +31,7 @@ pub struct Sequencer {
     successors: Vec<Option<u32>>,
     due: Option<u32>,
     active: ArrayVec<u32, CAPACITY>,
-    places: ArrayVec<usize, CAPACITY>,
+    indices: ArrayVec<usize, CAPACITY>,
 }
 
 impl Model for Sequencer {
@@ -49,10 +52,10 @@ impl Model for Sequencer {
       due = s.due;
       successors = s.successors.items;
       active = s.active.items;
-    }) s.places.items };
+    }) s.indices.items };
 }
 
-// The entry at a place; the first follows the last.
+// The entry at an index; the first follows the last.
 fn entry_from(entries: &[u32], i: usize) -> u32
     ensures { result ≡ unwrap_or (slice_get entries.now i) (unwrap_or (slice_get entries.now 0) 0) }
 {
@@ -62,10 +65,10 @@ fn entry_from(entries: &[u32], i: usize) -> u32
     }
 }
 
-// The place of an entry in the table, or where it would be.
-fn place_of(entries: &[u32], entry: u32) -> usize
+// The index of an entry in the table, or where it would be.
+fn index_of(entries: &[u32], entry: u32) -> usize
     requires { IsStrictlyIncreasing entries.now }
-    ensures { IsPlace entries.now entry result }
+    ensures { IsIndex entries.now entry result }
 {
     match entries.binary_search(&entry) {
         Ok(i) => i,
@@ -73,29 +76,29 @@ fn place_of(entries: &[u32], entry: u32) -> usize
     }
 }
 
-// Whether the entry is at the place.
-fn stands_at(entries: &[u32], entry: u32, place: usize) -> bool
-    ensures { Decides result ((place < length entries.now) × (slice_index entries.now place ≡ entry)) }
+// Whether the entry is at the index.
+fn stands_at(entries: &[u32], entry: u32, index: usize) -> bool
+    ensures { Decides result ((index < length entries.now) × (slice_index entries.now index ≡ entry)) }
 {
-    match entries.get(place) {
+    match entries.get(index) {
         Some(&found) => found == entry,
         None => false,
     }
 }
 
-// The successor of the entry with this place, otherwise the entry after it in the table.
-fn following(entries: &[u32], successors: &[Option<u32>], entry: u32, place: usize) -> u32
+// The successor of the entry with this index, otherwise the entry after it in the table.
+fn following(entries: &[u32], successors: &[Option<u32>], entry: u32, index: usize) -> u32
     requires rising { IsStrictlyIncreasing entries.now }
     requires as_many { length successors.now ≡ length entries.now }
-    requires place { IsPlace entries.now entry place }
+    requires index { IsIndex entries.now entry index }
     ensures { result ≡ unwrap_or (successor_in entries.now successors.now entry) (entry_after entries.now entry) }
 {
-    if !stands_at(entries, entry, place) {
-        return entry_from(entries, place);
+    if !stands_at(entries, entry, index) {
+        return entry_from(entries, index);
     }
-    match successors[place] {
+    match successors[index] {
         Some(successor) => successor,
-        None => entry_from(entries, place + 1),
+        None => entry_from(entries, index + 1),
     }
 }
 
@@ -148,7 +151,7 @@ impl Sequencer {
             successors,
             due: Some(image.start()),
             active: ArrayVec::new(),
-            places: ArrayVec::new(),
+            indices: ArrayVec::new(),
         })
     }
 
@@ -171,21 +174,21 @@ impl Sequencer {
             Some(&youngest) => match handed_on(ended) {
                 Some(entry) => Some(entry),
                 None => {
-                    let place = self.places[self.active.len() - 1];
-                    Some(following(&self.entries, &self.successors, youngest, place))
+                    let index = self.indices[self.active.len() - 1];
+                    Some(following(&self.entries, &self.successors, youngest, index))
                 }
             },
             None => self.due,
         }
     }
 
-    /// Whether the end of the task at a position, counted from the oldest, cuts the ones after it: always at an exit or
+    /// Whether the end of the task at a place, counted from the oldest, cuts the ones after it: always at an exit or
     /// trap, and otherwise exactly when the next task began at an entry other than the one to which it handed on.
     /// Without a next task there is nothing to cut.
-    pub fn settle(&self, position: usize, end: End) -> bool
-        ensures { result ≡ cuts_next end (drop (suc position) self.now.active) }
+    pub fn settle(&self, place: usize, end: End) -> bool
+        ensures { result ≡ cuts_next end (drop (suc place) self.now.active) }
     {
-        match self.active.get(position.saturating_add(1)) {
+        match self.active.get(place.saturating_add(1)) {
             Some(&next) => match end {
                 End::Next(entry) => next != entry,
                 End::Exit(_) => true,
@@ -207,7 +210,7 @@ impl Sequencer {
         } else {
             guess
         };
-        self.places.push(place_of(&self.entries, entry));
+        self.indices.push(index_of(&self.entries, entry));
         self.active.push(entry);
         entry
     }
@@ -219,16 +222,16 @@ impl Sequencer {
         ensures { self.new ≡ guide_committed end self.old }
     {
         let head = self.active.remove(0);
-        let _place = self.places.remove(0);
+        let _index = self.indices.remove(0);
         self.due = end.next();
         remember(&self.entries, &mut self.successors, head, self.due);
     }
 
-    /// Removes the task at a position, counted from the oldest, and all younger ones.
-    pub fn cut_from(&mut self, position: usize)
-        ensures { self.new ≡ guide_cut position self.old }
+    /// Removes the task at a place, counted from the oldest, and all younger ones.
+    pub fn cut_from(&mut self, place: usize)
+        ensures { self.new ≡ guide_cut place self.old }
     {
-        self.active.truncate(position);
-        self.places.truncate(position);
+        self.active.truncate(place);
+        self.indices.truncate(place);
     }
 }

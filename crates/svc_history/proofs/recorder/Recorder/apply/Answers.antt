@@ -20,7 +20,7 @@ telling-entry-requires c =
     let says = c.in_ok-reply.ensures {u = tt} in
     let config = r.machine.config in
     small r.machine.image (given r.machine.image kept.image) config config.few_events config.few_units (standing_of r) kept.reached
-    (event_of c.args.event) c.named-named.ensures.sound (says.refused (standing_of r) kept.legal.here) c.in_ok-reply.reply (says.reply (standing_of r) kept.legal.here)
+    (event_of c.args.event) c.fields_of-fields.ensures.sound (says.refused (standing_of r) kept.legal.here) c.in_ok-reply.reply (says.reply (standing_of r) kept.legal.here)
 
 -- after it
 abbrev before_push_i : goal.After-index-arg-1 → Recorded
@@ -31,12 +31,12 @@ follows_i c =
     let here = c.self.invariant.0.legal.here in
     let s : Standing = standing_of (before_push_i c) in
     record {
-      event = c.named-named.ensures.sound;
+      event = c.fields_of-fields.ensures.sound;
       accepted = (c.in_ok-reply.ensures {u = tt}).refused s here;
       image = c.step.ensures.image;
       config = c.step.ensures.config;
       at = c.step.ensures.standing s here;
-      entry = entry_is (event_of c.args.event) c.in_ok-reply.reply _ _ c.telling-entry.result c.named-named.ensures.entry ((c.in_ok-reply.ensures {u = tt}).reply s here) c.telling-entry.ensures;
+      entry = entry_is (event_of c.args.event) c.in_ok-reply.reply _ _ c.telling-entry.result c.fields_of-fields.ensures.entry ((c.in_ok-reply.ensures {u = tt}).reply s here) c.telling-entry.ensures;
     }
 
 -- there was room for the entry
@@ -59,12 +59,12 @@ follows c =
     let here = c.self.invariant.0.legal.here in
     let s : Standing = standing_of (before_push c) in
     record {
-      event = c.named-named.ensures.sound;
+      event = c.fields_of-fields.ensures.sound;
       accepted = (c.in_ok-reply.ensures {u = tt}).refused s here;
       image = c.step.ensures.image;
       config = c.step.ensures.config;
       at = c.step.ensures.standing s here;
-      entry = entry_is (event_of c.args.event) c.in_ok-reply.reply _ _ c.telling-entry.result c.named-named.ensures.entry ((c.in_ok-reply.ensures {u = tt}).reply s here) c.telling-entry.ensures;
+      entry = entry_is (event_of c.args.event) c.in_ok-reply.reply _ _ c.telling-entry.result c.fields_of-fields.ensures.entry ((c.in_ok-reply.ensures {u = tt}).reply s here) c.telling-entry.ensures;
     }
 
 -- there was room for the entry

@@ -1,6 +1,6 @@
 use Rattle.std.proofs.Common.{◌∙◌, ◌<◌, ℕ, List, Some, ap, sym, subst, length, remove}
 use Rattle.svc_machine_laws.specs.Guide.{Guide, guide_committed, with_successor}
-use Rattle.svc_sequencer.specs.Tables.{ArePlaces}
+use Rattle.svc_sequencer.specs.Tables.{AreIndices}
 use Rattle.svc_sequencer.proofs.Placed.{places_after}
 use Rattle.svc_sequencer.proofs.Guided.{as_many, committed}
 use Rattle.svc_sequencer.proofs.sequencer.Sequencer.commit.Goals as goal
@@ -12,9 +12,9 @@ invariant_of-self c =
     record {
       rising = c.self.invariant.rising;
       as_many = ap length table ∙ as_many xs (Some c.remove-head.result) c.next-self-inside.result c.self.inside.successors.items c.self.invariant.as_many;
-      placed = subst (λ (ps : List ℕ). ArePlaces xs c.remove-head.new.self.items ps) (sym c.remove-place.ensures.items)
-          (subst (λ (es : List ℕ). ArePlaces xs es (remove c.self.inside.places.items 0)) (sym c.remove-head.ensures.items)
-          (places_after xs c.self.inside.active.items c.self.inside.places.items c.self.invariant.placed));
+      placed = subst (λ (ps : List ℕ). AreIndices xs c.remove-head.new.self.items ps) (sym c.remove-index.ensures.items)
+          (subst (λ (es : List ℕ). AreIndices xs es (remove c.self.inside.indices.items 0)) (sym c.remove-head.ensures.items)
+          (places_after xs c.self.inside.active.items c.self.inside.indices.items c.self.invariant.placed));
     }
 
 pub returns : goal.returns

@@ -2,7 +2,7 @@ use Rattle.std.proofs.Common.{◌≡◌, ◌∙◌, ℕ, List, Option, Some, ap,
 use Rattle.svc_core_laws.specs.Program.{due_after}
 use Rattle.svc_machine_laws.specs.Guess.{youngest, entry_after}
 use Rattle.svc_machine_laws.specs.Guide.{Guide, guess_of, successor_in}
-use Rattle.svc_sequencer.specs.Tables.{IsPlace}
+use Rattle.svc_sequencer.specs.Tables.{IsIndex}
 use Rattle.svc_sequencer.proofs.Placed.{as_long, place_of_youngest, some_active}
 use Rattle.svc_sequencer.proofs.Guided.{youngest_last, predicted}
 use Rattle.svc_sequencer.proofs.sequencer.Sequencer.predict.Goals as goal
@@ -25,26 +25,26 @@ returns-in-Some-handed_on c =
 pub bounds-deref-len : goal.bounds-deref-len
 bounds-deref-len c =
     let active = c.self.inside.active.items in
-    let places = c.self.inside.places.items in
+    let indices = c.self.inside.indices.items in
     let last : youngest active ≡ Some c.in-Some.field-0.now =
     sym (youngest_last active) ∙ sym (c.in-Some.ensures.value ∙ ap (λ xs. slice_get xs (length xs - 1)) c.deref.ensures.0) in
     let some = some_active active c.in-Some.field-0.now last in
-    let long = as_long c.self.inside.entries.items active places c.self.invariant.placed in
+    let long = as_long c.self.inside.entries.items active indices c.self.invariant.placed in
     let same = ap (λ (ps : List ℕ). length ps) c.deref-in-None-handed_on.ensures.0 in
     omega (arith, some, long, same, c.len.ensures.value)
 
-pub following-requires-clause-place : goal.following-requires-clause-place
-following-requires-clause-place c =
+pub following-requires-clause-index : goal.following-requires-clause-index
+following-requires-clause-index c =
     let active = c.self.inside.active.items in
-    let places = c.self.inside.places.items in
+    let indices = c.self.inside.indices.items in
     let e = c.in-Some.field-0.now in
     let last : youngest active ≡ Some e =
     sym (youngest_last active) ∙ sym (c.in-Some.ensures.value ∙ ap (λ xs. slice_get xs (length xs - 1)) c.deref.ensures.0) in
-    let place = place_of_youngest c.self.inside.entries.items active places e c.self.invariant.placed last in
-    let there : get_or c.deref-in-None-handed_on.result.now (c.len.result - 1) 0 ≡ get_or places (length active - 1) 0 =
-    ap (λ (ps : List ℕ). get_or ps (c.len.result - 1) 0) c.deref-in-None-handed_on.ensures.0 ∙ ap (λ (n : ℕ). get_or places (n - 1) 0) c.len.ensures.value in
-    subst (λ (xs : List ℕ). IsPlace xs e (get_or c.deref-in-None-handed_on.result.now (c.len.result - 1) 0)) (sym c.deref-in-None-handed_on-2.ensures.value)
-    (subst (IsPlace c.self.inside.entries.items e) (sym there) place)
+    let index = place_of_youngest c.self.inside.entries.items active indices e c.self.invariant.placed last in
+    let there : get_or c.deref-in-None-handed_on.result.now (c.len.result - 1) 0 ≡ get_or indices (length active - 1) 0 =
+    ap (λ (ps : List ℕ). get_or ps (c.len.result - 1) 0) c.deref-in-None-handed_on.ensures.0 ∙ ap (λ (n : ℕ). get_or indices (n - 1) 0) c.len.ensures.value in
+    subst (λ (xs : List ℕ). IsIndex xs e (get_or c.deref-in-None-handed_on.result.now (c.len.result - 1) 0)) (sym c.deref-in-None-handed_on-2.ensures.value)
+    (subst (IsIndex c.self.inside.entries.items e) (sym there) index)
 
 pub returns-in-None-handed_on : goal.returns-in-None-handed_on
 returns-in-None-handed_on c =

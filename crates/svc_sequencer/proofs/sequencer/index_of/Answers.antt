@@ -2,7 +2,7 @@ use Rattle.std.proofs.Common.{Ok, Err}
 use Rattle.std.proofs.lemmas.List.Sorted.{searched}
 use Rattle.svc_sequencer.proofs.Placed.{place_found, place_missed}
 use Rattle.svc_sequencer.proofs.Searched.{rising_order}
-use Rattle.svc_sequencer.proofs.sequencer.place_of.Goals as goal
+use Rattle.svc_sequencer.proofs.sequencer.index_of.Goals as goal
 
 pub returns-in-Ok : goal.returns-in-Ok
 returns-in-Ok c =

@@ -1,6 +1,6 @@
 use Rattle.svc_machine.specs.Events.{event_of}
 use Rattle.svc_history.proofs.Tracing.{wrong_refused, wrong_differs}
-use Rattle.svc_history.proofs.trace.compared.Goals as goal
+use Rattle.svc_history.proofs.trace.compare.Goals as goal
 
 pub returns-in-Ok-2-clause-fault : goal.returns-in-Ok-2-clause-fault
 returns-in-Ok-2-clause-fault c legal =
