@@ -1,5 +1,6 @@
 -- What it means to do what a command line asks for.
-use Rattle.std.specs.Prelude.{◌≡◌, ◌⊎◌, ⊤, ℕ, false, All, List, [], Option, None, Some, Result, IfSome, IfOk, IfErr, ◌++◌, codes, string_bytes}
+use Rattle.std.specs.Prelude.{◌≡◌, ◌⊎◌, ⊤, ℕ, false, All, List, [], Option, None, Some, Result, IfSome, IfOk, IfErr}
+use Rattle.std.specs.Prelude.{◌++◌, codes, string_bytes}
 use denote.Ref.{Bor}
 use Rattle.std.specs.Io.KnownBytes.{Appends}
 use Rattle.std.specs.List.{AllByRecursion}

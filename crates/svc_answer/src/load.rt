@@ -5,7 +5,8 @@ ghost use Rattle.svc_image.specs.Format.{file_of};
 ghost use Rattle.svc_script.specs.Events.{IsEvent};
 ghost use Rattle.svc_request.specs.Faults.{IsEarly, IsRunFault};
 ghost use Rattle.svc_answer.specs.Named.{AreNamesIn};
-ghost use Rattle.svc_answer.specs.Requests.{AreEventsIn, IsOfSource, IsScriptIn, IsThere, IsTraceIn, SavesAlone, SavesAnyScript, SavesAnyTrace};
+ghost use Rattle.svc_answer.specs.Requests.{AreEventsIn, IsOfSource, IsScriptIn, IsThere, IsTraceIn, SavesAlone};
+ghost use Rattle.svc_answer.specs.Requests.{SavesAnyScript, SavesAnyTrace};
 
 use crate::front::front_of;
 use std::alloc::Global;

@@ -1,7 +1,8 @@
 //! A line of words, and what its parser made of it.
 
 ghost use Rattle.std.specs.Prelude.{◌≡◌, ◌++◌, Ok, IfOk, IfSome, IsTrue, codes};
-ghost use Rattle.svc_command.specs.Line.{Has, HasWord, IsGivenNumber, IsJoined, IsNext, IsNumberOf, IsValueOf, option_word, texts};
+ghost use Rattle.svc_command.specs.Line.{Has, HasWord, IsGivenNumber, IsJoined, IsNext, IsNumberOf, IsValueOf};
+ghost use Rattle.svc_command.specs.Line.{option_word, texts};
 
 use clap::ArgMatches;
 use std::str::FromStr;

@@ -1,7 +1,9 @@
 //! What the options of several subcommands give.
 
 ghost use Rattle.std.specs.Prelude.{◌≡◌, ◌++◌, IfOk, IfSome, codes};
-ghost use Rattle.svc_command.specs.Given.{GivesCompared, GivesConfig, GivesExtras, GivesFormat, GivesImage, GivesNeedsTable, GivesOrder, GivesRow, GivesSchedule, GivesSought, GivesSpan, GivesTable};
+ghost use Rattle.svc_command.specs.Given.{GivesCompared, GivesConfig, GivesExtras, GivesFormat, GivesImage};
+ghost use Rattle.svc_command.specs.Given.{GivesNeedsTable, GivesOrder, GivesRow, GivesSchedule, GivesSought, GivesSpan};
+ghost use Rattle.svc_command.specs.Given.{GivesTable};
 ghost use Rattle.svc_command.specs.Line.{IsValueOf, ReadsAs, ReadsSpan, texts};
 
 use crate::line::{Line, number_of};

@@ -1,5 +1,6 @@
 -- The words that a task needs of others, one by one.
-use Rattle.std.specs.Prelude.{◌≡◌, ℕ, ◌-◌, ◌==◌, ◌<◌, ◌≤◌, length, ◌||◌, ◌&&◌, cond, Bool, List, [], ◌∷◌, map, get_or, Option, Some, None}
+use Rattle.std.specs.Prelude.{◌≡◌, ℕ, ◌-◌, ◌==◌, ◌<◌, ◌≤◌, length, ◌||◌, ◌&&◌, cond, Bool, List, [], ◌∷◌, map, get_or}
+use Rattle.std.specs.Prelude.{Option, Some, None}
 use Rattle.std.specs.List.{filter, count_by}
 use Rattle.std.specs.List.Sorted.{IsNonDecreasingBy}
 use Rattle.svc_core_laws.specs.Program.{Program}

@@ -1,5 +1,6 @@
 -- The texts of what a task needs of another one: a row for each such pair, or an edge of a graph.
-use Rattle.std.specs.Prelude.{ℕ, zero, suc, ◌-◌, nat_lt, cond, List, [], ◌∷◌, ◌++◌, Option, length, take, codes, decimal, flat_map}
+use Rattle.std.specs.Prelude.{ℕ, zero, suc, ◌-◌, nat_lt, cond, List, [], ◌∷◌, ◌++◌, Option, length, take, codes}
+use Rattle.std.specs.Prelude.{decimal, flat_map}
 use Rattle.svc_image.specs.Image.{Image}
 use Rattle.svc_core_laws.specs.Turns.{data_words}
 use Rattle.svc_core_laws.specs.Words.{program}

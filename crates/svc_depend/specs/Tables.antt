@@ -1,5 +1,6 @@
 -- The texts of what tasks need: together, task by task, and word by word.
-use Rattle.std.specs.Prelude.{ℕ, zero, suc, ◌||◌, nat_lt, cond, List, [], ◌∷◌, ◌++◌, None, codes, decimal, flat_map, unwrap_or}
+use Rattle.std.specs.Prelude.{ℕ, zero, suc, ◌||◌, nat_lt, cond, List, [], ◌∷◌, ◌++◌, None, codes, decimal, flat_map}
+use Rattle.std.specs.Prelude.{unwrap_or}
 use Rattle.svc_image.specs.Image.{Image}
 use Rattle.svc_core_laws.specs.declared.end.Ending.{Ending}
 use Rattle.svc_core_laws.specs.Turns.{data_words}

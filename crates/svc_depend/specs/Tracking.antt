@@ -1,5 +1,6 @@
 -- What a tracker of needs stands for.
-use Rattle.std.specs.Prelude.{◌≡◌, ℕ, ◌+◌, ◌-◌, ◌==◌, ◌<◌, ◌≤◌, Bool, cond, max, length, get_or, slice_set, Option, Some, None}
+use Rattle.std.specs.Prelude.{◌≡◌, ℕ, ◌+◌, ◌-◌, ◌==◌, ◌<◌, ◌≤◌, Bool, cond, max, length, get_or, slice_set, Option}
+use Rattle.std.specs.Prelude.{Some, None}
 use Rattle.svc_core_laws.specs.Program.{Program, Words}
 use Rattle.svc_depend_laws.specs.Needs.{comes_from}
 use Rattle.svc_depend_laws.specs.Over.{lesser, count_over, least_over}

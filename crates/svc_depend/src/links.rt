@@ -1,6 +1,7 @@
 // The words that a task needs of others, one by one.
 
-ghost use Rattle.std.specs.Prelude.{◌≡◌, ◌≤◌, ◌<◌, ◌^◌, ◌+◌, ◌*◌, ◌++◌, [], ℕ, suc, true, Some, IfOk, IfSome, OnOk, length, slice_index};
+ghost use Rattle.std.specs.Prelude.{◌≡◌, ◌≤◌, ◌<◌, ◌^◌, ◌+◌, ◌*◌, ◌++◌, [], ℕ, suc, true, Some, IfOk, IfSome, OnOk};
+ghost use Rattle.std.specs.Prelude.{length, slice_index};
 ghost use Rattle.svc_image.specs.Image.{is_entry};
 ghost use Rattle.svc_core_laws.specs.Program.{exposed, no_reads, no_words, task};
 ghost use Rattle.svc_core_laws.specs.State.{State, limit_of};
@@ -61,10 +62,11 @@ pub(crate) fn link_task(
     requires empty { links.old.items ≡ [] }
     ensures few { OnOk result (tracker.new.turns ≤ tracker.old.turns + 65537) }
     ensures walked { IfOk result (λ end. (core : State) × (core.done ≡ Some end)
-        × (IsWalked image.now entry (suc (limit_of image.now entry)) memory.old tracker.old core memory.new tracker.new)) }
+        × (IsWalked image.now entry (suc (limit_of image.now entry)) memory.old tracker.old core
+        memory.new tracker.new)) }
     ensures linked { OnOk result ((times : Times) → IsTracked (program image.now) no_reads no_words times 0 tracker.old
-        → AreLinks (program image.now) tracker.old.task (exposed (task (program image.now) entry (slice_index memory.old)).log)
-        links.new.items) }
+        → AreLinks (program image.now) tracker.old.task
+        (exposed (task (program image.now) entry (slice_index memory.old)).log) links.new.items) }
 {
     let mut core = Core::start(image, entry);
     for _turn in 0..core.limit() + 1 {

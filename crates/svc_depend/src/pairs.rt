@@ -9,7 +9,8 @@ ghost use Rattle.svc_plain.specs.Tasks.{tasks_run};
 ghost use Rattle.svc_report.specs.Faults.{IsWriteFault};
 ghost use Rattle.svc_names.specs.Given.{listed, word_text};
 ghost use Rattle.svc_depend.specs.Links.{IsOrdered, links_text};
-ghost use Rattle.svc_depend.specs.Pairs.{edge, label, more_text, pair_row, pair_text, pairs_begin, pairs_end, pairs_of, pairs_text, spaced};
+ghost use Rattle.svc_depend.specs.Pairs.{edge, label, more_text, pair_row, pair_text, pairs_begin, pairs_end, pairs_of};
+ghost use Rattle.svc_depend.specs.Pairs.{pairs_text, spaced};
 ghost use Rattle.svc_depend.specs.Tables.{text_over};
 
 use crate::links::{Link, link_task};
@@ -208,7 +209,8 @@ fn write_rows<W: Write>(
 ) -> Result<Ending, ReportError>
     requires { k ≤ MAX_TASKS }
     ensures rows { OnOk result (Appends (append_known (W.contents w.old) text.old.items)
-        (append_known (W.contents w.new) text.new.items) (text_over (pairs_of form.entry image.now) (tasks_run image.now k))) }
+        (append_known (W.contents w.new) text.new.items)
+        (text_over (pairs_of form.entry image.now) (tasks_run image.now k))) }
     ensures ending { IfOk result (λ ending.
         ending ≡ ending_of false (plain_seq image.now k).stopped (plain_seq image.now k).due) }
     ensures err { IfErr result IsWriteFault }

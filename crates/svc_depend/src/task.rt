@@ -22,7 +22,8 @@ pub(crate) fn run_task(image: &Image, entry: u32, memory: &mut [u32], tracker: &
     requires below { IsBelow (3 * tracker.old.turns) tracker.old }
     ensures few { tracker.new.turns ≤ tracker.old.turns + 65537 }
     ensures walked { (core : State) × (core.done ≡ Some result)
-        × (IsWalked image.now entry (suc (limit_of image.now entry)) memory.old tracker.old core memory.new tracker.new) }
+        × (IsWalked image.now entry (suc (limit_of image.now entry)) memory.old tracker.old core
+        memory.new tracker.new) }
 {
     let mut core = Core::start(image, entry);
     for _turn in 0..core.limit() + 1 {

@@ -5,7 +5,8 @@ ghost use Rattle.std.specs.Io.KnownBytes.{Appends};
 ghost use Rattle.svc_image.specs.Image.{Image};
 ghost use Rattle.svc_report.specs.Faults.{IsWriteFault};
 ghost use Rattle.svc_depend_laws.specs.Needs.{units_of};
-ghost use Rattle.svc_depend.specs.Tables.{named_row, task_row, task_table, told_of_task, totals_rows, totals_text, word_row_of, word_table};
+ghost use Rattle.svc_depend.specs.Tables.{named_row, task_row, task_table, told_of_task, totals_rows, totals_text};
+ghost use Rattle.svc_depend.specs.Tables.{word_row_of, word_table};
 ghost use Rattle.svc_depend.specs.Told.{AreWords};
 ghost use Rattle.svc_depend.specs.WordRows.{kept_table};
 

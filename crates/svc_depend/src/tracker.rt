@@ -2,9 +2,11 @@
 
 ghost use Rattle.std.specs.Prelude.{◌≡◌, ◌≤◌, ◌<◌, ◌^◌, ◌+◌, ◌*◌, ◌-◌, ℕ, List, IfOk, IfSome, length};
 ghost use Rattle.svc_core_laws.specs.State.{State};
-ghost use Rattle.svc_core_laws.specs.Program.{Action, Memory, Program, Want, act, exposed, no_reads, no_words, said, wrote};
+ghost use Rattle.svc_core_laws.specs.Program.{Action, Memory, Program, Want, act, exposed, no_reads, no_words, said};
+ghost use Rattle.svc_core_laws.specs.Program.{wrote};
 ghost use Rattle.svc_depend_laws.specs.Chain.{Clock, Times, tick, times_before, word_read, word_written};
-ghost use Rattle.svc_depend.specs.Tracking.{HasFollowed, HasRead, HasReadIf, HasWritten, HasWrittenIf, IsBelow, IsTracked, ticked, told_of};
+ghost use Rattle.svc_depend.specs.Tracking.{HasFollowed, HasRead, HasReadIf, HasWritten, HasWrittenIf, IsBelow};
+ghost use Rattle.svc_depend.specs.Tracking.{IsTracked, ticked, told_of};
 
 use crate::needs::TaskNeeds;
 use crate::turn::Touch;

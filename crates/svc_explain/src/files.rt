@@ -1,7 +1,8 @@
 //! Which of the files of a request can't be read or saved.
 
 ghost use Rattle.std.specs.Prelude.{◌≡◌, ◌++◌, IfOk, IfSome, OnOk, Some, option_map, slice_get, ℕ};
-ghost use Rattle.svc_explain.specs.Explanations.{TellsFile, TellsUnread, TellsUnsaved, files_written, or_also, read_by, sentence};
+ghost use Rattle.svc_explain.specs.Explanations.{TellsFile, TellsUnread, TellsUnsaved, files_written, or_also, read_by};
+ghost use Rattle.svc_explain.specs.Explanations.{sentence};
 ghost use Rattle.svc_request.specs.Names.{also_written_by, written_by};
 
 use crate::names::{also_written_by, read_by, written_by};

@@ -14,7 +14,8 @@ use Rattle.svc_held.specs.Named.{are_some, may_have, named_at}
 pub record IsHeldBy (b : BusState) (words : ℕ) (asked : Option Span) (named : List Named) : Type 0 where
   pub marks : List Namers
   pub named_is : named ≡ flat_map (named_at asked marks) (range_with_len 0 words)
-  pub lines : (unit word : ℕ) → word < words → may_have unit (get_or marks word namers.Nobody) ≡ false → b.lines unit word ≡ None
+  pub lines : (unit word : ℕ) → word < words
+      → may_have unit (get_or marks word namers.Nobody) ≡ false → b.lines unit word ≡ None
   pub spill : (word : ℕ) → word < words → are_some (get_or marks word namers.Nobody) ≡ false → b.spill word ≡ None
 
 -- among n words, these have all that is in a line or spilled, whatever else is asked for

@@ -1,5 +1,6 @@
 -- The words that entries name, and by which units.
-use Rattle.std.specs.Prelude.{◌≡◌, ◌==◌, ◌&&◌, ◌||◌, ◌<◌, ℕ, Bool, true, false, cond, List, [], ◌∷◌, Option, Some, None, flat_map, get_or, length, slice_get, slice_set}
+use Rattle.std.specs.Prelude.{◌≡◌, ◌==◌, ◌&&◌, ◌||◌, ◌<◌, ℕ, Bool, true, false, cond, List, [], ◌∷◌, Option, Some, None}
+use Rattle.std.specs.Prelude.{flat_map, get_or, length, slice_get, slice_set}
 use Rattle.std.specs.List.{list_any, range_with_len}
 use Rattle.svc_base.specs.declared.ids.UnitId.{UnitId}
 use Rattle.svc_base.specs.declared.ids.WordAddr.{WordAddr}
@@ -56,11 +57,13 @@ marked e marks = marked_by e.addr e.unit marks
 -- the marks of n words: whoever names a word is among its namers
 pub record IsMarked (es : List Entry) (words : ℕ) (marks : List Namers) : Type 0 where
   pub size : length marks ≡ words
-  pub told : (unit word : ℕ) → word < words → may_have unit (get_or marks word namers.Nobody) ≡ false → list_any (names unit word) es ≡ false
+  pub told : (unit word : ℕ) → word < words
+      → may_have unit (get_or marks word namers.Nobody) ≡ false → list_any (names unit word) es ≡ false
 
 -- the word, if it is named or asked for
 abbrev pub named_by : Option Span → (word : ℕ) → Namers → List Named
-named_by asked word by = cond (are_some by || is_asked asked word) (record { word = record { 0 = word }; by = by } ∷ []) []
+named_by asked word by =
+    cond (are_some by || is_asked asked word) (record { word = record { 0 = word }; by = by } ∷ []) []
 
 abbrev pub named_at : Option Span → List Namers → (word : ℕ) → List Named
 named_at asked marks word = named_by asked word (get_or marks word namers.Nobody)

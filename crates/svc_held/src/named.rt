@@ -3,7 +3,8 @@
 ghost use Rattle.std.specs.Prelude.{◌≡◌, ◌<◌, ◌^◌, ◌++◌, OnOk, IfOk, All, flat_map, length, replicate};
 ghost use Rattle.std.specs.List.{range_with_len};
 ghost use Rattle.svc_held.specs.declared.named.Namers.TheVariants.{Nobody};
-ghost use Rattle.svc_held.specs.Named.{AreNamed, IsMarked, and_unit, are_some, marked, marked_at, may_have, named_at, named_by};
+ghost use Rattle.svc_held.specs.Named.{AreNamed, IsMarked, and_unit, are_some, marked, marked_at, may_have, named_at};
+ghost use Rattle.svc_held.specs.Named.{named_by};
 
 use crate::span::{Span, is_asked};
 use std::alloc::{AllocError, Global};

@@ -1,5 +1,6 @@
 -- What a history charges to the instructions at which its entries ask.
-use Rattle.std.specs.Prelude.{ℕ, suc, ◌==◌, min, Bool, true, false, cond, ◌&&◌, is_some, List, [], ◌∷◌, ◌++◌, Option, Some, None, flat_map, option_map, position, slice_get, slice_range, unwrap_or}
+use Rattle.std.specs.Prelude.{ℕ, suc, ◌==◌, min, Bool, true, false, cond, ◌&&◌, is_some, List, [], ◌∷◌, ◌++◌, Option}
+use Rattle.std.specs.Prelude.{Some, None, flat_map, option_map, position, slice_get, slice_range, unwrap_or}
 use Rattle.svc_base.specs.declared.ids.WordAddr.{WordAddr}
 use Rattle.svc_history_laws.specs.declared.entry.CutKind.TheVariants as cause
 use Rattle.svc_history_laws.specs.declared.entry.Entry.{Entry}

@@ -7,7 +7,8 @@ ghost use Rattle.svc_report.specs.Summary.{is_cause};
 ghost use Rattle.svc_task_runs.specs.Bounds.{AreFew};
 ghost use Rattle.svc_task_runs.specs.Runs.{step};
 ghost use Rattle.svc_task_runs.specs.Seen.{seen};
-ghost use Rattle.svc_instruction_profile.specs.Charges.{charges_at, charges_of, does, is_output, own_charge, own_charges, own_expenses};
+ghost use Rattle.svc_instruction_profile.specs.Charges.{charges_at, charges_of, does, is_output, own_charge};
+ghost use Rattle.svc_instruction_profile.specs.Charges.{own_charges, own_expenses};
 
 use crate::charge::{Charge, push_where};
 use crate::cost::Expense;

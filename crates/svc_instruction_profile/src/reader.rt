@@ -1,7 +1,8 @@
 // Where the victim of a violation first read the word.
 
 ghost use Rattle.std.specs.Prelude.{◌≡◌, ◌≤◌, length, position};
-ghost use Rattle.svc_instruction_profile.specs.Charges.{address_of, between, is_read, is_same_word, reader_at, reader_in, reader_of, victim_of};
+ghost use Rattle.svc_instruction_profile.specs.Charges.{address_of, between, is_read, is_same_word, reader_at};
+ghost use Rattle.svc_instruction_profile.specs.Charges.{reader_in, reader_of, victim_of};
 ghost use Rattle.svc_task_runs.specs.Runs.{is_number, is_submit_of};
 
 use svc_base::WordAddr;

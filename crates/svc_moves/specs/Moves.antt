@@ -27,11 +27,13 @@ assign_row img config s unit =
 -- the unit's task is run on by one turn
 abbrev pub submit_row : Image → Config → Standing → (unit : ℕ) → List ℕ
 submit_row img config s unit =
-    event_row img config s unit (Submit (turn_of img (record { 0 = unit }) (seat_at (machine_of (program img) s.plain) unit)))
+    event_row img config s unit
+    (Submit (turn_of img (record { 0 = unit }) (seat_at (machine_of (program img) s.plain) unit)))
 
 -- the unit's line of a word is replaced, if it has one
 abbrev pub replace_row : Image → Config → Standing → (unit word : ℕ) → List ℕ
-replace_row img config s unit word = cond (is_some (s.lines.lines unit word)) (event_row img config s unit (Replace unit word)) []
+replace_row img config s unit word =
+    cond (is_some (s.lines.lines unit word)) (event_row img config s unit (Replace unit word)) []
 
 abbrev pub named_row : Image → Config → Standing → (unit : ℕ) → Named → List ℕ
 named_row img config s unit n = replace_row img config s unit n.word.0

@@ -20,14 +20,24 @@ look_at img c (Some end) = []
 
 -- a burst that starts here, before its first turn
 abbrev pub before_turn : Image → UnitId → (epoch : ℕ) → State → Advance
-before_turn img unit epoch c =
-    record { unit = unit; epoch = epoch; start = c; looks = look_at img c c.done; local = 0; ask = ask.Nothing; end = c }
+before_turn img unit epoch c = record {
+  unit = unit;
+  epoch = epoch;
+  start = c;
+  looks = look_at img c c.done;
+  local = 0;
+  ask = ask.Nothing;
+  end = c;
+}
 
--- the burst of a running task whose next turn comes to this: a local turn is done, and what follows it is looked at; any
--- other is asked for
+-- the burst of a running task whose next turn comes to this: a local turn is done, and what follows it is looked at;
+-- any other is asked for
 abbrev pub turn_to : Image → UnitId → (epoch : ℕ) → State → TurnOutcome → Advance
-turn_to img unit epoch c (out.Local d) =
-    record (before_turn img unit epoch c) { looks = fetched img c.pc ∷ look_at img d d.done; local = 1; end = arrives img d }
+turn_to img unit epoch c (out.Local d) = record (before_turn img unit epoch c) {
+  looks = fetched img c.pc ∷ look_at img d d.done;
+  local = 1;
+  end = arrives img d;
+}
 turn_to img unit epoch c (out.Load kind rd addr) = record (before_turn img unit epoch c) { ask = ask.Load kind rd addr }
 turn_to img unit epoch c (out.Store kind addr v) = record (before_turn img unit epoch c) { ask = ask.Store kind addr v }
 turn_to img unit epoch c (out.Emit w) = record (before_turn img unit epoch c) { ask = ask.Emit w }

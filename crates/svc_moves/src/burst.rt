@@ -20,7 +20,8 @@ fn one_turn(image: &Image, lease: &Lease) -> Burst
 
 /// The burst that runs the unit's task on by one turn. Without a task it has no turns.
 pub(crate) fn turn_of(machine: &Machine, unit: UnitId) -> Burst
-    ensures { let m = machine.now in result ≡ turn_of m.image unit (seat_at (machine_of (program m.image) m.plain) unit.0) }
+    ensures { let m = machine.now
+        in result ≡ turn_of m.image unit (seat_at (machine_of (program m.image) m.plain) unit.0) }
 {
     match machine.lease(unit) {
         Some(lease) => one_turn(machine.image(), lease),

@@ -9,7 +9,8 @@ ghost use Rattle.svc_machine.specs.Value.{StandsAt};
 ghost use Rattle.svc_machine_laws.specs.Events as law;
 ghost use Rattle.svc_machine_laws.specs.Standing.{Standing, refused};
 ghost use Rattle.svc_held.specs.Held.{HasHeld, HasItsLines};
-ghost use Rattle.svc_moves.specs.Moves.{assign_row, event_row, move_rows, named_row, replace_row, replace_rows, submit_row, unit_moves};
+ghost use Rattle.svc_moves.specs.Moves.{assign_row, event_row, move_rows, named_row, replace_row, replace_rows};
+ghost use Rattle.svc_moves.specs.Moves.{submit_row, unit_moves};
 ghost use Rattle.svc_moves.specs.Rows.{move_row};
 
 use crate::burst::turn_of;
@@ -177,8 +178,9 @@ fn put_units(
     Ok(())
 }
 
-/// Adds a row for each event that a unit may ask for next, by unit: an assignment at the guess, a submit of one turn, the
-/// replacement of each word of which it has a line, a cancel and a commit; each with its refusal, if it would be refused.
+/// Adds a row for each event that a unit may ask for next, by unit: an assignment at the guess, a submit of one turn,
+/// the replacement of each word of which it has a line, a cancel and a commit; each with its refusal, if it would be
+/// refused.
 ///
 /// Errors: [`AllocError`], if memory runs out.
 pub fn put_moves(machine: &Machine, named: &[Named], rows: &mut Vec<u8>) -> Result<(), AllocError>

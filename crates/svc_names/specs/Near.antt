@@ -1,5 +1,6 @@
 -- The name nearest to an address, and its text.
-use Rattle.std.specs.Prelude.{◌++◌, ◌∷◌, ◌-◌, [], ◌&&◌, ℕ, zero, suc, List, Option, Some, None, Bool, codes, decimal, nat_le, nat_lt, if◌then◌else◌}
+use Rattle.std.specs.Prelude.{◌++◌, ◌∷◌, ◌-◌, [], ◌&&◌, ℕ, zero, suc, List, Option, Some, None, Bool, codes, decimal}
+use Rattle.std.specs.Prelude.{nat_le, nat_lt, if◌then◌else◌}
 use Rattle.svc_image.specs.declared.layout.TheConstants.{DATA_START}
 use Rattle.svc_names.specs.declared.name.Name.{Name}
 use Rattle.svc_names.specs.declared.near.Near.{Near}

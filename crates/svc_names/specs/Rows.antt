@@ -1,5 +1,6 @@
 -- Rows with names at their ends.
-use Rattle.std.specs.Prelude.{◌++◌, ◌∷◌, ◌+◌, ◌*◌, ◌==◌, ◌||◌, [], ℕ, zero, suc, List, Option, Some, None, Bool, false, codes, is_some, not, option_map, if◌then◌else◌}
+use Rattle.std.specs.Prelude.{◌++◌, ◌∷◌, ◌+◌, ◌*◌, ◌==◌, ◌||◌, [], ℕ, zero, suc, List, Option, Some, None, Bool, false}
+use Rattle.std.specs.Prelude.{codes, is_some, not, option_map, if◌then◌else◌}
 use Rattle.std.specs.Str.{bytes_eq}
 use Rattle.svc_image.specs.declared.layout.TheConstants.{DATA_START}
 use Rattle.svc_operands.specs.Characters.{value_of}

@@ -1,5 +1,6 @@
 -- Tables of names, and their text.
-use Rattle.std.specs.Prelude.{◌≡◌, ◌≢◌, ◌⊎◌, ◌<◌, ◌+◌, ◌++◌, ◌∷◌, [], ◌&&◌, ◌^◌, ℕ, zero, suc, List, Option, Some, None, Bool, true, false, codes, decimal, get_or, length, nat_le, nat_lt}
+use Rattle.std.specs.Prelude.{◌≡◌, ◌≢◌, ◌⊎◌, ◌<◌, ◌+◌, ◌++◌, ◌∷◌, [], ◌&&◌, ◌^◌, ℕ, zero, suc, List, Option, Some, None}
+use Rattle.std.specs.Prelude.{Bool, true, false, codes, decimal, get_or, length, nat_le, nat_lt}
 use Rattle.std.specs.Cmp.Lexicographic.{slice_cmp}
 use Rattle.std.specs.List.{AllByRecursion}
 use Rattle.std.specs.Ordering.{is_lt, nat_cmp, ordering_then}

@@ -1,6 +1,7 @@
 // How a table of names is read.
 
-ghost use Rattle.std.specs.Prelude.{◌≡◌, ◌∷◌, ◌++◌, [], ℕ, List, Option, Some, OnOk, IfOk, IfErr, IfSome, MatchResult, option_map};
+ghost use Rattle.std.specs.Prelude.{◌≡◌, ◌∷◌, ◌++◌, [], ℕ, List, Option, Some, OnOk, IfOk, IfErr, IfSome, MatchResult};
+ghost use Rattle.std.specs.Prelude.{option_map};
 ghost use Rattle.csv.specs.Reading.{reader_state, source_of};
 ghost use Rattle.csv.specs.Records.{fields_of};
 ghost use Rattle.csv.specs.declared.parser.State.TheVariants as st;

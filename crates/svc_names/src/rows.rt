@@ -1,7 +1,9 @@
 // Rows with names at their ends.
 
 ghost use Rattle.std.specs.Prelude.{◌≡◌, ◌++◌, OnOk, option_map};
-ghost use Rattle.svc_names.specs.Rows.{address_in, addressed, column_of, data_address, ending_column, is_header, machine_column, move_column, name_text, named_row, seen_column, shown_column, with_names};
+ghost use Rattle.svc_names.specs.Rows.{address_in, addressed, column_of, data_address, ending_column, is_header};
+ghost use Rattle.svc_names.specs.Rows.{machine_column, move_column, name_text, named_row, seen_column, shown_column};
+ghost use Rattle.svc_names.specs.Rows.{with_names};
 
 use crate::fields::field;
 use crate::names::Names;

@@ -1,5 +1,6 @@
 -- What is counted of a word in all columns at once, as it is gathered, and the rows made from it.
-use Rattle.std.specs.Prelude.{◌≡◌, ◌==◌, ◌+◌, ℕ, false, cond, nat_lt, List, [], ◌∷◌, ◌++◌, Option, Some, None, decimal, flat_map, map, unwrap_or}
+use Rattle.std.specs.Prelude.{◌≡◌, ◌==◌, ◌+◌, ℕ, false, cond, nat_lt, List, [], ◌∷◌, ◌++◌, Option, Some, None, decimal}
+use Rattle.std.specs.Prelude.{flat_map, map, unwrap_or}
 use Rattle.std.specs.BTreeMap.{BTreeMap, get}
 use Rattle.std.specs.List.{list_any}
 use Rattle.std.specs.Ordering.{nat_cmp}

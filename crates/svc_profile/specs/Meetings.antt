@@ -1,5 +1,6 @@
 -- Where two tasks of a history meet over a word: one squashes the other, or serves its read.
-use Rattle.std.specs.Prelude.{ℕ, suc, Bool, cond, List, [], ◌∷◌, ◌++◌, Option, None, Some, map, option_map, position, slice_get, unwrap_or}
+use Rattle.std.specs.Prelude.{ℕ, suc, Bool, cond, List, [], ◌∷◌, ◌++◌, Option, None, Some, map, option_map, position}
+use Rattle.std.specs.Prelude.{slice_get, unwrap_or}
 use Rattle.std.specs.List.{filter}
 use Rattle.svc_base.specs.declared.ids.WordAddr.{WordAddr}
 use Rattle.svc_base.specs.declared.ids.UnitId.{UnitId}
@@ -61,7 +62,8 @@ turns_lost rs = total rs (total_of measure.Turns group.Violation)
 
 -- the meeting at the entry at this index, where these tasks are active, if it is one
 abbrev pub meeting_at : Meets → (at : ℕ) → Entry → List TaskRun → List Meeting
-meeting_at m at e rs = cond (is_meeting m e) (record { between = between m e rs; turns = turns_lost (settled_by at e rs) } ∷ []) []
+meeting_at m at e rs =
+    cond (is_meeting m e) (record { between = between m e rs; turns = turns_lost (settled_by at e rs) } ∷ []) []
 
 -- those at the entries from this index on
 unfoldable pub meetings_from : Meets → Runs → (at : ℕ) → List Entry → List Meeting

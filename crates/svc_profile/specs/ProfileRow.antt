@@ -20,7 +20,9 @@ abbrev pub served_name : ServedKind → List ℕ
 served_name k = codes "served-" ++ served_word k
 
 abbrev pub profile_names : List (List ℕ)
-profile_names = codes "label" ∷ codes "events" ∷ (map total_name totals_told ++ (map served_name suppliers_told ++ (codes "replaced" ∷ [])))
+profile_names =
+    codes "label" ∷ codes "events" ∷ (map total_name totals_told
+    ++ (map served_name suppliers_told ++ (codes "replaced" ∷ [])))
 
 abbrev pub total_field : List TaskRun → Total → List ℕ
 total_field rs t = decimal (total rs t)

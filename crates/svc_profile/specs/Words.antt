@@ -1,5 +1,6 @@
 -- The table of words: a row for each word that an entry names, with its cost.
-use Rattle.std.specs.Prelude.{ℕ, suc, ◌==◌, nat_lt, max, Bool, List, [], ◌∷◌, ◌++◌, Option, Some, None, codes, decimal, flat_map, slice_get}
+use Rattle.std.specs.Prelude.{ℕ, suc, ◌==◌, nat_lt, max, Bool, List, [], ◌∷◌, ◌++◌, Option, Some, None, codes, decimal}
+use Rattle.std.specs.Prelude.{flat_map, slice_get}
 use Rattle.std.specs.List.{filter, range_with_len, sum_by}
 use Rattle.std.specs.Option.{option_and_then}
 use Rattle.svc_base.specs.declared.ids.WordAddr.{WordAddr}

@@ -9,7 +9,8 @@ ghost use Rattle.std.specs.List.{AllByRecursion};
 ghost use Rattle.svc_task_runs.specs.Bounds.{AreFew, IsLight};
 ghost use Rattle.svc_task_runs.specs.Runs.{runs_of, step};
 ghost use Rattle.svc_task_runs.specs.Seen.{seen};
-ghost use Rattle.svc_profile.specs.Meetings.{between, is_meeting, meeting_at, meetings_of, number_at, number_from, number_on, turns_lost, word_of};
+ghost use Rattle.svc_profile.specs.Meetings.{between, is_meeting, meeting_at, meetings_of, number_at, number_from};
+ghost use Rattle.svc_profile.specs.Meetings.{number_on, turns_lost, word_of};
 ghost use Rattle.svc_profile.specs.Units.{is_on};
 
 use crate::counts::{is_version, is_violation};

@@ -5,7 +5,8 @@ ghost use Rattle.std.specs.List.{sum_by};
 ghost use Rattle.std.specs.Io.KnownBytes.{Appends};
 ghost use Rattle.svc_base.specs.declared.config.TheConstants.{MAX_EVENTS};
 ghost use Rattle.svc_report.specs.Faults.{IsWriteFault};
-ghost use Rattle.svc_profile.specs.Met.{met_again, met_at, met_header, met_of, met_row, met_table, never_met, pair_table, supplier_table, with_meeting, with_meetings};
+ghost use Rattle.svc_profile.specs.Met.{met_again, met_at, met_header, met_of, met_row, met_table, never_met};
+ghost use Rattle.svc_profile.specs.Met.{pair_table, supplier_table, with_meeting, with_meetings};
 
 use crate::meetings::{Meeting, Meets, meetings_of};
 use std::alloc::{AllocError, Global};
@@ -141,8 +142,8 @@ fn table_of(alloc: Global, meets: Meets, entries: &[Entry]) -> Result<Vec<u8>, A
     Ok(text)
 }
 
-/// Writes the table of the squashes of a history: a header, and a row for each task that stored to a word which a later task
-/// had read too early, that task and the word: how often, and the turns of the tasks that this squashed.
+/// Writes the table of the squashes of a history: a header, and a row for each task that stored to a word which a later
+/// task had read too early, that task and the word: how often, and the turns of the tasks that this squashed.
 ///
 /// Errors: [`ReportError::Memory`], [`ReportError::Write`].
 pub fn write_pairs<W: Write>(alloc: Global, entries: &[Entry], w: &mut W) -> Result<(), ReportError>

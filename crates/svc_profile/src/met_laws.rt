@@ -15,7 +15,8 @@ use svc_history_laws::Entry;
 /// The rows of the table of squashes add up to the squashes for a violation, and to the turns of the tasks that these
 /// squashed.
 pub fn pair_rows_add_up(entries: &[Entry])
-    ensures squashes { sum_by (λ row. row.1.times) (met_of meets.Squash entries.now) ≡ (counts_of entries.now).violation }
+    ensures squashes { sum_by (λ row. row.1.times) (met_of meets.Squash entries.now)
+        ≡ (counts_of entries.now).violation }
     ensures turns { sum_by (λ row. row.1.turns) (met_of meets.Squash entries.now)
         ≡ total (tasks_of entries.now) (total_of measure.Turns group.Violation) }
 {}

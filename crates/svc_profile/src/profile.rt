@@ -7,7 +7,8 @@ ghost use Rattle.svc_base.specs.declared.config.TheConstants.{MAX_EVENTS};
 ghost use Rattle.svc_report.specs.Faults.{IsWriteFault};
 ghost use Rattle.svc_task_runs.specs.Bounds.{IsLight};
 ghost use Rattle.svc_task_runs.specs.Runs.{tasks_of};
-ghost use Rattle.svc_profile.specs.Profile.{count_row, profile_of, served_count, served_row, suppliers_told, total_row, totals_told};
+ghost use Rattle.svc_profile.specs.Profile.{count_row, profile_of, served_count, served_row, suppliers_told, total_row};
+ghost use Rattle.svc_profile.specs.Profile.{totals_told};
 
 use crate::totals::{Group, Measure, Total};
 use std::alloc::{AllocError, Global};

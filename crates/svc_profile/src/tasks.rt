@@ -4,7 +4,8 @@ ghost use Rattle.std.specs.Prelude.{◌≡◌, ◌≤◌, ◌++◌, OnOk, IfOk, 
 ghost use Rattle.std.specs.Io.KnownBytes.{Appends, append_known};
 ghost use Rattle.svc_base.specs.declared.config.TheConstants.{MAX_EVENTS};
 ghost use Rattle.svc_report.specs.Faults.{IsWriteFault};
-ghost use Rattle.svc_profile.specs.Tasks.{optional_text, task_end, task_front, task_header, task_row, task_table, tasks_in_order};
+ghost use Rattle.svc_profile.specs.Tasks.{optional_text, task_end, task_front, task_header, task_row, task_table};
+ghost use Rattle.svc_profile.specs.Tasks.{tasks_in_order};
 
 use std::alloc::{AllocError, Global};
 use std::io::Write;

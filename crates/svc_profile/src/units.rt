@@ -6,7 +6,8 @@ ghost use Rattle.std.specs.List.{AllByRecursion};
 ghost use Rattle.svc_base.specs.declared.config.TheConstants.{MAX_EVENTS};
 ghost use Rattle.svc_report.specs.Faults.{IsWriteFault};
 ghost use Rattle.svc_task_runs.specs.Bounds.{IsLight};
-ghost use Rattle.svc_profile.specs.Units.{is_on, tasks_on, total_column, unit_columns, unit_header, unit_row, unit_rows, unit_table};
+ghost use Rattle.svc_profile.specs.Units.{is_on, tasks_on, total_column, unit_columns, unit_header, unit_row};
+ghost use Rattle.svc_profile.specs.Units.{unit_rows, unit_table};
 
 use crate::totals::{Group, Measure, Total};
 use std::alloc::{AllocError, Global};

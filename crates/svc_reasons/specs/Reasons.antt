@@ -1,5 +1,6 @@
 -- What is told of a faulty entry of a trace.
-use Rattle.std.specs.Prelude.{◌≡◌, ◌≢◌, ℕ, ◌+◌, ◌-◌, ◌<◌, ◌++◌, List, [], Option, Some, None, codes, decimal, length, take}
+use Rattle.std.specs.Prelude.{◌≡◌, ◌≢◌, ℕ, ◌+◌, ◌-◌, ◌<◌, ◌++◌, List, [], Option, Some, None, codes, decimal, length}
+use Rattle.std.specs.Prelude.{take}
 use Rattle.svc_base.specs.declared.refusal.Refusal.{Refusal}
 use Rattle.svc_base.specs.Refusals.{number_of}
 use Rattle.svc_history_laws.specs.declared.entry.Entry.{Entry}

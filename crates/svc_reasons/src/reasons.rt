@@ -2,7 +2,8 @@
 
 ghost use Rattle.std.specs.Prelude.{◌≡◌, ◌++◌, [], IfOk, OnOk};
 ghost use Rattle.svc_report.specs.Trace.{row_of, text_of};
-ghost use Rattle.svc_reasons.specs.Reasons.{IsReason, TellsDifference, TellsRows, difference_line, missing_line, other_line, refusal_line, row_start, sound_line};
+ghost use Rattle.svc_reasons.specs.Reasons.{IsReason, TellsDifference, TellsRows, difference_line, missing_line};
+ghost use Rattle.svc_reasons.specs.Reasons.{other_line, refusal_line, row_start, sound_line};
 
 use crate::differing::{bare, first_other};
 use crate::told::{an_event, missing_column, put_replace_first, refusal_words};

@@ -92,7 +92,9 @@ cut-cancel,0
 
 /// The same as a row of a table.
 pub const RUN_ROW: &str =
-    "label,tasks,ending,number,kind-assign,kind-submit,kind-replace,kind-cancel,kind-commit,served-hit,served-reuse,served-version,served-spill,served-committed,served-memory,cut-violation,cut-guess,cut-cancel
+    "label,tasks,ending,number,kind-assign,kind-submit,kind-replace,kind-cancel,kind-commit,\
+    served-hit,served-reuse,served-version,served-spill,served-committed,served-memory,cut-violation,cut-guess,\
+    cut-cancel
 a,2,exit,5,16,36,0,0,2,0,0,7,0,0,3,5,3,0
 ";
 
@@ -191,7 +193,10 @@ replaced,0
 
 /// The same as a row of a table.
 pub const PROFILE_ROW: &str =
-    "label,events,tasks-begun,tasks-committed,tasks-violation,tasks-guess,tasks-cancel,tasks-active,turns-committed,turns-squashed,turns-active,loads-committed,loads-squashed,loads-active,stores-committed,stores-squashed,stores-active,served-hit,served-reuse,served-version,served-spill,served-committed,served-memory,replaced
+    "label,events,tasks-begun,tasks-committed,tasks-violation,tasks-guess,tasks-cancel,tasks-active,\
+    turns-committed,turns-squashed,turns-active,loads-committed,loads-squashed,loads-active,stores-committed,\
+    stores-squashed,stores-active,served-hit,served-reuse,served-version,served-spill,served-committed,\
+    served-memory,replaced
 a,10,3,2,1,0,0,0,9,2,0,1,1,0,1,0,0,0,0,0,0,1,1,0
 ";
 

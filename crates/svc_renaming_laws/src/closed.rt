@@ -1,6 +1,7 @@
 // Closed lists of keys that stand for standings up to names of units.
 
-ghost use Rattle.svc_renaming_laws.specs.ClosedUpToNames.{RenamedFutures, RenamedKeys, ChosenNamesTell, ClosedUpToNamesLaw};
+ghost use Rattle.svc_renaming_laws.specs.ClosedUpToNames.{RenamedFutures, RenamedKeys, ChosenNamesTell};
+ghost use Rattle.svc_renaming_laws.specs.ClosedUpToNames.{ClosedUpToNamesLaw};
 
 /// Standings with the same future, or one key, have it still when the units of both are renamed. Keys by names that are
 /// chosen for each standing tell standings apart up to names. Where keys that do so are closed under the moves of all

@@ -1,6 +1,9 @@
 // Line tables whose units are renamed.
 
-ghost use Rattle.svc_renaming_laws.specs.LineLaws.{RenamedSound, RenamedMap, RenamedNewest, RenamedSuppliers, RenamedReads, RenamedWrites, RenamedReplacements, RenamedSquashes, RenamedCommits, RenamedBeginnings, RenamedFull, RenamedResident, RenamedPinned};
+ghost use Rattle.svc_renaming_laws.specs.LineLaws.{RenamedSound, RenamedMap, RenamedNewest, RenamedSuppliers};
+ghost use Rattle.svc_renaming_laws.specs.LineLaws.{RenamedReads, RenamedWrites, RenamedReplacements, RenamedSquashes};
+ghost use Rattle.svc_renaming_laws.specs.LineLaws.{RenamedCommits, RenamedBeginnings, RenamedFull, RenamedResident};
+ghost use Rattle.svc_renaming_laws.specs.LineLaws.{RenamedPinned};
 
 /// A sound line table whose units are renamed is sound and stands for the same versioned map. Each of its steps is the
 /// renamed step, whoever reads is supplied by the renamed unit, and the same is refused.

@@ -1,5 +1,6 @@
 -- The texts of fields.
-use Rattle.std.specs.Prelude.{ℕ, List, [], Option, Some, None, Bool, true, false, ◌==◌, ◌&&◌, ◌||◌, codes, decimal, get_or, length, nat_lt, ◌≡◌, ◌≢◌}
+use Rattle.std.specs.Prelude.{ℕ, List, [], Option, Some, None, Bool, true, false, ◌==◌, ◌&&◌, ◌||◌, codes, decimal}
+use Rattle.std.specs.Prelude.{get_or, length, nat_lt, ◌≡◌, ◌≢◌}
 use Rattle.svc_base.specs.declared.ids.UnitId.{UnitId}
 use Rattle.svc_base.specs.declared.ids.WordAddr.{WordAddr}
 use Rattle.svc_history_laws.specs.declared.entry.Kind.{Kind}

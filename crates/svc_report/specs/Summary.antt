@@ -1,5 +1,6 @@
 -- The text of a summary.
-use Rattle.std.specs.Prelude.{ℕ, List, [], ◌∷◌, ◌++◌, Option, Some, None, Bool, true, false, codes, decimal, flat_map, count_by}
+use Rattle.std.specs.Prelude.{ℕ, List, [], ◌∷◌, ◌++◌, Option, Some, None, Bool, true, false, codes, decimal, flat_map}
+use Rattle.std.specs.Prelude.{count_by}
 use Rattle.svc_core_laws.specs.declared.end.Ending.{Ending}
 use Rattle.svc_core_laws.specs.declared.end.Ending.TheVariants as ending
 use Rattle.svc_history_laws.specs.declared.entry.Kind.{Kind}
@@ -94,7 +95,8 @@ ending_row e = number_row (ending_word e) (ending_number e)
 abbrev pub count_names : List (List ℕ)
 count_names =
     codes "kind-assign" ∷ codes "kind-submit" ∷ codes "kind-replace" ∷ codes "kind-cancel" ∷ codes "kind-commit"
-    ∷ codes "served-hit" ∷ codes "served-reuse" ∷ codes "served-version" ∷ codes "served-spill" ∷ codes "served-committed" ∷ codes "served-memory"
+    ∷ codes "served-hit" ∷ codes "served-reuse" ∷ codes "served-version"
+    ∷ codes "served-spill" ∷ codes "served-committed" ∷ codes "served-memory"
     ∷ codes "cut-violation" ∷ codes "cut-guess" ∷ codes "cut-cancel" ∷ []
 
 -- the counts in this order
@@ -117,4 +119,5 @@ counts_rows (Some c) = number_rows count_names (count_numbers c)
 
 -- the output words, the number of tasks, the ending, and the counts if they are given
 abbrev pub summary_of : List ℕ → ℕ → Ending → Option Counts → List ℕ
-summary_of output tasks ending counts = output_rows output ++ (number_row (codes "tasks") tasks ++ (ending_row ending ++ counts_rows counts))
+summary_of output tasks ending counts =
+    output_rows output ++ (number_row (codes "tasks") tasks ++ (ending_row ending ++ counts_rows counts))

@@ -1,21 +1,26 @@
 -- The text of a trace.
-use Rattle.std.specs.Prelude.{ℕ, zero, suc, List, [], ◌∷◌, ◌++◌, Option, IfSome, codes, decimal, flat_map, length, take, get_or, ◌<◌, ◌≤◌, ◌^◌, ◌≡◌, ◌≢◌}
+use Rattle.std.specs.Prelude.{ℕ, zero, suc, List, [], ◌∷◌, ◌++◌, Option, IfSome, codes, decimal, flat_map, length, take}
+use Rattle.std.specs.Prelude.{get_or, ◌<◌, ◌≤◌, ◌^◌, ◌≡◌, ◌≢◌}
 use Rattle.svc_history_laws.specs.declared.entry.Entry.{Entry}
 use Rattle.svc_report.specs.declared.error.ReportError.{ReportError}
-use Rattle.svc_report.specs.Fields.{address_text, ask_word, cause_word, kind_word, optional, reply_word, served_word, unit_text}
+use Rattle.svc_report.specs.Fields.{address_text, ask_word, cause_word, kind_word, optional, reply_word, served_word}
+use Rattle.svc_report.specs.Fields.{unit_text}
 use Rattle.svc_report.specs.Lines.{line}
 use Rattle.svc_report.specs.Rows.{IsBadRow, IsRowsFault, records_of}
 
 -- the names of the columns
 abbrev pub header : List (List ℕ)
-header = codes "kind" ∷ codes "unit" ∷ codes "arg" ∷ codes "local" ∷ codes "ask" ∷ codes "reply" ∷ codes "addr" ∷ codes "word" ∷ codes "served"
-    ∷ codes "from" ∷ codes "cause" ∷ codes "first" ∷ codes "squashed" ∷ []
+header =
+    codes "kind" ∷ codes "unit" ∷ codes "arg" ∷ codes "local" ∷ codes "ask" ∷ codes "reply" ∷ codes "addr"
+    ∷ codes "word" ∷ codes "served" ∷ codes "from" ∷ codes "cause" ∷ codes "first" ∷ codes "squashed" ∷ []
 
 -- the thirteen columns of an entry
 unfoldable pub columns : Entry → List (List ℕ)
-columns e = kind_word e.kind ∷ unit_text e.unit ∷ optional decimal e.arg ∷ optional decimal e.local ∷ optional ask_word e.ask ∷ reply_word e.reply
-    ∷ optional address_text e.addr ∷ optional decimal e.word ∷ optional served_word e.served ∷ optional unit_text e.from ∷ optional cause_word e.cause
-    ∷ optional decimal e.first ∷ optional decimal e.squashed ∷ []
+columns e =
+    kind_word e.kind ∷ unit_text e.unit ∷ optional decimal e.arg ∷ optional decimal e.local ∷ optional ask_word e.ask
+    ∷ reply_word e.reply ∷ optional address_text e.addr ∷ optional decimal e.word ∷ optional served_word e.served
+    ∷ optional unit_text e.from ∷ optional cause_word e.cause ∷ optional decimal e.first
+    ∷ optional decimal e.squashed ∷ []
 
 -- the row of an entry
 abbrev pub row_of : Entry → List ℕ
@@ -49,7 +54,9 @@ IsBadField field k = (e : Entry) → HasRow e → field ≢ get_or (columns e) k
 -- field there; 0 if the number of fields is wrong
 unfoldable pub FirstBad : List (List ℕ) → ℕ → Type 0
 FirstBad fields zero = length fields ≢ 13
-FirstBad fields (suc k) = (length fields ≡ 13) × ((e : Entry) × HasRow e × (take k fields ≡ take k (columns e))) × IsBadField (get_or fields k []) k
+FirstBad fields (suc k) =
+    (length fields ≡ 13) × ((e : Entry) × HasRow e × (take k fields ≡ take k (columns e)))
+    × IsBadField (get_or fields k []) k
 
 -- a bad record follows the rows of some entries
 abbrev pub IsBadEntry : List ℕ → ℕ → ℕ → Type 0

@@ -1,7 +1,8 @@
 // How many entries of a history have each kind, supplier and cause.
 
 ghost use Rattle.std.specs.Prelude.{◌≡◌, [], Some};
-ghost use Rattle.svc_report.specs.Counting.{with_kind, with_supplier, with_cause, with_entry, HaveRoomForKind, HaveRoomForSupplier, HaveRoomForCause};
+ghost use Rattle.svc_report.specs.Counting.{with_kind, with_supplier, with_cause, with_entry, HaveRoomForKind};
+ghost use Rattle.svc_report.specs.Counting.{HaveRoomForSupplier, HaveRoomForCause};
 ghost use Rattle.svc_report.specs.Summary.{count_numbers, counts_of};
 
 use svc_history_laws::{CutKind, Entry, Kind, ServedKind};

@@ -23,14 +23,16 @@ pub struct Pending {
 
 impl Model for Pending {
     ghost use Rattle.std.specs.Prelude.{◌≡◌, ◌++◌, ℕ, List, false};
-    ghost use Rattle.csv.specs.Writing.{default_writer, fields_written, has_written, writer_pending, writer_setup, writer_under};
+    ghost use Rattle.csv.specs.Writing.{default_writer, fields_written, has_written, writer_pending, writer_setup};
+    ghost use Rattle.csv.specs.Writing.{writer_under};
 
     // The text of the lines.
     ghost Value = { List ℕ };
 
     ghost view = { λ p. (writer_under p.lines).items ++ writer_pending p.lines };
 
-    ghost invariant = { λ p. (writer_setup p.lines ≡ default_writer) × (fields_written p.lines ≡ 0) × (has_written p.lines ≡ false) };
+    ghost invariant = { λ p. (writer_setup p.lines ≡ default_writer) × (fields_written p.lines ≡ 0)
+        × (has_written p.lines ≡ false) };
 }
 
 // Starts again. (It is a function of its own because otherwise room for the new writer would be made at each line.)

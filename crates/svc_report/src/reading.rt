@@ -1,6 +1,7 @@
 // How a text with a row for each item is read: what traces and scripts share.
 
-ghost use Rattle.std.specs.Prelude.{◌≡◌, ◌≤◌, ℕ, List, [], Option, length, map, option_map, IfOk, IfErr, IfSome, MatchResult};
+ghost use Rattle.std.specs.Prelude.{◌≡◌, ◌≤◌, ℕ, List, [], Option, length, map, option_map, IfOk, IfErr, IfSome};
+ghost use Rattle.std.specs.Prelude.{MatchResult};
 ghost use Rattle.std.specs.List.{AllByRecursion};
 ghost use Rattle.csv.specs.Reading.{reader_state, source_of};
 ghost use Rattle.csv.specs.Records.{fields_of};
@@ -66,10 +67,12 @@ fn add_rows<T: Row, R: Read + Drop>(
     requires open { IsOpen reader.old }
     requires state { reader_state reader.old ≡ st.StartRecord }
     requires empty { items.old.items ≡ [] }
-    ensures ok { (known : Option (List ℕ)) → source_of (known_through R.remaining) reader.old ≡ option_map readable known
+    ensures ok { (known : Option (List ℕ))
+        → source_of (known_through R.remaining) reader.old ≡ option_map readable known
         → IfOk result (λ _. AllByRecursion T.has_row items.new.items × IfSome known
         (λ text. IsRead text (records_of (map (λ n. n.now) names.now) T.columns items.new.items))) }
-    ensures err { (known : Option (List ℕ)) → source_of (known_through R.remaining) reader.old ≡ option_map readable known
+    ensures err { (known : Option (List ℕ))
+        → source_of (known_through R.remaining) reader.old ≡ option_map readable known
         → IfErr result (λ e. IsRowsFault (map (λ n. n.now) names.now) T.columns T.has_row T.first_bad known e) }
 {
     if !next_row(reader, row)? {

@@ -4,7 +4,8 @@ ghost use Rattle.std.specs.Prelude.{◌≡◌, All, OnOk, IfErr, length, map};
 ghost use Rattle.std.specs.Io.KnownBytes.{Appends, append_known};
 ghost use Rattle.svc_report.specs.Faults.{IsWriteFault};
 ghost use Rattle.svc_report.specs.Lines.{IsPlain};
-ghost use Rattle.svc_report.specs.Summary.{number_row, output_rows, ending_number, ending_row, ending_word, number_rows, summary_of};
+ghost use Rattle.svc_report.specs.Summary.{number_row, output_rows, ending_number, ending_row, ending_word};
+ghost use Rattle.svc_report.specs.Summary.{number_rows, summary_of};
 
 use crate::counts::{COUNT_NAMES, Counts};
 use crate::error::ReportError;

@@ -1,7 +1,8 @@
 // Words in fields.
 
 ghost use Rattle.std.specs.Prelude.{◌≡◌, ℕ, List, Some, slice_get};
-ghost use Rattle.svc_report.specs.Fields.{IsAny, Reads, kind_word, reply_word, served_word, cause_word, ask_word, optional};
+ghost use Rattle.svc_report.specs.Fields.{IsAny, Reads, kind_word, reply_word, served_word, cause_word, ask_word};
+ghost use Rattle.svc_report.specs.Fields.{optional};
 
 use svc_history_laws::{CutKind, Kind, ReplyKind, ServedKind};
 

@@ -1,5 +1,6 @@
 -- What the steps of a script do to a recorder, and the line of each.
-use Rattle.std.specs.Prelude.{◌≡◌, ℕ, zero, suc, not, cond, nat_lt, List, [], ◌∷◌, ◌++◌, Option, Some, None, codes, decimal, slice_get, slice_set, Result, Err, IfOk, IsOk, unwrap_or}
+use Rattle.std.specs.Prelude.{◌≡◌, ℕ, zero, suc, not, cond, nat_lt, List, [], ◌∷◌, ◌++◌, Option, Some, None, codes}
+use Rattle.std.specs.Prelude.{decimal, slice_get, slice_set, Result, Err, IfOk, IsOk, unwrap_or}
 use Rattle.std.specs.Io.KnownBytes.{Appends}
 use Rattle.svc_base.specs.declared.ids.UnitId.{UnitId}
 use Rattle.svc_base.specs.declared.refusal.Refusal.{Refusal}

@@ -1,5 +1,6 @@
 -- The text of a script.
-use Rattle.std.specs.Prelude.{ℕ, zero, suc, List, [], ◌∷◌, ◌++◌, Option, Some, None, IfSome, codes, decimal, flat_map, length, take, ◌≡◌, ◌≢◌, ◌<◌, ◌≤◌, ◌^◌}
+use Rattle.std.specs.Prelude.{ℕ, zero, suc, List, [], ◌∷◌, ◌++◌, Option, Some, None, IfSome, codes, decimal, flat_map}
+use Rattle.std.specs.Prelude.{length, take, ◌≡◌, ◌≢◌, ◌<◌, ◌≤◌, ◌^◌}
 use Rattle.svc_script.specs.declared.script.StepKind.{StepKind}
 use Rattle.svc_script.specs.declared.script.StepKind.TheVariants as kind
 use Rattle.svc_script.specs.declared.script.StepWord.{StepWord}

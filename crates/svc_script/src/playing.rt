@@ -6,7 +6,8 @@ ghost use Rattle.svc_base.specs.declared.refusal.Refusal.TheVariants as refusal;
 ghost use Rattle.svc_machine.specs.Events.{event_of};
 ghost use Rattle.svc_machine.specs.Reads.{lease_of};
 ghost use Rattle.svc_request.specs.Faults.{IsOutputFault};
-ghost use Rattle.svc_script.specs.Playing.{DoesKind, Gives, HasBurst, HasPlayed, Submits, Takes, Tries, answer_row, kept_for};
+ghost use Rattle.svc_script.specs.Playing.{DoesKind, Gives, HasBurst, HasPlayed, Submits, Takes, Tries, answer_row};
+ghost use Rattle.svc_script.specs.Playing.{kept_for};
 
 use crate::script::{Step, StepKind};
 use std::alloc::Global;

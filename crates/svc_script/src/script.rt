@@ -6,7 +6,8 @@ ghost use Rattle.std.specs.Io.KnownBytes.{Appends, append_known};
 ghost use Rattle.csv.specs.Records.{fields_of};
 ghost use Rattle.svc_report.specs.Faults.{IsStreamFault, IsWriteFault};
 ghost use Rattle.svc_report.specs.Records.{IsText};
-ghost use Rattle.svc_script.specs.Script.{FirstBadStep, HasStepRow, IsScriptFault, arg_of, kind_with, script_records, script_text, step_columns, step_row, word_of, word_text};
+ghost use Rattle.svc_script.specs.Script.{FirstBadStep, HasStepRow, IsScriptFault, arg_of, kind_with, script_records};
+ghost use Rattle.svc_script.specs.Script.{script_text, step_columns, step_row, word_of, word_text};
 ghost use Rattle.svc_script.specs.declared.script.Step.{Step};
 
 use csv::ByteRecord;

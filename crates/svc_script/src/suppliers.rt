@@ -3,7 +3,8 @@
 ghost use Rattle.std.specs.Prelude.{◌≡◌, ◌≢◌, ◌↔◌, [], IfOk, IfErr, IsTrue, OnOk, true};
 ghost use Rattle.svc_image.specs.Image.{IsImage};
 ghost use Rattle.svc_history.specs.Recorded.{IsLegal};
-ghost use Rattle.svc_script.specs.Suppliers.{AreAlike, Follows, IsFaultOfRest, IsSoundWith, IsWrongElsewhere, has_numbers, supplied_as};
+ghost use Rattle.svc_script.specs.Suppliers.{AreAlike, Follows, IsFaultOfRest, IsSoundWith, IsWrongElsewhere};
+ghost use Rattle.svc_script.specs.Suppliers.{has_numbers, supplied_as};
 
 use crate::leading::step_to;
 use crate::playing::{Answer, Kept, do_step};

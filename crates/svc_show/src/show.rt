@@ -7,7 +7,8 @@ ghost use Rattle.svc_machine.specs.Value.{StandsAt};
 ghost use Rattle.svc_machine_laws.specs.Standing.{Standing};
 ghost use Rattle.svc_report.specs.Faults.{IsMemoryFault};
 ghost use Rattle.svc_held.specs.Held.{HasHeld, IsHeldBy};
-ghost use Rattle.svc_show.specs.Show.{asked_moves, asked_order, line_rows, machine_rows, memory_rows, show_of, spill_rows, standing_rows};
+ghost use Rattle.svc_show.specs.Show.{asked_moves, asked_order, line_rows, machine_rows, memory_rows, show_of};
+ghost use Rattle.svc_show.specs.Show.{spill_rows, standing_rows};
 
 use crate::extras::Extras;
 use crate::lines::write_lines;

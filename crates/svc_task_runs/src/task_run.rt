@@ -2,7 +2,8 @@
 
 ghost use Rattle.std.specs.Prelude.{◌≡◌, ◌+◌, ◌<◌, ◌^◌, None, Some, cond};
 ghost use Rattle.svc_task_runs.specs.Bounds.{work};
-ghost use Rattle.svc_task_runs.specs.Runs.{after, ran, fate_after, fate_of, fate_word, goes_on, is_active, is_load, is_not_above, is_number, is_store, is_submit_of, turns_in};
+ghost use Rattle.svc_task_runs.specs.Runs.{after, ran, fate_after, fate_of, fate_word, goes_on, is_active, is_load};
+ghost use Rattle.svc_task_runs.specs.Runs.{is_not_above, is_number, is_store, is_submit_of, turns_in};
 
 use svc_base::UnitId;
 use svc_history_laws::{CutKind, Entry, Kind, ReplyKind};
