@@ -31,8 +31,9 @@ function bar_to_come(p, it, b) {
 
 // The sign at the end of a bar, where there is room for it.
 function end_sign(p, b) {
-  const s = p.scale, radius = (p.is_small ? 7 : 9.5) * s, x = b.x1 - 3 * s - radius, y = b.y + b.height - 3 * s - radius;
+  const s = p.scale, radius = (p.is_small ? 7 : 9.5) * s, inside = 3 * s + radius;
   if (!b.is_over || b.x1 - b.x0 <= 30 * s) return '';
+  const x = b.x1 - inside, y = b.y + b.height - inside;
   const style = `font:700 ${(radius * 1.45).toFixed(1)}px ${SANS};fill:var(--panel)`;
   return circle(x, y, radius, `fill:${EDGES[b.fate]}`)
     + svg_text(x, y + radius / 2, style, SIGNS[b.fate], 'text-anchor="middle"');

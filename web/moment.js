@@ -76,7 +76,8 @@ function ordered(now, word) {
 }
 
 const node = (kind, who, value, says) =>
-  `<li class="${kind}"><div class="nd"><span>${who}</span><span class="v">${value}</span></div><small>${says}</small></li>`;
+  `<li class="${kind}"><div class="nd"><span>${who}</span><span class="v">${value}</span></div>`
+  + `<small>${says}</small></li>`;
 
 const stale = (line) => (line?.bits[4] === 'T' ? TEXTS.stale : '');
 
@@ -143,7 +144,8 @@ function spill_html(session, now, { word, value }, is_new) {
 
 export function memory_html(session, now, before, is_marked) {
   const words = words_of(session), of = (list, word) => list.find((it) => it.word === word);
-  const row = (word) => memory_row(session, word, of(now.memory, word), is_marked ? of(before.memory, word) : undefined);
+  const old = is_marked ? before.memory : [];
+  const row = (word) => memory_row(session, word, of(now.memory, word), of(old, word));
   const spill = (it) => spill_html(session, now, it, is_marked && !of(before.spills, it.word));
   const head = TEXTS.memory_head.map((it, n) => `<th${n ? ' class="n"' : ''}>${it}</th>`).join('');
   const left_out = session.words.length - words.length, note = (text) => `<p class="legend">${text}</p>`;

@@ -33,7 +33,8 @@ function standing(session, now, unit) {
   return `<span>${task}, ${state}, ${TEXTS.turns(it.turns)}${place}</span> <span class="${kind}">${rank}</span>`;
 }
 
-// The assignments to entries that are not the guess, where that to the guess is accepted: some as buttons, many as a list.
+// The assignments to entries that are not the guess, where that to the guess is accepted: some as buttons, many as a
+// list.
 function other_entries(session, predict, now, unit) {
   const others = session.entry_addresses().filter((it) => String(it) !== now.guess);
   if (others.length <= MOST_ENTRIES) {

@@ -59,7 +59,8 @@ const unit_html = (it) => `<span class="pc u${it % 2}" title="${TEXTS.unit_label
 
 // An instruction, with the units that are at it. A name with an offset stands for no label of the text.
 function instruction_html(it, units) {
-  const name = it.name.includes('+') ? '' : it.name, kind = [it.is_entry && 'en', units.length && 'here'].filter(Boolean);
+  const name = it.name.includes('+') ? '' : it.name;
+  const kind = [it.is_entry && 'en', units.length > 0 && 'here'].filter(Boolean);
   return `<tr class="${kind.join(' ')}"><td class="pcs">${units.map(unit_html).join(' ')}</td><td>${escaped(name)}</td>`
     + `<td>${hexadecimal(it.address).slice(2)}</td><td>${escaped(it.text)}</td></tr>`;
 }

@@ -3,6 +3,7 @@
 import { escaped } from './html.js';
 import { entry_html, word_html } from './names.js';
 import { TRACE_COLUMNS } from './rows.js';
+import { MOST_STATES } from './session.js';
 import { TEXTS } from './texts.js';
 
 export const TABS = ['all', 'trace', 'script', 'cost', 'needs'];
@@ -58,7 +59,7 @@ function exploring_html() {
 // The button that begins an exploration, and its limit.
 const begin_html = ({ by }) =>
   `<div class="chips"><label>${TEXTS.standings} <input id="states" type="number" min="1" max="1000000"`
-  + ` value="${by.states ?? 20000}"></label><button id="bexplore">${TEXTS.explore}</button></div>`;
+  + ` value="${by.states ?? MOST_STATES}"></label><button id="bexplore">${TEXTS.explore}</button></div>`;
 
 const filter_html = ([key, text]) =>
   `<button data-filter="${key}" aria-pressed="${tables.filter === key}">${text}</button>`;
@@ -96,7 +97,8 @@ const scrolled = (label, html) => `<div class="scroll" tabindex="0" role="region
 
 // The rows around the moment.
 function around(session, limit) {
-  const from = Math.max(0, session.k - AROUND), to = Math.min(limit, session.k + AROUND), left_out = limit - (to - from);
+  const from = Math.max(0, session.k - AROUND), to = Math.min(limit, session.k + AROUND);
+  const left_out = limit - (to - from);
   return { from, to, note: left_out > 0 ? `<p class="legend">${TEXTS.rows_left_out(left_out)}</p>` : '' };
 }
 

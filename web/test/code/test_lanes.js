@@ -2,7 +2,8 @@
 // leaves 840 for the columns.
 
 import { deepEqual, equal, ok } from 'node:assert/strict';
-import { is_long, labels_html, lanes_svg, moment_text, places, scrolled_to, strip_svg, window_style } from '../../lanes.js';
+import { is_long, labels_html, lanes_svg, moment_text, places, scrolled_to, strip_svg,
+  window_style } from '../../lanes.js';
 import { key_html } from '../../marks.js';
 import { entry_of, sound_of } from '../../rows.js';
 import { text } from './cases.js';
