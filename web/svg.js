@@ -2,7 +2,8 @@
 
 import { escaped } from './html.js';
 
-export const SANS = 'system-ui,Arial', MONO = "ui-monospace,'Noto Sans Mono',monospace";
+export const SANS = 'var(--sans)';
+export const MONO = 'var(--mono)';
 
 export const FILLS = {
   committed: 'var(--ok-f)', violation: 'url(#hv)', guess: 'url(#hg)', cancel: 'url(#hc)', active: 'var(--act-f)',
