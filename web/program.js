@@ -55,7 +55,11 @@ export function place_of({ line, column }, text) {
 
 const MOST_LINES = 600;
 
-const unit_html = (it) => `<span class="pc u${it % 2}" title="${TEXTS.unit_label(it)}">u${it}</span>`;
+// A unit at its instruction; one whose task has ended is pale.
+function unit_html({ unit, state }) {
+  const has_ended = state !== 'running', says = TEXTS.unit_label(unit) + (has_ended ? TEXTS.task_has_ended : '');
+  return `<span class="pc u${unit % 2}${has_ended ? ' over' : ''}" title="${says}">u${unit}</span>`;
+}
 
 // An instruction, with the units that are at it. A name with an offset stands for no label of the text.
 function instruction_html(it, units) {
@@ -67,9 +71,11 @@ function instruction_html(it, units) {
 
 // The listing, of a long one the lines around the first unit.
 export function listing_html(session) {
-  const { listing } = session, { pcs } = session.now();
+  const { listing } = session, { pcs, tasks } = session.now();
+  const state = (unit) => tasks.find((it) => it.unit === unit)?.state;
   const first = Number(pcs[0]?.address), middle = listing.findIndex((it) => it.address === first);
   const from = Math.max(0, Math.min(listing.length - MOST_LINES, middle - MOST_LINES / 2));
-  const at = (address) => pcs.filter((it) => Number(it.address) === address).map((it) => it.unit);
+  const at = (address) => pcs.filter((it) => Number(it.address) === address)
+    .map(({ unit }) => ({ unit, state: state(unit) }));
   return listing.slice(from, from + MOST_LINES).map((it) => instruction_html(it, at(it.address))).join('');
 }

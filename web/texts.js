@@ -42,6 +42,7 @@ export const TEXTS = {
   listing_name: 'name',
   listing_address: 'address',
   listing_instruction: 'instruction',
+  task_has_ended: ': its task has ended',
   machine: 'Machine',
   units: 'Units',
   sets: 'Sets',
