@@ -206,7 +206,7 @@ export const TEXTS = {
   right: '✓ Right.',
   wrong: (said) => `✗ Not so: you said “${said}”.`,
   hidden: 'hidden until you have said',
-  hidden_short: 'hidden',
+  hidden_short: '?',
   hidden_table: 'Hidden while you predict.',
   asks: {
     serves: (task, word) => `${task} now loads ${word}. Who serves it?`,
