@@ -337,7 +337,9 @@ export const TEXTS = {
   // tables
   show_what: 'Show',
   filters: { all: 'everything', load: 'loads', squash: 'squashes', store: 'stores', output: 'outputs' },
-  explored: (it) => `${it.states} standings, ${it.moves} moves, deepest ${it.deepest}, whole: ${it.whole}`,
+  explored: ({ states, moves, deepest, whole }) =>
+    (whole === 'yes' ? `all ${states} standings` : `${states} standings, not all`)
+      + `, each within ${many(Number(deepest), 'step', 'steps')}; ${moves} moves`,
   explore: 'Look at all schedules',
   standings: 'Standings at most',
   exploring: (seconds) => `Following every schedule… ${seconds} s`,

@@ -231,7 +231,7 @@ def all_schedules(page):
     with open(f"{DATA}/explore/explore_violation_on_2_by_63.txt", encoding="utf-8") as it:
         rows = it.read().split("\n")
     it = dict(row.split(",") for row in rows[:4])
-    wanted = f"{it['states']} standings, {it['moves']} moves, deepest {it['deepest']}, whole: {it['whole']}"
+    wanted = f"all {it['states']} standings, each within {it['deepest']} steps; {it['moves']} moves"
     assert wanted in page.text("#p-all"), page.text("#p-all")
     assert page.get("document.querySelectorAll('.seen li').length") == 15
     assert "seen in the run" in page.text("#p-all") and "●" in page.text(".seen")
