@@ -373,8 +373,8 @@ export const TEXTS = {
   in_run: (n) => `, entry ${n}`,
   filled: '●',
   empty: '○',
-  seen_key: '● seen in the run above, ○ not in it. A row loads a schedule that shows it; of rows with the same task and '
-    + 'word only the first can be loaded.',
+  seen_key: '● seen in the run above, ○ not in it. A row loads a schedule that shows it; of rows with the same task '
+    + 'and word only the first can be loaded.',
   whole: (units, burst) =>
     `On ${many(units, 'unit', 'units')}, by bursts of at most ${burst}, no schedule whatever shows anything else: `
     + 'what is not listed never happens.',
