@@ -10,7 +10,7 @@ import { TEXTS } from './texts.js';
 
 // A run of more columns is drawn around the moment alone: to lay out more takes longer than the library takes for a
 // step.
-const MOST_COLUMNS = 240, AROUND = 64;
+const MOST_COLUMNS = 240, AROUND = 40;
 
 export const is_long = (session) => session.entries.length > MOST_COLUMNS;
 
