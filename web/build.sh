@@ -50,8 +50,9 @@ fi
 
 # The module, of which nothing is changed but what it says of the processor.
 wasm=(--target=wasm64-unknown-unknown -mcpu=lime1)
+layout=e-m:e-p:64:64-p10:8:8-p20:8:8-i64:64-i128:128-n32:64-S128-ni:1:10:20
 sed -E \
-    -e 's/^target datalayout = .*/target datalayout = "e-m:e-p:64:64-p10:8:8-p20:8:8-i64:64-i128:128-n32:64-S128-ni:1:10:20"/' \
+    -e "s/^target datalayout = .*/target datalayout = \"$layout\"/" \
     -e 's/^target triple = .*/target triple = "wasm64-unknown-unknown"/' \
     -e '/^attributes #/s/ "(frame-pointer|probe-stack|stack-probe-size|target-cpu)"="[^"]*"//g' \
     "$work/x86.ll" > "$work/page.ll"
@@ -59,7 +60,8 @@ if grep -n '@llvm\.x86\|asm sideeffect' "$work/page.ll" | head -3 | grep .; then
     echo "the module has code for one processor alone" >&2
     exit 1
 fi
-"$llvm/clang" "${wasm[@]}" -mllvm -expand-div-rem-bits=64 "$level" -ffunction-sections -c -x ir "$work/page.ll" -o "$work/page.o"
+"$llvm/clang" "${wasm[@]}" -mllvm -expand-div-rem-bits=64 "$level" -ffunction-sections -c -x ir "$work/page.ll" \
+    -o "$work/page.o"
 "$llvm/clang" "${wasm[@]}" -O2 -c -x ir "$here/abi.ll" -o "$work/abi.o"
 for it in heap helpers; do
     "$llvm/clang" "${wasm[@]}" -O2 -ffreestanding -nostdinc -fno-builtin -c "$here/$it.c" -o "$work/$it.o"

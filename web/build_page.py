@@ -48,8 +48,11 @@ EXPORT = re.compile(r"^export (?:async )?(?:const|function|class) ([\w$]+)", re.
 def in_order(name, done):
     """The scripts that this one needs, and then it, each once."""
     if name not in done:
-        for _, needed in IMPORT.findall(text_of(f"{HERE}/{name}.js")):
+        for names, needed in IMPORT.findall(text_of(f"{HERE}/{name}.js")):
             in_order(needed, done)
+            exported = EXPORT.findall(text_of(f"{HERE}/{needed}.js"))
+            missing = [it for it in re.findall(r"[\w$]+", names) if it not in exported]
+            assert not missing, f"{needed}.js exports no {missing}, which {name}.js imports"
         done.append(name)
     return done
 

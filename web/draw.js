@@ -1,8 +1,8 @@
 // Puts what the other modules lay out into the document, and keeps what is to be seen in sight.
 
 import { $, set_html } from './document.js';
-import { is_long, key_html, labels_html, lanes_svg, moment_text, places, scrolled_to, strip_svg,
-  window_style } from './lanes.js';
+import { is_long, labels_html, lanes_svg, moment_text, places, scrolled_to, strip_svg, window_style } from './lanes.js';
+import { key_html } from './marks.js';
 import { caches_html, memory_html, output_html, versions_html, words_html, words_of } from './moment.js';
 import { moves_html, moves_note } from './moves.js';
 import { line_in_sight, listing_html, message_html, numbers_html, place_of, program_html } from './program.js';

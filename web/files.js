@@ -1,7 +1,9 @@
-// Files and links. A link carries the program, the machine and the script in its fragment, which no browser sends anywhere.
+// Files and links. A link carries the program, the machine and the script in its fragment, which no browser sends
+// anywhere.
 
 import { bytes_of, text_of } from './library.js';
 import { HEADER } from './requests.js';
+import { TEXTS } from './texts.js';
 
 // Bytes through a stream that packs or unpacks them.
 async function through(bytes, stream) {
@@ -24,27 +26,26 @@ export async function opened_by(fragment, programs) {
   if (fragment.length < 2) return null;
   try {
     const letters = atob(fragment.slice(1).replace(/-/g, '+').replace(/_/g, '/'));
-    const text = text_of(await through(Uint8Array.from(letters, (it) => it.charCodeAt(0)),
-      new DecompressionStream('deflate-raw')));
-    const it = JSON.parse(text);
-    const is_ours = typeof it.t === 'string' && Array.isArray(it.s)
-      && it.s.every((step) => typeof step === 'string' && !step.includes('\n'));
-    return is_ours
-      ? { lesson: String(it.l), text: it.t, config: numbers_of(it.c), by: by_of(it.b), steps: it.s,
-        k: Number(it.k) || 0 }
-      : null;
+    const packed = Uint8Array.from(letters, (it) => it.charCodeAt(0));
+    return carried(JSON.parse(text_of(await through(packed, new DecompressionStream('deflate-raw')))));
   } catch {
     return null;
   }
 }
 
+// What a link carries, if it is of the kind that fragment_of makes.
+function carried({ l, t, c, b, s, k }) {
+  const is_step = (it) => typeof it === 'string' && !it.includes('\n');
+  if (typeof t !== 'string' || !Array.isArray(s) || !s.every(is_step)) return null;
+  return { lesson: String(l), text: t, config: machine_of(c), by: schedule_of(b), steps: s, k: number_of(k, 0) };
+}
+
 const number_of = (it, none) => (Number.isSafeInteger(it) && it >= 0 ? it : none);
-const numbers_of = (it) =>
+const machine_of = (it) =>
   ({ units: number_of(it?.units, 2), sets: number_of(it?.sets, 16), ways: number_of(it?.ways, 2) });
-const by_of = (it) => ({
-  order: ['rotate', 'oldest', 'youngest', 'random'].includes(it?.order) ? it.order : 'youngest',
-    seed: number_of(it?.seed, 0), burst: number_of(it?.burst, 63),
-});
+const order_of = (it) => (Object.keys(TEXTS.orders).includes(it) ? it : 'youngest');
+const schedule_of = (it) =>
+  ({ order: order_of(it?.order), seed: number_of(it?.seed, 0), burst: number_of(it?.burst, 63) });
 
 const MOST_DRAWN = 400;
 
@@ -66,7 +67,8 @@ export async function saved_as(session, kind) {
   return { name: (session.lesson || 'program') + end, bytes: await bytes(session), type };
 }
 
-// Opens a file by what it holds: a script, a trace, an image, whose listing is then the program, or else a program's text.
+// Opens a file by what it holds: a script, a trace, an image, whose listing is then the program, or else a program's
+// text.
 export async function open_file(session, file) {
   const bytes = new Uint8Array(await file.arrayBuffer()), first = text_of(bytes.slice(0, 200)).split('\n')[0].trim();
   if (first === HEADER) return session.rewrite(text_of(bytes).split('\n').slice(1).filter((it) => it !== ''), 0);

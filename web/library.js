@@ -1,5 +1,5 @@
-// Calls of the library: words and files in, what was printed and saved out. The module runs in a worker, so a call can be stopped; the
-// files stand on both sides, so a fresh worker goes on where the last one was.
+// Calls of the library: words and files in, what was printed and saved out. The module runs in a worker, so a call can
+// be stopped; the files stand on both sides, so a fresh worker goes on where the last one was.
 
 const TEXT = new TextEncoder(), BYTES = new TextDecoder();
 

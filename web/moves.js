@@ -1,4 +1,5 @@
-// The moves of each unit: the same places at every moment, and what is refused says why. Whether a move is refused is the library's answer.
+// The moves of each unit: the same places at every moment, and what is refused says why. Whether a move is refused is
+// the library's answer.
 
 import { escaped } from './html.js';
 import { entry_html, entry_text, word_html } from './names.js';
@@ -9,9 +10,10 @@ const MOST_ENTRIES = 4;
 const why = (number) => TEXTS.refusal[number] ?? number;
 
 function button(session, predict, move, refusal, label, says = '') {
-  const is_next = !predict.on && move === session.next_step(),
-    under = refusal ? why(refusal) : is_next ? TEXTS.next : says;
-  return `<button data-move="${move}"${refusal ? ' aria-disabled="true"' : ''} class="${is_next ? 'nextmv' : ''}"><span>${label}</span>${under ? `<small>${under}</small>` : ''}</button>`;
+  const is_next = !predict.on && move === session.next_step();
+  const under = refusal ? why(refusal) : is_next ? TEXTS.next : says;
+  const more = `${refusal ? ' aria-disabled="true"' : ''} class="${is_next ? 'nextmv' : ''}"`;
+  return `<button data-move="${move}"${more}><span>${label}</span>${under ? `<small>${under}</small>` : ''}</button>`;
 }
 
 function registers(now, unit) {
@@ -23,32 +25,36 @@ function registers(now, unit) {
 function standing(session, now, unit) {
   const at = now.tasks.findIndex((it) => it.unit === unit);
   if (at < 0) return `<span class="soft">${TEXTS.has_no_task}</span>`;
-  const it = now.tasks[at], pc = now.pcs.find((one) => one.unit === unit),
-    state = it.state === 'running' ? TEXTS.running : TEXTS.ended;
+  const it = now.tasks[at], pc = now.pcs.find((one) => one.unit === unit);
+  const state = it.state === 'running' ? TEXTS.running : TEXTS.ended;
   const place = pc ? `, ${TEXTS.pc(entry_html(session, pc.address))}` : '';
-  return `<span>${TEXTS.task(it.task)} @ ${entry_html(session, it.entry)}, ${state}, ${TEXTS.turns(it.turns)}${place}</span> `
-    + `<span class="badge${at === 0 ? ' head">' + TEXTS.head : '">' + TEXTS.speculative}</span>`;
+  const [kind, rank] = at === 0 ? ['badge head', TEXTS.head] : ['badge', TEXTS.speculative];
+  const task = `${TEXTS.task(it.task)} @ ${entry_html(session, it.entry)}`;
+  return `<span>${task}, ${state}, ${TEXTS.turns(it.turns)}${place}</span> <span class="${kind}">${rank}</span>`;
 }
 
-// The assignments to entries that are not the guess, where that to the guess is accepted: some as buttons, many as a list.
+// The assignments to entries that are not the guess, where that to the guess is accepted: some as buttons, many as a
+// list.
 function other_entries(session, predict, now, unit) {
   const others = session.entry_addresses().filter((it) => String(it) !== now.guess);
   if (others.length <= MOST_ENTRIES) {
-    return others.map((it) => button(session, predict, `assign,${unit},${it}`, '', TEXTS.begin_at(entry_html(session, it)),
-      TEXTS.not_the_guess)).join('');
+    const one = (it) => button(session, predict, `assign,${unit},${it}`, '', TEXTS.begin_at(entry_html(session, it)),
+      TEXTS.not_the_guess);
+    return others.map(one).join('');
   }
   const options = others.map((it) => `<option value="${it}">${escaped(entry_text(session, it))}</option>`).join('');
-  return `<label class="elsewhere">${TEXTS.begin_elsewhere}<select data-begin="${unit}"><option value=""></option>${options}</select></label>`;
+  return `<label class="elsewhere">${TEXTS.begin_elsewhere}`
+    + `<select data-begin="${unit}"><option value=""></option>${options}</select></label>`;
 }
 
 const label_of_burst = (turns) => (turns === 1 ? TEXTS.one_turn : turns === 63 ? TEXTS.to_bus : TEXTS.up_to(turns));
 
-// A unit's moves as buttons: rows of the library. A burst of more turns begins with that of one; the library is asked for it where
-// that one is accepted.
+// A unit's moves as buttons: rows of the library. A burst of more turns begins with that of one; the library is asked
+// for it where that one is accepted.
 function buttons(session, predict, now, unit) {
   const rows = now.moves.filter((it) => it.unit === unit), of = (kind) => rows.find((it) => it.kind === kind);
-  const one = (it, label, says) => (it ? button(session, predict, [it.kind, unit, it.arg].join(), it.refusal, label, says)
-    : '');
+  const one = (it, label, says) =>
+    (it ? button(session, predict, [it.kind, unit, it.arg].join(), it.refusal, label, says) : '');
   const assign = of('assign'), submit = of('submit');
   const burst = (turns) => {
     const move = `submit,${unit},${turns}`;
@@ -62,7 +68,8 @@ function buttons(session, predict, now, unit) {
 }
 
 function unit_box(session, predict, now, unit) {
-  return `<div class="unit" role="group" aria-label="${TEXTS.unit_label(unit)}"><div class="st"><h3>${TEXTS.Unit(unit)}</h3>${standing(session, now, unit)}</div>`
+  return `<div class="unit" role="group" aria-label="${TEXTS.unit_label(unit)}">`
+    + `<div class="st"><h3>${TEXTS.Unit(unit)}</h3>${standing(session, now, unit)}</div>`
     + `${registers(now, unit)}<div class="mv">${buttons(session, predict, now, unit)}</div></div>`;
 }
 

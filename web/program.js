@@ -6,9 +6,9 @@ import { TEXTS } from './texts.js';
 // A line of the text in colours: comments, directives, labels.
 function coloured(line) {
   const at = line.indexOf('#'), code = at < 0 ? line : line.slice(0, at), note = at < 0 ? '' : line.slice(at);
-  return escaped(code).replace(/^(\s*)(\.\w+)/, '$1<span class="d">$2</span>').replace(/^(\s*[\w.$]+:)/,
-    '<span class="l">$1</span>')
-    + (note ? `<span class="c">${escaped(note)}</span>` : '');
+  const words = escaped(code).replace(/^(\s*)(\.\w+)/, '$1<span class="d">$2</span>')
+    .replace(/^(\s*[\w.$]+:)/, '<span class="l">$1</span>');
+  return words + (note ? `<span class="c">${escaped(note)}</span>` : '');
 }
 
 // What stands before a column, which counts bytes.
@@ -24,19 +24,23 @@ function underlined(line, column) {
 export const numbers_html = (text) => text.split('\n').map((_, n) => n + 1).join('\n') + '\n';
 
 // The text in colours, with the fault underlined.
-export const program_html = (text, fault) =>
-  text.split('\n').map((it, n) => (fault?.line === n + 1 ? underlined(it, fault.column) : coloured(it))).join('\n') + '\n';
+export function program_html(text, fault) {
+  const one = (it, n) => (fault?.line === n + 1 ? underlined(it, fault.column) : coloured(it));
+  return text.split('\n').map(one).join('\n') + '\n';
+}
 
 function fault_html({ line, column, says }, old) {
   const told = line ? TEXTS.fault_at(line, column, escaped(says)) : TEXTS.fault(escaped(says));
-  return `<p class="fault">${told}${old}${line ? ` <button id="bfault" class="lnk">${TEXTS.go_there}</button>` : ''}</p>`;
+  const there = line ? ` <button id="bfault" class="lnk">${TEXTS.go_there}</button>` : '';
+  return `<p class="fault">${told}${old}${there}</p>`;
 }
 
 // What is said of the text in the editor, which may be newer than the one that was assembled.
 export function message_html(session, text) {
   if (session.text !== text) return '';
   if (session.fault) return fault_html(session.fault, session.has_image ? TEXTS.shown_is_old : '');
-  return session.has_image ? `<p class="okline">${TEXTS.assembles(`${escaped(session.lesson || 'program')}.s`)}</p>` : '';
+  if (!session.has_image) return '';
+  return `<p class="okline">${TEXTS.assembles(`${escaped(session.lesson || 'program')}.s`)}</p>`;
 }
 
 // The line that is to be in sight: that of the fault, or of the first entry.
@@ -51,19 +55,27 @@ export function place_of({ line, column }, text) {
 
 const MOST_LINES = 600;
 
+// A unit at its instruction; one whose task has ended is pale.
+function unit_html({ unit, state }) {
+  const has_ended = state !== 'running', says = TEXTS.unit_label(unit) + (has_ended ? TEXTS.task_has_ended : '');
+  return `<span class="pc u${unit % 2}${has_ended ? ' over' : ''}" title="${says}">u${unit}</span>`;
+}
+
+// An instruction, with the units that are at it. A name with an offset stands for no label of the text.
+function instruction_html(it, units) {
+  const name = it.name.includes('+') ? '' : it.name;
+  const kind = [it.is_entry && 'en', units.length > 0 && 'here'].filter(Boolean);
+  return `<tr class="${kind.join(' ')}"><td class="pcs">${units.map(unit_html).join(' ')}</td><td>${escaped(name)}</td>`
+    + `<td>${hexadecimal(it.address).slice(2)}</td><td>${escaped(it.text)}</td></tr>`;
+}
+
+// The listing, of a long one the lines around the first unit.
 export function listing_html(session) {
-  const now = session.now(), at = new Map();
-  for (const it of now.pcs) {
-    const list = at.get(Number(it.address)) ?? [];
-    list.push(it.unit);
-    at.set(Number(it.address), list);
-  }
-  const pcs = [...at.keys()], middle = session.listing.findIndex((it) => it.address === pcs[0]);
-  const from = Math.max(0, Math.min(session.listing.length - MOST_LINES, middle - MOST_LINES / 2));
-  const unit = (it) => `<span class="pc u${it % 2}" title="${TEXTS.Unit(it).replace('&nbsp;', ' ')}">u${it}</span>`;
-  return session.listing.slice(from, from + MOST_LINES).map((it) => {
-    const here = at.get(it.address) ?? [], name = it.name.includes('+') ? '' : it.name;
-    return `<tr class="${it.is_entry ? 'en' : ''}${here.length ? ' here' : ''}"><td class="pcs">${here.map(unit).join(' ')}</td><td>${escaped(name)}</td>`
-      + `<td>${hexadecimal(it.address).slice(2)}</td><td>${escaped(it.text)}</td></tr>`;
-  }).join('');
+  const { listing } = session, { pcs, tasks } = session.now();
+  const state = (unit) => tasks.find((it) => it.unit === unit)?.state;
+  const first = Number(pcs[0]?.address), middle = listing.findIndex((it) => it.address === first);
+  const from = Math.max(0, Math.min(listing.length - MOST_LINES, middle - MOST_LINES / 2));
+  const at = (address) => pcs.filter((it) => Number(it.address) === address)
+    .map(({ unit }) => ({ unit, state: state(unit) }));
+  return listing.slice(from, from + MOST_LINES).map((it) => instruction_html(it, at(it.address))).join('');
 }

@@ -1,17 +1,17 @@
 // What the page asks the library for, one function a request. Files go by the names in FILES.
 
 import { Stopped, text_of } from './library.js';
-import { TRACE_COLUMNS, drawn_of, explored_of, fault_of, lines_of, listing_of, played_of, shown_of, sound_of, summary_of,
-  table_of } from './rows.js';
+import { TRACE_COLUMNS, drawn_of, explored_of, fault_of, lines_of, listing_of, played_of, shown_of, sound_of,
+  summary_of, table_of } from './rows.js';
 
 const FILES = {
-  text: 'program.s', image: 'image.svci', names: 'names.csv', script: 'script.csv', trace: 'trace.csv',
-    begin: 'begin.csv',
-  run: 'run.csv', front: 'front.csv', tried: 'tried.csv', listed: 'opened.svci', rows: 'rows.csv', picture: 'picture.svg',
-    witness: 'witness.csv', export: 'export.txt',
+  text: 'program.s', image: 'image.svci', names: 'names.csv', listed: 'opened.svci',
+  script: 'script.csv', tried: 'tried.csv', begin: 'begin.csv',
+  trace: 'trace.csv', front: 'front.csv', run: 'run.csv', witness: 'witness.csv',
+  rows: 'rows.csv', picture: 'picture.svg', export: 'export.txt',
 };
-// More tasks than a history of 100,000 entries can commit.
-const MOST_TASKS = 50000;
+// More tasks than a history of 100,000 entries can commit, and as many as the table of needs shows.
+const MOST_TASKS = 50000, MOST_DEPENDING = 300;
 export const HEADER = 'kind,unit,arg';
 
 // A fault that the program told.
@@ -103,7 +103,8 @@ export class Requests {
     return this.follow(this.library.files.get(FILES.run));
   }
 
-  // A script that does the same as these steps, and keeps no burst to be submitted later: no run goes on behind such a one.
+  // A script that does the same as these steps, and keeps no burst to be submitted later: no run goes on behind such a
+  // one.
   async without_kept_bursts(steps) {
     this.library.put(FILES.script, script_text(steps));
     await this.get(['script', FILES.image, FILES.script, ...this.machine(), '--trace', FILES.tried]);
@@ -111,12 +112,13 @@ export class Requests {
     return FILES.begin;
   }
 
-  // The machine after these entries, with the first words of memory. The trace is lent up to them, since rows behind them are read too.
+  // The machine after these entries, with the first words of memory. The trace is lent up to them, since rows behind
+  // them are read too.
   async show(entries, words) {
     this.library.put(FILES.front, [TRACE_COLUMNS, ...entries.map((it) => it.row), ''].join('\n'));
     const more = words > 0 ? ['--memory', `0-${words - 1}`] : [];
-    return shown_of((await this.get(['show', FILES.image, FILES.front, '--detail', '--moves', ...more,
-      ...this.machine()])).out);
+    const asked = ['show', FILES.image, FILES.front, '--detail', '--moves', ...more, ...this.machine()];
+    return shown_of((await this.get(asked)).out);
   }
 
   // What the library answers to a move that is made behind the steps: a refusal, or none.
@@ -127,15 +129,17 @@ export class Requests {
     return last?.step === steps.length ? last.why : '';
   }
 
+  // So many columns of the lanes, as rows.
   async draw(from, count) {
-    await this.get(['draw', FILES.image, FILES.trace, FILES.rows, '--rows', '--from', from, '--count', count,
-      ...this.machine()]);
+    const columns = ['--from', from, '--count', count];
+    await this.get(['draw', FILES.image, FILES.trace, FILES.rows, '--rows', ...columns, ...this.machine()]);
     return drawn_of(text_of(this.library.files.get(FILES.rows)));
   }
 
+  // The same as a picture.
   async picture(from, count) {
-    await this.get(['draw', FILES.image, FILES.trace, FILES.picture, '--from', from, '--count', count,
-      ...this.machine()]);
+    const columns = ['--from', from, '--count', count];
+    await this.get(['draw', FILES.image, FILES.trace, FILES.picture, ...columns, ...this.machine()]);
     return this.library.files.get(FILES.picture);
   }
 
@@ -147,12 +151,13 @@ export class Requests {
   }
 
   async profile(by) {
-    return table_of((await this.get(['profile', FILES.image, FILES.trace, '--by', by, '--names', FILES.names,
-      ...this.machine()])).out);
+    const asked = ['profile', FILES.image, FILES.trace, '--by', by, '--names', FILES.names, ...this.machine()];
+    return table_of((await this.get(asked)).out);
   }
 
   async depend(by) {
-    return table_of((await this.get(['depend', FILES.image, '--by', by, '--tasks', 300, '--names', FILES.names])).out);
+    const asked = ['depend', FILES.image, '--by', by, '--tasks', MOST_DEPENDING, '--names', FILES.names];
+    return table_of((await this.get(asked)).out);
   }
 
   // What the trace shows, as rows of an exploration.
@@ -173,8 +178,8 @@ export class Requests {
   // A schedule that shows what the row says, with the row that it shows.
   async witness(how, seen) {
     this.other.put(FILES.image, this.library.files.get(FILES.image));
-    const words = [...this.explore_words(how), '--find', [seen.what, seen.task, seen.word].join().replace(/,+$/, ''),
-      '--trace', FILES.witness];
+    const wanted = [seen.what, seen.task, seen.word].join().replace(/,+$/, '');
+    const words = [...this.explore_words(how), '--find', wanted, '--trace', FILES.witness];
     const found = explored_of((await this.get(words, this.other)).out).seen[0];
     return { found, ...await this.follow(this.other.files.get(FILES.witness)) };
   }

@@ -11,9 +11,8 @@ export function entry_of(row) {
   const f = row.split(',');
   return {
     row, kind: f[0], unit: Number(f[1]), arg: f[2], local: number_or(f[3], 0), ask: f[4], reply: f[5],
-      word: number_or(f[6], -1),
-    value: f[7], served: f[8], from: number_or(f[9], -1), cause: f[10], first: number_or(f[11], -1),
-      count: number_or(f[12], 0),
+    word: number_or(f[6], -1), value: f[7], served: f[8], from: number_or(f[9], -1),
+    cause: f[10], first: number_or(f[11], -1), count: number_or(f[12], 0),
   };
 }
 
@@ -37,58 +36,58 @@ export function sound_of(trace) {
   return { answers, entries: answers.map(entry_of), step_of: [...answers.keys()], refused: [] };
 }
 
-// The machine at a moment: the rows of `show`.
-export function shown_of(text) {
-  const s = { tasks: [], lines: [], spills: [], memory: [], pcs: [], registers: [], orders: [], moves: [], ending: null,
-    due: '', guess: '' };
+// What a row of each kind holds, by the kind: the list that it goes to, and a value of its fields.
+function sorted_by(kinds, text, lists) {
   for (const row of lines_of(text)) {
-    const f = row.split(',');
-    switch (f[0]) {
-      case 'task': s.tasks.push({ task: Number(f[1]), unit: Number(f[2]), entry: f[3], turns: Number(f[4]),
-        state: f[5] });
-        break;
-      case 'line': s.lines.push({ unit: Number(f[1]), word: Number(f[2]), value: f[3], bits: f[4] }); break;
-      case 'spill': s.spills.push({ word: Number(f[1]), value: f[2] }); break;
-      case 'memory': s.memory.push({ word: Number(f[1]), committed: f[2], backing: f[3] }); break;
-      case 'pc': s.pcs.push({ unit: Number(f[1]), address: f[2] }); break;
-      case 'register': s.registers.push({ unit: Number(f[1]), name: f[2], value: f[3] }); break;
-      case 'order': s.orders.push({ word: Number(f[1]), holders: f.slice(2).map((it) => it.split(':')) }); break;
-      case 'move': s.moves.push({ unit: Number(f[1]), kind: f[2], arg: f[3], refusal: f[4] }); break;
-      case 'at': case 'tasks': break;
-      case 'due': case 'guess': s[f[0]] = f[1]; break;
-      case 'exit': case 'trap': case 'full': case 'open': s.ending = f.slice(0, 2); break;
-      default: break;
-    }
+    const fields = row.split(','), [list, value] = kinds[fields[0]] ?? [];
+    if (list) lists[list].push(value(fields));
   }
-  return s;
+  return lists;
 }
 
-// What a picture shows: the rows of `draw --rows`.
-export function drawn_of(text) {
-  const it = { bars: [], marks: [], arrows: [] };
-  for (const row of lines_of(text)) {
-    const f = row.split(',');
-    if (f[0] === 'bar') {
-      it.bars.push({ task: Number(f[1]), unit: Number(f[2]), entry: f[3], first: number_or(f[4], -1),
-        last: number_or(f[5], -1), fate: f[6] });
-    } else if (f[0] === 'mark') {
-      it.marks.push({ at: Number(f[1]), unit: Number(f[2]), task: Number(f[3]), kind: f[4], word: number_or(f[5], -1),
-        value: f[6], by: f[7] });
-    } else if (f[0] === 'arrow') {
-      it.arrows.push({ from: number_or(f[1], -1), to: number_or(f[2], -1), kind: f[3], word: number_or(f[4], -1) });
-    }
-  }
-  return it;
+const SHOWN = {
+  task: ['tasks', (f) => ({ task: Number(f[1]), unit: Number(f[2]), entry: f[3], turns: Number(f[4]), state: f[5] })],
+  line: ['lines', (f) => ({ unit: Number(f[1]), word: Number(f[2]), value: f[3], bits: f[4] })],
+  spill: ['spills', (f) => ({ word: Number(f[1]), value: f[2] })],
+  memory: ['memory', (f) => ({ word: Number(f[1]), committed: f[2], backing: f[3] })],
+  pc: ['pcs', (f) => ({ unit: Number(f[1]), address: f[2] })],
+  register: ['registers', (f) => ({ unit: Number(f[1]), name: f[2], value: f[3] })],
+  order: ['orders', (f) => ({ word: Number(f[1]), holders: f.slice(2).map((it) => it.split(':')) })],
+  move: ['moves', (f) => ({ unit: Number(f[1]), kind: f[2], arg: f[3], refusal: f[4] })],
+  due: ['due', (f) => f[1]], guess: ['guess', (f) => f[1]],
+  exit: ['ending', (f) => f.slice(0, 2)], trap: ['ending', (f) => f.slice(0, 2)],
+  full: ['ending', (f) => f.slice(0, 2)], open: ['ending', (f) => f.slice(0, 2)],
+};
+
+// The machine at a moment: the rows of `show`.
+export function shown_of(text) {
+  const lists = Object.fromEntries(Object.values(SHOWN).map(([list]) => [list, []]));
+  const { due, guess, ending, ...rest } = sorted_by(SHOWN, text, lists);
+  return { ...rest, due: due[0] ?? '', guess: guess[0] ?? '', ending: ending[0] ?? null };
 }
+
+const DRAWN = {
+  bar: ['bars', (f) => ({ task: Number(f[1]), unit: Number(f[2]), entry: f[3], first: number_or(f[4], -1),
+    last: number_or(f[5], -1), fate: f[6] })],
+  mark: ['marks', (f) => ({ at: Number(f[1]), unit: Number(f[2]), task: Number(f[3]), kind: f[4],
+    word: number_or(f[5], -1), value: f[6], by: f[7] })],
+  arrow: ['arrows', (f) => ({ from: number_or(f[1], -1), to: number_or(f[2], -1), kind: f[3],
+    word: number_or(f[4], -1) })],
+};
+
+// What a picture shows: the rows of `draw --rows`.
+export const drawn_of = (text) => sorted_by(DRAWN, text, { bars: [], marks: [], arrows: [] });
 
 // What an exploration prints: its counts, and what can be seen.
 export function explored_of(text) {
   const it = { seen: [] };
   for (const row of lines_of(text)) {
     const f = row.split(',');
-    if (f[0] === 'seen') it.seen.push({ what: f[1], task: f[2], word: f[3], value: f[4], by: f[5], steps: f[6],
-      key: f.slice(1, 6).join() });
-    else it[f[0]] = f[1];
+    if (f[0] !== 'seen') it[f[0]] = f[1];
+    else {
+      const [, what, task, word, value, by, steps] = f;
+      it.seen.push({ what, task, word, value, by, steps, key: [what, task, word, value, by].join() });
+    }
   }
   return it;
 }
@@ -111,7 +110,8 @@ export function summary_of(lines) {
   return it;
 }
 
-// A listing: its instructions, which of them begin a task, and its words of data, each with the name that the library tells.
+// A listing: its instructions, which of them begin a task, and its words of data, each with the name that the library
+// tells.
 export function listing_of(text) {
   const code = [], words = [];
   let is_entry = false, is_data = false;

@@ -1,4 +1,5 @@
-// The sentence on the last entry shown, and the question on the next one. Both are put together of fields that the library printed.
+// The sentence on the last entry shown, and the question on the next one. Both are put together of fields that the
+// library printed.
 
 import { escaped, plain } from './html.js';
 import { entry_html, word_html } from './names.js';
@@ -9,13 +10,12 @@ export const entry_link = (at) => `<button class="lnk" data-k="${at + 1}">${TEXT
 const task_on = (shown, unit) => shown.tasks.find((it) => it.unit === unit);
 export const ending_text = ([name, value]) => TEXTS.ending[name](value);
 
-// The read that the store of this entry found too early, and the store whose version this read got, if the rows tell them.
-export const early_read = (session, at) =>
-  session.drawing.arrows.find((it) => it.kind === 'violation' && it.from === at)?.to
-  ?? -1;
-export const version_store = (session, at) =>
-  session.drawing.arrows.find((it) => it.kind === 'version' && it.to === at)?.from
-  ?? -1;
+// The read that the store of this entry found too early, and the store whose version this read got, if the rows tell
+// them.
+export const early_read = ({ drawing }, at) =>
+  drawing.arrows.find((it) => it.kind === 'violation' && it.from === at)?.to ?? -1;
+export const version_store = ({ drawing }, at) =>
+  drawing.arrows.find((it) => it.kind === 'version' && it.to === at)?.from ?? -1;
 
 function said_of_store(session, at, it, task) {
   const word = word_html(session, it.word);
@@ -45,8 +45,8 @@ function said_of_run(it, task, after) {
 }
 
 function said_of_replace(session, it, task, before, after) {
-  const word = Number(it.arg),
-    kept = after.spills.find((one) => one.word === word && !before.spills.some((old) => old.word === word));
+  const word = Number(it.arg), is_kept = (one) => one.word === word;
+  const kept = before.spills.some(is_kept) ? null : after.spills.find(is_kept);
   return SAYS.replaces(TEXTS.Unit(it.unit), word_html(session, word))
     + (kept ? SAYS.spills(kept.value, TEXTS.task(task)) : '.');
 }
@@ -69,19 +69,24 @@ function said_of(session, at, it, before, after) {
   }
 }
 
+function colour_of({ cause, kind }) {
+  if (cause === 'violation') return 'sq';
+  if (kind === 'commit') return 'ok';
+  return cause === 'guess' ? 'gu' : '';
+}
+
 // The sentence on an entry, and its colour. Without both moments around it it says less.
 export function sentence(session, at) {
   const it = session.entries[at], before = session.moments.get(at), after = session.moments.get(at + 1);
   if (!before || !after) return { html: `<code>${escaped(it.row)}</code>`, colour: '' };
   let html = said_of(session, at, it, before, after);
   if (it.cause === 'guess') html += SAYS.wrong_guess(it.first, it.count);
-  for (const one of after.memory) {
-    const old = before.memory.find((two) => two.word === one.word);
-    if (old && old.backing !== one.backing) html += SAYS.memory_now(one.backing, word_html(session, one.word));
+  for (const { word, backing } of after.memory) {
+    const old = before.memory.find((one) => one.word === word);
+    if (old && old.backing !== backing) html += SAYS.memory_now(backing, word_html(session, word));
   }
   if (after.ending[0] !== 'open' && before.ending[0] === 'open') html += SAYS.stops(ending_text(after.ending));
-  const colour = it.cause === 'violation' ? 'sq' : it.kind === 'commit' ? 'ok' : it.cause === 'guess' ? 'gu' : '';
-  return { html, colour };
+  return { html, colour: colour_of(it) };
 }
 
 // The same without links and colours.
@@ -103,46 +108,53 @@ function question_html(k, { question, options }) {
     + `<div class="opts" role="group" aria-label="${TEXTS.your_answer}">${buttons}</div></div>`;
 }
 
+const said_html = (when, says, row) => `<div class="when">${when}</div><p>${says}</p>${row}`;
+
+const verdict_html = ({ is_right, label }) =>
+  `<span class="verdict">${is_right ? TEXTS.right : TEXTS.wrong(plain(label))}</span> `;
+
 // What is said at this moment, and its colour: the question, if one is open, or the last entry's sentence.
 export function said_at(session, predict) {
   const k = session.k;
   if (predict.ask) return { html: question_html(k, predict.ask), colour: '' };
   if (k === 0) {
-    const html = `<div class="when">${TEXTS.before_first}</div><p>${TEXTS.nothing_yet}${predict.on ? TEXTS.nothing_yet_predict : ''}</p>`
-      + `<div class="row">${TEXTS.nothing_yet_hint}</div>`;
-    return { html, colour: '' };
+    const says = TEXTS.nothing_yet + (predict.on ? TEXTS.nothing_yet_predict : '');
+    const hint = `<div class="row">${TEXTS.nothing_yet_hint}</div>`;
+    return { html: said_html(TEXTS.before_first, says, hint), colour: '' };
   }
   const { html, colour } = sentence(session, k - 1), it = session.entries[k - 1];
-  const verdict = predict.said?.k === k
-    ? `<span class="verdict">${predict.said.is_right ? TEXTS.right : TEXTS.wrong(plain(predict.said.label))}</span> `
-    : '';
-  const whole = `<div class="when">${TEXTS.entry(k - 1)} ${tags_of(it)}</div><p>${verdict}${html}</p><div class="row mono">${escaped(it.row)}</div>`;
-  return { html: whole, colour };
+  const verdict = predict.said?.k === k ? verdict_html(predict.said) : '', row = escaped(it.row);
+  const when = `${TEXTS.entry(k - 1)} ${tags_of(it)}`;
+  return { html: said_html(when, verdict + html, `<div class="row mono">${row}</div>`), colour };
 }
 
 // ---- predict: the question comes from the next row's kind, right or wrong from its fields
 
 function question_of_load(session, it, task, now) {
-  const asks = TEXTS.asks, options = [{ label: asks.memory, is_right: it.served === 'memory' }];
-  for (const one of now.tasks) {
-    if (one.unit !== it.unit) options.push({ label: asks.version(one.task),
-      is_right: it.served === 'version' && it.from === one.unit });
-  }
-  options.push({ label: asks.committed, is_right: it.served === 'committed' },
-    { label: asks.own, is_right: it.served === 'hit' || it.served === 'reuse' });
+  const asks = TEXTS.asks, others = now.tasks.filter((one) => one.unit !== it.unit);
+  const is_version_of = ({ unit }) => it.served === 'version' && it.from === unit;
+  const options = [
+    { label: asks.memory, is_right: it.served === 'memory' },
+    ...others.map((one) => ({ label: asks.version(one.task), is_right: is_version_of(one) })),
+    { label: asks.committed, is_right: it.served === 'committed' },
+    { label: asks.own, is_right: it.served === 'hit' || it.served === 'reuse' },
+  ];
   if (now.spills.length) options.push({ label: asks.spill, is_right: it.served === 'spill' });
   return { question: asks.serves(TEXTS.Task(task.task), word_html(session, it.word)), options };
 }
 
+// What a task is about to do that may squash others.
+function act_text(session, it) {
+  if (it.reply === 'stored') return TEXTS.asks.stores(it.value, word_html(session, it.word));
+  return it.kind === 'commit' ? TEXTS.asks.commits : TEXTS.asks.runs;
+}
+
 function question_of_squash(session, it, task, others) {
-  const asks = TEXTS.asks;
-  const what = it.reply === 'stored' ? asks.stores(it.value, word_html(session, it.word)) : it.kind === 'commit'
-    ? asks.commits : asks.runs;
-  const options = [{ label: asks.nobody, is_right: !it.cause }];
-  others.forEach((one, n) =>
-    options.push({ label: asks.from(one.task, n === others.length - 1),
-      is_right: Boolean(it.cause) && it.first === one.task }));
-  return { question: asks.squashes(TEXTS.Task(task.task), what), options };
+  const asks = TEXTS.asks, last = others.length - 1;
+  const from = ({ task: number }, n) =>
+    ({ label: asks.from(number, n === last), is_right: Boolean(it.cause) && it.first === number });
+  const options = [{ label: asks.nobody, is_right: !it.cause }, ...others.map(from)];
+  return { question: asks.squashes(TEXTS.Task(task.task), act_text(session, it)), options };
 }
 
 // The question on this entry, where its row can differ.

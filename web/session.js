@@ -1,18 +1,21 @@
-// What is open: a program, a script and a moment of it, with what the library has answered about them. Each change is a job; jobs run
-// one after another, and what is drawn is always of one moment. A job that fails or is stopped leaves all as it was.
+// What is open: a program, a script and a moment of it, with what the library has answered about them. Each change is a
+// job; jobs run one after another, and what is drawn is always of one moment. A job that fails or is stopped leaves all
+// as it was.
 
 const KEPT_MOMENTS = 400, SHOWN_WORDS = 64, LONG_JOB = 500;
 const STATE = ['lesson', 'text', 'steps', 'k', 'word', 'fault', 'listing', 'words', 'sequential', 'has_image',
   'image_count', 'needed', 'played', 'drawing', 'moments', 'seen', 'costs', 'undo_list', 'redo_list', 'witness'];
+// Standings that an exploration follows, where nothing else was asked.
+export const MOST_STATES = 20000;
 
 export class Session {
   // `draw` shows the session, `tell` says what went wrong, and `wait` whether something takes long.
   constructor(requests, { draw, tell, wait }) {
-    Object.assign(this, { requests, draw, tell, wait });
-    Object.assign(this,
-      { lesson: '', text: '', steps: [], k: 0, word: 0, by: { order: 'youngest', seed: 0, burst: 63 } });
+    Object.assign(this, { requests, draw, tell, wait, jobs: Promise.resolve(), wanted: null, busy: 0 });
+    Object.assign(this, { lesson: '', text: '', steps: [], k: 0, word: 0 });
     Object.assign(this, { fault: null, listing: [], words: [], sequential: null, has_image: false, image_count: 0 });
-    Object.assign(this, { undo_list: [], redo_list: [], witness: -1, jobs: Promise.resolve(), wanted: null, busy: 0 });
+    Object.assign(this, { undo_list: [], redo_list: [], witness: -1 });
+    this.by = { order: 'youngest', seed: 0, burst: 63 };
     this.forget();
   }
 
@@ -59,8 +62,8 @@ export class Session {
   }
 
   state() {
-    return { fields: Object.fromEntries(STATE.map((it) => [it, this[it]])), config: { ...this.config },
-      by: { ...this.by }, files: this.requests.files() };
+    const fields = Object.fromEntries(STATE.map((it) => [it, this[it]]));
+    return { fields, config: { ...this.config }, by: { ...this.by }, files: this.requests.files() };
   }
 
   restore({ fields, config, by, files }) {
@@ -116,9 +119,9 @@ export class Session {
       Object.assign(this.config, config);
       Object.assign(this.by, by);
       this.forget();
-      if (await this.assemble()) return steps ? this.play(steps, k ?? 0)
-        : this.take(await this.requests.run([], this.by), k ?? 0);
-      Object.assign(this, { has_image: false, steps: [], k: 0, listing: [], words: [] });
+      const nothing = { has_image: false, steps: [], k: 0, listing: [], words: [] };
+      if (!await this.assemble()) return Object.assign(this, nothing);
+      return this.take(await (steps ? this.requests.play(steps) : this.requests.run([], this.by)), k ?? 0);
     });
   }
 
@@ -253,10 +256,14 @@ export class Session {
 
   // Each moment is asked for once; those that were looked at last are kept.
   async moment(k) {
-    const it = this.moments.get(k) ?? { ...await this.requests.show(this.entries.slice(0, k), this.shown_words()), tried: new Map() };
+    const it = this.moments.get(k) ?? await this.shown(k);
     this.moments.delete(k);
     this.moments.set(k, it);
     if (this.moments.size > KEPT_MOMENTS) this.moments.delete(this.moments.keys().next().value);
+  }
+
+  async shown(k) {
+    return { ...await this.requests.show(this.entries.slice(0, k), this.shown_words()), tried: new Map() };
   }
 
   // Memory is shown of the first words of the data.
@@ -273,8 +280,8 @@ export class Session {
     return this.moments.get(Math.max(0, this.k - 1)) ?? EMPTY;
   }
 
-  // Tries what the rows of the moves don't tell: bursts of more than one turn, where one turn is accepted. It is given up, and answers
-  // false, where something else is to be done.
+  // Tries what the rows of the moves don't tell: bursts of more than one turn, where one turn is accepted. It is given
+  // up, and answers false, where something else is to be done.
   async try_bursts() {
     const now = this.now(), front = this.front(), played = this.played;
     const goes_on = () => this.wanted === null && this.busy === 0 && played === this.played;
@@ -293,7 +300,8 @@ export class Session {
       .filter((it) => !now.tried.has(it));
   }
 
-  // By how many turns a task may be run on: one, as many as the machine's burst says, or as many as there are to the next bus request.
+  // By how many turns a task may be run on: one, as many as the machine's burst says, or as many as there are to the
+  // next bus request.
   bursts() {
     return [...new Set([1, this.by.burst, 63])].sort((a, b) => a - b);
   }
@@ -305,7 +313,7 @@ export class Session {
   // ---- tables
 
   limits() {
-    return { burst: this.by.burst, states: this.by.states ?? 20000 };
+    return { burst: this.by.burst, states: this.by.states ?? MOST_STATES };
   }
 
   // What this trace shows, as observations with their entries.
@@ -337,8 +345,10 @@ export class Session {
   }
 }
 
-const EMPTY = { tasks: [], lines: [], spills: [], memory: [], pcs: [], registers: [], orders: [], moves: [],
-  ending: ['open', ''], due: '', guess: '', tried: new Map() };
+const EMPTY = {
+  tasks: [], lines: [], spills: [], memory: [], pcs: [], registers: [], orders: [], moves: [], ending: ['open', ''],
+  due: '', guess: '', tried: new Map(),
+};
 
 // A move that the machine refuses.
 export class Refused extends Error {

@@ -1,5 +1,5 @@
-// A worker that holds the module and the files: it does what the words of a command line ask for, over files by name, and sends
-// back what was printed and saved. It knows nothing of the machine.
+// A worker that holds the module and the files: it does what the words of a command line ask for, over files by name,
+// and sends back what was printed and saved. It knows nothing of the machine.
 'use strict';
 
 const coder = new TextEncoder(), decoder = new TextDecoder();

@@ -16,8 +16,8 @@ class Page:
             options.add_argument(it)
         options.set_capability("goog:loggingPrefs", {"browser": "ALL"})
         if folder:
-            more = {"download.default_directory": folder, "profile.default_content_setting_values.automatic_downloads": 1}
-            options.add_experimental_option("prefs", more)
+            many = "profile.default_content_setting_values.automatic_downloads"
+            options.add_experimental_option("prefs", {"download.default_directory": folder, many: 1})
         self.driver = webdriver.Chrome(service=Service("/usr/bin/chromedriver"), options=options)
         scheme = {"name": "prefers-color-scheme", "value": "dark" if is_dark else "light"}
         self.driver.execute_cdp_cmd("Emulation.setEmulatedMedia", {"features": [scheme]})
@@ -56,10 +56,10 @@ class Page:
 
     def settle(self):
         """Waits until nothing is being done."""
-        self.wait("svcsim.session.busy === 0 && svcsim.session.wanted === null", "the page comes to rest")
+        self.wait("svcsim.page.session.busy === 0 && svcsim.page.session.wanted === null", "the page comes to rest")
         time.sleep(0.05)
         moves = "document.getElementById('units').getAttribute('aria-busy') !== 'true'"
-        self.wait(f"svcsim.session.busy === 0 && {moves}", "the moves are told")
+        self.wait(f"svcsim.page.session.busy === 0 && {moves}", "the moves are told")
 
     def click(self, selector):
         found = self.get("document.querySelector(arguments[0])", selector)

@@ -15,12 +15,13 @@ ASK = r"""
 const [rows, done] = [arguments[0], arguments[arguments.length - 1]];
 const bytes_of = (it) => Uint8Array.from(atob(it), (c) => c.charCodeAt(0));
 const same = (a, b) => a.length === b.length && a.every((x, k) => x === b[k]);
-const coder = new TextEncoder(), library = svcsim.requests.other;
+const coder = new TextEncoder(), library = svcsim.page.requests.other;
 // Whether what was got is what is wanted, of which a beginning may be enough.
 function fits(got, wanted, end) {
   if (wanted === null) return got.length === 0;
-  const all = bytes_of(wanted), dots = coder.encode(end), is_begun = all.length >= dots.length && same(all.slice(-dots.length), dots);
-  return is_begun ? same(got.slice(0, all.length - dots.length), all.slice(0, -dots.length)) : same(got, all);
+  const all = bytes_of(wanted), dots = coder.encode(end), kept = all.length - dots.length;
+  const is_begun = kept >= 0 && same(all.slice(kept), dots);
+  return is_begun ? same(got.slice(0, kept), all.slice(0, kept)) : same(got, all);
 }
 async function row_is(row) {
   for (const [name, text] of Object.entries(row.assemble)) {
@@ -32,8 +33,8 @@ async function row_is(row) {
   if (got.status !== row.status) bad.push(`status ${got.status}`);
   if (!fits(coder.encode(got.out), row.out, '...\n')) bad.push('standard output');
   if (!fits(coder.encode(got.err.replace(/\n$/, '')), row.err, '...')) bad.push(`standard error (${got.err.trim()})`);
-  const wanted = Object.keys(row.saved).sort();
-  if (names.join() !== wanted.join() || wanted.some((it) => !same(got.saved[it], bytes_of(row.saved[it])))) bad.push(`saved ${names.join()}`);
+  const wanted = Object.keys(row.saved).sort(), is_saved = (it) => same(got.saved[it], bytes_of(row.saved[it]));
+  if (names.join() !== wanted.join() || !wanted.every(is_saved)) bad.push(`saved ${names.join()}`);
   for (const it of [...names, ...Object.keys(row.files), ...Object.keys(row.assemble)]) library.drop(it);
   return bad;
 }
@@ -119,7 +120,8 @@ def main(page_file, data):
         page.close()
     for it in bad:
         print(it)
-    print(f"cases: {len(rows) - len(bad)} of {len(rows)} rows as expected; {all_rows - len(rows)} of {all_rows} left out")
+    passed, left_out = len(rows) - len(bad), all_rows - len(rows)
+    print(f"cases: {passed} of {len(rows)} rows as expected; {left_out} of {all_rows} left out")
     return 1 if bad else 0
 
 

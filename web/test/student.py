@@ -49,11 +49,11 @@ def says(page, *words):
 
 
 def entries(page):
-    return page.get("svcsim.session.entries.length")
+    return page.get("svcsim.page.session.entries.length")
 
 
 def place(page):
-    return page.get("svcsim.session.k")
+    return page.get("svcsim.page.session.k")
 
 
 @section
@@ -97,11 +97,12 @@ def a_fault_is_underlined(page):
     page.press(Keys.HOME)
     page.click("#brun")
     page.press(Keys.END)
-    assert page.get("svcsim.session.sequential.out.join()") == "9"
+    assert page.get("svcsim.page.session.sequential.out.join()") == "9"
 
 
 def is_refused(page, move):
-    return page.get("document.querySelector(`[data-move='${arguments[0]}']`).getAttribute('aria-disabled') === 'true'", move)
+    button = "document.querySelector(`[data-move='${arguments[0]}']`)"
+    return page.get(f"{button}.getAttribute('aria-disabled') === 'true'", move)
 
 
 @section
@@ -115,6 +116,10 @@ def the_fault_is_gone_to(page):
     assert text[at:].startswith("lww"), at
 
 
+def cells(selector, what):
+    return f"[...document.querySelectorAll('{selector}')].map((it) => {what})"
+
+
 @section
 def names_are_those_of_the_text(page):
     opened(page)
@@ -122,10 +127,10 @@ def names_are_those_of_the_text(page):
         page.click("#bf")
     says(page, "Task 0 stores 7 to word,")
     assert "task 0 @ store" in page.text("#svgbox"), page.text("#svgbox")
-    names = page.get("[...document.querySelectorAll('#listing tr')].map((it) => it.cells[1].textContent).filter(Boolean).join()")
+    names = page.get(f"{cells('#listing tr', 'it.cells[1].textContent')}.filter(Boolean).join()")
     assert names == "name,store,load", names
     opened(page, "sum")
-    words = page.get("[...document.querySelectorAll('#mem tbody tr')].map((it) => it.cells[0].textContent).join()")
+    words = page.get(f"{cells('#mem tbody tr', 'it.cells[0].textContent')}.join()")
     assert words == "sum,left,right", words
     page.click("#t-cost")
     page.wait("document.querySelectorAll('#p-cost h3').length === 4", "all four tables are there")
@@ -138,7 +143,7 @@ def units_versions_and_registers(page):
     opened(page)
     for _ in range(2):
         page.click("#bf")
-    here = "[...document.querySelectorAll('#listing .here')].map((it) => it.cells[0].textContent.trim() + ' ' + it.cells[2].textContent).join()"
+    here = f"{cells('#listing .here', 'it.cells[0].textContent.trim() + ` ` + it.cells[2].textContent')}.join()"
     assert page.get(here) == "u0 0000,u1 0008", page.get(here)
     page.click("#bf")
     assert page.get(here) == "u0 0000,u1 000c", page.get(here)
@@ -147,10 +152,11 @@ def units_versions_and_registers(page):
     opened(page, "four")
     page.press(Keys.END)
     page.choose("#word", "0")
-    order = page.get("svcsim.session.now().orders.find((it) => it.word === 0).holders.map((it) => it[1])")
-    drawn = page.get("[...document.querySelectorAll('#vol .nd span:first-child')].map((it) => it.textContent.replace(/\u00a0/g, ' '))")
+    order = page.get("svcsim.page.session.now().orders.find((it) => it.word === 0).holders.map((it) => it[1])")
+    drawn = page.get(cells("#vol .nd span:first-child", "it.textContent.replace(/\u00a0/g, ' ')"))
     assert len(drawn) >= len(order) + 1 and drawn[0] == "memory itself", (order, drawn)
-    assert [it.startswith("committed") for it in drawn[1 : len(order) + 1]] == [it == "committed" for it in order], (order, drawn)
+    is_committed = [it.startswith("committed") for it in drawn[1 : len(order) + 1]]
+    assert is_committed == [it == "committed" for it in order], (order, drawn)
 
 
 @section
@@ -177,7 +183,7 @@ def moves_by_hand(page):
     page.click("#bon")
     page.press(Keys.END)
     assert "The same" in page.text("#outs")
-    steps = page.get("svcsim.session.steps.slice(0, 4).join(';')")
+    steps = page.get("svcsim.page.session.steps.slice(0, 4).join(';')")
     assert steps == "assign,0,0;assign,1,8;submit,1,1;submit,0,2", steps
 
 
@@ -224,15 +230,15 @@ def all_schedules(page):
     page.wait("document.querySelector('.seen')", "all schedules were followed")
     with open(f"{DATA}/explore/explore_violation_on_2_by_63.txt", encoding="utf-8") as it:
         rows = it.read().split("\n")
-    counts = dict(row.split(",") for row in rows[:4])
-    wanted = f"{counts['states']} standings, {counts['moves']} moves, deepest {counts['deepest']}, whole: {counts['whole']}"
+    it = dict(row.split(",") for row in rows[:4])
+    wanted = f"all {it['states']} standings, each within {it['deepest']} steps; {it['moves']} moves"
     assert wanted in page.text("#p-all"), page.text("#p-all")
     assert page.get("document.querySelectorAll('.seen li').length") == 15
     assert "seen in the run" in page.text("#p-all") and "●" in page.text(".seen")
     page.click("[data-filter=squash]")
     assert page.get("document.querySelectorAll('.seen li').length") == 2
     page.click(".seen button")
-    page.wait("svcsim.session.entries.length === 4", "a witness is loaded")
+    page.wait("svcsim.page.session.entries.length === 4", "a witness is loaded")
     says(page, "read too early")
     assert "squash 1" in page.text("#mmsg"), page.text("#mmsg")
 
@@ -241,7 +247,7 @@ def all_schedules(page):
 def an_exploration_is_stopped(page):
     opened(page, "rounds")
     page.wait("svcsim.tables.begun === 0", "the first exploration ends", 120)
-    page.driver.execute_script("svcsim.session.by.states = 1000000")
+    page.driver.execute_script("svcsim.page.session.by.states = 1000000")
     page.choose("#mu", "8")
     page.driver.execute_script("document.querySelector('#bexplore').click()")
     page.wait("document.querySelector('#bstop')", "it begins")
@@ -256,7 +262,7 @@ def an_exploration_is_stopped(page):
 def a_refused_burst_is_told(page):
     opened(page, "full_set")
     found = page.ask("""const done = arguments[0]; (async () => {
-      const { session } = svcsim;
+      const { session } = svcsim.page;
       for (let k = 0; k <= session.entries.length; k++) {
         await session.go(k);
         await session.try_bursts();
@@ -274,7 +280,7 @@ def a_program_by_its_name(page):
     for it, units in [("early", 3), ("full", 2)]:
         page.open(f"#program={it}")
         page.settle()
-        assert page.get("[svcsim.session.lesson, svcsim.session.config.units]") == [it, units]
+        assert page.get("[svcsim.page.session.lesson, svcsim.page.session.config.units]") == [it, units]
         assert page.get("document.querySelector('#lesson').value") == it
 
 
@@ -285,7 +291,7 @@ def a_link_is_opened(page):
     page.click("#bb")
     page.click("#blink")
     page.wait("location.hash.length > 10", "the address has a fragment")
-    what = "JSON.stringify([svcsim.session.steps, svcsim.session.k, svcsim.session.config])"
+    what = "JSON.stringify([svcsim.page.session.steps, svcsim.page.session.k, svcsim.page.session.config])"
     fragment, before = page.get("location.hash"), page.get(what)
     page.open(fragment)
     page.settle()
@@ -296,7 +302,8 @@ def a_link_is_opened(page):
 @section
 def files_are_saved_and_opened(page):
     opened(page, "handed_on")
-    wanted, steps = page.get("svcsim.session.entries.map((it) => it.row).join('\\n')"), page.get("svcsim.session.steps.join('\\n')")
+    rows, script = "svcsim.page.session.entries.map((it) => it.row).join()", "svcsim.page.session.steps.join()"
+    wanted, steps = page.get(rows), page.get(script)
     for it in ["program", "image", "script", "trace", "picture", "chrome", "vcd"]:
         page.click(f"[data-save={it}]")
     ends = [".s", ".svci", ".events.csv", ".trace.csv", ".svg", ".trace.json", ".vcd"]
@@ -312,8 +319,8 @@ def files_are_saved_and_opened(page):
         box.send_keys(f"{page.folder}/handed_on{name}")
         time.sleep(0.5)
         page.settle()
-    assert page.get("svcsim.session.entries.map((it) => it.row).join('\\n')") == wanted
-    assert page.get("svcsim.session.steps.join('\\n')") == steps
+    assert page.get(rows) == wanted
+    assert page.get(script) == steps
     with open(f"{page.folder}/handed_on.svg", encoding="utf-8") as it:
         assert "<svg" in it.read(), "a picture"
     with open(f"{page.folder}/handed_on.trace.json", encoding="utf-8") as it:
@@ -331,9 +338,9 @@ def every_program_of_the_menu_runs(page):
         opened(page, it)
         assert page.text("#edmsg").startswith("✓"), (it, page.text("#edmsg"))
         page.press(Keys.END)
-        ending = page.get("svcsim.session.now().ending[0]")
+        ending = page.get("svcsim.page.session.now().ending[0]")
         assert ending in ("exit", "trap"), (it, ending)
-        if page.get("svcsim.session.sequential.out.length"):
+        if page.get("svcsim.page.session.sequential.out.length"):
             assert "The same" in page.text("#outs"), (it, page.text("#outs"))
 
 
@@ -341,7 +348,7 @@ def every_program_of_the_menu_runs(page):
 def a_fresh_library_after_a_failure(page):
     opened(page)
     page.click("#bf")
-    page.driver.execute_script("svcsim.requests.library.stop()")
+    page.driver.execute_script("svcsim.page.requests.library.stop()")
     page.click("#bf")
     page.click("#bf")
     assert place(page) == 3
@@ -389,26 +396,28 @@ def a_long_run(page):
     page.click("#brun")
     count = entries(page)
     assert count >= 5000, count
-    page.ask("const done = arguments[0]; svcsim.session.go(5000).then(done)")
+    page.ask("const done = arguments[0]; svcsim.page.session.go(5000).then(done)")
     page.settle()
-    times, calls, asked = page.ask("""const done = arguments[0]; (async () => { const all = [], { library } = svcsim.requests;
+    times, calls, asked = page.ask("""const done = arguments[0]; (async () => {
+      const { session, requests: { library } } = svcsim.page, all = [];
       let calls = 0, asked = 0;
       for (let n = 0; n < 12; n++) {
         const begun = performance.now(), before = library.calls;
-        await svcsim.session.go(svcsim.session.k + 1);
+        await session.go(session.k + 1);
         all.push(performance.now() - begun);
         calls += library.calls - before;
         asked += library.last.ms;
       }
       done([all.sort((a, b) => a - b), calls, asked / 12]); })()""")
     assert calls == 12, f"{calls} calls for 12 steps"
-    print(f"a step near entry 5,000 of {count}: {times[6]:.0f} ms ({times[0]:.0f} to {times[-1]:.0f}), one call of {asked:.0f} ms")
+    took = f"{times[6]:.0f} ms ({times[0]:.0f} to {times[-1]:.0f}), one call of {asked:.0f} ms"
+    print(f"a step near entry 5,000 of {count}: {took}")
 
 
 @section
 def what_takes_long_is_stopped(page):
     opened(page)
-    before = page.get("svcsim.session.steps.join(';')")
+    before = page.get("svcsim.page.session.steps.join(';')")
     page.choose("#src", ENDLESS)
     page.wait("document.querySelector('.okline')", "the text assembles")
     page.settle()
@@ -416,7 +425,7 @@ def what_takes_long_is_stopped(page):
     page.wait("!document.querySelector('#wait').hidden", "it takes long")
     page.click("#bhalt")
     assert "Stopped" in page.text("#mmsg"), page.text("#mmsg")
-    assert page.get("svcsim.session.steps.join(';')") == before
+    assert page.get("svcsim.page.session.steps.join(';')") == before
     page.click("#bf")
     assert place(page) == 1
 
@@ -436,6 +445,8 @@ def screenshots(file, folder):
         page.picture(f"{folder}/{width}-{'dark' if is_dark else 'light'}.png")
         page.click("#bpred")
         page.click("#bf")
+        page.click("#bf")
+        says(page, "Who serves it?")
         page.picture(f"{folder}/{width}-{'dark' if is_dark else 'light'}-predict.png")
         page.close()
 

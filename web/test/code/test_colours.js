@@ -101,12 +101,13 @@ export function both_themes_have_the_same_colours() {
   ok(Object.keys(THEMES.light).length > 20);
 }
 
-// What style.css and the lanes colour is in the list. Rules between rows, and hatching, say nothing.
+// What style.css and the drawings colour is in the list. Rules between rows, and hatching, say nothing; two are fonts.
 export function every_colour_is_in_the_list() {
   const used = (it, pattern) => [...it.matchAll(pattern)].map((one) => one[1]);
-  const lanes = readFileSync(`${ROOT}web/lanes.js`, 'utf8');
+  const drawn = ['bars', 'lanes', 'marks', 'svg'].map((it) => readFileSync(`${ROOT}web/${it}.js`, 'utf8')).join('');
   const listed = (n) => new Set(PAIRS.flatMap((it) => it[n].split(', ')));
-  const fronts = listed(1), both = new Set([...fronts, ...listed(2)]);
+  const fronts = listed(1), both = new Set([...fronts, ...listed(2), 'rule', 'sans', 'mono']);
+  const colours = [...used(STYLE, /var\(--([\w-]+)\)/g), ...used(drawn, /[('`]--([\w-]+)/g)];
   deepEqual(used(STYLE, /[^-]color: var\(--([\w-]+)\)/g).filter((it) => !fronts.has(it)), []);
-  deepEqual(used(STYLE + lanes, /var\(--([\w-]+)\)/g).filter((it) => it !== 'rule' && !both.has(it)), []);
+  deepEqual(colours.filter((it) => !both.has(it)), []);
 }

@@ -2,8 +2,9 @@
 // leaves 840 for the columns.
 
 import { deepEqual, equal, ok } from 'node:assert/strict';
-import { is_long, key_html, labels_html, lanes_svg, moment_text, places, scrolled_to, strip_svg,
+import { is_long, labels_html, lanes_svg, moment_text, places, scrolled_to, strip_svg,
   window_style } from '../../lanes.js';
+import { key_html } from '../../marks.js';
 import { entry_of, sound_of } from '../../rows.js';
 import { text } from './cases.js';
 import { UNPREDICTED, opened, shown } from './opened.js';
@@ -92,14 +93,14 @@ export async function the_slider_says_the_moment() {
   equal(moment_text(session, UNPREDICTED), 'Before entry 0');
 }
 
-// A run of 956 entries: 64 columns around the moment, and a strip of them all.
+// A run of 956 entries: 40 columns around the moment, and a strip of them all.
 export function a_long_run_is_drawn_around_the_moment() {
   const { entries } = sound_of(text('schedules/schedule_of_a_chain_on_3_by_bursts_of_5.csv'));
   const session = { ...shown({ entries: [] }), entries, k: 500 }, p = places(session, 862, 1);
   equal(is_long(session), true);
-  deepEqual([entries.length, p.from, p.to], [956, 468, 532]);
+  deepEqual([entries.length, p.from, p.to], [956, 480, 520]);
   deepEqual([places({ ...session, k: 3 }, 862, 1).from, places({ ...session, k: 956 }, 862, 1).to], [0, 956]);
-  equal(window_style(session, p, 956), 'left:468px;width:64px');
+  equal(window_style(session, p, 956), 'left:480px;width:40px');
   // A pixel column an entry: each commit and squash is one.
   const svg = strip_svg(session, 956, false), wanted = entries.filter((it) => it.kind === 'commit' || it.cause).length;
   equal(count(svg, /<path/g), wanted);

@@ -24,7 +24,8 @@ export async function each_of_the_ten_entries_is_told() {
     'Task 0 stores 5 to shared, but task 1 had loaded it too early, at entry 2, and got 0: task 1 is squashed.',
     'Task 0 is committed: it was the oldest, and had ended.',
     'Unit 1 begins task 1 at second.',
-    'Task 1 loads shared and gets 5: the committed version in unit 0’s cache served it. Memory itself now holds 5 in shared.',
+    'Task 1 loads shared and gets 5: the committed version in unit 0’s cache served it. '
+      + 'Memory itself now holds 5 in shared.',
     'Task 1 puts out 5. The word waits until the task is committed.',
     'Task 1 takes 2 turns without the bus, and has ended with the program’s exit.',
     'Task 1 is committed: it was the oldest, and had ended. The run has stopped: exit 5.',
@@ -59,8 +60,10 @@ const told = (entry, before, after, more = {}) =>
   says(shown({ entries: [entry], before: moment(...before), after: moment(...after), names: ['shared'], ...more }), 0);
 
 // What is said of an entry that leads to the machine that a case prints, from these rows on.
-const said = (name, entry, ...before) =>
-  says(shown({ entries: [entry], before: moment(...OPEN, ...before), after: shown_of(printed(name)), names: ['shared'] }), 0);
+function said(name, entry, ...before) {
+  const after = shown_of(printed(name));
+  return says(shown({ entries: [entry], before: moment(...OPEN, ...before), after, names: ['shared'] }), 0);
+}
 
 export function a_version_is_told_with_its_task_and_unit() {
   equal(said('show_of_a_version', 'submit,1,,1,1,loaded,0,5,version,0,,,',

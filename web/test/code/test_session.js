@@ -117,7 +117,8 @@ export async function moments_before_the_first_change_are_kept() {
 
 // In this script task 0 stores before task 1 loads, so its entry 2 is another one, and with it the moment behind that.
 export async function moments_behind_the_first_change_are_forgotten() {
-  const { session, requests, faults } = await opened(3), script = text('scripts/a_version_of_an_earlier_task_is_read.csv');
+  const { session, requests, faults } = await opened(3);
+  const script = text('scripts/a_version_of_an_earlier_task_is_read.csv');
   requests.draw = async () => NO_PICTURE;
   await session.go(1);
   deepEqual([...session.moments.keys()].sort(), [0, 1, 2, 3]);
