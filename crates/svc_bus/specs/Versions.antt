@@ -14,7 +14,8 @@ HasVersion b word unit = is_committed_dirty_line (b.lines unit.0 word) ≡ true
 -- both units have a committed version of the word, and the first unit's is older
 abbrev pub is_older_version : BusState → (word first second : ℕ) → Bool
 is_older_version b word first second =
-    (is_committed_dirty_line (b.lines first word) && is_committed_dirty_line (b.lines second word)) && b.is_older word first second
+    (is_committed_dirty_line (b.lines first word) && is_committed_dirty_line (b.lines second word))
+    && b.is_older word first second
 
 abbrev pub IsOlder : BusState → (word : ℕ) → (first second : UnitId) → Type 0
 IsOlder b word first second = is_older_version b word first.0 second.0 ≡ true
@@ -23,7 +24,8 @@ IsOlder b word first second = is_older_version b word first.0 second.0 ≡ true
 -- of all units after it
 pub record AreItsVersions (b : BusState) (word : ℕ) (units : List UnitId) : Type 0 where
   pub only : All (HasVersion b word) units
-  pub each : (unit : ℕ) → is_committed_dirty_line (b.lines unit word) ≡ true → list_any (λ (x : UnitId). x.0 == unit) units ≡ true
+  pub each : (unit : ℕ) → is_committed_dirty_line (b.lines unit word) ≡ true
+      → list_any (λ (x : UnitId). x.0 == unit) units ≡ true
   pub oldest_first : AllPairs (IsOlder b word) units
 
 -- the units of those lines of a list that were stored to

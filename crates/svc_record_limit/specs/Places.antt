@@ -1,5 +1,6 @@
 -- Where a reader of limited records stands in a text, as its bytes go by.
-use Rattle.std.specs.Prelude.{ℕ, List, [], ◌∷◌, ◌+◌, ◌==◌, ◌||◌, Bool, true, false, nat_lt, if◌then◌else◌, Option, Some, None, option_map}
+use Rattle.std.specs.Prelude.{ℕ, List, [], ◌∷◌, ◌+◌, ◌==◌, ◌||◌, Bool, true, false, nat_lt, if◌then◌else◌}
+use Rattle.std.specs.Prelude.{Option, Some, None, option_map}
 use Rattle.svc_record_limit.specs.Limit.{most_bytes}
 use Rattle.svc_record_limit.specs.declared.gauge.Gauge.{Gauge}
 use Rattle.svc_record_limit.specs.declared.limited.Limited.{Limited}

@@ -24,18 +24,21 @@ pub record IsBurstOf (img : Image) (most : ℕ) (lease : Lease) (b : Advance) : 
 
 -- the unit's move is to run its task on, and the burst does that
 abbrev pub RunsOnBy : (most : ℕ) → Recorded → UnitId → Advance → Type 0
-RunsOnBy most r unit b = (lease : Lease) × (move_of r.machine unit.0 ≡ move.RunOn lease) × IsBurstOf r.machine.image most lease b
+RunsOnBy most r unit b =
+    (lease : Lease) × (move_of r.machine unit.0 ≡ move.RunOn lease) × IsBurstOf r.machine.image most lease b
 
 -- a unit with a running task asks to submit its burst; if that is refused because its cache has no room for the asked
 -- word, it asks to replace the line that the refusal names
 abbrev pub SubmitsOrReplaces : (unit : ℕ) → Advance → Option Refusal → Event → Type 0
 SubmitsOrReplaces unit b why x =
-    ((x ≡ Submit b) × ((addr : WordAddr) → why ≡ Some (SetFull addr) → ⊥)) ⊎ ((addr : WordAddr) × (why ≡ Some (SetFull addr)) × (x ≡ Replace unit addr.0))
+    ((x ≡ Submit b) × ((addr : WordAddr) → why ≡ Some (SetFull addr) → ⊥))
+    ⊎ ((addr : WordAddr) × (why ≡ Some (SetFull addr)) × (x ≡ Replace unit addr.0))
 
 -- what a move asks for
 abbrev pub Asks : Image → Config → Standing → (most unit : ℕ) → NextMove → Event → Type 0
 Asks img config s most unit (move.Begin entry) x = x ≡ Assign unit entry
-Asks img config s most unit (move.RunOn lease) x = (b : Advance) × IsBurstOf img most lease b × SubmitsOrReplaces unit b (refused img config s (Submit b)) x
+Asks img config s most unit (move.RunOn lease) x =
+    (b : Advance) × IsBurstOf img most lease b × SubmitsOrReplaces unit b (refused img config s (Submit b)) x
 Asks img config s most unit move.Commit x = x ≡ Commit unit
 Asks img config s most unit move.Wait x = ⊥
 Asks img config s most unit move.Ended x = ⊥
@@ -60,7 +63,8 @@ pub record IsMade (most : ℕ) (old new : Recorded) (unit : UnitId) : Type 0 whe
 
 -- there is no such unit, or it has no move
 abbrev pub HasNoMove : Recorded → (unit : ℕ) → Type 0
-HasNoMove r unit = (r.machine.config.units ≤ unit) ⊎ ((move_of r.machine unit ≡ move.Wait) ⊎ (move_of r.machine unit ≡ move.Ended))
+HasNoMove r unit =
+    (r.machine.config.units ≤ unit) ⊎ ((move_of r.machine unit ≡ move.Wait) ⊎ (move_of r.machine unit ≡ move.Ended))
 
 -- the unit's move is refused
 pub record IsRefused (most : ℕ) (r : Recorded) (unit : ℕ) : Type 0 where

@@ -1,5 +1,6 @@
 -- The orders of the policies.
-use Rattle.std.specs.Prelude.{◌≡◌, ℕ, zero, suc, ◌+◌, ◌-◌, ◌%◌, ◌^◌, if◌then◌else◌, nat_le, List, [], ◌∷◌, ◌++◌, map, Option, None, Some, option_map, slice_get, length}
+use Rattle.std.specs.Prelude.{◌≡◌, ℕ, zero, suc, ◌+◌, ◌-◌, ◌%◌, ◌^◌, if◌then◌else◌, nat_le}
+use Rattle.std.specs.Prelude.{List, [], ◌∷◌, ◌++◌, map, Option, None, Some, option_map, slice_get, length}
 use Rattle.std.specs.List.{insert}
 use Rattle.svc_base.specs.declared.ids.UnitId.{UnitId}
 use Rattle.svc_core.specs.declared.burst.Lease.{Lease}
@@ -37,7 +38,8 @@ next_after units (Some unit) = (unit.0 + 1) % units
 
 -- `rotate`: from the unit after the one that moved last
 abbrev pub Rotates : Rotate → Recorded → List UnitId → Rotate → Type 0
-Rotates old r order new = order ≡ around (next_after r.machine.config.units (moved_last r.entries)) r.machine.config.units
+Rotates old r order new =
+    order ≡ around (next_after r.machine.config.units (moved_last r.entries)) r.machine.config.units
 
 -- the place of a rank among others: after those that aren't greater
 abbrev pub place_among : List ℕ → ℕ → ℕ
@@ -47,7 +49,8 @@ place_among (other ∷ ranks) rank = if nat_le other rank then suc (place_among 
 -- the first n units by rising rank, and by number where ranks are the same
 abbrev pub by_rank : (rank : ℕ → ℕ) → (n : ℕ) → List UnitId
 by_rank rank zero = []
-by_rank rank (suc n) = insert (by_rank rank n) (place_among (map (λ u. rank u.0) (by_rank rank n)) (rank n)) (record { 0 = n })
+by_rank rank (suc n) =
+    insert (by_rank rank n) (place_among (map (λ u. rank u.0) (by_rank rank n)) (rank n)) (record { 0 = n })
 
 -- the rank of a unit's task: the greater the number of its assignment, the younger it is. A unit without a task counts
 -- as the youngest.
@@ -71,4 +74,6 @@ generator_of seed = started 64 multiplier_64 seed (increment_of 64 0)
 
 -- `random`: from the unit that one draw gives
 abbrev pub Draws : Random → Recorded → List UnitId → Random → Type 0
-Draws old r order new = (order ≡ around ((pcg32 old.generator).0 % r.machine.config.units) r.machine.config.units) × (new.generator ≡ (pcg32 old.generator).1)
+Draws old r order new =
+    (order ≡ around ((pcg32 old.generator).0 % r.machine.config.units) r.machine.config.units)
+    × (new.generator ≡ (pcg32 old.generator).1)

@@ -16,7 +16,8 @@ use Rattle.svc_schedule.specs.Orders.{around}
 -- accepted
 abbrev pub FirstMoves : (most : ℕ) → (old new : Recorded) → List UnitId → Type 0
 FirstMoves most old new [] = ⊥
-FirstMoves most old new (unit ∷ units) = IsMade most old new unit ⊎ (IsPassed most old unit × FirstMoves most old new units)
+FirstMoves most old new (unit ∷ units) =
+    IsMade most old new unit ⊎ (IsPassed most old unit × FirstMoves most old new units)
 
 -- the units that a step asks, in order: those named, and then each of the 16 that there may be, by number
 abbrev pub asked : (named : List UnitId) → List UnitId
@@ -24,10 +25,12 @@ asked named = named ++ around 0 16
 
 -- this many steps of a policy, which lead from one policy and history to others; before each the machine stands where
 -- the history leads
-abbrev pub Steps : {P : Type 0} → (Gives : P → Recorded → List UnitId → P → Type 0) → (most count : ℕ) → (old new : P) → (opened led : Recorded) → Type 0
+abbrev pub Steps : {P : Type 0} → (Gives : P → Recorded → List UnitId → P → Type 0) → (most count : ℕ) → (old new : P)
+    → (opened led : Recorded) → Type 0
 Steps Gives most zero old new opened led = (new ≡ old) × (led ≡ opened)
 Steps {P} Gives most (suc n) old new opened led =
-    (before : P) × (there : Recorded) × (named : List UnitId) × Steps Gives most n old before opened there × IsLegal there × Gives before there named new × FirstMoves most there led (asked named)
+    (before : P) × (there : Recorded) × (named : List UnitId) × Steps Gives most n old before opened there
+    × IsLegal there × Gives before there named new × FirstMoves most there led (asked named)
 
 -- how a machine's run has ended, as `Machine::ending` answers it
 abbrev pub ending_at : MachineValue → Ending
@@ -43,7 +46,8 @@ is_over (ending.Open due) = false
 -- a schedule goes on from one history to another of the same machine, which is legal: each entry that it adds is that of
 -- one step of the policy; the ending is an exit, a trap or a full history, or the steps are as many as the configuration
 -- has turns
-pub record GoesOn {P : Type 0} (Gives : P → Recorded → List UnitId → P → Type 0) (most : ℕ) (old new : P) (start r : Recorded) : Type 0 where
+pub record GoesOn {P : Type 0} (Gives : P → Recorded → List UnitId → P → Type 0) (most : ℕ) (old new : P)
+    (start r : Recorded) : Type 0 where
   pub image : r.machine.image ≡ start.machine.image
   pub config_is : r.machine.config ≡ start.machine.config
   pub legal : IsLegal r
@@ -55,7 +59,8 @@ pub record GoesOn {P : Type 0} (Gives : P → Recorded → List UnitId → P →
 
 -- a scheduled run of this image and configuration: its history is legal, and each entry is that of one step of the
 -- policy; its ending is an exit, a trap or a full history, or it has as many steps as the configuration has turns
-pub record IsScheduled {P : Type 0} (Gives : P → Recorded → List UnitId → P → Type 0) (img : Image) (config : Config) (most : ℕ) (old new : P) (r : Recorded) : Type 0 where
+pub record IsScheduled {P : Type 0} (Gives : P → Recorded → List UnitId → P → Type 0) (img : Image) (config : Config)
+    (most : ℕ) (old new : P) (r : Recorded) : Type 0 where
   pub image : r.machine.image ≡ img
   pub config_is : r.machine.config ≡ config
   pub legal : IsLegal r

@@ -43,7 +43,8 @@ pub record IsOutcome (image : Image) (config : Config) (r : Recorded) (lists : L
 -- why there is no outcome: the image or configuration is another one, or the lists aren't the units'
 abbrev pub IsNoOutcome : Image → Config → Recorded → List (List Slip) → RunError → Type 0
 IsNoOutcome image config r lists why =
-    ((why ≡ ForeignImage) × ¬ (IsGiven image config r)) ⊎ ((why ≡ Torn) × IsGiven image config r × ¬ (AreTheUnits r lists))
+    ((why ≡ ForeignImage) × ¬ (IsGiven image config r))
+    ⊎ ((why ≡ Torn) × IsGiven image config r × ¬ (AreTheUnits r lists))
 
 -- what is left of a unit's slips from a place on is what is left of the history from an index on
 abbrev pub Left : ℕ → ℕ → List Entry → ℕ → List Slip → Type 0

@@ -179,6 +179,6 @@ module _ (b : BusState) (t : LineTable) (word : ℕ) (units : List UnitId) (agre
   pub fields_of_versions : committed_fields units ≡ version_fields b.caches b word
   fields_of_versions =
       let few : length units ≤ b.caches =
-          subst (λ n. n ≤ b.caches) (count_stands (length units) (omega arith))
-          (subst (λ n. count_by (stands (length units)) (range_with_len 0 b.caches) ≤ n) (length-range_with_len 0 b.caches) (count_by-le-length (stands (length units)) (range_with_len 0 b.caches))) in
+      subst (λ n. n ≤ b.caches) (count_stands (length units) (omega arith))
+      (subst (λ n. count_by (stands (length units)) (range_with_len 0 b.caches) ≤ n) (length-range_with_len 0 b.caches) (count_by-le-length (stands (length units)) (range_with_len 0 b.caches))) in
       sym (front b.caches ∙ ap committed_fields (take_all b.caches units few))

@@ -4,7 +4,8 @@ use Rattle.std.specs.Prelude.{ℕ, Bool, ◌&&◌, ◌==◌, cond, not, List, []
 use Rattle.std.specs.List.{range_with_len}
 use Rattle.svc_core_laws.specs.State.{State}
 use Rattle.svc_bus.specs.Versions.{is_older_version}
-use Rattle.svc_bus_laws.specs.BusLine.{BusLine, is_active_line, is_committed_dirty_line, is_committed_line, is_dirty_line}
+use Rattle.svc_bus_laws.specs.BusLine.{BusLine, is_active_line, is_committed_dirty_line, is_committed_line}
+use Rattle.svc_bus_laws.specs.BusLine.{is_dirty_line}
 use Rattle.svc_bus_laws.specs.BusState.{BusState}
 use Rattle.svc_machine_laws.specs.PlainMachine.{Running}
 use Rattle.svc_text.specs.Rows.{fields}

@@ -14,5 +14,7 @@ of-list-requires-clause-listed c = listable _ c.self.invariant c.deref.result.no
 
 pub returns : goal.returns
 unfolding observed
-returns c = record { order = rw (← c.self.view_is, c.units_of.ensures, c.committed.ensures.lines)
-    (its_versions _ c.self.invariant c.args.word.0 c.of-list.result c.deref.result.now c.deref.ensures.value c.of-list.ensures.list.committed c.of-list.ensures.list.active) }
+returns c = record {
+  order = rw (← c.self.view_is, c.units_of.ensures, c.committed.ensures.lines)
+      (its_versions _ c.self.invariant c.args.word.0 c.of-list.result c.deref.result.now c.deref.ensures.value c.of-list.ensures.list.committed c.of-list.ensures.list.active);
+}
