@@ -10,5 +10,5 @@ returns g c = record {
   futures = future_renamed;
   keys = key_renamed;
   chosen = chosen_tell;
-  closed = λ img is config most key tells keys found closed. shows img is config most key tells keys found closed (opened_reached img (given img is) config 0);
+  closed = λ img is config most has tells keys found closed. shows img is config most has tells keys found closed (opened_reached img (given img is) config 0);
 }
