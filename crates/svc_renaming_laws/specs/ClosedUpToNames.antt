@@ -85,11 +85,10 @@ pub record IsClosedUpToNames (img : Image) (config : Config) (most : ℕ) {K : T
   pub opening : IsOpeningListed img config has keys
   pub each : (k : K) → IsIn k keys → AllExplored img config most has keys found k
 
--- THE CLOSED LIST, UP TO NAMES: where such keys are closed, whatever units do and however long, all that an entry of
+-- THE CLOSED LIST, UP TO NAMES: where keys by names are closed, whatever units do and however long, all that an entry of
 -- the history shows was found
 abbrev pub ClosedUpToNamesLaw : Type 0 → Type 0
 ClosedUpToNamesLaw K =
-    (img : Image) → IsImage img → (config : Config) → (most : ℕ) → (has : Standing → K → Type 0)
-    → TellsUpToNames img config has
-    → (keys : List K) (found : List Observation) → IsClosedUpToNames img config most has keys found
-    → ShowNothingElse img config most found
+    (img : Image) → IsImage img → (config : Config) → (most : ℕ) → (key : Standing → K) → TellsKeys img config key
+    → (keys : List K) (found : List Observation)
+    → IsClosedUpToNames img config most (HasNamedKey config key) keys found → ShowNothingElse img config most found

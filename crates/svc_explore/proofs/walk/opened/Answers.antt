@@ -2,7 +2,7 @@ use Rattle.std.proofs.Common.{◌≡◌, List, [], ap, arith, length, refl, subs
 use Rattle.svc_base.specs.declared.config.Config.{Config}
 use Rattle.svc_image.specs.Image.{Image}
 use Rattle.svc_machine_laws.specs.Standing.{opened_at}
-use Rattle.svc_explore.specs.Counts.{Place}
+use Rattle.svc_explore.specs.Search.{Place}
 use Rattle.svc_explore.specs.Recorders.{Leads}
 use Rattle.svc_explore.specs.Tries.{LeadsToKey}
 use Rattle.svc_explore.proofs.Counting.{adds_met, adds_one, none_met}
@@ -23,7 +23,7 @@ returns-clause-sound c = λ most.
     let leads : LeadsToKey img config most (vec_items path) (vec_items key) = record {
       standing = opened_at img config 0;
       leads = subst (λ p. Leads img config most (opened_at img config 0) p (opened_at img config 0)) (sym c.new.ensures.items) refl;
-      key_is = c.in_ok-key.ensures;
+      has_key = c.in_ok-key.ensures;
     } in
     record {
       witnessed = none_witnessed img config most c.new-2.result.items c.new-2.ensures.items;

@@ -1,15 +1,14 @@
 use Rattle.std.proofs.Common.{◌<◌, arith, length}
 use Rattle.svc_explore.specs.Found.{are_seen}
-use Rattle.svc_explore.specs.Search.{are_keys}
 use Rattle.svc_explore.proofs.Counting.{few_moves, more_times, some_keys}
 use Rattle.svc_explore.proofs.Growing.{closed_none, closed_more}
 use Rattle.svc_explore.proofs.walk.Search.run.Goals as goal
 
 pub loop-index-init : goal.loop-index-init
 loop-index-init c = record {
-  closed = closed_none c.args.image.now c.args.config c.args.most (are_keys c.args.self.now.keys.entries) (are_seen c.args.self.now.found.items) c.requires.opening;
+  closed = closed_none c.args.image.now c.args.config c.args.most c.args.self.now.keys.entries (are_seen c.args.self.now.found.items) c.requires.opening;
   inside = omega arith;
-  some = some_keys _ c.args.self.now.keys.entries c.requires.opening;
+  some = some_keys c.requires.opening.key c.args.self.now.keys.entries c.requires.opening.listed;
   moves = omega (arith, c.requires.unmoved);
   sound = c.requires.sound;
 }
