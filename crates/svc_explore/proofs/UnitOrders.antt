@@ -8,6 +8,7 @@ use Rattle.svc_base.specs.declared.ids.UnitId.{UnitId}
 use Rattle.svc_observations.specs.Rosters.{unit_numbers}
 use Rattle.svc_observations.proofs.Rosters.{units_append}
 use Rattle.svc_renaming_laws.specs.Orders.{IsOrder}
+use Rattle.svc_explore.specs.UnitOrders.{KeepsOrders}
 use Rattle.svc_explore.proofs.Growing.{below_more}
 
 pub no_order : IsOrder 0 []
@@ -71,3 +72,9 @@ module _ (us : List UnitId) (a b : ℕ) (inside : a < length us) (within : b < l
             let same = order.distinct (exchange a b p) (exchange a b q) (there p h) (there q k) (sym (read d p (long p h)) ∙ e ∙ read d q (long q k)) in
             sym (exchange-twice a b p) ∙ ap (exchange a b) same ∙ exchange-twice a b q;
       }
+
+pub exchanged : (us vs : List UnitId) (a b : ℕ) → a < length us → b < length us → vs ≡ swap us a b → KeepsOrders us vs
+exchanged us vs a b inside within e = subst (KeepsOrders us) (sym e) (swapped us a b inside within)
+
+pub keeps_both : (us vs ws : List UnitId) → KeepsOrders us vs → KeepsOrders vs ws → KeepsOrders us ws
+keeps_both us vs ws first then n order = then n (first n order)

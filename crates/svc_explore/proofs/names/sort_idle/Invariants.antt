@@ -1,10 +1,9 @@
-use Rattle.std.proofs.Common.{ℕ, ◌≡◌, length}
-use Rattle.svc_observations.specs.Rosters.{unit_numbers}
-use Rattle.svc_renaming_laws.specs.Orders.{IsOrder}
+use Rattle.std.proofs.Common.{◌≡◌, length}
+use Rattle.svc_explore.specs.UnitOrders.{KeepsOrders}
 use Rattle.svc_explore.proofs.names.sort_idle.Given as goal
 
 abbrev pub invariant-loop-place : goal.invariant-loop-place
 invariant-loop-place l = record {
-  order : (n : ℕ) → IsOrder n (unit_numbers l.fn.order.items) → IsOrder n (unit_numbers l.order.items);
+  kept : KeepsOrders l.fn.order.items l.order.items;
   len : length l.order.items ≡ length l.fn.order.items;
 }

@@ -9,6 +9,9 @@ use Rattle.svc_explore.proofs.Counting.{adds_met, adds_one, none_met}
 use Rattle.svc_explore.proofs.Founding.{none_witnessed}
 use Rattle.svc_explore.proofs.walk.opened.Goals as goal
 
+pub returns-clause-opening : goal.returns-clause-opening
+returns-clause-opening c = record { key = vec_items c.in_ok-key.key; has_key = c.in_ok-key.ensures; listed = c.in_ok-note_key.ensures.listed }
+
 pub returns-clause-sound : goal.returns-clause-sound
 returns-clause-sound c = λ most.
     let img : Image = c.args.image.now in
