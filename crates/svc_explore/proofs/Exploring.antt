@@ -29,24 +29,18 @@ if_ok (Err e) P Q f h = h
 
 -- a recorder, where its unit was tried
 module _ (most : ℕ) (r : Recorded) (unit : ℕ) where
-  abbrev image : Image
-  image = r.machine.image
-
-  abbrev config : Config
-  config = r.machine.config
-
   -- where the move leads
-  there : (sights : List Observation) (next : List ℕ) (m : IsMovedTo most r unit sights next) → HasKey image config (stepped image (standing_of r) m.moved.event) next
+  there : (sights : List Observation) (next : List ℕ) (m : IsMovedTo most r unit sights next) → HasKey r.machine.image r.machine.config (stepped r.machine.image (standing_of r) m.moved.event) next
   there sights next m =
-      subst (λ s. HasKey image config s next) m.moved.standing
-      (subst (λ c. HasKey image c (standing_of m.new) next) m.moved.config (subst (λ i. HasKey i m.new.machine.config (standing_of m.new) next) m.moved.image m.has_key))
+      subst (λ s. HasKey r.machine.image r.machine.config s next) m.moved.standing
+      (subst (λ c. HasKey r.machine.image c (standing_of m.new) next) m.moved.config (subst (λ i. HasKey i m.new.machine.config (standing_of m.new) next) m.moved.image m.has_key))
 
-  module _ (reached : IsReached image config (standing_of r)) (room : HasRoom config (standing_of r).plain) where
-    none_from : (keys : List (List ℕ)) (found : List Observation) → HasNoMove image config most (standing_of r) unit → IsExploredFrom image config most keys found (standing_of r) unit
+  module _ (reached : IsReached r.machine.image r.machine.config (standing_of r)) (room : HasRoom r.machine.config (standing_of r).plain) where
+    none_from : (keys : List (List ℕ)) (found : List Observation) → HasNoMove r.machine.image r.machine.config most (standing_of r) unit → IsExploredFrom r.machine.image r.machine.config most keys found (standing_of r) unit
     none_from keys found none = record { reached = reached; room = room; move = inl none }
 
     moved_from : (keys : List (List ℕ)) (found sights : List Observation) (next : List ℕ) → IsMovedTo most r unit sights next → AreIn sights found → IsIn next keys
-        → IsExploredFrom image config most keys found (standing_of r) unit
+        → IsExploredFrom r.machine.image r.machine.config most keys found (standing_of r) unit
     moved_from keys found sights next m are listed = record {
       reached = reached;
       room = room;
@@ -60,12 +54,12 @@ module _ (most : ℕ) (r : Recorded) (unit : ℕ) where
       });
     }
 
-    pub tried_by : (t : Tried) → IsTried most r unit t → (path : List UnitId) → LeadsOnly image config most path (standing_of r) → TriedBy image config most path unit t
+    pub tried_by : (t : Tried) → IsTried most r unit t → (path : List UnitId) → LeadsOnly r.machine.image r.machine.config most path (standing_of r) → TriedBy r.machine.image r.machine.config most path unit t
     tried_by tried.Off h path only = tt
     tried_by tried.Rests h path only = λ keys found s leads.
-        subst (λ z. IsExploredFrom image config most keys found z unit) (sym (only s leads)) (none_from keys found h)
+        subst (λ z. IsExploredFrom r.machine.image r.machine.config most keys found z unit) (sym (only s leads)) (none_from keys found h)
     tried_by (tried.Moves happened squashed next) h path only = λ keys found are listed s leads.
-        subst (λ z. IsExploredFrom image config most keys found z unit) (sym (only s leads)) (moved_from keys found (both happened squashed) (vec_items next) h are listed)
+        subst (λ z. IsExploredFrom r.machine.image r.machine.config most keys found z unit) (sym (only s leads)) (moved_from keys found (both happened squashed) (vec_items next) h are listed)
 
 pub shows_it : (most : ℕ) (r : Recorded) (unit : UnitId) (path : List UnitId) → Leads r.machine.image r.machine.config most (opened_at r.machine.image r.machine.config 0) path (standing_of r)
     → (t : Tried) → IsTried most r unit.0 t → ShowsIt r.machine.image r.machine.config most path unit t

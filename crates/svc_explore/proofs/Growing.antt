@@ -119,7 +119,6 @@ module _ (img : Image) (config : Config) (most : ℕ) (places more : List Place)
   pub explored_at_stays : (index unit : ℕ) → index < length places → IsExploredAt img config most places found index unit → IsExploredAt img config most more others index unit
   explored_at_stays index unit inside h e there s leads = stays_from s unit (h e (place_stays index e inside there) s leads)
 
-
 pub below_more : (k n : ℕ) → k < n + 1 → (k < n) ⊎ (k ≡ n)
 below_more k n h = grind arith
 
