@@ -39,7 +39,7 @@ pub(crate) fn name_of(order: &[UnitId], unit: UnitId) -> u64
 {
     match find_unit(order, unit) {
         Some(place) => place as u64,
-        None => u64::from(unit.0),
+        None => unit.0 as u64,
     }
 }
 

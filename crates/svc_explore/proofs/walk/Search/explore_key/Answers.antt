@@ -23,3 +23,6 @@ loop-unit-preserved c =
       moves = omega (arith, inv.moves, says.moves);
       sound = says.sound;
     }
+
+pub returns-clause-explored : goal.returns-clause-explored
+returns-clause-explored c = λ ok unit h. c.loop-unit.invariant.each unit (omega (arith, h, c.loop-unit-test.false))
