@@ -75,6 +75,7 @@ for burst in 1 2 63; do
 done
 case_of p_on_1 p.svci units=1
 case_of p_on_3 p.svci units=3
+case_of p_on_4 p.svci units=4
 
 # The teaching programs.
 for program in violation handed_on wrong_guess full_set lost_stack; do
@@ -96,7 +97,7 @@ case_of trap_in_the_middle programs/trap_in_the_middle.svci units=2
 case_of part_stores programs/part_stores.svci units=2
 
 # Limits: of standings, met and just kept; of events, met and just kept.
-for states in 1 72 73 74; do
+for states in 1 36 37 38; do
     case_of "p_of_${states}_states" p.svci "units=2 states=$states"
 done
 for events in 1 10 11 12; do

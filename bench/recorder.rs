@@ -229,10 +229,11 @@ impl<'a> Recorder<'a> {
         self.seats.iter().map(|seat| (seat.unit, seat.entry, seat.core.task.count))
     }
 
-    /// What tells where a machine stands apart from another: the commits, the tasks, and what shows of the bus.
+    /// What tells where a machine stands apart from another, but for which unit is which: the commits, the tasks, and what
+    /// shows of the bus.
     pub fn key(&self) -> Vec<u64> {
         let mut key = vec![self.commits, self.seats.len() as u64];
-        key.extend(self.tasks().flat_map(|(unit, entry, turns)| [unit as u64, entry as u64, u64::from(turns)]));
+        key.extend(self.tasks().flat_map(|(_, entry, turns)| [entry as u64, u64::from(turns)]));
         self.bus.add_key(&mut key);
         key
     }

@@ -115,17 +115,28 @@ impl Bus {
         }
     }
 
-    /// Adds which words have lines, with their bits, whose committed version is the newest, and which words are spilled.
-    pub fn add_key(&self, key: &mut Vec<u64>) {
-        for (unit, cache) in self.caches.iter().enumerate() {
-            let mut lines: Vec<&Line> = cache.lines.iter().filter(|line| line.is_valid).collect();
-            lines.sort_by_key(|line| line.word);
-            key.push(lines.len() as u64);
-            for line in lines {
-                let is_newest = line.is_committed && line.is_dirty && self.newest(line.word) == Some(unit);
-                key.extend([line.word.into(), line.code(), is_newest.into()]);
-            }
+    /// What shows of a unit's cache: which words have lines, with their bits, and whether its committed version is the newest.
+    fn row_of(&self, unit: usize) -> Vec<u64> {
+        let mut lines: Vec<&Line> = self.caches[unit].lines.iter().filter(|line| line.is_valid).collect();
+        lines.sort_by_key(|line| line.word);
+        let mut row = vec![lines.len() as u64];
+        for line in lines {
+            let is_newest = line.is_committed && line.is_dirty && self.newest(line.word) == Some(unit);
+            row.extend([line.word.into(), line.code(), is_newest.into()]);
         }
+        row
+    }
+
+    /// Adds what shows of the caches, those of the active tasks first and in their order, and then the others in an order of
+    /// their own, so that it doesn't matter which unit is which; and which words are spilled.
+    pub fn add_key(&self, key: &mut Vec<u64>) {
+        for unit in &self.queue {
+            key.extend(self.row_of(*unit));
+        }
+        let idle = (0..self.caches.len()).filter(|unit| !self.queue.contains(unit));
+        let mut rows: Vec<Vec<u64>> = idle.map(|unit| self.row_of(unit)).collect();
+        rows.sort_unstable();
+        key.extend(rows.into_iter().flatten());
         let mut spilled: Vec<u64> =
             self.spilled.iter().filter(|word| self.spill[**word as usize].is_some()).map(|word| (*word).into()).collect();
         spilled.sort_unstable();

@@ -13,12 +13,12 @@ use Rattle.svc_base.specs.declared.ids.UnitId.{UnitId}
 use Rattle.svc_image.specs.Image.{Image}
 use Rattle.svc_explore_laws.specs.Closed.{IsIn}
 use Rattle.svc_machine_laws.proofs.Places.{some_at}
-use Rattle.svc_explore.specs.Counts.{AddsPlace, AreMet, HasFull, IsDepth, IsLongest, IsMet, Place, path_at}
+use Rattle.svc_explore.specs.Counts.{AddsPlace, AreMet, HasFull, IsDepth, IsLongest, IsMet}
 use Rattle.svc_explore.specs.Found.{AreOnce}
-use Rattle.svc_explore.specs.Search.{are_keys, key_at}
+use Rattle.svc_explore.specs.Search.{GrowsTo, Place, are_keys, key_at, path_at}
 use Rattle.svc_explore.specs.Tries.{LeadsToKey}
 use Rattle.svc_explore.proofs.Founding.{all_more, once_more}
-use Rattle.svc_explore.proofs.Growing.{below_more, eq_keys, map_append, put}
+use Rattle.svc_explore.proofs.Growing.{append_grows, below_more, eq_keys, map_append, put, same_grows}
 
 -- ---- a key that a map doesn't hold
 
@@ -60,6 +60,10 @@ module _ (img : Image) (config : Config) (most : ℕ) where
     once = subst AreOnce (sym (ap are_keys more.0 ∙ map_append key_at old ((key, path) ∷ []))) (once_more (are_keys old) (vec_items key) more.1 met.once);
     each = subst (AllByRecursion (IsMet img config most)) (sym more.0) (all_more (IsMet img config most) old (key, path) met.each leads);
   }
+
+pub adds_grow : (old new : List Place) (key : Vec ℕ Global) (path : Vec UnitId Global) → AddsPlace old new key path → GrowsTo old new
+adds_grow old new key path (inl same) = same_grows old new same
+adds_grow old new key path (inr more) = subst (GrowsTo old) (sym more.0) (append_grows old ((key, path) ∷ []))
 
 -- at most one more
 pub adds_one : (old new : List Place) (key : Vec ℕ Global) (path : Vec UnitId Global) → AddsPlace old new key path → length new ≤ length old + 1

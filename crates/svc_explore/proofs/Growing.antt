@@ -8,17 +8,20 @@ use Rattle.indexmap.specs.IndexMap.{insert_entry}
 use Rattle.std.proofs.lemmas.Option.{none-some, same_Some}
 use Rattle.svc_base.specs.declared.config.Config.{Config}
 use Rattle.svc_image.specs.Image.{Image, IsImage}
-use Rattle.svc_machine_laws.specs.Standing.{opened_at}
+use Rattle.svc_machine_laws.specs.Standing.{Standing, opened_at}
 use Rattle.svc_base.specs.declared.ids.UnitId.{UnitId}
 use Rattle.svc_explore_laws.specs.declared.observation.Observation.{Observation}
 use Rattle.svc_machine_laws.proofs.Places.{some_at, within}
 use Rattle.svc_machine_laws.proofs.Given.{given}
 use Rattle.svc_machine_laws.proofs.Folds.{opened_reached}
-use Rattle.svc_explore_laws.proofs.ClosedPlays.{shows}
+use Rattle.svc_renaming_laws.specs.ClosedUpToNames.{AllExplored, IsClosedUpToNames, IsOpeningListed}
+use Rattle.svc_renaming_laws.proofs.ClosedNames.{shows}
+use Rattle.svc_renaming_laws.proofs.KeyNames.{chosen_tell}
 use Rattle.svc_explore.proofs.KeyTells.{key_tells}
-use Rattle.svc_explore_laws.specs.Closed.{IsIn, AreIn, IsClosed, IsExplored, ShowNothingElse}
-use Rattle.svc_explore.specs.Counts.{Place}
-use Rattle.svc_explore.specs.Search.{GrowsTo, are_keys, key_at, image_key, IsExploredAt, IsPartlyClosed}
+use Rattle.svc_explore_laws.specs.Closed.{IsIn, AreIn, ShowNothingElse}
+use Rattle.svc_explore.specs.KeyWords.{HasKey, image_key}
+use Rattle.svc_explore.specs.Search.{GrowsTo, IsExploredAt, IsExploredBy, IsExploredFrom, IsPartlyClosed, Place, are_keys, key_at, path_at}
+use Rattle.svc_explore.specs.Tries.{LeadsToKey}
 
 pub append_grows : {A : Type 0} (xs ys : List A) → GrowsTo xs (xs ++ ys)
 append_grows [] ys i x e = absurd (none-some x e)
@@ -45,15 +48,6 @@ module _ (key : Vec ℕ Global) (path : Vec UnitId Global) where
   abbrev pub put : List Place → List Place
   put es = insert_entry eq_keys es key path
 
-  pub insert_grows : (es : List Place) → GrowsTo (are_keys es) (are_keys (put es))
-  insert_grows [] = λ i x e. absurd (none-some x e)
-  insert_grows (e ∷ es) = by (eq_keys key e.0) (insert_grows es)
-    where
-      by : (b : Bool) → GrowsTo (are_keys es) (are_keys (put es)) → GrowsTo (vec_items e.0 ∷ are_keys es) (are_keys (cond b ((e.0, path) ∷ es) (e ∷ put es)))
-      by true rest i x h = h
-      by false rest zero x h = h
-      by false rest (suc i) x h = rest i x h
-
   pub insert_listed : (es : List Place) → IsIn (vec_items key) (are_keys (put es))
   insert_listed [] = (0, refl)
   insert_listed (e ∷ es) = by (eq_keys key e.0) refl (insert_listed es)
@@ -72,6 +66,16 @@ found_listed key (x ∷ es) = by (bytes_eq key (vec_items x.0)) refl (found_list
     by true h rest e = (0, ap (λ (l : List ℕ). Some l) (sym ((bytes_eq-Decides key (vec_items x.0)).0 h)))
     by false h rest e = let there = rest e in (suc there.0, there.1)
 
+pub map_at : {A B : Type 0} (f : A → B) (xs : List A) (i : ℕ) (x : A) → slice_get xs i ≡ Some x → slice_get (map f xs) i ≡ Some (f x)
+map_at f [] i x h = absurd (none-some x h)
+map_at f (y ∷ xs) zero x h = ap (λ z. Some (f z)) (same_Some y x h)
+map_at f (y ∷ xs) (suc i) x h = map_at f xs i x h
+
+pub mapped_at : {A B : Type 0} (f : A → B) (xs : List A) (i : ℕ) (y : B) → slice_get (map f xs) i ≡ Some y → (x : A) × (slice_get xs i ≡ Some x) × (f x ≡ y)
+mapped_at f [] i y h = absurd (none-some y h)
+mapped_at f (x ∷ xs) zero y h = (x, refl, same_Some (f x) y h)
+mapped_at f (x ∷ xs) (suc i) y h = mapped_at f xs i y h
+
 pub grows_trans : {A : Type 0} (xs ys zs : List A) → GrowsTo xs ys → GrowsTo ys zs → GrowsTo xs zs
 grows_trans xs ys zs e f i x h = f i x (e i x h)
 
@@ -82,69 +86,86 @@ pub all_stay : {A : Type 0} (os xs ys : List A) → GrowsTo xs ys → AreIn os x
 all_stay [] xs ys grows are = tt
 all_stay (o ∷ os) xs ys grows are = (stays_in o xs ys grows are.0, all_stay os xs ys grows are.1)
 
+-- what holds of each element grows with the list
+pub map_grows : {A B : Type 0} (f : A → B) (xs ys : List A) → GrowsTo xs ys → GrowsTo (map f xs) (map f ys)
+map_grows f xs ys grows i y h = let x = mapped_at f xs i y h in map_at f ys i x.0 (grows i x.0 x.1) ∙ ap Some x.2
+
 -- what was explored stays so
-module _ (img : Image) (config : Config) (most : ℕ) (keys more : List (List ℕ)) (found others : List Observation) (grows : GrowsTo keys more) (rises : GrowsTo found others) where
-  pub explored_stays : (k : List ℕ) (unit : ℕ) → IsExplored img config most (image_key img config) keys found k unit → IsExplored img config most (image_key img config) more others k unit
-  explored_stays k unit e = record {
-    standing = e.standing;
+module _ (img : Image) (config : Config) (most : ℕ) (places more : List Place) (found others : List Observation) (grows : GrowsTo places more) (rises : GrowsTo found others) where
+  keys_grow : GrowsTo (are_keys places) (are_keys more)
+  keys_grow = map_grows key_at places more grows
+
+  stays_from : (s : Standing) (unit : ℕ) → IsExploredFrom img config most (are_keys places) found s unit → IsExploredFrom img config most (are_keys more) others s unit
+  stays_from s unit e = record {
     reached = e.reached;
-    has_key = e.has_key;
     room = e.room;
     move = elim e.move [
       | inl none ↦ inl none
-      | inr goes ↦ inr (record { event = goes.event; moves = goes.moves; found_is = all_stay _ found others rises goes.found_is; leads = stays_in _ keys more grows goes.leads })
+      | inr goes ↦ inr (record {
+        event = goes.event;
+        moves = goes.moves;
+        found_is = all_stay _ found others rises goes.found_is;
+        key = goes.key;
+        has_key = goes.has_key;
+        listed = stays_in goes.key (are_keys places) (are_keys more) keys_grow goes.listed;
+      })
     ];
   }
 
-  -- the key of an index stays
-  pub key_stays : (index : ℕ) (k : List ℕ) → index < length keys → slice_get more index ≡ Some k → slice_get keys index ≡ Some k
-  key_stays index k inside e = let old = some_at keys index inside in old.1 ∙ ap Some (same_Some old.0 k (sym (grows index old.0 old.1) ∙ e))
+  -- the place of an index stays
+  pub place_stays : (index : ℕ) (e : Place) → index < length places → slice_get more index ≡ Some e → slice_get places index ≡ Some e
+  place_stays index e inside h = let old = some_at places index inside in old.1 ∙ ap Some (same_Some old.0 e (sym (grows index old.0 old.1) ∙ h))
 
-  pub explored_at_stays : (index unit : ℕ) → index < length keys → IsExploredAt img config most keys found index unit → IsExploredAt img config most more others index unit
-  explored_at_stays index unit inside e k h = explored_stays k unit (e k (key_stays index k inside h))
-
--- the key that an index reads
-pub key_read : (es : List (Vec ℕ Global × Vec UnitId Global)) (index : ℕ) (e : Vec ℕ Global × Vec UnitId Global) → slice_get es index ≡ Some e → slice_get (are_keys es) index ≡ Some (vec_items e.0)
-key_read [] index e h = absurd (none-some e h)
-key_read (x ∷ es) zero e h = ap (λ (v : Vec ℕ Global × Vec UnitId Global). Some (vec_items v.0)) (same_Some x e h)
-key_read (x ∷ es) (suc index) e h = key_read es index e h
-
-pub same_key : (es : List Place) (index : ℕ) (e : Place) (k : List ℕ) → slice_get es index ≡ Some e → slice_get (are_keys es) index ≡ Some k → vec_items e.0 ≡ k
-same_key es index e k h is = same_Some (vec_items e.0) k (sym (key_read es index e h) ∙ is)
-
-length_map : {A B : Type 0} (f : A → B) (xs : List A) → length (map f xs) ≡ length xs
-length_map f [] = refl
-length_map f (x ∷ xs) = ap suc (length_map f xs)
-
-pub length_keys : (es : List (Vec ℕ Global × Vec UnitId Global)) (index : ℕ) → index < length es → index < length (are_keys es)
-length_keys es index h = let e = length_map key_at es in omega (arith, h, e)
+  pub explored_at_stays : (index unit : ℕ) → index < length places → IsExploredAt img config most places found index unit → IsExploredAt img config most more others index unit
+  explored_at_stays index unit inside h e there s leads = stays_from s unit (h e (place_stays index e inside there) s leads)
 
 pub below_more : (k n : ℕ) → k < n + 1 → (k < n) ⊎ (k ≡ n)
 below_more k n h = grind arith
 
 module _ (img : Image) (config : Config) (most : ℕ) where
-  pub closed_none : (keys : List (List ℕ)) (found : List Observation) → IsIn (image_key img config (opened_at img config 0)) keys → IsPartlyClosed img config most keys found 0
-  closed_none keys found opening = record { opening = opening; each = λ index h. absurd (omega (arith, h)) }
+  pub opening_stays : (places more : List Place) → GrowsTo places more → IsOpeningListed img config (HasKey img config) (are_keys places) → IsOpeningListed img config (HasKey img config) (are_keys more)
+  opening_stays places more grows o = record { key = o.key; has_key = o.has_key; listed = stays_in o.key (are_keys places) (are_keys more) (map_grows key_at places more grows) o.listed }
 
-  pub closed_more : (keys more : List (Vec ℕ Global × Vec UnitId Global)) (found others : List Observation) → GrowsTo (are_keys keys) (are_keys more) → GrowsTo found others → (index : ℕ) → index < length keys
-      → IsPartlyClosed img config most (are_keys keys) found index → ((unit : ℕ) → unit < config.units → IsExploredAt img config most (are_keys more) others index unit)
-      → IsPartlyClosed img config most (are_keys more) others (index + 1)
-  closed_more keys more found others grows rises index inside closed each = record {
-    opening = stays_in _ (are_keys keys) (are_keys more) grows closed.opening;
+  pub closed_none : (places : List Place) (found : List Observation) → IsOpeningListed img config (HasKey img config) (are_keys places) → IsPartlyClosed img config most places found 0
+  closed_none places found opening = record { opening = opening; each = λ index h. absurd (omega (arith, h)) }
+
+  pub closed_more : (places more : List Place) (found others : List Observation) → GrowsTo places more → GrowsTo found others → (index : ℕ) → index < length places
+      → IsPartlyClosed img config most places found index → ((unit : ℕ) → unit < config.units → IsExploredAt img config most more others index unit)
+      → IsPartlyClosed img config most more others (index + 1)
+  closed_more places more found others grows rises index inside closed each = record {
+    opening = opening_stays places more grows closed.opening;
     each = λ i h unit known. elim (below_more i index h) [
-      | inl low ↦ explored_at_stays img config most (are_keys keys) (are_keys more) found others grows rises i unit (length_keys keys i (omega (arith, low, inside))) (closed.each i low unit known)
-      | inr is ↦ subst (λ j. IsExploredAt img config most (are_keys more) others j unit) (sym is) (each unit known)
+      | inl low ↦ explored_at_stays img config most places more found others grows rises i unit (omega (arith, low, inside)) (closed.each i low unit known)
+      | inr is ↦ subst (λ j. IsExploredAt img config most more others j unit) (sym is) (each unit known)
     ];
   }
 
-  pub closed_whole : (keys : List (Vec ℕ Global × Vec UnitId Global)) (found : List Observation) → IsPartlyClosed img config most (are_keys keys) found (length keys)
-      → IsClosed img config most (image_key img config) (are_keys keys) found
-  closed_whole keys found closed = record {
+  -- where the schedule of a key leads, all units were explored
+  all_explored : (places : List Place) (found : List Observation) (e : Place) → LeadsToKey img config most (path_at e) (key_at e)
+      → ((unit : ℕ) → unit < config.units → IsExploredBy img config most (are_keys places) found (path_at e) unit)
+      → AllExplored img config most (HasKey img config) (are_keys places) found (key_at e)
+  all_explored places found e met each =
+      let first = each 0 (let h = config.some_units in omega (arith, h)) met.standing met.leads in
+      record {
+        standing = met.standing;
+        reached = first.reached;
+        has_key = met.has_key;
+        room = first.room;
+        move = λ unit known. (each unit known met.standing met.leads).move;
+      }
+
+  pub closed_whole : (places : List Place) (found : List Observation) → ((i : ℕ) (e : Place) → slice_get places i ≡ Some e → LeadsToKey img config most (path_at e) (key_at e))
+      → IsPartlyClosed img config most places found (length places) → IsClosedUpToNames img config most (HasKey img config) (are_keys places) found
+  closed_whole places found met closed = record {
     opening = closed.opening;
-    each = λ k there unit known. closed.each there.0 (let h = within (are_keys keys) there.0 k there.1 in let e = length_map key_at keys in omega (arith, h, e)) unit known k there.1;
+    each = λ k there.
+        let e = mapped_at key_at places there.0 k there.1 in
+        let inside : there.0 < length places = within places there.0 e.0 e.1 in
+        subst (AllExplored img config most (HasKey img config) (are_keys places) found) e.2
+        (all_explored places found e.0 (met there.0 e.0 e.1) (λ unit known. closed.each there.0 inside unit known e.0 e.1));
   }
 
   -- THE WHOLE SEARCH
-  pub closed_shows : IsImage img → (keys : List (Vec ℕ Global × Vec UnitId Global)) (found : List Observation) → IsPartlyClosed img config most (are_keys keys) found (length keys) → ShowNothingElse img config most found
-  closed_shows is keys found closed =
-      shows img is config most (image_key img config) (key_tells img config) (are_keys keys) found (closed_whole keys found closed) (opened_reached img (given img is) config 0)
+  pub closed_shows : IsImage img → (places : List Place) (found : List Observation) → IsClosedUpToNames img config most (HasKey img config) (are_keys places) found → ShowNothingElse img config most found
+  closed_shows is places found closed =
+      shows img is config most (HasKey img config) (chosen_tell img config (image_key img config) (key_tells img config)) (are_keys places) found closed (opened_reached img (given img is) config 0)

@@ -14,8 +14,10 @@ use Rattle.svc_image.specs.Image.{Image}
 use Rattle.svc_history_laws.specs.declared.entry.Entry.{Entry}
 use Rattle.svc_machine_laws.specs.Standing.{Standing, opened_at}
 use Rattle.svc_explore_laws.specs.declared.observation.Observation.{Observation}
-use Rattle.svc_explore_laws.specs.Closed.{AreIn, IsClosed, IsExplored, IsIn, ShowNothingElse, ShowsFound}
+use Rattle.svc_explore_laws.specs.Closed.{AreIn, IsIn, ShowNothingElse, ShowsFound}
 use Rattle.svc_explore_laws.specs.Moves.{Plays}
+use Rattle.svc_renaming_laws.specs.ClosedUpToNames.{AllExplored, IsClosedUpToNames}
+use Rattle.svc_explore.specs.KeyWords.{HasKey}
 use Rattle.svc_explore.specs.declared.found.Seen.{Seen}
 use Rattle.svc_explore.specs.Found.{AreOnce, AreWitnessed, IsShown, are_seen}
 use Rattle.svc_observations.specs.Order.{AreInOrder, places_of}
@@ -76,17 +78,18 @@ module _ (found others : List Observation) (moved : (o : Observation) → IsIn o
   shows_moved img config most s [] play h = tt
   shows_moved img config most s (e ∷ es) play h = (all_moved _ h.0, shows_moved img config most play.0 es play.2 h.1)
 
-  pub closed_moved : (img : Image) (config : Config) (most : ℕ) (key : Standing → List ℕ) (keys : List (List ℕ)) → IsClosed img config most key keys found → IsClosed img config most key keys others
-  closed_moved img config most key keys is = record {
+  pub closed_moved : (img : Image) (config : Config) (most : ℕ) (keys : List (List ℕ)) → IsClosedUpToNames img config most (HasKey img config) keys found
+      → IsClosedUpToNames img config most (HasKey img config) keys others
+  closed_moved img config most keys is = record {
     opening = is.opening;
-    each = λ k there unit known. let e : IsExplored img config most key keys found k unit = is.each k there unit known in record {
+    each = λ k there. let e : AllExplored img config most (HasKey img config) keys found k = is.each k there in record {
       standing = e.standing;
       reached = e.reached;
       has_key = e.has_key;
       room = e.room;
-      move = elim e.move [
+      move = λ unit known. elim (e.move unit known) [
         | inl none ↦ inl none
-        | inr goes ↦ inr (record { event = goes.event; moves = goes.moves; found_is = all_moved _ goes.found_is; leads = goes.leads })
+        | inr goes ↦ inr (record { event = goes.event; moves = goes.moves; found_is = all_moved _ goes.found_is; key = goes.key; has_key = goes.has_key; listed = goes.listed })
       ];
     };
   }
@@ -99,8 +102,9 @@ module _ (img : Image) (config : Config) (most : ℕ) (old new : List Seen) (sam
   pub nothing_else_permuted : ShowNothingElse img config most (are_seen old) → ShowNothingElse img config most (are_seen new)
   nothing_else_permuted h es play = shows_moved (are_seen old) (are_seen new) there img config most (opened_at img config 0) es play (h es play)
 
-  pub closed_permuted : (key : Standing → List ℕ) (keys : List (List ℕ)) → IsClosed img config most key keys (are_seen old) → IsClosed img config most key keys (are_seen new)
-  closed_permuted key keys h = closed_moved (are_seen old) (are_seen new) there img config most key keys h
+  pub closed_permuted : (keys : List (List ℕ)) → IsClosedUpToNames img config most (HasKey img config) keys (are_seen old)
+      → IsClosedUpToNames img config most (HasKey img config) keys (are_seen new)
+  closed_permuted keys h = closed_moved (are_seen old) (are_seen new) there img config most keys h
 
 -- ---- what a sort by the places leaves
 

@@ -5,19 +5,14 @@ use Rattle.std.specs.List.{AllByRecursion}
 use Rattle.svc_base.specs.declared.config.Config.{Config}
 use Rattle.svc_base.specs.declared.ids.UnitId.{UnitId}
 use Rattle.svc_image.specs.Image.{Image}
-use Rattle.svc_explore_laws.specs.Closed.{IsClosed, IsIn}
+use Rattle.svc_explore_laws.specs.Closed.{IsIn}
+use Rattle.svc_renaming_laws.specs.ClosedUpToNames.{IsClosedUpToNames}
+use Rattle.svc_explore.specs.KeyWords.{HasKey}
 use Rattle.svc_explore.specs.declared.walk.Exploration.{Exploration}
 use Rattle.svc_explore.specs.declared.walk.Search.{Search}
 use Rattle.svc_explore.specs.Found.{AreOnce, AreWitnessed, are_seen}
-use Rattle.svc_explore.specs.Search.{are_keys, image_key, key_at}
+use Rattle.svc_explore.specs.Search.{Place, are_keys, key_at, path_at}
 use Rattle.svc_explore.specs.Tries.{LeadsToKey}
-
--- a key, with the schedule that led there first
-abbrev pub Place : Type 0
-Place = Vec ℕ Global × Vec UnitId Global
-
-abbrev pub path_at : Place → List UnitId
-path_at e = vec_items e.1
 
 -- the schedule leads to the key
 abbrev pub IsMet : Image → Config → (most : ℕ) → Place → Type 0
@@ -54,7 +49,7 @@ pub record IsSound (img : Image) (config : Config) (most : ℕ) (s : Search) : T
 pub record IsTold (img : Image) (config : Config) (most : ℕ) (x : Exploration) : Type 0 where
   pub places : List Place
   pub met : AreMet img config most places
-  pub closed : IsTrue x.whole → IsClosed img config most (image_key img config) (are_keys places) (are_seen x.found.items)
+  pub closed : IsTrue x.whole → IsClosedUpToNames img config most (HasKey img config) (are_keys places) (are_seen x.found.items)
   pub states : x.states ≡ length places
   pub deepest : IsLongest x.deepest places
   pub least_moves : x.states ≤ x.moves + 1

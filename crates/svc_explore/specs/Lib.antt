@@ -1,5 +1,6 @@
 pub mod Recorders
 pub mod KeyWords
+pub mod UnitOrders
 pub mod Search
 pub mod Tries
 pub mod Found

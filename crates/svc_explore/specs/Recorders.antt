@@ -11,9 +11,7 @@ use Rattle.svc_history.specs.Recorded.{Recorded, standing_of}
 use Rattle.svc_core.specs.declared.burst.Lease.{Lease}
 use Rattle.svc_core_laws.specs.Bursts.{Advance, IsAdvance}
 use Rattle.svc_history.specs.Moves.{RunOn, move_of}
-use Rattle.svc_core_laws.specs.Turns.{data_words}
 use Rattle.svc_explore_laws.specs.Moves.{IsTurn, Moves}
-use Rattle.svc_explore.specs.KeyWords.{key_of}
 
 -- the unit's move was accepted
 pub record HasMoved (most : ℕ) (old new : Recorded) (unit : ℕ) : Type 0 where
@@ -49,7 +47,3 @@ RunsOnBy most r unit b = (lease : Lease) × (move_of r.machine unit.0 ≡ RunOn 
 -- no more epochs were given than events accepted
 abbrev pub GaveFew : Standing → Type 0
 GaveFew s = s.plain.epoch ≤ s.plain.accepted
-
--- the key of a recorder
-abbrev pub key_in : Recorded → List ℕ
-key_in r = key_of r.machine.config.units (data_words r.machine.image) (standing_of r)

@@ -1,35 +1,54 @@
 -- What a search has found so far.
-use Rattle.std.specs.Prelude.{◌≡◌, ℕ, ◌<◌, Some, List, Vec, map, vec_items, slice_get}
+use Rattle.std.specs.Prelude.{◌≡◌, ◌⊎◌, ℕ, ◌<◌, Some, List, Vec, map, vec_items, slice_get}
 use Rattle.std.specs.declared.alloc.Global.{Global}
 use Rattle.svc_base.specs.declared.config.Config.{Config}
 use Rattle.svc_image.specs.Image.{Image}
-use Rattle.svc_core_laws.specs.Turns.{data_words}
 use Rattle.svc_machine_laws.specs.Standing.{Standing, opened_at}
 use Rattle.svc_base.specs.declared.ids.UnitId.{UnitId}
 use Rattle.svc_explore_laws.specs.declared.observation.Observation.{Observation}
-use Rattle.svc_explore_laws.specs.Closed.{IsIn, IsExplored}
-use Rattle.svc_explore.specs.KeyWords.{key_of}
+use Rattle.svc_machine_laws.specs.Reached.{IsReached}
+use Rattle.svc_explore_laws.specs.Moves.{HasRoom}
+use Rattle.svc_explore_laws.specs.Closed.{HasNoMove}
+use Rattle.svc_renaming_laws.specs.ClosedUpToNames.{IsFollowedUpToNames, IsOpeningListed}
+use Rattle.svc_explore.specs.KeyWords.{HasKey}
+use Rattle.svc_explore.specs.Recorders.{Leads}
 
 -- the second list has what the first one has, at the same places
 abbrev pub GrowsTo : {A : Type 0} → List A → List A → Type 0
 GrowsTo {A} xs ys = (i : ℕ) (x : A) → slice_get xs i ≡ Some x → slice_get ys i ≡ Some x
 
-abbrev pub key_at : Vec ℕ Global × Vec UnitId Global → List ℕ
+-- a key, with the schedule that led there first
+abbrev pub Place : Type 0
+Place = Vec ℕ Global × Vec UnitId Global
+
+abbrev pub key_at : Place → List ℕ
 key_at e = vec_items e.0
 
+abbrev pub path_at : Place → List UnitId
+path_at e = vec_items e.1
+
 -- the keys as lists, without the schedules that lead there
-abbrev pub are_keys : List (Vec ℕ Global × Vec UnitId Global) → List (List ℕ)
+abbrev pub are_keys : List Place → List (List ℕ)
 are_keys = map key_at
 
--- the keys of an image's standings
-abbrev pub image_key : Image → Config → Standing → List ℕ
-image_key img config = key_of config.units (data_words img)
+-- from here, with room for its move, the unit has none, or its move was followed
+pub record IsExploredFrom (img : Image) (config : Config) (most : ℕ) (keys : List (List ℕ)) (found : List Observation)
+    (s : Standing) (unit : ℕ) : Type 0 where
+  pub reached : IsReached img config s
+  pub room : HasRoom config s.plain
+  pub move : HasNoMove img config most s unit ⊎ IsFollowedUpToNames img config most (HasKey img config) keys found s unit
 
--- the unit was explored at the key of this index
-abbrev pub IsExploredAt : Image → Config → (most : ℕ) → List (List ℕ) → List Observation → (index unit : ℕ) → Type 0
-IsExploredAt img config most keys found index unit = (k : List ℕ) → slice_get keys index ≡ Some k → IsExplored img config most (image_key img config) keys found k unit
+-- wherever the schedule leads
+abbrev pub IsExploredBy : Image → Config → (most : ℕ) → List (List ℕ) → List Observation → List UnitId → (unit : ℕ) → Type 0
+IsExploredBy img config most keys found path unit =
+    (s : Standing) → Leads img config most (opened_at img config 0) path s → IsExploredFrom img config most keys found s unit
+
+-- the unit was explored where the schedule of the key of this index leads
+abbrev pub IsExploredAt : Image → Config → (most : ℕ) → List Place → List Observation → (index unit : ℕ) → Type 0
+IsExploredAt img config most places found index unit =
+    (e : Place) → slice_get places index ≡ Some e → IsExploredBy img config most (are_keys places) found (path_at e) unit
 
 -- all units were explored at the first so many keys, one of which is that of the opening
-pub record IsPartlyClosed (img : Image) (config : Config) (most : ℕ) (keys : List (List ℕ)) (found : List Observation) (count : ℕ) : Type 0 where
-  pub opening : IsIn (image_key img config (opened_at img config 0)) keys
-  pub each : (index : ℕ) → index < count → (unit : ℕ) → unit < config.units → IsExploredAt img config most keys found index unit
+pub record IsPartlyClosed (img : Image) (config : Config) (most : ℕ) (places : List Place) (found : List Observation) (count : ℕ) : Type 0 where
+  pub opening : IsOpeningListed img config (HasKey img config) (are_keys places)
+  pub each : (index : ℕ) → index < count → (unit : ℕ) → unit < config.units → IsExploredAt img config most places found index unit

@@ -8,14 +8,15 @@ use Rattle.svc_machine_laws.specs.Events.{Event}
 use Rattle.svc_machine_laws.specs.Standing.{Standing, opened_at, reply_to}
 use Rattle.svc_history_laws.specs.Entries.{entry_of}
 use Rattle.svc_explore_laws.specs.Moves.{Moves}
-use Rattle.svc_explore.specs.Recorders.{HasMoved, Leads, key_in}
+use Rattle.svc_explore.specs.Recorders.{HasMoved, Leads}
 use Rattle.svc_explore_laws.specs.declared.observation.Observation.{Observation}
 use Rattle.svc_explore_laws.specs.Observations.{observations}
 use Rattle.svc_history.specs.Recorded.{Recorded, standing_of}
-use Rattle.svc_explore_laws.specs.Closed.{IsIn, AreIn, HasNoMove, IsExplored}
+use Rattle.svc_explore_laws.specs.Closed.{IsIn, AreIn, HasNoMove}
 use Rattle.svc_explore.specs.declared.search.Tried.{Tried}
 use Rattle.svc_explore.specs.declared.search.Tried.TheVariants as tried
-use Rattle.svc_explore.specs.Search.{image_key}
+use Rattle.svc_explore.specs.KeyWords.{HasKey}
+use Rattle.svc_explore.specs.Search.{IsExploredBy}
 
 -- one or both of these
 abbrev pub both : Option Observation → Option Observation → List Observation
@@ -26,7 +27,7 @@ pub record IsMovedTo (most : ℕ) (r : Recorded) (unit : ℕ) (sights : List Obs
   pub new : Recorded
   pub moved : HasMoved most r new unit
   pub sights_are : sights ≡ observations (standing_of r).plain (entry_of moved.event (reply_to r.machine.image (standing_of r) moved.event))
-  pub key_is : key ≡ key_in new
+  pub has_key : HasKey new.machine.image new.machine.config (standing_of new) key
 
 -- what the unit of a recorder did
 abbrev pub IsTried : (most : ℕ) → Recorded → (unit : ℕ) → Tried → Type 0
@@ -40,14 +41,15 @@ IsOff tried.Off = Unit {0}
 IsOff tried.Rests = ⊥
 IsOff (tried.Moves happened squashed next) = ⊥
 
--- the unit was explored at the key, in each list of observations that has what its move shows, and each of keys that has where that leads
-abbrev pub TriedAt : Image → Config → (most : ℕ) → (key : List ℕ) → (unit : ℕ) → Tried → Type 0
-TriedAt img config most key unit tried.Off = Unit {0}
-TriedAt img config most key unit tried.Rests =
-    (keys : List (List ℕ)) (found : List Observation) → IsExplored img config most (image_key img config) keys found key unit
-TriedAt img config most key unit (tried.Moves happened squashed next) =
+-- where the schedule leads the unit was explored, in each list of observations that has what its move shows, and each of keys that
+-- has one of where that leads
+abbrev pub TriedBy : Image → Config → (most : ℕ) → List UnitId → (unit : ℕ) → Tried → Type 0
+TriedBy img config most path unit tried.Off = Unit {0}
+TriedBy img config most path unit tried.Rests =
+    (keys : List (List ℕ)) (found : List Observation) → IsExploredBy img config most keys found path unit
+TriedBy img config most path unit (tried.Moves happened squashed next) =
     (keys : List (List ℕ)) (found : List Observation) → AreIn (both happened squashed) found → IsIn (vec_items next) keys
-    → IsExplored img config most (image_key img config) keys found key unit
+    → IsExploredBy img config most keys found path unit
 
 -- the schedule leads to where the unit's move shows this
 pub record Shows (img : Image) (config : Config) (most : ℕ) (path : List UnitId) (unit : ℕ) (o : Observation) : Type 0 where
@@ -61,7 +63,7 @@ pub record Shows (img : Image) (config : Config) (most : ℕ) (path : List UnitI
 pub record LeadsToKey (img : Image) (config : Config) (most : ℕ) (path : List UnitId) (key : List ℕ) : Type 0 where
   pub standing : Standing
   pub leads : Leads img config most (opened_at img config 0) path standing
-  pub key_is : key ≡ image_key img config standing
+  pub has_key : HasKey img config standing key
 
 -- where the unit has moved, the schedule and the unit show what is seen, and lead to the key
 abbrev pub ShowsIt : Image → Config → (most : ℕ) → (path : List UnitId) → (unit : UnitId) → Tried → Type 0

@@ -5,6 +5,7 @@ mod finding;
 mod found;
 mod key;
 mod moves;
+mod names;
 mod order;
 mod rows;
 mod runs;

@@ -1,13 +1,13 @@
 // One step of the search: a unit's move where a schedule leads.
 
-ghost use Rattle.std.specs.Prelude.{◌≡◌, ◌↔◌, ◌<◌, ◌≤◌, ◌++◌, ◌∷◌, [], List, IfOk, IfSome, IsNone, IsTrue, length};
+ghost use Rattle.std.specs.Prelude.{◌≡◌, ◌<◌, ◌≤◌, ◌++◌, ◌∷◌, [], List, IfOk, IfSome, IsNone, length};
 ghost use Rattle.svc_machine_laws.specs.Standing.{Standing, opened_at};
 ghost use Rattle.svc_history.specs.Recorded.{standing_of};
 ghost use Rattle.svc_base.specs.declared.ids.UnitId.{UnitId};
 ghost use Rattle.svc_explore_laws.specs.Moves.{HasRoom};
-ghost use Rattle.svc_explore.specs.Recorders.{GaveFew, Leads, LeadsNowhere, LeadsOnly, PlaysTo, key_in};
-ghost use Rattle.svc_explore.specs.Search.{image_key};
-ghost use Rattle.svc_explore.specs.Tries.{IsOff, IsTried, LeadsToKey, ShowsIt, TriedAt};
+ghost use Rattle.svc_explore.specs.Recorders.{GaveFew, Leads, LeadsNowhere, LeadsOnly, PlaysTo};
+ghost use Rattle.svc_explore.specs.KeyWords.{HasKey};
+ghost use Rattle.svc_explore.specs.Tries.{IsOff, IsTried, ShowsIt, TriedBy};
 ghost use Rattle.svc_history_laws.specs.declared.entry.Entry.{Entry};
 
 use crate::key::key_of;
@@ -42,7 +42,7 @@ pub(crate) fn opening_key(
     image: &Image,
     config: Config,
 ) -> Result<Vec<u64>, AllocError>
-    ensures { IfOk result (λ key. key.items ≡ image_key image.now config (opened_at image.now config 0)) }
+    ensures { IfOk result (λ key. HasKey image.now config (opened_at image.now config 0) key.items) }
 {
     let recorder = open_recorder(alloc, image, config)?;
     key_of(alloc, &recorder)
@@ -78,16 +78,9 @@ pub(crate) fn replay(
     Ok(Some(recorder))
 }
 
-// Whether two keys are one.
-fn is_same(a: &[u64], b: &[u64]) -> bool
-    ensures { IsTrue result ↔ (a.now ≡ b.now) }
-{
-    a == b
-}
-
 // What trying a unit at a key came to.
 pub(crate) enum Tried {
-    // The history is full there, or the schedule doesn't lead to the key.
+    // The history is full there, or the schedule leads nowhere.
     Off,
     // The unit has no move that is accepted.
     Rests,
@@ -123,51 +116,46 @@ fn try_move(
     })
 }
 
-// The unit makes its move at a standing that should have this key.
+// The unit makes its move, unless the history is full.
 fn try_at(
     alloc: Global,
     recorder: &mut Recorder,
     most: u32,
-    key: &[u64],
     unit: UnitId,
 ) -> Result<Tried, AllocError>
     requires few { GaveFew (standing_of recorder.old) }
-    ensures tried { IfOk result (TriedAt recorder.old.machine.image recorder.old.machine.config most key.now unit.0) }
+    ensures tried { IfOk result (λ tried. (path : List UnitId)
+        → LeadsOnly recorder.old.machine.image recorder.old.machine.config most path (standing_of recorder.old)
+        → TriedBy recorder.old.machine.image recorder.old.machine.config most path unit.0 tried) }
     ensures shown { IfOk result (λ tried. (path : List UnitId)
         → Leads recorder.old.machine.image recorder.old.machine.config most
         (opened_at recorder.old.machine.image recorder.old.machine.config 0) path (standing_of recorder.old)
         → ShowsIt recorder.old.machine.image recorder.old.machine.config most path unit tried) }
-    ensures off { IfOk result (λ tried. IsOff tried → key_in recorder.old ≡ key.now
-        → recorder.old.machine.config.events ≤ (standing_of recorder.old).plain.accepted) }
+    ensures off { IfOk result (λ tried. IsOff tried → recorder.old.machine.config.events ≤ (standing_of recorder.old).plain.accepted) }
 {
     keeps(recorder);
     if recorder.machine().is_full() {
         return Ok(Tried::Off);
     }
-    let here = key_of(alloc, recorder)?;
-    if !is_same(here.as_slice(), key) {
-        return Ok(Tried::Off);
-    }
     try_move(alloc, recorder, most, unit)
 }
 
-// The unit makes its move where a schedule leads, which should be a standing with this key.
+// The unit makes its move where a schedule leads.
 pub(crate) fn try_unit(
     alloc: Global,
     image: &Image,
     config: Config,
     most: u32,
     path: &[UnitId],
-    key: &[u64],
     unit: UnitId,
 ) -> Result<Tried, AllocError>
-    ensures tried { IfOk result (TriedAt image.now config most key.now unit.0) }
+    ensures tried { IfOk result (TriedBy image.now config most path.now unit.0) }
     ensures shown { IfOk result (ShowsIt image.now config most path.now unit) }
     // It is off only where the history is full.
-    ensures off { IfOk result (λ tried. IsOff tried → LeadsToKey image.now config most path.now key.now → config.events ≤ length path.now) }
+    ensures off { IfOk result (λ tried. IsOff tried → (s : Standing) → Leads image.now config most (opened_at image.now config 0) path.now s → config.events ≤ length path.now) }
 {
     match replay(alloc, image, config, path, most)? {
-        Some(mut recorder) => try_at(alloc, &mut recorder, most, key, unit),
+        Some(mut recorder) => try_at(alloc, &mut recorder, most, unit),
         None => Ok(Tried::Off),
     }
 }

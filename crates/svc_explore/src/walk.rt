@@ -1,12 +1,13 @@
 // All schedules of an image.
 
 ghost use Rattle.std.specs.Prelude.{◌≡◌, ◌⊎◌, ◌<◌, ◌≤◌, ◌+◌, ◌*◌, ◌^◌, ◌++◌, ◌∷◌, [], ℕ, IfOk, IfSome, IsFalse, IsTrue, OnOk, length, slice_get};
-ghost use Rattle.svc_machine_laws.specs.Standing.{opened_at};
 ghost use Rattle.svc_explore_laws.specs.Closed.{IsIn, ShowNothingElse};
 ghost use Rattle.svc_explore.specs.Counts.{AddsPlace, HasFull, IsDepth, IsLongest, IsSound, IsTold, KeepsLimits};
 ghost use Rattle.svc_explore.specs.Found.{AreWitnessed, are_seen};
 ghost use Rattle.svc_observations.specs.Order.{AreInOrder};
-ghost use Rattle.svc_explore.specs.Search.{GrowsTo, IsExploredAt, IsPartlyClosed, are_keys, image_key};
+ghost use Rattle.svc_renaming_laws.specs.ClosedUpToNames.{IsOpeningListed};
+ghost use Rattle.svc_explore.specs.KeyWords.{HasKey};
+ghost use Rattle.svc_explore.specs.Search.{GrowsTo, IsExploredAt, IsPartlyClosed, are_keys};
 
 use crate::found::{Seen, note_seen};
 use crate::order::put_in_order;
@@ -46,7 +47,7 @@ fn note_key(
     path: Vec<UnitId>,
 ) -> Result<(), AllocError>
     ensures listed { OnOk result (IsIn key.items (are_keys keys.new.entries)) }
-    ensures grows { OnOk result (GrowsTo (are_keys keys.old.entries) (are_keys keys.new.entries)) }
+    ensures grows { OnOk result (GrowsTo keys.old.entries keys.new.entries) }
     ensures adds { OnOk result (AddsPlace keys.old.entries keys.new.entries key path) }
 {
     if keys.contains_key(key.as_slice()) {
@@ -79,17 +80,17 @@ impl Search {
         requires inside { index < length self.old.keys.entries }
         requires sound { IsSound image.now config most self.old }
         requires few { self.old.moves < 2 ^ 63 }
-        ensures explored { IfOk result (λ ok. IsTrue ok → IsExploredAt image.now config most (are_keys self.new.keys.entries) (are_seen self.new.found.items) index unit.0) }
+        ensures explored { IfOk result (λ ok. IsTrue ok → IsExploredAt image.now config most self.new.keys.entries (are_seen self.new.found.items) index unit.0) }
         ensures stopped { IfOk result (λ ok. IsFalse ok → HasFull config self.new.keys.entries) }
         ensures moves { OnOk result (self.new.moves ≤ self.old.moves + 1) }
-        ensures keys { OnOk result (GrowsTo (are_keys self.old.keys.entries) (are_keys self.new.keys.entries)) }
+        ensures keys { OnOk result (GrowsTo self.old.keys.entries self.new.keys.entries) }
         ensures longer { OnOk result (length self.old.keys.entries ≤ length self.new.keys.entries) }
         ensures found { OnOk result (GrowsTo (are_seen self.old.found.items) (are_seen self.new.found.items)) }
         ensures sound { OnOk result (IsSound image.now config most self.new) }
     {
-        let (key, path) = self.keys.get_index(index).unwrap();
+        let (_, path) = self.keys.get_index(index).unwrap();
         let path = path.as_slice();
-        match try_unit(alloc, image, config, most, path, key.as_slice(), unit)? {
+        match try_unit(alloc, image, config, most, path, unit)? {
             Tried::Off => Ok(false),
             Tried::Rests => Ok(true),
             Tried::Moves {
@@ -119,10 +120,10 @@ impl Search {
         requires inside { index < length self.old.keys.entries }
         requires sound { IsSound image.now config most self.old }
         requires few { self.old.moves + 16 < 2 ^ 63 }
-        ensures explored { IfOk result (λ ok. IsTrue ok → (unit : ℕ) → unit < config.units → IsExploredAt image.now config most (are_keys self.new.keys.entries) (are_seen self.new.found.items) index unit) }
+        ensures explored { IfOk result (λ ok. IsTrue ok → (unit : ℕ) → unit < config.units → IsExploredAt image.now config most self.new.keys.entries (are_seen self.new.found.items) index unit) }
         ensures stopped { IfOk result (λ ok. IsFalse ok → HasFull config self.new.keys.entries) }
         ensures moves { OnOk result (self.new.moves ≤ self.old.moves + config.units) }
-        ensures keys { OnOk result (GrowsTo (are_keys self.old.keys.entries) (are_keys self.new.keys.entries)) }
+        ensures keys { OnOk result (GrowsTo self.old.keys.entries self.new.keys.entries) }
         ensures longer { OnOk result (length self.old.keys.entries ≤ length self.new.keys.entries) }
         ensures found { OnOk result (GrowsTo (are_seen self.old.found.items) (are_seen self.new.found.items)) }
         ensures sound { OnOk result (IsSound image.now config most self.new) }
@@ -144,10 +145,10 @@ impl Search {
         most: u32,
         limit: u32,
     ) -> Result<bool, AllocError>
-        requires opening { IsIn (image_key image.now config (opened_at image.now config 0)) (are_keys self.old.keys.entries) }
+        requires opening { IsOpeningListed image.now config (HasKey image.now config) (are_keys self.old.keys.entries) }
         requires unmoved { self.old.moves ≡ 0 }
         requires sound { IsSound image.now config most self.old }
-        ensures closed { IfOk result (λ ok. IsTrue ok → IsPartlyClosed image.now config most (are_keys self.new.keys.entries) (are_seen self.new.found.items) (length self.new.keys.entries)) }
+        ensures closed { IfOk result (λ ok. IsTrue ok → IsPartlyClosed image.now config most self.new.keys.entries (are_seen self.new.found.items) (length self.new.keys.entries)) }
         ensures within { IfOk result (λ ok. IsTrue ok → length self.new.keys.entries ≤ limit) }
         ensures stopped { IfOk result (λ ok. IsFalse ok → (limit < length self.new.keys.entries) ⊎ HasFull config self.new.keys.entries) }
         ensures moves { OnOk result (self.new.moves ≤ length self.new.keys.entries * config.units) }
@@ -192,7 +193,7 @@ impl Search {
 
 // The search before any move.
 fn opened(alloc: Global, image: &Image, config: Config) -> Result<Search, AllocError>
-    ensures opening { IfOk result (λ s. IsIn (image_key image.now config (opened_at image.now config 0)) (are_keys s.keys.entries)) }
+    ensures opening { IfOk result (λ s. IsOpeningListed image.now config (HasKey image.now config) (are_keys s.keys.entries)) }
     ensures unmoved { IfOk result (λ s. s.moves ≡ 0) }
     ensures sound { IfOk result (λ s. (most : ℕ) → IsSound image.now config most s) }
 {

@@ -13,7 +13,7 @@ use Rattle.svc_explore_laws.specs.declared.observation.Observation.{Observation}
 use Rattle.svc_explore_laws.specs.Observations.{observations}
 use Rattle.svc_explore_laws.specs.Futures.{HaveOneFuture}
 use Rattle.svc_explore_laws.specs.Moves.{IsTurn, Plays, HasRoom}
-use Rattle.svc_explore_laws.specs.Closed.{IsIn, AreIn, HasNoMove, IsFollowed, ShowsFound, ShowNothingElse}
+use Rattle.svc_explore_laws.specs.Closed.{IsIn, AreIn, HasNoMove, ShowsFound, ShowNothingElse}
 use Rattle.svc_explore_laws.proofs.Sights.{same_sights}
 use Rattle.svc_explore_laws.proofs.FutureSteps.{future_step}
 use Rattle.svc_explore_laws.proofs.FutureMoves.{moves_alike, only_alike}
@@ -21,14 +21,14 @@ use Rattle.svc_explore_laws.proofs.Keys.{keys_tell, future_trans, future_refl}
 use Rattle.svc_explore_laws.proofs.ClosedPlays.{moves_event}
 use Rattle.svc_renaming_laws.specs.Renamings.{Renaming, IsRenaming, unchanged, followed_by}
 use Rattle.svc_renaming_laws.specs.Renamed.{renamed_standing, renamed_entry}
-use Rattle.svc_renaming_laws.specs.ClosedUpToNames.{HaveOneKeyUpToNames, TellsUpToNames, AllExplored, IsClosedUpToNames}
+use Rattle.svc_renaming_laws.specs.ClosedUpToNames.{HaveOneKeyUpToNames, TellsUpToNames, IsFollowedUpToNames, AllExplored, IsClosedUpToNames}
 use Rattle.svc_renaming_laws.proofs.Names.{unchanged_renames, followed_renames}
 use Rattle.svc_renaming_laws.proofs.ReachedNames.{renamed_reached}
 use Rattle.svc_renaming_laws.proofs.MoveNames.{turn_renamed, turn_shows, turn_reached, standing_unchanged, standing_followed}
 use Rattle.svc_renaming_laws.proofs.FutureNames.{future_renamed}
 
-module _ (img : Image) (is_image : IsImage img) (config : Config) (most : ℕ) {K : Type 0} (key : Standing → K) (tells : TellsUpToNames img config key)
-    (keys : List K) (found : List Observation) (closed : IsClosedUpToNames img config most key keys found) where
+module _ (img : Image) (is_image : IsImage img) (config : Config) (most : ℕ) {K : Type 0} (has : Standing → K → Type 0) (tells : TellsUpToNames img config has)
+    (keys : List K) (found : List Observation) (closed : IsClosedUpToNames img config most has keys found) where
   -- a standing that, with its units renamed, has the same future as one with a listed key
   record IsSeen (s : Standing) : Type 0 where
     pub reached : IsReached img config s
@@ -36,13 +36,15 @@ module _ (img : Image) (is_image : IsImage img) (config : Config) (most : ℕ) {
     pub rename : IsRenaming config.units names
     pub other : Standing
     pub also : IsReached img config other
-    pub listed : IsIn (key other) keys
+    pub key : K
+    pub has_key : has other key
+    pub listed : IsIn key keys
     pub same : HaveOneFuture img (renamed_standing names s) other
 
   -- the renamed unit's move where its key was explored
   followed : (s t : Standing) (e : Entry) (turn : IsTurn img config most s t e) → IsReached img config s → (r : Renaming) → IsRenaming config.units r
       → (u : Standing) → IsReached img config u → HaveOneFuture img (renamed_standing r s) u → HasRoom config u.plain
-      → HasNoMove img config most u (r.there turn.unit) ⊎ IsFollowed img config most key keys found u (r.there turn.unit) → AreIn (observations s.plain e) found × IsSeen t
+      → HasNoMove img config most u (r.there turn.unit) ⊎ IsFollowedUpToNames img config most has keys found u (r.there turn.unit) → AreIn (observations s.plain e) found × IsSeen t
   followed s t e turn reached r is u also same room (inl none) =
       let there = turn_renamed img is_image config r is most s reached t e turn in
       let other = moves_alike img config most (renamed_standing r s) u same room there.unit there.event there.moves in
@@ -65,15 +67,17 @@ module _ (img : Image) (is_image : IsImage img) (config : Config) (most : ℕ) {
           rename = is;
           other = stepped img u y;
           also = step_reached img (given img is_image) config u also y iy move.moves.accepted;
-          listed = move.leads;
+          key = move.key;
+          has_key = move.has_key;
+          listed = move.listed;
           same = subst (λ z. HaveOneFuture img z (stepped img u y)) (sym there.leads) both.1;
         },
       )
 
   step : (s t : Standing) (e : Entry) → IsSeen s → IsTurn img config most s t e → AreIn (observations s.plain e) found × IsSeen t
   step s t e seen turn =
-      let there : AllExplored img config most key keys found (key seen.other) = closed.each (key seen.other) seen.listed in
-      let one : HaveOneKeyUpToNames config seen.other there.standing = tells seen.other there.standing seen.also there.reached (sym there.has_key) in
+      let there : AllExplored img config most has keys found seen.key = closed.each seen.key seen.listed in
+      let one : HaveOneKeyUpToNames config seen.other there.standing = tells seen.other there.standing seen.key seen.also there.reached seen.has_key there.has_key in
       let r : Renaming = followed_by seen.names one.names in
       let is : IsRenaming config.units r = followed_renames config.units seen.names one.names seen.rename one.rename in
       let far : IsReached img config (renamed_standing seen.names s) = renamed_reached img config seen.names s seen.rename seen.reached in
@@ -99,6 +103,8 @@ module _ (img : Image) (is_image : IsImage img) (config : Config) (most : ℕ) {
         rename = unchanged_renames config.units;
         other = opened_at img config 0;
         also = reached;
-        listed = closed.opening;
+        key = closed.opening.key;
+        has_key = closed.opening.has_key;
+        listed = closed.opening.listed;
         same = subst (λ z. HaveOneFuture img z (opened_at img config 0)) (sym (standing_unchanged (opened_at img config 0))) (future_refl img config (opened_at img config 0) reached);
       }) play

@@ -8,9 +8,10 @@ use Rattle.svc_machine_laws.specs.PlainMachine.{Task}
 use Rattle.svc_machine_laws.specs.Standing.{Standing}
 use Rattle.svc_machine_laws.specs.Reached.{IsReached}
 use Rattle.svc_explore_laws.specs.Keys.{ageless_task, HaveOneKey}
+use Rattle.svc_explore_laws.specs.Closed.{TellsKeys}
 use Rattle.svc_renaming_laws.specs.Renamings.{Renaming, IsRenaming, undone, followed_by}
 use Rattle.svc_renaming_laws.specs.Renamed.{renamed_task, renamed_standing}
-use Rattle.svc_renaming_laws.specs.ClosedUpToNames.{TellsUpToNames}
+use Rattle.svc_renaming_laws.specs.ClosedUpToNames.{HasNamedKey, TellsUpToNames}
 use Rattle.svc_renaming_laws.proofs.Names.{map_both, undone_renames, followed_renames}
 use Rattle.svc_renaming_laws.proofs.ReachedNames.{renamed_reached}
 use Rattle.svc_renaming_laws.proofs.MoveNames.{standing_back, standing_followed}
@@ -37,18 +38,20 @@ key_renamed img config r s t is reached also key =
       spilled = key.spilled;
     }
 
-pub chosen_tell : {K : Type 0} (img : Image) (config : Config) (names : Standing → Renaming) (key : Standing → K)
-    → ((s : Standing) → IsReached img config s → IsRenaming config.units (names s))
-    → ((s t : Standing) → IsReached img config s → IsReached img config t → key s ≡ key t → HaveOneKey (renamed_standing (names s) s) (renamed_standing (names t) t))
-    → TellsUpToNames img config key
-chosen_tell img config names key rename tells s t reached also e =
-    let r : Renaming = names s in
-    let o : Renaming = names t in
-    let is : IsRenaming config.units r = rename s reached in
-    let so : IsRenaming config.units o = rename t also in
+pub chosen_tell : {K : Type 0} (img : Image) (config : Config) (key : Standing → K) → TellsKeys img config key
+    → TellsUpToNames img config (HasNamedKey config key)
+chosen_tell img config key tells s t k reached also mine yours =
+    let r : Renaming = mine.names in
+    let o : Renaming = yours.names in
+    let is : IsRenaming config.units r = mine.rename in
+    let so : IsRenaming config.units o = yours.rename in
     let back : IsRenaming config.units (undone o) = undone_renames config.units o so in
+    let near : IsReached img config (renamed_standing r s) = renamed_reached img config r s is reached in
+    let far : IsReached img config (renamed_standing o t) = renamed_reached img config o t so also in
+    let told : HaveOneKey (renamed_standing r s) (renamed_standing o t) =
+    tells (renamed_standing r s) (renamed_standing o t) near far (sym mine.key_is ∙ yours.key_is) in
     let one : HaveOneKey (renamed_standing (undone o) (renamed_standing r s)) (renamed_standing (undone o) (renamed_standing o t)) =
-    key_renamed img config (undone o) (renamed_standing r s) (renamed_standing o t) back (renamed_reached img config r s is reached) (renamed_reached img config o t so also) (tells s t reached also e) in
+    key_renamed img config (undone o) (renamed_standing r s) (renamed_standing o t) back near far told in
     let left : HaveOneKey (renamed_standing (followed_by r (undone o)) s) (renamed_standing (undone o) (renamed_standing o t)) =
     subst (λ z. HaveOneKey z (renamed_standing (undone o) (renamed_standing o t))) (standing_followed r (undone o) s) one in
     record {

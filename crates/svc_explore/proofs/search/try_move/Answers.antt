@@ -21,5 +21,5 @@ returns-clause-tried c =
           (λ i. both (c.happened.ensures i) (c.squashed.ensures i))
           ∙ ap (λ (n : Numbers). observed n entry) c.in_ok-roster.ensures
           ∙ ap (observations plain) (c.last_entry-entry.ensures old.entries (entry_of moved.event (reply_to old.machine.image (standing_of old) moved.event)) moved.entries);
-      key_is = c.in_ok-key.ensures;
+      has_key = c.in_ok-key.ensures;
     }

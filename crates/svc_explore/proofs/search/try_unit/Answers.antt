@@ -3,8 +3,8 @@ use Rattle.svc_base.specs.declared.config.Config.{Config}
 use Rattle.svc_image.specs.Image.{Image}
 use Rattle.svc_machine_laws.specs.Standing.{opened_at}
 use Rattle.svc_history.specs.Recorded.{Recorded, standing_of}
-use Rattle.svc_explore.specs.Recorders.{GaveFew, Leads}
-use Rattle.svc_explore.specs.Tries.{ShowsIt, TriedAt}
+use Rattle.svc_explore.specs.Recorders.{GaveFew, Leads, LeadsOnly}
+use Rattle.svc_explore.specs.Tries.{ShowsIt, TriedBy}
 use Rattle.svc_explore.proofs.Exploring.{if_ok, shown_as, tried_as}
 use Rattle.svc_explore.proofs.search.try_unit.Goals as goal
 
@@ -18,8 +18,10 @@ returns-in-Some-clause-tried c =
     let config : Config = c.args.config in
     let image : r.machine.image ≡ img = subst (λ o. IfSome o (λ (r : Recorded). r.machine.image ≡ img)) c.in-Some.is c.in_ok-recorder.ensures.image in
     let config_is : r.machine.config ≡ config = subst (λ o. IfSome o (λ (r : Recorded). r.machine.config ≡ config)) c.in-Some.is c.in_ok-recorder.ensures.config in
-    if_ok c.try_at.result (TriedAt r.machine.image r.machine.config c.args.most c.args.key.now c.args.unit.0) (TriedAt img config c.args.most c.args.key.now c.args.unit.0)
-    (tried_as img config c.args.most r c.args.unit.0 image config_is c.args.key.now) c.try_at.ensures.tried
+    let only : LeadsOnly img config c.args.most c.args.path.now (standing_of r) =
+    subst (λ o. IfSome o (λ (r : Recorded). LeadsOnly img config c.args.most c.args.path.now (standing_of r))) c.in-Some.is c.in_ok-recorder.ensures.only in
+    if_ok c.try_at.result _ (TriedBy img config c.args.most c.args.path.now c.args.unit.0)
+    (tried_as img config c.args.most r c.args.unit.0 image config_is c.args.path.now only) c.try_at.ensures.tried
 
 pub returns-in-Some-clause-shown : goal.returns-in-Some-clause-shown
 returns-in-Some-clause-shown c =

@@ -1,12 +1,12 @@
 use Rattle.std.proofs.Common.{List, inl, inr, ℕ, ◌≡◌, ◌≤◌, ◌*◌, arith, length, subst, sym}
 use Rattle.svc_base.specs.declared.config.Config.{Config}
 use Rattle.svc_image.specs.Image.{Image}
-use Rattle.svc_explore.specs.Counts.{Place}
+use Rattle.svc_explore.specs.Counts.{IsMet}
 use Rattle.svc_explore.specs.Found.{are_seen}
-use Rattle.svc_explore.specs.Search.{are_keys, image_key}
+use Rattle.svc_explore.specs.Search.{Place, are_keys}
 use Rattle.svc_explore.proofs.Counting.{deep_enough}
 use Rattle.svc_explore.proofs.Growing.{closed_shows, closed_whole}
-use Rattle.svc_explore.proofs.Permuting.{closed_permuted, nothing_else_permuted, witnessed_permuted}
+use Rattle.svc_explore.proofs.Permuting.{all_get, closed_permuted, nothing_else_permuted, witnessed_permuted}
 use Rattle.svc_explore.proofs.walk.explore.Goals as goal
 
 pub run-requires-clause-sound : goal.run-requires-clause-sound
@@ -17,7 +17,8 @@ returns-clause-whole c = λ whole.
     let img : Image = c.args.image.now in
     nothing_else_permuted img c.args.config c.args.burst c.run.new.self.found.items c.put_in_order.new.found.items c.put_in_order.ensures.same
     (closed_shows img c.args.config c.args.burst c.start-start.ensures.sound c.run.new.self.keys.entries (are_seen c.run.new.self.found.items)
-    (c.in_ok-whole.ensures.closed whole))
+    (closed_whole img c.args.config c.args.burst c.run.new.self.keys.entries (are_seen c.run.new.self.found.items)
+    (all_get (IsMet img c.args.config c.args.burst) c.run.new.self.keys.entries c.in_ok-whole.ensures.sound.met.each) (c.in_ok-whole.ensures.closed whole)))
 
 pub returns-clause-witnessed : goal.returns-clause-witnessed
 returns-clause-witnessed c =
@@ -35,8 +36,8 @@ returns-clause-told c =
       places = places;
       met = says.sound.met;
       closed = λ whole.
-          closed_permuted img config c.args.burst c.run.new.self.found.items c.put_in_order.new.found.items c.put_in_order.ensures.same (image_key img config) (are_keys places)
-          (closed_whole img config c.args.burst places (are_seen c.run.new.self.found.items) (says.closed whole));
+          closed_permuted img config c.args.burst c.run.new.self.found.items c.put_in_order.new.found.items c.put_in_order.ensures.same (are_keys places)
+          (closed_whole img config c.args.burst places (are_seen c.run.new.self.found.items) (all_get (IsMet img config c.args.burst) places says.sound.met.each) (says.closed whole));
       states = states;
       deepest = c.deepest-deepest.ensures;
       least_moves = let m = says.sound.moved in omega (arith, m, states);

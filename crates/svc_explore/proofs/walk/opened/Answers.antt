@@ -2,12 +2,15 @@ use Rattle.std.proofs.Common.{◌≡◌, List, [], ap, arith, length, refl, subs
 use Rattle.svc_base.specs.declared.config.Config.{Config}
 use Rattle.svc_image.specs.Image.{Image}
 use Rattle.svc_machine_laws.specs.Standing.{opened_at}
-use Rattle.svc_explore.specs.Counts.{Place}
+use Rattle.svc_explore.specs.Search.{Place}
 use Rattle.svc_explore.specs.Recorders.{Leads}
 use Rattle.svc_explore.specs.Tries.{LeadsToKey}
 use Rattle.svc_explore.proofs.Counting.{adds_met, adds_one, none_met}
 use Rattle.svc_explore.proofs.Founding.{none_witnessed}
 use Rattle.svc_explore.proofs.walk.opened.Goals as goal
+
+pub returns-clause-opening : goal.returns-clause-opening
+returns-clause-opening c = record { key = vec_items c.in_ok-key.key; has_key = c.in_ok-key.ensures; listed = c.in_ok-note_key.ensures.listed }
 
 pub returns-clause-sound : goal.returns-clause-sound
 returns-clause-sound c = λ most.
@@ -23,7 +26,7 @@ returns-clause-sound c = λ most.
     let leads : LeadsToKey img config most (vec_items path) (vec_items key) = record {
       standing = opened_at img config 0;
       leads = subst (λ p. Leads img config most (opened_at img config 0) p (opened_at img config 0)) (sym c.new.ensures.items) refl;
-      key_is = c.in_ok-key.ensures;
+      has_key = c.in_ok-key.ensures;
     } in
     record {
       witnessed = none_witnessed img config most c.new-2.result.items c.new-2.ensures.items;

@@ -1,5 +1,6 @@
 use Rattle.svc_machine_laws.proofs.Given.{given}
 use Rattle.svc_machine_laws.proofs.Folds.{opened_reached}
+use Rattle.svc_renaming_laws.specs.ClosedUpToNames.{HasNamedKey}
 use Rattle.svc_renaming_laws.proofs.FutureNames.{future_renamed}
 use Rattle.svc_renaming_laws.proofs.KeyNames.{key_renamed, chosen_tell}
 use Rattle.svc_renaming_laws.proofs.ClosedNames.{shows}
@@ -10,5 +11,5 @@ returns g c = record {
   futures = future_renamed;
   keys = key_renamed;
   chosen = chosen_tell;
-  closed = λ img is config most key tells keys found closed. shows img is config most key tells keys found closed (opened_reached img (given img is) config 0);
+  closed = λ img is config most key tells keys found closed. shows img is config most (HasNamedKey config key) (chosen_tell img config key tells) keys found closed (opened_reached img (given img is) config 0);
 }

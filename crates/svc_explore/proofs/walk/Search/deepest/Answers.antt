@@ -1,5 +1,5 @@
 use Rattle.std.proofs.Common.{ℕ, ◌≡◌, ◌⊎◌, ◌<◌, ◌∙◌, List, Some, arith, inr, length, slice_get, subst, sym}
-use Rattle.svc_explore.specs.Counts.{Place, path_at}
+use Rattle.svc_explore.specs.Search.{Place, path_at}
 use Rattle.svc_explore.proofs.Counting.{bound_more, found_here, longest_of}
 use Rattle.svc_explore.proofs.walk.Search.deepest.Goals as goal
 use Rattle.svc_explore.proofs.walk.Search.deepest.Goals.{then-deepest-depth, else-deepest-depth}

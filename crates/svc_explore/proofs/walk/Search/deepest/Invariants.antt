@@ -1,5 +1,5 @@
 use Rattle.std.proofs.Common.{ℕ, ◌≡◌, ◌⊎◌, ◌<◌, ◌≤◌, Some, length, slice_get}
-use Rattle.svc_explore.specs.Counts.{Place, path_at}
+use Rattle.svc_explore.specs.Search.{Place, path_at}
 use Rattle.svc_explore.proofs.walk.Search.deepest.Given as goal
 
 abbrev pub invariant-loop-index : goal.invariant-loop-index

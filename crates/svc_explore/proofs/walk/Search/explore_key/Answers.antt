@@ -1,7 +1,7 @@
 use Rattle.std.proofs.Common.{◌<◌, inl, inr, arith, subst, sym, length}
 use Rattle.svc_explore.specs.Found.{are_seen}
-use Rattle.svc_explore.specs.Search.{IsExploredAt, are_keys}
-use Rattle.svc_explore.proofs.Growing.{explored_at_stays, grows_trans, below_more, length_keys}
+use Rattle.svc_explore.specs.Search.{IsExploredAt}
+use Rattle.svc_explore.proofs.Growing.{explored_at_stays, grows_trans, below_more}
 use Rattle.svc_explore.proofs.walk.Search.explore_key.Goals as goal
 
 pub loop-unit-preserved : goal.loop-unit-preserved
@@ -13,13 +13,16 @@ loop-unit-preserved c =
     let index : c.args.index < length old.keys.entries = omega (arith, c.requires.inside, inv.longer) in
     record {
       each = λ unit h. elim (below_more unit c.loop-unit.unit h) [
-        | inl low ↦ explored_at_stays c.args.image.now c.args.config c.args.most (are_keys old.keys.entries) (are_keys new.keys.entries) (are_seen old.found.items) (are_seen new.found.items) says.keys says.found
-            c.args.index unit (length_keys old.keys.entries c.args.index index) (inv.each unit low)
-        | inr is ↦ subst (IsExploredAt c.args.image.now c.args.config c.args.most (are_keys new.keys.entries) (are_seen new.found.items) c.args.index) (sym is) (says.explored c.if-not-branch.false)
+        | inl low ↦ explored_at_stays c.args.image.now c.args.config c.args.most old.keys.entries new.keys.entries (are_seen old.found.items) (are_seen new.found.items) says.keys says.found
+            c.args.index unit index (inv.each unit low)
+        | inr is ↦ subst (IsExploredAt c.args.image.now c.args.config c.args.most new.keys.entries (are_seen new.found.items) c.args.index) (sym is) (says.explored c.if-not-branch.false)
       ];
-      keys = grows_trans (are_keys c.args.self.now.keys.entries) (are_keys old.keys.entries) (are_keys new.keys.entries) inv.keys says.keys;
+      keys = grows_trans c.args.self.now.keys.entries old.keys.entries new.keys.entries inv.keys says.keys;
       longer = omega (arith, inv.longer, says.longer);
       found = grows_trans (are_seen c.args.self.now.found.items) (are_seen old.found.items) (are_seen new.found.items) inv.found says.found;
       moves = omega (arith, inv.moves, says.moves);
       sound = says.sound;
     }
+
+pub returns-clause-explored : goal.returns-clause-explored
+returns-clause-explored c = λ ok unit h. c.loop-unit.invariant.each unit (omega (arith, h, c.loop-unit-test.false))

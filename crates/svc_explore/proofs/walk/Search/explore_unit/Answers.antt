@@ -1,46 +1,48 @@
 use Rattle.std.proofs.Common.{◌≡◌, ◌≤◌, ◌∙◌, List, ℕ, length, Some, ap, arith, subst, sym, slice_get, option_map, option_to_list, vec_items}
 use Rattle.std.specs.Map.Iter.{deref_pair}
+use Rattle.std.proofs.lemmas.Option.{same_Some}
 use Rattle.svc_base.specs.declared.config.Config.{Config}
+use Rattle.svc_base.specs.declared.ids.UnitId.{UnitId}
+use Rattle.svc_machine_laws.specs.Standing.{Standing, opened_at}
+use Rattle.svc_explore.specs.Recorders.{Leads}
 use Rattle.svc_image.specs.Image.{Image}
 use Rattle.svc_explore_laws.specs.declared.observation.Observation.{Observation}
-use Rattle.svc_explore_laws.specs.Closed.{IsExplored}
 use Rattle.svc_explore.specs.Found.{are_seen}
-use Rattle.svc_explore.specs.Search.{are_keys, image_key, key_at}
-use Rattle.svc_explore.specs.Tries.{IsOff, LeadsToKey, Shows, ShowsIt, TriedAt}
+use Rattle.svc_explore.specs.Search.{IsExploredBy, Place, are_keys, key_at, path_at}
+use Rattle.svc_explore.specs.Tries.{IsOff, LeadsToKey, Shows, ShowsIt, TriedBy}
 use Rattle.svc_explore.proofs.Founding.{adds_grows, adds_witnessed, all_left, all_right, both_in}
-use Rattle.svc_explore.specs.Counts.{IsMet, Place, path_at}
+use Rattle.svc_explore.specs.Counts.{IsMet}
 use Rattle.svc_explore.proofs.Counting.{adds_met, adds_one}
 use Rattle.svc_explore.proofs.Permuting.{all_get}
-use Rattle.svc_explore.proofs.Growing.{grows_trans, key_stays, length_keys, same_key}
+use Rattle.svc_explore.proofs.Growing.{grows_trans, place_stays}
 use Rattle.svc_explore.proofs.walk.Search.explore_unit.Goals as goal
 
 pub returns-in-Rests-clause-explored : goal.returns-in-Rests-clause-explored
-returns-in-Rests-clause-explored c = λ ok k h.
+returns-in-Rests-clause-explored c = λ ok e h.
     let img : Image = c.args.image.now in
     let config : Config = c.args.config in
     let es : List Place = c.args.self.now.keys.entries in
-    let keys : List (List ℕ) = are_keys es in
     let found : List Observation = are_seen c.args.self.now.found.items in
     let here : slice_get es c.args.index ≡ Some (deref_pair c.unwrap.result) = sym c.get_index.ensures.entry ∙ ap (option_map deref_pair) c.unwrap.ensures in
-    let tried = subst (TriedAt img config c.args.most c.as_slice.result.now c.args.unit.0) c.in-Rests.is c.in_ok-try_unit.ensures.tried in
-    subst (λ q. IsExplored img config c.args.most (image_key img config) keys found q c.args.unit.0)
-    (c.as_slice.ensures.value ∙ same_key es c.args.index (deref_pair c.unwrap.result) k here h) (tried keys found)
+    let tried = subst (TriedBy img config c.args.most c.as_slice-path.result.now c.args.unit.0) c.in-Rests.is c.in_ok-try_unit.ensures.tried in
+    subst (λ p. IsExploredBy img config c.args.most (are_keys es) found p c.args.unit.0)
+    (c.as_slice-path.ensures.value ∙ ap path_at (same_Some (deref_pair c.unwrap.result) e (sym here ∙ h))) (tried (are_keys es) found)
 
 pub returns-in_ok-note_key-in-Moves-clause-explored : goal.returns-in_ok-note_key-in-Moves-clause-explored
-returns-in_ok-note_key-in-Moves-clause-explored c = λ ok k h.
+returns-in_ok-note_key-in-Moves-clause-explored c = λ ok e h.
     let img : Image = c.args.image.now in
     let config : Config = c.args.config in
     let es : List Place = c.args.self.now.keys.entries in
-    let keys : List (List ℕ) = are_keys c.note_key.new.keys.entries in
+    let new : List Place = c.note_key.new.keys.entries in
     let mid : List Observation = are_seen c.note_seen.new.found.items in
     let found : List Observation = are_seen c.note_seen-in-Moves.new.found.items in
     let here : slice_get es c.args.index ≡ Some (deref_pair c.unwrap.result) = sym c.get_index.ensures.entry ∙ ap (option_map deref_pair) c.unwrap.ensures in
-    let tried = subst (TriedAt img config c.args.most c.as_slice.result.now c.args.unit.0) c.in-Moves.is c.in_ok-try_unit.ensures.tried in
-    let was : slice_get (are_keys es) c.args.index ≡ Some k =
-    key_stays img config c.args.most (are_keys es) keys found found c.in_ok-note_key-in-Moves.ensures.grows (λ i x e. e) c.args.index k (length_keys es c.args.index c.requires.inside) h in
-    subst (λ q. IsExplored img config c.args.most (image_key img config) keys found q c.args.unit.0)
-    (c.as_slice.ensures.value ∙ same_key es c.args.index (deref_pair c.unwrap.result) k here was)
-    (tried keys found
+    let tried = subst (TriedBy img config c.args.most c.as_slice-path.result.now c.args.unit.0) c.in-Moves.is c.in_ok-try_unit.ensures.tried in
+    let was : slice_get es c.args.index ≡ Some e =
+    place_stays img config c.args.most es new found found c.in_ok-note_key-in-Moves.ensures.grows (λ i x e. e) c.args.index e c.requires.inside h in
+    subst (λ p. IsExploredBy img config c.args.most (are_keys new) found p c.args.unit.0)
+    (c.as_slice-path.ensures.value ∙ ap path_at (same_Some (deref_pair c.unwrap.result) e (sym here ∙ was)))
+    (tried (are_keys new) found
     (both_in c.in-Moves.happened c.in-Moves.squashed mid found
     (adds_grows c.note_seen.new.found.items c.note_seen-in-Moves.new.found.items c.in-Moves.squashed c.as_slice-path.result.now c.args.unit c.in_ok-note_seen-in-Moves-2.ensures.adds)
     c.in_ok-note_seen-in-Moves.ensures.listed c.in_ok-note_seen-in-Moves-2.ensures.listed)
@@ -87,13 +89,13 @@ returns-in-Off-clause-stopped c = λ _.
     let place : Place = deref_pair c.unwrap.result in
     let here : slice_get es c.args.index ≡ Some place = sym c.get_index.ensures.entry ∙ ap (option_map deref_pair) c.unwrap.ensures in
     let met : LeadsToKey img config c.args.most (path_at place) (key_at place) = all_get (IsMet img config c.args.most) es c.requires.sound.met.each c.args.index place here in
-    let met_so : LeadsToKey img config c.args.most c.as_slice-path.result.now c.as_slice.result.now =
-    subst (λ k. LeadsToKey img config c.args.most c.as_slice-path.result.now k) (sym c.as_slice.ensures.value)
-    (subst (λ p. LeadsToKey img config c.args.most p (key_at place)) (sym c.as_slice-path.ensures.value) met) in
-    let off = subst (λ t. IsOff t → LeadsToKey img config c.args.most c.as_slice-path.result.now c.as_slice.result.now → config.events ≤ length c.as_slice-path.result.now) c.in-Off.is c.in_ok-try_unit.ensures.off in
+    let path : List UnitId = c.as_slice-path.result.now in
+    let leads : Leads img config c.args.most (opened_at img config 0) path met.standing =
+    subst (λ p. Leads img config c.args.most (opened_at img config 0) p met.standing) (sym c.as_slice-path.ensures.value) met.leads in
+    let off = subst (λ t. IsOff t → (s : Standing) → Leads img config c.args.most (opened_at img config 0) path s → config.events ≤ length path) c.in-Off.is c.in_ok-try_unit.ensures.off in
     record {
       index = c.args.index;
       place = place;
       there = here;
-      full = subst (λ p. config.events ≤ length p) c.as_slice-path.ensures.value (off tt met_so);
+      full = subst (λ p. config.events ≤ length p) c.as_slice-path.ensures.value (off tt met.standing leads);
     }
