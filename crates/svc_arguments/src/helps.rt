@@ -279,11 +279,12 @@ pub(crate) const DRAW: &str =
     "Replays a trace as check does, and saves a picture of it: one SVG file, which any browser shows.
 
 A lane is a unit, and time goes to the right, one entry of the trace after another. A bar is a task, from its
-assignment to its commit or squash; its filling says which. Marks are loads, stores and output words. A thin
-arrow goes from the store of a version to a read that received it, a bold one from a store to the read that
-came too early, for which it squashed a task. Point at a mark to see its row of the trace. Entries after the
-last one shown may be faulty; for an earlier fault it reports the first one, as check does, and saves nothing.
-Give the options that the trace was made with.
+assignment to its commit or squash; its filling says which. Marks are loads, stores and output words, and a
+cross is a replacement. The letter at a word that was read says who supplied it: H hit, R reuse, V version,
+S spill, C committed, M memory. A thin arrow goes from the store of a version to a read that received it, a bold
+one from a store to the read that came too early, for which it squashed a task. Point at a mark to see its row
+of the trace. Entries after the last one shown may be faulty; for an earlier fault it reports the first one, as
+check does, and saves nothing. Give the options that the trace was made with.
 
 Nothing is printed. The file grows with the entries that it shows, by some 150 bytes for each; from a few
 thousand on, a browser takes long to open it.
