@@ -1,5 +1,6 @@
 -- How far a search went, told by the keys that it met.
-use Rattle.std.specs.Prelude.{◌≡◌, ◌⊎◌, ℕ, ◌+◌, ◌*◌, ◌≤◌, ◌<◌, [], ◌∷◌, ◌++◌, IsTrue, IsFalse, Some, List, Vec, length, vec_items, slice_get}
+use Rattle.std.specs.Prelude.{◌≡◌, ◌⊎◌, ℕ, ◌+◌, ◌*◌, ◌≤◌, ◌<◌, [], ◌∷◌, ◌++◌, IsTrue, IsFalse, Some, List, Vec, length}
+use Rattle.std.specs.Prelude.{vec_items, slice_get}
 use Rattle.std.specs.declared.alloc.Global.{Global}
 use Rattle.std.specs.List.{AllByRecursion}
 use Rattle.svc_base.specs.declared.config.Config.{Config}
@@ -39,7 +40,8 @@ pub record IsLongest (moves : ℕ) (places : List Place) : Type 0 where
   pub there : slice_get places index ≡ Some place
   pub is : length (path_at place) ≡ moves
 
--- what a search has found so far: each key and each observation with its schedule, and no key but the first without a move
+-- what a search has found so far: each key and each observation with its schedule, and no key but the first without a
+-- move
 pub record IsSound (img : Image) (config : Config) (most : ℕ) (s : Search) : Type 0 where
   pub witnessed : AreWitnessed img config most s.found.items
   pub met : AreMet img config most s.keys.entries
@@ -49,7 +51,8 @@ pub record IsSound (img : Image) (config : Config) (most : ℕ) (s : Search) : T
 pub record IsTold (img : Image) (config : Config) (most : ℕ) (x : Exploration) : Type 0 where
   pub places : List Place
   pub met : AreMet img config most places
-  pub closed : IsTrue x.whole → IsClosedUpToNames img config most (HasKey img config) (are_keys places) (are_seen x.found.items)
+  pub closed : IsTrue x.whole
+      → IsClosedUpToNames img config most (HasKey img config) (are_keys places) (are_seen x.found.items)
   pub states : x.states ≡ length places
   pub deepest : IsLongest x.deepest places
   pub least_moves : x.states ≤ x.moves + 1
@@ -62,8 +65,8 @@ pub record HasFull (config : Config) (places : List Place) : Type 0 where
   pub there : slice_get places index ≡ Some place
   pub full : config.events ≤ length (path_at place)
 
--- a whole exploration is of no more standings than may be explored; and one that isn't whole has met a limit: it told more
--- standings apart than that, or one of its schedules has as many moves as events may be accepted
+-- a whole exploration is of no more standings than may be explored; and one that isn't whole has met a limit: it told
+-- more standings apart than that, or one of its schedules has as many moves as events may be accepted
 pub record KeepsLimits (config : Config) (limit : ℕ) (x : Exploration) : Type 0 where
   pub within : IsTrue x.whole → x.states ≤ limit
   pub met : IsFalse x.whole → (limit < x.states) ⊎ (config.events ≤ x.deepest)

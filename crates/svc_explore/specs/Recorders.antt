@@ -25,7 +25,8 @@ pub record HasMoved (most : ℕ) (old new : Recorded) (unit : ℕ) : Type 0 wher
 -- the units' moves, one after another, lead from one standing to another
 abbrev pub Leads : Image → Config → (most : ℕ) → Standing → List UnitId → Standing → Type 0
 Leads img config most s [] t = t ≡ s
-Leads img config most s (unit ∷ units) t = (x : Event) × Moves img config most s unit.0 x × Leads img config most (stepped img s x) units t
+Leads img config most s (unit ∷ units) t =
+    (x : Event) × Moves img config most s unit.0 x × Leads img config most (stepped img s x) units t
 
 -- the schedule leads from the opening to no other standing
 abbrev pub LeadsOnly : Image → Config → (most : ℕ) → List UnitId → Standing → Type 0
@@ -42,7 +43,8 @@ PlaysTo img config most s (e ∷ es) u = (t : Standing) × IsTurn img config mos
 
 -- the unit's move is to run its task on, and the burst does that
 abbrev pub RunsOnBy : (most : ℕ) → Recorded → UnitId → Advance → Type 0
-RunsOnBy most r unit b = (lease : Lease) × (move_of r.machine unit.0 ≡ RunOn lease) × ((b.unit ≡ lease.unit) × (b.epoch ≡ lease.epoch) × (b.start ≡ lease.core)) × IsAdvance r.machine.image most b
+RunsOnBy most r unit b = (lease : Lease) × (move_of r.machine unit.0 ≡ RunOn lease)
+    × ((b.unit ≡ lease.unit) × (b.epoch ≡ lease.epoch) × (b.start ≡ lease.core)) × IsAdvance r.machine.image most b
 
 -- no more epochs were given than events accepted
 abbrev pub GaveFew : Standing → Type 0

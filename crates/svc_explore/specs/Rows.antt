@@ -1,5 +1,6 @@
 -- The rows of an exploration.
-use Rattle.std.specs.Prelude.{ℕ, ◌+◌, List, [], ◌∷◌, ◌++◌, Bool, if◌then◌else◌, Option, None, Some, codes, flat_map, length, vec_items}
+use Rattle.std.specs.Prelude.{ℕ, ◌+◌, List, [], ◌∷◌, ◌++◌, Bool, if◌then◌else◌, Option, None, Some, codes, flat_map}
+use Rattle.std.specs.Prelude.{length, vec_items}
 use denote.Ref.{Bor}
 use Rattle.svc_text.specs.Rows.{row}
 use Rattle.svc_observations.specs.Rows.{seen_row}

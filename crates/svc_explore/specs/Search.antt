@@ -36,19 +36,25 @@ pub record IsExploredFrom (img : Image) (config : Config) (most : ℕ) (keys : L
     (s : Standing) (unit : ℕ) : Type 0 where
   pub reached : IsReached img config s
   pub room : HasRoom config s.plain
-  pub move : HasNoMove img config most s unit ⊎ IsFollowedUpToNames img config most (HasKey img config) keys found s unit
+  pub move : HasNoMove img config most s unit
+      ⊎ IsFollowedUpToNames img config most (HasKey img config) keys found s unit
 
 -- wherever the schedule leads
-abbrev pub IsExploredBy : Image → Config → (most : ℕ) → List (List ℕ) → List Observation → List UnitId → (unit : ℕ) → Type 0
+abbrev pub IsExploredBy : Image → Config → (most : ℕ) → List (List ℕ) → List Observation → List UnitId → (unit : ℕ)
+    → Type 0
 IsExploredBy img config most keys found path unit =
-    (s : Standing) → Leads img config most (opened_at img config 0) path s → IsExploredFrom img config most keys found s unit
+    (s : Standing) → Leads img config most (opened_at img config 0) path s
+    → IsExploredFrom img config most keys found s unit
 
 -- the unit was explored where the schedule of the key of this index leads
 abbrev pub IsExploredAt : Image → Config → (most : ℕ) → List Place → List Observation → (index unit : ℕ) → Type 0
 IsExploredAt img config most places found index unit =
-    (e : Place) → slice_get places index ≡ Some e → IsExploredBy img config most (are_keys places) found (path_at e) unit
+    (e : Place) → slice_get places index ≡ Some e
+    → IsExploredBy img config most (are_keys places) found (path_at e) unit
 
 -- all units were explored at the first so many keys, one of which is that of the opening
-pub record IsPartlyClosed (img : Image) (config : Config) (most : ℕ) (places : List Place) (found : List Observation) (count : ℕ) : Type 0 where
+pub record IsPartlyClosed (img : Image) (config : Config) (most : ℕ) (places : List Place) (found : List Observation)
+    (count : ℕ) : Type 0 where
   pub opening : IsOpeningListed img config (HasKey img config) (are_keys places)
-  pub each : (index : ℕ) → index < count → (unit : ℕ) → unit < config.units → IsExploredAt img config most places found index unit
+  pub each : (index : ℕ) → index < count → (unit : ℕ) → unit < config.units
+      → IsExploredAt img config most places found index unit

@@ -26,14 +26,16 @@ both happened squashed = option_to_list happened ++ option_to_list squashed
 pub record IsMovedTo (most : ℕ) (r : Recorded) (unit : ℕ) (sights : List Observation) (key : List ℕ) : Type 0 where
   pub new : Recorded
   pub moved : HasMoved most r new unit
-  pub sights_are : sights ≡ observations (standing_of r).plain (entry_of moved.event (reply_to r.machine.image (standing_of r) moved.event))
+  pub sights_are : sights
+      ≡ observations (standing_of r).plain (entry_of moved.event (reply_to r.machine.image (standing_of r) moved.event))
   pub has_key : HasKey new.machine.image new.machine.config (standing_of new) key
 
 -- what the unit of a recorder did
 abbrev pub IsTried : (most : ℕ) → Recorded → (unit : ℕ) → Tried → Type 0
 IsTried most r unit tried.Off = Unit {0}
 IsTried most r unit tried.Rests = HasNoMove r.machine.image r.machine.config most (standing_of r) unit
-IsTried most r unit (tried.Moves happened squashed next) = IsMovedTo most r unit (both happened squashed) (vec_items next)
+IsTried most r unit (tried.Moves happened squashed next) =
+    IsMovedTo most r unit (both happened squashed) (vec_items next)
 
 -- the schedule was not followed to its end
 abbrev pub IsOff : Tried → Type 0
@@ -41,18 +43,19 @@ IsOff tried.Off = Unit {0}
 IsOff tried.Rests = ⊥
 IsOff (tried.Moves happened squashed next) = ⊥
 
--- where the schedule leads the unit was explored, in each list of observations that has what its move shows, and each of keys that
--- has one of where that leads
+-- where the schedule leads the unit was explored, in each list of observations that has what its move shows, and each
+-- of keys that has one of where that leads
 abbrev pub TriedBy : Image → Config → (most : ℕ) → List UnitId → (unit : ℕ) → Tried → Type 0
 TriedBy img config most path unit tried.Off = Unit {0}
 TriedBy img config most path unit tried.Rests =
     (keys : List (List ℕ)) (found : List Observation) → IsExploredBy img config most keys found path unit
 TriedBy img config most path unit (tried.Moves happened squashed next) =
-    (keys : List (List ℕ)) (found : List Observation) → AreIn (both happened squashed) found → IsIn (vec_items next) keys
-    → IsExploredBy img config most keys found path unit
+    (keys : List (List ℕ)) (found : List Observation) → AreIn (both happened squashed) found
+    → IsIn (vec_items next) keys → IsExploredBy img config most keys found path unit
 
 -- the schedule leads to where the unit's move shows this
-pub record Shows (img : Image) (config : Config) (most : ℕ) (path : List UnitId) (unit : ℕ) (o : Observation) : Type 0 where
+pub record Shows (img : Image) (config : Config) (most : ℕ) (path : List UnitId) (unit : ℕ)
+    (o : Observation) : Type 0 where
   pub standing : Standing
   pub leads : Leads img config most (opened_at img config 0) path standing
   pub event : Event
@@ -70,4 +73,5 @@ abbrev pub ShowsIt : Image → Config → (most : ℕ) → (path : List UnitId) 
 ShowsIt img config most path unit tried.Off = Unit {0}
 ShowsIt img config most path unit tried.Rests = Unit {0}
 ShowsIt img config most path unit (tried.Moves happened squashed next) =
-    AllByRecursion (Shows img config most path unit.0) (both happened squashed) × LeadsToKey img config most (path ++ unit ∷ []) (vec_items next)
+    AllByRecursion (Shows img config most path unit.0) (both happened squashed)
+    × LeadsToKey img config most (path ++ unit ∷ []) (vec_items next)

@@ -13,9 +13,11 @@ use Rattle.svc_observations.specs.declared.sought.Sought.{Sought}
 use Rattle.svc_observations.specs.Sought.{Matches}
 
 -- one of the entries of a play shows the observation
-abbrev pub ShowsSight : (img : Image) (config : Config) (most : ℕ) (o : Observation) (s : Standing) (es : List Entry) → Plays img config most s es → Type 0
+abbrev pub ShowsSight : (img : Image) (config : Config) (most : ℕ) (o : Observation) (s : Standing) (es : List Entry)
+    → Plays img config most s es → Type 0
 ShowsSight img config most o s [] play = ⊥
-ShowsSight img config most o s (e ∷ es) play = IsIn o (observations s.plain e) ⊎ ShowsSight img config most o play.0 es play.2
+ShowsSight img config most o s (e ∷ es) play =
+    IsIn o (observations s.plain e) ⊎ ShowsSight img config most o play.0 es play.2
 
 -- a sound history that is a play and shows the observation
 pub record IsWitness (img : Image) (config : Config) (most : ℕ) (o : Observation) (es : List Entry) : Type 0 where
@@ -26,5 +28,6 @@ pub record IsWitness (img : Image) (config : Config) (most : ℕ) (o : Observati
 -- no play shows anything that matches
 abbrev pub ShowNoMatch : Image → Config → (most : ℕ) → Sought → Type 0
 ShowNoMatch img config most sought =
-    (o : Observation) → Matches sought o → (es : List Entry) → (play : Plays img config most (opened_at img config 0) es)
+    (o : Observation) → Matches sought o → (es : List Entry)
+    → (play : Plays img config most (opened_at img config 0) es)
     → ShowsSight img config most o (opened_at img config 0) es play → ⊥

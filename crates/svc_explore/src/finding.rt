@@ -1,6 +1,6 @@
 // The first observation that is looked for.
 
-ghost use Rattle.std.specs.Prelude.{◌≡◌, IfSome, IsNone};
+ghost use Rattle.std.specs.Prelude.{IfSome, IsNone};
 ghost use Rattle.svc_explore_laws.specs.Closed.{IsIn};
 ghost use Rattle.svc_explore_laws.specs.declared.observation.Observation.{Observation};
 ghost use Rattle.svc_observations.specs.Sought.{Matches};

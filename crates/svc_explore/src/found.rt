@@ -1,15 +1,15 @@
 // What a search has seen, with a schedule that shows each.
 
-ghost use Rattle.std.specs.Prelude.{◌≡◌, ◌↔◌, ◌⊎◌, ◌++◌, ◌∷◌, [], IsFalse, IsTrue, IfOk, OnOk, IfSome, Option, None, option_to_list, vec_items};
+ghost use Rattle.std.specs.Prelude.{◌≡◌, ◌↔◌, IsFalse, IsTrue, OnOk, option_to_list};
 ghost use Rattle.svc_explore_laws.specs.Closed.{AreIn, IsIn};
 ghost use Rattle.svc_explore.specs.Found.{AddsSeen, IsNewlySeen, are_seen};
-ghost use Rattle.svc_explore.specs.Search.{GrowsTo};
 
 use std::alloc::{AllocError, Global};
 use svc_base::UnitId;
 use svc_explore_laws::{By, Observation};
 
-/// An observation, and a schedule that shows it: the moves of these units, one after another, and then one of the last unit.
+/// An observation, and a schedule that shows it: the moves of these units, one after another, and then one of the last
+/// unit.
 #[derive(Drop)]
 pub struct Seen {
     /// What was seen.

@@ -1,7 +1,7 @@
-// The names of the units of a machine: their places in an order, in which standings that differ in which unit is which come out
-// the same.
+// The names of the units of a machine: their places in an order, in which standings that differ in which unit is which
+// come out the same.
 
-ghost use Rattle.std.specs.Prelude.{◌≡◌, ◌==◌, ◌<◌, ◌≤◌, ◌+◌, ℕ, IfOk, IfSome, length};
+ghost use Rattle.std.specs.Prelude.{◌≡◌, ◌==◌, ◌<◌, ◌≤◌, ◌+◌, IfOk, IfSome, length};
 ghost use Rattle.std.specs.List.{position};
 ghost use Rattle.svc_core_laws.specs.Turns.{data_words};
 ghost use Rattle.svc_observations.specs.Rosters.{unit_numbers};
@@ -43,8 +43,8 @@ pub(crate) fn name_of(order: &[UnitId], unit: UnitId) -> u64
     }
 }
 
-// Whether what the first unit's cache shows comes before what the second one's does, word by word: by the bits of the line, and
-// then by whose version is the newest committed one.
+// Whether what the first unit's cache shows comes before what the second one's does, word by word: by the bits of the
+// line, and then by whose version is the newest committed one.
 fn is_before(machine: &Machine, first: UnitId, second: UnitId, words: u32) -> bool
     requires inside { words ≤ data_words machine.now.image }
 {
@@ -144,8 +144,8 @@ fn sort_idle(order: &mut Vec<UnitId>, machine: &Machine, words: u32)
     }
 }
 
-// The order by which the units of a machine are named: those of the active tasks, the oldest first, and then those without one by
-// what their caches show.
+// The order by which the units of a machine are named: those of the active tasks, the oldest first, and then those
+// without one by what their caches show.
 pub(crate) fn order_of(
     alloc: Global,
     machine: &Machine,

@@ -41,8 +41,8 @@ fn put_whole(text: &mut Vec<u8>, whole: bool) -> Result<(), AllocError>
 }
 
 fn put_totals(text: &mut Vec<u8>, exploration: &Exploration) -> Result<(), AllocError>
-    ensures { OnOk result (text.new.items
-        ≡ text.old.items ++ totals_text exploration.now.states exploration.now.moves exploration.now.deepest exploration.now.whole) }
+    ensures { OnOk result (text.new.items ≡ text.old.items
+        ++ totals_text exploration.now.states exploration.now.moves exploration.now.deepest exploration.now.whole) }
 {
     put_row(text, "states", &[exploration.states as u64])?;
     put_row(text, "moves", &[exploration.moves])?;

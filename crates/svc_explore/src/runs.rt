@@ -10,8 +10,8 @@ ghost use Rattle.svc_explore_laws.specs.Moves.{Plays};
 
 use svc_schedule::Policy;
 
-/// The history of each scheduled run of an image, whatever its policy, is a play by bursts of as many turns: so it shows only
-/// what a whole exploration found.
+/// The history of each scheduled run of an image, whatever its policy, is a play by bursts of as many turns: so it
+/// shows only what a whole exploration found.
 pub fn scheduled_runs_play<P: Policy>()
     ensures { (img : Image) → IsImage img → (config : Config) → (most : ℕ) → (old new : P) → (r : Recorded)
         → IsScheduled P.gives img config most old new r → Plays img config most (opened_at img config 0) r.entries }

@@ -59,10 +59,12 @@ pub(crate) fn replay(
     ensures image { IfOk result (λ o. IfSome o (λ r. r.machine.image ≡ image.now)) }
     ensures config { IfOk result (λ o. IfSome o (λ r. r.machine.config ≡ config)) }
     ensures few { IfOk result (λ o. IfSome o (λ r. GaveFew (standing_of r))) }
-    ensures leads { IfOk result (λ o. IfSome o (λ r. Leads image.now config most (opened_at image.now config 0) path.now (standing_of r))) }
+    ensures leads { IfOk result (λ o. IfSome o (λ r.
+        Leads image.now config most (opened_at image.now config 0) path.now (standing_of r))) }
     ensures only { IfOk result (λ o. IfSome o (λ r. LeadsOnly image.now config most path.now (standing_of r))) }
     ensures short { IfOk result (λ o. IfSome o (λ r. (standing_of r).plain.accepted ≤ length path.now)) }
-    ensures plays { IfOk result (λ o. IfSome o (λ r. PlaysTo image.now config most (opened_at image.now config 0) r.entries (standing_of r))) }
+    ensures plays { IfOk result (λ o. IfSome o (λ r.
+        PlaysTo image.now config most (opened_at image.now config 0) r.entries (standing_of r))) }
     ensures none { IfOk result (λ o. IsNone o → LeadsNowhere image.now config most path.now) }
 {
     let mut recorder = open_recorder(alloc, image, config)?;
@@ -131,7 +133,8 @@ fn try_at(
         → Leads recorder.old.machine.image recorder.old.machine.config most
         (opened_at recorder.old.machine.image recorder.old.machine.config 0) path (standing_of recorder.old)
         → ShowsIt recorder.old.machine.image recorder.old.machine.config most path unit tried) }
-    ensures off { IfOk result (λ tried. IsOff tried → recorder.old.machine.config.events ≤ (standing_of recorder.old).plain.accepted) }
+    ensures off { IfOk result (λ tried. IsOff tried
+        → recorder.old.machine.config.events ≤ (standing_of recorder.old).plain.accepted) }
 {
     keeps(recorder);
     if recorder.machine().is_full() {
@@ -152,7 +155,8 @@ pub(crate) fn try_unit(
     ensures tried { IfOk result (TriedBy image.now config most path.now unit.0) }
     ensures shown { IfOk result (ShowsIt image.now config most path.now unit) }
     // It is off only where the history is full.
-    ensures off { IfOk result (λ tried. IsOff tried → (s : Standing) → Leads image.now config most (opened_at image.now config 0) path.now s → config.events ≤ length path.now) }
+    ensures off { IfOk result (λ tried. IsOff tried → (s : Standing)
+        → Leads image.now config most (opened_at image.now config 0) path.now s → config.events ≤ length path.now) }
 {
     match replay(alloc, image, config, path, most)? {
         Some(mut recorder) => try_at(alloc, &mut recorder, most, unit),

@@ -1,6 +1,7 @@
 // All schedules of an image.
 
-ghost use Rattle.std.specs.Prelude.{◌≡◌, ◌⊎◌, ◌<◌, ◌≤◌, ◌+◌, ◌*◌, ◌^◌, ◌++◌, ◌∷◌, [], ℕ, IfOk, IfSome, IsFalse, IsTrue, OnOk, length, slice_get};
+ghost use Rattle.std.specs.Prelude.{◌≡◌, ◌⊎◌, ◌<◌, ◌≤◌, ◌+◌, ◌*◌, ◌^◌, ◌++◌, ◌∷◌, [], ℕ, IfOk, IsFalse, IsTrue, OnOk};
+ghost use Rattle.std.specs.Prelude.{length};
 ghost use Rattle.svc_explore_laws.specs.Closed.{IsIn, ShowNothingElse};
 ghost use Rattle.svc_explore.specs.Counts.{AddsPlace, HasFull, IsDepth, IsLongest, IsSound, IsTold, KeepsLimits};
 ghost use Rattle.svc_explore.specs.Found.{AreWitnessed, are_seen};
@@ -80,7 +81,8 @@ impl Search {
         requires inside { index < length self.old.keys.entries }
         requires sound { IsSound image.now config most self.old }
         requires few { self.old.moves < 2 ^ 63 }
-        ensures explored { IfOk result (λ ok. IsTrue ok → IsExploredAt image.now config most self.new.keys.entries (are_seen self.new.found.items) index unit.0) }
+        ensures explored { IfOk result (λ ok. IsTrue ok
+            → IsExploredAt image.now config most self.new.keys.entries (are_seen self.new.found.items) index unit.0) }
         ensures stopped { IfOk result (λ ok. IsFalse ok → HasFull config self.new.keys.entries) }
         ensures moves { OnOk result (self.new.moves ≤ self.old.moves + 1) }
         ensures keys { OnOk result (GrowsTo self.old.keys.entries self.new.keys.entries) }
@@ -120,7 +122,8 @@ impl Search {
         requires inside { index < length self.old.keys.entries }
         requires sound { IsSound image.now config most self.old }
         requires few { self.old.moves + 16 < 2 ^ 63 }
-        ensures explored { IfOk result (λ ok. IsTrue ok → (unit : ℕ) → unit < config.units → IsExploredAt image.now config most self.new.keys.entries (are_seen self.new.found.items) index unit) }
+        ensures explored { IfOk result (λ ok. IsTrue ok → (unit : ℕ) → unit < config.units
+            → IsExploredAt image.now config most self.new.keys.entries (are_seen self.new.found.items) index unit) }
         ensures stopped { IfOk result (λ ok. IsFalse ok → HasFull config self.new.keys.entries) }
         ensures moves { OnOk result (self.new.moves ≤ self.old.moves + config.units) }
         ensures keys { OnOk result (GrowsTo self.old.keys.entries self.new.keys.entries) }
@@ -148,9 +151,11 @@ impl Search {
         requires opening { IsOpeningListed image.now config (HasKey image.now config) (are_keys self.old.keys.entries) }
         requires unmoved { self.old.moves ≡ 0 }
         requires sound { IsSound image.now config most self.old }
-        ensures closed { IfOk result (λ ok. IsTrue ok → IsPartlyClosed image.now config most self.new.keys.entries (are_seen self.new.found.items) (length self.new.keys.entries)) }
+        ensures closed { IfOk result (λ ok. IsTrue ok → IsPartlyClosed image.now config most self.new.keys.entries
+            (are_seen self.new.found.items) (length self.new.keys.entries)) }
         ensures within { IfOk result (λ ok. IsTrue ok → length self.new.keys.entries ≤ limit) }
-        ensures stopped { IfOk result (λ ok. IsFalse ok → (limit < length self.new.keys.entries) ⊎ HasFull config self.new.keys.entries) }
+        ensures stopped { IfOk result (λ ok. IsFalse ok
+            → (limit < length self.new.keys.entries) ⊎ HasFull config self.new.keys.entries) }
         ensures moves { OnOk result (self.new.moves ≤ length self.new.keys.entries * config.units) }
         ensures opening { OnOk result (0 < length self.new.keys.entries) }
         ensures sound { OnOk result (IsSound image.now config most self.new) }
@@ -193,7 +198,8 @@ impl Search {
 
 // The search before any move.
 fn opened(alloc: Global, image: &Image, config: Config) -> Result<Search, AllocError>
-    ensures opening { IfOk result (λ s. IsOpeningListed image.now config (HasKey image.now config) (are_keys s.keys.entries)) }
+    ensures opening { IfOk result (λ s.
+        IsOpeningListed image.now config (HasKey image.now config) (are_keys s.keys.entries)) }
     ensures unmoved { IfOk result (λ s. s.moves ≡ 0) }
     ensures sound { IfOk result (λ s. (most : ℕ) → IsSound image.now config most s) }
 {
@@ -207,8 +213,8 @@ fn opened(alloc: Global, image: &Image, config: Config) -> Result<Search, AllocE
     })
 }
 
-/// Explores all schedules of the image: at each standing that moves of the units lead to, each unit makes its move. A unit runs its
-/// task on by at most `burst` turns at a time. At most `limit` standings are explored.
+/// Explores all schedules of the image: at each standing that moves of the units lead to, each unit makes its move. A
+/// unit runs its task on by at most `burst` turns at a time. At most `limit` standings are explored.
 ///
 /// Errors: [`AllocError`].
 pub fn explore(
@@ -218,8 +224,10 @@ pub fn explore(
     burst: u32,
     limit: u32,
 ) -> Result<Exploration, AllocError>
-    // Where no limit was met, whichever units make their moves, in whatever order and however long, nothing is seen but what was found.
-    ensures whole { IfOk result (λ r. IsTrue r.whole → ShowNothingElse image.now config burst (are_seen r.found.items)) }
+    // Where no limit was met, whichever units make their moves, in whatever order and however long, nothing is seen but
+    // what was found.
+    ensures whole { IfOk result (λ r. IsTrue r.whole
+        → ShowNothingElse image.now config burst (are_seen r.found.items)) }
     // It is not whole only if a limit was met: that of standings, or that of events.
     ensures limits { IfOk result (KeepsLimits config limit) }
     // Each observation was found once, and its schedule shows it, whether a limit was met or not.

@@ -1,5 +1,5 @@
--- The order in which observations are told: by what happened, then by task, word and value, where nothing comes first, then by
--- who or why.
+-- The order in which observations are told: by what happened, then by task, word and value, where nothing comes first,
+-- then by who or why.
 use Rattle.std.specs.Prelude.{◌≡◌, ◌<◌, ◌+◌, ℕ, true, List, [], ◌∷◌, Option, Some, None, slice_get}
 use Rattle.std.specs.Cmp.Lexicographic.{slice_cmp}
 use Rattle.std.specs.Ordering.{is_lt, nat_cmp}
@@ -43,7 +43,8 @@ version_place _ = 0
 
 -- what is compared, one number after another
 abbrev pub places_of : Observation → List ℕ
-places_of o = happening_place o.what ∷ o.task ∷ number_place o.word ∷ number_place o.value ∷ by_place o.by ∷ version_place o.by ∷ []
+places_of o = happening_place o.what ∷ o.task ∷ number_place o.word ∷ number_place o.value ∷ by_place o.by
+    ∷ version_place o.by ∷ []
 
 -- where two first differ, the one has less
 abbrev pub ComesBefore : Observation → Observation → Type 0
@@ -51,4 +52,5 @@ ComesBefore o p = is_lt (slice_cmp nat_cmp (places_of o) (places_of p)) ≡ true
 
 -- none stands after one before which it comes
 abbrev pub AreInOrder : List Observation → Type 0
-AreInOrder os = (i j : ℕ) (o p : Observation) → i < j → slice_get os i ≡ Some o → slice_get os j ≡ Some p → ComesBefore p o → ⊥
+AreInOrder os = (i j : ℕ) (o p : Observation) → i < j → slice_get os i ≡ Some o → slice_get os j ≡ Some p
+    → ComesBefore p o → ⊥

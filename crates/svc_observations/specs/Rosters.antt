@@ -1,7 +1,7 @@
 -- The numbers of tasks as code keeps them.
-use Rattle.std.specs.Prelude.{◌≡◌, ℕ, ◌+◌, List, [], ◌∷◌, length, map, Option, None, Some, unwrap_or}
+use Rattle.std.specs.Prelude.{ℕ, ◌+◌, List, [], ◌∷◌, length, map, Option, None, Some, unwrap_or}
 use Rattle.svc_base.specs.declared.ids.UnitId.{UnitId}
-use Rattle.svc_machine_laws.specs.PlainMachine.{Plain, Task, unit_of}
+use Rattle.svc_machine_laws.specs.PlainMachine.{Task}
 use Rattle.svc_machine_laws.specs.Events.{place_in}
 use Rattle.svc_explore_laws.specs.Observations.{Numbers}
 use Rattle.svc_observations.specs.declared.roster.Roster.{Roster}
@@ -16,7 +16,8 @@ unit_told (Some t) = t.unit ∷ []
 
 -- so many tasks are committed, and these units have the active ones, the oldest first
 abbrev pub numbers_with : (head : ℕ) → (units : List UnitId) → Numbers
-numbers_with head units = record { head = head; of_unit = λ unit. head + unwrap_or (place_in (unit_numbers units) unit) (length units) }
+numbers_with head units =
+    record { head = head; of_unit = λ unit. head + unwrap_or (place_in (unit_numbers units) unit) (length units) }
 
 -- the numbers that a roster gives
 abbrev pub numbers_in : Roster → Numbers

@@ -49,7 +49,8 @@ sighted number os = map (λ (o : Observation). let s : Sighting = record { what 
 -- what each entry shows, from the one with this number on
 unfoldable pub all_sighted : Image → Standing → (number : ℕ) → List Entry → List Sighting
 all_sighted img s number [] = []
-all_sighted img s number (e ∷ es) = sighted number (observations s.plain e) ++ all_sighted img (after_entry img s e) (number + 1) es
+all_sighted img s number (e ∷ es) =
+    sighted number (observations s.plain e) ++ all_sighted img (after_entry img s e) (number + 1) es
 
 -- by what is seen, then by the entry
 abbrev pub sorting_key : Sighting → List ℕ

@@ -1,4 +1,5 @@
-//! What can be seen of a history: its entries' observations, their rows and their order, and what is looked for among them.
+//! What can be seen of a history: its entries' observations, their rows and their order, and what is looked for among
+//! them.
 #![tactic(auto)]
 
 mod order;

@@ -1,7 +1,8 @@
 // The rows of observations.
 
 ghost use Rattle.std.specs.Prelude.{◌≡◌, ◌++◌, OnOk, codes, decimal, flat_map};
-ghost use Rattle.svc_observations.specs.Rows.{name_of, number_told, numbers_text, reason_of, reason_told, row_of_sighting, seen_row, sight_text, task_text};
+ghost use Rattle.svc_observations.specs.Rows.{name_of, number_told, numbers_text, reason_of, reason_told};
+ghost use Rattle.svc_observations.specs.Rows.{row_of_sighting, seen_row, sight_text, task_text};
 
 use crate::trace::Sighting;
 use std::alloc::AllocError;

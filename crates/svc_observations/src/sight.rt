@@ -1,9 +1,12 @@
 // What is seen of a move: what its entry says happened to which task, by the numbers that tasks had before it.
 
-ghost use Rattle.std.specs.Prelude.{◌≡◌, ◌==◌, ◌≤◌, ◌<◌, ◌++◌, ◌∷◌, [], IfOk, IfSome, OnOk, length, map, option_map, position, slice_get, unwrap_or};
+ghost use Rattle.std.specs.Prelude.{◌≡◌, ◌==◌, ◌≤◌, ◌<◌, ◌++◌, ◌∷◌, [], IfOk, IfSome, OnOk, length, map, option_map};
+ghost use Rattle.std.specs.Prelude.{position, slice_get, unwrap_or};
 ghost use Rattle.svc_machine_laws.specs.Events.{place_in};
 ghost use Rattle.svc_history.specs.Recorded.{standing_of};
-ghost use Rattle.svc_explore_laws.specs.Observations.{happened, happened_so, happening_of, numbers, squashed, squashed_so, supplier_of, task_of, value_of, why_of, word_violated};
+ghost use Rattle.svc_explore_laws.specs.Observations.{happened, happened_so, happening_of, numbers, squashed};
+ghost use Rattle.svc_explore_laws.specs.Observations.{squashed_so, supplier_of, task_of, value_of, why_of};
+ghost use Rattle.svc_explore_laws.specs.Observations.{word_violated};
 ghost use Rattle.svc_observations.specs.Rosters.{numbers_in, unit_numbers, unit_told};
 
 use crate::roster::Roster;

@@ -89,8 +89,8 @@ fn put_sought(text: &mut Vec<u8>, sought: Sought) -> Result<(), AllocError>
 }
 
 impl Sought {
-    /// What a text looks for: `WHAT`, `WHAT,TASK` or `WHAT,TASK,WORD`, where an empty `TASK` is any. None if it is none of these,
-    /// or if a number has a sign or leading zeros.
+    /// What a text looks for: `WHAT`, `WHAT,TASK` or `WHAT,TASK,WORD`, where an empty `TASK` is any. None if it is none
+    /// of these, or if a number has a sign or leading zeros.
     ///
     /// Errors: [`AllocError`], if memory runs out.
     pub fn read(alloc: Global, text: &str) -> Result<Option<Sought>, AllocError>

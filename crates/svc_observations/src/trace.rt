@@ -1,6 +1,6 @@
 // What a trace shows: each observation once, with the first entry that shows it.
 
-ghost use Rattle.std.specs.Prelude.{◌≡◌, ◌++◌, IfErr, IfOk, OnOk, Option, option_to_list};
+ghost use Rattle.std.specs.Prelude.{◌≡◌, ◌++◌, IfErr, IfOk, OnOk, option_to_list};
 ghost use Rattle.std.specs.List.Sorted.{IsPermutation, IsSortedByKey};
 ghost use Rattle.std.specs.Cmp.Lexicographic.{slice_cmp};
 ghost use Rattle.std.specs.Ordering.{nat_cmp};
@@ -49,7 +49,8 @@ fn note_entry(
     entry: &Entry,
     number: u64,
 ) -> Result<(), AllocError>
-    ensures { OnOk result (found.new.items ≡ found.old.items ++ sighted number (observed (numbers_in roster.now) entry.now)) }
+    ensures { OnOk result (found.new.items ≡ found.old.items
+        ++ sighted number (observed (numbers_in roster.now) entry.now)) }
 {
     note(found, happened(roster, entry), number)?;
     note(found, squashed(entry), number)

@@ -1,5 +1,5 @@
 -- The words for what is wrong.
-use Rattle.std.specs.Prelude.{ℕ, List, [], Option, codes, decimal, ◌++◌, cond, is_some}
+use Rattle.std.specs.Prelude.{ℕ, List, [], codes, decimal, ◌++◌, cond, is_some}
 use Rattle.svc_base.specs.declared.config.ConfigError.{ConfigError}
 use Rattle.svc_base.specs.declared.config.ConfigError.TheVariants as config
 use Rattle.svc_base.specs.declared.refusal.Refusal.{Refusal}

@@ -1,6 +1,6 @@
 // The first column in which two rows differ.
 
-ghost use Rattle.std.specs.Prelude.{◌≡◌, ◌↔◌, ◌-◌, IsTrue, length, take};
+ghost use Rattle.std.specs.Prelude.{◌≡◌, ◌↔◌, IsTrue};
 ghost use Rattle.svc_names.specs.Rows.{field};
 ghost use Rattle.svc_reasons.specs.Reasons.{IsFirstOther, bare};
 
