@@ -1,5 +1,6 @@
 -- The bars and marks of a picture, as they are drawn.
-use Rattle.std.specs.Prelude.{ℕ, ◌+◌, ◌-◌, ◌/◌, ◌==◌, nat_le, nat_lt, cond, List, [], ◌∷◌, ◌++◌, length, flat_map, codes, decimal}
+use Rattle.std.specs.Prelude.{ℕ, ◌+◌, ◌-◌, ◌/◌, ◌==◌, nat_le, nat_lt, cond, List, [], ◌∷◌, ◌++◌, length, flat_map}
+use Rattle.std.specs.Prelude.{codes, decimal}
 use Rattle.std.specs.List.{concat}
 use Rattle.svc_history_laws.specs.declared.entry.Entry.{Entry}
 use Rattle.svc_report.specs.Trace.{row_of}
@@ -12,7 +13,8 @@ use Rattle.svc_marks.specs.declared.marks.MarkKind.TheVariants as mark
 use Rattle.svc_draw.specs.declared.sheet.Sheet.{Sheet}
 use Rattle.svc_draw.specs.Frame.{bar_height, bar_left, bar_top, bar_width, end_x, end_y, mark_x, mark_y}
 use Rattle.svc_draw.specs.Kinds.{letter_of}
-use Rattle.svc_shapes.specs.Shapes.{bar_box, bold_arrow, box_title, close, commit_line, label, mark_at, thin_arrow, title_open}
+use Rattle.svc_shapes.specs.Shapes.{bar_box, bold_arrow, box_title, close, commit_line, label, mark_at, thin_arrow}
+use Rattle.svc_shapes.specs.Shapes.{title_open}
 
 -- ---- bars
 

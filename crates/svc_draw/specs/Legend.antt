@@ -1,5 +1,6 @@
 -- What surrounds the bars and marks of a picture: its legend, its lanes and its axis.
-use Rattle.std.specs.Prelude.{ℕ, ◌+◌, ◌-◌, ◌*◌, ◌/◌, ◌%◌, ◌==◌, nat_le, max, Bool, cond, List, [], ◌∷◌, ◌++◌, Some, unwrap_or, flat_map, codes}
+use Rattle.std.specs.Prelude.{ℕ, ◌+◌, ◌-◌, ◌*◌, ◌/◌, ◌%◌, ◌==◌, nat_le, max, Bool, cond, List, [], ◌∷◌, ◌++◌, Some}
+use Rattle.std.specs.Prelude.{unwrap_or, flat_map, codes}
 use Rattle.std.specs.List.{find, range_with_len}
 use Rattle.svc_history_laws.specs.declared.entry.ServedKind.{ServedKind}
 use Rattle.svc_history_laws.specs.declared.entry.ServedKind.TheVariants as by
@@ -11,7 +12,8 @@ use Rattle.svc_shapes.specs.declared.sheet.TheConstants.{WIDTH}
 use Rattle.svc_draw.specs.Drawing.{fill_of, name_of}
 use Rattle.svc_draw.specs.Frame.{lane_top, shown, x_of}
 use Rattle.svc_draw.specs.Kinds.{letter_of}
-use Rattle.svc_shapes.specs.Shapes.{axis_words, bold_sample, border, commit_sample, fate_sample, paper_text, hatching, headline, lane, mark_sample, opening, thin_sample, tick}
+use Rattle.svc_shapes.specs.Shapes.{axis_words, bold_sample, border, commit_sample, fate_sample, paper_text, hatching}
+use Rattle.svc_shapes.specs.Shapes.{headline, lane, mark_sample, opening, thin_sample, tick}
 
 -- ---- what each picture begins with
 

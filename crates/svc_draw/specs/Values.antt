@@ -1,5 +1,6 @@
 -- What stands beside the marks of a picture.
-use Rattle.std.specs.Prelude.{ℕ, ◌+◌, ◌-◌, ◌/◌, nat_le, nat_lt, cond, List, [], ◌∷◌, ◌++◌, Option, Some, None, unwrap_or, length, codes, decimal, get_or, set, replicate}
+use Rattle.std.specs.Prelude.{ℕ, ◌+◌, ◌-◌, ◌/◌, nat_le, nat_lt, cond, List, [], ◌∷◌, ◌++◌, Option, Some, None}
+use Rattle.std.specs.Prelude.{unwrap_or, length, codes, decimal, get_or, set, replicate}
 use Rattle.std.specs.List.{concat}
 use Rattle.svc_base.specs.declared.ids.WordAddr.{WordAddr}
 use Rattle.svc_marks.specs.declared.marks.Mark.{Mark}

@@ -1,7 +1,8 @@
 // The bars and marks of a picture, as they are drawn.
 
 ghost use Rattle.std.specs.Prelude.{◌≡◌, ◌++◌, ◌≤◌, OnOk, codes, decimal, flat_map, length};
-ghost use Rattle.svc_draw.specs.Drawing.{bar_name, bar_text, element_of, fill_of, layer, layer_text, mark_in, mark_shape, mark_text, name_of, name_words, title};
+ghost use Rattle.svc_draw.specs.Drawing.{bar_name, bar_text, element_of, fill_of, layer, layer_text, mark_in};
+ghost use Rattle.svc_draw.specs.Drawing.{mark_shape, mark_text, name_of, name_words, title};
 ghost use Rattle.svc_shapes.specs.Shapes.{label};
 
 use crate::frame::Frame;

@@ -21,7 +21,9 @@ pub(crate) struct Frame {
 impl Frame {
     ghost use Rattle.std.specs.Prelude.{◌≡◌};
     ghost use Rattle.svc_shapes.specs.declared.sheet.TheConstants.{BOTTOM, HEIGHT, LEFT, RIGHT, TOP};
-    ghost use Rattle.svc_draw.specs.Frame.{bar_height, bar_left, bar_right, bar_top, bar_width, end_x, end_y, is_wide, lane_height, lane_top, mark_x, mark_y, place_x, place_y, radius, shown, slot, x_of};
+    ghost use Rattle.svc_draw.specs.Frame.{bar_height, bar_left, bar_right, bar_top, bar_width, end_x, end_y, is_wide};
+    ghost use Rattle.svc_draw.specs.Frame.{lane_height, lane_top, mark_x, mark_y, place_x, place_y, radius, shown};
+    ghost use Rattle.svc_draw.specs.Frame.{slot, x_of};
 
     /// How many entries are shown; 1 if there are none.
     #[tactic(auto, unfolding(crate::specs::Frame::shown))]

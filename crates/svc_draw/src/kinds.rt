@@ -1,7 +1,8 @@
 // The kinds of marks, each made once for a picture.
 
 ghost use Rattle.std.specs.Prelude.{◌≡◌, ◌++◌, ◌≤◌, OnOk};
-ghost use Rattle.svc_draw.specs.Kinds.{kinds_of, letter_of, letter_text, load_kind, output_kind, plain_kinds, plain_load, plain_store, replace_kind, store_kind, supplied_kinds};
+ghost use Rattle.svc_draw.specs.Kinds.{kinds_of, letter_of, letter_text, load_kind, output_kind, plain_kinds};
+ghost use Rattle.svc_draw.specs.Kinds.{plain_load, plain_store, replace_kind, store_kind, supplied_kinds};
 
 use std::alloc::AllocError;
 use svc_history_laws::ServedKind;

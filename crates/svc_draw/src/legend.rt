@@ -4,7 +4,9 @@ ghost use Rattle.std.specs.Prelude.{◌≡◌, ◌++◌, ◌≤◌, ◌<◌, ◌
 ghost use Rattle.std.specs.List.{find};
 ghost use Rattle.svc_base.specs.declared.config.TheConstants.{MAX_EVENTS};
 ghost use Rattle.svc_draw.specs.Frame.{shown};
-ghost use Rattle.svc_draw.specs.Legend.{arrow_samples, axis, fate_samples, has_room, hatchings, head, lane_fill, lane_text, lanes, legend, load_sample, mark_samples, number_at, sample_of, step_for, supplier_sample, supplier_samples};
+ghost use Rattle.svc_draw.specs.Legend.{arrow_samples, axis, fate_samples, has_room, hatchings, head, lane_fill};
+ghost use Rattle.svc_draw.specs.Legend.{lane_text, lanes, legend, load_sample, mark_samples, number_at, sample_of};
+ghost use Rattle.svc_draw.specs.Legend.{step_for, supplier_sample, supplier_samples};
 
 use crate::drawing::{fill_of, name_of};
 use crate::frame::Frame;

@@ -1,7 +1,8 @@
 // What stands beside the marks of a picture.
 
 ghost use Rattle.std.specs.Prelude.{◌≡◌, ◌++◌, ◌≤◌, OnOk, get_or, unwrap_or};
-ghost use Rattle.svc_draw.specs.Values.{committed_text, edges_after, letters_before, saying, sentence, value_text, value_words, values_text, words_of};
+ghost use Rattle.svc_draw.specs.Values.{committed_text, edges_after, letters_before, saying, sentence, value_text};
+ghost use Rattle.svc_draw.specs.Values.{value_words, values_text, words_of};
 ghost use Rattle.svc_shapes.specs.Shapes.{label};
 
 use crate::drawing::digits;

@@ -15,7 +15,8 @@ use Rattle.svc_marks.specs.Bars.{bars_of}
 use Rattle.svc_marks.specs.Marks.{marks_of}
 use Rattle.svc_export.specs.declared.flows.Flow.{Flow}
 use Rattle.svc_export.specs.declared.flows.Way.TheVariants as way
-use Rattle.svc_export.specs.Events.{closing, event_end, flow_text, instant, number_field, opening, slice, supplier_field, task_field, track, word_field}
+use Rattle.svc_export.specs.Events.{closing, event_end, flow_text, instant, number_field, opening, slice}
+use Rattle.svc_export.specs.Events.{supplier_field, task_field, track, word_field}
 
 -- ---- tasks
 
@@ -47,7 +48,15 @@ commit_instant m =
 abbrev pub version_from : Mark → Spot → Option ℕ → Option Flow
 version_from m spot None = None
 version_from m spot (Some place) =
-    Some (record { way = way.Version; number = m.place; store = place; storer = spot.lane; reader = m.entry.unit; read = Some m.place; word = m.entry.addr })
+    Some (record {
+      way = way.Version;
+      number = m.place;
+      store = place;
+      storer = spot.lane;
+      reader = m.entry.unit;
+      read = Some m.place;
+      word = m.entry.addr;
+    })
 
 abbrev pub version_flow : Mark → Option Spot → Option Flow
 version_flow m None = None
@@ -57,7 +66,15 @@ version_flow m (Some spot) = version_from m spot spot.place
 abbrev pub violation_flow : Mark → Option Spot → Option Flow
 violation_flow m None = None
 violation_flow m (Some spot) =
-    Some (record { way = way.Violation; number = m.place; store = m.place; storer = m.entry.unit; reader = spot.lane; read = spot.place; word = m.entry.addr })
+    Some (record {
+      way = way.Violation;
+      number = m.place;
+      store = m.place;
+      storer = m.entry.unit;
+      reader = spot.lane;
+      read = spot.place;
+      word = m.entry.addr;
+    })
 
 abbrev pub some_flow : Option Flow → List ℕ
 some_flow None = []

@@ -1,6 +1,7 @@
 -- A history as a dump of value changes: which task each unit has, and the committed values of some words. What an entry
 -- changes stands at the time of its number.
-use Rattle.std.specs.Prelude.{ℕ, suc, ◌+◌, ◌==◌, Bool, false, cond, ◌&&◌, List, [], ◌∷◌, ◌++◌, Option, Some, None, codes, flat_map, length, map, slice_range, unwrap_or}
+use Rattle.std.specs.Prelude.{ℕ, suc, ◌+◌, ◌==◌, Bool, false, cond, ◌&&◌, List, [], ◌∷◌, ◌++◌, Option, Some, None}
+use Rattle.std.specs.Prelude.{codes, flat_map, length, map, slice_range, unwrap_or}
 use Rattle.std.specs.List.{filter, range_with_len}
 use Rattle.svc_base.specs.declared.ids.UnitId.{UnitId}
 use Rattle.svc_base.specs.declared.ids.WordAddr.{WordAddr}
@@ -11,7 +12,8 @@ use Rattle.svc_task_runs.specs.declared.task_run.Fate.{Fate}
 use Rattle.svc_task_runs.specs.declared.task_run.Fate.TheVariants as fate
 use Rattle.svc_task_runs.specs.declared.task_run.TaskRun.{TaskRun}
 use Rattle.svc_task_runs.specs.Runs.{Runs, after, is_settled, is_store, no_runs, step}
-use Rattle.svc_export.specs.Changes.{busy, dump_opening, dump_start, idle, time, unit_variables, unknown, value_line, word_variable}
+use Rattle.svc_export.specs.Changes.{busy, dump_opening, dump_start, idle, time, unit_variables, unknown, value_line}
+use Rattle.svc_export.specs.Changes.{word_variable}
 
 -- ---- the committed values of words
 

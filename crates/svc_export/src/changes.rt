@@ -1,7 +1,8 @@
 // The lines of a value change dump.
 
 ghost use Rattle.std.specs.Prelude.{◌≡◌, ◌++◌, OnOk};
-ghost use Rattle.svc_export.specs.Changes.{bits, busy, dump_opening, dump_start, idle, time, unit_variables, unknown, value_line, word_variable};
+ghost use Rattle.svc_export.specs.Changes.{bits, busy, dump_opening, dump_start, idle, time, unit_variables, unknown};
+ghost use Rattle.svc_export.specs.Changes.{value_line, word_variable};
 
 use std::alloc::AllocError;
 use svc_text::{Part, Piece, put_parts};

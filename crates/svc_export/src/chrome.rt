@@ -2,7 +2,8 @@
 
 ghost use Rattle.std.specs.Prelude.{◌≡◌, ◌++◌, ◌≤◌, OnOk, flat_map, length};
 ghost use Rattle.svc_base.specs.declared.config.TheConstants.{MAX_EVENTS};
-ghost use Rattle.svc_export.specs.Chrome.{bar_slice, chrome_of, chrome_text, count_of, events, replaced_by, replacement, replacements, tracks};
+ghost use Rattle.svc_export.specs.Chrome.{bar_slice, chrome_of, chrome_text, count_of, events, replaced_by};
+ghost use Rattle.svc_export.specs.Chrome.{replacement, replacements, tracks};
 
 use crate::events::{
     put_closing, put_event_end, put_instant, put_opening, put_slice, put_track, put_word,

@@ -1,7 +1,8 @@
 // The events of a trace for viewers, as JSON objects.
 
 ghost use Rattle.std.specs.Prelude.{◌≡◌, ◌++◌, OnOk};
-ghost use Rattle.svc_export.specs.Events.{closing, event_end, flow_end, flow_ends, flow_text, instant, number_field, opening, slice, supplier_field, task_field, track, word_field};
+ghost use Rattle.svc_export.specs.Events.{closing, event_end, flow_end, flow_ends, flow_text, instant, number_field};
+ghost use Rattle.svc_export.specs.Events.{opening, slice, supplier_field, task_field, track, word_field};
 
 use crate::flows::Flow;
 use std::alloc::AllocError;

@@ -1,7 +1,8 @@
 // The events of marks.
 
 ghost use Rattle.std.specs.Prelude.{◌≡◌, ◌++◌, OnOk, flat_map};
-ghost use Rattle.svc_export.specs.Chrome.{commit_instant, mark_event, mark_fields, mark_instant, some_flow, version_flow, violation_flow};
+ghost use Rattle.svc_export.specs.Chrome.{commit_instant, mark_event, mark_fields, mark_instant, some_flow};
+ghost use Rattle.svc_export.specs.Chrome.{version_flow, violation_flow};
 
 use crate::events::{
     put_event_end, put_flow, put_instant, put_number, put_supplier, put_task, put_word,

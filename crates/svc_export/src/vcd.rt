@@ -7,7 +7,9 @@ ghost use Rattle.svc_task_runs.specs.Bounds.{AreFew};
 ghost use Rattle.svc_task_runs.specs.Runs.{no_runs, step};
 ghost use Rattle.svc_task_runs.specs.Seen.{seen};
 ghost use Rattle.svc_export.specs.Changes.{idle, unit_variables, unknown, word_variable};
-ghost use Rattle.svc_export.specs.Vcd.{beginning, changes_from, decided, decision, declarations, entry_changes, first_values, is_store_of, is_word, left_by, stored_in, value_change, vcd_of, word_change, words_after};
+ghost use Rattle.svc_export.specs.Vcd.{beginning, changes_from, decided, decision, declarations, entry_changes};
+ghost use Rattle.svc_export.specs.Vcd.{first_values, is_store_of, is_word, left_by, stored_in, value_change, vcd_of};
+ghost use Rattle.svc_export.specs.Vcd.{word_change, words_after};
 
 use crate::changes::{
     put_busy, put_dump_opening, put_dump_start, put_idle, put_time, put_unit_variables,

@@ -1,5 +1,6 @@
 -- The bars of a picture: each task's, cut to the entries that are shown.
-use Rattle.std.specs.Prelude.{ℕ, ◌+◌, ◌-◌, min, nat_lt, nat_le, ◌==◌, Bool, cond, ◌&&◌, List, Option, Some, None, unwrap_or, length}
+use Rattle.std.specs.Prelude.{ℕ, ◌+◌, ◌-◌, min, nat_lt, nat_le, ◌==◌, Bool, cond, ◌&&◌, List, Option, Some, None}
+use Rattle.std.specs.Prelude.{unwrap_or, length}
 use Rattle.std.specs.List.{flat_map}
 use Rattle.std.specs.Option.{option_to_list}
 use Rattle.svc_history_laws.specs.declared.entry.Entry.{Entry}

@@ -3,7 +3,9 @@
 ghost use Rattle.std.specs.Prelude.{◌≡◌, ◌+◌, ◌≤◌, ◌++◌, None, Some, OnOk, IfOk, length};
 ghost use Rattle.svc_base.specs.declared.config.TheConstants.{MAX_EVENTS};
 ghost use Rattle.svc_task_runs.specs.Runs.{is_number};
-ghost use Rattle.svc_marks.specs.Marks.{arrow, between, first_bar, first_where, handed_by, is_given, is_over, is_same_word, is_taken, is_victim, kind_of, left_at, marks_by, marks_of, shape, squashed, takes, taken, task_at};
+ghost use Rattle.svc_marks.specs.Marks.{arrow, between, first_bar, first_where, handed_by, is_given, is_over};
+ghost use Rattle.svc_marks.specs.Marks.{is_same_word, is_taken, is_victim, kind_of, left_at, marks_by, marks_of, shape};
+ghost use Rattle.svc_marks.specs.Marks.{squashed, takes, taken, task_at};
 ghost use Rattle.svc_marks.specs.Stores.{last_store};
 
 use crate::bars::{Bar, Window};

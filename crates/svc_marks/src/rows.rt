@@ -4,7 +4,8 @@ ghost use Rattle.std.specs.Prelude.{◌≡◌, ◌++◌, ◌≤◌, IfErr, IfOk,
 ghost use Rattle.svc_base.specs.declared.config.TheConstants.{MAX_EVENTS};
 ghost use Rattle.svc_report.specs.Fields.{optional, served_word};
 ghost use Rattle.svc_report.specs.Faults.{IsMemoryFault};
-ghost use Rattle.svc_marks.specs.Rows.{arrow_fields, bar_fields, bar_row, mark_fields, mark_row, other_place, row_of_kind, rows_of, shape_row, task_number, word_number};
+ghost use Rattle.svc_marks.specs.Rows.{arrow_fields, bar_fields, bar_row, mark_fields, mark_row, other_place};
+ghost use Rattle.svc_marks.specs.Rows.{row_of_kind, rows_of, shape_row, task_number, word_number};
 
 use crate::bars::{Bar, Window, bars_of};
 use crate::marks::{Mark, MarkKind, Spot, marks_of};

@@ -33,8 +33,8 @@ RenamedKeys =
     → IsReached img config t
     → HaveOneKey s t → HaveOneKey (renamed_standing r s) (renamed_standing r t)
 
--- keys that tell standings apart where their bits do, whatever the names. One standing may have more than one key, since
--- the names of its units may be chosen in more than one way
+-- keys that tell standings apart where their bits do, whatever the names. One standing may have more than one key,
+-- since the names of its units may be chosen in more than one way
 abbrev pub TellsUpToNames : Image → Config → {K : Type 0} → (Standing → K → Type 0) → Type 0
 TellsUpToNames img config {K} has =
     (s t : Standing) (k : K) → IsReached img config s → IsReached img config t → has s k → has t k
@@ -46,8 +46,8 @@ pub record HasNamedKey (config : Config) {K : Type 0} (key : Standing → K) (s 
   pub rename : IsRenaming config.units names
   pub key_is : k ≡ key (renamed_standing names s)
 
--- keys that tell standings apart where their bits do, taken by names of the units, tell them apart whatever the names. So
--- the names may be chosen in any way that is handy, as in the order of tasks
+-- keys that tell standings apart where their bits do, taken by names of the units, tell them apart whatever the names.
+-- So the names may be chosen in any way that is handy, as in the order of tasks
 abbrev pub ChosenNamesTell : Type 0 → Type 0
 ChosenNamesTell K = (img : Image) (config : Config) (key : Standing → K) → TellsKeys img config key
     → TellsUpToNames img config (HasNamedKey config key)
@@ -85,8 +85,8 @@ pub record IsClosedUpToNames (img : Image) (config : Config) (most : ℕ) {K : T
   pub opening : IsOpeningListed img config has keys
   pub each : (k : K) → IsIn k keys → AllExplored img config most has keys found k
 
--- THE CLOSED LIST, UP TO NAMES: where keys by names are closed, whatever units do and however long, all that an entry of
--- the history shows was found
+-- THE CLOSED LIST, UP TO NAMES: where keys by names are closed, whatever units do and however long, all that an entry
+-- of the history shows was found
 abbrev pub ClosedUpToNamesLaw : Type 0 → Type 0
 ClosedUpToNamesLaw K =
     (img : Image) → IsImage img → (config : Config) → (most : ℕ) → (key : Standing → K) → TellsKeys img config key

@@ -43,9 +43,9 @@ is_over (ending.Trap number) = true
 is_over (ending.Full due) = true
 is_over (ending.Open due) = false
 
--- a schedule goes on from one history to another of the same machine, which is legal: each entry that it adds is that of
--- one step of the policy; the ending is an exit, a trap or a full history, or the steps are as many as the configuration
--- has turns
+-- a schedule goes on from one history to another of the same machine, which is legal: each entry that it adds is that
+-- of one step of the policy; the ending is an exit, a trap or a full history, or the steps are as many as the
+-- configuration has turns
 pub record GoesOn {P : Type 0} (Gives : P → Recorded → List UnitId → P → Type 0) (most : ℕ) (old new : P)
     (start r : Recorded) : Type 0 where
   pub image : r.machine.image ≡ start.machine.image

@@ -146,7 +146,9 @@ arrow_heads size =
     concat (codes "<marker id='thin' markerWidth='12' markerHeight='10' refX='" ∷ decimal (11 + size)
     ∷ codes "' refY='5' orient='auto' markerUnits='userSpaceOnUse'><path d='M0 0L11 5L0 10Z' fill='#14508c'/></marker>"
     ∷ codes "<marker id='bold' markerWidth='18' markerHeight='16' refX='" ∷ decimal (18 + size)
-    ∷ codes "' refY='8' orient='auto' markerUnits='userSpaceOnUse'><path d='M0 0L17 8L0 16Z' fill='#b01010'/></marker>\n" ∷ [])
+    ∷ codes
+    "' refY='8' orient='auto' markerUnits='userSpaceOnUse'><path d='M0 0L17 8L0 16Z' fill='#b01010'/></marker>\n"
+    ∷ [])
 
 -- the beginning and the end of what is made once
 unfoldable pub parts_open : List ℕ
@@ -175,7 +177,8 @@ tick x place =
 -- its size
 unfoldable pub opening : List ℕ
 opening =
-    concat (codes "<?xml version='1.0' encoding='UTF-8'?>\n<svg xmlns='http://www.w3.org/2000/svg' width='1600' height='900' "
+    concat (codes
+    "<?xml version='1.0' encoding='UTF-8'?>\n<svg xmlns='http://www.w3.org/2000/svg' width='1600' height='900' "
     ∷ codes "viewBox='0 0 1600 900' font-family='Helvetica, Arial, sans-serif' font-size='14' fill='#111'>\n<defs>\n"
     ∷ [])
 

@@ -1,7 +1,9 @@
 // The shapes of what surrounds them.
 
 ghost use Rattle.std.specs.Prelude.{◌≡◌, ◌++◌, OnOk};
-ghost use Rattle.svc_shapes.specs.Shapes.{headline, fate_sample, mark_sample, arrow_heads, parts_open, parts_close, lane, tick, opening, hatching, paper_text, commit_sample, thin_sample, bold_sample, closing, border, axis_words};
+ghost use Rattle.svc_shapes.specs.Shapes.{headline, fate_sample, mark_sample, arrow_heads, parts_open, parts_close};
+ghost use Rattle.svc_shapes.specs.Shapes.{lane, tick, opening, hatching, paper_text, commit_sample, thin_sample};
+ghost use Rattle.svc_shapes.specs.Shapes.{bold_sample, closing, border, axis_words};
 
 use crate::sheet::Point;
 use std::alloc::AllocError;

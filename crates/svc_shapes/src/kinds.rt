@@ -1,7 +1,8 @@
 // The kinds of marks, about the place where they are used.
 
 ghost use Rattle.std.specs.Prelude.{◌≡◌, ◌++◌, OnOk};
-ghost use Rattle.svc_shapes.specs.Shapes.{ring, square, diamond, cross, letter_within, letter_above, kind_open, kind_close};
+ghost use Rattle.svc_shapes.specs.Shapes.{ring, square, diamond, cross, letter_within, letter_above, kind_open};
+ghost use Rattle.svc_shapes.specs.Shapes.{kind_close};
 
 use std::alloc::AllocError;
 use svc_text::{Part, put_parts};

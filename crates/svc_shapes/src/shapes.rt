@@ -2,7 +2,8 @@
 
 ghost use Rattle.std.specs.Prelude.{◌≡◌, ◌++◌, OnOk, flat_map};
 ghost use Rattle.svc_text.specs.Parts.{part_text};
-ghost use Rattle.svc_shapes.specs.Shapes.{label, mark_at, rim_open, rim_close, commit_line, thin_arrow, bold_arrow, close, title_open, bar_box, box_title, label_open, label_close};
+ghost use Rattle.svc_shapes.specs.Shapes.{label, mark_at, rim_open, rim_close, commit_line, thin_arrow, bold_arrow};
+ghost use Rattle.svc_shapes.specs.Shapes.{close, title_open, bar_box, box_title, label_open, label_close};
 
 use crate::sheet::{BOTTOM, Point, TOP};
 use std::alloc::AllocError;
