@@ -1,5 +1,5 @@
 -- Expressions, step by step.
-use Rattle.std.proofs.Common.{◌≡◌, ℕ, zero, suc, ◌-◌, ◌<◌, List, length, Option, Some, None, refl, arith, ap}
+use Rattle.std.proofs.Common.{◌≡◌, ℕ, zero, suc, ◌-◌, ◌<◌, List, length, Option, Some, None, refl, sym, arith, ap}
 use Rattle.svc_draft.specs.Options.{◌>>=◌}
 use Rattle.svc_draft.specs.Layouts.{Layout}
 use Rattle.svc_operands.specs.Characters.{found, past_spaces}
@@ -13,6 +13,16 @@ unfolding operand_at
 operand_step names zero text h = absurd (omega (arith, h))
 operand_step names (suc k) text h = let e : suc k - 1 ≡ k = omega arith in rw e refl
 
+pub operand_none : (names : Option Layout) (k : ℕ) (text : List ℕ) → k ≡ 0 → operand_at names k text ≡ None
+unfolding operand_at
+operand_none names zero text h = refl
+operand_none names (suc k) text h = absurd (omega (arith, h))
+
+pub ranked_none : (operand : List ℕ → Read ℕ) (r : ℕ) (text : List ℕ) → r ≡ 0 → ranked operand r text ≡ operand text
+unfolding ranked
+ranked_none operand zero text h = refl
+ranked_none operand (suc r) text h = absurd (omega (arith, h))
+
 pub ranked_step : (operand : List ℕ → Read ℕ) (r : ℕ) (text : List ℕ) → 0 < r → ranked operand r text ≡ ranked operand (r - 1) text >>= (λ n. chain_on (ranked operand (r - 1)) (r - 1) (length n.1) n.0 n.1)
 unfolding ranked
 ranked_step operand zero text h = absurd (omega (arith, h))
@@ -25,6 +35,12 @@ pub chain_step : (item : List ℕ → Read ℕ) (rank k n : ℕ) (text : List �
 unfolding chain_on
 chain_step item rank zero n text h = absurd (omega (arith, h))
 chain_step item rank (suc k) n text h = let e : suc k - 1 ≡ k = omega arith in rw e refl
+
+-- where no step is left, the number so far is the whole
+pub chain_done : (item : List ℕ → Read ℕ) (rank k n : ℕ) (text : List ℕ) (whole : Option (ℕ × List ℕ)) → k ≡ 0 → chain_on item rank k n text ≡ whole → whole ≡ Some (n, text)
+unfolding chain_on
+chain_done item rank zero n text whole none same = sym same
+chain_done item rank (suc k) n text whole none same = absurd (omega (arith, none))
 
 pub chain_over : (item : List ℕ → Read ℕ) (rank k n : ℕ) (text : List ℕ) → operator_at text ≡ None → chain_on item rank k n text ≡ Some (n, text)
 unfolding chain_on

@@ -2,7 +2,7 @@
 
 ghost use Rattle.std.specs.Prelude.{◌≡◌, ◌+◌, ◌*◌, ◌<◌, ◌≤◌, option_map, length};
 ghost use Rattle.svc_draft.specs.Layouts.{layout_of};
-ghost use Rattle.svc_operands.specs.Expressions.{is_below, below_zero, signed_by, magnitude, divisor, combined, operator_from, operator_at, chain_on, ranked, all_further, named_by, plain_at, operand_at, expression_at, added_at};
+ghost use Rattle.svc_operands.specs.Expressions.{is_below, below_zero, signed_by, magnitude, divisor, combined, operator_from, operator_at, chain_on, ranked, all_further, named_by, plain_at, operand_from, operand_at, expression_at, added_at};
 ghost use Rattle.svc_operands.specs.Operands.{Gives};
 
 use crate::characters::{skip_spaces, split_name};
@@ -145,18 +145,15 @@ fn read_plain<'a>(names: Option<&Draft>, text: &'a [u8]) -> Read<'a, u64>
     }
 }
 
-#[tactic(auto, using(crate::proofs::Chains::operand_step))]
+// An operand, which begins with no space.
 #[cycle(expression)]
-fn read_operand<'a>(names: Option<&Draft>, depth: u32, text: &'a [u8]) -> Read<'a, u64>
-    requires { depth ≤ 32 }
+fn read_operand_from<'a>(names: Option<&Draft>, inner: u32, text: &'a [u8]) -> Read<'a, u64>
+    requires { inner ≤ 31 }
     ensures { Gives (λ x. (x.0, x.1.now)) result
-        (operand_at (option_map (λ d. layout_of d.now) names.entry) depth text.now) }
+        (operand_from (option_map (λ d. layout_of d.now) names.entry)
+            (operand_at (option_map (λ d. layout_of d.now) names.entry) inner) text.now) }
 {
-    if depth == 0 {
-        return Err(stopped_at(text, wanted_by(names)));
-    }
-    let inner = depth - 1;
-    match skip_spaces(text) {
+    match text {
         [] => Err(stopped_at(text, wanted_by(names))),
         [b'-', operand @ ..] => {
             let (number, rest) = read_operand(names, inner, operand)?;
@@ -172,12 +169,25 @@ fn read_operand<'a>(names: Option<&Draft>, depth: u32, text: &'a [u8]) -> Read<'
             let rest = read_mark(b')', Wanted::Close, rest)?;
             Ok((number, rest))
         }
-        plain => read_plain(names, plain),
+        _ => read_plain(names, text),
     }
 }
 
+#[tactic(auto, using(crate::proofs::Chains::operand_step, crate::proofs::Chains::operand_none))]
+#[cycle(expression)]
+fn read_operand<'a>(names: Option<&Draft>, depth: u32, text: &'a [u8]) -> Read<'a, u64>
+    requires { depth ≤ 32 }
+    ensures { Gives (λ x. (x.0, x.1.now)) result
+        (operand_at (option_map (λ d. layout_of d.now) names.entry) depth text.now) }
+{
+    if depth == 0 {
+        return Err(stopped_at(text, wanted_by(names)));
+    }
+    read_operand_from(names, depth - 1, skip_spaces(text))
+}
+
 // An expression by operators below a rank.
-#[tactic(auto, using(crate::proofs::Chains::ranked_step))]
+#[tactic(auto, using(crate::proofs::Chains::ranked_step, crate::proofs::Chains::ranked_none))]
 #[cycle(expression)]
 fn read_ranked<'a>(
     names: Option<&Draft>,
@@ -198,7 +208,7 @@ fn read_ranked<'a>(
 }
 
 // What a number and the operators of a rank behind it make.
-#[tactic(auto, using(crate::proofs::Chains::chain_step))]
+#[tactic(auto, using(crate::proofs::Chains::chain_step, crate::proofs::Chains::chain_done))]
 #[cycle(expression)]
 fn read_chain<'a>(
     names: Option<&Draft>,
