@@ -64,11 +64,7 @@ fn divisor(number: u64) -> u64
     ensures value { result ≡ divisor number }
     ensures some { 0 < result }
 {
-    if number == 0 {
-        1
-    } else {
-        magnitude(number)
-    }
+    if number == 0 { 1 } else { magnitude(number) }
 }
 
 #[tactic(auto, unfolding(crate::specs::Expressions::combined))]
@@ -151,7 +147,7 @@ fn read_operand_from<'a>(names: Option<&Draft>, inner: u32, text: &'a [u8]) -> R
     requires { inner ≤ 31 }
     ensures { Gives (λ x. (x.0, x.1.now)) result
         (operand_from (option_map (λ d. layout_of d.now) names.entry)
-            (operand_at (option_map (λ d. layout_of d.now) names.entry) inner) text.now) }
+        (operand_at (option_map (λ d. layout_of d.now) names.entry) inner) text.now) }
 {
     match text {
         [] => Err(stopped_at(text, wanted_by(names))),
@@ -189,12 +185,7 @@ fn read_operand<'a>(names: Option<&Draft>, depth: u32, text: &'a [u8]) -> Read<'
 // An expression by operators below a rank.
 #[tactic(auto, using(crate::proofs::Chains::ranked_step, crate::proofs::Chains::ranked_none))]
 #[cycle(expression)]
-fn read_ranked<'a>(
-    names: Option<&Draft>,
-    depth: u32,
-    ranks: u32,
-    text: &'a [u8],
-) -> Read<'a, u64>
+fn read_ranked<'a>(names: Option<&Draft>, depth: u32, ranks: u32, text: &'a [u8]) -> Read<'a, u64>
     requires depth { depth ≤ 32 }
     requires ranks { ranks ≤ 3 }
     ensures { Gives (λ x. (x.0, x.1.now)) result
@@ -221,7 +212,7 @@ fn read_chain<'a>(
     requires rank { rank ≤ 2 }
     ensures { Gives (λ x. (x.0, x.1.now)) result
         (chain_on (ranked (operand_at (option_map (λ d. layout_of d.now) names.entry) depth) rank) rank
-            (length text.now) first text.now) }
+        (length text.now) first text.now) }
 {
     let mut number = first;
     let mut rest = text;
