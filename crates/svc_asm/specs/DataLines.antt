@@ -1,5 +1,6 @@
 -- Lists of numbers, strings, and names with what they stand for: they are read part by part.
-use Rattle.std.specs.Prelude.{ℕ, ◌+◌, ◌*◌, ◌-◌, ◌/◌, ◌%◌, ◌^◌, Bool, true, not, ◌||◌, ◌==◌, nat_le, nat_lt, List, [], ◌∷◌, Option, Some, None, if◌then◌else◌, codes, option_map}
+use Rattle.std.specs.Prelude.{ℕ, ◌+◌, ◌*◌, ◌-◌, ◌/◌, ◌%◌, ◌^◌, Bool, true, not, ◌||◌, ◌==◌, nat_le, nat_lt}
+use Rattle.std.specs.Prelude.{List, [], ◌∷◌, Option, Some, None, if◌then◌else◌, codes, option_map}
 use Rattle.std.specs.Str.{bytes_eq}
 use Rattle.svc_draft.specs.declared.statement.Section.TheVariants as section
 use Rattle.svc_draft.specs.declared.statement.Spot.{Spot}
@@ -30,7 +31,7 @@ half wide.Byte = 128
 half wide.Half = 32768
 half wide.Word = 2147483648
 
--- whether 64 bits are a number of so many bytes, of which half may be below 0; of more than a word's, the low ones count
+-- whether 64 bits are a number of so many bytes, of which half may be below 0; a word takes the low ones of any
 abbrev pub fits : Width → ℕ → Bool
 fits wide.Word n = true
 fits w n = nat_lt n (2 * half w) || nat_le (2 ^ 64 - half w) n

@@ -12,7 +12,7 @@ use Rattle.svc_operands.specs.Operands.{register_at, first_register_at, wrapped,
 use Rattle.svc_operands.specs.Expressions.{operator_at}
 use Rattle.svc_operands.specs.Numbers.{number_short_at, number_below}
 use Rattle.svc_operands.specs.Values.{offset_from, offset_at, target_at, value_at, short_at, upper_at}
-use Rattle.svc_list.proofs.NumbersBack.{digits_name, digits_rest, no_percent}
+use Rattle.svc_list.proofs.NumbersBack.{no_percent}
 use Rattle.svc_list.proofs.ExpressionsBack.{spaced_expression_back, count_back, signed_low, signed_high, signed_back, minus_back, plus_back, less_back}
 use Rattle.svc_list.specs.Listings.{register_text, first_text, short_text, offset_text, upper_text}
 use Rattle.svc_rv32i.proofs.Same.{same_register}

@@ -194,7 +194,7 @@ quiet_text : (to : Option ℕ) (ps : List Part) (w : ℕ) (rest tail : List ℕ)
 unfolding part_text operator_at past_blanks
 quiet_text to [] w rest tail h ends = ends.no_sign
 quiet_text to (part.End ∷ more) w rest tail h ends = quiet_text to more w rest tail h ends
-quiet_text to (part.Base ∷ more) w rest tail h ends = rw (no_slash 40 _ refl) refl
+quiet_text to (part.Base ∷ more) w rest tail h ends = refl
 quiet_text to (p ∷ more) w rest tail h ends = absurd (cc)
 
 -- what stands behind an operand ends its name
