@@ -14,7 +14,7 @@ use Rattle.svc_draft.specs.declared.statement.Statement.{Statement}
 use Rattle.svc_draft.specs.declared.statement.Statement.TheVariants as say
 use Rattle.svc_draft.specs.Options.{◌>>=◌}
 use Rattle.svc_draft.specs.Layouts.{Layout, spot_here}
-use Rattle.svc_operands.specs.Characters.{is_from_to, past_spaces, found, name_at, past_name, mark_at, digit, escaped}
+use Rattle.svc_operands.specs.Characters.{is_from_to, found, name_at, past_name, mark_at, digit, escaped}
 use Rattle.svc_operands.specs.Operands.{Read}
 use Rattle.svc_operands.specs.Numbers.{number_below}
 use Rattle.svc_operands.specs.Expressions.{expression_at, added_at}

@@ -9,8 +9,7 @@ use svc_draft::Ending::{Bare, Zero};
 use svc_draft::{Next, Section, Statement, Width};
 use svc_image::Version;
 use svc_operands::{
-    Name, Read, Wanted, bits_of, padded, read_count, read_signed, skip_mark, split_name,
-    stopped_at,
+    Name, Read, Wanted, bits_of, padded, read_count, read_signed, skip_mark, split_name, stopped_at,
 };
 
 /// What a directive says, and what it reads.

@@ -11,9 +11,9 @@ use crate::reading::{further, joined, read_alone};
 use crate::table::{COUPLES, Couple, LOADS, Part, STORES, Through};
 use svc_draft::{Draft, Statement};
 use svc_operands::{
-    Name, Read, Unread, Wanted, fitted, from_here, high_part, is_over, is_word, number_named, number_of,
-    padded, read_first_register, read_mark, read_register, read_relative, read_signed, read_value,
-    skip_mark, split_name, stopped_at, stopped_at_name,
+    Name, Read, Unread, Wanted, fitted, from_here, high_part, is_over, is_word, number_named,
+    number_of, padded, read_first_register, read_mark, read_register, read_relative, read_signed,
+    read_value, skip_mark, split_name, stopped_at, stopped_at_name,
 };
 
 // The word of auipc where each operand is 0.

@@ -1,15 +1,10 @@
 -- A number is read back as an expression, where no operator follows it.
-use Rattle.std.proofs.Common.{◌≡◌, ℕ, zero, suc, ◌+◌, ◌-◌, ◌%◌, ◌^◌, ◌<◌, Bool, true, false, ◌==◌, nat_lt, List, [], ◌∷◌, ◌++◌, length, Option, Some, None, refl, ap, ◌∙◌, subst, inl, inr, arith, decimal}
+use Rattle.std.proofs.Common.{◌≡◌, ℕ, suc, ◌+◌, ◌-◌, ◌%◌, ◌^◌, ◌<◌, true, false, ◌==◌, nat_lt, List, [], ◌∷◌, ◌++◌, length, Option, Some, None, refl, ap, ◌∙◌, subst, inl, inr, arith, decimal}
 use Rattle.std.proofs.lemmas.Bool.{cases_eq, ne_eqb, le-leb, lt-leb}
 use Rattle.std.specs.Prelude.{option_map}
-use Rattle.svc_draft.specs.Options.{◌>>=◌}
 use Rattle.svc_draft.specs.Layouts.{Layout}
-use Rattle.svc_operands.specs.declared.operands.Signed.{Signed}
-use Rattle.svc_operands.specs.declared.expressions.Operator.{Operator}
-use Rattle.svc_operands.specs.declared.expressions.Operation.TheVariants as does
-use Rattle.svc_operands.specs.declared.expressions.TheConstants.{DEPTH}
-use Rattle.svc_operands.specs.Characters.{is_name, past, past_blanks, past_spaces}
-use Rattle.svc_operands.specs.Operands.{Read, number_at}
+use Rattle.svc_operands.specs.Characters.{past_blanks, past_spaces}
+use Rattle.svc_operands.specs.Operands.{Read}
 use Rattle.svc_operands.specs.Expressions.{operator_at, combined, added_at, chain_on, ranked, plain_at, operand_from, operand_at, expression_at, below_zero}
 use Rattle.svc_operands.specs.Numbers.{number_below, signed_of, signed_at}
 use Rattle.svc_operands.proofs.Chains.{alone, chain_over}
@@ -92,39 +87,16 @@ unfolding ranked
 two_ranks operand text rest n h k =
     rw (h, chain_over (ranked operand 0) 0 (length rest) n rest k, chain_over (ranked operand 1) 1 (length rest) n rest k) refl
 
--- one operator, and nothing behind it
-one_step : (item : List ℕ → Read ℕ) (rank k n m : ℕ) (o : Operator) (text more rest : List ℕ) → operator_at text ≡ Some (o, more) → (o.rank == rank) ≡ true → item more ≡ Some (m, rest) → operator_at rest ≡ None → chain_on item rank (suc k) n text ≡ Some (combined o.does n m, rest)
-unfolding chain_on
-one_step item rank k n m o text more rest e r i q = rw (e, r, i) (chain_over item rank k (combined o.does n m) rest q)
-
-plus_mark : (text : List ℕ) → operator_at (32 ∷ 43 ∷ 32 ∷ text) ≡ Some (record { rank = 2; does = does.Add }, 32 ∷ text)
-unfolding operator_at past_blanks
-plus_mark text = refl
-
-minus_mark : (text : List ℕ) → operator_at (32 ∷ 45 ∷ 32 ∷ text) ≡ Some (record { rank = 2; does = does.Subtract }, 32 ∷ text)
-unfolding operator_at past_blanks
-minus_mark text = refl
-
-none_more : (n : ℕ) → n < 2 ^ 32 → combined does.Add 0 n ≡ n
-unfolding combined
-none_more n h = let is : (0 + n) % 2 ^ 64 ≡ n = omega (arith, h) in is
-
-none_less : (n : ℕ) → combined does.Subtract 0 n ≡ below_zero n
-unfolding combined
-none_less n = let is : (0 + below_zero n) % 2 ^ 64 ≡ below_zero n = omega arith in is
-
 pub plus_back : (n : ℕ) (rest : List ℕ) → n < 2 ^ 32 → stops rest ≡ true → operator_at rest ≡ None → added_at (32 ∷ 43 ∷ 32 ∷ (decimal n ++ rest)) ≡ Some (n, rest)
-unfolding added_at
+unfolding added_at chain_on operator_at combined past_blanks
 plus_back n rest h s q =
-    let more = decimal n ++ rest in
-    let read = two_ranks (operand_at None DEPTH) (32 ∷ more) rest n (spaced_operand_back None 31 n rest h s) q in
-    one_step (ranked (operand_at None DEPTH) 2) 2 (suc (suc (length more))) 0 n (record { rank = 2; does = does.Add }) (32 ∷ 43 ∷ 32 ∷ more) (32 ∷ more) rest (plus_mark more) refl read q
-    ∙ ap (λ (x : ℕ). Some (x, rest)) (none_more n h)
+    let read = two_ranks (operand_at None 32) (32 ∷ (decimal n ++ rest)) rest n (spaced_operand_back None 31 n rest h s) q in
+    let is : (0 + n) % 2 ^ 64 ≡ n = omega (arith, h) in
+    rw (read, is, chain_over (ranked (operand_at None 32) 2) 2 (suc (suc (length (decimal n ++ rest)))) n rest q) refl
 
 pub less_back : (n : ℕ) (rest : List ℕ) → n < 2 ^ 32 → stops rest ≡ true → operator_at rest ≡ None → added_at (32 ∷ 45 ∷ 32 ∷ (decimal n ++ rest)) ≡ Some (below_zero n, rest)
-unfolding added_at
+unfolding added_at chain_on operator_at combined past_blanks
 less_back n rest h s q =
-    let more = decimal n ++ rest in
-    let read = two_ranks (operand_at None DEPTH) (32 ∷ more) rest n (spaced_operand_back None 31 n rest h s) q in
-    one_step (ranked (operand_at None DEPTH) 2) 2 (suc (suc (length more))) 0 n (record { rank = 2; does = does.Subtract }) (32 ∷ 45 ∷ 32 ∷ more) (32 ∷ more) rest (minus_mark more) refl read q
-    ∙ ap (λ (x : ℕ). Some (x, rest)) (none_less n)
+    let read = two_ranks (operand_at None 32) (32 ∷ (decimal n ++ rest)) rest n (spaced_operand_back None 31 n rest h s) q in
+    let is : (0 + below_zero n) % 2 ^ 64 ≡ below_zero n = omega arith in
+    rw (read, is, chain_over (ranked (operand_at None 32) 2) 2 (suc (suc (length (decimal n ++ rest)))) (below_zero n) rest q) refl

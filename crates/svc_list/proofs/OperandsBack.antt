@@ -5,7 +5,7 @@ use Rattle.std.proofs.lemmas.List.{append_assoc}
 use Rattle.svc_rv32i.specs.declared.instr.Register.{Register}
 use Rattle.svc_rv32i.specs.Meaning.{register}
 use Rattle.svc_operands.specs.declared.operands.Signed.{Signed}
-use Rattle.svc_operands.specs.Characters.{is_name, past_blanks, past, name_at, past_name, behind, mark_at, value_on, value_of, number_of}
+use Rattle.svc_operands.specs.Characters.{is_name, past_blanks, past, behind, mark_at, value_on, value_of}
 use Rattle.svc_draft.specs.Layouts.{Layout}
 use Rattle.svc_operands.specs.Names.{numbered, register_named}
 use Rattle.svc_operands.specs.Operands.{register_at, first_register_at, wrapped, halved, steps_of}
@@ -16,7 +16,7 @@ use Rattle.svc_list.proofs.NumbersBack.{no_percent}
 use Rattle.svc_list.proofs.ExpressionsBack.{spaced_expression_back, count_back, signed_low, signed_high, signed_back, minus_back, plus_back, less_back}
 use Rattle.svc_list.specs.Listings.{register_text, first_text, short_text, offset_text, upper_text}
 use Rattle.svc_rv32i.proofs.Same.{same_register}
-use Rattle.svc_list.proofs.NamesBack.{all_dense, stops, Ends, at_name, at_rest, no_slash, no_space, is_digit, digit_no_minus, all_digits, first_digit, digits_dense, numerals}
+use Rattle.svc_list.proofs.NamesBack.{all_dense, stops, Ends, at_name, at_rest, no_slash, no_space, is_digit, all_digits, first_digit, digits_dense, numerals}
 
 -- a value, behind which the line ends
 pub spaced_value_back : (d : Layout) (n : ℕ) (rest tail : List ℕ) → n < 2 ^ 32 → Ends rest tail → value_at d (32 ∷ (decimal n ++ rest)) ≡ Some (n, rest)

@@ -7,7 +7,6 @@ use Rattle.svc_operands.specs.declared.expressions.Operation.{Operation}
 use Rattle.svc_operands.specs.declared.expressions.Operation.TheVariants as does
 use Rattle.svc_operands.specs.declared.expressions.Operator.{Operator}
 use Rattle.svc_operands.specs.declared.expressions.TheConstants.{DEPTH}
-use Rattle.svc_operands.specs.declared.operands.Signed.{Signed}
 use Rattle.svc_operands.specs.Characters.{found, past_spaces, name_at, past_name, behind, mark_at}
 use Rattle.svc_operands.specs.Operands.{Read, number_at}
 use Rattle.svc_operands.specs.Places.{place_of}

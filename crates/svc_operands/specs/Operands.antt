@@ -1,5 +1,5 @@
 -- The operands of instructions and directives.
-use Rattle.std.specs.Prelude.{◌≡◌, Option, Some, None, Result, Ok, Err, ℕ, ◌*◌, ◌-◌, ◌/◌, ◌%◌, Bool, true, false, ◌==◌, nat_le, nat_lt, List, if◌then◌else◌}
+use Rattle.std.specs.Prelude.{◌≡◌, Option, Some, None, Result, Ok, Err, ℕ, ◌*◌, ◌-◌, ◌/◌, ◌%◌, true, false, ◌==◌, nat_le, nat_lt, List, if◌then◌else◌}
 use Rattle.svc_rv32i.specs.declared.instr.Register.{Register}
 use Rattle.svc_operands.specs.declared.operands.Signed.{Signed}
 use Rattle.svc_draft.specs.Options.{◌>>=◌}

@@ -1,5 +1,5 @@
 -- Values, which may name labels, the immediates that are made of them, and how far branches and jumps go.
-use Rattle.std.specs.Prelude.{ℕ, ◌*◌, nat_le, nat_lt, List, Option, Some, None, if◌then◌else◌, codes, option_map, ◌+◌, ◌-◌, ◌/◌, ◌%◌, ◌^◌, true, false}
+use Rattle.std.specs.Prelude.{ℕ, ◌*◌, nat_le, nat_lt, List, Option, Some, None, if◌then◌else◌, codes, option_map, ◌+◌, ◌-◌, ◌/◌, ◌%◌, ◌^◌, false}
 use Rattle.std.specs.Str.{bytes_eq}
 use Rattle.svc_draft.specs.Layouts.{Layout, here, distance_from}
 use Rattle.svc_operands.specs.declared.values.Target.{Target}
