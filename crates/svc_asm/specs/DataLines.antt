@@ -1,5 +1,6 @@
 -- Lists of numbers, strings, and names with what they stand for: they are read part by part.
-use Rattle.std.specs.Prelude.{ℕ, ◌+◌, ◌*◌, ◌-◌, ◌%◌, Bool, true, false, ◌==◌, List, [], ◌∷◌, Option, Some, None, if◌then◌else◌, codes, option_map}
+use Rattle.std.specs.Prelude.{ℕ, ◌+◌, ◌*◌, ◌-◌, ◌/◌, ◌%◌, ◌^◌, Bool, true, not, ◌||◌, ◌==◌, nat_le, nat_lt}
+use Rattle.std.specs.Prelude.{List, [], ◌∷◌, Option, Some, None, if◌then◌else◌, codes, option_map}
 use Rattle.std.specs.Str.{bytes_eq}
 use Rattle.svc_draft.specs.declared.statement.Section.TheVariants as section
 use Rattle.svc_draft.specs.declared.statement.Spot.{Spot}
@@ -13,10 +14,10 @@ use Rattle.svc_draft.specs.declared.statement.Statement.{Statement}
 use Rattle.svc_draft.specs.declared.statement.Statement.TheVariants as say
 use Rattle.svc_draft.specs.Options.{◌>>=◌}
 use Rattle.svc_draft.specs.Layouts.{Layout, spot_here}
-use Rattle.svc_operands.specs.declared.operands.Signed.{Signed}
-use Rattle.svc_operands.specs.Characters.{is_from_to, past_spaces, found, name_at, past_name, mark_at, digit, escaped}
-use Rattle.svc_operands.specs.Operands.{Read, number_at, behind_sign}
-use Rattle.svc_operands.specs.Values.{value_at, bits_of, fitted, sum}
+use Rattle.svc_operands.specs.Characters.{is_from_to, found, name_at, past_name, mark_at, digit, escaped}
+use Rattle.svc_operands.specs.Operands.{Read}
+use Rattle.svc_operands.specs.Numbers.{number_below}
+use Rattle.svc_operands.specs.Expressions.{expression_at, added_at}
 use Rattle.svc_asm.specs.declared.directives.TheConstants.{OPENED}
 use Rattle.svc_asm.specs.Statements.{said_by, begun_at, some_left, said_at, end_at, is_label, line_at, passed_at}
 
@@ -24,21 +25,25 @@ use Rattle.svc_asm.specs.Statements.{said_by, begun_at, some_left, said_at, end_
 unfoldable pub opened_at : Layout → List ℕ → Read Statement
 opened_at d text = said_by OPENED (name_at text) >>= (λ s. said_at d s (past_name text))
 
--- a number that may have a minus sign, or a label's address
-abbrev pub datum_from : Layout → List ℕ → Read Signed
-datum_from d [] = None
-datum_from d (c ∷ rest) =
-    if c == 45 then behind_sign true rest else
-    option_map (λ n. (record { negative = false; magnitude = n.0 }, n.1)) (value_at d (c ∷ rest))
-
-unfoldable pub datum_at : Layout → List ℕ → Read Signed
-datum_at d text = datum_from d (past_spaces text)
-
 -- how far below 0 a number of so many bytes may be
 abbrev pub half : Width → ℕ
 half wide.Byte = 128
 half wide.Half = 32768
 half wide.Word = 2147483648
+
+-- whether 64 bits are a number of so many bytes, of which half may be below 0; a word takes the low ones of any
+abbrev pub fits : Width → ℕ → Bool
+fits wide.Word n = true
+fits w n = nat_lt n (2 * half w) || nat_le (2 ^ 64 - half w) n
+
+-- a number of a list, without names or with them; in the first pass, which knows no label's address, these fit
+abbrev pub fitting : Bool → ℕ × List ℕ → Read ℕ
+fitting holds n = if holds then Some n else None
+
+unfoldable pub datum_at : Layout → Width → List ℕ → Read ℕ
+datum_at d w text =
+    found (expression_at None text) (λ n. fitting (fits w n.0) n)
+    (expression_at (Some d) text >>= (λ n. fitting (not d.known || fits w n.0) n))
 
 -- behind a part of a list: a comma and what begins the next one, or the end of the line, behind which a line is read
 unfoldable pub going_at : Next → List ℕ → Read Next
@@ -48,10 +53,16 @@ going_at n text =
 
 unfoldable pub item_at : Layout → Width → List ℕ → Read Statement
 item_at d w text = do
-  s ← datum_at d text
-  n ← fitted (half w) s.0
-  then_ ← going_at (go.Value w) s.1
-  Some (say.Value w n then_.0, then_.1)
+  n ← datum_at d w text
+  then_ ← going_at (go.Value w) n.1
+  Some (say.Value w (n.0 % 2 ^ 32) then_.0, then_.1)
+
+-- a number of eight bytes
+unfoldable pub long_at : Layout → List ℕ → Read Statement
+long_at d text = do
+  n ← expression_at (Some d) text
+  then_ ← going_at go.Long n.1
+  Some (say.Long (n.0 % 2 ^ 32) (n.0 / 2 ^ 32) then_.0, then_.1)
 
 -- what the end of a string says
 abbrev pub closed : Ending → Next → Statement
@@ -105,65 +116,63 @@ character_at e (c ∷ rest) =
     if c == 10 then None else
     put_at e c rest
 
-unfoldable pub moved_by : Bool → Spot → List ℕ → Read Spot
-moved_by negative s text =
-    option_map (λ n. (record { section = s.section; offset = sum s.offset (bits_of n.0) }, n.1))
-    (behind_sign negative text)
-
--- a place and what is added to it or taken away
-abbrev pub moved_from : Spot → List ℕ → List ℕ → Read Spot
-moved_from s rest [] = Some (s, rest)
-moved_from s rest (c ∷ more) =
-    if c == 43 then moved_by false s more else if c == 45 then moved_by true s more else Some (s, rest)
-
 -- what a dot or a name before stands for
 unfoldable pub spot_named : Layout → List ℕ → Option Spot
 spot_named d name = if bytes_eq name (codes ".") then Some (spot_here d) else d.names name
 
--- what a number, a dot or a name before stands for
-unfoldable pub first_spot_at : Layout → List ℕ → Read Spot
-first_spot_at d text =
-    found (number_at text) (λ n. Some (record { section = section.Text; offset = n.0 }, n.1))
-    (option_map (λ s. (s, past_name text)) (spot_named d (name_at text)))
+-- a place, and what is added to it or taken away
+unfoldable pub moved_at : Spot → List ℕ → Read Spot
+moved_at s text =
+    option_map (λ n. (record { section = s.section; offset = (s.offset + n.0) % 2 ^ 32 }, n.1)) (added_at text)
 
+-- what a number stands for, and a dot or a name before, perhaps with numbers behind it
 unfoldable pub spot_at : Layout → List ℕ → Read Spot
-spot_at d text = do
-  s ← first_spot_at d text
-  moved_from s.0 s.1 (past_spaces s.1)
+spot_at d text =
+    found (expression_at None text)
+    (λ n. Some (record { section = section.Text; offset = n.0 % 2 ^ 32 }, n.1))
+    (spot_named d (name_at text) >>= (λ s. moved_at s (past_name text)))
 
--- a name and the comma behind it
-unfoldable pub named_at : List ℕ → Option (List ℕ)
-named_at text = if is_label (name_at text) then mark_at 44 (past_name text) else None
+-- a name and the mark behind it
+unfoldable pub named_at : (mark : ℕ) → List ℕ → Option (List ℕ)
+named_at mark text = if is_label (name_at text) then mark_at mark (past_name text) else None
 
-unfoldable pub symbol_at : Layout → List ℕ → Read Statement
-symbol_at d text = do
-  rest ← named_at text
+-- a name, a mark and what the name stands for
+unfoldable pub symbol_at : Layout → (mark : ℕ) → List ℕ → Read Statement
+symbol_at d mark text = do
+  rest ← named_at mark text
   s ← spot_at d rest
   tail ← end_at s.1
   Some (say.Symbol s.0, tail)
 
+-- a name, an equals sign and what the name stands for; a dot is no such name
+unfoldable pub equal_at : Layout → List ℕ → Read Statement
+equal_at d text = if bytes_eq (name_at text) (codes ".") then None else symbol_at d 61 text
+
 -- an alignment, which is 4 where none stands
 unfoldable pub step_at : List ℕ → Read ℕ
-step_at text = found (mark_at 44 text) (λ rest. number_at rest) (Some (4, text))
+step_at text = found (mark_at 44 text) (λ rest. number_below (2 ^ 32) rest) (Some (4, text))
 
 unfoldable pub common_at : List ℕ → Read Statement
 common_at text = do
-  rest ← named_at text
-  n ← number_at rest
+  rest ← named_at 44 text
+  n ← number_below (2 ^ 32) rest
   step ← step_at n.1
   tail ← end_at step.1
   Some (say.Common n.0 step.0, tail)
 
--- a line, up to the colon where it begins with a label, and up to the first part where it begins what has parts
+-- a line, up to the colon where it begins with a label, and up to the first part where it begins what has parts, or a
+-- name that is set
 abbrev pub first_at : Layout → List ℕ → Read Statement
-first_at d text = found (line_at d text) (λ s. Some s) (opened_at d text)
+first_at d text =
+    found (line_at d text) (λ s. Some s) (found (opened_at d text) (λ s. Some s) (equal_at d text))
 
 -- what is read next
 abbrev pub part_at : Next → Layout → List ℕ → Read Statement
 part_at go.Line d text = first_at d text
 part_at (go.Value w) d text = item_at d w text
 part_at (go.Character e) d text = character_at e text
-part_at go.Symbol d text = symbol_at d text
+part_at go.Long d text = long_at d text
+part_at go.Symbol d text = symbol_at d 44 text
 part_at go.Passed d text = passed_at d text
 part_at go.Common d text = common_at text
 

@@ -14,7 +14,8 @@ use Rattle.svc_asm.specs.declared.directives.TheConstants.{SECTIONS, DIRECTIVES}
 use Rattle.svc_image.specs.declared.version.Version.TheVariants as version
 use Rattle.svc_draft.specs.declared.statement.Statement.{Statement}
 use Rattle.svc_draft.specs.declared.statement.Statement.TheVariants as say
-use Rattle.svc_operands.specs.Operands.{Read, number_at, signed_at, first_register_at}
+use Rattle.svc_operands.specs.Operands.{Read, first_register_at}
+use Rattle.svc_operands.specs.Numbers.{number_below, signed_at}
 use Rattle.svc_asm.specs.declared.directives.Number.{Number}
 use Rattle.svc_asm.specs.declared.directives.Number.TheVariants as number
 use Rattle.svc_draft.specs.declared.statement.Width.TheVariants as wide
@@ -54,7 +55,7 @@ said_of number.Own n = Some (say.Entry (Some n))
 
 unfoldable pub numbered_at : Number → List ℕ → Read Statement
 numbered_at number text = do
-  n ← number_at text
+  n ← number_below (2 ^ 32) text
   s ← said_of number n.0
   Some (s, n.1)
 
@@ -66,7 +67,7 @@ number_or default text =
 -- so many bytes, which are 0 where no other number is said
 unfoldable pub zeros_at : List ℕ → Read Statement
 zeros_at text = do
-  n ← number_at text
+  n ← number_below (2 ^ 32) text
   byte ← number_or 0 n.1
   Some (say.Fill n.0 1 byte.0, byte.1)
 
@@ -76,7 +77,7 @@ copies_of count size value rest = if nat_le size 8 then Some (say.Fill count siz
 
 unfoldable pub fill_at : List ℕ → Read Statement
 fill_at text = do
-  n ← number_at text
+  n ← number_below (2 ^ 32) text
   size ← number_or 1 n.1
   value ← number_or 0 size.1
   copies_of n.0 size.0 value.0 value.1

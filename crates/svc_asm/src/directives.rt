@@ -9,8 +9,7 @@ use svc_draft::Ending::{Bare, Zero};
 use svc_draft::{Next, Section, Statement, Width};
 use svc_image::Version;
 use svc_operands::{
-    Name, Read, Wanted, bits_of, padded, read_number, read_signed, skip_mark, split_name,
-    stopped_at,
+    Name, Read, Wanted, bits_of, padded, read_count, read_signed, skip_mark, split_name, stopped_at,
 };
 
 /// What a directive says, and what it reads.
@@ -96,11 +95,14 @@ pub static DIRECTIVES: [Directive; 43] = [
 ];
 
 /// The directives that are read part by part.
-pub static OPENED: [Directive; 16] = [
+pub static OPENED: [Directive; 19] = [
     Directive(*b".word           ", Says::Open(Next::Value(Width::Word))),
     Directive(*b".4byte          ", Says::Open(Next::Value(Width::Word))),
     Directive(*b".long           ", Says::Open(Next::Value(Width::Word))),
     Directive(*b".int            ", Says::Open(Next::Value(Width::Word))),
+    Directive(*b".quad           ", Says::Open(Next::Long)),
+    Directive(*b".8byte          ", Says::Open(Next::Long)),
+    Directive(*b".dword          ", Says::Open(Next::Long)),
     Directive(*b".half           ", Says::Open(Next::Value(Width::Half))),
     Directive(*b".2byte          ", Says::Open(Next::Value(Width::Half))),
     Directive(*b".short          ", Says::Open(Next::Value(Width::Half))),
@@ -232,7 +234,7 @@ fn said_of(number: Number, n: u32) -> Option<Statement>
 pub fn read_numbered(number: Number, text: &[u8]) -> Read<'_, Statement>
     ensures { Gives (λ x. (x.0, x.1.now)) result (numbered_at number text.now) }
 {
-    let (n, rest) = read_number(text)?;
+    let (n, rest) = read_count(text)?;
     match (said_of(number, n), number) {
         (Some(statement), _) => Ok((statement, rest)),
         (None, Number::Version) => Err(stopped_at(text, Wanted::Version)),
@@ -258,7 +260,7 @@ fn read_number_or(default: u32, text: &[u8]) -> Read<'_, u32>
 pub fn read_zeros(text: &[u8]) -> Read<'_, Statement>
     ensures { Gives (λ x. (x.0, x.1.now)) result (zeros_at text.now) }
 {
-    let (count, rest) = read_number(text)?;
+    let (count, rest) = read_count(text)?;
     let (byte, rest) = read_number_or(0, rest)?;
     Ok((Statement::Fill(count, 1, byte), rest))
 }
@@ -267,7 +269,7 @@ pub fn read_zeros(text: &[u8]) -> Read<'_, Statement>
 pub fn read_fill(text: &[u8]) -> Read<'_, Statement>
     ensures { Gives (λ x. (x.0, x.1.now)) result (fill_at text.now) }
 {
-    let (count, size_text) = read_number(text)?;
+    let (count, size_text) = read_count(text)?;
     let (size, rest) = read_number_or(1, size_text)?;
     let (value, rest) = read_number_or(0, rest)?;
     if size <= 8 {

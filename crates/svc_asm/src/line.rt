@@ -114,7 +114,7 @@ fn read_section(text: &[u8]) -> Read<'_, Statement>
 fn wanted_by(next: Next) -> Wanted {
     match next {
         Next::Line | Next::Passed => Wanted::Statement,
-        Next::Value(_) => Wanted::Value,
+        Next::Value(_) | Next::Long => Wanted::Value,
         Next::Character(_) => Wanted::Quote,
         Next::Symbol | Next::Common => Wanted::Label,
     }

@@ -1,17 +1,16 @@
 // What is read part by part: lists of numbers, strings, and names with what they stand for.
 
-ghost use Rattle.std.specs.Prelude.{◌≡◌, ◌+◌, ◌*◌, ◌<◌, IfSome, option_map};
+ghost use Rattle.std.specs.Prelude.{◌≡◌, ◌+◌, ◌*◌, ◌%◌, ◌^◌, ◌<◌, IfSome, option_map};
 ghost use Rattle.svc_operands.specs.Operands.{Gives};
-ghost use Rattle.svc_asm.specs.DataLines.{closed, put_at, octal_digit, octal_on, octal_at, hex_on, hex_at, escape_at, character_at, moved_by, moved_from, spot_named, first_spot_at, spot_at, named_at, symbol_at, step_at, common_at, opened_at, datum_at, half, going_at, item_at, first_at, next_at};
-ghost use Rattle.svc_operands.specs.Characters.{past_spaces};
+ghost use Rattle.svc_asm.specs.DataLines.{closed, put_at, octal_digit, octal_on, octal_at, hex_on, hex_at, escape_at, character_at, spot_named, moved_at, spot_at, named_at, symbol_at, equal_at, step_at, common_at, opened_at, half, fits, datum_at, going_at, item_at, long_at, first_at, next_at};
 ghost use Rattle.svc_draft.specs.Layouts.{layout_of};
 
 use crate::directives::opened_by;
 use crate::line::{is_label, read_begun, read_end, read_left, read_line, read_passed, read_said};
 use svc_draft::{Draft, Ending, Next, Section, Spot, Statement, Width};
 use svc_operands::{
-    Read, Signed, Unread, Wanted, bits_of, digit, escaped, fitted, read_behind_sign, read_mark,
-    read_number, read_value, skip_mark, skip_spaces, split_name, stopped_at, stopped_at_name,
+    Read, Unread, Wanted, digit, escaped, read_added, read_count, read_expression, read_mark,
+    read_number, skip_mark, split_name, stopped_at, stopped_at_name,
 };
 
 // The fault of a backslash that this follows. A space is no blank there.
@@ -144,26 +143,6 @@ pub fn read_character(ending: Ending, text: &[u8]) -> Read<'_, Statement>
     }
 }
 
-#[tactic(auto, unfolding(crate::specs::DataLines::moved_by))]
-fn read_moved_by(negative: bool, spot: Spot, text: &[u8]) -> Read<'_, Spot>
-    ensures { Gives (λ x. (x.0, x.1.now)) result (moved_by negative spot text.now) }
-{
-    let (number, rest) = read_behind_sign(negative, text)?;
-    let offset = spot.offset.wrapping_add(bits_of(number));
-    let section = spot.section;
-    Ok((Spot { section, offset }, rest))
-}
-
-fn read_moved(spot: Spot, text: &[u8]) -> Read<'_, Spot>
-    ensures { Gives (λ x. (x.0, x.1.now)) result (moved_from spot text.now (past_spaces text.now)) }
-{
-    match skip_spaces(text) {
-        [b'+', rest @ ..] => read_moved_by(false, spot, rest),
-        [b'-', rest @ ..] => read_moved_by(true, spot, rest),
-        _ => Ok((spot, text)),
-    }
-}
-
 #[tactic(auto, unfolding(crate::specs::DataLines::spot_named))]
 fn spot_named(draft: &Draft, name: &[u8]) -> Option<Spot>
     ensures { result ≡ spot_named (layout_of draft.now) name.now }
@@ -174,22 +153,21 @@ fn spot_named(draft: &Draft, name: &[u8]) -> Option<Spot>
     }
 }
 
-#[tactic(auto, unfolding(crate::specs::DataLines::first_spot_at))]
-fn read_first_spot<'a>(draft: &Draft, text: &'a [u8]) -> Read<'a, Spot>
-    ensures { Gives (λ x. (x.0, x.1.now)) result (first_spot_at (layout_of draft.now) text.now) }
+#[tactic(auto, unfolding(crate::specs::DataLines::moved_at))]
+fn read_moved(spot: Spot, text: &[u8]) -> Read<'_, Spot>
+    ensures { Gives (λ x. (x.0, x.1.now)) result (moved_at spot text.now) }
 {
+    let (number, rest) = read_added(text)?;
+    let offset = spot.offset.wrapping_add(low(number));
+    let section = spot.section;
+    Ok((Spot { section, offset }, rest))
+}
+
+// The fault of what a name is to stand for: this one of a number, and one of its own where no number begins it.
+fn no_spot(text: &[u8], unread: Unread) -> Unread {
     match read_number(text) {
-        Ok((offset, rest)) => {
-            let section = Section::Text;
-            Ok((Spot { section, offset }, rest))
-        }
-        Err(_) => {
-            let (name, rest) = split_name(text);
-            match spot_named(draft, name) {
-                Some(spot) => Ok((spot, rest)),
-                None => Err(stopped_at(text, Wanted::Symbol)),
-            }
-        }
+        Ok(_) => unread,
+        Err(_) => stopped_at(text, Wanted::Symbol),
     }
 }
 
@@ -197,30 +175,53 @@ fn read_first_spot<'a>(draft: &Draft, text: &'a [u8]) -> Read<'a, Spot>
 fn read_spot<'a>(draft: &Draft, text: &'a [u8]) -> Read<'a, Spot>
     ensures { Gives (λ x. (x.0, x.1.now)) result (spot_at (layout_of draft.now) text.now) }
 {
-    let (spot, rest) = read_first_spot(draft, text)?;
-    read_moved(spot, rest)
+    match read_expression(None, text) {
+        Ok((number, rest)) => {
+            let section = Section::Text;
+            let offset = low(number);
+            Ok((Spot { section, offset }, rest))
+        }
+        Err(unread) => {
+            let (name, rest) = split_name(text);
+            match spot_named(draft, name) {
+                Some(spot) => read_moved(spot, rest),
+                None => Err(no_spot(text, unread)),
+            }
+        }
+    }
 }
 
 #[tactic(auto, unfolding(crate::specs::DataLines::named_at))]
-fn read_named(text: &[u8]) -> Result<&[u8], Unread>
-    ensures { Gives (λ x. x.now) result (named_at text.now) }
+fn read_named(mark: u8, text: &[u8]) -> Result<&[u8], Unread>
+    ensures { Gives (λ x. x.now) result (named_at mark text.now) }
 {
     let (name, rest) = split_name(text);
     if is_label(name) {
-        read_mark(b',', Wanted::Comma, rest)
+        read_mark(mark, Wanted::Comma, rest)
     } else {
         Err(stopped_at(text, Wanted::Label))
     }
 }
 
 #[tactic(auto, unfolding(crate::specs::DataLines::symbol_at))]
-pub fn read_symbol<'a>(draft: &Draft, text: &'a [u8]) -> Read<'a, Statement>
-    ensures { Gives (λ x. (x.0, x.1.now)) result (symbol_at (layout_of draft.now) text.now) }
+pub fn read_symbol<'a>(draft: &Draft, mark: u8, text: &'a [u8]) -> Read<'a, Statement>
+    ensures { Gives (λ x. (x.0, x.1.now)) result (symbol_at (layout_of draft.now) mark text.now) }
 {
-    let rest = read_named(text)?;
+    let rest = read_named(mark, text)?;
     let (spot, rest) = read_spot(draft, rest)?;
     let rest = read_end(rest)?;
     Ok((Statement::Symbol(spot), rest))
+}
+
+#[tactic(auto, unfolding(crate::specs::DataLines::equal_at))]
+fn read_equal<'a>(draft: &Draft, text: &'a [u8]) -> Read<'a, Statement>
+    ensures { Gives (λ x. (x.0, x.1.now)) result (equal_at (layout_of draft.now) text.now) }
+{
+    let (name, _) = split_name(text);
+    match name {
+        b"." => Err(stopped_at(text, Wanted::Statement)),
+        _ => read_symbol(draft, b'=', text),
+    }
 }
 
 #[tactic(auto, unfolding(crate::specs::DataLines::step_at))]
@@ -228,7 +229,7 @@ fn read_step(text: &[u8]) -> Read<'_, u32>
     ensures { Gives (λ x. (x.0, x.1.now)) result (step_at text.now) }
 {
     match skip_mark(b',', text) {
-        Some(rest) => read_number(rest),
+        Some(rest) => read_count(rest),
         None => Ok((4, text)),
     }
 }
@@ -237,8 +238,8 @@ fn read_step(text: &[u8]) -> Read<'_, u32>
 pub fn read_common(text: &[u8]) -> Read<'_, Statement>
     ensures { Gives (λ x. (x.0, x.1.now)) result (common_at text.now) }
 {
-    let rest = read_named(text)?;
-    let (count, rest) = read_number(rest)?;
+    let rest = read_named(b',', text)?;
+    let (count, rest) = read_count(rest)?;
     let (step, rest) = read_step(rest)?;
     let rest = read_end(rest)?;
     Ok((Statement::Common(count, step), rest))
@@ -255,35 +256,27 @@ fn read_opened<'a>(draft: &Draft, text: &'a [u8]) -> Read<'a, Statement>
     }
 }
 
-#[tactic(auto, unfolding(crate::specs::DataLines::datum_at))]
-fn read_datum<'a>(draft: &Draft, text: &'a [u8]) -> Read<'a, Signed>
-    ensures { Gives (λ x. (x.0, x.1.now)) result (datum_at (layout_of draft.now) text.now) }
-{
-    let rest = skip_spaces(text);
-    match rest {
-        [] => Err(stopped_at(text, Wanted::Value)),
-        [b'-', magnitude @ ..] => read_behind_sign(true, magnitude),
-        _ => {
-            let (magnitude, rest) = read_value(draft, rest)?;
-            let negative = false;
-            Ok((
-                Signed {
-                    negative,
-                    magnitude,
-                },
-                rest,
-            ))
-        }
-    }
-}
-
 fn half(width: Width) -> u32
-    ensures { result ≡ half width }
+    ensures value { result ≡ half width }
+    ensures some { 0 < result }
 {
     match width {
         Width::Byte => 128,
         Width::Half => 32_768,
         Width::Word => 2_147_483_648,
+    }
+}
+
+// Whether 64 bits are a number of so many bytes. Of more than a word's, the low ones count.
+fn fits(width: Width, number: u64) -> bool
+    ensures { result ≡ fits width number }
+{
+    match width {
+        Width::Word => true,
+        _ => {
+            let half = half(width) as u64;
+            number < 2 * half || number >= 0u64.wrapping_sub(half)
+        }
     }
 }
 
@@ -312,28 +305,71 @@ pub fn read_going(next: Next, text: &[u8]) -> Read<'_, Next>
     }
 }
 
+#[tactic(auto, unfolding(crate::specs::DataLines::datum_at))]
+fn read_datum<'a>(draft: &Draft, width: Width, text: &'a [u8]) -> Read<'a, u64>
+    ensures { Gives (λ x. (x.0, x.1.now)) result (datum_at (layout_of draft.now) width text.now) }
+{
+    let (number, rest, holds) = match read_expression(None, text) {
+        Ok((number, rest)) => (number, rest, fits(width, number)),
+        Err(_) => {
+            let (number, rest) = read_expression(Some(draft), text)?;
+            (number, rest, !draft.is_known() || fits(width, number))
+        }
+    };
+    if holds {
+        return Ok((number, rest));
+    }
+    Err(stopped_at(text, number_in(width)))
+}
+
+// The low 32 bits of a number.
+fn low(number: u64) -> u32
+    ensures { result ≡ number % 2 ^ 32 }
+{
+    (number % 0x1_0000_0000) as u32
+}
+
 #[tactic(auto, unfolding(crate::specs::DataLines::item_at))]
 fn read_item<'a>(draft: &Draft, width: Width, text: &'a [u8]) -> Read<'a, Statement>
     ensures { Gives (λ x. (x.0, x.1.now)) result (item_at (layout_of draft.now) width text.now) }
 {
-    let (signed, rest) = read_datum(draft, text)?;
-    let number = match fitted(half(width), signed) {
-        Some(number) => number,
-        None => return Err(stopped_at(text, number_in(width))),
-    };
+    let (number, rest) = read_datum(draft, width, text)?;
     let (next, rest) = read_going(Next::Value(width), rest)?;
-    Ok((Statement::Value(width, number, next), rest))
+    Ok((Statement::Value(width, low(number), next), rest))
+}
+
+#[tactic(auto, unfolding(crate::specs::DataLines::long_at))]
+fn read_long<'a>(draft: &Draft, text: &'a [u8]) -> Read<'a, Statement>
+    ensures { Gives (λ x. (x.0, x.1.now)) result (long_at (layout_of draft.now) text.now) }
+{
+    let (number, rest) = read_expression(Some(draft), text)?;
+    let (next, rest) = read_going(Next::Long, rest)?;
+    let high = (number / 0x1_0000_0000) as u32;
+    Ok((Statement::Long(low(number), high, next), rest))
+}
+
+// The fault of a line: of what a name is set to, where an equals sign follows the name.
+fn fault_of_line(text: &[u8], unread: Unread, set: Unread) -> Unread {
+    let (_, rest) = split_name(text);
+    match skip_mark(b'=', rest) {
+        Some(_) => set,
+        None => unread,
+    }
 }
 
 fn read_first<'a>(draft: &Draft, text: &'a [u8]) -> Read<'a, Statement>
     ensures { Gives (λ x. (x.0, x.1.now)) result (first_at (layout_of draft.now) text.now) }
 {
-    match read_line(draft, text) {
-        Ok(read) => Ok(read),
-        Err(unread) => match read_opened(draft, text) {
-            Ok(opened) => Ok(opened),
-            Err(_) => Err(unread),
-        },
+    let unread = match read_line(draft, text) {
+        Ok(read) => return Ok(read),
+        Err(unread) => unread,
+    };
+    if let Ok(opened) = read_opened(draft, text) {
+        return Ok(opened);
+    }
+    match read_equal(draft, text) {
+        Ok(equal) => Ok(equal),
+        Err(set) => Err(fault_of_line(text, unread, set)),
     }
 }
 
@@ -345,7 +381,8 @@ pub fn read_next<'a>(draft: &Draft, text: &'a [u8]) -> Read<'a, Statement>
         Next::Line => read_first(draft, text),
         Next::Value(width) => read_item(draft, width, text),
         Next::Character(ending) => read_character(ending, text),
-        Next::Symbol => read_symbol(draft, text),
+        Next::Long => read_long(draft, text),
+        Next::Symbol => read_symbol(draft, b',', text),
         Next::Common => read_common(text),
         Next::Passed => read_passed(draft, text),
     }

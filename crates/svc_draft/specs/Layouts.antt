@@ -370,6 +370,7 @@ after name (say.Fill count size value) d = with_fill count size value d
 after name (say.Align step) d = with_align step d
 after name (say.Open n) d = going_on n d
 after name (say.Value width n next) d = with_value width n d >>= going_on next
+after name (say.Long low high next) d = with_value wide.Word low d >>= with_value wide.Word high >>= going_on next
 after name (say.Symbol s) d = with_symbol name s d >>= going_on go.Line
 after name (say.Common count step) d = with_common name count step d
 after name (say.Pair v w) d = with_instruction v d >>= with_instruction w

@@ -6,7 +6,7 @@ ghost use Rattle.std.specs.HashMap.{get_by};
 
 use crate::making::Mark;
 use crate::refusal::Refusal;
-use crate::statement::{Local, Next, Section, Spot, Statement};
+use crate::statement::{Local, Next, Section, Spot, Statement, Width};
 use std::alloc::Global;
 use std::collections::HashMap;
 use svc_image::{DATA_START, MOST_WORDS, Version};
@@ -187,6 +187,11 @@ impl<'a> Draft<'a> {
             Statement::Open(next) => self.next = next,
             Statement::Value(width, value, next) => {
                 self.push_value(width, value)?;
+                self.next = next;
+            }
+            Statement::Long(low, high, next) => {
+                self.push_value(Width::Word, low)?;
+                self.push_value(Width::Word, high)?;
                 self.next = next;
             }
             Statement::Symbol(spot) => {

@@ -62,6 +62,8 @@ pub enum Next {
     Line,
     /// A number of a list, with the bytes that each takes.
     Value(Width),
+    /// A number of a list whose numbers take eight bytes each.
+    Long,
     /// A character of a string, or the quote behind its last one.
     Character(Ending),
     /// A name, and what it is to stand for.
@@ -103,6 +105,8 @@ pub enum Statement {
     Open(Next),
     /// A number, as of `.word N` or of a list, or a character of a string, and what is read next.
     Value(Width, u32, Next),
+    /// A number of eight bytes, by its low and its high half, and what is read next.
+    Long(u32, u32, Next),
     /// A name and what it stands for: the end of `.set NAME, VALUE`.
     Symbol(Spot),
     /// A name, and the size and the alignment of the zeros in `.bss` that it names: the end of

@@ -1,12 +1,13 @@
 -- What a name and its operands say: one instruction, or two.
-use Rattle.std.specs.Prelude.{ℕ, ◌^◌, ◌%◌, Bool, ◌||◌, ◌==◌, nat_le, nat_lt, List, Some, None, if◌then◌else◌, option_map, codes}
+use Rattle.std.specs.Prelude.{ℕ, ◌^◌, ◌%◌, Bool, false, ◌||◌, ◌==◌, nat_le, nat_lt, List, [], ◌∷◌, Some, None, is_none, if◌then◌else◌, codes}
 use Rattle.std.specs.Str.{bytes_eq}
 use Rattle.svc_draft.specs.declared.statement.Statement.{Statement}
 use Rattle.svc_draft.specs.declared.statement.Statement.TheVariants as say
 use Rattle.svc_draft.specs.Options.{◌>>=◌}
 use Rattle.svc_draft.specs.Layouts.{Layout}
-use Rattle.svc_operands.specs.Characters.{name_at, past_name, mark_at, found, is_over}
-use Rattle.svc_operands.specs.Operands.{Read, register_at, first_register_at, signed_at}
+use Rattle.svc_operands.specs.Characters.{name_at, past_name, mark_at, number_of, found, is_over}
+use Rattle.svc_operands.specs.Operands.{Read, register_at, first_register_at}
+use Rattle.svc_operands.specs.Numbers.{signed_at}
 use Rattle.svc_operands.specs.Values.{value_at, fitted, high_part, from_here, relative_at}
 use Rattle.svc_instructions.specs.declared.table.Couple.{Couple}
 use Rattle.svc_instructions.specs.declared.table.Part.TheVariants as part
@@ -54,9 +55,14 @@ through_at d c through.Link text =
 unfoldable pub couple_at : Layout → Couple → List ℕ → Read Statement
 couple_at d c text = through_at d c c.3 text
 
--- a value that no number begins, of which an access has the address
+-- a name, which is no number
+abbrev pub begins_name : List ℕ → Bool
+begins_name [] = false
+begins_name (c ∷ name) = is_none (number_of (c ∷ name))
+
+-- a value that begins with a name, of which an access has the address
 unfoldable pub label_at : Layout → List ℕ → Read ℕ
-label_at d text = found (signed_at text) (λ s. None) (value_at d text)
+label_at d text = if begins_name (name_at text) then value_at d text else None
 
 -- a load by a label, and a store, with auipc (0x17): a load goes through its own register, a store through another one
 unfoldable pub load_at : Layout → ℕ → List ℕ → Read Statement

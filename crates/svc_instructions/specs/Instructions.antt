@@ -3,7 +3,8 @@ use Rattle.std.specs.Prelude.{ℕ, ◌+◌, ◌*◌, List, [], ◌∷◌, Some, 
 use Rattle.svc_draft.specs.Options.{◌>>=◌}
 use Rattle.svc_operands.specs.Characters.{name_at, past_name, mark_at, found, is_over}
 use Rattle.svc_operands.specs.Names.{number_named}
-use Rattle.svc_operands.specs.Operands.{Read, register_at, base_at, number_below}
+use Rattle.svc_operands.specs.Operands.{Read, register_at, base_at}
+use Rattle.svc_operands.specs.Numbers.{number_below}
 use Rattle.svc_instructions.specs.declared.reading.TheConstants.{ORDERS}
 use Rattle.std.specs.List.{find}
 use Rattle.std.specs.Str.{bytes_eq}

@@ -5,15 +5,15 @@ ghost use Rattle.std.specs.List.{find};
 ghost use Rattle.svc_draft.specs.Layouts.{layout_of};
 ghost use Rattle.svc_operands.specs.Operands.{Gives};
 ghost use Rattle.svc_instructions.specs.Instructions.{joined};
-ghost use Rattle.svc_instructions.specs.Couples.{has_name, with_high, with_low, apart, past_plt, pair_at, linked_at, couple_at, label_at, load_at, with_store, store_at, access_at, other_at, set_to, set_at, relative_upper_at, single_at, instruction_at};
+ghost use Rattle.svc_instructions.specs.Couples.{has_name, with_high, with_low, apart, past_plt, pair_at, linked_at, couple_at, begins_name, label_at, load_at, with_store, store_at, access_at, other_at, set_to, set_at, relative_upper_at, single_at, instruction_at};
 
 use crate::reading::{further, joined, read_alone};
 use crate::table::{COUPLES, Couple, LOADS, Part, STORES, Through};
 use svc_draft::{Draft, Statement};
 use svc_operands::{
     Name, Read, Unread, Wanted, fitted, from_here, high_part, is_over, is_word, number_named,
-    padded, read_first_register, read_mark, read_register, read_relative, read_signed, read_value,
-    skip_mark, split_name, stopped_at, stopped_at_name,
+    number_of, padded, read_first_register, read_mark, read_register, read_relative, read_signed,
+    read_value, skip_mark, split_name, stopped_at, stopped_at_name,
 };
 
 // The word of auipc where each operand is 0.
@@ -102,15 +102,26 @@ pub fn read_couple<'a>(draft: &Draft, couple: Couple, text: &'a [u8]) -> Read<'a
     }
 }
 
-// A value that no number begins.
+// Whether a name is one, and no number.
+fn begins_name(name: &[u8]) -> bool
+    ensures { result ≡ begins_name name.now }
+{
+    match name {
+        [] => false,
+        _ => number_of(name).is_none(),
+    }
+}
+
+// A value that begins with a name.
 #[tactic(auto, unfolding(crate::specs::Couples::label_at))]
 fn read_label<'a>(draft: &Draft, text: &'a [u8]) -> Read<'a, u32>
     ensures { Gives (λ x. (x.0, x.1.now)) result (label_at (layout_of draft.now) text.now) }
 {
-    match read_signed(text) {
-        Ok(_) => Err(stopped_at(text, Wanted::Value)),
-        Err(_) => read_value(draft, text),
+    let (name, _) = split_name(text);
+    if begins_name(name) {
+        return read_value(draft, text);
     }
+    Err(stopped_at(text, Wanted::Value))
 }
 
 #[tactic(auto, unfolding(crate::specs::Couples::load_at))]

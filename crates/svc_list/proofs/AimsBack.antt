@@ -1,10 +1,15 @@
 -- A branch or a jump is read back from its target's label, in the second pass; in the first one it leads nowhere yet.
-use Rattle.std.proofs.Common.{◌≡◌, ℕ, suc, ◌+◌, ◌*◌, ◌-◌, ◌<◌, ◌≤◌, Bool, true, false, if◌then◌else◌, nat_lt, nat_le, List, ◌∷◌, ◌++◌, Option, Some, None, inl, inr, refl, ap, sym, ◌∙◌, arith}
-use Rattle.std.proofs.lemmas.Bool.{le-leb, lt-leb, cases_lt}
+use Rattle.std.proofs.Common.{◌≡◌, ℕ, suc, ◌+◌, ◌*◌, ◌-◌, ◌%◌, ◌^◌, ◌<◌, ◌≤◌, Bool, true, false, if◌then◌else◌, nat_lt, nat_le, List, ◌∷◌, ◌++◌, Option, Some, None, inl, inr, refl, ap, sym, ◌∙◌, arith}
+use Rattle.std.proofs.lemmas.Bool.{le-leb, lt-leb, cases_lt, cases_Bool}
 use Rattle.svc_operands.specs.declared.operands.Signed.{Signed}
-use Rattle.svc_draft.specs.Layouts.{Layout, here, address_of}
+use Rattle.svc_draft.specs.Layouts.{Layout, here, place, address_of}
 use Rattle.svc_operands.specs.Characters.{past_blanks, past, name_at, number_of, value_on, push_digit, digit, character_at}
-use Rattle.svc_operands.specs.Values.{reference_named, place_of, plain_term_at, term_at, value_at, reach, reach_at, offset_at, target_at}
+use Rattle.svc_operands.specs.Places.{reference_named, place_of}
+use Rattle.svc_operands.specs.Expressions.{plain_at, operand_at}
+use Rattle.svc_operands.specs.Values.{value_at, reach, reach_at, offset_at, target_at}
+use Rattle.svc_operands.proofs.Chains.{alone}
+use Rattle.std.specs.Prelude.{option_map}
+use Rattle.svc_draft.specs.declared.statement.Spot.{Spot}
 use Rattle.svc_operands.specs.Operands.{number_at, distance, steps_of}
 use Rattle.svc_list.specs.Listings.{hex_text, label_text, led}
 use Rattle.svc_list.proofs.NamesBack.{stops, Ends, at_name, at_rest}
@@ -18,21 +23,39 @@ label_no_number a rest s =
     let name = at_name 97 (116 ∷ 95 ∷ hex_text a) rest (label_dense a) s in
     rw name refl
 
-label_plain : (d : Layout) (a x : ℕ) (rest : List ℕ) → stops rest ≡ true → address_of d (label_text a) ≡ Some x → plain_term_at d (label_text a ++ rest) ≡ Some (x, rest)
-unfolding plain_term_at place_of reference_named past
+label_plain : (d : Layout) (a x : ℕ) (rest : List ℕ) → stops rest ≡ true → address_of d (label_text a) ≡ Some x → plain_at (Some d) (label_text a ++ rest) ≡ Some (x, rest)
+unfolding plain_at place_of reference_named past
 label_plain d a x rest s e =
     let name = at_name 97 (116 ∷ 95 ∷ hex_text a) rest (label_dense a) s in
     let behind = at_rest 97 (116 ∷ 95 ∷ hex_text a) rest (label_dense a) s in
     rw (label_no_number a rest s, name, behind, e) refl
 
-label_term : (d : Layout) (a x : ℕ) (rest : List ℕ) → stops rest ≡ true → address_of d (label_text a) ≡ Some x → term_at d (32 ∷ (label_text a ++ rest)) ≡ Some (x, rest)
-unfolding term_at past_blanks
-label_term d a x rest s e = label_plain d a x rest s e
+label_operand : (d : Layout) (a x k : ℕ) (rest : List ℕ) → stops rest ≡ true → address_of d (label_text a) ≡ Some x → operand_at (Some d) (suc k) (32 ∷ (label_text a ++ rest)) ≡ Some (x, rest)
+unfolding operand_at past_blanks
+label_operand d a x k rest s e = label_plain d a x rest s e
+
+some_is : (a b : ℕ) → Some a ≡ Some b → a ≡ b
+some_is a b e = ap (λ (o : Option ℕ). elim o [ None ↦ a | Some x ↦ x ]) e
+
+-- an address has 32 bits
+placed_small : (d : Layout) (o : Option Spot) (x : ℕ) → option_map (place d) o ≡ Some x → x < 2 ^ 32
+placed_small d None x e = absurd (cc)
+placed_small d (Some s) x e = let is = some_is (place d s) x e in omega (arith, is)
+
+address_small : (d : Layout) (name : List ℕ) (x : ℕ) → address_of d name ≡ Some x → x < 2 ^ 32
+address_small d name x e =
+    elim (cases_Bool d.known) [
+      | inl known ↦ placed_small d (d.names name) x (ap (λ (b : Bool). if b then option_map (place d) (d.names name) else Some (here d)) (sym known) ∙ e)
+      | inr first ↦ let is = some_is (here d) x (ap (λ (b : Bool). if b then option_map (place d) (d.names name) else Some (here d)) (sym first) ∙ e) in omega (arith, is)
+    ]
 
 -- a label's address, behind which the line ends
 pub label_value : (d : Layout) (a x : ℕ) (rest tail : List ℕ) → Ends rest tail → address_of d (label_text a) ≡ Some x → value_at d (32 ∷ (label_text a ++ rest)) ≡ Some (x, rest)
 unfolding value_at
-label_value d a x rest tail ends e = rw (label_term d a x rest ends.stop e) (ends.no_sign x)
+label_value d a x rest tail ends e =
+    let fits = address_small d (label_text a) x e in
+    let small : x % 2 ^ 32 ≡ x = omega (arith, fits) in
+    rw (alone (Some d) (32 ∷ (label_text a ++ rest)) rest x (label_operand d a x 31 rest ends.stop e) ends.no_sign, small) refl
 
 label_name : (a : ℕ) (rest : List ℕ) → stops rest ≡ true → name_at (32 ∷ (label_text a ++ rest)) ≡ label_text a
 unfolding past_blanks
@@ -59,9 +82,6 @@ distance_back from far some low =
     let down : nat_le from (from - far) ≡ false = lt-leb from (from - far) (omega (arith, some, low)) in
     let back : from - (from - far) ≡ far = omega (arith, low) in
     rw (down, back) refl
-
-some_is : (a b : ℕ) → Some a ≡ Some b → a ≡ b
-some_is a b e = ap (λ (o : Option ℕ). elim o [ None ↦ a | Some x ↦ x ]) e
 
 led_on : (half address steps target : ℕ) → steps < half → led half address steps ≡ Some target → target ≡ address + 2 * steps
 led_on half address steps target h e =

@@ -1,4 +1,6 @@
 pub mod NamesBack
+pub mod NumbersBack
+pub mod ExpressionsBack
 pub mod OperandsBack
 pub mod LinesBack
 pub mod NotesBack

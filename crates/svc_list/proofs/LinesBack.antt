@@ -15,6 +15,7 @@ use Rattle.svc_draft.specs.declared.statement.Statement.TheVariants as say
 use Rattle.svc_operands.specs.Characters.{is_name, past, past_name, behind}
 use Rattle.svc_draft.specs.Layouts.{Layout}
 use Rattle.svc_instructions.specs.Couples.{instruction_at}
+use Rattle.svc_operands.specs.Expressions.{operator_at}
 use Rattle.svc_operands.specs.Names.{padded}
 use Rattle.svc_asm.specs.Statements.{said_by, numbered_at, said_at, entry_before, directive_at, statement_at, ended_at, line_at}
 use Rattle.svc_asm.specs.declared.directives.Number.TheVariants as number
@@ -22,7 +23,9 @@ use Rattle.svc_asm.specs.declared.directives.Says.TheVariants as says
 use Rattle.svc_asm.specs.DataLines.{first_at, part_at, next_at}
 use Rattle.svc_list.specs.Listings.{first_text, statement_text, HasText, Line, Says, Labels, Codes, Starts, line_of}
 use Rattle.svc_list.proofs.NamesBack.{all_dense, stops, Ends, at_name, at_rest, no_colon}
-use Rattle.svc_list.proofs.OperandsBack.{spaced_name, decimal_some, spaced_number_back, spaced_value_back, first_back}
+use Rattle.svc_list.proofs.NumbersBack.{spaced_name, decimal_some}
+use Rattle.svc_list.proofs.ExpressionsBack.{count_back}
+use Rattle.svc_list.proofs.OperandsBack.{spaced_value_back, first_back}
 
 -- a name that no dot begins
 abbrev pub names : List ℕ → Bool
@@ -57,29 +60,29 @@ start_back : (d : Layout) (n : ℕ) (rest tail : List ℕ) → n < 2 ^ 32 → En
 unfolding said_at
 start_back d n rest tail h e = rw (spaced_value_back d n rest tail h e) refl
 
-limit_back : (n : ℕ) (rest : List ℕ) → n < 2 ^ 32 → stops rest ≡ true → numbered_at number.Limit (32 ∷ (decimal n ++ rest)) ≡ Some (say.Limit n, rest)
+limit_back : (n : ℕ) (rest : List ℕ) → n < 2 ^ 32 → stops rest ≡ true → operator_at rest ≡ None → numbered_at number.Limit (32 ∷ (decimal n ++ rest)) ≡ Some (say.Limit n, rest)
 unfolding numbered_at
-limit_back n rest h s = rw (spaced_number_back n rest h s) refl
+limit_back n rest h s q = rw (count_back (2 ^ 32) n rest h h s q) refl
 
-version_back : (v : Version) (rest : List ℕ) → stops rest ≡ true → numbered_at number.Version (32 ∷ (decimal (version_number v) ++ rest)) ≡ Some (say.Version v, rest)
+version_back : (v : Version) (rest : List ℕ) → stops rest ≡ true → operator_at rest ≡ None → numbered_at number.Version (32 ∷ (decimal (version_number v) ++ rest)) ≡ Some (say.Version v, rest)
 unfolding numbered_at
-version_back version.One rest s = rw (spaced_number_back 1 rest (omega arith) s) refl
-version_back version.Two rest s = rw (spaced_number_back 2 rest (omega arith) s) refl
+version_back version.One rest s q = rw (count_back (2 ^ 32) 1 rest (omega arith) (omega arith) s q) refl
+version_back version.Two rest s q = rw (count_back (2 ^ 32) 2 rest (omega arith) (omega arith) s q) refl
 
-own_back : (n : ℕ) (rest : List ℕ) → n < 2 ^ 32 → stops rest ≡ true → numbered_at number.Own (32 ∷ (decimal n ++ rest)) ≡ Some (say.Entry (Some n), rest)
+own_back : (n : ℕ) (rest : List ℕ) → n < 2 ^ 32 → stops rest ≡ true → operator_at rest ≡ None → numbered_at number.Own (32 ∷ (decimal n ++ rest)) ≡ Some (say.Entry (Some n), rest)
 unfolding numbered_at
-own_back n rest h s = rw (spaced_number_back n rest h s) refl
+own_back n rest h s q = rw (count_back (2 ^ 32) n rest h h s q) refl
 
 entry_limited : (name text : List ℕ) → 0 < length name → entry_before name text ≡ numbered_at number.Own text
 entry_limited [] text some = absurd (omega (arith, some))
 entry_limited (c ∷ name) text some = refl
 
-entry_back : (d : Layout) (n : ℕ) (rest : List ℕ) → n < 2 ^ 32 → stops rest ≡ true → said_at d says.Entry (32 ∷ (decimal n ++ rest)) ≡ Some (say.Entry (Some n), rest)
+entry_back : (d : Layout) (n : ℕ) (rest : List ℕ) → n < 2 ^ 32 → stops rest ≡ true → operator_at rest ≡ None → said_at d says.Entry (32 ∷ (decimal n ++ rest)) ≡ Some (say.Entry (Some n), rest)
 unfolding said_at
-entry_back d n rest h s =
+entry_back d n rest h s q =
     ap (λ (name : List ℕ). entry_before name (32 ∷ (decimal n ++ rest))) (spaced_name n rest h s)
     ∙ entry_limited (decimal n) (32 ∷ (decimal n ++ rest)) (decimal_some n h)
-    ∙ own_back n rest h s
+    ∙ own_back n rest h s q
 
 bare_entry_back : (d : Layout) (rest tail : List ℕ) → Ends rest tail → said_at d says.Entry rest ≡ Some (say.Entry None, rest)
 unfolding said_at
@@ -96,12 +99,12 @@ unfolding statement_text is_name directive_at said_by padded said_at
 statement_back d (say.Value w n next) rest tail h e =
     by_directive d (codes "word") (32 ∷ (decimal n ++ rest)) refl refl ∙ word_back d n rest tail h.2 e
     ∙ (λ i. Some (say.Value (sym h.0 i) n (sym h.1 i), rest))
-statement_back d (say.Version v) rest tail h e = by_directive d (codes "svc_version") (32 ∷ (decimal (version_number v) ++ rest)) refl refl ∙ version_back v rest e.stop
+statement_back d (say.Version v) rest tail h e = by_directive d (codes "svc_version") (32 ∷ (decimal (version_number v) ++ rest)) refl refl ∙ version_back v rest e.stop e.no_sign
 statement_back d say.ReadOnly rest tail h e = by_directive d (codes "svc_readonly") rest refl e.stop
 statement_back d (say.Entry None) rest tail h e = by_directive d (codes "svc_entry") rest refl e.stop ∙ bare_entry_back d rest tail e
-statement_back d (say.Entry (Some n)) rest tail h e = by_directive d (codes "svc_entry") (32 ∷ (decimal n ++ rest)) refl refl ∙ entry_back d n rest h e.stop
+statement_back d (say.Entry (Some n)) rest tail h e = by_directive d (codes "svc_entry") (32 ∷ (decimal n ++ rest)) refl refl ∙ entry_back d n rest h e.stop e.no_sign
 statement_back d (say.Start n) rest tail h e = by_directive d (codes "svc_start") (32 ∷ (decimal n ++ rest)) refl refl ∙ start_back d n rest tail h e
-statement_back d (say.Limit n) rest tail h e = by_directive d (codes "svc_limit") (32 ∷ (decimal n ++ rest)) refl refl ∙ limit_back n rest h e.stop
+statement_back d (say.Limit n) rest tail h e = by_directive d (codes "svc_limit") (32 ∷ (decimal n ++ rest)) refl refl ∙ limit_back n rest h e.stop e.no_sign
 statement_back d (say.Register r n) rest tail h e = by_directive d (codes "svc_register") ((first_text r ++ (32 ∷ decimal n)) ++ rest) refl refl ∙ setting_back d r n rest tail h e
 statement_back d (say.Section section.Text) rest tail h e = by_directive d (codes "text") rest refl e.stop
 statement_back d (say.Section section.Rodata) rest tail h e = by_directive d (codes "rodata") rest refl e.stop

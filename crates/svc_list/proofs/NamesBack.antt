@@ -6,7 +6,7 @@ use Rattle.std.proofs.lemmas.Fmt.{decimal_by_steps}
 use Rattle.std.proofs.lemmas.List.{length-append}
 use Rattle.svc_draft.specs.Options.{◌>>=◌}
 use Rattle.svc_operands.specs.Characters.{is_space, opens, is_name, past_blanks, past_spaces, begins_over, is_over, past, name_at, past_name, behind, digit, push_digit, value_on, behind_zero, number_of}
-use Rattle.svc_operands.specs.Values.{sum_from}
+use Rattle.svc_operands.specs.Expressions.{operator_at}
 use Rattle.svc_asm.specs.Statements.{behind_end, end_at}
 
 -- a space, or the slash that opens a comment
@@ -70,7 +70,7 @@ at_rest c w rest h k = ap (past is_name) (no_space c w rest h) ∙ name_behind (
 pub record Ends (rest tail : List ℕ) : Type 0 where
   pub stop : stops rest ≡ true
   pub no_name : name_at rest ≡ []
-  pub no_sign : (n : ℕ) → sum_from n rest (past_spaces rest) ≡ Some (n, rest)
+  pub no_sign : operator_at rest ≡ None
   pub over : end_at rest ≡ Some tail
 
 over_behind : (text tail : List ℕ) → behind_end text ≡ Some tail → begins_over text ≡ true

@@ -5,6 +5,7 @@ use Rattle.std.specs.Fmt.{digit_glyph, digits, digits_onto}
 use Rattle.std.specs.List.{AllByRecursion}
 use Rattle.std.proofs.lemmas.Bool.{le-leb, lt-leb, cases_lt, cases_eq, ne_eqb}
 use Rattle.svc_operands.specs.Characters.{is_name, past_blanks, past}
+use Rattle.svc_operands.specs.Expressions.{operator_at}
 use Rattle.svc_asm.specs.Statements.{is_inside, end_at}
 use Rattle.svc_names.specs.declared.name.Name.{Name}
 use Rattle.svc_names.specs.declared.names.Names.{Names}
@@ -62,17 +63,17 @@ inside_front (c ∷ cs) tail h = rw h.0 (inside_front cs tail h.1)
 
 -- without a comment
 pub bare_ends : Trails []
-unfolding past_blanks is_name end_at
-bare_ends tail = let feed = no_slash 10 tail refl in record { stop = refl; no_name = rw feed refl; no_sign = λ n. rw feed refl; over = rw feed refl }
+unfolding past_blanks is_name end_at operator_at
+bare_ends tail = let feed = no_slash 10 tail refl in record { stop = refl; no_name = rw feed refl; no_sign = rw feed refl; over = rw feed refl }
 
 note_ends : (cs : List ℕ) → AreInside cs → Trails (9 ∷ 35 ∷ cs)
-unfolding past_blanks is_name end_at
+unfolding past_blanks is_name end_at operator_at
 note_ends cs h tail =
     let mark = no_slash 35 (cs ++ (10 ∷ tail)) refl in
     record {
       stop = refl;
       no_name = rw mark refl;
-      no_sign = λ n. rw mark refl;
+      no_sign = rw mark refl;
       over = rw mark (ap (λ (xs : List ℕ). Some (drop 1 xs)) (inside_front cs tail h));
     }
 

@@ -5,69 +5,25 @@ use Rattle.std.proofs.lemmas.List.{append_assoc}
 use Rattle.svc_rv32i.specs.declared.instr.Register.{Register}
 use Rattle.svc_rv32i.specs.Meaning.{register}
 use Rattle.svc_operands.specs.declared.operands.Signed.{Signed}
-use Rattle.svc_operands.specs.Characters.{is_name, past_blanks, past, name_at, past_name, behind, mark_at, value_on, value_of, number_of}
+use Rattle.svc_operands.specs.Characters.{is_name, past_blanks, past, behind, mark_at, value_on, value_of}
 use Rattle.svc_draft.specs.Layouts.{Layout}
 use Rattle.svc_operands.specs.Names.{numbered, register_named}
-use Rattle.svc_operands.specs.Operands.{register_at, first_register_at, number_at, behind_sign, signed_from, signed_at, wrapped, halved, steps_of, number_short_at, number_below}
-use Rattle.svc_operands.specs.Values.{offset_at, target_at, plain_term_at, term_from, term_at, value_at, short_at, upper_at}
+use Rattle.svc_operands.specs.Operands.{register_at, first_register_at, wrapped, halved, steps_of}
+use Rattle.svc_operands.specs.Expressions.{operator_at}
+use Rattle.svc_operands.specs.Numbers.{number_short_at, number_below}
+use Rattle.svc_operands.specs.Values.{offset_from, offset_at, target_at, value_at, short_at, upper_at}
+use Rattle.svc_list.proofs.NumbersBack.{no_percent}
+use Rattle.svc_list.proofs.ExpressionsBack.{spaced_expression_back, count_back, signed_low, signed_high, signed_back, minus_back, plus_back, less_back}
 use Rattle.svc_list.specs.Listings.{register_text, first_text, short_text, offset_text, upper_text}
 use Rattle.svc_rv32i.proofs.Same.{same_register}
-use Rattle.svc_list.proofs.NamesBack.{all_dense, stops, Ends, at_name, at_rest, no_slash, no_space, is_digit, digit_no_minus, all_digits, first_digit, digits_dense, numerals}
-
-number_of_decimal : (n : ℕ) → n < 2 ^ 32 → number_of (decimal n) ≡ Some n
-number_of_decimal n h = (numerals n (omega arith) h).reads
-
-digits_name : (ds rest : List ℕ) → all_digits ds ≡ true → 0 < length ds → stops rest ≡ true → name_at (ds ++ rest) ≡ ds
-digits_name [] rest h k s = absurd (omega (arith, k))
-digits_name (c ∷ ds) rest h k s = at_name c ds rest (digits_dense (c ∷ ds) h) s
-
-digits_rest : (ds rest : List ℕ) → all_digits ds ≡ true → 0 < length ds → stops rest ≡ true → past_name (ds ++ rest) ≡ rest
-digits_rest [] rest h k s = absurd (omega (arith, k))
-digits_rest (c ∷ ds) rest h k s = at_rest c ds rest (digits_dense (c ∷ ds) h) s
-
--- the name behind a space, which has some characters
-pub spaced_name : (n : ℕ) (rest : List ℕ) → n < 2 ^ 32 → stops rest ≡ true → name_at (32 ∷ (decimal n ++ rest)) ≡ decimal n
-unfolding past past_blanks
-spaced_name n rest h s =
-    let facts = numerals n (omega arith) h in
-    digits_name (decimal n) rest facts.digits facts.some s
-
-pub decimal_some : (n : ℕ) → n < 2 ^ 32 → 0 < length (decimal n)
-decimal_some n h = (numerals n (omega arith) h).some
-
--- a number, with and without a space before it
-pub number_back : (n : ℕ) (rest : List ℕ) → n < 2 ^ 32 → stops rest ≡ true → number_at (decimal n ++ rest) ≡ Some (n, rest)
-unfolding number_at
-number_back n rest h s =
-    let facts = numerals n (omega arith) h in
-    rw (digits_name (decimal n) rest facts.digits facts.some s, digits_rest (decimal n) rest facts.digits facts.some s, number_of_decimal n h) refl
-
-pub spaced_number_back : (n : ℕ) (rest : List ℕ) → n < 2 ^ 32 → stops rest ≡ true → number_at (32 ∷ (decimal n ++ rest)) ≡ Some (n, rest)
-unfolding number_at past past_blanks
-spaced_number_back n rest h s =
-    let facts = numerals n (omega arith) h in
-    rw (digits_name (decimal n) rest facts.digits facts.some s, digits_rest (decimal n) rest facts.digits facts.some s, number_of_decimal n h) refl
-
--- a number where a value stands
-plain_back : (d : Layout) (n : ℕ) (rest : List ℕ) → n < 2 ^ 32 → stops rest ≡ true → plain_term_at d (decimal n ++ rest) ≡ Some (n, rest)
-unfolding plain_term_at
-plain_back d n rest h s = rw (number_back n rest h s) refl
-
--- digits have no sign
-term_digits : (d : Layout) (ds rest : List ℕ) → all_digits ds ≡ true → 0 < length ds → term_at d (32 ∷ (ds ++ rest)) ≡ plain_term_at d (ds ++ rest)
-unfolding term_at past past_blanks
-term_digits d [] rest h k = absurd (omega (arith, k))
-term_digits d (c ∷ ds) rest h k =
-    let here = no_space c ds rest (digits_dense (c ∷ ds) h) in
-    let minus : (c == 45) ≡ false = digit_no_minus c (first_digit c ds h) in
-    ap (term_from d) here ∙ rw minus refl
+use Rattle.svc_list.proofs.NamesBack.{all_dense, stops, Ends, at_name, at_rest, no_slash, no_space, is_digit, all_digits, first_digit, digits_dense, numerals}
 
 -- a value, behind which the line ends
 pub spaced_value_back : (d : Layout) (n : ℕ) (rest tail : List ℕ) → n < 2 ^ 32 → Ends rest tail → value_at d (32 ∷ (decimal n ++ rest)) ≡ Some (n, rest)
 unfolding value_at
 spaced_value_back d n rest tail h e =
-    let facts = numerals n (omega arith) h in
-    rw (term_digits d (decimal n) rest facts.digits facts.some, plain_back d n rest h e.stop) (e.no_sign n)
+    let small : n % 2 ^ 32 ≡ n = omega (arith, h) in
+    rw (spaced_expression_back (Some d) n rest h e.stop e.no_sign, small) refl
 
 value_is : (ds : List ℕ) → 0 < length ds → value_of 10 ds ≡ value_on 10 0 ds
 value_is [] h = absurd (omega (arith, h))
@@ -102,31 +58,9 @@ unfolding first_register_at past past_blanks is_name
 first_back r rest =
     rw (append_assoc (register_text r) (44 ∷ []) rest, spaced_register_back r (44 ∷ rest) refl, no_slash 44 rest refl) refl
 
--- no digit is a percent sign
-no_percent : is_digit 37 ≡ true → ⊥
-unfolding is_name
-no_percent h = absurd (cc)
-
 -- what a sign, and the number behind it, are read as
 abbrev pub sign : Bool → ℕ → Signed
 sign negative n = record { negative = negative; magnitude = n }
-
-behind_sign_back : (negative : Bool) (n : ℕ) (rest : List ℕ) → n < 2 ^ 32 → stops rest ≡ true → behind_sign negative (decimal n ++ rest) ≡ Some (sign negative n, rest)
-unfolding behind_sign
-behind_sign_back negative n rest h s = rw (number_back n rest h s) refl
-
-spaced_sign_back : (negative : Bool) (n : ℕ) (rest : List ℕ) → n < 2 ^ 32 → stops rest ≡ true → behind_sign negative (32 ∷ (decimal n ++ rest)) ≡ Some (sign negative n, rest)
-unfolding behind_sign
-spaced_sign_back negative n rest h s = rw (spaced_number_back n rest h s) refl
-
--- digits have no sign
-signed_digits : (ds rest : List ℕ) → all_digits ds ≡ true → 0 < length ds → signed_at (32 ∷ (ds ++ rest)) ≡ behind_sign false (ds ++ rest)
-unfolding signed_at past past_blanks
-signed_digits [] rest h k = absurd (omega (arith, k))
-signed_digits (c ∷ ds) rest h k =
-    let here = no_space c ds rest (digits_dense (c ∷ ds) h) in
-    let minus : (c == 45) ≡ false = digit_no_minus c (first_digit c ds h) in
-    ap signed_from here ∙ rw minus refl
 
 pub wrapped_low : (half n : ℕ) → n < half → wrapped half (sign false n) ≡ Some n
 wrapped_low half n h = let low : nat_lt n half ≡ true = le-leb (suc n) half (omega (arith, h)) in rw low refl
@@ -151,25 +85,20 @@ no_mark (c ∷ ds) rest h k =
     ap (behind 37) here ∙ rw percent refl
 
 -- a short immediate
-short_low : (n : ℕ) (rest : List ℕ) → stops rest ≡ true → n < 2048 → number_short_at (short_text n ++ rest) ≡ Some (n, rest)
+short_low : (n : ℕ) (rest : List ℕ) → stops rest ≡ true → operator_at rest ≡ None → n < 2048 → number_short_at (short_text n ++ rest) ≡ Some (n, rest)
 unfolding number_short_at
-short_low n rest s h =
+short_low n rest s q h =
     let low : nat_lt n 2048 ≡ true = le-leb (suc n) 2048 (omega (arith, h)) in
-    let facts = numerals n (omega (arith, h)) (omega (arith, h)) in
-    let read : signed_at (32 ∷ (decimal n ++ rest)) ≡ Some (sign false n, rest) =
-    signed_digits (decimal n) rest facts.digits facts.some ∙ behind_sign_back false n rest (omega (arith, h)) s in
-    rw (low, read, wrapped_low 2048 n h) refl
+    rw (low, signed_back n rest (omega (arith, h)) s q, wrapped_low 2048 n h) refl
 
-short_high : (n : ℕ) (rest : List ℕ) → stops rest ≡ true → 2048 ≤ n → n < 4096 → number_short_at (short_text n ++ rest) ≡ Some (n, rest)
-unfolding number_short_at signed_at past past_blanks
-short_high n rest s h k =
+short_high : (n : ℕ) (rest : List ℕ) → stops rest ≡ true → operator_at rest ≡ None → 2048 ≤ n → n < 4096 → number_short_at (short_text n ++ rest) ≡ Some (n, rest)
+unfolding number_short_at
+short_high n rest s q h k =
     let high : nat_lt n 2048 ≡ false = lt-leb (suc n) 2048 (omega (arith, h)) in
-    let read : behind_sign true (decimal (2 * 2048 - n) ++ rest) ≡ Some (sign true (2 * 2048 - n), rest) =
-    behind_sign_back true (2 * 2048 - n) rest (omega arith) s in
-    rw (high, no_slash 45 (decimal (2 * 2048 - n) ++ rest) refl, read, wrapped_high 2048 n h k) refl
+    rw (high, minus_back (2 * 2048 - n) rest (omega (arith, k)) (omega arith) s q, wrapped_high 2048 n h k) refl
 
-number_short_back : (n : ℕ) (rest : List ℕ) → stops rest ≡ true → n < 4096 → number_short_at (short_text n ++ rest) ≡ Some (n, rest)
-number_short_back n rest s k = elim (cases_lt n 2048) [ inl h ↦ short_low n rest s h | inr h ↦ short_high n rest s h k ]
+number_short_back : (n : ℕ) (rest : List ℕ) → stops rest ≡ true → operator_at rest ≡ None → n < 4096 → number_short_at (short_text n ++ rest) ≡ Some (n, rest)
+number_short_back n rest s q k = elim (cases_lt n 2048) [ inl h ↦ short_low n rest s q h | inr h ↦ short_high n rest s q h k ]
 
 short_no_mark : (n : ℕ) (rest : List ℕ) → mark_at 37 (short_text n ++ rest) ≡ None
 unfolding past past_blanks
@@ -184,22 +113,22 @@ short_no_mark n rest =
           rw (high, no_slash 45 (decimal (2 * 2048 - n) ++ rest) refl) refl
     ]
 
-pub short_back : (d : Layout) (n : ℕ) (rest : List ℕ) → stops rest ≡ true → n < 4096 → short_at d (short_text n ++ rest) ≡ Some (n, rest)
+pub short_back : (d : Layout) (n : ℕ) (rest : List ℕ) → stops rest ≡ true → operator_at rest ≡ None → n < 4096 → short_at d (short_text n ++ rest) ≡ Some (n, rest)
 unfolding short_at
-short_back d n rest s k = rw (short_no_mark n rest) (number_short_back n rest s k)
+short_back d n rest s q k = rw (short_no_mark n rest) (number_short_back n rest s q k)
 
 -- an offset is read as its sign and twice its steps
-offset_low : (d : Layout) (half n : ℕ) (rest : List ℕ) → stops rest ≡ true → half ≤ 524288 → n < half → offset_at d (offset_text half n ++ rest) ≡ Some (sign false (2 * n), rest)
-unfolding offset_at past past_blanks is_name
-offset_low d half n rest s small h =
+offset_low : (d : Layout) (half n : ℕ) (rest : List ℕ) → stops rest ≡ true → operator_at rest ≡ None → half ≤ 524288 → n < half → offset_at d (offset_text half n ++ rest) ≡ Some (sign false (2 * n), rest)
+unfolding offset_at offset_from past past_blanks is_name
+offset_low d half n rest s q small h =
     let low : nat_lt n half ≡ true = le-leb (suc n) half (omega (arith, h)) in
-    rw low (spaced_sign_back false (2 * n) rest (omega (arith, h, small)) s)
+    rw (low, plus_back (2 * n) rest (omega (arith, h, small)) s q, signed_low (2 * n) (omega (arith, h, small))) refl
 
-offset_high : (d : Layout) (half n : ℕ) (rest : List ℕ) → stops rest ≡ true → half ≤ 524288 → half ≤ n → n < 2 * half → offset_at d (offset_text half n ++ rest) ≡ Some (sign true (2 * (2 * half - n)), rest)
-unfolding offset_at past past_blanks is_name
-offset_high d half n rest s small h k =
+offset_high : (d : Layout) (half n : ℕ) (rest : List ℕ) → stops rest ≡ true → operator_at rest ≡ None → half ≤ 524288 → half ≤ n → n < 2 * half → offset_at d (offset_text half n ++ rest) ≡ Some (sign true (2 * (2 * half - n)), rest)
+unfolding offset_at offset_from past past_blanks is_name
+offset_high d half n rest s q small h k =
     let high : nat_lt n half ≡ false = lt-leb (suc n) half (omega (arith, h)) in
-    rw high (spaced_sign_back true (2 * (2 * half - n)) rest (omega (arith, h, k, small)) s)
+    rw (high, less_back (2 * (2 * half - n)) rest (omega (arith, h, k, small)) s q, signed_high (2 * (2 * half - n)) (omega (arith, k)) (omega (arith, h, k, small))) refl
 
 pub halved_double : (negative : Bool) (n : ℕ) → halved (sign negative (2 * n)) ≡ Some (sign negative n)
 halved_double negative n =
@@ -208,12 +137,12 @@ halved_double negative n =
     rw (even, half) refl
 
 -- a target, which is read by its steps
-pub target_back : (d : Layout) (half n : ℕ) (rest : List ℕ) → stops rest ≡ true → half ≤ 524288 → n < 2 * half → target_at half d (offset_text half n ++ rest) ≡ Some (n, rest)
+pub target_back : (d : Layout) (half n : ℕ) (rest : List ℕ) → stops rest ≡ true → operator_at rest ≡ None → half ≤ 524288 → n < 2 * half → target_at half d (offset_text half n ++ rest) ≡ Some (n, rest)
 unfolding target_at steps_of
-target_back d half n rest s small k =
+target_back d half n rest s q small k =
     elim (cases_lt n half) [
-      | inl h ↦ rw (offset_low d half n rest s small h, halved_double false n, wrapped_low half n h) refl
-      | inr h ↦ rw (offset_high d half n rest s small h k, halved_double true (2 * half - n), wrapped_high half n h k) refl
+      | inl h ↦ rw (offset_low d half n rest s q small h, halved_double false n, wrapped_low half n h) refl
+      | inr h ↦ rw (offset_high d half n rest s q small h k, halved_double true (2 * half - n), wrapped_high half n h k) refl
     ]
 
 pub upper_no_mark : (n : ℕ) (rest : List ℕ) → n < 2 ^ 20 → mark_at 37 (upper_text n ++ rest) ≡ None
@@ -221,15 +150,9 @@ upper_no_mark n rest h =
     let facts = numerals n (omega (arith, h)) (omega (arith, h)) in
     no_mark (decimal n) rest facts.digits facts.some
 
-below_back : (most n : ℕ) (rest : List ℕ) → n < most → n < 2 ^ 32 → stops rest ≡ true → number_below most (upper_text n ++ rest) ≡ Some (n, rest)
-unfolding number_below
-below_back most n rest h k s =
-    let fits : nat_lt n most ≡ true = le-leb (suc n) most h in
-    rw (spaced_number_back n rest k s, fits) refl
-
-pub upper_back : (d : Layout) (n : ℕ) (rest : List ℕ) → n < 2 ^ 20 → stops rest ≡ true → upper_at d (upper_text n ++ rest) ≡ Some (n, rest)
+pub upper_back : (d : Layout) (n : ℕ) (rest : List ℕ) → n < 2 ^ 20 → stops rest ≡ true → operator_at rest ≡ None → upper_at d (upper_text n ++ rest) ≡ Some (n, rest)
 unfolding upper_at
-upper_back d n rest h s = rw (upper_no_mark n rest h) (below_back (2 ^ 20) n rest h (omega (arith, h)) s)
+upper_back d n rest h s q = rw (upper_no_mark n rest h) (count_back (2 ^ 20) n rest h (omega (arith, h)) s q)
 
-pub amount_back : (n : ℕ) (rest : List ℕ) → n < 32 → stops rest ≡ true → number_below 32 (upper_text n ++ rest) ≡ Some (n, rest)
-amount_back n rest h s = below_back 32 n rest h (omega (arith, h)) s
+pub amount_back : (n : ℕ) (rest : List ℕ) → n < 32 → stops rest ≡ true → operator_at rest ≡ None → number_below 32 (upper_text n ++ rest) ≡ Some (n, rest)
+amount_back n rest h s q = count_back 32 n rest h (omega (arith, h)) s q

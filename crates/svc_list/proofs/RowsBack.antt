@@ -1,9 +1,9 @@
 -- What is written of a word by its row is read back, by its numbers or by the label that it leads to.
-use Rattle.std.proofs.Common.{◌≡◌, ℕ, suc, ◌*◌, ◌%◌, ◌^◌, ◌<◌, ◌≤◌, ◌⊎◌, Bool, true, false, List, [], ◌∷◌, ◌++◌, Option, Some, None, refl, ap, sym, ◌∙◌, arith, inl, inr, subst, if◌then◌else◌, codes}
+use Rattle.std.proofs.Common.{◌≡◌, ℕ, suc, ◌*◌, ◌%◌, ◌^◌, ◌<◌, ◌≤◌, ◌⊎◌, Bool, true, false, ◌&&◌, List, [], ◌∷◌, ◌++◌, Option, Some, None, refl, ap, sym, ◌∙◌, arith, inl, inr, subst, if◌then◌else◌, codes}
 use Rattle.std.specs.Prelude.{option_map}
 use Rattle.std.specs.List.{AllByRecursion, find}
 use Rattle.std.specs.Str.{bytes_eq}
-use Rattle.std.proofs.lemmas.Bool.{eqb-true, cases_lt, cases_Bool, le-leb, lt-leb}
+use Rattle.std.proofs.lemmas.Bool.{and_parts, eqb-true, cases_lt, cases_Bool, le-leb, lt-leb}
 use Rattle.std.proofs.lemmas.List.{append_assoc, append-nil}
 use Rattle.svc_rv32i.specs.Meaning.{register}
 use Rattle.svc_draft.specs.declared.statement.Statement.TheVariants as say
@@ -12,6 +12,7 @@ use Rattle.svc_draft.specs.Layouts.{Layout, here, address_of}
 use Rattle.svc_operands.specs.Characters.{is_name, past_blanks, name_at, past_name, behind, found}
 use Rattle.svc_operands.specs.Names.{padded}
 use Rattle.svc_operands.specs.Operands.{first_register_at, base_at}
+use Rattle.svc_operands.specs.Expressions.{operator_at}
 use Rattle.svc_operands.specs.Values.{reach, target_at}
 use Rattle.svc_instructions.specs.declared.table.Part.{Part}
 use Rattle.svc_instructions.specs.declared.table.Part.TheVariants as part
@@ -68,11 +69,37 @@ is_last [] = true
 is_last (part.End ∷ more) = is_last more
 is_last (p ∷ more) = false
 
+-- no operator is written first
+abbrev pub is_quiet : List Part → Bool
+is_quiet [] = true
+is_quiet (part.End ∷ more) = is_quiet more
+is_quiet (part.Base ∷ more) = true
+is_quiet (p ∷ more) = false
+
+-- what is written as a number
+abbrev pub is_number : Part → Bool
+is_number part.Immediate = true
+is_number part.StoreOffset = true
+is_number part.Amount = true
+is_number part.Upper = true
+is_number p = false
+
+-- what is no target, and no set of accesses
+abbrev pub is_plain : Part → Bool
+is_plain part.Branch = false
+is_plain part.Jump = false
+is_plain part.Order = false
+is_plain p = true
+
 abbrev pub is_shown : List Part → Bool
 is_shown [] = true
 is_shown (part.Branch ∷ more) = is_last more
 is_shown (part.Jump ∷ more) = is_last more
 is_shown (part.Order ∷ more) = false
+is_shown (part.Immediate ∷ more) = is_quiet more && is_shown more
+is_shown (part.StoreOffset ∷ more) = is_quiet more && is_shown more
+is_shown (part.Amount ∷ more) = is_quiet more && is_shown more
+is_shown (part.Upper ∷ more) = is_quiet more && is_shown more
 is_shown (p ∷ more) = is_shown more
 
 small5 : (n : ℕ) → n < 2 ^ 5 → n % 2 ^ 5 ≡ n
@@ -122,7 +149,7 @@ its_aims false d (Some t) p more w half n last e reaches = reaches
 -- a target, of which half of the numbers are forward, by its numbers or by its label
 target_reads : (known : Bool) (d : Layout) (to : Option ℕ) (half n : ℕ) (rest tail : List ℕ) → half ≤ 524288 → 0 < half → n < 2 * half → Ends rest tail → Aims known d to half n
     → target_at half d (reach_text to half n ++ rest) ≡ Some (passed known to n, rest)
-target_reads known d None half n rest tail small some fits ends aim = target_back d half n rest ends.stop small fits
+target_reads known d None half n rest tail small some fits ends aim = target_back d half n rest ends.stop ends.no_sign small fits
 target_reads true d (Some t) half n rest tail small some fits ends aim =
     target_by d half (32 ∷ (label_text t ++ rest)) rest (reach d t) n (label_offset d t t rest tail ends aim.1) (known_aims d half t n aim.0 (aims half (here d) t n fits aim.2))
 target_reads false d (Some t) half n rest tail small some fits ends aim =
@@ -143,24 +170,32 @@ jump_reads known d to more w rest tail last ends reaches =
     ∙ target_reads known d to 524288 n rest tail (omega arith) (omega arith) (jump_fits w) ends (its_aims known d to part.Jump more w 524288 n last refl reaches)
 
 -- an operand that is no target is read back from its text
-part_back : (d : Layout) (to : Option ℕ) (p : Part) (n : ℕ) (rest : List ℕ) → is_shown (p ∷ part.Rd ∷ []) ≡ true → n < limit p → stops rest ≡ true → part_at d p (part_text to p n ++ rest) ≡ Some (n, rest)
+part_back : (d : Layout) (to : Option ℕ) (p : Part) (n : ℕ) (rest : List ℕ) → is_plain p ≡ true → n < limit p → stops rest ≡ true → (is_number p ≡ true → operator_at rest ≡ None) → part_at d p (part_text to p n ++ rest) ≡ Some (n, rest)
 unfolding part_at part_text base_at past_blanks is_name
-part_back d to part.End n rest k h s = let none : 0 ≡ n = omega (arith, h) in ap (λ x. Some (x, rest)) none
-part_back d to part.Comma n rest k h s = let none : 0 ≡ n = omega (arith, h) in rw (no_slash 44 rest refl) (ap (λ x. Some (x, rest)) none)
-part_back d to part.Rd n rest k h s = rw (spaced_register_back (register (n % 2 ^ 5)) rest s) (ap (λ x. Some (x, rest)) (register_reads n h))
-part_back d to part.Rs1 n rest k h s = rw (spaced_register_back (register (n % 2 ^ 5)) rest s) (ap (λ x. Some (x, rest)) (register_reads n h))
-part_back d to part.Rs2 n rest k h s = rw (spaced_register_back (register (n % 2 ^ 5)) rest s) (ap (λ x. Some (x, rest)) (register_reads n h))
-part_back d to part.Base n rest k h s =
+part_back d to part.End n rest k h s q = let none : 0 ≡ n = omega (arith, h) in ap (λ x. Some (x, rest)) none
+part_back d to part.Comma n rest k h s q = let none : 0 ≡ n = omega (arith, h) in rw (no_slash 44 rest refl) (ap (λ x. Some (x, rest)) none)
+part_back d to part.Rd n rest k h s q = rw (spaced_register_back (register (n % 2 ^ 5)) rest s) (ap (λ x. Some (x, rest)) (register_reads n h))
+part_back d to part.Rs1 n rest k h s q = rw (spaced_register_back (register (n % 2 ^ 5)) rest s) (ap (λ x. Some (x, rest)) (register_reads n h))
+part_back d to part.Rs2 n rest k h s q = rw (spaced_register_back (register (n % 2 ^ 5)) rest s) (ap (λ x. Some (x, rest)) (register_reads n h))
+part_back d to part.Base n rest k h s q =
     let r = register (n % 2 ^ 5) in
     rw (append_assoc (register_text r) (41 ∷ []) rest, no_slash 40 (register_text r ++ (41 ∷ rest)) refl, register_back r (41 ∷ rest) refl, no_slash 41 rest refl)
     (ap (λ x. Some (x, rest)) (register_reads n h))
-part_back d to part.Immediate n rest k h s = rw (small12 n h) (short_back d n rest s h)
-part_back d to part.StoreOffset n rest k h s = rw (small12 n h) (short_back d n rest s h)
-part_back d to part.Amount n rest k h s = rw (small5 n h) (amount_back n rest h s)
-part_back d to part.Upper n rest k h s = rw (small20 n h) (upper_back d n rest h s)
-part_back d to part.Order n rest k h s = absurd (cc)
-part_back d to part.Branch n rest k h s = absurd (cc)
-part_back d to part.Jump n rest k h s = absurd (cc)
+part_back d to part.Immediate n rest k h s q = rw (small12 n h) (short_back d n rest s (q refl) h)
+part_back d to part.StoreOffset n rest k h s q = rw (small12 n h) (short_back d n rest s (q refl) h)
+part_back d to part.Amount n rest k h s q = rw (small5 n h) (amount_back n rest h s (q refl))
+part_back d to part.Upper n rest k h s q = rw (small20 n h) (upper_back d n rest h s (q refl))
+part_back d to part.Order n rest k h s q = absurd (cc)
+part_back d to part.Branch n rest k h s q = absurd (cc)
+part_back d to part.Jump n rest k h s q = absurd (cc)
+
+-- behind a number no operator is written
+quiet_text : (to : Option ℕ) (ps : List Part) (w : ℕ) (rest tail : List ℕ) → is_quiet ps ≡ true → Ends rest tail → operator_at (parts_text to ps w ++ rest) ≡ None
+unfolding part_text operator_at past_blanks
+quiet_text to [] w rest tail h ends = ends.no_sign
+quiet_text to (part.End ∷ more) w rest tail h ends = quiet_text to more w rest tail h ends
+quiet_text to (part.Base ∷ more) w rest tail h ends = refl
+quiet_text to (p ∷ more) w rest tail h ends = absurd (cc)
 
 -- what stands behind an operand ends its name
 offset_stops : (to : Option ℕ) (half n : ℕ) (rest : List ℕ) → stops (reach_text to half n ++ rest) ≡ true
@@ -205,7 +240,7 @@ jump_part known d to more w rest tail last ends reaches = rw (last_text_none to 
 none_reached : (known : Bool) (d : Layout) (to : Option ℕ) (ps : List Part) (w : ℕ) → is_last ps ≡ true → (word : ℕ) (rest tail : List ℕ) → Ends rest tail → parts_at d ps (parts_text to ps w ++ rest) word ≡ Some (refilled known to ps w word, rest)
 none_reached known d to [] w h word rest tail ends = refl
 none_reached known d to (part.End ∷ more) w h word rest tail ends =
-    step known d to part.End more w word rest (part_back d to part.End (taken part.End w) (parts_text to more w ++ rest) refl (taken_fits part.End w) (parts_stop to more w rest ends.stop))
+    step known d to part.End more w word rest (part_back d to part.End (taken part.End w) (parts_text to more w ++ rest) refl (taken_fits part.End w) (parts_stop to more w rest ends.stop) (λ no. absurd (cc)))
     (none_reached known d to more w h (joined word part.End (taken part.End w)) rest tail ends)
 none_reached known d to (p ∷ more) w h word rest tail ends = absurd (cc)
 
@@ -224,35 +259,35 @@ parts_back known d to (part.Jump ∷ more) w word rest tail k ends reaches =
     step known d to part.Jump more w word rest (jump_part known d to more w rest tail k ends reaches) (none_reached known d to more w k (joined word part.Jump (passed known to (taken part.Jump w))) rest tail ends)
 parts_back known d to (part.Order ∷ more) w word rest tail k ends reaches = absurd (cc)
 parts_back known d to (part.End ∷ more) w word rest tail k ends reaches =
-    step known d to part.End more w word rest (part_back d to part.End (taken part.End w) (parts_text to more w ++ rest) refl (taken_fits part.End w) (parts_stop to more w rest ends.stop))
+    step known d to part.End more w word rest (part_back d to part.End (taken part.End w) (parts_text to more w ++ rest) refl (taken_fits part.End w) (parts_stop to more w rest ends.stop) (λ no. absurd (cc)))
     (parts_back known d to more w (joined word part.End (taken part.End w)) rest tail k ends (same_reach known d to (part.End ∷ more) more w refl reaches))
 parts_back known d to (part.Comma ∷ more) w word rest tail k ends reaches =
-    step known d to part.Comma more w word rest (part_back d to part.Comma (taken part.Comma w) (parts_text to more w ++ rest) refl (taken_fits part.Comma w) (parts_stop to more w rest ends.stop))
+    step known d to part.Comma more w word rest (part_back d to part.Comma (taken part.Comma w) (parts_text to more w ++ rest) refl (taken_fits part.Comma w) (parts_stop to more w rest ends.stop) (λ no. absurd (cc)))
     (parts_back known d to more w (joined word part.Comma (taken part.Comma w)) rest tail k ends (same_reach known d to (part.Comma ∷ more) more w refl reaches))
 parts_back known d to (part.Rd ∷ more) w word rest tail k ends reaches =
-    step known d to part.Rd more w word rest (part_back d to part.Rd (taken part.Rd w) (parts_text to more w ++ rest) refl (taken_fits part.Rd w) (parts_stop to more w rest ends.stop))
+    step known d to part.Rd more w word rest (part_back d to part.Rd (taken part.Rd w) (parts_text to more w ++ rest) refl (taken_fits part.Rd w) (parts_stop to more w rest ends.stop) (λ no. absurd (cc)))
     (parts_back known d to more w (joined word part.Rd (taken part.Rd w)) rest tail k ends (same_reach known d to (part.Rd ∷ more) more w refl reaches))
 parts_back known d to (part.Rs1 ∷ more) w word rest tail k ends reaches =
-    step known d to part.Rs1 more w word rest (part_back d to part.Rs1 (taken part.Rs1 w) (parts_text to more w ++ rest) refl (taken_fits part.Rs1 w) (parts_stop to more w rest ends.stop))
+    step known d to part.Rs1 more w word rest (part_back d to part.Rs1 (taken part.Rs1 w) (parts_text to more w ++ rest) refl (taken_fits part.Rs1 w) (parts_stop to more w rest ends.stop) (λ no. absurd (cc)))
     (parts_back known d to more w (joined word part.Rs1 (taken part.Rs1 w)) rest tail k ends (same_reach known d to (part.Rs1 ∷ more) more w refl reaches))
 parts_back known d to (part.Rs2 ∷ more) w word rest tail k ends reaches =
-    step known d to part.Rs2 more w word rest (part_back d to part.Rs2 (taken part.Rs2 w) (parts_text to more w ++ rest) refl (taken_fits part.Rs2 w) (parts_stop to more w rest ends.stop))
+    step known d to part.Rs2 more w word rest (part_back d to part.Rs2 (taken part.Rs2 w) (parts_text to more w ++ rest) refl (taken_fits part.Rs2 w) (parts_stop to more w rest ends.stop) (λ no. absurd (cc)))
     (parts_back known d to more w (joined word part.Rs2 (taken part.Rs2 w)) rest tail k ends (same_reach known d to (part.Rs2 ∷ more) more w refl reaches))
 parts_back known d to (part.Base ∷ more) w word rest tail k ends reaches =
-    step known d to part.Base more w word rest (part_back d to part.Base (taken part.Base w) (parts_text to more w ++ rest) refl (taken_fits part.Base w) (parts_stop to more w rest ends.stop))
+    step known d to part.Base more w word rest (part_back d to part.Base (taken part.Base w) (parts_text to more w ++ rest) refl (taken_fits part.Base w) (parts_stop to more w rest ends.stop) (λ no. absurd (cc)))
     (parts_back known d to more w (joined word part.Base (taken part.Base w)) rest tail k ends (same_reach known d to (part.Base ∷ more) more w refl reaches))
 parts_back known d to (part.Immediate ∷ more) w word rest tail k ends reaches =
-    step known d to part.Immediate more w word rest (part_back d to part.Immediate (taken part.Immediate w) (parts_text to more w ++ rest) refl (taken_fits part.Immediate w) (parts_stop to more w rest ends.stop))
-    (parts_back known d to more w (joined word part.Immediate (taken part.Immediate w)) rest tail k ends (same_reach known d to (part.Immediate ∷ more) more w refl reaches))
+    step known d to part.Immediate more w word rest (part_back d to part.Immediate (taken part.Immediate w) (parts_text to more w ++ rest) refl (taken_fits part.Immediate w) (parts_stop to more w rest ends.stop) (λ _. quiet_text to more w rest tail (and_parts (is_quiet more) (is_shown more) k).0 ends))
+    (parts_back known d to more w (joined word part.Immediate (taken part.Immediate w)) rest tail (and_parts (is_quiet more) (is_shown more) k).1 ends (same_reach known d to (part.Immediate ∷ more) more w refl reaches))
 parts_back known d to (part.StoreOffset ∷ more) w word rest tail k ends reaches =
-    step known d to part.StoreOffset more w word rest (part_back d to part.StoreOffset (taken part.StoreOffset w) (parts_text to more w ++ rest) refl (taken_fits part.StoreOffset w) (parts_stop to more w rest ends.stop))
-    (parts_back known d to more w (joined word part.StoreOffset (taken part.StoreOffset w)) rest tail k ends (same_reach known d to (part.StoreOffset ∷ more) more w refl reaches))
+    step known d to part.StoreOffset more w word rest (part_back d to part.StoreOffset (taken part.StoreOffset w) (parts_text to more w ++ rest) refl (taken_fits part.StoreOffset w) (parts_stop to more w rest ends.stop) (λ _. quiet_text to more w rest tail (and_parts (is_quiet more) (is_shown more) k).0 ends))
+    (parts_back known d to more w (joined word part.StoreOffset (taken part.StoreOffset w)) rest tail (and_parts (is_quiet more) (is_shown more) k).1 ends (same_reach known d to (part.StoreOffset ∷ more) more w refl reaches))
 parts_back known d to (part.Amount ∷ more) w word rest tail k ends reaches =
-    step known d to part.Amount more w word rest (part_back d to part.Amount (taken part.Amount w) (parts_text to more w ++ rest) refl (taken_fits part.Amount w) (parts_stop to more w rest ends.stop))
-    (parts_back known d to more w (joined word part.Amount (taken part.Amount w)) rest tail k ends (same_reach known d to (part.Amount ∷ more) more w refl reaches))
+    step known d to part.Amount more w word rest (part_back d to part.Amount (taken part.Amount w) (parts_text to more w ++ rest) refl (taken_fits part.Amount w) (parts_stop to more w rest ends.stop) (λ _. quiet_text to more w rest tail (and_parts (is_quiet more) (is_shown more) k).0 ends))
+    (parts_back known d to more w (joined word part.Amount (taken part.Amount w)) rest tail (and_parts (is_quiet more) (is_shown more) k).1 ends (same_reach known d to (part.Amount ∷ more) more w refl reaches))
 parts_back known d to (part.Upper ∷ more) w word rest tail k ends reaches =
-    step known d to part.Upper more w word rest (part_back d to part.Upper (taken part.Upper w) (parts_text to more w ++ rest) refl (taken_fits part.Upper w) (parts_stop to more w rest ends.stop))
-    (parts_back known d to more w (joined word part.Upper (taken part.Upper w)) rest tail k ends (same_reach known d to (part.Upper ∷ more) more w refl reaches))
+    step known d to part.Upper more w word rest (part_back d to part.Upper (taken part.Upper w) (parts_text to more w ++ rest) refl (taken_fits part.Upper w) (parts_stop to more w rest ends.stop) (λ _. quiet_text to more w rest tail (and_parts (is_quiet more) (is_shown more) k).0 ends))
+    (parts_back known d to more w (joined word part.Upper (taken part.Upper w)) rest tail (and_parts (is_quiet more) (is_shown more) k).1 ends (same_reach known d to (part.Upper ∷ more) more w refl reaches))
 
 -- the first row of a name
 abbrev pub named : List ℕ → List Row → Option Row

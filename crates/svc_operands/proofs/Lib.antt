@@ -1,2 +1,3 @@
 pub mod Past
 pub mod Rows
+pub mod Chains

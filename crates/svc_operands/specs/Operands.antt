@@ -1,9 +1,9 @@
 -- The operands of instructions and directives.
-use Rattle.std.specs.Prelude.{◌≡◌, Option, Some, None, Result, Ok, Err, ℕ, ◌*◌, ◌-◌, ◌/◌, ◌%◌, Bool, true, false, ◌==◌, nat_le, nat_lt, List, [], ◌∷◌, if◌then◌else◌}
+use Rattle.std.specs.Prelude.{◌≡◌, Option, Some, None, Result, Ok, Err, ℕ, ◌*◌, ◌-◌, ◌/◌, ◌%◌, true, false, ◌==◌, nat_le, nat_lt, List, if◌then◌else◌}
 use Rattle.svc_rv32i.specs.declared.instr.Register.{Register}
 use Rattle.svc_operands.specs.declared.operands.Signed.{Signed}
 use Rattle.svc_draft.specs.Options.{◌>>=◌}
-use Rattle.svc_operands.specs.Characters.{found, past_spaces, name_at, past_name, mark_at, number_of, character_at}
+use Rattle.svc_operands.specs.Characters.{found, name_at, past_name, mark_at, number_of, character_at}
 use Rattle.svc_operands.specs.Names.{register_named}
 
 -- what was read, as the definition sees it, or an error where the definition reads nothing
@@ -39,20 +39,6 @@ base_at text = do
 unfoldable pub number_at : List ℕ → Read ℕ
 number_at text = found (number_of (name_at text)) (λ n. Some (n, past_name text)) (character_at text)
 
--- the number behind a sign
-unfoldable pub behind_sign : Bool → List ℕ → Read Signed
-behind_sign negative text = do
-  n ← number_at text
-  Some (record { negative = negative; magnitude = n.0 }, n.1)
-
-abbrev pub signed_from : List ℕ → Read Signed
-signed_from [] = None
-signed_from (c ∷ rest) = if c == 45 then behind_sign true rest else behind_sign false (c ∷ rest)
-
--- a number that may have a minus sign
-unfoldable pub signed_at : List ℕ → Read Signed
-signed_at text = signed_from (past_spaces text)
-
 -- how far it is from one address to another
 abbrev pub distance : ℕ → ℕ → Signed
 distance from to = if nat_le from to then record { negative = false; magnitude = to - from } else record { negative = true; magnitude = from - to }
@@ -72,19 +58,3 @@ unfoldable pub steps_of : (half : ℕ) → Signed → Option ℕ
 steps_of half s = do
   h ← halved s
   wrapped half h
-
--- a number of 12 bits with its sign
-unfoldable pub number_short_at : List ℕ → Read ℕ
-number_short_at text = do
-  s ← signed_at text
-  n ← wrapped 2048 s.0
-  Some (n, s.1)
-
--- a number below a bound
-abbrev pub below : ℕ → ℕ × List ℕ → Read ℕ
-below most n = if nat_lt n.0 most then Some n else None
-
-unfoldable pub number_below : ℕ → List ℕ → Read ℕ
-number_below most text = do
-  n ← number_at text
-  below most n

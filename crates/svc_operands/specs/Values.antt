@@ -1,42 +1,16 @@
 -- Values, which may name labels, the immediates that are made of them, and how far branches and jumps go.
-use Rattle.std.specs.Prelude.{ℕ, ◌*◌, nat_le, nat_lt, Bool, List, Option, Some, None, if◌then◌else◌, codes, option_map, ◌+◌, ◌-◌, ◌/◌, ◌%◌, ◌^◌, true, false, ◌==◌, [], ◌∷◌}
+use Rattle.std.specs.Prelude.{ℕ, ◌*◌, nat_le, nat_lt, List, Option, Some, None, if◌then◌else◌, codes, option_map, ◌+◌, ◌-◌, ◌/◌, ◌%◌, ◌^◌, false}
 use Rattle.std.specs.Str.{bytes_eq}
-use Rattle.std.specs.List.{take_while}
-use Rattle.svc_draft.specs.Layouts.{Layout, address_back, address_ahead, here, address_of, distance_from}
-use Rattle.svc_operands.specs.declared.values.Reference.{Reference}
-use Rattle.svc_operands.specs.declared.values.Reference.TheVariants as label
+use Rattle.svc_draft.specs.Layouts.{Layout, here, distance_from}
 use Rattle.svc_operands.specs.declared.values.Target.{Target}
 use Rattle.svc_operands.specs.declared.values.Target.TheVariants as goes
-use Rattle.svc_operands.specs.Characters.{is_from_to, past, value_of, past_spaces, found, name_at, past_name, mark_at}
+use Rattle.svc_operands.specs.Characters.{found, name_at, past_name, mark_at}
 use Rattle.svc_operands.specs.declared.operands.Signed.{Signed}
 use Rattle.svc_draft.specs.Options.{◌>>=◌}
-use Rattle.svc_operands.specs.Operands.{Read, number_at, behind_sign, distance, number_short_at, number_below, steps_of}
-
-abbrev pub is_decimal : ℕ → Bool
-is_decimal c = is_from_to 48 57 c
-
--- a decimal number, and b for the last label of this number before here, or f for the next one
-unfoldable pub reference_named : List ℕ → Option Reference
-reference_named name =
-    if bytes_eq (past is_decimal name) (codes "b") then option_map (λ n. label.Back n)
-    (value_of 10 (take_while is_decimal name)) else
-    if bytes_eq (past is_decimal name) (codes "f") then option_map (λ n. label.Ahead n)
-    (value_of 10 (take_while is_decimal name)) else
-    None
-
-abbrev pub referred : Layout → Reference → Option ℕ
-referred d (label.Back n) = address_back d n
-referred d (label.Ahead n) = address_ahead d n
-
--- what a name stands for: a dot for the address of what comes next, and a label for its own
-unfoldable pub place_of : Layout → List ℕ → Option ℕ
-place_of d name =
-    if bytes_eq name (codes ".") then Some (here d) else found (reference_named name) (λ r. referred d r)
-    (address_of d name)
-
-unfoldable pub plain_term_at : Layout → List ℕ → Read ℕ
-plain_term_at d text =
-    found (number_at text) (λ n. Some n) (option_map (λ n. (n, past_name text)) (place_of d (name_at text)))
+use Rattle.svc_operands.specs.Operands.{Read, distance, steps_of}
+use Rattle.svc_operands.specs.Places.{place_of}
+use Rattle.svc_operands.specs.Expressions.{expression_at, added_at}
+use Rattle.svc_operands.specs.Numbers.{number_below, signed_of, number_short_at}
 
 -- a number with its sign, as 32 bits
 abbrev pub bits_of : Signed → ℕ
@@ -48,35 +22,9 @@ fitted half s =
     if s.negative then if nat_le s.magnitude half then Some (bits_of s) else None
     else if nat_lt s.magnitude (2 * half) then Some s.magnitude else None
 
-abbrev pub term_from : Layout → List ℕ → Read ℕ
-term_from d [] = None
-term_from d (c ∷ rest) =
-    if c == 45 then option_map (λ s. (bits_of s.0, s.1)) (behind_sign true rest) else plain_term_at d (c ∷ rest)
-
--- what a sum begins with: a number, which may have a minus sign, a dot or a label
-unfoldable pub term_at : Layout → List ℕ → Read ℕ
-term_at d text = term_from d (past_spaces text)
-
--- a sum of 32 bits, which wraps
-abbrev pub sum : ℕ → ℕ → ℕ
-sum n m = (n + m) % 2 ^ 32
-
-unfoldable pub sum_with : ℕ → Bool → List ℕ → Read ℕ
-sum_with n negative text = do
-  s ← behind_sign negative text
-  Some (sum n (bits_of s.0), s.1)
-
--- the number that a sign adds or takes away, where one follows
-abbrev pub sum_from : ℕ → List ℕ → List ℕ → Read ℕ
-sum_from n rest [] = Some (n, rest)
-sum_from n rest (c ∷ more) =
-    if c == 43 then sum_with n false more else if c == 45 then sum_with n true more else Some (n, rest)
-
--- a value: a number, a dot, a label, or one of them and a number that is added or taken away
+-- a value: the low 32 bits of an expression, which may name labels
 unfoldable pub value_at : Layout → List ℕ → Read ℕ
-value_at d text = do
-  n ← term_at d text
-  sum_from n.0 n.1 (past_spaces n.1)
+value_at d text = option_map (λ n. (n.0 % 2 ^ 32, n.1)) (expression_at (Some d) text)
 
 -- a value of 32 bits in two parts, for two instructions: its low part counts with a sign, so the high part is one more
 -- where that is below 0
@@ -147,19 +95,16 @@ reach_at d text = do
   n ← value_at d text
   Some (reach d n.0, n.1)
 
--- behind a dot: a sign and a number, or nothing
-abbrev pub offset_from : List ℕ → List ℕ → Read Signed
-offset_from rest [] = Some (record { negative = false; magnitude = 0 }, rest)
-offset_from rest (c ∷ more) =
-    if c == 43 then behind_sign false more else
-    if c == 45 then behind_sign true more else
-    Some (record { negative = false; magnitude = 0 }, rest)
+-- behind a dot: the numbers that are added or taken away
+unfoldable pub offset_from : List ℕ → Read Signed
+offset_from text = do
+  n ← added_at text
+  s ← signed_of n.0
+  Some (s, n.1)
 
 -- how far it is from the instruction's own address: . + N or . - N, or to a value
 unfoldable pub offset_at : Layout → List ℕ → Read Signed
-offset_at d text =
-    if bytes_eq (name_at text) (codes ".") then offset_from (past_name text)
-    (past_spaces (past_name text)) else reach_at d text
+offset_at d text = if bytes_eq (name_at text) (codes ".") then offset_from (past_name text) else reach_at d text
 
 -- how many steps a branch and a jump can go forward
 abbrev pub half_of : Target → ℕ

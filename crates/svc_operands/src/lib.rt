@@ -3,18 +3,22 @@
 #![tactic(auto)]
 
 mod characters;
+mod expressions;
 mod names;
+mod numbers;
 mod operands;
+mod places;
 mod unread;
 mod values;
 
 pub use characters::{
-    Radix, digit, escaped, is_over, opens, skip_mark, skip_spaces, split_name, value_of,
+    Radix, digit, escaped, is_over, number_of, opens, skip_mark, skip_spaces, split_name, value_of,
 };
+pub use expressions::{Operation, Operator, combined, operator_at, read_added, read_expression};
 pub use names::{Name, Named, REGISTERS, is_word, number_named, padded, register};
+pub use numbers::{read_below, read_count, read_signed};
 pub use operands::{
-    Signed, distance, read_base, read_behind_sign, read_below, read_first_register, read_mark,
-    read_number, read_register, read_signed,
+    Signed, distance, read_base, read_first_register, read_mark, read_number, read_register,
 };
 pub use unread::{Read, Unread, Wanted, stopped_at, stopped_at_name};
 pub use values::{

@@ -2,9 +2,9 @@
 
 ghost use Rattle.std.specs.Prelude.{◌≡◌, ◌<◌, ◌≤◌, ◌*◌, ◌-◌, ◌/◌};
 ghost use Rattle.svc_operands.specs.Characters.{mark_at};
-ghost use Rattle.svc_operands.specs.Operands.{Gives, register_at, first_register_at, base_at, number_at, behind_sign, signed_at, distance, wrapped, halved, steps_of, number_short_at, number_below};
+ghost use Rattle.svc_operands.specs.Operands.{Gives, register_at, first_register_at, base_at, number_at, distance, wrapped, halved, steps_of};
 
-use crate::characters::{number_of, skip_mark, skip_spaces, split_character, split_name};
+use crate::characters::{number_of, skip_mark, split_character, split_name};
 use crate::names::register_named;
 use crate::unread::{Read, Unread, Wanted, stopped_at};
 use svc_rv32i::Register;
@@ -74,34 +74,6 @@ pub fn read_number(text: &[u8]) -> Read<'_, u32>
     }
 }
 
-/// A number whose sign was read before it.
-#[tactic(auto, unfolding(crate::specs::Operands::behind_sign))]
-pub fn read_behind_sign(negative: bool, text: &[u8]) -> Read<'_, Signed>
-    ensures { Gives (λ x. (x.0, x.1.now)) result (behind_sign negative text.now) }
-{
-    let (magnitude, rest) = read_number(text)?;
-    Ok((
-        Signed {
-            negative,
-            magnitude,
-        },
-        rest,
-    ))
-}
-
-/// A number that may have a minus sign.
-#[tactic(auto, unfolding(crate::specs::Operands::signed_at))]
-pub fn read_signed(text: &[u8]) -> Read<'_, Signed>
-    ensures { Gives (λ x. (x.0, x.1.now)) result (signed_at text.now) }
-{
-    let rest = skip_spaces(text);
-    match rest {
-        [] => Err(stopped_at(text, Wanted::Number)),
-        [b'-', magnitude @ ..] => read_behind_sign(true, magnitude),
-        _ => read_behind_sign(false, rest),
-    }
-}
-
 /// How far it is from one address to another.
 pub fn distance(from: u32, to: u32) -> Signed
     ensures { result ≡ distance from to }
@@ -119,7 +91,7 @@ pub fn distance(from: u32, to: u32) -> Signed
     }
 }
 
-fn wrapped(half: u32, number: Signed) -> Option<u32>
+pub fn wrapped(half: u32, number: Signed) -> Option<u32>
     requires { half ≤ 524288 }
     ensures { result ≡ wrapped half number }
 {
@@ -159,27 +131,4 @@ pub fn steps_of(half: u32, offset: Signed) -> Option<u32>
     ensures { result ≡ steps_of half offset }
 {
     wrapped(half, halved(offset)?)
-}
-
-#[tactic(auto, unfolding(crate::specs::Operands::number_short_at))]
-pub fn read_number_short(text: &[u8]) -> Read<'_, u32>
-    ensures { Gives (λ x. (x.0, x.1.now)) result (number_short_at text.now) }
-{
-    let (number, rest) = read_signed(text)?;
-    match wrapped(2048, number) {
-        Some(bits) => Ok((bits, rest)),
-        None => Err(stopped_at(text, Wanted::Immediate)),
-    }
-}
-
-/// A number below a bound.
-#[tactic(auto, unfolding(crate::specs::Operands::number_below))]
-pub fn read_below(most: u32, wanted: Wanted, text: &[u8]) -> Read<'_, u32>
-    ensures { Gives (λ x. (x.0, x.1.now)) result (number_below most text.now) }
-{
-    let (number, rest) = read_number(text)?;
-    if number < most {
-        return Ok((number, rest));
-    }
-    Err(stopped_at(text, wanted))
 }

@@ -1,106 +1,18 @@
 // Values, which may name labels, the immediates that are made of them, and how far branches and jumps go.
 
 ghost use Rattle.std.specs.Prelude.{◌≡◌, ◌-◌, ◌≤◌};
-ghost use Rattle.std.specs.List.{take_while};
 ghost use Rattle.svc_draft.specs.Layouts.{layout_of};
-ghost use Rattle.svc_operands.specs.Characters.{past};
-ghost use Rattle.svc_operands.specs.Values.{is_decimal, reference_named, referred, place_of, plain_term_at, bits_of, fitted, term_at, sum_with, value_at, high_part, from_here, enclosed_at, relative_at, high_at, distance_named, completed_at, low_at, short_at, upper_at, reach, reach_at, offset_at, half_of, target_at};
+ghost use Rattle.svc_operands.specs.Values.{bits_of, fitted, value_at, high_part, from_here, enclosed_at, relative_at, high_at, distance_named, completed_at, low_at, short_at, upper_at, reach, reach_at, offset_from, offset_at, half_of, target_at};
 ghost use Rattle.svc_operands.specs.Operands.{Gives};
 
-use crate::characters::{Radix, skip_mark, skip_spaces, split_name, value_of};
+use crate::characters::{skip_mark, split_name};
+use crate::expressions::{read_added, read_expression};
 use crate::names::is_word;
-use crate::operands::{
-    Signed, distance, read_behind_sign, read_below, read_mark, read_number, read_number_short,
-    steps_of,
-};
+use crate::numbers::{read_below, read_number_short, signed_of};
+use crate::operands::{Signed, distance, read_mark, steps_of};
+use crate::places::place_of;
 use crate::unread::{Read, Wanted, stopped_at};
 use svc_draft::Draft;
-
-/// A local label.
-#[derive(Clone, Copy)]
-pub enum Reference {
-    /// The last one of this number before here: `1b`.
-    Back(u32),
-    /// The next one of this number: `1f`.
-    Ahead(u32),
-}
-
-#[tactic(auto, unfolding(crate::specs::Characters::past))]
-fn skip_digits(text: &[u8]) -> &[u8]
-    ensures { result.now ≡ past is_decimal text.now }
-{
-    let mut rest = text;
-    while let [first, after @ ..] = rest {
-        if !matches!(*first, b'0'..=b'9') {
-            return rest;
-        }
-        rest = after;
-    }
-    rest
-}
-
-// The digits that a name begins with, and what follows them.
-#[tactic(auto, using(crate::proofs::Past::past_within, crate::proofs::Past::front_of_past))]
-fn split_digits(name: &[u8]) -> (&[u8], &[u8])
-    ensures digits { result.0.now ≡ take_while is_decimal name.now }
-    ensures rest { result.1.now ≡ past is_decimal name.now }
-{
-    let rest = skip_digits(name);
-    let (digits, _) = name.split_at(name.len() - rest.len());
-    (digits, rest)
-}
-
-#[tactic(auto, unfolding(crate::specs::Values::reference_named))]
-pub fn reference_named(name: &[u8]) -> Option<Reference>
-    ensures { result ≡ reference_named name.now }
-{
-    let (digits, letter) = split_digits(name);
-    if is_word(letter, "b") {
-        return Some(Reference::Back(value_of(Radix::Decimal, digits)?));
-    }
-    if is_word(letter, "f") {
-        return Some(Reference::Ahead(value_of(Radix::Decimal, digits)?));
-    }
-    None
-}
-
-pub fn referred(draft: &Draft, reference: Reference) -> Option<u32>
-    ensures { result ≡ referred (layout_of draft.now) reference }
-{
-    match reference {
-        Reference::Back(number) => draft.address_back(number),
-        Reference::Ahead(number) => draft.address_ahead(number),
-    }
-}
-
-#[tactic(auto, unfolding(crate::specs::Values::place_of))]
-fn place_of(draft: &Draft, name: &[u8]) -> Option<u32>
-    ensures { result ≡ place_of (layout_of draft.now) name.now }
-{
-    if is_word(name, ".") {
-        return Some(draft.here());
-    }
-    if let Some(reference) = reference_named(name) {
-        return referred(draft, reference);
-    }
-    draft.address_of(name)
-}
-
-#[tactic(auto, unfolding(crate::specs::Values::plain_term_at))]
-fn read_plain_term<'a>(draft: &Draft, text: &'a [u8]) -> Read<'a, u32>
-    ensures { Gives (λ x. (x.0, x.1.now)) result (plain_term_at (layout_of draft.now) text.now) }
-{
-    match read_number(text) {
-        Ok(read) => Ok(read),
-        Err(_) => {
-            let (name, rest) = split_name(text);
-            match place_of(draft, name) {
-                Some(address) => Ok((address, rest)),
-                None => Err(stopped_at(text, Wanted::Value)),
-            }
-        }
-    }
-}
 
 /// The 32 bits of a number with its sign.
 pub fn bits_of(number: Signed) -> u32
@@ -130,40 +42,13 @@ pub fn fitted(half: u32, number: Signed) -> Option<u32>
     None
 }
 
-#[tactic(auto, unfolding(crate::specs::Values::term_at))]
-fn read_term<'a>(draft: &Draft, text: &'a [u8]) -> Read<'a, u32>
-    ensures { Gives (λ x. (x.0, x.1.now)) result (term_at (layout_of draft.now) text.now) }
-{
-    let rest = skip_spaces(text);
-    match rest {
-        [] => Err(stopped_at(text, Wanted::Value)),
-        [b'-', number @ ..] => {
-            let (number, rest) = read_behind_sign(true, number)?;
-            Ok((bits_of(number), rest))
-        }
-        _ => read_plain_term(draft, rest),
-    }
-}
-
-#[tactic(auto, unfolding(crate::specs::Values::sum_with))]
-fn read_sum(term: u32, negative: bool, text: &[u8]) -> Read<'_, u32>
-    ensures { Gives (λ x. (x.0, x.1.now)) result (sum_with term negative text.now) }
-{
-    let (number, rest) = read_behind_sign(negative, text)?;
-    Ok((term.wrapping_add(bits_of(number)), rest))
-}
-
-/// A value of 32 bits: a number, `.`, a label, or one of them and a number that is added or taken away.
+/// A value of 32 bits: the low ones of an expression, in which numbers, `.` and labels stand.
 #[tactic(auto, unfolding(crate::specs::Values::value_at))]
 pub fn read_value<'a>(draft: &Draft, text: &'a [u8]) -> Read<'a, u32>
     ensures { Gives (λ x. (x.0, x.1.now)) result (value_at (layout_of draft.now) text.now) }
 {
-    let (term, rest) = read_term(draft, text)?;
-    match skip_spaces(rest) {
-        [b'+', number @ ..] => read_sum(term, false, number),
-        [b'-', number @ ..] => read_sum(term, true, number),
-        _ => Ok((term, rest)),
-    }
+    let (number, rest) = read_expression(Some(draft), text)?;
+    Ok(((number % 0x1_0000_0000) as u32, rest))
 }
 
 /// The high part of a value, which makes it together with its low 12 bits, which count with a sign.
@@ -301,17 +186,24 @@ fn read_reach<'a>(draft: &Draft, text: &'a [u8]) -> Read<'a, Signed>
     }
 }
 
+#[tactic(auto, unfolding(crate::specs::Values::offset_from))]
+fn read_offset_from(text: &[u8]) -> Read<'_, Signed>
+    ensures { Gives (λ x. (x.0, x.1.now)) result (offset_from text.now) }
+{
+    let (number, rest) = read_added(text)?;
+    match signed_of(number) {
+        Some(offset) => Ok((offset, rest)),
+        None => Err(stopped_at(text, Wanted::Number)),
+    }
+}
+
 #[tactic(auto, unfolding(crate::specs::Values::offset_at))]
 fn read_offset<'a>(draft: &Draft, text: &'a [u8]) -> Read<'a, Signed>
     ensures { Gives (λ x. (x.0, x.1.now)) result (offset_at (layout_of draft.now) text.now) }
 {
     let (name, rest) = split_name(text);
     match name {
-        b"." => match skip_spaces(rest) {
-            [b'+', magnitude @ ..] => read_behind_sign(false, magnitude),
-            [b'-', magnitude @ ..] => read_behind_sign(true, magnitude),
-            _ => Ok((NOWHERE, rest)),
-        },
+        b"." => read_offset_from(rest),
         _ => read_reach(draft, text),
     }
 }

@@ -1,7 +1,7 @@
 use Rattle.std.proofs.Common.{◌≡◌, length}
 use Rattle.svc_operands.specs.Characters.{past}
-use Rattle.svc_operands.specs.Values.{is_decimal}
-use Rattle.svc_operands.proofs.values.skip_digits.Given as goal
+use Rattle.svc_operands.specs.Places.{is_decimal}
+use Rattle.svc_operands.proofs.places.skip_digits.Given as goal
 
 abbrev pub invariant-loop-rest : goal.invariant-loop-rest
 invariant-loop-rest l = past is_decimal l.rest ≡ past is_decimal l.text

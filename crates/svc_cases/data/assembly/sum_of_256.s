@@ -1,0 +1,4 @@
+.svc_entry
+    ecall
+.data
+    .byte 200 + 8 * 7

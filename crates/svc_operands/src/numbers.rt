@@ -1,0 +1,76 @@
+// Numbers of operands and of directives: expressions without names, within bounds.
+
+ghost use Rattle.std.specs.Prelude.{◌≡◌, ◌^◌};
+ghost use Rattle.svc_operands.specs.Numbers.{number_below, signed_of, signed_at, number_short_at};
+ghost use Rattle.svc_operands.specs.Operands.{Gives};
+
+use crate::expressions::read_expression;
+use crate::operands::{Signed, wrapped};
+use crate::unread::{Read, Wanted, stopped_at};
+
+/// A number below a bound.
+#[tactic(auto, unfolding(crate::specs::Numbers::number_below))]
+pub fn read_below(most: u32, wanted: Wanted, text: &[u8]) -> Read<'_, u32>
+    ensures { Gives (λ x. (x.0, x.1.now)) result (number_below most text.now) }
+{
+    let (number, rest) = read_expression(None, text)?;
+    if number < most as u64 {
+        return Ok((number as u32, rest));
+    }
+    Err(stopped_at(text, wanted))
+}
+
+/// A number of 32 bits without a sign.
+#[tactic(auto, unfolding(crate::specs::Numbers::number_below))]
+pub fn read_count(text: &[u8]) -> Read<'_, u32>
+    ensures { Gives (λ x. (x.0, x.1.now)) result (number_below (2 ^ 32) text.now) }
+{
+    let (number, rest) = read_expression(None, text)?;
+    if number < 0x1_0000_0000 {
+        return Ok((number as u32, rest));
+    }
+    Err(stopped_at(text, Wanted::Number))
+}
+
+#[tactic(auto, unfolding(crate::specs::Numbers::signed_of))]
+pub fn signed_of(number: u64) -> Option<Signed>
+    ensures { result ≡ signed_of number }
+{
+    if number < 0x1_0000_0000 {
+        return Some(Signed {
+            negative: false,
+            magnitude: number as u32,
+        });
+    }
+    let magnitude = 0u64.wrapping_sub(number);
+    if magnitude < 0x1_0000_0000 {
+        return Some(Signed {
+            negative: true,
+            magnitude: magnitude as u32,
+        });
+    }
+    None
+}
+
+/// A number that may be below 0.
+#[tactic(auto, unfolding(crate::specs::Numbers::signed_at))]
+pub fn read_signed(text: &[u8]) -> Read<'_, Signed>
+    ensures { Gives (λ x. (x.0, x.1.now)) result (signed_at text.now) }
+{
+    let (number, rest) = read_expression(None, text)?;
+    match signed_of(number) {
+        Some(signed) => Ok((signed, rest)),
+        None => Err(stopped_at(text, Wanted::Number)),
+    }
+}
+
+#[tactic(auto, unfolding(crate::specs::Numbers::number_short_at))]
+pub fn read_number_short(text: &[u8]) -> Read<'_, u32>
+    ensures { Gives (λ x. (x.0, x.1.now)) result (number_short_at text.now) }
+{
+    let (number, rest) = read_signed(text)?;
+    match wrapped(2048, number) {
+        Some(bits) => Ok((bits, rest)),
+        None => Err(stopped_at(text, Wanted::Immediate)),
+    }
+}
