@@ -191,7 +191,7 @@ export async function all_schedules_are_listed_beside_the_run() {
   Object.assign(tables, { explored, of: explored_key(session), begun: 0, filter: 'all' });
   const html = await all_html(session, UNPREDICTED);
   const rows = [...html.matchAll(/<li>(.*?)<\/li>/g)].map((it) => plain(it[1]));
-  match(plain(html), /all 73 standings, each within 10 steps; 122 moves/);
+  match(plain(html), /all 37 standings, each within 10 steps; 62 moves/);
   equal(rows.length, 15);
   equal(rows[3], '●task 1 loads shared = 0 from memory3 steps, entry 2');
   equal(rows[4], '○task 1 loads shared = 5 from task 0’s version4 steps');

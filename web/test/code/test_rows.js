@@ -88,7 +88,7 @@ export function a_picture_has_bars_marks_and_arrows() {
 
 export function an_exploration_has_counts_and_what_is_seen() {
   const it = explored_of(printed('explore_p_on_2_by_63'));
-  deepEqual([it.states, it.moves, it.deepest, it.whole, it.seen.length], ['73', '122', '10', 'yes', 15]);
+  deepEqual([it.states, it.moves, it.deepest, it.whole, it.seen.length], ['37', '62', '10', 'yes', 15]);
   deepEqual(it.seen[4], { what: 'load', task: '1', word: '0', value: '5', by: 'version:0', steps: '4',
     key: 'load,1,0,5,version:0' });
   deepEqual(it.seen.at(-1), { what: 'squash', task: '2', word: '', value: '1', by: 'guess', steps: '8',
