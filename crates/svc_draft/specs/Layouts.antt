@@ -61,7 +61,21 @@ Distances = ℕ → Option ℕ
 abbrev pub no_distances : Distances
 no_distances place = None
 
--- what an image is made of so far: the version where it is said; the limit of the entries that have none of their own; how many of the first data words are read-only; the start where it is said; the registers; the entries, and the limit that each has of its own; the words of the text, the bytes of each section of data, of which step .data and .bss begin at a multiple, the section of what follows, and what is read next; the names, whether these are all the names of the program, as they are in the second pass, and how far behind the data's beginning .data and .bss begin then; the local labels, which the second pass has from the first one, and how many of them it has passed; the distances of the instructions with %pcrel_hi so far
+-- the branches that are turned: each is the opposite branch over a jump, and is known by how many bytes of the text are left from its target on
+abbrev pub Branches : Type 0
+Branches = ℕ → Option (Unit {0})
+
+abbrev pub no_branches : Branches
+no_branches left = None
+
+-- the names that are weak
+abbrev pub Weak : Type 0
+Weak = List ℕ → Option (Unit {0})
+
+abbrev pub no_weak : Weak
+no_weak name = None
+
+-- what an image is made of so far: the version where it is said; the limit of the entries that have none of their own; how many of the first data words are read-only; the start where it is said; the registers; the entries, and the limit that each has of its own; the words of the text, the bytes of each section of data, of which step .data and .bss begin at a multiple, the section of what follows, and what is read next; the names, whether these are all the names of the program, as they are in the second pass, and how far behind the data's beginning .data and .bss begin then; the local labels, which the second pass has from the first one, and how many of them it has passed; the distances of the instructions with %pcrel_hi so far; the branches that are turned, whether all are, and whether this pass found more; the weak names so far
 pub record Layout : Type 0 where
   pub version : Option Version
   pub limit : ℕ
@@ -85,6 +99,10 @@ pub record Layout : Type 0 where
   pub locals : List Local
   pub passed : ℕ
   pub distances : Distances
+  pub turned : Branches
+  pub turns_all : Bool
+  pub grew : Bool
+  pub weak : Weak
 
 abbrev pub layout_of : Draft → Layout
 layout_of d = record {
@@ -110,6 +128,10 @@ layout_of d = record {
   locals = d.locals.items;
   passed = d.passed;
   distances = get nat_eq d.distances;
+  turned = get nat_eq d.turned;
+  turns_all = d.turns_all;
+  grew = d.grew;
+  weak = λ name. get_by (λ key. bytes_eq name key.now) d.weak;
 }
 
 abbrev pub zeros : List ℕ
@@ -140,6 +162,10 @@ empty names known data_from bss_from = record {
   locals = [];
   passed = 0;
   distances = no_distances;
+  turned = no_branches;
+  turns_all = false;
+  grew = false;
+  weak = no_weak;
 }
 
 -- a number of bytes and how far it is from there to a multiple of a step
@@ -156,12 +182,26 @@ bss_begin d = multiple d.bss_step (data_begin d + length d.data_bytes)
 abbrev pub data_size : Layout → ℕ
 data_size d = multiple 4 (bss_begin d + length d.bss_bytes)
 
--- no lines yet, in the first pass, and in the second pass behind such a first one
+-- no lines yet, in the first pass of the first round, of the round behind one that ended so, and of one in which every branch is turned
 abbrev pub first_pass : Layout
 first_pass = empty no_names false 0 0
 
+abbrev pub next_round : Layout → Layout
+next_round d = record first_pass { turned = d.turned }
+
+abbrev pub last_round : Layout
+last_round = record first_pass { turns_all = true }
+
+-- no lines yet, in the second pass of a round, behind such a first one
 abbrev pub second_pass : Layout → Layout
-second_pass d = record (empty d.names true (data_begin d) (bss_begin d)) { data_step = d.data_step; bss_step = d.bss_step; locals = d.locals }
+second_pass d = record (empty d.names true (data_begin d) (bss_begin d)) { data_step = d.data_step; bss_step = d.bss_step; locals = d.locals; turned = d.turned; turns_all = d.turns_all; weak = d.weak }
+
+-- whether a branch is turned
+abbrev pub is_turned : Layout → ℕ → Bool
+is_turned d left = d.turns_all || is_some (d.turned left)
+
+abbrev pub is_weak : Layout → List ℕ → Bool
+is_weak d name = is_some (d.weak name)
 
 -- how many bytes of the section of what follows there are so far
 abbrev pub size_in : Section → Layout → ℕ
@@ -278,6 +318,10 @@ with_instruction w d = word_in d.section w d
 unfoldable pub with_relative : ℕ → ℕ → Layout → Option Layout
 with_relative w n d = with_instruction w (record d { distances = update nat_eq d.distances (here d) (Some n) })
 
+-- a branch that doesn't reach its target: one word stands for it, and it is turned in the next round
+unfoldable pub with_turned : ℕ → Layout → Option Layout
+with_turned left d = with_instruction 19 (record d { turned = update nat_eq d.turned left (Some tt); grew = true })
+
 -- the version, of which a program has one
 unfoldable pub with_version : Version → Layout → Option Layout
 with_version v d = if has_other v d.version then None else Some (record d { version = Some v })
@@ -332,6 +376,10 @@ with_symbol name s d =
     if d.known then if is_place (place d s) (option_map (place d) (d.names name)) then Some d else None
     else if is_some (d.names name) then None else Some (record d { names = update bytes_eq d.names name (Some s) })
 
+-- a weak name more, or once more
+unfoldable pub with_weak : List ℕ → Layout → Option Layout
+with_weak name d = Some (record d { weak = update bytes_eq d.weak name (Some tt) })
+
 -- whether a local label that the first pass found has this number and stands here
 abbrev pub is_local : Layout → ℕ → Option Local → Bool
 is_local d n None = false
@@ -374,6 +422,8 @@ after name (say.Long low high next) d = with_value wide.Word low d >>= with_valu
 after name (say.Symbol s) d = with_symbol name s d >>= going_on go.Line
 after name (say.Common count step) d = with_common name count step d
 after name (say.Pair v w) d = with_instruction v d >>= with_instruction w
+after name (say.Turned left) d = with_turned left d
+after name (say.Weak next) d = with_weak name d >>= going_on next
 after name (say.Local n) d = with_local n d
 after name (say.Relative w n) d = with_relative w n d
 

@@ -4,7 +4,7 @@ ghost use Rattle.std.specs.Prelude.{◌≡◌, ◌+◌, ◌%◌, ◌≤◌, ◌+
 ghost use Rattle.svc_image.specs.declared.error.ImageError.TheVariants as image_error;
 ghost use Rattle.svc_image.specs.Format.{bytes_of_half, bytes_of_word};
 ghost use Rattle.svc_draft.specs.Areas.{padding, with_more, with_zeros, with_copies, filled, data_of, bytes_in};
-ghost use Rattle.svc_draft.specs.Layouts.{multiple, greater_step, data_begin, bss_begin, data_size, layout_of, in_section, with_room, with_bytes, with_blank, with_fill, with_nops, with_filling, with_step, with_align, with_value, with_common, with_word, with_instruction, with_relative};
+ghost use Rattle.svc_draft.specs.Layouts.{multiple, greater_step, data_begin, bss_begin, data_size, layout_of, in_section, with_room, with_bytes, with_blank, with_fill, with_nops, with_filling, with_step, with_align, with_value, with_common, with_word, with_instruction, with_turned, with_relative};
 ghost use Rattle.svc_draft.specs.Refusals.{Changes};
 
 use crate::draft::Draft;
@@ -376,6 +376,16 @@ impl<'a> Draft<'a> {
         }
         self.text.push(word)?;
         Ok(())
+    }
+
+    // One word stands for the branch in this round, which makes no image.
+    #[tactic(auto, unfolding(crate::specs::Layouts::with_turned))]
+    pub(crate) fn turn(&mut self, left: usize) -> Result<(), Refusal>
+        ensures { Changes result (with_turned left (layout_of self.old)) (layout_of self.new) }
+    {
+        self.turned.insert(left, ())?;
+        self.grew = true;
+        self.push_instruction(NOP)
     }
 
     #[tactic(auto, unfolding(crate::specs::Layouts::with_relative))]

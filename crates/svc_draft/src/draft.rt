@@ -35,6 +35,10 @@ pub struct Draft<'a> {
     pub(crate) locals: Vec<Local>,
     pub(crate) passed: usize,
     pub(crate) distances: HashMap<u32, u32>,
+    pub(crate) turned: HashMap<usize, ()>,
+    pub(crate) turns_all: bool,
+    pub(crate) grew: bool,
+    pub(crate) weak: HashMap<&'a [u8], ()>,
     ghost text_few: { length text.items ≤ 65536 },
     ghost rodata_few: { length rodata_bytes.items ≤ 262144 },
     ghost data_few: { length data_bytes.items ≤ 262144 },
@@ -49,13 +53,31 @@ pub struct Draft<'a> {
 impl<'a> Draft<'a> {
     ghost use Rattle.std.specs.Prelude.{Some};
     ghost use Rattle.svc_draft.specs.Refusals.{Refuses};
-    ghost use Rattle.svc_draft.specs.Layouts.{layout_of, empty, first_pass, second_pass, size, base, place, spot_here, here, after};
+    ghost use Rattle.svc_draft.specs.Layouts.{layout_of, empty, first_pass, second_pass, next_round, last_round, is_turned, is_weak, size, base, place, spot_here, here, after};
 
-    /// No lines yet, in the first pass.
+    /// No lines yet, in the first pass of the first round, in which no branch is turned.
     pub fn new(alloc: Global) -> Draft<'a>
         ensures { layout_of result ≡ first_pass }
     {
         Draft::with_names(HashMap::new(alloc), alloc)
+    }
+
+    /// No lines yet, in the first pass of the round behind one that ended so: what that found too far is turned.
+    pub fn next_round(self, alloc: Global) -> Draft<'a>
+        ensures { layout_of result ≡ next_round (layout_of self.entry) }
+    {
+        let mut next = Draft::new(alloc);
+        next.turned = self.turned;
+        next
+    }
+
+    /// No lines yet, in the first pass of a round in which every branch is turned.
+    pub fn last_round(alloc: Global) -> Draft<'a>
+        ensures { layout_of result ≡ last_round }
+    {
+        let mut last = Draft::new(alloc);
+        last.turns_all = true;
+        last
     }
 
     /// No lines yet, in the second pass, behind a first one that ended so.
@@ -71,6 +93,9 @@ impl<'a> Draft<'a> {
         again.data_step = self.data_step;
         again.bss_step = self.bss_step;
         again.locals = self.locals;
+        again.turned = self.turned;
+        again.turns_all = self.turns_all;
+        again.weak = self.weak;
         again
     }
 
@@ -99,6 +124,10 @@ impl<'a> Draft<'a> {
             locals: Vec::new(alloc),
             passed: 0,
             distances: HashMap::new(alloc),
+            turned: HashMap::new(alloc),
+            turns_all: false,
+            grew: false,
+            weak: HashMap::new(alloc),
         }
     }
 
@@ -154,6 +183,28 @@ impl<'a> Draft<'a> {
         self.place(self.spot_here())
     }
 
+    /// Whether this pass has found a branch that doesn't reach its target, and that is turned in the next round.
+    pub fn grew(&self) -> bool
+        ensures { result ≡ (layout_of self.now).grew }
+    {
+        self.grew
+    }
+
+    /// Whether a branch is turned: it is the opposite branch over a jump. It is known by how many bytes of the text are
+    /// left from its target on.
+    pub fn is_turned(&self, left: usize) -> bool
+        ensures { result ≡ is_turned (layout_of self.now) left }
+    {
+        self.turns_all || self.turned.get(&left).is_some()
+    }
+
+    /// Whether a name is weak, by a line before or, in the second pass, by any.
+    pub fn is_weak(&self, name: &[u8]) -> bool
+        ensures { result ≡ is_weak (layout_of self.now) name.now }
+    {
+        self.weak.get(name).is_some()
+    }
+
     /// Whether all names of the program are known, as they are in the second pass.
     pub fn is_known(&self) -> bool
         ensures { result ≡ (layout_of self.now).known }
@@ -202,6 +253,11 @@ impl<'a> Draft<'a> {
             Statement::Pair(first, second) => {
                 self.push_instruction(first)?;
                 self.push_instruction(second)?;
+            }
+            Statement::Turned(left) => return self.turn(left),
+            Statement::Weak(next) => {
+                self.set_weak(name)?;
+                self.next = next;
             }
             Statement::Local(number) => return self.take_local(number),
             Statement::Relative(word, distance) => return self.push_relative(word, distance),

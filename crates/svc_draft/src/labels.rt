@@ -1,7 +1,7 @@
 // Names and local labels: what stands for what.
 
 ghost use Rattle.std.specs.Prelude.{◌≡◌, IfErr, OnOk, Some, None};
-ghost use Rattle.svc_draft.specs.Layouts.{last_local, first_local, layout_of, place, address_of, address_back, address_ahead, distance_from, with_symbol, with_passed, with_local};
+ghost use Rattle.svc_draft.specs.Layouts.{last_local, first_local, layout_of, place, address_of, address_back, address_ahead, distance_from, with_symbol, with_weak, with_passed, with_local};
 ghost use Rattle.svc_draft.specs.Refusals.{Refuses, Changes};
 
 use crate::draft::Draft;
@@ -77,6 +77,14 @@ impl<'a> Draft<'a> {
             return Err(Refusal::LabelTwice);
         }
         self.names.insert(name, spot)?;
+        Ok(())
+    }
+
+    #[tactic(auto, unfolding(crate::specs::Layouts::with_weak))]
+    pub(crate) fn set_weak(&mut self, name: &'a [u8]) -> Result<(), Refusal>
+        ensures { Changes result (with_weak name.now (layout_of self.old)) (layout_of self.new) }
+    {
+        self.weak.insert(name, ())?;
         Ok(())
     }
 

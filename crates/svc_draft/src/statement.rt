@@ -70,6 +70,8 @@ pub enum Next {
     Symbol,
     /// A name, and the size and the alignment of the zeros that it is to name.
     Common,
+    /// A name of a list of weak ones.
+    Weak,
     /// A line of a section that is passed over.
     Passed,
 }
@@ -114,6 +116,11 @@ pub enum Statement {
     Common(u32, u32),
     /// Two instructions that one name stands for, as `call`, by their words.
     Pair(u32, u32),
+    /// A branch that doesn't reach its target, by how many bytes of the text are left from the target on: it is turned
+    /// in the next round.
+    Turned(usize),
+    /// A weak name, as of `.weak NAME`, and what is read next.
+    Weak(Next),
     /// A number and a colon: the next local label of this number.
     Local(u32),
     /// `auipc` with `%pcrel_hi(VALUE)`, and how far it is to the value, whose low part `%pcrel_lo` names by its label.

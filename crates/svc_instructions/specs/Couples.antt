@@ -12,6 +12,7 @@ use Rattle.svc_operands.specs.Values.{value_at, fitted, high_part, from_here, re
 use Rattle.svc_instructions.specs.declared.table.Couple.{Couple}
 use Rattle.svc_instructions.specs.declared.table.Part.TheVariants as part
 use Rattle.svc_instructions.specs.Instructions.{joined, alone_at}
+use Rattle.svc_instructions.specs.Branches.{far_at}
 use Rattle.std.specs.List.{find}
 use Rattle.svc_operands.specs.Names.{padded, number_named}
 use Rattle.svc_instructions.specs.declared.table.Through.{Through}
@@ -125,10 +126,14 @@ single_at d name letters text = found (relative_named d name text) (λ read. Som
 abbrev pub alone_on_line : Statement × List ℕ → Read Statement
 alone_on_line read = if is_over read.1 then Some read else None
 
--- one instruction, or an access by a label
+-- two instructions: an access by a label, or a branch
+unfoldable pub longer_at : Layout → (name letters text : List ℕ) → Read Statement
+longer_at d name letters text =
+    found (access_at d name text) (λ read. Some read) (far_at d letters text) >>= alone_on_line
+
+-- one instruction, or two
 unfoldable pub other_at : Layout → (name letters text : List ℕ) → Read Statement
-other_at d name letters text =
-    found (single_at d name letters text) (λ read. Some read) (access_at d name text >>= alone_on_line)
+other_at d name letters text = found (single_at d name letters text) (λ read. Some read) (longer_at d name letters text)
 
 abbrev pub lettered_at : Layout → (name letters text : List ℕ) → Read Statement
 lettered_at d name letters text =

@@ -11,7 +11,7 @@ use Rattle.std.specs.Str.{bytes_eq}
 use Rattle.svc_draft.specs.declared.statement.Statement.{Statement}
 use Rattle.svc_draft.specs.declared.statement.Statement.TheVariants as say
 use Rattle.svc_draft.specs.Layouts.{Layout}
-use Rattle.svc_operands.specs.Values.{target_at, short_at, upper_at}
+use Rattle.svc_operands.specs.Values.{branch_at, jump_at, short_at, upper_at}
 use Rattle.svc_instructions.specs.declared.table.Part.{Part}
 use Rattle.svc_instructions.specs.declared.table.Part.TheVariants as part
 use Rattle.svc_instructions.specs.declared.table.Row.{Row}
@@ -86,8 +86,8 @@ part_at d part.StoreOffset text = short_at d text
 part_at d part.Amount text = number_below 32 text
 part_at d part.Upper text = upper_at d text
 part_at d part.Order text = fence_at text
-part_at d part.Branch text = target_at 2048 d text
-part_at d part.Jump text = target_at 524288 d text
+part_at d part.Branch text = branch_at d text
+part_at d part.Jump text = jump_at d text
 
 -- a word and an operand's number in it
 abbrev pub joined : ℕ → Part → ℕ → ℕ

@@ -5,8 +5,9 @@ ghost use Rattle.std.specs.List.{find};
 ghost use Rattle.svc_draft.specs.Layouts.{layout_of};
 ghost use Rattle.svc_operands.specs.Operands.{Gives};
 ghost use Rattle.svc_instructions.specs.Instructions.{joined};
-ghost use Rattle.svc_instructions.specs.Couples.{has_name, with_high, with_low, apart, past_plt, pair_at, linked_at, couple_at, begins_name, label_at, load_at, with_store, store_at, access_at, other_at, set_to, set_at, relative_upper_at, single_at, instruction_at};
+ghost use Rattle.svc_instructions.specs.Couples.{has_name, with_high, with_low, apart, past_plt, pair_at, linked_at, couple_at, begins_name, label_at, load_at, with_store, store_at, access_at, alone_on_line, longer_at, other_at, set_to, set_at, relative_upper_at, single_at, instruction_at};
 
+use crate::branch::read_far;
 use crate::reading::{further, joined, read_alone};
 use crate::table::{COUPLES, Couple, LOADS, Part, STORES, Through};
 use svc_draft::{Draft, Statement};
@@ -224,22 +225,44 @@ fn read_single<'a>(draft: &Draft, name: &[u8], letters: Name, text: &'a [u8]) ->
     )
 }
 
+// What ends its line, or else this fault.
+fn alone_on_line(read: (Statement, &[u8]), fault: Unread) -> Read<'_, Statement>
+    ensures { Gives (λ x. (x.0, x.1.now)) result (alone_on_line (read.entry.0, read.entry.1.now)) }
+{
+    if is_over(read.1) {
+        return Ok(read);
+    }
+    Err(fault)
+}
+
+// Two instructions behind which the line ends: an access by a label, or a branch.
+#[tactic(auto, unfolding(crate::specs::Couples::longer_at))]
+fn read_longer<'a>(
+    draft: &Draft,
+    name: &[u8],
+    letters: Name,
+    text: &'a [u8],
+    fault: Unread,
+) -> Read<'a, Statement>
+    ensures { Gives (λ x. (x.0, x.1.now)) result (longer_at (layout_of draft.now) name.now letters text.now) }
+{
+    match read_access(draft, name, text, fault) {
+        Ok(read) => alone_on_line(read, fault),
+        Err(later) => {
+            let fault = further(fault, later);
+            let read = read_far(draft, letters, text, fault)?;
+            alone_on_line(read, fault)
+        }
+    }
+}
+
 #[tactic(auto, unfolding(crate::specs::Couples::other_at))]
 fn read_other<'a>(draft: &Draft, name: &[u8], letters: Name, text: &'a [u8]) -> Read<'a, Statement>
     ensures { Gives (λ x. (x.0, x.1.now)) result (other_at (layout_of draft.now) name.now letters text.now) }
 {
     match read_single(draft, name, letters, text) {
         Ok(read) => Ok(read),
-        Err(fault) => match read_access(draft, name, text, fault) {
-            Ok((statement, rest)) => {
-                if is_over(rest) {
-                    Ok((statement, rest))
-                } else {
-                    Err(fault)
-                }
-            }
-            Err(later) => Err(further(fault, later)),
-        },
+        Err(fault) => read_longer(draft, name, letters, text, fault),
     }
 }
 

@@ -1,6 +1,7 @@
 //! Instructions in a line of assembly, as the rows of tables: RV32I's own, other names of them, and names of two.
 #![tactic(auto)]
 
+mod branch;
 mod couple;
 mod reading;
 mod table;

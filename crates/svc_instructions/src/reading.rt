@@ -10,8 +10,8 @@ ghost use Rattle.std.specs.List.{find};
 use crate::table::{ALIASES, Part, ROWS, Row, parts_of};
 use svc_draft::{Draft, Statement};
 use svc_operands::{
-    Name, Named, Read, Target, Unread, Wanted, is_over, number_named, read_base, read_below,
-    read_mark, read_register, read_short, read_target, read_upper, split_name, stopped_at,
+    Name, Named, Read, Unread, Wanted, is_over, number_named, read_base, read_below, read_branch,
+    read_jump, read_mark, read_register, read_short, read_upper, split_name, stopped_at,
 };
 
 /// Sets of accesses by their letters, as four bits: input, output, reads and writes.
@@ -104,7 +104,7 @@ pub fn joined(word: u32, part: Part, n: u32) -> u32
 }
 
 #[tactic(auto, unfolding(crate::specs::Instructions::part_at))]
-fn read_part<'a>(draft: &Draft, part: Part, text: &'a [u8]) -> Read<'a, u32>
+pub fn read_part<'a>(draft: &Draft, part: Part, text: &'a [u8]) -> Read<'a, u32>
     ensures { Gives (λ x. (x.0, x.1.now)) result (part_at (layout_of draft.now) part text.now) }
 {
     match part {
@@ -125,8 +125,8 @@ fn read_part<'a>(draft: &Draft, part: Part, text: &'a [u8]) -> Read<'a, u32>
         Part::Amount => read_below(32, Wanted::Amount, text),
         Part::Upper => read_upper(draft, text),
         Part::Order => read_fence(text),
-        Part::Branch => read_target(draft, Target::Branch, text),
-        Part::Jump => read_target(draft, Target::Jump, text),
+        Part::Branch => read_branch(draft, text),
+        Part::Jump => read_jump(draft, text),
     }
 }
 

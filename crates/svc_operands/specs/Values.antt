@@ -1,13 +1,11 @@
 -- Values, which may name labels, the immediates that are made of them, and how far branches and jumps go.
-use Rattle.std.specs.Prelude.{ℕ, ◌*◌, nat_le, nat_lt, List, Option, Some, None, if◌then◌else◌, codes, option_map, ◌+◌, ◌-◌, ◌/◌, ◌%◌, ◌^◌, false}
+use Rattle.std.specs.Prelude.{ℕ, ◌*◌, nat_le, nat_lt, length, Bool, List, Option, Some, None, if◌then◌else◌, codes, option_map, ◌+◌, ◌-◌, ◌/◌, ◌%◌, ◌^◌, ◌||◌, ◌&&◌, true, false}
 use Rattle.std.specs.Str.{bytes_eq}
-use Rattle.svc_draft.specs.Layouts.{Layout, here, distance_from}
-use Rattle.svc_operands.specs.declared.values.Target.{Target}
-use Rattle.svc_operands.specs.declared.values.Target.TheVariants as goes
+use Rattle.svc_draft.specs.Layouts.{Layout, here, distance_from, is_turned, is_weak}
 use Rattle.svc_operands.specs.Characters.{found, name_at, past_name, mark_at}
 use Rattle.svc_operands.specs.declared.operands.Signed.{Signed}
 use Rattle.svc_draft.specs.Options.{◌>>=◌}
-use Rattle.svc_operands.specs.Operands.{Read, distance, steps_of}
+use Rattle.svc_operands.specs.Operands.{Read, distance, halved, wrapped, steps_of}
 use Rattle.svc_operands.specs.Places.{place_of}
 use Rattle.svc_operands.specs.Expressions.{expression_at, added_at}
 use Rattle.svc_operands.specs.Numbers.{number_below, signed_of, number_short_at}
@@ -106,14 +104,37 @@ offset_from text = do
 unfoldable pub offset_at : Layout → List ℕ → Read Signed
 offset_at d text = if bytes_eq (name_at text) (codes ".") then offset_from (past_name text) else reach_at d text
 
--- how many steps a branch and a jump can go forward
-abbrev pub half_of : Target → ℕ
-half_of goes.Branch = 2048
-half_of goes.Jump = 524288
-
 -- how many steps of two bytes it is, as a number of which half is forward
 unfoldable pub target_at : (half : ℕ) → Layout → List ℕ → Read ℕ
 target_at half d text = do
   s ← offset_at d text
   n ← steps_of half s.0
+  Some (n, s.1)
+
+-- how far a jump goes: 2^20 bytes back, and nearly as far forward
+abbrev pub jump_at : Layout → List ℕ → Read ℕ
+jump_at d text = target_at 524288 d text
+
+-- whether a branch is two instructions, by the text from its target on: it is turned, or its target's name is weak, which only the second pass knows
+abbrev pub is_far : Layout → List ℕ → Bool
+is_far d text = is_turned d (length text) || d.known && is_weak d (name_at text)
+
+-- how far a branch of one instruction goes: 2^12 bytes back, and nearly as far forward
+unfoldable pub branch_at : Layout → List ℕ → Read ℕ
+branch_at d text = if is_far d text then None else target_at 2048 d text
+
+-- as many steps from the next word, which stands two steps behind here
+abbrev pub behind_word : Signed → Signed
+behind_word s = if s.negative then record { negative = true; magnitude = s.magnitude + 2 } else distance 2 s.magnitude
+
+unfoldable pub steps_behind : Signed → Option ℕ
+steps_behind s = do
+  h ← halved s
+  wrapped 524288 (behind_word h)
+
+-- how far a jump goes that stands a word behind here
+unfoldable pub jump_behind_at : Layout → List ℕ → Read ℕ
+jump_behind_at d text = do
+  s ← offset_at d text
+  n ← steps_behind s.0
   Some (n, s.1)

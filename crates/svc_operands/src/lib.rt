@@ -22,6 +22,6 @@ pub use operands::{
 };
 pub use unread::{Read, Unread, Wanted, stopped_at, stopped_at_name};
 pub use values::{
-    Target, bits_of, fitted, from_here, high_part, read_relative, read_short, read_target,
-    read_upper, read_value,
+    bits_of, fitted, from_here, high_part, read_branch, read_jump, read_jump_behind, read_relative,
+    read_short, read_upper, read_value,
 };

@@ -1,6 +1,6 @@
 // The operands of instructions and directives.
 
-ghost use Rattle.std.specs.Prelude.{◌≡◌, ◌<◌, ◌≤◌, ◌*◌, ◌-◌, ◌/◌};
+ghost use Rattle.std.specs.Prelude.{◌≡◌, ◌<◌, ◌≤◌, ◌*◌, ◌-◌, ◌/◌, IfSome};
 ghost use Rattle.svc_operands.specs.Characters.{mark_at};
 ghost use Rattle.svc_operands.specs.Operands.{Gives, register_at, first_register_at, base_at, number_at, distance, wrapped, halved, steps_of};
 
@@ -112,8 +112,9 @@ pub fn wrapped(half: u32, number: Signed) -> Option<u32>
     }
 }
 
-fn halved(number: Signed) -> Option<Signed>
-    ensures { result ≡ halved number }
+pub fn halved(number: Signed) -> Option<Signed>
+    ensures value { result ≡ halved number }
+    ensures small { IfSome result (λ half. half.magnitude ≤ 2147483648) }
 {
     if number.magnitude % 2 == 0 {
         Some(Signed {

@@ -29,10 +29,8 @@ pub enum Wanted {
     Label,
     #[error("a number from -2048 to 2047")]
     Immediate,
-    #[error("an even offset from -4096 to 4094")]
-    BranchOffset,
     #[error("an even offset from -1048576 to 1048574")]
-    JumpOffset,
+    Offset,
     #[error("a number from 0 to 1048575")]
     Upper,
     #[error("a number from 0 to 31")]

@@ -2,14 +2,14 @@
 
 ghost use Rattle.std.specs.Prelude.{◌≡◌, ◌-◌, ◌≤◌};
 ghost use Rattle.svc_draft.specs.Layouts.{layout_of};
-ghost use Rattle.svc_operands.specs.Values.{bits_of, fitted, value_at, high_part, from_here, enclosed_at, relative_at, high_at, distance_named, completed_at, low_at, short_at, upper_at, reach, reach_at, offset_from, offset_at, half_of, target_at};
+ghost use Rattle.svc_operands.specs.Values.{bits_of, fitted, value_at, high_part, from_here, enclosed_at, relative_at, high_at, distance_named, completed_at, low_at, short_at, upper_at, reach, reach_at, offset_from, offset_at, target_at, jump_at, is_far, branch_at, behind_word, steps_behind, jump_behind_at};
 ghost use Rattle.svc_operands.specs.Operands.{Gives};
 
 use crate::characters::{skip_mark, split_name};
 use crate::expressions::{read_added, read_expression};
 use crate::names::is_word;
 use crate::numbers::{read_below, read_number_short, signed_of};
-use crate::operands::{Signed, distance, read_mark, steps_of};
+use crate::operands::{Signed, distance, halved, read_mark, steps_of, wrapped};
 use crate::places::place_of;
 use crate::unread::{Read, Wanted, stopped_at};
 use svc_draft::Draft;
@@ -208,32 +208,77 @@ fn read_offset<'a>(draft: &Draft, text: &'a [u8]) -> Read<'a, Signed>
     }
 }
 
-/// What goes to a target.
-#[derive(Clone, Copy)]
-pub enum Target {
-    Branch,
-    Jump,
-}
-
-fn half_of(target: Target) -> u32
-    ensures value { result ≡ half_of target }
-    ensures small { result ≤ 524288 }
+// How far it is to a target, in steps of two bytes, as a number of which half are forward.
+#[tactic(auto, unfolding(crate::specs::Values::target_at))]
+fn read_target<'a>(draft: &Draft, half: u32, text: &'a [u8]) -> Read<'a, u32>
+    requires { half ≤ 524288 }
+    ensures { Gives (λ x. (x.0, x.1.now)) result (target_at half (layout_of draft.now) text.now) }
 {
-    match target {
-        Target::Branch => 2048,
-        Target::Jump => 524_288,
+    let (offset, rest) = read_offset(draft, text)?;
+    match steps_of(half, offset) {
+        Some(steps) => Ok((steps, rest)),
+        None => Err(stopped_at(text, Wanted::Offset)),
     }
 }
 
-/// How far a branch or a jump goes, in steps of two bytes, as a number of which half are forward.
-#[tactic(auto, unfolding(crate::specs::Values::target_at))]
-pub fn read_target<'a>(draft: &Draft, target: Target, text: &'a [u8]) -> Read<'a, u32>
-    ensures { Gives (λ x. (x.0, x.1.now)) result (target_at (half_of target) (layout_of draft.now) text.now) }
+/// How far a jump goes, in steps of two bytes, as a number of 20 bits.
+pub fn read_jump<'a>(draft: &Draft, text: &'a [u8]) -> Read<'a, u32>
+    ensures { Gives (λ x. (x.0, x.1.now)) result (jump_at (layout_of draft.now) text.now) }
+{
+    read_target(draft, 524_288, text)
+}
+
+// Whether a branch is two instructions: it is turned, or its target's name is weak.
+fn is_far(draft: &Draft, text: &[u8]) -> bool
+    ensures { result ≡ is_far (layout_of draft.now) text.now }
+{
+    if draft.is_turned(text.len()) {
+        return true;
+    }
+    draft.is_known() && draft.is_weak(split_name(text).0)
+}
+
+/// How far a branch of one instruction goes, in steps of two bytes, as a number of 12 bits.
+#[tactic(auto, unfolding(crate::specs::Values::branch_at))]
+pub fn read_branch<'a>(draft: &Draft, text: &'a [u8]) -> Read<'a, u32>
+    ensures { Gives (λ x. (x.0, x.1.now)) result (branch_at (layout_of draft.now) text.now) }
+{
+    if is_far(draft, text) {
+        return Err(stopped_at(text, Wanted::Offset));
+    }
+    read_target(draft, 2048, text)
+}
+
+// As many steps from the next word, which stands two steps behind here.
+fn behind_word(steps: Signed) -> Signed
+    requires { steps.magnitude ≤ 2147483648 }
+    ensures { result ≡ behind_word steps }
+{
+    if steps.negative {
+        return Signed {
+            negative: true,
+            magnitude: steps.magnitude + 2,
+        };
+    }
+    distance(2, steps.magnitude)
+}
+
+// Steps from the next word, as a number of 20 bits.
+#[tactic(auto, unfolding(crate::specs::Values::steps_behind))]
+fn steps_behind(offset: Signed) -> Option<u32>
+    ensures { result ≡ steps_behind offset }
+{
+    wrapped(524_288, behind_word(halved(offset)?))
+}
+
+/// How far a jump goes that stands a word behind here, in steps of two bytes, as a number of 20 bits.
+#[tactic(auto, unfolding(crate::specs::Values::jump_behind_at))]
+pub fn read_jump_behind<'a>(draft: &Draft, text: &'a [u8]) -> Read<'a, u32>
+    ensures { Gives (λ x. (x.0, x.1.now)) result (jump_behind_at (layout_of draft.now) text.now) }
 {
     let (offset, rest) = read_offset(draft, text)?;
-    match (steps_of(half_of(target), offset), target) {
-        (Some(steps), _) => Ok((steps, rest)),
-        (None, Target::Branch) => Err(stopped_at(text, Wanted::BranchOffset)),
-        (None, Target::Jump) => Err(stopped_at(text, Wanted::JumpOffset)),
+    match steps_behind(offset) {
+        Some(steps) => Ok((steps, rest)),
+        None => Err(stopped_at(text, Wanted::Offset)),
     }
 }

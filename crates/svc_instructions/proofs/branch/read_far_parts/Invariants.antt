@@ -1,0 +1,8 @@
+use Rattle.std.proofs.Common.{◌≡◌, drop}
+use Rattle.svc_draft.specs.Layouts.{layout_of}
+use Rattle.svc_instructions.specs.Instructions.{parts_of}
+use Rattle.svc_instructions.specs.Branches.{far_parts_at}
+use Rattle.svc_instructions.proofs.branch.read_far_parts.Given as goal
+
+abbrev pub invariant-loop-part : goal.invariant-loop-part
+invariant-loop-part l = far_parts_at (layout_of l.draft) (drop l.part-index l.part-items) l.rest l.word ≡ far_parts_at (layout_of l.draft) (parts_of l.row) l.text l.row.1
