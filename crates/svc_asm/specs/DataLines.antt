@@ -160,6 +160,12 @@ common_at text = do
   tail ← end_at step.1
   Some (say.Common n.0 step.0, tail)
 
+-- a weak name, and perhaps more of them
+unfoldable pub weak_at : List ℕ → Read Statement
+weak_at text =
+    if is_label (name_at text) then option_map (λ n. (say.Weak n.0, n.1)) (going_at go.Weak (past_name text)) else
+    None
+
 -- a line, up to the colon where it begins with a label, and up to the first part where it begins what has parts, or a
 -- name that is set
 abbrev pub first_at : Layout → List ℕ → Read Statement
@@ -175,6 +181,7 @@ part_at go.Long d text = long_at d text
 part_at go.Symbol d text = symbol_at d 44 text
 part_at go.Passed d text = passed_at d text
 part_at go.Common d text = common_at text
+part_at go.Weak d text = weak_at text
 
 unfoldable pub next_at : Layout → List ℕ → Read Statement
 next_at d text = part_at d.next d text

@@ -3,9 +3,9 @@ use Rattle.std.specs.Prelude.{◌≡◌, ℕ, nat_eq, List, [], ◌∷◌, ◌++
 use Rattle.std.specs.List.{starts_with}
 use Rattle.svc_draft.specs.declared.statement.Statement.{Statement}
 use Rattle.svc_draft.specs.declared.statement.Statement.TheVariants as say
-use Rattle.svc_draft.specs.Layouts.{Layout, first_pass, second_pass, address_of}
+use Rattle.svc_draft.specs.Layouts.{Layout, address_of}
 use Rattle.svc_operands.specs.Characters.{name_at}
-use Rattle.svc_asm.specs.Programs.{Takes, Makes}
+use Rattle.svc_asm.specs.Passes.{Takes}
 use Rattle.svc_asm.specs.declared.labels.Label.{Label}
 
 -- a name that is none of an object file: compilers begin those of their own labels so
@@ -34,15 +34,6 @@ Gives (s ∷ ss) text old new labels =
     (rest : List ℕ) × (next : Layout) × (more : List (List ℕ × ℕ)) × Takes text old s rest next
     × (labels ≡ label_in next (name_at text) s ++ more)
     × Gives ss rest next new more
-
--- the labels of a text, in the order of their lines: those that its second pass gives
-pub record HasLabels (text : List ℕ) (labels : List (List ℕ × ℕ)) : Type 0 where
-  pub first_lines : List Statement
-  pub first : Layout
-  pub finds : Makes first_lines text first_pass first
-  pub lines : List Statement
-  pub layout : Layout
-  pub gives : Gives lines text (second_pass first) layout labels
 
 -- a label's name and address
 abbrev pub parts_of : Label → List ℕ × ℕ

@@ -1,4 +1,5 @@
 pub mod Statements
 pub mod DataLines
-pub mod Programs
+pub mod Passes
 pub mod Labels
+pub mod Programs

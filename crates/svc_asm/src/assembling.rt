@@ -1,4 +1,4 @@
-// Text, to an image, in two passes: the first finds the labels.
+// Text, to an image.
 
 ghost use Rattle.std.specs.Prelude.{◌≡◌, ℕ, ◌⊎◌, List, IfOk, IfErr, MatchResult};
 ghost use Rattle.svc_image.specs.Image.{IsImage};
@@ -9,10 +9,12 @@ ghost use Rattle.svc_asm.specs.declared.assembling.AssembleError.TheVariants as 
 ghost use Rattle.svc_draft.specs.declared.refusal.Refusal.TheVariants as lack;
 ghost use Rattle.svc_draft.specs.Layouts.{Layout, after, layout_of};
 ghost use Rattle.svc_operands.specs.Characters.{name_at};
-ghost use Rattle.svc_asm.specs.Programs.{Takes, Makes, IsLaid, IsProgramOf};
+ghost use Rattle.svc_asm.specs.Passes.{Takes};
+ghost use Rattle.svc_asm.specs.Programs.{IsProgramOf};
 
 use crate::found::{Found, found_in};
 use crate::parts::read_next;
+use crate::rounds::lay;
 use std::alloc::Global;
 use svc_draft::{Draft, Next, Refusal, Statement};
 use svc_image::Image;
@@ -59,7 +61,7 @@ fn unread_stop(unread: Unread) -> Stop {
 }
 
 // How many bytes of the text are left from its second word on.
-fn left_behind_name(text: &[u8]) -> usize {
+pub(crate) fn left_behind_name(text: &[u8]) -> usize {
     let (_, operands) = split_name(text);
     skip_spaces(operands).len()
 }
@@ -73,12 +75,13 @@ fn refused_at(next: Next, text: &[u8], refusal: Refusal) -> usize {
     }
 }
 
-// The name that what a line says is about: that of a label, or one that is set. Nothing else depends on a name.
+// The name that what a line says is about: that of a label, or one that is set or weak. Nothing else depends on a name.
 fn name_for(said: Statement, text: &[u8]) -> &[u8]
     ensures { (d : Layout) → after result.now said d ≡ after (name_at text.now) said d }
 {
     match said {
-        Statement::Label | Statement::Symbol(_) | Statement::Common(_, _) => split_name(text).0,
+        Statement::Label | Statement::Symbol(_) | Statement::Common(_, _) | Statement::Weak(_) =>
+            split_name(text).0,
         _ => b"",
     }
 }
@@ -110,44 +113,6 @@ pub(crate) fn take_line<'a>(
             Err(Stop::Fault(left, Expected::Stand(refusal)))
         }
     }
-}
-
-// How many bytes of the text are left from the value of the last `.svc_start` on, behind this line.
-fn start_behind(said: Statement, line: &[u8], before: usize) -> usize {
-    match said {
-        Statement::Start(_) => left_behind_name(line),
-        _ => before,
-    }
-}
-
-// Adds what every line says, and answers how many bytes are left from the value of the last `.svc_start` on.
-pub(crate) fn take_lines<'a>(text: &'a [u8], draft: &mut Draft<'a>) -> Result<usize, Stop>
-    ensures ok { IfOk result (λ _.
-        (ss : List Statement) × Makes ss text.now (layout_of draft.old) (layout_of draft.new)) }
-    ensures err { IfErr result (λ e. (e ≡ halt.Memory)
-        ⊎ ((ss : List Statement) (made : Layout) → Makes ss text.now (layout_of draft.old) made → ⊥)) }
-{
-    let mut rest = text;
-    let mut start = 0;
-    while !rest.is_empty() {
-        let (said, behind) = take_line(rest, draft)?;
-        start = start_behind(said, rest, start);
-        rest = behind;
-    }
-    Ok(start)
-}
-
-// Reads the text twice, for its labels and for what it makes under their names. Beside that, how many bytes are left
-// from the value of the last `.svc_start` on.
-fn lay<'a>(alloc: Global, text: &'a [u8]) -> Result<(Draft<'a>, usize), Stop>
-    ensures ok { IfOk result (λ laid. IsLaid text.now (layout_of laid.0)) }
-    ensures err { IfErr result (λ e. (e ≡ halt.Memory) ⊎ ((made : Layout) → IsLaid text.now made → ⊥)) }
-{
-    let mut first = Draft::new(alloc);
-    take_lines(text, &mut first)?;
-    let mut draft = first.again(alloc);
-    let start = take_lines(text, &mut draft)?;
-    Ok((draft, start))
 }
 
 // The line and the column, each counted from 1, of the place where so many bytes of the text are left.
@@ -202,7 +167,8 @@ pub fn assemble(alloc: Global, text: &[u8]) -> Result<Image, AssembleError>
     ensures whole { (img : value.Image) → IsImage img → IsProgramOf text.now img
         → MatchResult result (λ i. i ≡ img) (λ e. e ≡ error.Memory) }
 {
-    let (draft, start) = match lay(alloc, text) {
+    let mut labels = Vec::new(alloc);
+    let (draft, start) = match lay(alloc, text, &mut labels) {
         Ok(laid) => laid,
         Err(stop) => return Err(told(text, stop)),
     };

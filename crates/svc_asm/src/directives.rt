@@ -48,7 +48,7 @@ pub enum Says {
 pub struct Directive(pub Name, pub Says);
 
 /// The directives that are read as a whole.
-pub static DIRECTIVES: [Directive; 43] = [
+pub static DIRECTIVES: [Directive; 42] = [
     Directive(*b".word           ", Says::Word),
     Directive(*b".text           ", Says::Section(Section::Text)),
     Directive(*b".data           ", Says::Section(Section::Data)),
@@ -74,7 +74,6 @@ pub static DIRECTIVES: [Directive; 43] = [
     Directive(*b".globl          ", Says::Passed),
     Directive(*b".global         ", Says::Passed),
     Directive(*b".local          ", Says::Passed),
-    Directive(*b".weak           ", Says::Passed),
     Directive(*b".type           ", Says::Passed),
     Directive(*b".size           ", Says::Passed),
     Directive(*b".file           ", Says::Passed),
@@ -95,7 +94,7 @@ pub static DIRECTIVES: [Directive; 43] = [
 ];
 
 /// The directives that are read part by part.
-pub static OPENED: [Directive; 19] = [
+pub static OPENED: [Directive; 20] = [
     Directive(*b".word           ", Says::Open(Next::Value(Width::Word))),
     Directive(*b".4byte          ", Says::Open(Next::Value(Width::Word))),
     Directive(*b".long           ", Says::Open(Next::Value(Width::Word))),
@@ -115,6 +114,7 @@ pub static OPENED: [Directive; 19] = [
     Directive(*b".equ            ", Says::Open(Next::Symbol)),
     Directive(*b".comm           ", Says::Open(Next::Common)),
     Directive(*b".lcomm          ", Says::Open(Next::Common)),
+    Directive(*b".weak           ", Says::Open(Next::Weak)),
 ];
 
 /// What becomes of a section of an object file.

@@ -5,11 +5,13 @@ ghost use Rattle.svc_draft.specs.declared.statement.Statement.{Statement};
 ghost use Rattle.svc_draft.specs.Layouts.{Layout, layout_of};
 ghost use Rattle.svc_asm.specs.declared.assembling.AssembleError.TheVariants as error;
 ghost use Rattle.svc_asm.specs.declared.assembling.Stop.TheVariants as halt;
-ghost use Rattle.svc_asm.specs.Labels.{Gives, HasLabels, is_hidden, label_in, names_place, parts_of};
-ghost use Rattle.svc_asm.specs.Programs.{IsLaid, Makes, Takes};
+ghost use Rattle.svc_asm.specs.Labels.{Gives, is_hidden, label_in, names_place, parts_of};
+ghost use Rattle.svc_asm.specs.Passes.{Takes};
+ghost use Rattle.svc_asm.specs.Programs.{HasLabels, IsLaid};
 ghost use Rattle.svc_operands.specs.Characters.{name_at};
 
-use crate::assembling::{AssembleError, Stop, take_line, take_lines, told};
+use crate::assembling::{AssembleError, Stop, left_behind_name, take_line, told};
+use crate::rounds::lay;
 use std::alloc::{AllocError, Global};
 use svc_draft::{Draft, Statement};
 use svc_operands::split_name;
@@ -77,37 +79,35 @@ fn take_labelled<'a>(
     }
 }
 
-// Adds what every line says, and all labels, to none.
-fn take_all<'a>(
+// How many bytes of the text are left from the value of the last `.svc_start` on, behind this line.
+fn start_behind(said: Statement, line: &[u8], before: usize) -> usize {
+    match said {
+        Statement::Start(_) => left_behind_name(line),
+        _ => before,
+    }
+}
+
+// Adds what every line says, and all labels, to none, and answers how many bytes are left from the value of the last
+// `.svc_start` on.
+pub(crate) fn take_labelled_lines<'a>(
     text: &'a [u8],
     draft: &mut Draft<'a>,
     labels: &mut Vec<Label<'a>>,
-) -> Result<(), Stop>
+) -> Result<usize, Stop>
     requires { labels.old.items ≡ [] }
     ensures ok { IfOk result (λ _. (ss : List Statement)
         × Gives ss text.now (layout_of draft.old) (layout_of draft.new) (map parts_of labels.new.items)) }
-    ensures err { IfErr result (λ e. (e ≡ halt.Memory)
-        ⊎ ((ss : List Statement) (made : Layout) → Makes ss text.now (layout_of draft.old) made → ⊥)) }
+    ensures err { IfErr result (λ e. (e ≡ halt.Memory) ⊎ ((ss : List Statement) (made : Layout) (given : List (List ℕ × ℕ))
+        → Gives ss text.now (layout_of draft.old) made given → ⊥)) }
 {
     let mut rest = text;
+    let mut start = 0;
     while !rest.is_empty() {
-        let (_said, behind) = take_labelled(rest, draft, labels)?;
+        let (said, behind) = take_labelled(rest, draft, labels)?;
+        start = start_behind(said, rest, start);
         rest = behind;
     }
-    Ok(())
-}
-
-// Reads the text twice, for its labels and for the addresses that these stand for.
-fn lay_labels<'a>(alloc: Global, text: &'a [u8], labels: &mut Vec<Label<'a>>) -> Result<(), Stop>
-    requires { labels.old.items ≡ [] }
-    ensures ok { IfOk result (λ _. HasLabels text.now (map parts_of labels.new.items)) }
-    ensures err { IfErr result (λ e. (e ≡ halt.Memory) ⊎ ((made : Layout) → IsLaid text.now made → ⊥)) }
-{
-    let mut first = Draft::new(alloc);
-    take_lines(text, &mut first)?;
-    let mut draft = first.again(alloc);
-    take_all(text, &mut draft, labels)?;
-    Ok(())
+    Ok(start)
 }
 
 /// The labels of a text, in the order of its lines. The text may be any bytes; one that [`crate::assemble`] makes an
@@ -121,8 +121,8 @@ pub fn labels_of(alloc: Global, text: &[u8]) -> Result<Vec<Label<'_>>, AssembleE
     ensures whole { (made : Layout) → IsLaid text.now made → IfErr result (λ e. e ≡ error.Memory) }
 {
     let mut labels = Vec::new(alloc);
-    match lay_labels(alloc, text, &mut labels) {
-        Ok(()) => Ok(labels),
+    match lay(alloc, text, &mut labels) {
+        Ok(_laid) => Ok(labels),
         Err(stop) => Err(told(text, stop)),
     }
 }

@@ -116,7 +116,7 @@ fn wanted_by(next: Next) -> Wanted {
         Next::Line | Next::Passed => Wanted::Statement,
         Next::Value(_) | Next::Long => Wanted::Value,
         Next::Character(_) => Wanted::Quote,
-        Next::Symbol | Next::Common => Wanted::Label,
+        Next::Symbol | Next::Common | Next::Weak => Wanted::Label,
     }
 }
 

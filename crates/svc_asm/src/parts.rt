@@ -2,7 +2,7 @@
 
 ghost use Rattle.std.specs.Prelude.{◌≡◌, ◌+◌, ◌*◌, ◌%◌, ◌^◌, ◌<◌, IfSome, option_map};
 ghost use Rattle.svc_operands.specs.Operands.{Gives};
-ghost use Rattle.svc_asm.specs.DataLines.{closed, put_at, octal_digit, octal_on, octal_at, hex_on, hex_at, escape_at, character_at, spot_named, moved_at, spot_at, named_at, symbol_at, equal_at, step_at, common_at, opened_at, half, fits, datum_at, going_at, item_at, long_at, first_at, next_at};
+ghost use Rattle.svc_asm.specs.DataLines.{closed, put_at, octal_digit, octal_on, octal_at, hex_on, hex_at, escape_at, character_at, spot_named, moved_at, spot_at, named_at, symbol_at, equal_at, step_at, common_at, weak_at, opened_at, half, fits, datum_at, going_at, item_at, long_at, first_at, next_at};
 ghost use Rattle.svc_draft.specs.Layouts.{layout_of};
 
 use crate::directives::opened_by;
@@ -245,6 +245,18 @@ pub fn read_common(text: &[u8]) -> Read<'_, Statement>
     Ok((Statement::Common(count, step), rest))
 }
 
+#[tactic(auto, unfolding(crate::specs::DataLines::weak_at))]
+pub fn read_weak(text: &[u8]) -> Read<'_, Statement>
+    ensures { Gives (λ x. (x.0, x.1.now)) result (weak_at text.now) }
+{
+    let (name, rest) = split_name(text);
+    if !is_label(name) {
+        return Err(stopped_at(text, Wanted::Label));
+    }
+    let (next, rest) = read_going(Next::Weak, rest)?;
+    Ok((Statement::Weak(next), rest))
+}
+
 #[tactic(auto, unfolding(crate::specs::DataLines::opened_at))]
 fn read_opened<'a>(draft: &Draft, text: &'a [u8]) -> Read<'a, Statement>
     ensures { Gives (λ x. (x.0, x.1.now)) result (opened_at (layout_of draft.now) text.now) }
@@ -384,6 +396,7 @@ pub fn read_next<'a>(draft: &Draft, text: &'a [u8]) -> Read<'a, Statement>
         Next::Long => read_long(draft, text),
         Next::Symbol => read_symbol(draft, b',', text),
         Next::Common => read_common(text),
+        Next::Weak => read_weak(text),
         Next::Passed => read_passed(draft, text),
     }
 }

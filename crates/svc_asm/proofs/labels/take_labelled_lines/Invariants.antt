@@ -2,8 +2,8 @@ use Rattle.std.proofs.Common.{List, ℕ, ◌++◌, length, map}
 use Rattle.svc_draft.specs.declared.statement.Statement.{Statement}
 use Rattle.svc_draft.specs.Layouts.{Layout, layout_of}
 use Rattle.svc_asm.specs.Labels.{Gives, parts_of}
-use Rattle.svc_asm.specs.Programs.{Makes}
-use Rattle.svc_asm.proofs.labels.take_all.Given as goal
+use Rattle.svc_asm.specs.Passes.{Makes}
+use Rattle.svc_asm.proofs.labels.take_labelled_lines.Given as goal
 
 -- what the rest gives, behind the labels so far, the whole gives; what the whole makes, the rest makes
 abbrev pub invariant-loop-rest : goal.invariant-loop-rest

@@ -4,8 +4,8 @@ use Rattle.std.proofs.lemmas.Result.{err_from_is_err_and}
 use Rattle.svc_draft.specs.Layouts.{layout_of}
 use Rattle.svc_operands.specs.Characters.{name_at}
 use Rattle.svc_asm.specs.Labels.{Gives, label_in, parts_of}
-use Rattle.svc_asm.proofs.Program.{advance, refuted, empty_is, some_left}
-use Rattle.svc_asm.proofs.labels.take_all.Goals as goal
+use Rattle.svc_asm.proofs.Program.{advance, makes_of, refuted, empty_is, some_left}
+use Rattle.svc_asm.proofs.labels.take_labelled_lines.Goals as goal
 
 pub loop-rest-init : goal.loop-rest-init
 loop-rest-init c = record {
@@ -19,17 +19,17 @@ loop-rest-init c = record {
 
 pub loop-rest-preserved : goal.loop-rest-preserved
 loop-rest-preserved c =
-    let takes = c.in_ok-_said.ensures.takes in
+    let takes = c.in_ok-said.ensures.takes in
     let next = layout_of c.take_labelled.new.draft in
-    let rest = c.in_ok-_said.behind.now in
-    let said = c.in_ok-_said._said in
+    let rest = c.in_ok-said.behind.now in
+    let said = c.in_ok-said.said in
     let one = label_in next (name_at c.loop-rest.rest.now) said in
     let before = map parts_of c.loop-rest.labels.items in
     record {
       whole = λ todo made more h.
           let t = c.loop-rest.invariant.whole (said ∷ todo) made (one ++ more) (rest, next, more, takes, refl, h) in
           let labels : before ++ (one ++ more) ≡ map parts_of c.take_labelled.new.labels.items ++ more =
-          sym (append_assoc before one more) ∙ sym (ap (λ ls. ls ++ more) c.in_ok-_said.ensures.labels) in
+          sym (append_assoc before one more) ∙ sym (ap (λ ls. ls ++ more) c.in_ok-said.ensures.labels) in
           (t.0, subst (λ (ls : List (List ℕ × ℕ)). Gives t.0 c.args.text.now (layout_of c.args.draft.now) made ls) labels t.1);
       left = λ ss made h. let t = c.loop-rest.invariant.left ss made h in advance t.0 c.loop-rest.rest.now rest (layout_of c.loop-rest.draft) next made said takes t.1;
     }
@@ -43,11 +43,11 @@ returns-clause-ok c =
           (append-nil (map parts_of c.loop-rest.labels.items)) t.1,
     )
 
-pub returns-in_err-_said-clause-err : goal.returns-in_err-_said-clause-err
-returns-in_err-_said-clause-err c =
+pub returns-in_err-said-clause-err : goal.returns-in_err-said-clause-err
+returns-in_err-said-clause-err c =
     let p = err_from_is_err_and c.from_residual.result c.from_residual.ensures.1 in
     let some = some_left c.loop-rest.rest.now (sym c.is_empty.ensures ∙ c.loop-rest-test.true) in
-    rw (p.1, p.2) (elim c.in_err-_said.ensures.err [
+    rw (p.1, p.2) (elim c.in_err-said.ensures.err [
       | inl memory ↦ inl memory
-      | inr none ↦ inr (λ ss made h. let t = c.loop-rest.invariant.left ss made h in refuted t.0 c.loop-rest.rest.now (layout_of c.loop-rest.draft) made some none t.1)
+      | inr none ↦ inr (λ ss made given h. let t = c.loop-rest.invariant.left ss made (makes_of ss c.args.text.now (layout_of c.args.draft.now) made given h) in refuted t.0 c.loop-rest.rest.now (layout_of c.loop-rest.draft) made some none t.1)
     ])

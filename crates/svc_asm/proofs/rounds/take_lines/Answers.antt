@@ -2,25 +2,25 @@ use Rattle.std.proofs.Common.{◌∙◌, [], ◌∷◌, refl, sym, inl, inr}
 use Rattle.std.proofs.lemmas.Result.{err_from_is_err_and}
 use Rattle.svc_draft.specs.Layouts.{layout_of}
 use Rattle.svc_asm.proofs.Program.{advance, refuted, empty_is, some_left}
-use Rattle.svc_asm.proofs.assembling.take_lines.Goals as goal
+use Rattle.svc_asm.proofs.rounds.take_lines.Goals as goal
 
 pub loop-rest-preserved : goal.loop-rest-preserved
 loop-rest-preserved c =
-    let takes = c.in_ok-said.ensures.ok in
+    let takes = c.in_ok-_said.ensures.ok in
     record {
-      whole = λ todo made h. c.loop-rest.invariant.whole (c.in_ok-said.said ∷ todo) made (c.in_ok-said.behind.now, layout_of c.take_line.new.draft, takes, h);
-      left = λ ss made h. let t = c.loop-rest.invariant.left ss made h in advance t.0 c.loop-rest.rest.now c.in_ok-said.behind.now (layout_of c.loop-rest.draft) (layout_of c.take_line.new.draft) made c.in_ok-said.said takes t.1;
+      whole = λ todo made h. c.loop-rest.invariant.whole (c.in_ok-_said._said ∷ todo) made (c.in_ok-_said.behind.now, layout_of c.take_line.new.draft, takes, h);
+      left = λ ss made h. let t = c.loop-rest.invariant.left ss made h in advance t.0 c.loop-rest.rest.now c.in_ok-_said.behind.now (layout_of c.loop-rest.draft) (layout_of c.take_line.new.draft) made c.in_ok-_said._said takes t.1;
     }
 
 pub returns-clause-ok : goal.returns-clause-ok
 returns-clause-ok c =
     c.loop-rest.invariant.whole [] (layout_of c.loop-rest.draft) (empty_is c.loop-rest.rest.now (sym c.is_empty.ensures ∙ c.loop-rest-test.false), refl)
 
-pub returns-in_err-said-clause-err : goal.returns-in_err-said-clause-err
-returns-in_err-said-clause-err c =
+pub returns-in_err-_said-clause-err : goal.returns-in_err-_said-clause-err
+returns-in_err-_said-clause-err c =
     let p = err_from_is_err_and c.from_residual.result c.from_residual.ensures.1 in
     let some = some_left c.loop-rest.rest.now (sym c.is_empty.ensures ∙ c.loop-rest-test.true) in
-    rw (p.1, p.2) (elim c.in_err-said.ensures.err [
+    rw (p.1, p.2) (elim c.in_err-_said.ensures.err [
       | inl memory ↦ inl memory
       | inr none ↦ inr (λ ss made h. let t = c.loop-rest.invariant.left ss made h in refuted t.0 c.loop-rest.rest.now (layout_of c.loop-rest.draft) made some none t.1)
     ])

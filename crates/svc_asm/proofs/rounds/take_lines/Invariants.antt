@@ -1,8 +1,8 @@
 use Rattle.std.proofs.Common.{List, length}
 use Rattle.svc_draft.specs.declared.statement.Statement.{Statement}
 use Rattle.svc_draft.specs.Layouts.{Layout, layout_of}
-use Rattle.svc_asm.specs.Programs.{Makes}
-use Rattle.svc_asm.proofs.assembling.take_lines.Given as goal
+use Rattle.svc_asm.specs.Passes.{Makes}
+use Rattle.svc_asm.proofs.rounds.take_lines.Given as goal
 
 -- what the rest makes, the whole makes, and the other way round
 abbrev pub invariant-loop-rest : goal.invariant-loop-rest

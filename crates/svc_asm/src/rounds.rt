@@ -1,0 +1,94 @@
+// Rounds: each reads a text twice, and turns the branches that the one before found too far from their targets.
+
+ghost use Rattle.std.specs.Prelude.{◌≡◌, ◌⊎◌, ℕ, List, IfErr, IfOk, map};
+ghost use Rattle.svc_draft.specs.declared.statement.Statement.{Statement};
+ghost use Rattle.svc_draft.specs.Layouts.{Layout, layout_of, first_pass};
+ghost use Rattle.svc_asm.specs.declared.assembling.Stop.TheVariants as halt;
+ghost use Rattle.svc_asm.specs.Labels.{parts_of};
+ghost use Rattle.svc_asm.specs.Passes.{Makes};
+ghost use Rattle.svc_asm.specs.Programs.{IsRound, Settles};
+
+use crate::assembling::{Stop, take_line};
+use crate::labels::{Label, take_labelled_lines};
+use std::alloc::Global;
+use svc_draft::Draft;
+
+/// The most rounds in which only some branches are turned: they bound the time. Each turned branch moves what is behind
+/// it, which may bring others too far, but few rounds ever do.
+pub const MOST_ROUNDS: usize = 16;
+
+// Adds what every line says.
+fn take_lines<'a>(text: &'a [u8], draft: &mut Draft<'a>) -> Result<(), Stop>
+    ensures ok { IfOk result (λ _.
+        (ss : List Statement) × Makes ss text.now (layout_of draft.old) (layout_of draft.new)) }
+    ensures err { IfErr result (λ e. (e ≡ halt.Memory)
+        ⊎ ((ss : List Statement) (made : Layout) → Makes ss text.now (layout_of draft.old) made → ⊥)) }
+{
+    let mut rest = text;
+    while !rest.is_empty() {
+        let (_said, behind) = take_line(rest, draft)?;
+        rest = behind;
+    }
+    Ok(())
+}
+
+// One round, from how its first pass begins. Beside how it ends, how many bytes are left from the value of the last
+// `.svc_start` on.
+fn lay_round<'a>(
+    alloc: Global,
+    text: &'a [u8],
+    begun: Draft<'a>,
+    labels: &mut Vec<Label<'a>>,
+) -> Result<(Draft<'a>, usize), Stop>
+    ensures ok { IfOk result (λ laid.
+        IsRound text.now (layout_of begun.entry) (layout_of laid.0) (map parts_of labels.new.items)) }
+    ensures err { IfErr result (λ e. (e ≡ halt.Memory) ⊎ ((made : Layout) (given : List (List ℕ × ℕ))
+        → IsRound text.now (layout_of begun.entry) made given → ⊥)) }
+{
+    let mut first = begun;
+    take_lines(text, &mut first)?;
+    let mut draft = first.again(alloc);
+    labels.clear();
+    let start = take_labelled_lines(text, &mut draft, labels)?;
+    Ok((draft, start))
+}
+
+// So many rounds and a last one, up to the first in which each branch reaches its target.
+fn settle<'a>(
+    alloc: Global,
+    text: &'a [u8],
+    rounds: usize,
+    begun: Draft<'a>,
+    labels: &mut Vec<Label<'a>>,
+) -> Result<(Draft<'a>, usize), Stop>
+    ensures ok { IfOk result (λ laid.
+        Settles rounds text.now (layout_of begun.entry) (layout_of laid.0) (map parts_of labels.new.items)) }
+    ensures err { IfErr result (λ e. (e ≡ halt.Memory) ⊎ ((made : Layout) (given : List (List ℕ × ℕ))
+        → Settles rounds text.now (layout_of begun.entry) made given → ⊥)) }
+{
+    if rounds == 0 {
+        return lay_round(alloc, text, Draft::last_round(alloc), labels);
+    }
+    let (draft, start) = lay_round(alloc, text, begun, labels)?;
+    if !draft.grew() {
+        return Ok((draft, start));
+    }
+    let next = draft.next_round(alloc);
+    let (settled, start) = settle(alloc, text, rounds - 1, next, labels)?;
+    Ok((settled, start))
+}
+
+/// What the lines of a text make, and its labels, in the order of their lines. Beside that, how many bytes are left from
+/// the value of the last `.svc_start` on.
+pub(crate) fn lay<'a>(
+    alloc: Global,
+    text: &'a [u8],
+    labels: &mut Vec<Label<'a>>,
+) -> Result<(Draft<'a>, usize), Stop>
+    ensures ok { IfOk result (λ laid.
+        Settles MOST_ROUNDS text.now first_pass (layout_of laid.0) (map parts_of labels.new.items)) }
+    ensures err { IfErr result (λ e. (e ≡ halt.Memory) ⊎ ((made : Layout) (given : List (List ℕ × ℕ))
+        → Settles MOST_ROUNDS text.now first_pass made given → ⊥)) }
+{
+    settle(alloc, text, MOST_ROUNDS, Draft::new(alloc), labels)
+}
