@@ -4,8 +4,7 @@ use denote.Ref.{Bor}
 use Rattle.std.specs.Io.KnownBytes.{Appends}
 use Rattle.svc_image.specs.Image.{Image, IsImage}
 use Rattle.svc_image.specs.Format.{file_of}
-use Rattle.svc_asm.specs.Labels.{HasLabels}
-use Rattle.svc_asm.specs.Programs.{IsProgramOf}
+use Rattle.svc_asm.specs.Programs.{HasLabels, IsProgramOf}
 use Rattle.svc_list.specs.Listings.{listing_of}
 use Rattle.svc_names.specs.declared.name.Name.{Name}
 use Rattle.svc_names.specs.declared.names.Names.{Names}

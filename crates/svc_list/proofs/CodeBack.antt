@@ -23,7 +23,7 @@ use Rattle.svc_list.proofs.NamesBack.{Ends}
 use Rattle.svc_list.proofs.LinesBack.{Trails, three, unlabelled, next_back, ended_back}
 use Rattle.svc_list.proofs.NotesBack.{AreNamed, bare_ends, word_ends}
 use Rattle.svc_list.proofs.LabelsBack.{label_apart, label_same, colon_name, label_back, empty_back, text_spot, spot_is, label_found, label_again}
-use Rattle.svc_list.proofs.RowsBack.{refilled, Reaches, row_back, row_stops, known_same}
+use Rattle.svc_list.proofs.RowsBack.{refilled, Near, Reaches, row_back, row_stops, known_same}
 use Rattle.svc_list.proofs.LayoutsBack.{AreMarks, next_marks, top_marks, marked, worded, Free, free_later, free_behind, one_entry, one_word, value_in_text, line_goes_on, entries_of, limits_of}
 use Rattle.svc_list.proofs.Leading.{Leads, one_leads, leads_none, leads_both, leads_at, line_leads}
 use Rattle.svc_list.proofs.Printing.{text_both}
@@ -77,6 +77,7 @@ pub record IsAt (known : Bool) (n : ℕ) (d : Layout) : Type 0 where
   pub words : length d.text ≡ n
   pub pass : d.known ≡ known
   pub line : d.next ≡ go.Line
+  pub near : Near d
 
 -- a label's line
 label_part : (a : ℕ) (d e : Layout) → d.next ≡ go.Line → with_symbol (label_text a) (spot_here d) d ≡ Some e → Leads (label_text a ++ (58 ∷ [])) d e
@@ -208,7 +209,7 @@ coded_row given are known count labelled n d w (Some r) to row leads fit low few
     let reached = reaches known count d (parts_of r) w (4 * n) to leads place aims in
     let read = refilled known to (parts_of r) w r.1 in
     row_leads d (worded d read) to w read r (word_note given (4 * n) w) at.line row (word_ends given (4 * n) w are)
-    (λ rest tail ends. row_back known d to w r rest tail row ends reached)
+    (λ rest tail ends. row_back known d at.near to w r rest tail row ends reached)
     (instruction_laid d read at.text (omega (arith, at.words, low, few)))
 
 coded_leads : (given : Option (List Name)) → AreNamed given → (known : Bool) (count : ℕ) (labelled : ℕ → Bool) (n : ℕ) (d : Layout) (w : ℕ) → w < 2 ^ 32 → n < count → count ≤ 65536
@@ -228,7 +229,7 @@ with_code known count labelled n ms ws d =
     record d { entries = d.entries ++ entries_of ms; limits = d.limits ++ limits_of ms; text = d.text ++ words_in known count n ws; names = names_in known labelled n ws d.names }
 
 next_at_word : (known : Bool) (n : ℕ) (d : Layout) (w : ℕ) → IsAt known n d → IsAt known (suc n) (worded d w)
-next_at_word known n d w at = record { text = at.text; words = omega (arith, at.words, length-append d.text (w ∷ [])); pass = at.pass; line = at.line }
+next_at_word known n d w at = record { text = at.text; words = omega (arith, at.words, length-append d.text (w ∷ [])); pass = at.pass; line = at.line; near = at.near }
 
 -- a word, and what stands behind it
 word_and_more : (given : Option (List Name)) → AreNamed given → (known : Bool) (count : ℕ) (labelled : ℕ → Bool) (n : ℕ) (d : Layout) (w : ℕ) → n < count → count ≤ 65536 → w < 2 ^ 32 → IsAt known n d
@@ -255,7 +256,7 @@ code_leads given are known count labelled few (m ∷ ms) [] n d all fit texts pl
 code_leads given are known count labelled few [] (w ∷ ws) n d all fit texts placed at room free good named =
     let low : n < count = omega (arith, all) in
     let e₁ = record d { names = labelled_in known labelled n d.names } in
-    let at₁ : IsAt known n e₁ = record { text = at.text; words = at.words; pass = at.pass; line = at.line } in
+    let at₁ : IsAt known n e₁ = record { text = at.text; words = at.words; pass = at.pass; line = at.line; near = at.near } in
     let good₁ = good_next known count labelled n d.names low few good in
     let v = laid_word known count (4 * n) w in
     let e₂ = worded e₁ v in
@@ -269,7 +270,7 @@ code_leads given are known count labelled few [] (w ∷ ws) n d all fit texts pl
 code_leads given are known count labelled few (m ∷ ms) (w ∷ ws) n d all fit texts placed at room free good named =
     let low : n < count = omega (arith, all) in
     let e₁ = record d { names = labelled_in known labelled n d.names } in
-    let at₁ : IsAt known n e₁ = record { text = at.text; words = at.words; pass = at.pass; line = at.line } in
+    let at₁ : IsAt known n e₁ = record { text = at.text; words = at.words; pass = at.pass; line = at.line; near = at.near } in
     let good₁ = good_next known count labelled n d.names low few good in
     let v = laid_word known count (4 * n) w in
     let words = words_in known count (suc n) ws in
@@ -277,7 +278,7 @@ code_leads given are known count labelled few (m ∷ ms) (w ∷ ws) n d all fit 
       | inl same ↦
           let here : (m.0 == 4 * n) ≡ true = eq-eqb m.0 (4 * n) same in
           let e₂ = marked e₁ m in
-          let at₂ : IsAt known n e₂ = record { text = at.text; words = at.words; pass = at.pass; line = at.line } in
+          let at₂ : IsAt known n e₂ = record { text = at.text; words = at.words; pass = at.pass; line = at.line; near = at.near } in
           let e₃ = worded e₂ v in
           let rest = code given count labelled (suc n) ms ws in
           let end = with_code known count labelled (suc n) ms ws e₃ in

@@ -9,7 +9,8 @@ use Rattle.svc_draft.specs.Options.{◌>>=◌}
 use Rattle.svc_draft.specs.Layouts.{Layout, after}
 use Rattle.svc_operands.specs.Characters.{name_at}
 use Rattle.svc_asm.specs.DataLines.{next_at}
-use Rattle.svc_asm.specs.Programs.{Makes}
+use Rattle.svc_asm.specs.Labels.{label_in, Gives}
+use Rattle.svc_asm.specs.Passes.{Makes}
 use Rattle.svc_asm.proofs.Program.{same_laid}
 use Rattle.svc_list.specs.Listings.{HasText, statement_text, Line, Says, Labels, Codes, Starts, line_of, text_of}
 use Rattle.svc_list.proofs.LinesBack.{Trails, IsRead, line_back, next_back}
@@ -42,6 +43,13 @@ leads_at text d e f same h = subst (λ (x : Layout). Leads text d x) same h
 pub leads_whole : (text : List ℕ) (d e : Layout) → Leads text d e → (ss : List Statement) × Makes ss text d e
 leads_whole text d e h = let all = h [] e [] (refl, refl) in (all.0, subst (λ (x : List ℕ). Makes all.0 x d e) (append-nil text) all.1)
 
+-- what lines make, they make with the labels that they give
+pub given_by : (ss : List Statement) (text : List ℕ) (d made : Layout) → Makes ss text d made → (labels : List (List ℕ × ℕ)) × Gives ss text d made labels
+given_by [] text d made h = ([], (h.0, h.1, refl))
+given_by (s ∷ ss) text d made h =
+    let rest = given_by ss h.0 h.1 made h.3 in
+    (label_in h.1 (name_at text) s ++ rest.0, (h.0, h.1, rest.0, h.2, refl, rest.1))
+
 line_some : (s : Statement) (note : List ℕ) → 0 < length (line_of (Says s note))
 line_some s note = omega (arith, length-append (statement_text s) (note ++ (10 ∷ [])), length-append note (10 ∷ []))
 
@@ -54,6 +62,7 @@ no_label : (name : List ℕ) (s : Statement) (d : Layout) → HasText s → afte
 no_label name say.Label d h = absurd h
 no_label name (say.Symbol s) d h = absurd h
 no_label name (say.Common n step) d h = absurd h
+no_label name (say.Weak next) d h = absurd h
 no_label name _ d h = refl
 
 pub line_leads : (s : Statement) (note : List ℕ) (d e : Layout) → d.next ≡ go.Line → HasText s → Trails note → after [] s d ≡ Some e → Leads (line_of (Says s note)) d e

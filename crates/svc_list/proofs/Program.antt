@@ -1,5 +1,5 @@
 -- The listing of an image is a program of it.
-use Rattle.std.proofs.Common.{◌≡◌, ℕ, zero, suc, ◌+◌, ◌-◌, ◌*◌, ◌/◌, ◌^◌, ◌%◌, ◌<◌, ◌≤◌, Bool, true, false, ◌==◌, List, [], ◌∷◌, ◌++◌, length, take, drop, slice_index, Option, Some, None, All, refl, ap, sym, ◌∙◌, subst, arith, inl, inr, if◌then◌else◌, codes}
+use Rattle.std.proofs.Common.{◌≡◌, ℕ, zero, suc, ◌+◌, ◌-◌, ◌*◌, ◌/◌, ◌^◌, ◌%◌, ◌<◌, ◌≤◌, Bool, true, false, ◌==◌, ◌&&◌, List, [], ◌∷◌, ◌++◌, length, take, drop, slice_index, Option, Some, None, All, refl, ap, sym, ◌∙◌, subst, arith, inl, inr, if◌then◌else◌, codes}
 use Rattle.std.specs.Prelude.{replicate}
 use Rattle.std.specs.List.{AllByRecursion, list_any}
 use Rattle.std.specs.List.Sorted.{IsStrictlyIncreasing}
@@ -33,7 +33,7 @@ use Rattle.svc_list.proofs.NotesBack.{AreNamed, bare_ends, datum_ends}
 use Rattle.svc_list.proofs.LabelsBack.{text_spot}
 use Rattle.svc_list.proofs.AimsBack.{label_value}
 use Rattle.svc_list.proofs.LayoutsBack.{Above, common_limit, layout_for, registers_in, settings_laid, are_zeros, marks_are, marks_few, limit_laid, marks_entries, marks_limits, limits_of, all_data_laid, image_back}
-use Rattle.svc_list.proofs.Leading.{Leads, one_leads, leads_none, leads_both, leads_at, leads_whole, line_leads, lines_lead}
+use Rattle.svc_list.proofs.Leading.{Leads, given_by, one_leads, leads_none, leads_both, leads_at, leads_whole, line_leads, lines_lead}
 use Rattle.svc_list.proofs.CodeBack.{Good, HaveLabels, with_code, words_in, names_in, known_address, unknown_address, here_is, placed_is, code_leads, words_known, names_known, names_found}
 use Rattle.svc_list.proofs.Printing.{listing_parts}
 
@@ -224,6 +224,10 @@ unfolding is_labelled
 start_labelled img k same any =
     or_left (list_any (λ e. e == 4 * k) img.entries) (is_target (length img.text) (4 * k) 0 img.text) (subst (λ (s : ℕ). list_any (λ e. e == s) img.entries ≡ true) (sym same) any)
 
+none_far : (known : Bool) → (known && false) ≡ false
+none_far true = refl
+none_far false = refl
+
 -- the layout that a pass makes of an image
 abbrev passed : Names → Bool → ℕ → Image → Layout
 passed names known from img =
@@ -250,7 +254,7 @@ pass_leads given are names known from img sound begins good =
     let placed = marks_are v 0 (4 * (0 + count)) img.entries img.limits (recursion_from_All IsLimit img.limits sound.limits_fit) (subst (λ (t : ℕ). Above 0 t img.entries) top above) in
     let first = head_leads v limit img.start names known from (first_limit img.limits sound.limits_fit (omega (arith, sound.limits_each, sound.entries_some))) begins in
     let second = lines_lead (settings 1 img.registers) d₁ d₂ refl (settings_text 1 img.registers (fits img.registers sound.registers_fit)) (settings_laid d₁ [] img.registers zeros 1 refl (sym sound.registers_all) (are_zeros zeros refl) (omega (arith, sound.registers_all))) in
-    let third = code_leads given are known count labelled sound.text_few ms img.text 0 d₂ (omega arith) (fits img.text sound.text_fits) (marks_text v img.entries img.limits limits) placed (record { text = refl; words = refl; pass = refl; line = refl }) (omega (arith, marks_few v img.entries img.limits, sound.entries_few)) (λ k above. refl) good (image_labels img) in
+    let third = code_leads given are known count labelled sound.text_few ms img.text 0 d₂ (omega arith) (fits img.text sound.text_fits) (marks_text v img.entries img.limits limits) placed (record { text = refl; words = refl; pass = refl; line = refl; near = λ text. none_far known }) (omega (arith, marks_few v img.entries img.limits, sound.entries_few)) (λ k above. refl) good (image_labels img) in
     let fourth = line_leads (say.Section section.Data) [] d₃ d₄ refl tt bare_ends refl in
     let fifth = lines_lead (all_data given v img.read_only img.words) d₄ d₅ refl (all_data_text given are v img.read_only img.words (fits img.words sound.words_fit)) (all_data_laid given v img.read_only img.words d₄ refl refl refl (refl, refl, refl, refl) refl refl refl sound.read_only_few sound.words_few) in
     let body = text_of (all_data given v img.read_only img.words) in
@@ -288,15 +292,16 @@ second_laid names from img sound =
 
 -- the listing of an image is a program of it
 pub listing_is_program : (given : Option (List Name)) → AreNamed given → (img : Image) → IsImage img → IsProgramOf (listing_of given img) img
-listing_is_program given are img sound =
+listing_is_program names_given are img sound =
     let names = found_names img in
     let from = bss_behind img in
-    let first = leads_whole (listing_of given img) (empty no_names false 0 0) (passed no_names false 0 img) (pass_leads given are no_names false 0 img sound tt (λ k above low. refl)) in
-    let second = leads_whole (listing_of given img) (empty names true 0 from) (layout_for names true from img)
-    (leads_at (listing_of given img) (empty names true 0 from) (passed names true from img) (layout_for names true from img) (second_laid names from img sound)
-    (pass_leads given are names true from img sound (start_found img sound) (found_all img sound))) in
+    let first = leads_whole (listing_of names_given img) (empty no_names false 0 0) (passed no_names false 0 img) (pass_leads names_given are no_names false 0 img sound tt (λ k above low. refl)) in
+    let second = leads_whole (listing_of names_given img) (empty names true 0 from) (layout_for names true from img)
+    (leads_at (listing_of names_given img) (empty names true 0 from) (passed names true from img) (layout_for names true from img) (second_laid names from img sound)
+    (pass_leads names_given are names true from img sound (start_found img sound) (found_all img sound))) in
+    let given = given_by second.0 (listing_of names_given img) (empty names true 0 from) (layout_for names true from img) second.1 in
     record {
       layout = layout_for names true from img;
-      laid = record { first_lines = first.0; first = passed no_names false 0 img; finds = first.1; lines = second.0; makes = second.1 };
+      laid = record { labels = given.0; settles = inl (record { first_lines = first.0; first = passed no_names false 0 img; finds = first.1; lines = second.0; gives = given.1 }, refl) };
       image = made_image names true from img sound;
     }

@@ -13,13 +13,13 @@ use Rattle.svc_operands.specs.Characters.{is_name, past_blanks, name_at, past_na
 use Rattle.svc_operands.specs.Names.{padded}
 use Rattle.svc_operands.specs.Operands.{first_register_at, base_at}
 use Rattle.svc_operands.specs.Expressions.{operator_at}
-use Rattle.svc_operands.specs.Values.{reach, target_at}
+use Rattle.svc_operands.specs.Values.{reach, target_at, is_far, branch_at}
 use Rattle.svc_instructions.specs.declared.table.Part.{Part}
 use Rattle.svc_instructions.specs.declared.table.Part.TheVariants as part
 use Rattle.svc_instructions.specs.declared.table.Row.{Row}
 use Rattle.svc_instructions.specs.declared.table.TheConstants.{ROWS, ALIASES, COUPLES}
 use Rattle.svc_instructions.specs.Instructions.{parts_of, taken, part_at, joined, parts_at, over, row_at, rows_at, alone_at, fixed, is_of, row_of}
-use Rattle.svc_instructions.specs.Couples.{has_name, couple_at, set_at, relative_upper_at, relative_named, single_at, access_at, alone_on_line, other_at, lettered_at, instruction_at}
+use Rattle.svc_instructions.specs.Couples.{has_name, couple_at, set_at, relative_upper_at, relative_named, single_at, longer_at, other_at, lettered_at, instruction_at}
 use Rattle.svc_asm.specs.Statements.{statement_at}
 use Rattle.svc_list.specs.Listings.{register_text, last_text, upper_text, label_text, reach_text, part_text, parts_text, row_text, led, led_by, led_along}
 use Rattle.svc_list.proofs.NamesBack.{stops, Ends, ends_over, no_slash}
@@ -53,6 +53,10 @@ seen known to part.Order n = n
 abbrev pub refilled : Bool → Option ℕ → List Part → ℕ → ℕ → ℕ
 refilled known to [] w word = word
 refilled known to (p ∷ more) w word = refilled known to more w (joined word p (seen known to p (taken p w)))
+
+-- no branch is turned, and no name is weak
+abbrev pub Near : Layout → Type 0
+Near d = (text : List ℕ) → is_far d text ≡ false
 
 -- where labels are known, a word leads to its own; where they aren't, each stands for here
 abbrev pub Reached : Bool → Layout → ℕ → List Part → ℕ → Type 0
@@ -226,10 +230,11 @@ step known d to p more w word rest read next =
     ∙ ap (λ o. o >>= (λ n. parts_at d more n.1 (joined word p n.0))) read ∙ next
 
 -- a target, behind which the line ends
-branch_part : (known : Bool) (d : Layout) (to : Option ℕ) (more : List Part) (w : ℕ) (rest tail : List ℕ) → is_last more ≡ true → Ends rest tail → Reaches known d to (part.Branch ∷ more) w
+branch_part : (known : Bool) (d : Layout) (near : Near d) (to : Option ℕ) (more : List Part) (w : ℕ) (rest tail : List ℕ) → is_last more ≡ true → Ends rest tail → Reaches known d to (part.Branch ∷ more) w
     → part_at d part.Branch (part_text to part.Branch (taken part.Branch w) ++ (parts_text to more w ++ rest)) ≡ Some (passed known to (taken part.Branch w), parts_text to more w ++ rest)
-unfolding part_at part_text
-branch_part known d to more w rest tail last ends reaches = rw (last_text_none to more w last) (branch_reads known d to more w rest tail last ends reaches)
+unfolding part_at part_text branch_at
+branch_part known d near to more w rest tail last ends reaches =
+    rw (last_text_none to more w last, near (reach_text to 2048 (taken part.Branch w % 2 ^ 12) ++ rest)) (branch_reads known d to more w rest tail last ends reaches)
 
 jump_part : (known : Bool) (d : Layout) (to : Option ℕ) (more : List Part) (w : ℕ) (rest tail : List ℕ) → is_last more ≡ true → Ends rest tail → Reaches known d to (part.Jump ∷ more) w
     → part_at d part.Jump (part_text to part.Jump (taken part.Jump w) ++ (parts_text to more w ++ rest)) ≡ Some (passed known to (taken part.Jump w), parts_text to more w ++ rest)
@@ -250,44 +255,44 @@ same_reach true d (Some t) ps qs w e h = (h.0, h.1, sym e ∙ h.2)
 same_reach false d (Some t) ps qs w e h = h
 
 -- the operands of a word are read back from their text, whatever row they are of
-parts_back : (known : Bool) (d : Layout) (to : Option ℕ) (ps : List Part) (w word : ℕ) (rest tail : List ℕ) → is_shown ps ≡ true → Ends rest tail → Reaches known d to ps w
+parts_back : (known : Bool) (d : Layout) (near : Near d) (to : Option ℕ) (ps : List Part) (w word : ℕ) (rest tail : List ℕ) → is_shown ps ≡ true → Ends rest tail → Reaches known d to ps w
     → parts_at d ps (parts_text to ps w ++ rest) word ≡ Some (refilled known to ps w word, rest)
-parts_back known d to [] w word rest tail k ends reaches = refl
-parts_back known d to (part.Branch ∷ more) w word rest tail k ends reaches =
-    step known d to part.Branch more w word rest (branch_part known d to more w rest tail k ends reaches) (none_reached known d to more w k (joined word part.Branch (passed known to (taken part.Branch w))) rest tail ends)
-parts_back known d to (part.Jump ∷ more) w word rest tail k ends reaches =
+parts_back known d near to [] w word rest tail k ends reaches = refl
+parts_back known d near to (part.Branch ∷ more) w word rest tail k ends reaches =
+    step known d to part.Branch more w word rest (branch_part known d near to more w rest tail k ends reaches) (none_reached known d to more w k (joined word part.Branch (passed known to (taken part.Branch w))) rest tail ends)
+parts_back known d near to (part.Jump ∷ more) w word rest tail k ends reaches =
     step known d to part.Jump more w word rest (jump_part known d to more w rest tail k ends reaches) (none_reached known d to more w k (joined word part.Jump (passed known to (taken part.Jump w))) rest tail ends)
-parts_back known d to (part.Order ∷ more) w word rest tail k ends reaches = absurd (cc)
-parts_back known d to (part.End ∷ more) w word rest tail k ends reaches =
+parts_back known d near to (part.Order ∷ more) w word rest tail k ends reaches = absurd (cc)
+parts_back known d near to (part.End ∷ more) w word rest tail k ends reaches =
     step known d to part.End more w word rest (part_back d to part.End (taken part.End w) (parts_text to more w ++ rest) refl (taken_fits part.End w) (parts_stop to more w rest ends.stop) (λ no. absurd (cc)))
-    (parts_back known d to more w (joined word part.End (taken part.End w)) rest tail k ends (same_reach known d to (part.End ∷ more) more w refl reaches))
-parts_back known d to (part.Comma ∷ more) w word rest tail k ends reaches =
+    (parts_back known d near to more w (joined word part.End (taken part.End w)) rest tail k ends (same_reach known d to (part.End ∷ more) more w refl reaches))
+parts_back known d near to (part.Comma ∷ more) w word rest tail k ends reaches =
     step known d to part.Comma more w word rest (part_back d to part.Comma (taken part.Comma w) (parts_text to more w ++ rest) refl (taken_fits part.Comma w) (parts_stop to more w rest ends.stop) (λ no. absurd (cc)))
-    (parts_back known d to more w (joined word part.Comma (taken part.Comma w)) rest tail k ends (same_reach known d to (part.Comma ∷ more) more w refl reaches))
-parts_back known d to (part.Rd ∷ more) w word rest tail k ends reaches =
+    (parts_back known d near to more w (joined word part.Comma (taken part.Comma w)) rest tail k ends (same_reach known d to (part.Comma ∷ more) more w refl reaches))
+parts_back known d near to (part.Rd ∷ more) w word rest tail k ends reaches =
     step known d to part.Rd more w word rest (part_back d to part.Rd (taken part.Rd w) (parts_text to more w ++ rest) refl (taken_fits part.Rd w) (parts_stop to more w rest ends.stop) (λ no. absurd (cc)))
-    (parts_back known d to more w (joined word part.Rd (taken part.Rd w)) rest tail k ends (same_reach known d to (part.Rd ∷ more) more w refl reaches))
-parts_back known d to (part.Rs1 ∷ more) w word rest tail k ends reaches =
+    (parts_back known d near to more w (joined word part.Rd (taken part.Rd w)) rest tail k ends (same_reach known d to (part.Rd ∷ more) more w refl reaches))
+parts_back known d near to (part.Rs1 ∷ more) w word rest tail k ends reaches =
     step known d to part.Rs1 more w word rest (part_back d to part.Rs1 (taken part.Rs1 w) (parts_text to more w ++ rest) refl (taken_fits part.Rs1 w) (parts_stop to more w rest ends.stop) (λ no. absurd (cc)))
-    (parts_back known d to more w (joined word part.Rs1 (taken part.Rs1 w)) rest tail k ends (same_reach known d to (part.Rs1 ∷ more) more w refl reaches))
-parts_back known d to (part.Rs2 ∷ more) w word rest tail k ends reaches =
+    (parts_back known d near to more w (joined word part.Rs1 (taken part.Rs1 w)) rest tail k ends (same_reach known d to (part.Rs1 ∷ more) more w refl reaches))
+parts_back known d near to (part.Rs2 ∷ more) w word rest tail k ends reaches =
     step known d to part.Rs2 more w word rest (part_back d to part.Rs2 (taken part.Rs2 w) (parts_text to more w ++ rest) refl (taken_fits part.Rs2 w) (parts_stop to more w rest ends.stop) (λ no. absurd (cc)))
-    (parts_back known d to more w (joined word part.Rs2 (taken part.Rs2 w)) rest tail k ends (same_reach known d to (part.Rs2 ∷ more) more w refl reaches))
-parts_back known d to (part.Base ∷ more) w word rest tail k ends reaches =
+    (parts_back known d near to more w (joined word part.Rs2 (taken part.Rs2 w)) rest tail k ends (same_reach known d to (part.Rs2 ∷ more) more w refl reaches))
+parts_back known d near to (part.Base ∷ more) w word rest tail k ends reaches =
     step known d to part.Base more w word rest (part_back d to part.Base (taken part.Base w) (parts_text to more w ++ rest) refl (taken_fits part.Base w) (parts_stop to more w rest ends.stop) (λ no. absurd (cc)))
-    (parts_back known d to more w (joined word part.Base (taken part.Base w)) rest tail k ends (same_reach known d to (part.Base ∷ more) more w refl reaches))
-parts_back known d to (part.Immediate ∷ more) w word rest tail k ends reaches =
+    (parts_back known d near to more w (joined word part.Base (taken part.Base w)) rest tail k ends (same_reach known d to (part.Base ∷ more) more w refl reaches))
+parts_back known d near to (part.Immediate ∷ more) w word rest tail k ends reaches =
     step known d to part.Immediate more w word rest (part_back d to part.Immediate (taken part.Immediate w) (parts_text to more w ++ rest) refl (taken_fits part.Immediate w) (parts_stop to more w rest ends.stop) (λ _. quiet_text to more w rest tail (and_parts (is_quiet more) (is_shown more) k).0 ends))
-    (parts_back known d to more w (joined word part.Immediate (taken part.Immediate w)) rest tail (and_parts (is_quiet more) (is_shown more) k).1 ends (same_reach known d to (part.Immediate ∷ more) more w refl reaches))
-parts_back known d to (part.StoreOffset ∷ more) w word rest tail k ends reaches =
+    (parts_back known d near to more w (joined word part.Immediate (taken part.Immediate w)) rest tail (and_parts (is_quiet more) (is_shown more) k).1 ends (same_reach known d to (part.Immediate ∷ more) more w refl reaches))
+parts_back known d near to (part.StoreOffset ∷ more) w word rest tail k ends reaches =
     step known d to part.StoreOffset more w word rest (part_back d to part.StoreOffset (taken part.StoreOffset w) (parts_text to more w ++ rest) refl (taken_fits part.StoreOffset w) (parts_stop to more w rest ends.stop) (λ _. quiet_text to more w rest tail (and_parts (is_quiet more) (is_shown more) k).0 ends))
-    (parts_back known d to more w (joined word part.StoreOffset (taken part.StoreOffset w)) rest tail (and_parts (is_quiet more) (is_shown more) k).1 ends (same_reach known d to (part.StoreOffset ∷ more) more w refl reaches))
-parts_back known d to (part.Amount ∷ more) w word rest tail k ends reaches =
+    (parts_back known d near to more w (joined word part.StoreOffset (taken part.StoreOffset w)) rest tail (and_parts (is_quiet more) (is_shown more) k).1 ends (same_reach known d to (part.StoreOffset ∷ more) more w refl reaches))
+parts_back known d near to (part.Amount ∷ more) w word rest tail k ends reaches =
     step known d to part.Amount more w word rest (part_back d to part.Amount (taken part.Amount w) (parts_text to more w ++ rest) refl (taken_fits part.Amount w) (parts_stop to more w rest ends.stop) (λ _. quiet_text to more w rest tail (and_parts (is_quiet more) (is_shown more) k).0 ends))
-    (parts_back known d to more w (joined word part.Amount (taken part.Amount w)) rest tail (and_parts (is_quiet more) (is_shown more) k).1 ends (same_reach known d to (part.Amount ∷ more) more w refl reaches))
-parts_back known d to (part.Upper ∷ more) w word rest tail k ends reaches =
+    (parts_back known d near to more w (joined word part.Amount (taken part.Amount w)) rest tail (and_parts (is_quiet more) (is_shown more) k).1 ends (same_reach known d to (part.Amount ∷ more) more w refl reaches))
+parts_back known d near to (part.Upper ∷ more) w word rest tail k ends reaches =
     step known d to part.Upper more w word rest (part_back d to part.Upper (taken part.Upper w) (parts_text to more w ++ rest) refl (taken_fits part.Upper w) (parts_stop to more w rest ends.stop) (λ _. quiet_text to more w rest tail (and_parts (is_quiet more) (is_shown more) k).0 ends))
-    (parts_back known d to more w (joined word part.Upper (taken part.Upper w)) rest tail (and_parts (is_quiet more) (is_shown more) k).1 ends (same_reach known d to (part.Upper ∷ more) more w refl reaches))
+    (parts_back known d near to more w (joined word part.Upper (taken part.Upper w)) rest tail (and_parts (is_quiet more) (is_shown more) k).1 ends (same_reach known d to (part.Upper ∷ more) more w refl reaches))
 
 -- the first row of a name
 abbrev pub named : List ℕ → List Row → Option Row
@@ -354,15 +359,15 @@ over_is : (w : ℕ) (rest tail : List ℕ) → Ends rest tail → over (w, rest)
 over_is w rest tail ends = rw (ends_over rest tail ends) refl
 
 -- what is written of a word of any row is read back as the word that the pass sees
-pub row_back : (known : Bool) (d : Layout) (to : Option ℕ) (w : ℕ) (r : Row) (rest tail : List ℕ) → row_of w ≡ Some r → Ends rest tail → Reaches known d to (parts_of r) w
+pub row_back : (known : Bool) (d : Layout) (near : Near d) (to : Option ℕ) (w : ℕ) (r : Row) (rest tail : List ℕ) → row_of w ≡ Some r → Ends rest tail → Reaches known d to (parts_of r) w
     → statement_at d (row_text to r w ++ rest) ≡ Some (say.Instruction (refilled known to (parts_of r) w r.1), rest)
 unfolding row_of row_at alone_at single_at other_at instruction_at
-row_back known d to w r rest tail e ends reaches =
+row_back known d near to w r rest tail e ends reaches =
     let good = (found_good Good (is_of (fixed w)) ROWS r each_good e).0 in
     let operands = parts_text to (parts_of r) w ++ rest in
     let name = name_at r.0 in
     let word = refilled known to (parts_of r) w r.1 in
-    let read : row_at d r operands ≡ Some (word, rest) = ap (λ o. o >>= over) (parts_back known d to (parts_of r) w r.1 rest tail good.5 ends reaches) ∙ over_is word rest tail ends in
+    let read : row_at d r operands ≡ Some (word, rest) = ap (λ o. o >>= over) (parts_back known d near to (parts_of r) w r.1 rest tail good.5 ends reaches) ∙ over_is word rest tail ends in
     let rows : rows_at d ROWS r.0 operands ≡ Some (word, rest) = named_reads d r.0 operands ROWS r (word, rest) good.4 read in
     let alone : alone_at d r.0 operands ≡ Some (say.Instruction word, rest) =
     ap (λ o. option_map (λ x. (say.Instruction x.0, x.1)) (found o (λ x. Some x) (rows_at d ALIASES r.0 operands))) rows in
@@ -371,7 +376,7 @@ row_back known d to w r rest tail e ends reaches =
     ap (λ (b : Bool). if b then set_at operands else padded name >>= (λ letters. lettered_at d name letters operands)) good.2
     ∙ ap (λ o. o >>= (λ letters. lettered_at d name letters operands)) good.1
     ∙ ap (λ o. found o (λ c. couple_at d c operands) (other_at d name r.0 operands)) good.3
-    ∙ ap (λ o. found o (λ x. Some x) (access_at d name operands >>= alone_on_line)) single in
+    ∙ ap (λ o. found o (λ x. Some x) (longer_at d name r.0 operands)) single in
     ap (statement_at d) (append_assoc name (parts_text to (parts_of r) w) rest) ∙ by_name d name operands good.0 (parts_stop to (parts_of r) w rest ends.stop) ∙ whole
 
 pub row_stops : (to : Option ℕ) (w : ℕ) (r : Row) (rest : List ℕ) → row_of w ≡ Some r → stops rest ≡ true → behind 58 (past_name (row_text to r w ++ rest)) ≡ None
