@@ -18,7 +18,6 @@ use crate::store::{Store, empty_spill, store_line};
 use crate::victim::Victim;
 use svc_base::{Refusal, TaskNo, UnitId, WordAddr};
 use svc_cache::Probes;
-use svc_line::Line;
 use svc_vcl::plan_write;
 
 // The victim as a write answers it: its number, and how many tasks are squashed.
@@ -64,17 +63,13 @@ impl Bus {
         let place = place_of(&self.queue, unit);
         let mut probes = Probes::new();
         self.list.fill(&self.caches, &self.queue, word, &mut probes);
-        let plan = plan_write(&self.list, unit, place, &mut self.changed);
+        let plan = plan_write(&self.list, unit, place, value, &mut self.changed);
         let tasks = self.queue.len();
         let left = plan.victim.unwrap_or(tasks);
         let store = Store {
             unit,
             word,
-            line: Line {
-                value,
-                bits: plan.bits,
-                next: plan.next,
-            },
+            line: plan.line,
             previous: plan.previous,
             changed: &self.changed,
             left,
