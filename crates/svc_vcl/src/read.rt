@@ -55,8 +55,8 @@ fn is_first_use(place: usize, spill: Option<u32>) -> bool
     place != 0 || spill.is_none()
 }
 
-/// The plan of a read by the unit of the task at a place: who supplies the value, and the unit's line after it, with the
-/// value that the task sees. `spill` is the word's spilled value, and `backing` its value in memory.
+/// The plan of a read by the unit of the task at a place: who supplies the value, and the unit's line after it, with
+/// the value that the task sees. `spill` is the word's spilled value, and `backing` its value in memory.
 pub fn plan_read(
     list: &VersionList,
     unit: UnitId,

@@ -124,8 +124,8 @@ fn unit_of(version: Option<HeldLine>) -> Option<UnitId>
     }
 }
 
-/// The plan of a write by the unit of the task at a place: the victim, if any, the unit's line after it, and the link of
-/// the version before it. (A write purges the word, so no committed version is left.)
+/// The plan of a write by the unit of the task at a place: the victim, if any, the unit's line after it, and the link
+/// of the version before it. (A write purges the word, so no committed version is left.)
 ///
 /// `changed` is large, so it is filled in place. It gets the lines of other units that the write changes, as they were
 /// before it: the committed copies and the lines of earlier tasks, which become stale, and the version before, which is
