@@ -1,5 +1,5 @@
 -- What the plan of a write says of a sound bus.
-use Rattle.std.proofs.Common.{◌≡◌, ◌≢◌, ◌∙◌, refl, sym, ap, ap₂, subst, ℕ, ◌+◌, ◌-◌, ◌<◌, Bool, true, false, is_some, Option, Some, List, length, map, get_or, option_map, unwrap_or, inl, inr, arith}
+use Rattle.std.proofs.Common.{◌≡◌, ◌≢◌, ◌∙◌, refl, sym, ap, ap₂, subst, ℕ, ◌+◌, ◌-◌, ◌<◌, Bool, true, false, is_some, Option, Some, List, length, get_or, option_map, unwrap_or, inl, inr, arith}
 use Rattle.std.specs.Prelude.{IfSome}
 use Rattle.svc_vol.specs.declared.held_line.HeldLine.{HeldLine}
 use Rattle.svc_base.specs.declared.refusal.Refusal.TheVariants as refusal
