@@ -9,7 +9,7 @@ use Rattle.svc_cache.specs.Places.{CacheValue}
 use Rattle.svc_bus_laws.specs.Search.{least}
 use Rattle.svc_bus_laws.specs.Versioned.{Row, Versioned, survivors, victim_answer}
 use Rattle.svc_bus_laws.specs.Versioned as answer
-use Rattle.svc_bus_laws.specs.LineTable.{LineTable, unit_at, versioned}
+use Rattle.svc_bus_laws.specs.LineTable.{LineTable, unit_at, versioned_map}
 use Rattle.svc_bus_laws.specs.BusState.{BusState, Agrees}
 use Rattle.svc_bus_laws.specs.BusLine.{purged_line, version_of_line}
 use Rattle.svc_bus_laws.specs.BusSteps.{bus_write, line_after_cut}
@@ -94,7 +94,7 @@ module _ (b : BusValue) (sound : IsSoundBus b) (unit place word : ℕ) (within :
     abbrev answer_of : ℕ → ℕ → answer.Victim
     answer_of v n = record { first = b.commits + v; tasks = n - v }
 
-    pub chosen_shown : (s : LineTable) (p : ℕ) → Agrees (state_in b) s → p < length s.units → unit_at s p ≡ unit → option_map (λ v. answer_of v tasks) chosen ≡ victim_answer (versioned s) p word
+    pub chosen_shown : (s : LineTable) (p : ℕ) → Agrees (state_in b) s → p < length s.units → unit_at s p ≡ unit → option_map (λ v. answer_of v tasks) chosen ≡ victim_answer (versioned_map s) p word
     chosen_shown s p agrees here is =
         ap₂ (λ (o : Option ℕ) (n : ℕ). option_map (λ v. answer_of v n) o) chosen_is (all ∙ sym rows_are)
         ∙ ap₂ (λ (m : Versioned) (q : ℕ). victim_answer m q word) (map_seen (state_in b) s agrees) (sym (place_is b s agrees place p sound within here (is ∙ sym at)))

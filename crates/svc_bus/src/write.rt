@@ -4,7 +4,7 @@ ghost use Rattle.std.specs.Prelude.{◌≡◌, ℕ, ◌+◌, ◌-◌, ◌^◌, �
 ghost use Rattle.std.specs.Prelude.{IfSome, OnOk, OnErr, MatchResult};
 ghost use Rattle.svc_vol.specs.declared.list.TheConstants.{CAPACITY};
 ghost use Rattle.svc_bus_laws.specs.Versioned.{victim_answer};
-ghost use Rattle.svc_bus_laws.specs.LineTable.{LineTable, versioned};
+ghost use Rattle.svc_bus_laws.specs.LineTable.{LineTable, versioned_map};
 ghost use Rattle.svc_bus_laws.specs.Steps.{write};
 ghost use Rattle.svc_bus_laws.specs.BusState.{Agrees};
 ghost use Rattle.svc_bus.specs.Observed.{observed};
@@ -54,7 +54,7 @@ impl Bus {
         ensures refused { IsRefusedIfFull (observed self.old) unit.0 word.0 result }
         ensures unchanged { OnErr result (self.new ≡ self.old) }
         ensures victim { (t : LineTable) → (place : ℕ) → RunsAt (observed self.old) unit.0 t place
-            → IfOk result (λ v. option_map victim_shown v ≡ victim_answer (versioned t) place word.0) }
+            → IfOk result (λ v. option_map victim_shown v ≡ victim_answer (versioned_map t) place word.0) }
         ensures table { (t : LineTable) → (place : ℕ) → RunsAt (observed self.old) unit.0 t place
             → OnOk result (Agrees (observed self.new) (write t place word.0 value)) }
         ensures probes { OnOk result (LookUpsFrom (observed self.old).caches (observed self.new).probes
