@@ -5,7 +5,7 @@ use Rattle.std.specs.Option.{option_or}
 use Rattle.svc_line.specs.Line.{SeenLine}
 use Rattle.svc_cache.specs.Search as cache
 use Rattle.svc_cache.specs.Lines as cache_lines
-use Rattle.svc_cache.specs.Lines.{LineMap, EndsBelow}
+use Rattle.svc_cache.specs.Lines.{EndsBelow}
 use Rattle.svc_cache.specs.Places.{CacheValue, line_of}
 use Rattle.svc_bus_laws.specs.Search.{least, how_many}
 use Rattle.svc_bus_laws.specs.BusLine.{is_committed_line}

@@ -14,7 +14,7 @@ use Rattle.svc_retire.specs.Caches.{cache_at}
 use Rattle.svc_retire.proofs.Dropping.{lines_are}
 use Rattle.svc_vol.proofs.Validity.{HasV, line_valid}
 use Rattle.svc_bus_laws.specs.Versioned.{view}
-use Rattle.svc_bus_laws.specs.LineTable.{LineTable, unit_at, versioned}
+use Rattle.svc_bus_laws.specs.LineTable.{LineTable, unit_at, versioned_map}
 use Rattle.svc_bus_laws.specs.Supplier.{Hit, supplier}
 use Rattle.svc_bus_laws.specs.Steps.{read}
 use Rattle.svc_bus_laws.specs.BusLine.{BusLine, is_active_line, is_reusable_line, value_of_line}
@@ -49,7 +49,7 @@ module _ (b : BusState) (t : LineTable) (place word unit : ℕ) (agrees : Agrees
   pub hit_served : Hit ≡ supplier t place word
   hit_served = hits ∙ supplier_seen b t place word agrees
 
-  pub hit_value : line.value ≡ view (versioned t) place word
+  pub hit_value : line.value ≡ view (versioned_map t) place word
   hit_value =
       some_is line.value (bus_view b place word)
       (sym (ap (λ (l : Option BusLine). Some (value_of_line l)) own) ∙ ap (bus_supplied b place word) hits ∙ supplied_seen b t place word agrees (subst (λ (us : List ℕ). place < length us) (sym agrees.units) within))

@@ -1,5 +1,5 @@
 -- The units of a word's version list that have committed versions are in the order that callers see.
-use Rattle.std.proofs.Common.{◌≡◌, ◌≢◌, ◌∙◌, refl, sym, ap, subst, ℕ, zero, suc, ◌<◌, ◌≤◌, Bool, true, false, ◌&&◌, Option, Some, None, List, [], ◌∷◌, get_or, length, map, option_map, inl, inr, arith, true≢false, eq-eqb}
+use Rattle.std.proofs.Common.{◌≡◌, ◌≢◌, ◌∙◌, sym, ap, ℕ, zero, suc, ◌<◌, Bool, true, false, Option, Some, None, List, [], ◌∷◌, get_or, length, map, option_map, inl, inr, arith, true≢false, eq-eqb}
 use Rattle.std.specs.Prelude.{◌==◌, ◌||◌, cond}
 use Rattle.std.specs.List.{All, AllPairs, filter, list_any}
 use Rattle.std.proofs.Math.Bool.{or-true}
@@ -13,7 +13,7 @@ use Rattle.svc_cache.specs.Places.{CacheValue}
 use Rattle.svc_bus_laws.specs.LineTable.{LineTable}
 use Rattle.svc_bus_laws.specs.BusLine.{BusLine, is_committed_line, is_committed_dirty_line, is_dirty_line}
 use Rattle.svc_bus_laws.specs.BusState.{BusState, Agrees}
-use Rattle.svc_bus_laws.proofs.OrderProofs.{order_strict, order_total}
+use Rattle.svc_bus_laws.proofs.OrderProofs.{order_total}
 use Rattle.svc_bus_laws.proofs.SoundSeen.{sound_seen}
 use Rattle.svc_vol.specs.declared.held_line.HeldLine.{HeldLine}
 use Rattle.svc_vol.specs.Lines.{lines_in}

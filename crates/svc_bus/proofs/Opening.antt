@@ -6,7 +6,7 @@ use Rattle.svc_base.specs.declared.config.TheConstants.{MAX_WAYS}
 use Rattle.svc_vol.specs.declared.list.TheConstants.{CAPACITY}
 use Rattle.svc_cache.specs.Lines.{LineMap, no_lines}
 use Rattle.svc_cache.specs.Places.{CacheValue, line_among, line_of}
-use Rattle.svc_bus_laws.specs.LineTable.{opened}
+use Rattle.svc_bus_laws.specs.LineTable.{opening_table}
 use Rattle.svc_bus_laws.specs.BusState.{Agrees}
 use Rattle.svc_bus_laws.specs.BusSteps.{bus_opened}
 use Rattle.svc_bus_laws.proofs.SeenLaws.{opened_agrees}
@@ -96,5 +96,5 @@ module _ (b : BusValue) (units sets ways : ℕ) (some : 1 ≤ units) (few : unit
     few_commits = omega (arith, no_commits);
   }
 
-  pub opened_table : Agrees (state_in b) (opened units sets ways b.backing)
-  opened_table = step_agrees b (bus_opened units sets ways b.backing) (link_in b.caches) is_step (opened units sets ways b.backing) (opened_agrees units sets ways b.backing)
+  pub opened_table : Agrees (state_in b) (opening_table units sets ways b.backing)
+  opened_table = step_agrees b (bus_opened units sets ways b.backing) (link_in b.caches) is_step (opening_table units sets ways b.backing) (opened_agrees units sets ways b.backing)

@@ -1,16 +1,15 @@
 -- What the plan of a write says of a sound bus.
-use Rattle.std.proofs.Common.{◌≡◌, ◌≢◌, ◌∙◌, refl, sym, ap, ap₂, subst, ℕ, ◌+◌, ◌-◌, ◌<◌, Bool, true, false, is_some, Option, Some, List, length, map, get_or, option_map, unwrap_or, inl, inr, arith}
+use Rattle.std.proofs.Common.{◌≡◌, ◌≢◌, ◌∙◌, refl, sym, ap, ap₂, subst, ℕ, ◌+◌, ◌-◌, ◌<◌, Bool, true, false, is_some, Option, Some, List, length, get_or, option_map, unwrap_or, inl, inr, arith}
 use Rattle.std.specs.Prelude.{IfSome}
 use Rattle.svc_vol.specs.declared.held_line.HeldLine.{HeldLine}
 use Rattle.svc_base.specs.declared.refusal.Refusal.TheVariants as refusal
-use Rattle.svc_line.specs.Bits.{Bits}
 use Rattle.svc_line.specs.Line.{SeenLine}
 use Rattle.svc_cache.specs.declared.probes.Probes.{Probes}
 use Rattle.svc_cache.specs.Places.{CacheValue}
 use Rattle.svc_bus_laws.specs.Search.{least}
 use Rattle.svc_bus_laws.specs.Versioned.{Row, Versioned, survivors, victim_answer}
 use Rattle.svc_bus_laws.specs.Versioned as answer
-use Rattle.svc_bus_laws.specs.LineTable.{LineTable, unit_at, versioned}
+use Rattle.svc_bus_laws.specs.LineTable.{LineTable, unit_at, versioned_map}
 use Rattle.svc_bus_laws.specs.BusState.{BusState, Agrees}
 use Rattle.svc_bus_laws.specs.BusLine.{purged_line, version_of_line}
 use Rattle.svc_bus_laws.specs.BusSteps.{bus_write, line_after_cut}
@@ -95,7 +94,7 @@ module _ (b : BusValue) (sound : IsSoundBus b) (unit place word : ℕ) (within :
     abbrev answer_of : ℕ → ℕ → answer.Victim
     answer_of v n = record { first = b.commits + v; tasks = n - v }
 
-    pub chosen_shown : (s : LineTable) (p : ℕ) → Agrees (state_in b) s → p < length s.units → unit_at s p ≡ unit → option_map (λ v. answer_of v tasks) chosen ≡ victim_answer (versioned s) p word
+    pub chosen_shown : (s : LineTable) (p : ℕ) → Agrees (state_in b) s → p < length s.units → unit_at s p ≡ unit → option_map (λ v. answer_of v tasks) chosen ≡ victim_answer (versioned_map s) p word
     chosen_shown s p agrees here is =
         ap₂ (λ (o : Option ℕ) (n : ℕ). option_map (λ v. answer_of v n) o) chosen_is (all ∙ sym rows_are)
         ∙ ap₂ (λ (m : Versioned) (q : ℕ). victim_answer m q word) (map_seen (state_in b) s agrees) (sym (place_is b s agrees place p sound within here (is ∙ sym at)))
@@ -109,20 +108,17 @@ module _ (b : BusValue) (sound : IsSoundBus b) (unit place word : ℕ) (within :
     once_each cs same = subst (λ (vs : List HeldLine). ChangeOnce cs unit word vs) (sym are) (subst (λ (xs : List CacheValue). ChangeOnce xs unit word (changed_in list unit place)) (sym same) (changed_once b sound place word unit within at list has.committed has.active))
 
     -- all of it
-    module _ (value left : ℕ) (bits : Bits) (next previous : Option ℕ) (is_left : left ≡ survivors (bus_map (state_in b)) place word) (valid : bits.valid ≡ true)
-        (own : (s : BusState) (t : LineTable) (a w : ℕ) → IsRequest s t a list unit place → (bus_write s place a w).lines unit a ≡ Some (line_with w bits))
+    module _ (value left : ℕ) (line : SeenLine) (previous : Option ℕ) (is_left : left ≡ survivors (bus_map (state_in b)) place word) (value_is : line.value ≡ value) (valid : line.bits.valid ≡ true)
+        (own : (s : BusState) (t : LineTable) (a : ℕ) → IsRequest s t a list unit place → (bus_write s place a value).lines unit a ≡ Some (line_with value line.bits))
         (others : (s : BusState) (t : LineTable) (a w other : ℕ) → IsRequest s t a list unit place → other ≢ unit → (bus_write s place a w).lines other a ≡ marked_where (is_named changed other) (purged_line (line_after_cut s (survivors (bus_map s) place a) other a)))
-        (next_is : (s : BusState) (t : LineTable) (a : ℕ) → IsRequest s t a list unit place → next ≡ unit_of s.units (place_after (survivors (bus_map s) place a) (λ q. is_some (version_of_line (bus_line_at s q a))) place))
+        (next_is : (s : BusState) (t : LineTable) (a : ℕ) → IsRequest s t a list unit place → line.next ≡ unit_of s.units (place_after (survivors (bus_map s) place a) (λ q. is_some (version_of_line (bus_line_at s q a))) place))
         (previous_is : (s : BusState) (t : LineTable) (a : ℕ) → IsRequest s t a list unit place → previous ≡ unit_of s.units (place_before (λ q. is_some (version_of_line (bus_line_at s q a))) place))
         (linked : (other : ℕ) → previous ≡ Some other → is_named changed other ≡ true) where
-      abbrev pub new_line : SeenLine
-      new_line = record { value = value; bits = bits; next = next }
-
-      pub planned : IsPlanned b place word value new_line previous changed left
+      pub planned : IsPlanned b place word value line previous changed left
       planned = record {
         left_is = is_left;
-        own = ap (λ u. (bus_write (state_in b) place word value).lines u word) at ∙ own (state_in b) sound.linked.table word value request;
-        value_is = refl;
+        own = ap (λ u. (bus_write (state_in b) place word value).lines u word) at ∙ own (state_in b) sound.linked.table word request;
+        value_is = value_is;
         valid = valid;
         next_is = next_is (state_in b) sound.linked.table word request;
         previous_is = previous_is (state_in b) sound.linked.table word request;
@@ -131,5 +127,5 @@ module _ (b : BusValue) (sound : IsSoundBus b) (unit place word : ℕ) (within :
         linked = linked;
       }
 
-      pub line_active : word < length b.backing → bits.commit ≡ false
-      line_active known = own_active b sound place word value new_line previous changed left within known planned
+      pub line_active : word < length b.backing → line.bits.commit ≡ false
+      line_active known = own_active b sound place word value line previous changed left within known planned

@@ -10,7 +10,7 @@ use Rattle.svc_line.specs.Line.{SeenLine}
 use Rattle.svc_cache.specs.declared.row.SetFull.{SetFull}
 use Rattle.svc_cache.specs.Places.{line_of}
 use Rattle.svc_bus_laws.specs.Versioned.{view}
-use Rattle.svc_bus_laws.specs.LineTable.{LineTable, unit_at, versioned}
+use Rattle.svc_bus_laws.specs.LineTable.{LineTable, unit_at, versioned_map}
 use Rattle.svc_bus_laws.specs.Search.{greatest}
 use Rattle.svc_bus_laws.specs.Supplier.{Supplier, supplier, by_committed}
 use Rattle.svc_bus_laws.specs.Supplier as from
@@ -332,8 +332,8 @@ module _ (b : BusValue) (sound : IsSoundBus b) (t : LineTable) (agrees : Agrees 
   same_place : place ≡ p
   same_place = place_is b t agrees p place sound here within at
 
-  pub value_seen : (value : ℕ) → value ≡ bus_view (state_in b) p a → value ≡ view (versioned t) place a
-  value_seen value is = is ∙ view_seen (state_in b) t p a agrees ∙ ap (λ q. view (versioned t) q a) (sym same_place)
+  pub value_seen : (value : ℕ) → value ≡ bus_view (state_in b) p a → value ≡ view (versioned_map t) place a
+  value_seen value is = is ∙ view_seen (state_in b) t p a agrees ∙ ap (λ q. view (versioned_map t) q a) (sym same_place)
 
   pub served_seen : (served : Served) → supplier_of served ≡ bus_supplier (state_in b) p a → supplier_of served ≡ supplier t place a
   served_seen served is = is ∙ supplier_seen (state_in b) t p a agrees ∙ ap (λ q. supplier t q a) (sym same_place)

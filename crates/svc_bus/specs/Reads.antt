@@ -3,7 +3,7 @@ use Rattle.std.specs.Prelude.{◌≡◌, ℕ, None, Some, Result, IfOk, OnOk, Ma
 use Rattle.svc_base.specs.declared.refusal.Refusal.{Refusal}
 use Rattle.svc_base.specs.declared.served.Served.{Served}
 use Rattle.svc_bus_laws.specs.BusState.{BusState, Agrees}
-use Rattle.svc_bus_laws.specs.LineTable.{LineTable, versioned}
+use Rattle.svc_bus_laws.specs.LineTable.{LineTable, versioned_map}
 use Rattle.svc_bus_laws.specs.Steps.{read}
 use Rattle.svc_bus_laws.specs.Supplier.{supplier}
 use Rattle.svc_bus_laws.specs.Versioned.{view}
@@ -18,7 +18,7 @@ IsRefusedIfFull b unit word answer =
 -- an accepted read gives the value that the unit's task may see
 abbrev pub GivesView : BusState → (unit word : ℕ) → Result (ℕ × Served) Refusal → Type 0
 GivesView b unit word answer =
-    (t : LineTable) → (place : ℕ) → RunsAt b unit t place → IfOk answer (λ r. r.0 ≡ view (versioned t) place word)
+    (t : LineTable) → (place : ℕ) → RunsAt b unit t place → IfOk answer (λ r. r.0 ≡ view (versioned_map t) place word)
 
 -- and says who supplied it
 abbrev pub NamesSupplier : BusState → (unit word : ℕ) → Result (ℕ × Served) Refusal → Type 0

@@ -4,7 +4,7 @@ ghost use Rattle.std.specs.Prelude.{◌≡◌, ◌<◌, ◌≤◌, ◌^◌, leng
 ghost use Rattle.std.specs.Int.{is_power_of_two};
 ghost use Rattle.svc_base.specs.declared.config.TheConstants.{MAX_SETS, MAX_WAYS};
 ghost use Rattle.svc_vol.specs.declared.list.TheConstants.{CAPACITY};
-ghost use Rattle.svc_bus_laws.specs.LineTable.{opened};
+ghost use Rattle.svc_bus_laws.specs.LineTable.{opening_table};
 ghost use Rattle.svc_bus_laws.specs.Steps.{read, write};
 ghost use Rattle.svc_bus_laws.specs.BusState.{Agrees};
 ghost use Rattle.svc_bus.specs.Observed.{observed};
@@ -106,7 +106,7 @@ impl Bus {
         requires some_ways { 1 ≤ ways }
         requires few_ways { ways ≤ MAX_WAYS }
         requires few_words { length memory.items < 2 ^ 32 }
-        ensures table { IfOk result (λ bus. Agrees (observed bus) (opened units sets ways memory.items)) }
+        ensures table { IfOk result (λ bus. Agrees (observed bus) (opening_table units sets ways memory.items)) }
         ensures probes { IfOk result (λ bus. (observed bus).probes ≡ 0) }
     {
         let caches = open_caches(alloc, units, sets, ways)?;

@@ -23,49 +23,42 @@ use crate::request::{fill_in, place_of, put_line};
 use svc_base::{Refusal, Served, UnitId, WordAddr};
 use svc_cache::{Cache, Probes, SetFull};
 use svc_line::Line;
-use svc_vcl::plan_read;
+use svc_vcl::{ReadPlan, plan_read};
 use svc_vol::VersionList;
 
-// What a read does: the unit's line after it, and who supplied the value.
-#[derive(Clone, Copy)]
-struct ReadEffect {
-    served: Served,
-    line: Line,
-}
-
-// The read changes lines: a hit none, a reuse the unit's own.
+// Carries out what a read plans: a hit changes no line, and a reuse the unit's own.
 fn carry_out(
     caches: &mut [Cache],
     backing: &mut [u32],
     list: &VersionList,
     unit: UnitId,
     word: WordAddr,
-    effect: &ReadEffect,
+    plan: &ReadPlan,
     probes: &mut Probes,
 ) -> Result<(), SetFull>
     requires request { IsBusRequest caches.old backing.old list.now unit.0 word.0 }
     requires ends { EndsBelow (line_of (cache_at caches.old unit.0)) (length backing.old) }
-    requires valid { (bits_of effect.now.line.bits).valid ≡ true }
-    requires active { (bits_of effect.now.line.bits).commit ≡ false }
+    requires valid { (bits_of plan.now.line.bits).valid ≡ true }
+    requires active { (bits_of plan.now.line.bits).commit ≡ false }
     requires room { HasRoomFor probes.old caches.old (1 + length caches.old) }
-    ensures refused { MatchResult result (λ _. is_hit effect.now.served ≡ false
+    ensures refused { MatchResult result (λ _. is_hit plan.now.served ≡ false
         → full_in caches.old unit.0 (length backing.old) word.0 ≡ None)
         (λ e. full_in caches.old unit.0 (length backing.old) word.0 ≡ Some e.0.0) }
     ensures same_caches { OnErr result (caches.new ≡ caches.old) }
     ensures same_memory { OnErr result (backing.new ≡ backing.old) }
     ensures lines { OnOk result ((u a : ℕ) → held_line caches.new u a
-        ≡ lines_after effect.now.served (held_line caches.old) unit.0 word.0 (Some (seen_line effect.now.line)) u a) }
+        ≡ lines_after plan.now.served (held_line caches.old) unit.0 word.0 (Some (seen_line plan.now.line)) u a) }
     ensures memory { OnOk result ((a : ℕ) → get_or backing.new a 0
-        ≡ memory_after effect.now.served (λ x. get_or backing.old x 0) word.0
+        ≡ memory_after plan.now.served (λ x. get_or backing.old x 0) word.0
         (committed_in caches.old backing.old word.0) a) }
     ensures sizes { SameSizes caches.old caches.new }
     ensures searches { OnOk result (CountsUpTo probes.old probes.new (length caches.old)) }
 {
-    match effect.served {
+    match plan.served {
         Served::Hit => Ok(()),
-        Served::Reuse => fill_in(caches, unit, word, effect.line, probes),
+        Served::Reuse => fill_in(caches, unit, word, plan.line, probes),
         Served::Version(_) | Served::Spill | Served::Committed(_) | Served::Memory => {
-            put_line(caches, backing, list, unit, word, effect.line, probes)
+            put_line(caches, backing, list, unit, word, plan.line, probes)
         }
     }
 }
@@ -135,26 +128,18 @@ impl Bus {
             .fill_beside(&self.caches, &self.queue, word, unit, line, &mut probes);
         let backing = self.backing[word.0 as usize];
         let plan = plan_read(&self.list, unit, place, self.spill.get(word), backing);
-        let effect = ReadEffect {
-            served: plan.served,
-            line: Line {
-                value: plan.value,
-                bits: plan.bits,
-                next: None,
-            },
-        };
         if let Err(SetFull(named)) = carry_out(
             &mut self.caches,
             &mut self.backing,
             &self.list,
             unit,
             word,
-            &effect,
+            &plan,
             &mut probes,
         ) {
             return Err(Refusal::SetFull(named));
         }
         self.probes = probes.searches;
-        Ok((plan.value, plan.served))
+        Ok((plan.line.value, plan.served))
     }
 }

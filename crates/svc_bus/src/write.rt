@@ -4,7 +4,7 @@ ghost use Rattle.std.specs.Prelude.{◌≡◌, ℕ, ◌+◌, ◌-◌, ◌^◌, �
 ghost use Rattle.std.specs.Prelude.{IfSome, OnOk, OnErr, MatchResult};
 ghost use Rattle.svc_vol.specs.declared.list.TheConstants.{CAPACITY};
 ghost use Rattle.svc_bus_laws.specs.Versioned.{victim_answer};
-ghost use Rattle.svc_bus_laws.specs.LineTable.{LineTable, versioned};
+ghost use Rattle.svc_bus_laws.specs.LineTable.{LineTable, versioned_map};
 ghost use Rattle.svc_bus_laws.specs.Steps.{write};
 ghost use Rattle.svc_bus_laws.specs.BusState.{Agrees};
 ghost use Rattle.svc_bus.specs.Observed.{observed};
@@ -18,7 +18,6 @@ use crate::store::{Store, empty_spill, store_line};
 use crate::victim::Victim;
 use svc_base::{Refusal, TaskNo, UnitId, WordAddr};
 use svc_cache::Probes;
-use svc_line::Line;
 use svc_vcl::plan_write;
 
 // The victim as a write answers it: its number, and how many tasks are squashed.
@@ -55,7 +54,7 @@ impl Bus {
         ensures refused { IsRefusedIfFull (observed self.old) unit.0 word.0 result }
         ensures unchanged { OnErr result (self.new ≡ self.old) }
         ensures victim { (t : LineTable) → (place : ℕ) → RunsAt (observed self.old) unit.0 t place
-            → IfOk result (λ v. option_map victim_shown v ≡ victim_answer (versioned t) place word.0) }
+            → IfOk result (λ v. option_map victim_shown v ≡ victim_answer (versioned_map t) place word.0) }
         ensures table { (t : LineTable) → (place : ℕ) → RunsAt (observed self.old) unit.0 t place
             → OnOk result (Agrees (observed self.new) (write t place word.0 value)) }
         ensures probes { OnOk result (LookUpsFrom (observed self.old).caches (observed self.new).probes
@@ -64,17 +63,13 @@ impl Bus {
         let place = place_of(&self.queue, unit);
         let mut probes = Probes::new();
         self.list.fill(&self.caches, &self.queue, word, &mut probes);
-        let plan = plan_write(&self.list, unit, place, &mut self.changed);
+        let plan = plan_write(&self.list, unit, place, value, &mut self.changed);
         let tasks = self.queue.len();
         let left = plan.victim.unwrap_or(tasks);
         let store = Store {
             unit,
             word,
-            line: Line {
-                value,
-                bits: plan.bits,
-                next: plan.next,
-            },
+            line: plan.line,
             previous: plan.previous,
             changed: &self.changed,
             left,

@@ -5,8 +5,8 @@ use Rattle.std.specs.Option.{option_or}
 use Rattle.std.proofs.lemmas.Bool.{cases_Bool, cases_eq}
 use Rattle.svc_bus_laws.specs.Search.{any_below}
 use Rattle.svc_bus_laws.specs.Versioned.{view}
-use Rattle.svc_bus_laws.specs.LineTable.{Line, LineTable, is_active, is_reusable, version_in, is_committed_dirty, task_in, unit_at, line_at, versioned}
-use Rattle.svc_bus_laws.specs.Steps.{with_line, purged, reused, fill, reuse, read, replace, filled_line, is_overtaken}
+use Rattle.svc_bus_laws.specs.LineTable.{Line, LineTable, is_active, is_reusable, version_in, is_committed_dirty, task_in, unit_at, line_at, versioned_map}
+use Rattle.svc_bus_laws.specs.Steps.{with_line, line_after_purging, line_after_reuse, fill, reuse, read, replace, filled_line, is_overtaken}
 use Rattle.svc_bus_laws.specs.BusLine.{BusLine, is_dirty_line, version_of_line, purged_line, reused_line}
 use Rattle.svc_bus_laws.specs.BusState.{BusState, Agrees, unnumbered, is_dirty, is_lower}
 use Rattle.svc_bus_laws.specs.BusView.{bus_line_at, bus_map}
@@ -19,7 +19,7 @@ use Rattle.svc_bus_laws.proofs.RefusalProofs.{unpinned_head}
 use Rattle.svc_bus_laws.proofs.SeenLaws.{dirty_line_is, version_line_is, unit_is, version_seen, active_seen, reusable_seen, committed_seen, map_seen}
 use Rattle.svc_bus_laws.proofs.AgreeWrites.{where_both}
 
-purged_line_is : (line : Option Line) → purged_line (unnumbered line) ≡ unnumbered (purged line)
+purged_line_is : (line : Option Line) → purged_line (unnumbered line) ≡ unnumbered (line_after_purging line)
 purged_line_is None = refl
 purged_line_is (Some l) = go (l.commit && l.store)
   where
@@ -28,7 +28,7 @@ purged_line_is (Some l) = go (l.commit && l.store)
     go false = refl
 
 -- a dirty line that a purge leaves is the same line
-purged_dirty : (line : Option Line) → is_dirty (purged line) ≡ true → purged line ≡ line
+purged_dirty : (line : Option Line) → is_dirty (line_after_purging line) ≡ true → line_after_purging line ≡ line
 purged_dirty line dirty = elim (cases_Bool (is_committed_dirty line)) [
   | inl gone ↦ absurd (true≢false (sym dirty ∙ rw gone))
   | inr stays ↦ rw stays
@@ -36,7 +36,7 @@ purged_dirty line dirty = elim (cases_Bool (is_committed_dirty line)) [
 
 module _ (b : BusState) (t : LineTable) (u a : ℕ) (agrees : Agrees b t) (line : Option Line) (clean : is_dirty line ≡ false) where
   abbrev after : ℕ → ℕ → Option Line
-  after = with_line t.lines u a line purged
+  after = with_line t.lines u a line line_after_purging
 
   request_lines : (v x : ℕ) → line_after_request b u a (unnumbered line) v x ≡ unnumbered (after v x)
   request_lines v x = elim (cases_eq x a) [
@@ -62,7 +62,7 @@ module _ (b : BusState) (t : LineTable) (u a : ℕ) (agrees : Agrees b t) (line 
       here : x ≡ a → v ≡ u → after v x ≡ line
       here e same = rw (eq-eqb x a e, eq-eqb v u same)
 
-      there : x ≡ a → v ≢ u → after v x ≡ purged (t.lines v x)
+      there : x ≡ a → v ≢ u → after v x ≡ line_after_purging (t.lines v x)
       there e other = rw (eq-eqb x a e, ne_eqb v u other)
 
   request_order : (x y z : ℕ) → order_after_request b u a (unnumbered line) x y z ≡ ((is_dirty (after y x) && is_dirty (after z x)) && ltb (task_in (after y x)) (task_in (after z x)))
@@ -76,7 +76,7 @@ module _ (b : BusState) (t : LineTable) (u a : ℕ) (agrees : Agrees b t) (line 
       by_dirty : (k l : Option Line) → is_dirty k ≡ true → is_dirty l ≡ true → ((is_dirty k && is_dirty l) && ltb (task_in k) (task_in l)) ≡ ltb (task_in k) (task_in l)
       by_dirty k l e f = ap₂ (λ i j. (i && j) && ltb (task_in k) (task_in l)) e f
 
-fill_agrees : (b : BusState) (t : LineTable) (p a value : ℕ) → Agrees b t → p < length t.units → a < t.words → is_active (line_at t p a) ≡ false → value ≡ view (versioned t) p a → Agrees (bus_fill b p a value) (fill t p a)
+fill_agrees : (b : BusState) (t : LineTable) (p a value : ℕ) → Agrees b t → p < length t.units → a < t.words → is_active (line_at t p a) ≡ false → value ≡ view (versioned_map t) p a → Agrees (bus_fill b p a value) (fill t p a)
 fill_agrees b t p a value agrees within known miss is = record {
   sound = fill_sound t p a agrees.sound within known miss;
   caches = agrees.caches;
@@ -137,7 +137,7 @@ reuse_agrees b t p a agrees within reusable = record {
     unit : get_or b.units p 0 ≡ unit_at t p
     unit = ap (λ (us : List ℕ). get_or us p 0) agrees.units
 
-    reused_is : (n : ℕ) (line : Option Line) → reused_line (unnumbered line) ≡ unnumbered (reused n line)
+    reused_is : (n : ℕ) (line : Option Line) → reused_line (unnumbered line) ≡ unnumbered (line_after_reuse n line)
     reused_is n None = refl
     reused_is n (Some l) = refl
 
@@ -161,8 +161,8 @@ reuse_agrees b t p a agrees within reusable = record {
         | inr other ↦ rw (eq-eqb x a e, ne_eqb v (unit_at t p) other) (refl, λ d. refl)
         | inl same ↦
             let old : is_dirty (t.lines v x) ≡ false = (λ i. is_dirty (t.lines (same i) (e i))) ∙ ap is_dirty parts.1 ∙ parts.2.1 in
-            let new : is_dirty (reused (t.commits + p) (line_at t p a)) ≡ false = ap (λ line. is_dirty (reused (t.commits + p) line)) parts.1 ∙ parts.2.1 in
-            let here : (reuse t p a).lines v x ≡ reused (t.commits + p) (line_at t p a) = rw (eq-eqb x a e, eq-eqb v (unit_at t p) same) in
+            let new : is_dirty (line_after_reuse (t.commits + p) (line_at t p a)) ≡ false = ap (λ line. is_dirty (line_after_reuse (t.commits + p) line)) parts.1 ∙ parts.2.1 in
+            let here : (reuse t p a).lines v x ≡ line_after_reuse (t.commits + p) (line_at t p a) = rw (eq-eqb x a e, eq-eqb v (unit_at t p) same) in
             (ap is_dirty here ∙ new ∙ sym old, λ d. absurd (true≢false (sym d ∙ old)))
       ]
     ]

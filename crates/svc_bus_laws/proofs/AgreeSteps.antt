@@ -2,7 +2,7 @@
 use Rattle.std.proofs.Common.{◌≡◌, ◌≢◌, refl, sym, ap, ap₂, ◌∙◌, subst, ℕ, suc, ◌+◌, ◌<◌, ◌≤◌, Some, None, true, false, Bool, cond, not, ◌&&◌, [], ◌∷◌, ◌++◌, Option, length, get_or, take, drop, unwrap_or, leb, ltb}
 use Rattle.std.specs.Bool.{◌==◌}
 use Rattle.svc_bus_laws.specs.LineTable.{Line, LineTable, is_active, is_cut, task_in, unit_at}
-use Rattle.svc_bus_laws.specs.Steps.{settled, squashed, commit, squash, begin}
+use Rattle.svc_bus_laws.specs.Steps.{line_after_commit, line_after_squashing, commit, squash, begin}
 use Rattle.svc_bus_laws.specs.Sound.{IsSound}
 use Rattle.svc_bus_laws.specs.BusLine.{is_active_line, is_dirty_line, settled_line}
 use Rattle.svc_bus_laws.specs.BusState.{BusState, Agrees, unnumbered, is_dirty}
@@ -13,11 +13,11 @@ use Rattle.svc_bus_laws.proofs.SquashLaws.{squash_sound}
 use Rattle.svc_bus_laws.proofs.BeginLaws.{begin_sound}
 use Rattle.svc_bus_laws.proofs.SeenLaws.{active_line_is, dirty_line_is}
 
-settled_is : (line : Option Line) → unnumbered (settled line) ≡ settled_line (unnumbered line)
+settled_is : (line : Option Line) → unnumbered (line_after_commit line) ≡ settled_line (unnumbered line)
 settled_is None = refl
 settled_is (Some l) = refl
 
-settled_keeps : (line : Option Line) → (is_dirty (settled line) ≡ is_dirty line) × (task_in (settled line) ≡ task_in line)
+settled_keeps : (line : Option Line) → (is_dirty (line_after_commit line) ≡ is_dirty line) × (task_in (line_after_commit line) ≡ task_in line)
 settled_keeps None = (refl, refl)
 settled_keeps (Some l) = (refl, refl)
 
@@ -36,14 +36,14 @@ commit_agrees b t agrees has_head = record {
   units = ap (drop 1) agrees.units;
 }
   where
-    both : (x : Bool) (line : Option Line) → cond x (settled_line (unnumbered line)) (unnumbered line) ≡ unnumbered (cond x (settled line) line)
+    both : (x : Bool) (line : Option Line) → cond x (settled_line (unnumbered line)) (unnumbered line) ≡ unnumbered (cond x (line_after_commit line) line)
     both true line = sym (settled_is line)
     both false line = refl
 
     kept : (v a : ℕ) → (is_dirty ((commit t).lines v a) ≡ is_dirty (t.lines v a)) × (task_in ((commit t).lines v a) ≡ task_in (t.lines v a))
     kept v a = go (v == unit_at t 0) (t.lines v a)
       where
-        go : (x : Bool) (line : Option Line) → (is_dirty (cond x (settled line) line) ≡ is_dirty line) × (task_in (cond x (settled line) line) ≡ task_in line)
+        go : (x : Bool) (line : Option Line) → (is_dirty (cond x (line_after_commit line) line) ≡ is_dirty line) × (task_in (cond x (line_after_commit line) line) ≡ task_in line)
         go true line = settled_keeps line
         go false line = (refl, refl)
 
@@ -71,7 +71,7 @@ twice true y = refl
 twice false y = refl
 
 module _ (b : BusState) (t : LineTable) (n : ℕ) (agrees : Agrees b t) where
-  pub cut_line : IsSound t → (v a : ℕ) → line_after_cut b n v a ≡ unnumbered (squashed (t.commits + n) (t.lines v a))
+  pub cut_line : IsSound t → (v a : ℕ) → line_after_cut b n v a ≡ unnumbered (line_after_squashing (t.commits + n) (t.lines v a))
   cut_line sound v a =
       (λ i. cond (is_cut (agrees.units i) n v && is_active_line (agrees.lines v a i)) None (agrees.lines v a i))
       ∙ ap (λ x. cond (is_cut t.units n v && x) None (unnumbered (t.lines v a))) (active_line_is (t.lines v a))
@@ -92,8 +92,8 @@ module _ (b : BusState) (t : LineTable) (n : ℕ) (agrees : Agrees b t) where
     lines = λ v a. cut_line agrees.sound v a ∙ sym (ap unnumbered (squash_line t n agrees.sound v a));
     order = λ a u v.
         ap₂ (λ x y. (is_dirty_line x && is_dirty_line y) && b.is_older a u v) (cut_line agrees.sound u a) (cut_line agrees.sound v a)
-        ∙ ap₂ (λ x y. (x && y) && b.is_older a u v) (dirty_line_is (squashed (t.commits + n) (t.lines u a))) (dirty_line_is (squashed (t.commits + n) (t.lines v a)))
-        ∙ ap (λ x. (is_dirty (squashed (t.commits + n) (t.lines u a)) && is_dirty (squashed (t.commits + n) (t.lines v a))) && x) (agrees.order a u v)
+        ∙ ap₂ (λ x y. (x && y) && b.is_older a u v) (dirty_line_is (line_after_squashing (t.commits + n) (t.lines u a))) (dirty_line_is (line_after_squashing (t.commits + n) (t.lines v a)))
+        ∙ ap (λ x. (is_dirty (line_after_squashing (t.commits + n) (t.lines u a)) && is_dirty (line_after_squashing (t.commits + n) (t.lines v a))) && x) (agrees.order a u v)
         ∙ compare (t.lines u a) (t.lines v a)
         ∙ sym (ap₂ (λ k l. (is_dirty k && is_dirty l) && ltb (task_in k) (task_in l)) (squash_line t n agrees.sound u a) (squash_line t n agrees.sound v a));
     spill = agrees.spill;
@@ -102,9 +102,9 @@ module _ (b : BusState) (t : LineTable) (n : ℕ) (agrees : Agrees b t) where
     units = ap (take n) agrees.units;
   }
     where
-      compare : (k l : Option Line) → ((is_dirty (squashed (t.commits + n) k) && is_dirty (squashed (t.commits + n) l)) && ((is_dirty k && is_dirty l) && ltb (task_in k) (task_in l))) ≡ ((is_dirty (squashed (t.commits + n) k) && is_dirty (squashed (t.commits + n) l)) && ltb (task_in (squashed (t.commits + n) k)) (task_in (squashed (t.commits + n) l)))
+      compare : (k l : Option Line) → ((is_dirty (line_after_squashing (t.commits + n) k) && is_dirty (line_after_squashing (t.commits + n) l)) && ((is_dirty k && is_dirty l) && ltb (task_in k) (task_in l))) ≡ ((is_dirty (line_after_squashing (t.commits + n) k) && is_dirty (line_after_squashing (t.commits + n) l)) && ltb (task_in (line_after_squashing (t.commits + n) k)) (task_in (line_after_squashing (t.commits + n) l)))
       compare None l = refl
-      compare (Some k) None = never (is_dirty (squashed (t.commits + n) (Some k))) ((is_dirty (Some k) && false) && ltb k.task 0) (ltb (task_in (squashed (t.commits + n) (Some k))) 0)
+      compare (Some k) None = never (is_dirty (line_after_squashing (t.commits + n) (Some k))) ((is_dirty (Some k) && false) && ltb k.task 0) (ltb (task_in (line_after_squashing (t.commits + n) (Some k))) 0)
       compare (Some k) (Some l) = go (not k.commit && leb (t.commits + n) k.task) (not l.commit && leb (t.commits + n) l.task)
         where
           go : (x y : Bool) → ((is_dirty (cond x None (Some k)) && is_dirty (cond y None (Some l))) && ((k.store && l.store) && ltb k.task l.task)) ≡ ((is_dirty (cond x None (Some k)) && is_dirty (cond y None (Some l))) && ltb (task_in (cond x None (Some k))) (task_in (cond y None (Some l))))

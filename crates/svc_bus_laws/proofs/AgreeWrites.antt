@@ -3,8 +3,8 @@ use Rattle.std.proofs.Common.{◌≡◌, ◌⊎◌, ◌≢◌, refl, sym, ap, ap
 use Rattle.std.specs.Bool.{◌==◌}
 use Rattle.std.proofs.lemmas.Bool.{cases_Bool, cases_eq, leb-false, lt-leb}
 use Rattle.svc_bus_laws.specs.Versioned as map
-use Rattle.svc_bus_laws.specs.LineTable.{Line, LineTable, task_in, unit_at, versioned}
-use Rattle.svc_bus_laws.specs.Steps.{purged, marked, squashed, written_line, survivors, write, is_overtaken}
+use Rattle.svc_bus_laws.specs.LineTable.{Line, LineTable, task_in, unit_at, versioned_map}
+use Rattle.svc_bus_laws.specs.Steps.{line_after_purging, line_after_marking, line_after_squashing, written_line, survivors, write, is_overtaken}
 use Rattle.svc_bus_laws.specs.BusLine.{is_dirty_line, purged_line, marked_line}
 use Rattle.svc_bus_laws.specs.BusState.{BusState, Agrees, unnumbered, is_dirty, is_lower}
 use Rattle.svc_bus_laws.specs.BusSteps.{line_after_cut, is_below, is_above, is_overtaken_line, written_bus_line, line_after_write, order_after_write, bus_write_leaving, bus_write}
@@ -24,7 +24,7 @@ record Stood (t : LineTable) (v x a m number' : ℕ) : Type 0 where
   number : number' ≡ line.task
   active : x ≡ a → (line.commit ≡ false) × (line.task < m)
 
-stood_word : (t : LineTable) (m v x a : ℕ) → x ≢ a → (line : Option Line) → t.lines v x ≡ line → is_dirty (squashed m line) ≡ true → Stood t v x a m (task_in (squashed m line))
+stood_word : (t : LineTable) (m v x a : ℕ) → x ≢ a → (line : Option Line) → t.lines v x ≡ line → is_dirty (line_after_squashing m line) ≡ true → Stood t v x a m (task_in (line_after_squashing m line))
 stood_word t m v x a ne None e dirty = absurd (true≢false (sym dirty))
 stood_word t m v x a ne (Some l) e dirty = go (not l.commit && leb m l.task) dirty
   where
@@ -32,7 +32,7 @@ stood_word t m v x a ne (Some l) e dirty = go (not l.commit && leb m l.task) dir
     go true d = absurd (true≢false (sym d))
     go false d = record { line = l; there = e; dirty = d; number = refl; active = λ same. absurd (ne same) }
 
-stood_unit : (t : LineTable) (m k v x a : ℕ) → (line : Option Line) → t.lines v x ≡ line → is_dirty (squashed m (marked k (purged line))) ≡ true → Stood t v x a m (task_in (squashed m (marked k (purged line))))
+stood_unit : (t : LineTable) (m k v x a : ℕ) → (line : Option Line) → t.lines v x ≡ line → is_dirty (line_after_squashing m (line_after_marking k (line_after_purging line))) ≡ true → Stood t v x a m (task_in (line_after_squashing m (line_after_marking k (line_after_purging line))))
 stood_unit t m k v x a None e dirty = absurd (true≢false (sym dirty))
 stood_unit t m k v x a (Some l) e dirty = go (l.commit && l.store) refl dirty
   where
@@ -50,7 +50,7 @@ stood_unit t m k v x a (Some l) e dirty = go (l.commit && l.store) refl dirty
         let free = clear l.commit l.store c d in
         record { line = l; there = e; dirty = d; number = refl; active = λ same. (free, leb-false m l.task (low l.commit (leb m l.task) is free)) }
 
-    go : (y : Bool) → (l.commit && l.store) ≡ y → is_dirty (squashed m (marked k (cond y None (Some l)))) ≡ true → Stood t v x a m (task_in (squashed m (marked k (cond y None (Some l)))))
+    go : (y : Bool) → (l.commit && l.store) ≡ y → is_dirty (line_after_squashing m (line_after_marking k (cond y None (Some l)))) ≡ true → Stood t v x a m (task_in (line_after_squashing m (line_after_marking k (cond y None (Some l)))))
     go true is d = absurd (true≢false (sym d))
     go false is d = last (not l.commit && leb m l.task) refl is d
 
@@ -127,29 +127,29 @@ module _ (b : BusState) (t : LineTable) (p a w : ℕ) (agrees : Agrees b t) (wit
   overtaken_is : is_overtaken_line b n p a ≡ is_overtaken t n p a
   overtaken_is = any_same n _ _ (λ q h. ap (λ o. ltb p q && is_some o) (version_seen b t agrees q a))
 
-  written_is : Some (written_bus_line b n p a w) ≡ unnumbered (squashed (t.commits + n) (Some (written_line t p a w)))
+  written_is : Some (written_bus_line b n p a w) ≡ unnumbered (line_after_squashing (t.commits + n) (Some (written_line t p a w)))
   written_is =
       let stays : leb (t.commits + n) (t.commits + p) ≡ false = lt-leb (t.commits + n) (t.commits + p) (omega (arith, reaches)) in
       let load = exposed_seen b t agrees p a in
       rw stays (λ i. Some (record { value = w; store = true; load = load i; commit = false; stale = overtaken_is i }))
 
   -- another unit's line of the word
-  other_is : (v : ℕ) → marked_line (is_below b p v) (purged_line (line_after_cut b n v a)) ≡ unnumbered (squashed (t.commits + n) (marked (t.commits + p) (purged (t.lines v a))))
+  other_is : (v : ℕ) → marked_line (is_below b p v) (purged_line (line_after_cut b n v a)) ≡ unnumbered (line_after_squashing (t.commits + n) (line_after_marking (t.commits + p) (line_after_purging (t.lines v a))))
   other_is v = ap (λ x. marked_line (is_below b p v) (purged_line x)) (cut_line b t n agrees agrees.sound v a) ∙ go (t.lines v a) refl
     where
-      settled_case : (l : Line) (x y : Bool) → l.commit ≡ true → l.store ≡ y → marked_line x (purged_line (unnumbered (squashed (t.commits + n) (Some l)))) ≡ unnumbered (squashed (t.commits + n) (marked (t.commits + p) (purged (Some l))))
+      settled_case : (l : Line) (x y : Bool) → l.commit ≡ true → l.store ≡ y → marked_line x (purged_line (unnumbered (line_after_squashing (t.commits + n) (Some l)))) ≡ unnumbered (line_after_squashing (t.commits + n) (line_after_marking (t.commits + p) (line_after_purging (Some l))))
       settled_case l x true c s = rw (c, s)
       settled_case l x false c s = rw (c, s)
 
-      go : (line : Option Line) → t.lines v a ≡ line → marked_line (is_below b p v) (purged_line (unnumbered (squashed (t.commits + n) line))) ≡ unnumbered (squashed (t.commits + n) (marked (t.commits + p) (purged line)))
+      go : (line : Option Line) → t.lines v a ≡ line → marked_line (is_below b p v) (purged_line (unnumbered (line_after_squashing (t.commits + n) line))) ≡ unnumbered (line_after_squashing (t.commits + n) (line_after_marking (t.commits + p) (line_after_purging line)))
       go None e = refl
       go (Some l) e = elim (cases_Bool l.commit) [
         | inl set ↦ settled_case l (is_below b p v) l.store set refl
-        | inr clear ↦ ap (λ x. marked_line x (purged_line (unnumbered (squashed (t.commits + n) (Some l))))) (below_is v a l e clear) ∙ clear_case l clear
+        | inr clear ↦ ap (λ x. marked_line x (purged_line (unnumbered (line_after_squashing (t.commits + n) (Some l))))) (below_is v a l e clear) ∙ clear_case l clear
       ]
         where
           abbreviated : Line → Type 0
-          abbreviated k = marked_line (ltb k.task (t.commits + p)) (purged_line (unnumbered (squashed (t.commits + n) (Some k)))) ≡ unnumbered (squashed (t.commits + n) (marked (t.commits + p) (purged (Some k))))
+          abbreviated k = marked_line (ltb k.task (t.commits + p)) (purged_line (unnumbered (line_after_squashing (t.commits + n) (Some k)))) ≡ unnumbered (line_after_squashing (t.commits + n) (line_after_marking (t.commits + p) (line_after_purging (Some k))))
 
           parts : (k : Line) (z : Bool) → leb (t.commits + n) k.task ≡ z → abbreviated (record k { commit = false })
           parts k true e = rw e
@@ -175,10 +175,10 @@ module _ (b : BusState) (t : LineTable) (p a w : ℕ) (agrees : Agrees b t) (wit
   here_line : (v x : ℕ) → x ≡ a → v ≡ u → after v x ≡ Some (written_line t p a w)
   here_line v x e same = rw (eq-eqb x a e, eq-eqb v (unit_at t p) (same ∙ unit), lt-leb (t.commits + n) (t.commits + p) (omega (arith, reaches)))
 
-  word_line : (v x : ℕ) → x ≢ a → after v x ≡ squashed (t.commits + n) (t.lines v x)
+  word_line : (v x : ℕ) → x ≢ a → after v x ≡ line_after_squashing (t.commits + n) (t.lines v x)
   word_line v x ne = rw (ne_eqb x a ne)
 
-  unit_line : (v x : ℕ) → x ≡ a → v ≢ u → after v x ≡ squashed (t.commits + n) (marked (t.commits + p) (purged (t.lines v x)))
+  unit_line : (v x : ℕ) → x ≡ a → v ≢ u → after v x ≡ line_after_squashing (t.commits + n) (line_after_marking (t.commits + p) (line_after_purging (t.lines v x)))
   unit_line v x e ne = rw (eq-eqb x a e, ne_eqb v (unit_at t p) (λ z. ne (z ∙ sym unit)))
 
   -- a dirty line that was not just written stood there with its number, and of the written word only active ones stand
@@ -236,7 +236,7 @@ module _ (b : BusState) (t : LineTable) (p a w : ℕ) (agrees : Agrees b t) (wit
 -- the write without numbers keeps the agreement
 numbered_write_agrees : (b : BusState) (t : LineTable) (p a w : ℕ) → Agrees b t → p < length t.units → a < t.words → Agrees (bus_write_leaving b (survivors t p a) p a w) (numbered_write t p a w)
 numbered_write_agrees b t p a w agrees within known =
-    let guard = survivors_are (versioned t) p a (omega (arith, within, rows_count t)) in
+    let guard = survivors_are (versioned_map t) p a (omega (arith, within, rows_count t)) in
     let room : survivors t p a ≤ length t.units = omega (arith, guard.within, rows_count t) in
     record {
       sound = write_sound t p a w agrees.sound within known;

@@ -1,6 +1,6 @@
 -- Steps of line tables that differ in numbers alone.
 use Rattle.std.proofs.Common.{◌≡◌, ◌≢◌, sym, subst, ap, ◌∙◌, ℕ, ◌<◌, ◌≤◌, false, length, get_or}
-use Rattle.svc_bus_laws.specs.LineTable.{LineTable, unit_at, versioned}
+use Rattle.svc_bus_laws.specs.LineTable.{LineTable, unit_at, versioned_map}
 use Rattle.svc_bus_laws.specs.Steps.{read, write, replace, squash, commit, begin}
 use Rattle.svc_bus_laws.specs.BusState.{AreAlike}
 use Rattle.svc_bus_laws.specs.BusSteps.{bus_read, bus_write, bus_replace, bus_squash, bus_commit, bus_begin}
@@ -63,5 +63,5 @@ module _ (s t : LineTable) (alike : AreAlike s t) where
     second = begin_agrees alike.bus t u alike.second known idle;
   }
 
-  pub alike_maps : versioned s ≡ versioned t
+  pub alike_maps : versioned_map s ≡ versioned_map t
   alike_maps = sym (map_seen alike.bus s alike.first) ∙ map_seen alike.bus t alike.second

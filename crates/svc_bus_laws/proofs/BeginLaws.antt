@@ -6,7 +6,7 @@ use Rattle.std.proofs.lemmas.Bool.{cases_Bool, cases_eq}
 use Rattle.std.proofs.lemmas.List.{get_or_append_left, get_or_at}
 use Rattle.svc_bus_laws.specs.Versioned.{Row, Versioned, fresh_row, row_at, version, is_exposed, latest, view}
 use Rattle.svc_bus_laws.specs.Versioned as map
-use Rattle.svc_bus_laws.specs.LineTable.{LineTable, is_active, version_in, exposed_in, unit_at, committed_value, own_version, versioned}
+use Rattle.svc_bus_laws.specs.LineTable.{LineTable, is_active, version_in, exposed_in, unit_at, committed_value, own_version, versioned_map}
 use Rattle.svc_bus_laws.specs.Steps.{begin}
 use Rattle.svc_bus_laws.specs.Sound.{IsSound}
 use Rattle.svc_bus_laws.proofs.Maps.{latest_same, map_same, begin_count, begin_row_old, begin_row_new}
@@ -55,7 +55,7 @@ module _ (t : LineTable) (u : ℕ) (sound : IsSound t) (known : u < t.caches) (i
   pub begin_committed : (b : ℕ) → committed_value after b ≡ committed_value t b
   begin_committed b = committed_same after t b refl (λ v. same_line _ _ refl) refl
 
-  begin_view : (q b : ℕ) → q < length t.units → view (versioned after) q b ≡ view (versioned t) q b
+  begin_view : (q b : ℕ) → q < length t.units → view (versioned_map after) q b ≡ view (versioned_map t) q b
   begin_view q b h =
       view_is after q b (omega (arith, h, begin_units))
       ∙ latest_same _ _ _ _ (suc q) (begin_committed b) (λ r k. old_version r b (omega (arith, h, k)))
@@ -111,18 +111,18 @@ module _ (t : LineTable) (u : ℕ) (sound : IsSound t) (known : u < t.caches) (i
     };
   }
 
-  pub begin_map : versioned after ≡ map.begin (versioned t)
-  begin_map = map_same (versioned after) (map.begin (versioned t)) (record {
+  pub begin_map : versioned_map after ≡ map.begin (versioned_map t)
+  begin_map = map_same (versioned_map after) (map.begin (versioned_map t)) (record {
     commits = refl;
     committed = begin_committed;
-    count = rows_count after ∙ begin_units ∙ sym (begin_count (versioned t) ∙ ap (λ k. k + 1) (rows_count t));
+    count = rows_count after ∙ begin_units ∙ sym (begin_count (versioned_map t) ∙ ap (λ k. k + 1) (rows_count t));
     versions = λ q h b. let k : q < length after.units = omega (arith, h, rows_count after) in version_is after q b k ∙ elim (place q k) [
-      | inl i ↦ old_version q b i ∙ sym (version_is t q b i) ∙ sym (ap (λ (r : Row). r.versions b) (begin_row_old (versioned t) q (omega (arith, i, rows_count t))))
-      | inr i ↦ rw i (new_version b ∙ sym (ap (λ (r : Row). r.versions b) (ap (row_at (map.begin (versioned t))) (sym (rows_count t)) ∙ begin_row_new (versioned t))))
+      | inl i ↦ old_version q b i ∙ sym (version_is t q b i) ∙ sym (ap (λ (r : Row). r.versions b) (begin_row_old (versioned_map t) q (omega (arith, i, rows_count t))))
+      | inr i ↦ rw i (new_version b ∙ sym (ap (λ (r : Row). r.versions b) (ap (row_at (map.begin (versioned_map t))) (sym (rows_count t)) ∙ begin_row_new (versioned_map t))))
     ];
     exposed = λ q h b. let k : q < length after.units = omega (arith, h, rows_count after) in exposed_is after q b k ∙ elim (place q k) [
-      | inl i ↦ ap (λ v. not (q == 0) && exposed_in (t.lines v b)) (old_unit q i) ∙ sym (exposed_is t q b i) ∙ sym (ap (λ (r : Row). r.exposed b) (begin_row_old (versioned t) q (omega (arith, i, rows_count t))))
-      | inr i ↦ rw i (ap (λ v. not (length t.units == 0) && exposed_in (t.lines v b)) new_unit ∙ ap (λ x. not (length t.units == 0) && x) (no_exposure (t.lines u b) (no_active b)) ∙ right_false _ ∙ sym (ap (λ (r : Row). r.exposed b) (ap (row_at (map.begin (versioned t))) (sym (rows_count t)) ∙ begin_row_new (versioned t))))
+      | inl i ↦ ap (λ v. not (q == 0) && exposed_in (t.lines v b)) (old_unit q i) ∙ sym (exposed_is t q b i) ∙ sym (ap (λ (r : Row). r.exposed b) (begin_row_old (versioned_map t) q (omega (arith, i, rows_count t))))
+      | inr i ↦ rw i (ap (λ v. not (length t.units == 0) && exposed_in (t.lines v b)) new_unit ∙ ap (λ x. not (length t.units == 0) && x) (no_exposure (t.lines u b) (no_active b)) ∙ right_false _ ∙ sym (ap (λ (r : Row). r.exposed b) (ap (row_at (map.begin (versioned_map t))) (sym (rows_count t)) ∙ begin_row_new (versioned_map t))))
     ];
   })
     where

@@ -6,8 +6,8 @@ use Rattle.std.proofs.lemmas.Bool.{cases_Bool, cases_eq, le-leb, lt-leb}
 use Rattle.svc_bus_laws.specs.Search.{all_below}
 use Rattle.svc_bus_laws.specs.Versioned.{Row, Versioned, fresh_row, row_at, version, is_exposed, latest, view}
 use Rattle.svc_bus_laws.specs.Versioned as map
-use Rattle.svc_bus_laws.specs.LineTable.{Line, LineTable, version_in, exposed_in, is_committed_dirty, task_in, value_in, unit_at, line_at, is_newest, newest, value_of, committed_value, own_version, versioned}
-use Rattle.svc_bus_laws.specs.Steps.{settled, commit}
+use Rattle.svc_bus_laws.specs.LineTable.{Line, LineTable, version_in, exposed_in, is_committed_dirty, task_in, value_in, unit_at, line_at, is_newest, newest, value_of, committed_value, own_version, versioned_map}
+use Rattle.svc_bus_laws.specs.Steps.{line_after_commit, commit}
 use Rattle.svc_bus_laws.specs.Sound.{IsActiveLine, IsCommittedLine, IsSoundLine, IsSound}
 use Rattle.svc_bus_laws.proofs.Searches.{least_found, all_from, all_refuted}
 use Rattle.svc_bus_laws.proofs.Maps.{latest_same, latest_first, map_same, commit_count, commit_version, commit_exposed_head, commit_exposed}
@@ -15,12 +15,12 @@ use Rattle.svc_bus_laws.proofs.Tables.{SameCommitted, same_line, committed_same,
 
 -- ---- settled lines
 
-settled_parts : (line : Option Line) (l : Line) → settled line ≡ Some l → (k : Line) × (line ≡ Some k) × (record k { commit = true } ≡ l)
+settled_parts : (line : Option Line) (l : Line) → line_after_commit line ≡ Some l → (k : Line) × (line ≡ Some k) × (record k { commit = true } ≡ l)
 settled_parts None l e = none_line l e
 settled_parts (Some k) l e = (k, refl, some_line _ _ e)
 
 -- what becomes a committed dirty line was one, or was a version
-settled_dirty : (line : Option Line) → version_in line ≡ None → SameCommitted (settled line) line
+settled_dirty : (line : Option Line) → version_in line ≡ None → SameCommitted (line_after_commit line) line
 settled_dirty None e = same_line _ _ refl
 settled_dirty (Some l) e = record { dirty = go l.commit l.store refl refl; task = λ d. refl; value = λ d. refl }
   where
@@ -52,7 +52,7 @@ module _ (t : LineTable) (sound : IsSound t) (has_head : 0 < length t.units) whe
   abbrev head : ℕ
   head = unit_at t 0
 
-  head_lines : (v b : ℕ) → v ≡ head → after.lines v b ≡ settled (t.lines v b)
+  head_lines : (v b : ℕ) → v ≡ head → after.lines v b ≡ line_after_commit (t.lines v b)
   head_lines v b e = rw (eq-eqb v head e)
 
   other_lines : (v b : ℕ) → v ≢ head → after.lines v b ≡ t.lines v b
@@ -100,7 +100,7 @@ module _ (t : LineTable) (sound : IsSound t) (has_head : 0 < length t.units) whe
     chosen = record l { commit = true }
 
     here : after.lines head b ≡ Some chosen
-    here = head_lines head b refl ∙ ap settled is
+    here = head_lines head b refl ∙ ap line_after_commit is
 
     -- the test of the newest at a unit, by its line
     abbrev test : Option Line → ℕ → Bool
@@ -163,7 +163,7 @@ module _ (t : LineTable) (sound : IsSound t) (has_head : 0 < length t.units) whe
           let own : own_version t 0 b ≡ Some x = ap (λ o. option_or o (t.spill b)) f in
           head_committed b l.0 l.1 l.2 l.3 ∙ l.4 ∙ sym (ap (λ o. unwrap_or o (committed_value t b)) own)
 
-  next_view : (q b : ℕ) → suc q < length t.units → view (versioned after) q b ≡ view (versioned t) (suc q) b
+  next_view : (q b : ℕ) → suc q < length t.units → view (versioned_map after) q b ≡ view (versioned_map t) (suc q) b
   next_view q b h =
       view_is after q b (omega (arith, h, commit_units))
       ∙ latest_same _ _ _ _ (suc q) (commit_committed b) (λ r k. next_version r b (omega (arith, h, k)))
@@ -194,7 +194,7 @@ module _ (t : LineTable) (sound : IsSound t) (has_head : 0 < length t.units) whe
           let place : k.0 ≡ 0 = sound.distinct_units k.0 0 k.2.within has_head (k.1 ∙ here) in
           record {
             older = omega (arith, k.2.task_is, place);
-            newest = λ s d. k.2.current ∙ ap (λ q. view (versioned t) q b) place ∙ view_is t 0 b has_head ∙ sym (commit_committed b);
+            newest = λ s d. k.2.current ∙ ap (λ q. view (versioned_map t) q b) place ∙ view_is t 0 b has_head ∙ sym (commit_committed b);
           }
     ];
     unmarked = λ d q h k. unmarked_kept v b l old d q h k;
@@ -214,7 +214,7 @@ module _ (t : LineTable) (sound : IsSound t) (has_head : 0 < length t.units) whe
           record {
             within = omega (arith, inside, commit_units);
             task_is = omega (arith, k.2.task_is, next);
-            current = k.2.current ∙ ap (λ q. view (versioned t) q b) (sym next) ∙ sym (next_view (k.0 - 1) b inside);
+            current = k.2.current ∙ ap (λ q. view (versioned_map t) q b) (sym next) ∙ sym (next_view (k.0 - 1) b inside);
             loaded = λ s. elim (k.2.loaded s) [ inl z ↦ absurd (far z) | inr load ↦ inr load ];
           },
         );
@@ -268,8 +268,8 @@ module _ (t : LineTable) (sound : IsSound t) (has_head : 0 < length t.units) whe
 
   -- ---- the map
 
-  row_exposed : (q b : ℕ) → q < length after.units → is_exposed (versioned after) q b ≡ is_exposed (map.commit (versioned t)) q b
-  row_exposed zero b h = exposed_is after 0 b h ∙ sym (commit_exposed_head (versioned t) b)
+  row_exposed : (q b : ℕ) → q < length after.units → is_exposed (versioned_map after) q b ≡ is_exposed (map.commit (versioned_map t)) q b
+  row_exposed zero b h = exposed_is after 0 b h ∙ sym (commit_exposed_head (versioned_map t) b)
   row_exposed (suc q) b h =
       let i : suc (suc q) < length t.units = omega (arith, h, commit_units) in
       let far : suc q ≢ 0 = omega arith in
@@ -279,17 +279,17 @@ module _ (t : LineTable) (sound : IsSound t) (has_head : 0 < length t.units) whe
       ∙ ap (λ x. not (suc q == 0) && exposed_in x) (next_line (suc q) b i)
       ∙ (rw (ne_eqb (suc q) 0 far, ne_eqb (suc (suc q)) 0 further))
       ∙ sym (exposed_is t (suc (suc q)) b i)
-      ∙ sym (commit_exposed (versioned t) q b ∙ ap (λ r. is_exposed (versioned t) r b) next)
+      ∙ sym (commit_exposed (versioned_map t) q b ∙ ap (λ r. is_exposed (versioned_map t) r b) next)
 
-  pub commit_map : versioned after ≡ map.commit (versioned t)
-  commit_map = map_same (versioned after) (map.commit (versioned t)) (record {
+  pub commit_map : versioned_map after ≡ map.commit (versioned_map t)
+  commit_map = map_same (versioned_map after) (map.commit (versioned_map t)) (record {
     commits = refl;
     committed = λ b. commit_committed b ∙ ap (λ o. unwrap_or o (committed_value t b)) (sym (version_is t 0 b has_head));
-    count = rows_count after ∙ commit_units ∙ sym (commit_count (versioned t) ∙ ap (λ k. k - 1) (rows_count t));
+    count = rows_count after ∙ commit_units ∙ sym (commit_count (versioned_map t) ∙ ap (λ k. k - 1) (rows_count t));
     versions = λ q h b.
         let k : q < length after.units = omega (arith, h, rows_count after) in
         let i : suc q < length t.units = omega (arith, k, commit_units) in
         let next : 1 + q ≡ suc q = omega arith in
-        version_is after q b k ∙ next_version q b i ∙ sym (version_is t (suc q) b i) ∙ sym (commit_version (versioned t) q b ∙ ap (λ r. version (versioned t) r b) next);
+        version_is after q b k ∙ next_version q b i ∙ sym (version_is t (suc q) b i) ∙ sym (commit_version (versioned_map t) q b ∙ ap (λ r. version (versioned_map t) r b) next);
     exposed = λ q h b. row_exposed q b (omega (arith, h, rows_count after));
   })

@@ -4,7 +4,7 @@ use Rattle.std.specs.Bool.{◌==◌}
 use Rattle.std.specs.Option.{option_or}
 use Rattle.svc_bus_laws.specs.Search.{tabulate}
 use Rattle.svc_bus_laws.specs.Versioned.{Row, Versioned, fresh_row, version, is_exposed, victim}
-use Rattle.svc_bus_laws.specs.LineTable.{LineTable, version_in, exposed_in, line_at, row_of, versioned}
+use Rattle.svc_bus_laws.specs.LineTable.{LineTable, version_in, exposed_in, line_at, row_of, versioned_map}
 use Rattle.svc_bus_laws.specs.BusLine.{is_exposed_line, version_of_line}
 use Rattle.svc_bus_laws.specs.BusState.{BusState}
 use Rattle.svc_bus_laws.specs.BusView.{bus_line_at, bus_row, bus_map, bus_walk}
@@ -42,8 +42,8 @@ above_head q x ne = rw (ne_eqb q 0 ne)
 own_only : (q : ℕ) (o spilled : Option ℕ) → q ≢ 0 → is_some o ≡ is_some (option_or o (cond (q == 0) spilled None))
 own_only q o spilled ne = rw (ne_eqb q 0 ne, or_none o)
 
-pub line_walk : (t : LineTable) (p a : ℕ) → walk_lines t p a ≡ victim (versioned t) p a
-line_walk t p a = walk_tabulated (versioned t) (length t.units) (row_of t) _ _ p a refl
+pub line_walk : (t : LineTable) (p a : ℕ) → walk_lines t p a ≡ victim (versioned_map t) p a
+line_walk t p a = walk_tabulated (versioned_map t) (length t.units) (row_of t) _ _ p a refl
     (λ q ne. above_head q (exposed_in (line_at t q a)) ne)
     (λ q ne. own_only q (version_in (line_at t q a)) (t.spill a) ne)
 

@@ -3,7 +3,7 @@ use Rattle.std.proofs.Common.{◌≡◌, refl, sym, ap, ◌∙◌, ℕ, ◌+◌,
 use Rattle.std.specs.Bool.{◌==◌}
 use Rattle.std.proofs.lemmas.Bool.{cases_Bool, cases_eq, leb-false, lt-leb}
 use Rattle.svc_bus_laws.specs.LineTable.{Line, LineTable, is_active, is_cut, place_of, unit_at}
-use Rattle.svc_bus_laws.specs.Steps.{purged, marked, squashed, store, survivors, squash, squash_from, write, written_line}
+use Rattle.svc_bus_laws.specs.Steps.{line_after_purging, line_after_marking, line_after_squashing, store, survivors, squash, squash_from, write, written_line}
 use Rattle.svc_bus_laws.specs.Sound.{IsSound}
 use Rattle.svc_bus_laws.proofs.Searches.{any_found, any_none, least_found}
 use Rattle.svc_bus_laws.proofs.Tables.{OtherWord, SameLine, OtherUnit, changed, purged_was, some_line, marked_was}
@@ -11,7 +11,7 @@ use Rattle.svc_bus_laws.proofs.Tables.{OtherWord, SameLine, OtherUnit, changed, 
 -- a squash by numbers
 abbrev pub numbered_squash : LineTable → ℕ → LineTable
 numbered_squash t n = record t {
-  lines = λ v b. squashed (t.commits + n) (t.lines v b);
+  lines = λ v b. line_after_squashing (t.commits + n) (t.lines v b);
   units = take n t.units;
 }
 
@@ -44,10 +44,10 @@ module _ (t : LineTable) (n : ℕ) (distinct : (p q : ℕ) → p < length t.unit
       right_false true = refl
       right_false false = refl
 
-  cut_line : (v b : ℕ) → cond (is_cut t.units n v && is_active (t.lines v b)) None (t.lines v b) ≡ squashed (t.commits + n) (t.lines v b)
+  cut_line : (v b : ℕ) → cond (is_cut t.units n v && is_active (t.lines v b)) None (t.lines v b) ≡ line_after_squashing (t.commits + n) (t.lines v b)
   cut_line v b = go (t.lines v b) refl
     where
-      go : (line : Option Line) → t.lines v b ≡ line → cond (is_cut t.units n v && is_active line) None line ≡ squashed (t.commits + n) line
+      go : (line : Option Line) → t.lines v b ≡ line → cond (is_cut t.units n v && is_active line) None line ≡ line_after_squashing (t.commits + n) line
       go None e = same (is_cut t.units n v && false)
         where
           same : (x : Bool) → cond {A = Option Line} x None None ≡ None
@@ -78,7 +78,7 @@ own_numbers t sound v b l e clear =
     record { place = k.0; within = k.2.within; unit = k.1; number = k.2.task_is }
 
 -- in a sound table
-pub squash_line : (t : LineTable) (n : ℕ) → IsSound t → (v b : ℕ) → (squash t n).lines v b ≡ squashed (t.commits + n) (t.lines v b)
+pub squash_line : (t : LineTable) (n : ℕ) → IsSound t → (v b : ℕ) → (squash t n).lines v b ≡ line_after_squashing (t.commits + n) (t.lines v b)
 squash_line t n sound v b = cut_line t n sound.distinct_units (own_numbers t sound) v b
 
 pub squash_is : (t : LineTable) (n : ℕ) → IsSound t → squash t n ≡ numbered_squash t n
@@ -89,7 +89,7 @@ pub write_is : (t : LineTable) (p a w : ℕ) → IsSound t → p < length t.unit
 write_is t p a w sound within = by_numbers (store t p a w) (survivors t p a) sound.distinct_units own
   where
     own : (v b : ℕ) (l : Line) → (store t p a w).lines v b ≡ Some l → l.commit ≡ false → IsOwn (store t p a w) v l
-    own v b l e clear = elim (changed t.lines (unit_at t p) a (Some (written_line t p a w)) (λ line. marked (t.commits + p) (purged line)) v b) [
+    own v b l e clear = elim (changed t.lines (unit_at t p) a (Some (written_line t p a w)) (λ line. line_after_marking (t.commits + p) (line_after_purging line)) v b) [
       | OtherWord ne is ↦ let k = own_numbers t sound v b l (sym is ∙ e) clear in record { place = k.place; within = k.within; unit = k.unit; number = k.number }
       | SameLine here same is ↦ record { place = p; within = within; unit = sym same; number = sym (ap (λ (k : Line). k.task) (some_line _ _ (sym is ∙ e))) }
       | OtherUnit here ne is ↦

@@ -1,11 +1,11 @@
 -- An opened bus.
 use Rattle.std.proofs.Common.{◌≡◌, refl, sym, ℕ, ◌≤◌, Some, None, Option, List, [], get_or, arith, true≢false}
-use Rattle.svc_bus_laws.specs.LineTable.{Line, LineTable, opened, versioned}
+use Rattle.svc_bus_laws.specs.LineTable.{Line, LineTable, opening_table, versioned_map}
 use Rattle.svc_bus_laws.specs.Sound.{IsSound}
 use Rattle.svc_bus_laws.proofs.Maps.{map_same}
 use Rattle.svc_bus_laws.proofs.Tables.{none_line, committed_none}
 
-pub opened_sound : (caches sets ways : ℕ) (memory : List ℕ) → IsSound (opened caches sets ways memory)
+pub opened_sound : (caches sets ways : ℕ) (memory : List ℕ) → IsSound (opening_table caches sets ways memory)
 opened_sound caches sets ways memory = record {
   distinct_units = λ p q h k e. absurd (omega (arith, h));
   known_units = λ p h. absurd (omega (arith, h));
@@ -14,13 +14,13 @@ opened_sound caches sets ways memory = record {
   sound_spills = λ a some. absurd (true≢false (sym some));
 }
 
-pub opened_law : (caches sets ways : ℕ) (memory : List ℕ) → IsSound (opened caches sets ways memory)
-    × (versioned (opened caches sets ways memory) ≡ record { commits = 0; committed = λ a. get_or memory a 0; rows = [] })
+pub opened_law : (caches sets ways : ℕ) (memory : List ℕ) → IsSound (opening_table caches sets ways memory)
+    × (versioned_map (opening_table caches sets ways memory) ≡ record { commits = 0; committed = λ a. get_or memory a 0; rows = [] })
 opened_law caches sets ways memory = (
   opened_sound caches sets ways memory,
-  map_same (versioned (opened caches sets ways memory)) (record { commits = 0; committed = λ a. get_or memory a 0; rows = [] }) (record {
+  map_same (versioned_map (opening_table caches sets ways memory)) (record { commits = 0; committed = λ a. get_or memory a 0; rows = [] }) (record {
     commits = refl;
-    committed = λ a. committed_none (opened caches sets ways memory) a (λ u. refl);
+    committed = λ a. committed_none (opening_table caches sets ways memory) a (λ u. refl);
     count = refl;
     versions = λ p h a. absurd (omega (arith, h));
     exposed = λ p h a. absurd (omega (arith, h));

@@ -3,8 +3,8 @@ use Rattle.std.proofs.Common.{◌≡◌, ◌≢◌, refl, sym, ap, ◌∙◌, �
 use Rattle.std.specs.Bool.{◌==◌}
 use Rattle.std.specs.Option.{option_or}
 use Rattle.std.proofs.lemmas.Bool.{cases_eq}
-use Rattle.svc_bus_laws.specs.LineTable.{Line, LineTable, version_in, exposed_in, is_committed_dirty, unit_at, committed_value, own_version, versioned}
-use Rattle.svc_bus_laws.specs.Steps.{purged, purge}
+use Rattle.svc_bus_laws.specs.LineTable.{Line, LineTable, version_in, exposed_in, is_committed_dirty, unit_at, committed_value, own_version, versioned_map}
+use Rattle.svc_bus_laws.specs.Steps.{line_after_purging, purge}
 use Rattle.svc_bus_laws.specs.Sound.{IsSound}
 use Rattle.svc_bus_laws.specs.TableLaws.{IsPurged, IsKeptSpill}
 use Rattle.svc_bus_laws.proofs.Maps.{map_same}
@@ -15,14 +15,14 @@ module _ (t : LineTable) (a : ℕ) (sound : IsSound t) where
   abbrev after : LineTable
   after = purge t a
 
-  here : (v : ℕ) → after.lines v a ≡ purged (t.lines v a)
+  here : (v : ℕ) → after.lines v a ≡ line_after_purging (t.lines v a)
   here v = rw (eq-eqb a a refl)
 
   there : (v b : ℕ) → b ≢ a → after.lines v b ≡ t.lines v b
   there v b ne = rw (ne_eqb b a ne)
 
   -- what a purge leaves of each line
-  left : {A : Type 0} (f : Option Line → A) → ((line : Option Line) → f (purged line) ≡ f line) → (v b : ℕ) → f (after.lines v b) ≡ f (t.lines v b)
+  left : {A : Type 0} (f : Option Line → A) → ((line : Option Line) → f (line_after_purging line) ≡ f line) → (v b : ℕ) → f (after.lines v b) ≡ f (t.lines v b)
   left f keeps v b = elim (cases_eq b a) [
     | inl e ↦ rw e (ap f (here v) ∙ keeps (t.lines v a))
     | inr ne ↦ ap f (there v b ne)
@@ -66,7 +66,7 @@ module _ (t : LineTable) (a : ℕ) (sound : IsSound t) where
   pub purge_law : IsPurged after t a
   purge_law = record {
     sound = still_sound;
-    same_map = map_same (versioned after) (versioned t) (record {
+    same_map = map_same (versioned_map after) (versioned_map t) (record {
       commits = refl;
       committed = same_committed;
       count = rows_count after ∙ sym (rows_count t);

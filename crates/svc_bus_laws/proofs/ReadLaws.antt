@@ -5,8 +5,8 @@ use Rattle.std.specs.Option.{option_or}
 use Rattle.std.proofs.lemmas.Bool.{cases_Bool, cases_eq}
 use Rattle.svc_bus_laws.specs.Versioned.{Row, Versioned, fresh_row, version, is_exposed, latest, view}
 use Rattle.svc_bus_laws.specs.Versioned as map
-use Rattle.svc_bus_laws.specs.LineTable.{Line, LineTable, is_active, version_in, exposed_in, is_committed_dirty, is_reusable, value_in, unit_at, line_at, committed_value, own_version, versioned}
-use Rattle.svc_bus_laws.specs.Steps.{purged, reused, fill, reuse, read, filled_line, is_overtaken}
+use Rattle.svc_bus_laws.specs.LineTable.{Line, LineTable, is_active, version_in, exposed_in, is_committed_dirty, is_reusable, value_in, unit_at, line_at, committed_value, own_version, versioned_map}
+use Rattle.svc_bus_laws.specs.Steps.{line_after_purging, line_after_reuse, fill, reuse, read, filled_line, is_overtaken}
 use Rattle.svc_bus_laws.specs.Sound.{IsActiveLine, IsSoundLine, IsSound}
 use Rattle.svc_bus_laws.proofs.Searches.{any_fails}
 use Rattle.svc_bus_laws.proofs.Maps.{latest_none, Same, map_same, read_count, read_version, read_exposed_same, read_exposed_other}
@@ -51,21 +51,21 @@ module _ (t : LineTable) (p a : ℕ) (sound : IsSound t) (within : p < length t.
       → ((q b : ℕ) → q < length t.units → q ≢ p → (not (q == 0) && exposed_in (line_at s q b)) ≡ (not (q == 0) && exposed_in (line_at t q b)))
       → ((b : ℕ) → b ≢ a → (not (p == 0) && exposed_in (line_at s p b)) ≡ (not (p == 0) && exposed_in (line_at t p b)))
       → (not (p == 0) && exposed_in (line_at s p a)) ≡ ((not (p == 0) && exposed_in (line_at t p a)) || (not (p == 0) && is_none (own_version t p a)))
-      → Same (versioned s) (map.read (versioned t) p a)
+      → Same (versioned_map s) (map.read (versioned_map t) p a)
   read_is s commits count committed versions others words here =
-      let room : p < length (versioned t).rows = omega (arith, within, rows_count t) in
-      let old = λ (q : ℕ) (h : q < length (versioned s).rows). let k : q < length t.units = omega (arith, h, rows_count s, count) in k in
-      let new = λ (q : ℕ) (h : q < length (versioned s).rows). let k : q < length s.units = omega (arith, h, rows_count s) in k in
+      let room : p < length (versioned_map t).rows = omega (arith, within, rows_count t) in
+      let old = λ (q : ℕ) (h : q < length (versioned_map s).rows). let k : q < length t.units = omega (arith, h, rows_count s, count) in k in
+      let new = λ (q : ℕ) (h : q < length (versioned_map s).rows). let k : q < length s.units = omega (arith, h, rows_count s) in k in
       record {
         commits = commits;
         committed = committed;
-        count = rows_count s ∙ count ∙ sym (rows_count t) ∙ sym (read_count (versioned t) p a room);
-        versions = λ q h b. version_is s q b (new q h) ∙ versions q b (old q h) ∙ sym (version_is t q b (old q h)) ∙ sym (read_version (versioned t) p a room q b);
+        count = rows_count s ∙ count ∙ sym (rows_count t) ∙ sym (read_count (versioned_map t) p a room);
+        versions = λ q h b. version_is s q b (new q h) ∙ versions q b (old q h) ∙ sym (version_is t q b (old q h)) ∙ sym (read_version (versioned_map t) p a room q b);
         exposed = λ q h b. exposed_is s q b (new q h) ∙ elim (cases_eq q p) [
-          | inr ne ↦ others q b (old q h) ne ∙ sym (exposed_is t q b (old q h)) ∙ sym (read_exposed_other (versioned t) p a room q b ne)
+          | inr ne ↦ others q b (old q h) ne ∙ sym (exposed_is t q b (old q h)) ∙ sym (read_exposed_other (versioned_map t) p a room q b ne)
           | inl e ↦ rw e (elim (cases_eq b a) [
-            | inl word ↦ rw word (here ∙ sym (read_exposed_same (versioned t) p a room a ∙ rw (eq-eqb a a refl, exposed_is t p a within, version_is t p a within)))
-            | inr ne ↦ words b ne ∙ sym (read_exposed_same (versioned t) p a room b ∙ rw (ne_eqb a b (λ z. ne (sym z)), exposed_is t p b within) (or_false _))
+            | inl word ↦ rw word (here ∙ sym (read_exposed_same (versioned_map t) p a room a ∙ rw (eq-eqb a a refl, exposed_is t p a within, version_is t p a within)))
+            | inr ne ↦ words b ne ∙ sym (read_exposed_same (versioned_map t) p a room b ∙ rw (ne_eqb a b (λ z. ne (sym z)), exposed_is t p b within) (or_false _))
           ])
         ];
       }
@@ -81,7 +81,7 @@ module _ (t : LineTable) (p a : ℕ) (sound : IsSound t) (within : p < length t.
     line = Some (filled_line t p a)
 
     fill_version_in : (q b : ℕ) → version_in (line_at (fill t p a) q b) ≡ version_in (line_at t q b)
-    fill_version_in q b = elim (changed t.lines (unit_at t p) a line purged (unit_at t q) b) [
+    fill_version_in q b = elim (changed t.lines (unit_at t p) a line line_after_purging (unit_at t q) b) [
       | OtherWord ne is ↦ rw is
       | SameLine e same is ↦ rw is (sym (ap version_in (lines_at t _ _ _ _ same e) ∙ no_version (line_at t p a) miss))
       | OtherUnit e ne is ↦ rw is (purged_version _)
@@ -91,7 +91,7 @@ module _ (t : LineTable) (p a : ℕ) (sound : IsSound t) (within : p < length t.
     fill_version q b h = ap (λ o. option_or o (cond (q == 0) (t.spill b) None)) (fill_version_in q b)
 
     pub fill_committed : (b : ℕ) → committed_value (fill t p a) b ≡ committed_value t b
-    fill_committed b = purge_committed t (unit_at t p) a line purged t.spill refl purged_clean b
+    fill_committed b = purge_committed t (unit_at t p) a line line_after_purging t.spill refl purged_clean b
 
     fill_line : IsSoundLine (fill t p a) (unit_at t p) a (filled_line t p a)
     fill_line = record {
@@ -112,14 +112,14 @@ module _ (t : LineTable) (p a : ℕ) (sound : IsSound t) (within : p < length t.
     }
 
     fill_lines : (v b : ℕ) (l : Line) → (fill t p a).lines v b ≡ Some l → IsSoundLine (fill t p a) v b l
-    fill_lines v b l e = elim (changed t.lines (unit_at t p) a line purged v b) [
+    fill_lines v b l e = elim (changed t.lines (unit_at t p) a line line_after_purging v b) [
       | OtherWord ne is ↦ kept_line t (fill t p a).lines (fill t p a).spill (fill t p a).backing fill_version fill_committed v b l (sound.sound_lines v b l (sym is ∙ e))
       | SameLine here same is ↦ rw (here, same, ← some_line _ _ (sym is ∙ e)) fill_line
       | OtherUnit here ne is ↦ kept_line t (fill t p a).lines (fill t p a).spill (fill t p a).backing fill_version fill_committed v b l (sound.sound_lines v b l (purged_was _ l (sym is ∙ e)))
     ]
 
     fill_old : (v b : ℕ) (l : Line) → (fill t p a).lines v b ≡ Some l → l.commit ≡ true → t.lines v b ≡ Some l
-    fill_old v b l e c = elim (changed t.lines (unit_at t p) a line purged v b) [
+    fill_old v b l e c = elim (changed t.lines (unit_at t p) a line line_after_purging v b) [
       | OtherWord ne is ↦ sym is ∙ e
       | SameLine here same is ↦ absurd (true≢false (sym c ∙ sym (ap (λ (k : Line). k.commit) (some_line _ _ (sym is ∙ e)))))
       | OtherUnit here ne is ↦ purged_was _ l (sym is ∙ e)
@@ -135,7 +135,7 @@ module _ (t : LineTable) (p a : ℕ) (sound : IsSound t) (within : p < length t.
         in_memory = old.in_memory;
         has_head = old.has_head;
         replaced = fill_version_in 0 b ∙ old.replaced;
-        purged = λ v. elim (changed t.lines (unit_at t p) a line purged v b) [
+        purged = λ v. elim (changed t.lines (unit_at t p) a line line_after_purging v b) [
           | OtherWord ne is ↦ rw is (old.purged v)
           | SameLine e same is ↦ rw is
           | OtherUnit e ne is ↦ rw is (purged_clean (t.lines v b))
@@ -144,7 +144,7 @@ module _ (t : LineTable) (p a : ℕ) (sound : IsSound t) (within : p < length t.
     }
 
     fill_exposed_other : (q b : ℕ) → q < length t.units → q ≢ p → exposed_in (line_at (fill t p a) q b) ≡ exposed_in (line_at t q b)
-    fill_exposed_other q b h ne = elim (changed t.lines (unit_at t p) a line purged (unit_at t q) b) [
+    fill_exposed_other q b h ne = elim (changed t.lines (unit_at t p) a line line_after_purging (unit_at t q) b) [
       | OtherWord other is ↦ rw is
       | SameLine e same is ↦ absurd (ne (same_place q h same))
       | OtherUnit e other is ↦ rw is (purged_exposed (line_at t q b))
@@ -156,8 +156,8 @@ module _ (t : LineTable) (p a : ℕ) (sound : IsSound t) (within : p < length t.
     fill_exposed_here : exposed_in (line_at (fill t p a) p a) ≡ not ((p == 0) && is_some (t.spill a))
     fill_exposed_here = rw (eq-eqb a a refl, eq-eqb (unit_at t p) (unit_at t p) refl)
 
-    pub fill_map : versioned (fill t p a) ≡ map.read (versioned t) p a
-    fill_map = map_same (versioned (fill t p a)) (map.read (versioned t) p a) (read_is (fill t p a) refl refl fill_committed fill_version (λ q b h ne. ap (λ x. not (q == 0) && x) (fill_exposed_other q b h ne)) (λ b ne. ap (λ x. not (p == 0) && x) (fill_exposed_word b ne))
+    pub fill_map : versioned_map (fill t p a) ≡ map.read (versioned_map t) p a
+    fill_map = map_same (versioned_map (fill t p a)) (map.read (versioned_map t) p a) (read_is (fill t p a) refl refl fill_committed fill_version (λ q b h ne. ap (λ x. not (q == 0) && x) (fill_exposed_other q b h ne)) (λ b ne. ap (λ x. not (p == 0) && x) (fill_exposed_word b ne))
         (elim (cases_eq p 0) [
           | inl e ↦ rw (eq-eqb p 0 e)
           | inr ne ↦ rw (fill_exposed_here, ne_eqb p 0 ne, no_exposure (line_at t p a) miss, or_none (version_in (line_at t p a)), no_version (line_at t p a) miss)
@@ -170,7 +170,7 @@ module _ (t : LineTable) (p a : ℕ) (sound : IsSound t) (within : p < length t.
     parts = let w = reusable_parts (line_at t p a) reusable in (w.0, w.1, w.2.0, w.2.1, w.2.2)
 
     abbrev mine : Option Line
-    mine = reused (t.commits + p) (line_at t p a)
+    mine = line_after_reuse (t.commits + p) (line_at t p a)
 
     abbrev same : Option Line → Option Line
     same line = line
@@ -182,13 +182,13 @@ module _ (t : LineTable) (p a : ℕ) (sound : IsSound t) (within : p < length t.
     clean = ap is_committed_dirty parts.1 ∙ rw (parts.2, parts.3)
 
     mine_clean : is_committed_dirty mine ≡ false
-    mine_clean = ap (λ line. is_committed_dirty (reused (t.commits + p) line)) parts.1
+    mine_clean = ap (λ line. is_committed_dirty (line_after_reuse (t.commits + p) line)) parts.1
 
     mine_version : version_in mine ≡ None
-    mine_version = ap (λ line. version_in (reused (t.commits + p) line)) parts.1 ∙ rw parts.3
+    mine_version = ap (λ line. version_in (line_after_reuse (t.commits + p) line)) parts.1 ∙ rw parts.3
 
     mine_exposed : exposed_in mine ≡ true
-    mine_exposed = ap (λ line. exposed_in (reused (t.commits + p) line)) parts.1
+    mine_exposed = ap (λ line. exposed_in (line_after_reuse (t.commits + p) line)) parts.1
 
     reuse_version_in : (q b : ℕ) → version_in (line_at (reuse t p a) q b) ≡ version_in (line_at t q b)
     reuse_version_in q b = elim (changed t.lines (unit_at t p) a mine same (unit_at t q) b) [
@@ -217,11 +217,11 @@ module _ (t : LineTable) (p a : ℕ) (sound : IsSound t) (within : p < length t.
     none_above : (q : ℕ) → q < length t.units → own_version t q a ≡ None
     none_above q h = old_line.unmarked parts.4 q h (omega (arith, (old_line.committed parts.2).older))
 
-    reuse_view : parts.0.value ≡ view (versioned t) p a
+    reuse_view : parts.0.value ≡ view (versioned_map t) p a
     reuse_view = (old_line.committed parts.2).newest parts.3 parts.4 ∙ sym (view_is t p a within ∙ latest_none _ _ (suc p) (λ q h. none_above q (omega (arith, h, within))))
 
     -- the reused line holds what its task reads
-    pub reuse_value : value_in (line_at t p a) ≡ view (versioned t) p a
+    pub reuse_value : value_in (line_at t p a) ≡ view (versioned_map t) p a
     reuse_value = ap value_in parts.1 ∙ reuse_view
 
     abbrev reused_line : Line
@@ -248,14 +248,14 @@ module _ (t : LineTable) (p a : ℕ) (sound : IsSound t) (within : p < length t.
     reuse_lines : (v b : ℕ) (l : Line) → (reuse t p a).lines v b ≡ Some l → IsSoundLine (reuse t p a) v b l
     reuse_lines v b l e = elim (changed t.lines (unit_at t p) a mine same v b) [
       | OtherWord ne is ↦ kept_line t (reuse t p a).lines (reuse t p a).spill (reuse t p a).backing reuse_version reuse_committed v b l (sound.sound_lines v b l (sym is ∙ e))
-      | SameLine here unit is ↦ rw (here, unit, ← some_line _ _ (sym (ap (reused (t.commits + p)) parts.1) ∙ sym is ∙ e)) reuse_line
+      | SameLine here unit is ↦ rw (here, unit, ← some_line _ _ (sym (ap (line_after_reuse (t.commits + p)) parts.1) ∙ sym is ∙ e)) reuse_line
       | OtherUnit here ne is ↦ kept_line t (reuse t p a).lines (reuse t p a).spill (reuse t p a).backing reuse_version reuse_committed v b l (sound.sound_lines v b l (sym is ∙ e))
     ]
 
     reuse_old : (v b : ℕ) (l : Line) → (reuse t p a).lines v b ≡ Some l → l.commit ≡ true → t.lines v b ≡ Some l
     reuse_old v b l e c = elim (changed t.lines (unit_at t p) a mine same v b) [
       | OtherWord ne is ↦ sym is ∙ e
-      | SameLine here unit is ↦ absurd (true≢false (sym c ∙ sym (ap (λ (k : Line). k.commit) (some_line _ _ (sym (ap (reused (t.commits + p)) parts.1) ∙ sym is ∙ e)))))
+      | SameLine here unit is ↦ absurd (true≢false (sym c ∙ sym (ap (λ (k : Line). k.commit) (some_line _ _ (sym (ap (line_after_reuse (t.commits + p)) parts.1) ∙ sym is ∙ e)))))
       | OtherUnit here ne is ↦ sym is ∙ e
     ]
 
@@ -286,8 +286,8 @@ module _ (t : LineTable) (p a : ℕ) (sound : IsSound t) (within : p < length t.
         here : line_at (reuse t p a) p a ≡ mine
         here = rw (eq-eqb a a refl, eq-eqb (unit_at t p) (unit_at t p) refl)
 
-    pub reuse_map : versioned (reuse t p a) ≡ map.read (versioned t) p a
-    reuse_map = map_same (versioned (reuse t p a)) (map.read (versioned t) p a) (read_is (reuse t p a) refl refl reuse_committed reuse_version (λ q b h ne. ap (λ x. not (q == 0) && x) (reuse_exposed_other q b h ne)) (λ b ne. ap (λ x. not (p == 0) && x) (rw (ne_eqb b a ne)))
+    pub reuse_map : versioned_map (reuse t p a) ≡ map.read (versioned_map t) p a
+    reuse_map = map_same (versioned_map (reuse t p a)) (map.read (versioned_map t) p a) (read_is (reuse t p a) refl refl reuse_committed reuse_version (λ q b h ne. ap (λ x. not (q == 0) && x) (reuse_exposed_other q b h ne)) (λ b ne. ap (λ x. not (p == 0) && x) (rw (ne_eqb b a ne)))
         (elim (cases_eq p 0) [
           | inl e ↦ rw (eq-eqb p 0 e)
           | inr ne ↦ rw (reuse_exposed_here, ne_eqb p 0 ne, no_exposure (line_at t p a) inactive, or_none (version_in (line_at t p a)), no_version (line_at t p a) inactive)
@@ -304,7 +304,7 @@ module _ (t : LineTable) (p a : ℕ) (sound : IsSound t) (within : p < length t.
         subst (IsActiveLine t a own.0) (same_place w.0 w.2.within w.1) w.2
 
     -- the line holds what its task reads
-    pub hit_value : value_in (line_at t p a) ≡ view (versioned t) p a
+    pub hit_value : value_in (line_at t p a) ≡ view (versioned_map t) p a
     hit_value = ap value_in own.1 ∙ own_line.current
 
     recorded : p ≢ 0 → (not (p == 0) && exposed_in (line_at t p a)) ≡ ((not (p == 0) && exposed_in (line_at t p a)) || (not (p == 0) && is_none (own_version t p a)))
@@ -324,8 +324,8 @@ module _ (t : LineTable) (p a : ℕ) (sound : IsSound t) (within : p < length t.
         or_false true = refl
         or_false false = refl
 
-    pub hit_map : versioned t ≡ map.read (versioned t) p a
-    hit_map = map_same (versioned t) (map.read (versioned t) p a) (read_is t refl refl (λ b. refl) (λ q b h. refl) (λ q b h ne. refl) (λ b ne. refl)
+    pub hit_map : versioned_map t ≡ map.read (versioned_map t) p a
+    hit_map = map_same (versioned_map t) (map.read (versioned_map t) p a) (read_is t refl refl (λ b. refl) (λ q b h. refl) (λ q b h ne. refl) (λ b ne. refl)
         (elim (cases_eq p 0) [ inl e ↦ rw (eq-eqb p 0 e) | inr ne ↦ recorded ne ]))
 
   -- ---- any read
@@ -339,7 +339,7 @@ module _ (t : LineTable) (p a : ℕ) (sound : IsSound t) (within : p < length t.
     ]
   ]
 
-  pub read_map : a < t.words → versioned (read t p a) ≡ map.read (versioned t) p a
+  pub read_map : a < t.words → versioned_map (read t p a) ≡ map.read (versioned_map t) p a
   read_map known = elim (cases_Bool (is_active (line_at t p a))) [
     | inl hit ↦ rw hit (hit_map hit)
     | inr miss ↦ elim (cases_Bool (is_reusable (line_at t p a))) [

@@ -3,8 +3,8 @@ use Rattle.std.proofs.Common.{◌≡◌, ◌≢◌, refl, sym, ap, ◌∙◌, �
 use Rattle.std.specs.Bool.{◌==◌}
 use Rattle.std.specs.Option.{option_or}
 use Rattle.std.proofs.lemmas.Bool.{cases_Bool, cases_eq}
-use Rattle.svc_bus_laws.specs.LineTable.{Line, LineTable, is_active, version_in, exposed_in, is_committed_dirty, unit_at, line_at, committed_value, own_version, versioned}
-use Rattle.svc_bus_laws.specs.Steps.{purged, replace}
+use Rattle.svc_bus_laws.specs.LineTable.{Line, LineTable, is_active, version_in, exposed_in, is_committed_dirty, unit_at, line_at, committed_value, own_version, versioned_map}
+use Rattle.svc_bus_laws.specs.Steps.{line_after_purging, replace}
 use Rattle.svc_bus_laws.specs.Sound.{IsSpilled, IsSound}
 use Rattle.svc_bus_laws.proofs.Maps.{map_same}
 use Rattle.svc_bus_laws.proofs.Tables.{no_version, no_exposure, purged_version, purged_exposed, purged_clean, purged_was, OtherWord, SameLine, OtherUnit, changed, purge_cleans, purge_committed, kept_line, lines_at, none_line, rows_count, version_is, exposed_is, at_same, at_other}
@@ -32,7 +32,7 @@ module _ (t : LineTable) (u a : ℕ) (sound : IsSound t) (unpinned : is_active (
   back v b same e = sym (λ i. option_or (version_in (t.lines (same i) (e i))) (t.spill (e i)))
 
   pub replace_version : (q b : ℕ) → q < length t.units → own_version after q b ≡ own_version t q b
-  replace_version q b h = elim (changed t.lines u a None purged (unit_at t q) b) [
+  replace_version q b h = elim (changed t.lines u a None line_after_purging (unit_at t q) b) [
     | OtherWord ne is ↦ ap (λ x. option_or (version_in x) (cond (q == 0) (after.spill b) None)) is ∙ rw (ne_eqb b a ne)
     | SameLine e same is ↦ ap (λ x. option_or (version_in x) (cond (q == 0) (after.spill b) None)) is ∙ elim (cases_eq q 0) [
       | inl z ↦ rw (eq-eqb q 0 z) (at_same t.spill a (option_or (version_in (t.lines u a)) (t.spill a)) b e ∙ back (unit_at t q) b same e)
@@ -47,10 +47,10 @@ module _ (t : LineTable) (u a : ℕ) (sound : IsSound t) (unpinned : is_active (
   ]
 
   pub replace_committed : (b : ℕ) → committed_value after b ≡ committed_value t b
-  replace_committed b = purge_committed t u a None purged after.spill refl purged_clean b
+  replace_committed b = purge_committed t u a None line_after_purging after.spill refl purged_clean b
 
   replace_was : (v b : ℕ) (l : Line) → after.lines v b ≡ Some l → t.lines v b ≡ Some l
-  replace_was v b l e = elim (changed t.lines u a None purged v b) [
+  replace_was v b l e = elim (changed t.lines u a None line_after_purging v b) [
     | OtherWord ne is ↦ sym is ∙ e
     | SameLine here same is ↦ none_line l (sym is ∙ e)
     | OtherUnit here ne is ↦ purged_was (t.lines v b) l (sym is ∙ e)
@@ -61,12 +61,12 @@ module _ (t : LineTable) (u a : ℕ) (sound : IsSound t) (unpinned : is_active (
     | inr ne ↦ let old = sound.sound_spills b (sym (ap is_some (at_other t.spill a (option_or (version_in (t.lines u a)) (t.spill a)) b ne)) ∙ some) in record {
       in_memory = old.in_memory;
       has_head = old.has_head;
-      replaced = elim (changed t.lines u a None purged (unit_at t 0) b) [
+      replaced = elim (changed t.lines u a None line_after_purging (unit_at t 0) b) [
         | OtherWord other is ↦ ap version_in is ∙ old.replaced
         | SameLine e same is ↦ absurd (ne e)
         | OtherUnit e other is ↦ absurd (ne e)
       ];
-      purged = λ v. elim (changed t.lines u a None purged v b) [
+      purged = λ v. elim (changed t.lines u a None line_after_purging v b) [
         | OtherWord other is ↦ ap is_committed_dirty is ∙ old.purged v
         | SameLine e same is ↦ absurd (ne e)
         | OtherUnit e other is ↦ absurd (ne e)
@@ -76,7 +76,7 @@ module _ (t : LineTable) (u a : ℕ) (sound : IsSound t) (unpinned : is_active (
       in_memory = (here e).0;
       has_head = (here e).1;
       replaced = (here e).2;
-      purged = purge_cleans t u a None purged after.spill refl purged_clean;
+      purged = purge_cleans t u a None line_after_purging after.spill refl purged_clean;
     })
   ]
     where
@@ -84,7 +84,7 @@ module _ (t : LineTable) (u a : ℕ) (sound : IsSound t) (unpinned : is_active (
       from None is some = let old = sound.sound_spills a some in (
         old.in_memory,
         old.has_head,
-        elim (changed t.lines u a None purged (unit_at t 0) a) [
+        elim (changed t.lines u a None line_after_purging (unit_at t 0) a) [
           | OtherWord ne e ↦ absurd (ne refl)
           | SameLine e same is ↦ ap version_in is
           | OtherUnit e other is ↦ ap version_in is ∙ purged_version (line_at t 0 a) ∙ old.replaced
@@ -95,7 +95,7 @@ module _ (t : LineTable) (u a : ℕ) (sound : IsSound t) (unpinned : is_active (
         | inl active ↦ let w = unpinned active in let l = active_parts (t.lines u a) active in (
           (sound.sound_lines u a l.0 l.1).in_memory,
           w.0,
-          elim (changed t.lines u a None purged (unit_at t 0) a) [
+          elim (changed t.lines u a None line_after_purging (unit_at t 0) a) [
             | OtherWord ne e ↦ absurd (ne refl)
             | SameLine e same is ↦ ap version_in is
             | OtherUnit e other is ↦ absurd (other w.1)
@@ -115,8 +115,8 @@ module _ (t : LineTable) (u a : ℕ) (sound : IsSound t) (unpinned : is_active (
     sound_spills = replace_spills;
   }
 
-  pub replace_map : versioned after ≡ versioned t
-  replace_map = map_same (versioned after) (versioned t) (record {
+  pub replace_map : versioned_map after ≡ versioned_map t
+  replace_map = map_same (versioned_map after) (versioned_map t) (record {
     commits = refl;
     committed = replace_committed;
     count = rows_count after ∙ sym (rows_count t);
@@ -125,7 +125,7 @@ module _ (t : LineTable) (u a : ℕ) (sound : IsSound t) (unpinned : is_active (
   })
     where
       exposure : (q b : ℕ) → q < length t.units → (not (q == 0) && exposed_in (line_at after q b)) ≡ (not (q == 0) && exposed_in (line_at t q b))
-      exposure q b h = elim (changed t.lines u a None purged (unit_at t q) b) [
+      exposure q b h = elim (changed t.lines u a None line_after_purging (unit_at t q) b) [
         | OtherWord ne is ↦ ap (λ x. not (q == 0) && exposed_in x) is
         | OtherUnit e other is ↦ ap (λ x. not (q == 0) && exposed_in x) is ∙ ap (λ x. not (q == 0) && x) (purged_exposed (line_at t q b))
         | SameLine e same is ↦ elim (cases_eq q 0) [

@@ -3,7 +3,7 @@ use Rattle.std.proofs.Common.{◌≡◌, refl, ℕ, Some, None, true, false, Lis
 use Rattle.svc_bus_laws.specs.Search.{tabulate}
 use Rattle.svc_bus_laws.specs.Versioned.{Victim, view, victim_answer, is_exposed}
 use Rattle.svc_bus_laws.specs.Versioned as map
-use Rattle.svc_bus_laws.specs.LineTable.{LineTable, place_of, versioned, committed_value, opened}
+use Rattle.svc_bus_laws.specs.LineTable.{LineTable, place_of, versioned_map, committed_value, opening_table}
 use Rattle.svc_bus_laws.specs.Walk.{walk_lines}
 use Rattle.svc_bus_laws.specs.Supplier.{Supplier, Hit, Reuse, Version, Spill, Committed, Memory, supplier}
 use Rattle.svc_bus_laws.specs.Steps.{commit, replace, squash_from, begin}
@@ -25,11 +25,11 @@ write t u a w = step.write t (place t u) a w
 
 -- what a read answers
 abbrev answer : LineTable → ℕ → ℕ → ℕ × Supplier
-answer t u a = (view (versioned t) (place t u) a, supplier t (place t u) a)
+answer t u a = (view (versioned_map t) (place t u) a, supplier t (place t u) a)
 
 -- the victim of a write
 abbrev cut : LineTable → ℕ → ℕ → Option Victim
-cut t u a = victim_answer (versioned t) (place t u) a
+cut t u a = victim_answer (versioned_map t) (place t u) a
 
 abbrev line : LineTable → ℕ → ℕ → Option (ℕ × ℕ)
 line t u a = shown (unnumbered (t.lines u a))
@@ -50,7 +50,7 @@ full t u a = set_full (table_cache t u) a
 
 -- four units, 16 sets, 2 ways, and the words 7, 0, 0, 0
 abbrev start : LineTable
-start = opened 4 16 2 (7 ∷ 0 ∷ 0 ∷ 0 ∷ [])
+start = opening_table 4 16 2 (7 ∷ 0 ∷ 0 ∷ 0 ∷ [])
 
 abbrev one : LineTable
 one = begin start 0
@@ -151,7 +151,7 @@ passed-after = (refl, refl)
 -- ---- replacement, spill and pinned lines: one set, one way, and the words 0, 0
 
 abbrev small : LineTable
-small = write (begin (begin (opened 4 1 1 (0 ∷ 0 ∷ [])) 0) 1) 1 0 8
+small = write (begin (begin (opening_table 4 1 1 (0 ∷ 0 ∷ [])) 0) 1) 1 0 8
 
 small-refusals : (full small 1 1 ≡ Some 0) × (full small 1 0 ≡ None) × (full small 0 1 ≡ None) × (is_pinned (table_cache small 1) small.units 1 0 ≡ true) × (is_not_resident (table_cache small 1) 0 ≡ false) × (is_not_resident (table_cache small 1) 1 ≡ true)
 small-refusals = (refl, refl, refl, refl, refl, refl)
@@ -190,7 +190,7 @@ resumed-reuse = (refl, refl, refl)
 
 -- SetFull names a committed line before a lower one that is not
 abbrev crowded : LineTable
-crowded = write (begin (commit (write (write (begin (opened 4 1 2 (0 ∷ 0 ∷ 0 ∷ [])) 0) 0 1 5) 0 0 6)) 0) 0 0 7
+crowded = write (begin (commit (write (write (begin (opening_table 4 1 2 (0 ∷ 0 ∷ 0 ∷ [])) 0) 0 1 5) 0 0 6)) 0) 0 0 7
 
 crowded-full : (full crowded 0 2 ≡ Some 1) × (committed crowded ≡ 6 ∷ 5 ∷ 0 ∷ []) × (backing crowded ≡ 6 ∷ 0 ∷ 0 ∷ [])
 crowded-full = (refl, refl, refl)
@@ -215,7 +215,7 @@ struck-cut : (cut (read loaded 2 0) 0 0 ≡ Some (record { first = 1; tasks = 2 
 struck-cut = (refl, refl, refl, refl, refl)
 
 -- the new head's reads are no longer recorded
-head-forgets : (is_exposed (versioned (read two 1 0)) 1 0 ≡ true) × (is_exposed (map.commit (versioned (read two 1 0))) 0 0 ≡ false)
+head-forgets : (is_exposed (versioned_map (read two 1 0)) 1 0 ≡ true) × (is_exposed (map.commit (versioned_map (read two 1 0))) 0 0 ≡ false)
 head-forgets = (refl, refl)
 
 -- it did not: its version hides the store

@@ -4,14 +4,14 @@ use Rattle.std.specs.Bool.{◌==◌}
 use Rattle.std.specs.Option.{option_or}
 use Rattle.std.proofs.lemmas.Bool.{cases_Bool, lt-leb, ltb-true, ltb-false}
 use Rattle.svc_bus_laws.specs.Search.{least, greatest, all_below, tabulate}
-use Rattle.svc_bus_laws.specs.LineTable.{Line, LineTable, is_active, is_reusable, version_in, exposed_in, is_committed_dirty, task_in, value_in, unit_at, line_at, is_newest, newest, value_of, committed_value, row_of, versioned}
+use Rattle.svc_bus_laws.specs.LineTable.{Line, LineTable, is_active, is_reusable, version_in, exposed_in, is_committed_dirty, task_in, value_in, unit_at, line_at, is_newest, newest, value_of, committed_value, row_of, versioned_map}
 use Rattle.svc_bus_laws.specs.Supplier.{Hit, Reuse, Version, Spill, supplier, by_version, by_committed}
 use Rattle.svc_bus_laws.specs.Sound.{IsSound}
 use Rattle.svc_bus_laws.specs.BusLine.{is_active_line, is_reusable_line, is_committed_dirty_line, is_dirty_line, is_exposed_line, value_of_line, version_of_line}
 use Rattle.svc_bus_laws.specs.BusState.{BusState, Agrees, unnumbered, is_dirty, is_lower, state_of}
 use Rattle.svc_bus_laws.specs.BusView.{bus_line_at, is_newest_line, bus_newest, value_of_unit, bus_committed, bus_row, bus_map, bus_view, bus_victim, bus_by_version, bus_supplier}
 use Rattle.svc_bus_laws.specs.BusSteps.{bus_opened}
-use Rattle.svc_bus_laws.specs.LineTable.{opened}
+use Rattle.svc_bus_laws.specs.LineTable.{opening_table}
 use Rattle.svc_bus_laws.specs.Versioned.{view, victim_answer}
 use Rattle.svc_bus_laws.proofs.OpenedLaws.{opened_law}
 use Rattle.svc_bus_laws.proofs.Searches.{least_same, all_same, greatest_same}
@@ -117,7 +117,7 @@ module _ (b : BusState) (t : LineTable) (agrees : Agrees b t) where
     exposed = λ a. not (p == 0) && exposed_seen p a i;
   }
 
-  pub map_is : bus_map b ≡ versioned t
+  pub map_is : bus_map b ≡ versioned_map t
   map_is = λ i. record {
     commits = agrees.commits i;
     committed = λ a. committed_at a i;
@@ -139,13 +139,13 @@ module _ (b : BusState) (t : LineTable) (agrees : Agrees b t) where
 pub committed_seen : (b : BusState) (t : LineTable) (a : ℕ) → Agrees b t → bus_committed b a ≡ committed_value t a
 committed_seen b t a agrees = committed_at b t agrees a
 
-pub map_seen : (b : BusState) (t : LineTable) → Agrees b t → bus_map b ≡ versioned t
+pub map_seen : (b : BusState) (t : LineTable) → Agrees b t → bus_map b ≡ versioned_map t
 map_seen b t agrees = map_is b t agrees
 
-pub view_seen : (b : BusState) (t : LineTable) (p a : ℕ) → Agrees b t → bus_view b p a ≡ view (versioned t) p a
+pub view_seen : (b : BusState) (t : LineTable) (p a : ℕ) → Agrees b t → bus_view b p a ≡ view (versioned_map t) p a
 view_seen b t p a agrees = ap (λ m. view m p a) (map_is b t agrees)
 
-pub victim_seen : (b : BusState) (t : LineTable) (p a : ℕ) → Agrees b t → bus_victim b p a ≡ victim_answer (versioned t) p a
+pub victim_seen : (b : BusState) (t : LineTable) (p a : ℕ) → Agrees b t → bus_victim b p a ≡ victim_answer (versioned_map t) p a
 victim_seen b t p a agrees = ap (λ m. victim_answer m p a) (map_is b t agrees)
 
 pub supplier_seen : (b : BusState) (t : LineTable) (p a : ℕ) → Agrees b t → bus_supplier b p a ≡ supplier t p a
@@ -166,7 +166,7 @@ own_state probes t sound = record {
   units = refl;
 }
 
-pub opened_agrees : (caches sets ways : ℕ) (memory : List ℕ) → Agrees (bus_opened caches sets ways memory) (opened caches sets ways memory)
+pub opened_agrees : (caches sets ways : ℕ) (memory : List ℕ) → Agrees (bus_opened caches sets ways memory) (opening_table caches sets ways memory)
 opened_agrees caches sets ways memory = record {
   sound = (opened_law caches sets ways memory).0;
   caches = refl;

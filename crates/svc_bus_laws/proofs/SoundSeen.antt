@@ -2,7 +2,7 @@
 use Rattle.std.proofs.Common.{◌⊎◌, inr, inl, ◌≡◌, refl, sym, ap, ◌∙◌, ℕ, ◌<◌, ◌≤◌, true, Some, None, Option, length, get_or, is_some, arith, subst}
 use Rattle.svc_bus_laws.specs.LineTable.{Line, LineTable, line_at}
 use Rattle.svc_bus_laws.specs.Sound.{IsSound}
-use Rattle.svc_bus_laws.specs.Supplier.{Supplier, Hit, Reuse, Version, Spill, Committed, Memory, supplier, supplied}
+use Rattle.svc_bus_laws.specs.Supplier.{Supplier, Hit, Reuse, Version, Spill, Committed, Memory, supplier, supplied_value}
 use Rattle.svc_bus_laws.specs.BusLine.{is_active_line, is_committed_dirty_line, value_of_line}
 use Rattle.svc_bus_laws.specs.BusState.{BusState, SameBus, Agrees, unnumbered}
 use Rattle.svc_bus_laws.specs.BusView.{bus_supplier, bus_supplied, bus_view}
@@ -70,7 +70,7 @@ module _ (b : BusState) (t : LineTable) (agrees : Agrees b t) where
     spilled = spilled_state;
   }
 
-  supplied_is : (p a : ℕ) (s : Supplier) → bus_supplied b p a s ≡ supplied t p a s
+  supplied_is : (p a : ℕ) (s : Supplier) → bus_supplied b p a s ≡ supplied_value t p a s
   supplied_is p a Hit = ap Some (ap value_of_line (line_is b t agrees p a) ∙ value_line_is (line_at t p a))
   supplied_is p a Reuse = ap Some (ap value_of_line (line_is b t agrees p a) ∙ value_line_is (line_at t p a))
   supplied_is p a (Version u) = ap Some (ap value_of_line (agrees.lines u a) ∙ value_line_is (t.lines u a))

@@ -4,8 +4,8 @@ use Rattle.std.specs.Bool.{◌==◌}
 use Rattle.std.specs.Option.{option_or}
 use Rattle.svc_bus_laws.specs.Versioned.{Row, Versioned, fresh_row, row_at, version, is_exposed, latest, view}
 use Rattle.svc_bus_laws.specs.Versioned as map
-use Rattle.svc_bus_laws.specs.LineTable.{Line, LineTable, version_in, exposed_in, unit_at, line_at, committed_value, own_version, versioned}
-use Rattle.svc_bus_laws.specs.Steps.{squashed, squash}
+use Rattle.svc_bus_laws.specs.LineTable.{Line, LineTable, version_in, exposed_in, unit_at, line_at, committed_value, own_version, versioned_map}
+use Rattle.svc_bus_laws.specs.Steps.{line_after_squashing, squash}
 use Rattle.svc_bus_laws.specs.Sound.{IsSoundLine, IsSound}
 use Rattle.svc_bus_laws.proofs.Maps.{latest_same, map_same, cut_row}
 use Rattle.svc_bus_laws.proofs.Tables.{committed_same, view_is, rows_count, version_is, exposed_is}
@@ -23,7 +23,7 @@ module _ (t : LineTable) (n : ℕ) (sound : IsSound t) (above : 0 < n) (room : n
   kept_unit q h = get_or-take n t.units q 0 h
 
   line_is : (q b : ℕ) → q < n → line_at after q b ≡ line_at t q b
-  line_is q b h = ap (λ v. squashed (t.commits + n) (t.lines v b)) (kept_unit q h) ∙ squashed_kept (t.commits + n) (line_at t q b) (λ l e c.
+  line_is q b h = ap (λ v. line_after_squashing (t.commits + n) (t.lines v b)) (kept_unit q h) ∙ squashed_kept (t.commits + n) (line_at t q b) (λ l e c.
       let k = (sound.sound_lines (unit_at t q) b l e).active c in
       let place : k.0 ≡ q = sound.distinct_units k.0 q k.2.within (omega (arith, h, room)) k.1 in
       omega (arith, k.2.task_is, place, h))
@@ -34,7 +34,7 @@ module _ (t : LineTable) (n : ℕ) (sound : IsSound t) (above : 0 < n) (room : n
   pub squash_committed : (b : ℕ) → committed_value after b ≡ committed_value t b
   squash_committed b = committed_same after t b refl (λ v. squashed_dirty (t.commits + n) (t.lines v b)) refl
 
-  squash_view : (q b : ℕ) → q < n → view (versioned after) q b ≡ view (versioned t) q b
+  squash_view : (q b : ℕ) → q < n → view (versioned_map after) q b ≡ view (versioned_map t) q b
   squash_view q b h =
       view_is after q b (omega (arith, h, squash_units))
       ∙ latest_same _ _ _ _ (suc q) (squash_committed b) (λ r k. squash_version r b (omega (arith, h, k)))
@@ -75,21 +75,21 @@ module _ (t : LineTable) (n : ℕ) (sound : IsSound t) (above : 0 < n) (room : n
     };
   }
 
-  pub squash_map : versioned after ≡ map.squash (versioned t) n
-  squash_map = map_same (versioned after) (map.squash (versioned t) n) (record {
+  pub squash_map : versioned_map after ≡ map.squash (versioned_map t) n
+  squash_map = map_same (versioned_map after) (map.squash (versioned_map t) n) (record {
     commits = refl;
     committed = squash_committed;
-    count = rows_count after ∙ squash_units ∙ sym (length-take n (versioned t).rows ∙ omega (arith, room, rows_count t));
+    count = rows_count after ∙ squash_units ∙ sym (length-take n (versioned_map t).rows ∙ omega (arith, room, rows_count t));
     versions = λ q h b.
         let k : q < length after.units = omega (arith, h, rows_count after) in
         let i : q < n = omega (arith, k, squash_units) in
-        version_is after q b k ∙ squash_version q b i ∙ sym (version_is t q b (omega (arith, i, room))) ∙ sym (ap (λ (r : Row). r.versions b) (cut_row (versioned t) n q i));
+        version_is after q b k ∙ squash_version q b i ∙ sym (version_is t q b (omega (arith, i, room))) ∙ sym (ap (λ (r : Row). r.versions b) (cut_row (versioned_map t) n q i));
     exposed = λ q h b.
         let k : q < length after.units = omega (arith, h, rows_count after) in
         let i : q < n = omega (arith, k, squash_units) in
-        exposed_is after q b k ∙ ap (λ x. not (q == 0) && exposed_in x) (line_is q b i) ∙ sym (exposed_is t q b (omega (arith, i, room))) ∙ sym (ap (λ (r : Row). r.exposed b) (cut_row (versioned t) n q i));
+        exposed_is after q b k ∙ ap (λ x. not (q == 0) && exposed_in x) (line_is q b i) ∙ sym (exposed_is t q b (omega (arith, i, room))) ∙ sym (ap (λ (r : Row). r.exposed b) (cut_row (versioned_map t) n q i));
   })
 
 -- the squash of the rules is the squash by numbers
-pub squash_law : (t : LineTable) (n : ℕ) → IsSound t → 0 < n → n ≤ length t.units → IsSound (squash t n) × (versioned (squash t n) ≡ map.squash (versioned t) n)
-squash_law t n sound above room = subst (λ s. IsSound s × (versioned s ≡ map.squash (versioned t) n)) (sym (squash_is t n sound)) (squash_sound t n sound above room, squash_map t n sound above room)
+pub squash_law : (t : LineTable) (n : ℕ) → IsSound t → 0 < n → n ≤ length t.units → IsSound (squash t n) × (versioned_map (squash t n) ≡ map.squash (versioned_map t) n)
+squash_law t n sound above room = subst (λ s. IsSound s × (versioned_map s ≡ map.squash (versioned_map t) n)) (sym (squash_is t n sound)) (squash_sound t n sound above room, squash_map t n sound above room)

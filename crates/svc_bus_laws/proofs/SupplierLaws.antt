@@ -5,15 +5,15 @@ use Rattle.std.specs.Option.{option_or}
 use Rattle.std.proofs.lemmas.Bool.{cases_Bool}
 use Rattle.svc_bus_laws.specs.Search.{greatest}
 use Rattle.svc_bus_laws.specs.Versioned.{view}
-use Rattle.svc_bus_laws.specs.LineTable.{Line, LineTable, is_active, version_in, is_reusable, value_in, line_at, newest, committed_value, own_version, versioned}
-use Rattle.svc_bus_laws.specs.Supplier.{is_spill, Spill, supplier, supplied, by_version, by_committed}
+use Rattle.svc_bus_laws.specs.LineTable.{Line, LineTable, is_active, version_in, is_reusable, value_in, line_at, newest, committed_value, own_version, versioned_map}
+use Rattle.svc_bus_laws.specs.Supplier.{is_spill, Spill, supplier, supplied_value, by_version, by_committed}
 use Rattle.svc_bus_laws.specs.Sound.{IsSound}
 use Rattle.svc_bus_laws.proofs.Searches.{cases_below, greatest_cases}
 use Rattle.svc_bus_laws.proofs.Maps.{latest_at, latest_none}
 use Rattle.svc_bus_laws.proofs.Tables.{view_is, no_version, own_above}
 use Rattle.svc_bus_laws.proofs.ReadLaws.{hit_value, reuse_value}
 
-pub own_value : (t : LineTable) (p a : ℕ) → IsSound t → p < length t.units → (is_active (line_at t p a) ≡ true) ⊎ (is_reusable (line_at t p a) ≡ true) → value_in (line_at t p a) ≡ view (versioned t) p a
+pub own_value : (t : LineTable) (p a : ℕ) → IsSound t → p < length t.units → (is_active (line_at t p a) ≡ true) ⊎ (is_reusable (line_at t p a) ≡ true) → value_in (line_at t p a) ≡ view (versioned_map t) p a
 own_value t p a sound within (inl hit) = hit_value t p a sound within hit
 own_value t p a sound within (inr reusable) = reuse_value t p a sound within reusable
 
@@ -38,7 +38,7 @@ module _ (t : LineTable) (p a : ℕ) (sound : IsSound t) (within : p < length t.
     none_here : version_in (line_at t p a) ≡ None
     none_here = no_version (line_at t p a) miss
 
-    found_value : supplied t p a (by_version t a (greatest p dirty)) ≡ Some (view (versioned t) p a)
+    found_value : supplied_value t p a (by_version t a (greatest p dirty)) ≡ Some (view (versioned_map t) p a)
     found_value = elim (greatest_cases p dirty) [
       | inr (m, is, below, pass, after) ↦
           let own : own_version t m a ≡ Some (value_in (line_at t m a)) = ap (λ o. option_or o (cond (m == 0) (t.spill a) None)) (version_value (line_at t m a) pass) in
@@ -50,24 +50,24 @@ module _ (t : LineTable) (p a : ℕ) (sound : IsSound t) (within : p < length t.
       | inl (none, never) ↦ rw none (spilled_or_not (t.spill a) refl (λ k h. elim (cases_below k p h) [ inl lt ↦ none_from _ (never k lt) | inr e ↦ rw e none_here ]))
     ]
       where
-        spilled_or_not : (o : Option ℕ) → t.spill a ≡ o → ((k : ℕ) → k < suc p → version_in (line_at t k a) ≡ None) → supplied t p a (cond (is_some (t.spill a)) Spill (by_committed (newest t a))) ≡ Some (view (versioned t) p a)
+        spilled_or_not : (o : Option ℕ) → t.spill a ≡ o → ((k : ℕ) → k < suc p → version_in (line_at t k a) ≡ None) → supplied_value t p a (cond (is_some (t.spill a)) Spill (by_committed (newest t a))) ≡ Some (view (versioned_map t) p a)
         spilled_or_not (Some s) e clean =
             let own : own_version t 0 a ≡ Some s = ap (λ o. option_or o (t.spill a)) (clean 0 (omega arith)) ∙ e in
-            ap (λ x. supplied t p a (cond (is_some x) Spill (by_committed (newest t a)))) e
+            ap (λ x. supplied_value t p a (cond (is_some x) Spill (by_committed (newest t a)))) e
             ∙ e ∙ ap Some (sym (view_is t p a within ∙ latest_at _ _ (suc p) 0 s (omega arith) own (λ k h i. own_above t k a (omega (arith, h)) ∙ clean k i)))
         spilled_or_not None e clean =
-            let view' : view (versioned t) p a ≡ committed_value t a = view_is t p a within ∙ latest_none _ _ (suc p) (λ k h. ap (λ o. option_or o (cond (k == 0) (t.spill a) None)) (clean k h) ∙ ap (λ o. option_or None (cond (k == 0) o None)) e ∙ none_both (k == 0)) in
-            ap (λ x. supplied t p a (cond (is_some x) Spill (by_committed (newest t a)))) e ∙ at_newest (newest t a) refl ∙ ap Some (sym view')
+            let view' : view (versioned_map t) p a ≡ committed_value t a = view_is t p a within ∙ latest_none _ _ (suc p) (λ k h. ap (λ o. option_or o (cond (k == 0) (t.spill a) None)) (clean k h) ∙ ap (λ o. option_or None (cond (k == 0) o None)) e ∙ none_both (k == 0)) in
+            ap (λ x. supplied_value t p a (cond (is_some x) Spill (by_committed (newest t a)))) e ∙ at_newest (newest t a) refl ∙ ap Some (sym view')
           where
             none_both : (x : Bool) → cond {A = Option ℕ} x None None ≡ None
             none_both true = refl
             none_both false = refl
 
-            at_newest : (o : Option ℕ) → newest t a ≡ o → supplied t p a (by_committed (newest t a)) ≡ Some (committed_value t a)
+            at_newest : (o : Option ℕ) → newest t a ≡ o → supplied_value t p a (by_committed (newest t a)) ≡ Some (committed_value t a)
             at_newest None e = rw e
             at_newest (Some u) e = rw e
 
-  pub supplier_value : supplied t p a (supplier t p a) ≡ Some (view (versioned t) p a)
+  pub supplier_value : supplied_value t p a (supplier t p a) ≡ Some (view (versioned_map t) p a)
   supplier_value = elim (cases_Bool (is_active (line_at t p a))) [
     | inl hit ↦ rw hit (ap Some (hit_value t p a sound within hit))
     | inr miss ↦ elim (cases_Bool (is_reusable (line_at t p a))) [

@@ -5,8 +5,8 @@ use Rattle.std.specs.Option.{option_or}
 use Rattle.std.proofs.lemmas.Bool.{cases_Bool, cases_eq}
 use Rattle.svc_bus_laws.specs.Search.{least}
 use Rattle.svc_bus_laws.specs.Versioned.{Row, fresh_row, version, is_exposed, latest, view}
-use Rattle.svc_bus_laws.specs.LineTable.{Line, LineTable, is_active, version_in, exposed_in, is_committed_dirty, task_in, value_in, line_at, is_newest, newest, committed_value, own_version, row_of, versioned}
-use Rattle.svc_bus_laws.specs.Steps.{with_at, with_line, purged, marked}
+use Rattle.svc_bus_laws.specs.LineTable.{Line, LineTable, is_active, version_in, exposed_in, is_committed_dirty, task_in, value_in, line_at, is_newest, newest, committed_value, own_version, row_of, versioned_map}
+use Rattle.svc_bus_laws.specs.Steps.{with_at, with_line, line_after_purging, line_after_marking}
 use Rattle.svc_bus_laws.proofs.Searches.{least_same, least_none, least_cases, all_same, get_or-tabulate, length-tabulate}
 use Rattle.svc_bus_laws.specs.Sound.{IsSoundLine}
 use Rattle.svc_bus_laws.proofs.Maps.{latest_same}
@@ -25,17 +25,17 @@ pub dirty_settled : (line : Option Line) → is_committed_dirty line ≡ true �
 dirty_settled None e = refl
 dirty_settled (Some l) e = elim (cases_Bool l.commit) [ inl set ↦ rw set | inr clear ↦ absurd (true≢false (sym e ∙ rw clear)) ]
 
-pub purged_version : (line : Option Line) → version_in (purged line) ≡ version_in line
+pub purged_version : (line : Option Line) → version_in (line_after_purging line) ≡ version_in line
 purged_version line = elim (cases_Bool (is_committed_dirty line)) [ inl dirty ↦ rw dirty (sym (no_version line (dirty_settled line dirty))) | inr clean ↦ rw clean ]
 
-pub purged_exposed : (line : Option Line) → exposed_in (purged line) ≡ exposed_in line
+pub purged_exposed : (line : Option Line) → exposed_in (line_after_purging line) ≡ exposed_in line
 purged_exposed line = elim (cases_Bool (is_committed_dirty line)) [ inl dirty ↦ rw dirty (sym (no_exposure line (dirty_settled line dirty))) | inr clean ↦ rw clean ]
 
-pub purged_clean : (line : Option Line) → is_committed_dirty (purged line) ≡ false
+pub purged_clean : (line : Option Line) → is_committed_dirty (line_after_purging line) ≡ false
 purged_clean line = elim (cases_Bool (is_committed_dirty line)) [ inl dirty ↦ rw dirty | inr clean ↦ rw clean clean ]
 
 -- a line that a purge leaves was there
-pub purged_was : (line : Option Line) (l : Line) → purged line ≡ Some l → line ≡ Some l
+pub purged_was : (line : Option Line) (l : Line) → line_after_purging line ≡ Some l → line ≡ Some l
 purged_was line l e = elim (cases_Bool (is_committed_dirty line)) [ inl dirty ↦ absurd (none_some (rw dirty at e)) | inr clean ↦ rw clean at e ]
   where
     none_some : ◌≡◌ {A = Option Line} None (Some l) → ⊥
@@ -113,17 +113,17 @@ committed_none t a clean =
 -- ---- the map's rows
 
 module _ (t : LineTable) where
-  pub rows_count : length (versioned t).rows ≡ length t.units
+  pub rows_count : length (versioned_map t).rows ≡ length t.units
   rows_count = length-tabulate (length t.units) (row_of t)
 
-  pub version_is : (q a : ℕ) → q < length t.units → version (versioned t) q a ≡ own_version t q a
+  pub version_is : (q a : ℕ) → q < length t.units → version (versioned_map t) q a ≡ own_version t q a
   version_is q a h = ap (λ (r : Row). r.versions a) (get_or-tabulate (length t.units) (row_of t) q fresh_row h)
 
-  pub exposed_is : (q a : ℕ) → q < length t.units → is_exposed (versioned t) q a ≡ (not (q == 0) && exposed_in (line_at t q a))
+  pub exposed_is : (q a : ℕ) → q < length t.units → is_exposed (versioned_map t) q a ≡ (not (q == 0) && exposed_in (line_at t q a))
   exposed_is q a h = ap (λ (r : Row). r.exposed a) (get_or-tabulate (length t.units) (row_of t) q fresh_row h)
 
   -- what a task reads, from the lines
-  pub view_is : (p a : ℕ) → p < length t.units → view (versioned t) p a ≡ latest (λ q. own_version t q a) (committed_value t a) (suc p)
+  pub view_is : (p a : ℕ) → p < length t.units → view (versioned_map t) p a ≡ latest (λ q. own_version t q a) (committed_value t a) (suc p)
   view_is p a h = latest_same _ _ _ _ (suc p) refl (λ q k. version_is q a (omega (arith, h, k)))
 
 -- ---- own versions
@@ -149,7 +149,7 @@ lines_at t u v a b e f = λ i. t.lines (e i) (f i)
 abbrev pub mark : ℕ → Line → Line
 mark n l = record l { stale = l.stale || (l.commit || ltb l.task n) }
 
-pub marked_was : (n : ℕ) (line : Option Line) (l : Line) → marked n line ≡ Some l → (k : Line) × (line ≡ Some k) × (mark n k ≡ l)
+pub marked_was : (n : ℕ) (line : Option Line) (l : Line) → line_after_marking n line ≡ Some l → (k : Line) × (line ≡ Some k) × (mark n k ≡ l)
 marked_was n None l e = none_line l e
 marked_was n (Some k) l e = (k, refl, some_line _ _ e)
 
@@ -179,7 +179,7 @@ module _ (t : LineTable) (lines : ℕ → ℕ → Option Line) (sp : ℕ → Opt
   with_parts = record t { lines = lines; spill = sp; backing = backing }
 
   module _ (versions : (q b : ℕ) → q < length t.units → own_version (with_parts) q b ≡ own_version t q b) (committed : (b : ℕ) → committed_value (with_parts) b ≡ committed_value t b) where
-    pub kept_view : (p b : ℕ) → p < length t.units → view (versioned (with_parts)) p b ≡ view (versioned t) p b
+    pub kept_view : (p b : ℕ) → p < length t.units → view (versioned_map (with_parts)) p b ≡ view (versioned_map t) p b
     kept_view p b h = view_is (with_parts) p b h ∙ latest_same _ _ _ _ (suc p) (committed b) (λ q k. versions q b (omega (arith, h, k))) ∙ sym (view_is t p b h)
 
     pub kept_line : (u b : ℕ) (l : Line) → IsSoundLine t u b l → IsSoundLine (with_parts) u b l

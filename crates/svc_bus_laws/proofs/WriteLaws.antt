@@ -5,8 +5,8 @@ use Rattle.std.specs.Option.{option_or}
 use Rattle.std.proofs.lemmas.Bool.{cases_Bool, cases_eq, leb-true, leb-false, or_parts}
 use Rattle.svc_bus_laws.specs.Versioned.{Row, Versioned, fresh_row, version, is_exposed, latest, view}
 use Rattle.svc_bus_laws.specs.Versioned as map
-use Rattle.svc_bus_laws.specs.LineTable.{Line, LineTable, version_in, exposed_in, is_committed_dirty, unit_at, line_at, committed_value, own_version, versioned}
-use Rattle.svc_bus_laws.specs.Steps.{with_line, purged, squashed, marked, store, survivors, write, written_line}
+use Rattle.svc_bus_laws.specs.LineTable.{Line, LineTable, version_in, exposed_in, is_committed_dirty, unit_at, line_at, committed_value, own_version, versioned_map}
+use Rattle.svc_bus_laws.specs.Steps.{with_line, line_after_purging, line_after_squashing, line_after_marking, store, survivors, write, written_line}
 use Rattle.svc_bus_laws.specs.Sound.{IsSoundLine, IsSpilled, IsSound}
 use Rattle.svc_bus_laws.proofs.Maps.{latest_same, latest_hidden, map_same, Guarded, survivors_are, write_count, write_version_here, write_version_other, write_exposed}
 use Rattle.svc_bus_laws.proofs.Tables.{SameCommitted, same_line, both_clean, committed_same, view_is, purged_version, purged_exposed, purged_clean, purged_was, OtherWord, SameLine, OtherUnit, changed, purge_committed, own_above, mark, marked_was, lines_at, some_line, none_line, rows_count, version_is, exposed_is, at_same, at_other}
@@ -15,7 +15,7 @@ use Rattle.svc_bus_laws.proofs.ReadLaws.{not_overtaken}
 
 -- ---- what a squash and a mark leave
 
-pub squashed_kept : (n : ℕ) (line : Option Line) → ((l : Line) → line ≡ Some l → l.commit ≡ false → l.task < n) → squashed n line ≡ line
+pub squashed_kept : (n : ℕ) (line : Option Line) → ((l : Line) → line ≡ Some l → l.commit ≡ false → l.task < n) → line_after_squashing n line ≡ line
 squashed_kept n None below = refl
 squashed_kept n (Some l) below = elim (cases_Bool l.commit) [
   | inl set ↦ stays (not l.commit && leb n l.task) (rw set)
@@ -31,7 +31,7 @@ squashed_kept n (Some l) below = elim (cases_Bool l.commit) [
     above false e h = e
 
 -- a line that a squash leaves was there, and is not of a squashed task
-pub squashed_was : (n : ℕ) (line : Option Line) (l : Line) → squashed n line ≡ Some l → (line ≡ Some l) × (l.commit ≡ false → l.task < n)
+pub squashed_was : (n : ℕ) (line : Option Line) (l : Line) → line_after_squashing n line ≡ Some l → (line ≡ Some l) × (l.commit ≡ false → l.task < n)
 squashed_was n None l e = none_line l e
 squashed_was n (Some k) l e = go (not k.commit && leb n k.task) refl e
   where
@@ -43,7 +43,7 @@ squashed_was n (Some k) l e = go (not k.commit && leb n k.task) refl e
         low true y e f = e
         low false y e f = absurd (true≢false (sym f))
 
-pub squashed_dirty : (n : ℕ) (line : Option Line) → SameCommitted (squashed n line) line
+pub squashed_dirty : (n : ℕ) (line : Option Line) → SameCommitted (line_after_squashing n line) line
 squashed_dirty n None = same_line _ _ refl
 squashed_dirty n (Some l) = elim (cases_Bool l.commit) [
   | inl set ↦ same_line _ _ (squashed_kept n (Some l) (λ k e c. absurd (true≢false (sym set ∙ ap (λ (j : Line). j.commit) (some_line l k e) ∙ c))))
@@ -54,15 +54,15 @@ squashed_dirty n (Some l) = elim (cases_Bool l.commit) [
     go true e = refl
     go false e = rw e
 
-pub marked_version : (n : ℕ) (line : Option Line) → version_in (marked n line) ≡ version_in line
+pub marked_version : (n : ℕ) (line : Option Line) → version_in (line_after_marking n line) ≡ version_in line
 marked_version n None = refl
 marked_version n (Some l) = refl
 
-pub marked_exposed : (n : ℕ) (line : Option Line) → exposed_in (marked n line) ≡ exposed_in line
+pub marked_exposed : (n : ℕ) (line : Option Line) → exposed_in (line_after_marking n line) ≡ exposed_in line
 marked_exposed n None = refl
 marked_exposed n (Some l) = refl
 
-pub marked_dirty : (n : ℕ) (line : Option Line) → is_committed_dirty (marked n line) ≡ is_committed_dirty line
+pub marked_dirty : (n : ℕ) (line : Option Line) → is_committed_dirty (line_after_marking n line) ≡ is_committed_dirty line
 marked_dirty n None = refl
 marked_dirty n (Some l) = refl
 
@@ -79,13 +79,13 @@ module _ (t : LineTable) (p a w : ℕ) (sound : IsSound t) (within : p < length 
   line = Some (written_line t p a w)
 
   abbrev others : Option Line → Option Line
-  others x = marked (t.commits + p) (purged x)
+  others x = line_after_marking (t.commits + p) (line_after_purging x)
 
   abbrev stored : ℕ → ℕ → Option Line
   stored = with_line t.lines (unit_at t p) a line others
 
-  guard : Guarded (versioned t) p a n
-  guard = survivors_are (versioned t) p a (omega (arith, within, rows_count t))
+  guard : Guarded (versioned_map t) p a n
+  guard = survivors_are (versioned_map t) p a (omega (arith, within, rows_count t))
 
   room : n ≤ length t.units
   room = omega (arith, guard.within, rows_count t)
@@ -100,7 +100,7 @@ module _ (t : LineTable) (p a w : ℕ) (sound : IsSound t) (within : p < length 
   kept_unit q h = get_or-take n t.units q 0 h
 
   -- an active line that is stored in a surviving task's unit is not squashed
-  stays : (q b : ℕ) → q < n → squashed (t.commits + n) (stored (unit_at t q) b) ≡ stored (unit_at t q) b
+  stays : (q b : ℕ) → q < n → line_after_squashing (t.commits + n) (stored (unit_at t q) b) ≡ stored (unit_at t q) b
   stays q b h = squashed_kept (t.commits + n) (stored (unit_at t q) b) (λ l e c. low l e c)
     where
       old : (v : ℕ) (l : Line) → v ≡ unit_at t q → t.lines v b ≡ Some l → l.commit ≡ false → l.task < t.commits + n
@@ -121,14 +121,14 @@ module _ (t : LineTable) (p a w : ℕ) (sound : IsSound t) (within : p < length 
       ]
 
   line_is : (q b : ℕ) → q < n → line_at after q b ≡ stored (unit_at t q) b
-  line_is q b h = ap (λ v. squashed (t.commits + n) (stored v b)) (kept_unit q h) ∙ stays q b h
+  line_is q b h = ap (λ v. line_after_squashing (t.commits + n) (stored v b)) (kept_unit q h) ∙ stays q b h
 
   -- a line of another word, or of another surviving task, keeps its version
   write_version_in : (q b : ℕ) → q < n → (q ≢ p) ⊎ (b ≢ a) → version_in (line_at after q b) ≡ version_in (line_at t q b)
   write_version_in q b h other = ap version_in (line_is q b h) ∙ elim (changed t.lines (unit_at t p) a line others (unit_at t q) b) [
     | OtherWord ne is ↦ ap version_in is
     | SameLine here same is ↦ elim other [ inl ne ↦ absurd (ne (same_place q (omega (arith, h, room)) same)) | inr ne ↦ absurd (ne here) ]
-    | OtherUnit here ne is ↦ ap version_in is ∙ marked_version _ (purged (line_at t q b)) ∙ purged_version (line_at t q b)
+    | OtherUnit here ne is ↦ ap version_in is ∙ marked_version _ (line_after_purging (line_at t q b)) ∙ purged_version (line_at t q b)
   ]
 
   here_line : line_at after p a ≡ line
@@ -154,20 +154,20 @@ module _ (t : LineTable) (p a w : ℕ) (sound : IsSound t) (within : p < length 
   pub write_committed : (b : ℕ) → committed_value after b ≡ committed_value t b
   write_committed b =
       committed_same after (store t p a w) b refl (λ v. squashed_dirty (t.commits + n) (stored v b)) refl
-      ∙ purge_committed t (unit_at t p) a line others (store t p a w).spill refl (λ x. marked_dirty (t.commits + p) (purged x) ∙ purged_clean x) b
+      ∙ purge_committed t (unit_at t p) a line others (store t p a w).spill refl (λ x. marked_dirty (t.commits + p) (line_after_purging x) ∙ purged_clean x) b
 
   -- ---- views
 
-  view_other : (q b : ℕ) → q < n → (q < p) ⊎ (b ≢ a) → view (versioned after) q b ≡ view (versioned t) q b
+  view_other : (q b : ℕ) → q < n → (q < p) ⊎ (b ≢ a) → view (versioned_map after) q b ≡ view (versioned_map t) q b
   view_other q b h other =
       view_is after q b (omega (arith, h, write_units))
       ∙ latest_same _ _ _ _ (suc q) (write_committed b) (λ r k. other_version r b (omega (arith, h, k)) (elim other [ inl lt ↦ inl (λ e. omega (arith, lt, e, k)) | inr ne ↦ inr ne ]))
       ∙ sym (view_is t q b (omega (arith, h, room)))
 
-  view_here : view (versioned after) p a ≡ w
+  view_here : view (versioned_map after) p a ≡ w
   view_here = view_is after p a (omega (arith, guard.reaches, write_units)) ∙ ap (λ o. unwrap_or o (latest (λ q. own_version after q a) (committed_value after a) p)) write_version
 
-  view_above : (q r : ℕ) → q < n → p < r → r ≤ q → is_some (own_version t r a) ≡ true → view (versioned after) q a ≡ view (versioned t) q a
+  view_above : (q r : ℕ) → q < n → p < r → r ≤ q → is_some (own_version t r a) ≡ true → view (versioned_map after) q a ≡ view (versioned_map t) q a
   view_above q r h k l some =
       view_is after q a (omega (arith, h, write_units))
       ∙ latest_hidden _ _ _ _ (suc q) r (omega (arith, l)) some (λ s i j. other_version s a (omega (arith, h, i)) (inl (λ e. omega (arith, e, k, j))))
@@ -294,7 +294,7 @@ module _ (t : LineTable) (p a w : ℕ) (sound : IsSound t) (within : p < length 
     purged = λ v. (squashed_dirty (t.commits + n) (stored v b)).dirty ∙ elim (changed t.lines (unit_at t p) a line others v b) [
       | OtherWord ne is ↦ ap is_committed_dirty is ∙ old.purged v
       | SameLine here same is ↦ ap is_committed_dirty is
-      | OtherUnit here ne is ↦ ap is_committed_dirty is ∙ marked_dirty _ (purged (t.lines v b)) ∙ purged_clean (t.lines v b)
+      | OtherUnit here ne is ↦ ap is_committed_dirty is ∙ marked_dirty _ (line_after_purging (t.lines v b)) ∙ purged_clean (t.lines v b)
     ];
   }
     where
@@ -331,34 +331,34 @@ module _ (t : LineTable) (p a w : ℕ) (sound : IsSound t) (within : p < length 
   write_exposed_in q b h = ap exposed_in (line_is q b h) ∙ elim (changed t.lines (unit_at t p) a line others (unit_at t q) b) [
     | OtherWord ne is ↦ ap exposed_in is
     | SameLine here same is ↦ ap exposed_in is ∙ sym (ap exposed_in (lines_at t _ _ _ _ same here))
-    | OtherUnit here ne is ↦ ap exposed_in is ∙ marked_exposed _ (purged (line_at t q b)) ∙ purged_exposed (line_at t q b)
+    | OtherUnit here ne is ↦ ap exposed_in is ∙ marked_exposed _ (line_after_purging (line_at t q b)) ∙ purged_exposed (line_at t q b)
   ]
 
-  pub write_map : versioned after ≡ map.write (versioned t) p a w
+  pub write_map : versioned_map after ≡ map.write (versioned_map t) p a w
   write_map =
-      let rows : p < length (versioned t).rows = omega (arith, within, rows_count t) in
-      map_same (versioned after) (map.write (versioned t) p a w) (record {
+      let rows : p < length (versioned_map t).rows = omega (arith, within, rows_count t) in
+      map_same (versioned_map after) (map.write (versioned_map t) p a w) (record {
         commits = refl;
         committed = write_committed;
-        count = rows_count after ∙ write_units ∙ sym (write_count (versioned t) p a w rows ∙ omega (arith, guard.within));
+        count = rows_count after ∙ write_units ∙ sym (write_count (versioned_map t) p a w rows ∙ omega (arith, guard.within));
         versions = λ q h b.
             let k : q < length after.units = omega (arith, h, rows_count after) in
             let i : q < n = omega (arith, k, write_units) in
             let j : q < length t.units = omega (arith, i, room) in
             version_is after q b k ∙ elim (cases_eq q p) [
-              | inr ne ↦ other_version q b i (inl ne) ∙ sym (version_is t q b j) ∙ sym (write_version_other (versioned t) p a w rows q b i ne)
+              | inr ne ↦ other_version q b i (inl ne) ∙ sym (version_is t q b j) ∙ sym (write_version_other (versioned_map t) p a w rows q b i ne)
               | inl e ↦ rw e (elim (cases_eq b a) [
-                | inl word ↦ rw word (write_version ∙ sym (write_version_here (versioned t) p a w rows guard.reaches a ∙ rw (eq-eqb a a refl)))
-                | inr ne ↦ other_version p b guard.reaches (inr ne) ∙ sym (version_is t p b within) ∙ sym (write_version_here (versioned t) p a w rows guard.reaches b ∙ rw (ne_eqb a b (λ z. ne (sym z))))
+                | inl word ↦ rw word (write_version ∙ sym (write_version_here (versioned_map t) p a w rows guard.reaches a ∙ rw (eq-eqb a a refl)))
+                | inr ne ↦ other_version p b guard.reaches (inr ne) ∙ sym (version_is t p b within) ∙ sym (write_version_here (versioned_map t) p a w rows guard.reaches b ∙ rw (ne_eqb a b (λ z. ne (sym z))))
               ])
             ];
         exposed = λ q h b.
             let k : q < length after.units = omega (arith, h, rows_count after) in
             let i : q < n = omega (arith, k, write_units) in
             let j : q < length t.units = omega (arith, i, room) in
-            exposed_is after q b k ∙ ap (λ x. not (q == 0) && x) (write_exposed_in q b i) ∙ sym (exposed_is t q b j) ∙ sym (write_exposed (versioned t) p a w rows q b i);
+            exposed_is after q b k ∙ ap (λ x. not (q == 0) && x) (write_exposed_in q b i) ∙ sym (exposed_is t q b j) ∙ sym (write_exposed (versioned_map t) p a w rows q b i);
       })
 
 -- the write of the rules is the write by numbers
-pub write_law : (t : LineTable) (p a w : ℕ) → IsSound t → p < length t.units → a < t.words → IsSound (write t p a w) × (versioned (write t p a w) ≡ map.write (versioned t) p a w)
-write_law t p a w sound within known = subst (λ s. IsSound s × (versioned s ≡ map.write (versioned t) p a w)) (sym (write_is t p a w sound within)) (write_sound t p a w sound within known, write_map t p a w sound within known)
+pub write_law : (t : LineTable) (p a w : ℕ) → IsSound t → p < length t.units → a < t.words → IsSound (write t p a w) × (versioned_map (write t p a w) ≡ map.write (versioned_map t) p a w)
+write_law t p a w sound within known = subst (λ s. IsSound s × (versioned_map s ≡ map.write (versioned_map t) p a w)) (sym (write_is t p a w sound within)) (write_sound t p a w sound within known, write_map t p a w sound within known)

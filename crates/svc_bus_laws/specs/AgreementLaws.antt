@@ -1,7 +1,7 @@
 -- The steps of a bus without numbers keep it in agreement with each line table that it agrees with.
 use Rattle.std.specs.Prelude.{Some, List, ◌≡◌, ◌≢◌, ℕ, ◌<◌, ◌≤◌, false, length}
 use Rattle.svc_bus_laws.specs.Versioned.{view, victim, victim_answer}
-use Rattle.svc_bus_laws.specs.LineTable.{LineTable, committed_value, opened, unit_at, versioned}
+use Rattle.svc_bus_laws.specs.LineTable.{LineTable, committed_value, opening_table, unit_at, versioned_map}
 use Rattle.svc_bus_laws.specs.Supplier.{supplier}
 use Rattle.svc_bus_laws.specs.Steps.{read, write, replace, squash, commit, begin}
 use Rattle.svc_bus_laws.specs.Sound.{IsSound}
@@ -19,7 +19,7 @@ OwnState = (probes : ℕ) (t : LineTable) → IsSound t → Agrees (state_of pro
 -- the opened bus agrees with the opened table
 abbrev pub OpenedAgrees : Type 0
 OpenedAgrees = (caches sets ways : ℕ) (memory : List ℕ)
-    → Agrees (bus_opened caches sets ways memory) (opened caches sets ways memory)
+    → Agrees (bus_opened caches sets ways memory) (opening_table caches sets ways memory)
 
 -- apart from the look-ups, what a state holds decides which tables it agrees with
 abbrev pub SameAgrees : Type 0
@@ -34,14 +34,15 @@ abbrev pub CommittedSeen : Type 0
 CommittedSeen = (b : BusState) (t : LineTable) (a : ℕ) → Agrees b t → bus_committed b a ≡ committed_value t a
 
 abbrev pub MapSeen : Type 0
-MapSeen = (b : BusState) (t : LineTable) → Agrees b t → bus_map b ≡ versioned t
+MapSeen = (b : BusState) (t : LineTable) → Agrees b t → bus_map b ≡ versioned_map t
 
 -- so also each task's view, and the victim of each write
 abbrev pub ViewSeen : Type 0
-ViewSeen = (b : BusState) (t : LineTable) (p a : ℕ) → Agrees b t → bus_view b p a ≡ view (versioned t) p a
+ViewSeen = (b : BusState) (t : LineTable) (p a : ℕ) → Agrees b t → bus_view b p a ≡ view (versioned_map t) p a
 
 abbrev pub VictimSeen : Type 0
-VictimSeen = (b : BusState) (t : LineTable) (p a : ℕ) → Agrees b t → bus_victim b p a ≡ victim_answer (versioned t) p a
+VictimSeen = (b : BusState) (t : LineTable) (p a : ℕ) → Agrees b t
+    → bus_victim b p a ≡ victim_answer (versioned_map t) p a
 
 abbrev pub SupplierSeen : Type 0
 SupplierSeen = (b : BusState) (t : LineTable) (p a : ℕ) → Agrees b t → bus_supplier b p a ≡ supplier t p a
@@ -105,4 +106,4 @@ AlikeBeginnings = (s t : LineTable) (u : ℕ) → AreAlike s t → u < t.caches
 
 -- and they stand for one map
 abbrev pub AlikeMaps : Type 0
-AlikeMaps = (s t : LineTable) → AreAlike s t → versioned s ≡ versioned t
+AlikeMaps = (s t : LineTable) → AreAlike s t → versioned_map s ≡ versioned_map t

@@ -117,16 +117,16 @@ row_of t p = record {
 }
 
 -- the versioned map that the lines stand for
-abbrev pub versioned : LineTable → Versioned
-versioned t = record {
+abbrev pub versioned_map : LineTable → Versioned
+versioned_map t = record {
   commits = t.commits;
   committed = committed_value t;
   rows = tabulate (length t.units) (row_of t);
 }
 
 -- the opened bus: no lines, no tasks
-abbrev pub opened : ℕ → ℕ → ℕ → List ℕ → LineTable
-opened caches sets ways memory = record {
+abbrev pub opening_table : ℕ → ℕ → ℕ → List ℕ → LineTable
+opening_table caches sets ways memory = record {
   caches = caches;
   sets = sets;
   ways = ways;

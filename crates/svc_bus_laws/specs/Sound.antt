@@ -2,14 +2,14 @@
 use Rattle.std.specs.Prelude.{◌≡◌, ◌⊎◌, ℕ, ◌+◌, ◌<◌, true, false, Some, None, is_some, length}
 use Rattle.svc_bus_laws.specs.Versioned.{view}
 use Rattle.svc_bus_laws.specs.LineTable.{Line, LineTable, is_committed_dirty, version_in, unit_at, line_at, own_version}
-use Rattle.svc_bus_laws.specs.LineTable.{committed_value, versioned}
+use Rattle.svc_bus_laws.specs.LineTable.{committed_value, versioned_map}
 
 -- what holds of an active line of the word, in the unit of the task at a place
 pub record IsActiveLine (t : LineTable) (a : ℕ) (l : Line) (p : ℕ) : Type 0 where
   pub within : p < length t.units
   pub task_is : l.task ≡ t.commits + p
   -- it holds what its task reads
-  pub current : l.value ≡ view (versioned t) p a
+  pub current : l.value ≡ view (versioned_map t) p a
   -- if it is clean it has L, unless its task is the head
   pub loaded : l.store ≡ false → (p ≡ 0) ⊎ (l.load ≡ true)
 

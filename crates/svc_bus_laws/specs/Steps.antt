@@ -7,7 +7,8 @@ use Rattle.svc_bus_laws.specs.Search.{any_below}
 use Rattle.svc_bus_laws.specs.Versioned.{Versioned, view}
 use Rattle.svc_bus_laws.specs.Versioned as map
 use Rattle.svc_bus_laws.specs.LineTable.{Line, LineTable, is_active, version_in, exposed_in, is_committed_dirty}
-use Rattle.svc_bus_laws.specs.LineTable.{is_reusable, is_cut, place_of, unit_at, line_at, committed_value, versioned}
+use Rattle.svc_bus_laws.specs.LineTable.{is_reusable, is_cut, place_of, unit_at, line_at, committed_value}
+use Rattle.svc_bus_laws.specs.LineTable.{versioned_map}
 
 -- a function changed at one argument
 abbrev pub with_at : {A : Type 0} → (ℕ → A) → ℕ → A → ℕ → A
@@ -18,28 +19,28 @@ abbrev pub with_line : (ℕ → ℕ → Option Line) → ℕ → ℕ → Option 
 with_line lines u a line others v b = cond (b == a) (cond (v == u) line (others (lines v b))) (lines v b)
 
 -- a committed dirty line becomes invalid
-abbrev pub purged : Option Line → Option Line
-purged line = cond (is_committed_dirty line) None line
+abbrev pub line_after_purging : Option Line → Option Line
+line_after_purging line = cond (is_committed_dirty line) None line
 
 -- an active line of a task numbered n or above becomes invalid
-abbrev pub squashed : ℕ → Option Line → Option Line
-squashed n None = None
-squashed n (Some l) = cond (not l.commit && leb n l.task) None (Some l)
+abbrev pub line_after_squashing : ℕ → Option Line → Option Line
+line_after_squashing n None = None
+line_after_squashing n (Some l) = cond (not l.commit && leb n l.task) None (Some l)
 
 -- T is set on a line that is committed or of a task below n
-abbrev pub marked : ℕ → Option Line → Option Line
-marked n None = None
-marked n (Some l) = Some (record l { stale = l.stale || (l.commit || ltb l.task n) })
+abbrev pub line_after_marking : ℕ → Option Line → Option Line
+line_after_marking n None = None
+line_after_marking n (Some l) = Some (record l { stale = l.stale || (l.commit || ltb l.task n) })
 
 -- C is set
-abbrev pub settled : Option Line → Option Line
-settled None = None
-settled (Some l) = Some (record l { commit = true })
+abbrev pub line_after_commit : Option Line → Option Line
+line_after_commit None = None
+line_after_commit (Some l) = Some (record l { commit = true })
 
 -- C is cleared, L is set, and the line is the task's
-abbrev pub reused : ℕ → Option Line → Option Line
-reused n None = None
-reused n (Some l) = Some (record l { commit = false; load = true; task = n })
+abbrev pub line_after_reuse : ℕ → Option Line → Option Line
+line_after_reuse n None = None
+line_after_reuse n (Some l) = Some (record l { commit = false; load = true; task = n })
 
 -- among the first n active tasks, one above the place has an active dirty line of the word
 abbrev pub is_overtaken : LineTable → ℕ → ℕ → ℕ → Bool
@@ -48,7 +49,7 @@ is_overtaken t n p a = any_below n (λ q. ltb p q && is_some (version_in (line_a
 -- the line that a read fills
 abbrev pub filled_line : LineTable → ℕ → ℕ → Line
 filled_line t p a = record {
-  value = view (versioned t) p a;
+  value = view (versioned_map t) p a;
   store = false;
   load = not ((p == 0) && is_some (t.spill a));
   commit = false;
@@ -59,14 +60,14 @@ filled_line t p a = record {
 -- a read that is a bus request
 abbrev pub fill : LineTable → ℕ → ℕ → LineTable
 fill t p a = record t {
-  lines = with_line t.lines (unit_at t p) a (Some (filled_line t p a)) purged;
+  lines = with_line t.lines (unit_at t p) a (Some (filled_line t p a)) line_after_purging;
   backing = with_at t.backing a (committed_value t a);
 }
 
 -- a read that clears C of the unit's own line
 abbrev pub reuse : LineTable → ℕ → ℕ → LineTable
 reuse t p a = record t {
-  lines = with_line t.lines (unit_at t p) a (reused (t.commits + p) (line_at t p a)) (λ line. line);
+  lines = with_line t.lines (unit_at t p) a (line_after_reuse (t.commits + p) (line_at t p a)) (λ line. line);
 }
 
 -- a read of the word by the task at a place
@@ -77,7 +78,7 @@ read t p a =
 
 -- how many active tasks a write leaves
 abbrev pub survivors : LineTable → ℕ → ℕ → ℕ
-survivors t p a = map.survivors (versioned t) p a
+survivors t p a = map.survivors (versioned_map t) p a
 
 -- the line that a write leaves
 abbrev pub written_line : LineTable → ℕ → ℕ → ℕ → Line
@@ -105,7 +106,8 @@ squash_from t u = squash t (unwrap_or (place_of t.units u) (length t.units))
 abbrev pub store : LineTable → ℕ → ℕ → ℕ → LineTable
 store t p a w = record t {
   lines =
-      with_line t.lines (unit_at t p) a (Some (written_line t p a w)) (λ line. marked (t.commits + p) (purged line));
+      with_line t.lines (unit_at t p) a (Some (written_line t p a w))
+      (λ line. line_after_marking (t.commits + p) (line_after_purging line));
   backing = with_at t.backing a (committed_value t a);
   spill = with_at t.spill a (cond (p == 0) None (t.spill a));
 }
@@ -117,7 +119,7 @@ write t p a w = squash (store t p a w) (survivors t p a)
 -- the unit's line of the word becomes invalid, and the head's version goes to the spill table
 abbrev pub replace : LineTable → ℕ → ℕ → LineTable
 replace t u a = record t {
-  lines = with_line t.lines u a None purged;
+  lines = with_line t.lines u a None line_after_purging;
   backing = with_at t.backing a (committed_value t a);
   spill = with_at t.spill a (option_or (version_in (t.lines u a)) (t.spill a));
 }
@@ -125,7 +127,7 @@ replace t u a = record t {
 -- the head's lines are committed, and its spilled values go to the backing memory
 abbrev pub commit : LineTable → LineTable
 commit t = record t {
-  lines = λ v b. cond (v == unit_at t 0) (settled (t.lines v b)) (t.lines v b);
+  lines = λ v b. cond (v == unit_at t 0) (line_after_commit (t.lines v b)) (t.lines v b);
   spill = λ b. None;
   backing = λ b. unwrap_or (t.spill b) (t.backing b);
   commits = suc t.commits;
@@ -139,6 +141,6 @@ begin t u = record t { units = t.units ++ u ∷ [] }
 -- the word's newest committed dirty line goes to the backing memory, and all its committed dirty lines become invalid
 abbrev pub purge : LineTable → ℕ → LineTable
 purge t a = record t {
-  lines = λ v b. cond (b == a) (purged (t.lines v b)) (t.lines v b);
+  lines = λ v b. cond (b == a) (line_after_purging (t.lines v b)) (t.lines v b);
   backing = with_at t.backing a (committed_value t a);
 }

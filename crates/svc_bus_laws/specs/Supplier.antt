@@ -33,13 +33,13 @@ supplier t p a =
     (by_version t a (greatest p (λ q. is_some (version_in (line_at t q a))))))
 
 -- the value that the supplier of a read holds
-abbrev pub supplied : LineTable → ℕ → ℕ → Supplier → Option ℕ
-supplied t p a Hit = Some (value_in (line_at t p a))
-supplied t p a Reuse = Some (value_in (line_at t p a))
-supplied t p a (Version u) = Some (value_in (t.lines u a))
-supplied t p a Spill = t.spill a
-supplied t p a (Committed u) = Some (value_in (t.lines u a))
-supplied t p a Memory = Some (t.backing a)
+abbrev pub supplied_value : LineTable → ℕ → ℕ → Supplier → Option ℕ
+supplied_value t p a Hit = Some (value_in (line_at t p a))
+supplied_value t p a Reuse = Some (value_in (line_at t p a))
+supplied_value t p a (Version u) = Some (value_in (t.lines u a))
+supplied_value t p a Spill = t.spill a
+supplied_value t p a (Committed u) = Some (value_in (t.lines u a))
+supplied_value t p a Memory = Some (t.backing a)
 
 -- the supplier is the spilled value
 abbrev pub is_spill : Supplier → Bool

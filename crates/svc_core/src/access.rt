@@ -1,6 +1,7 @@
 // Loads and stores on a memory of words.
 
 ghost use Rattle.std.specs.Prelude.{◌≡◌, ◌==◌, ◌+◌, ◌*◌, ◌/◌, ◌^◌, ◌<◌, ◌≤◌, ◌%◌, IfOk};
+ghost use Rattle.svc_image.specs.declared.layout.TheConstants.{MOST_WORDS};
 ghost use Rattle.svc_core_laws.specs.Numbers.{extended, load_bytes, store_bytes};
 ghost use Rattle.svc_core_laws.specs.Turns.{access_trap, store_trap, word_address, lane_of};
 ghost use Rattle.svc_core.specs.Places.{trap_of};
@@ -24,7 +25,7 @@ pub struct Access {
 /// otherwise 10 if its word is read-only.
 #[inline(always)]
 pub fn store_place(kind: StoreKind, addr: u32, words: u32, read_only: u32) -> Result<Access, u8>
-    requires { words ≤ 65536 }
+    requires { words ≤ MOST_WORDS }
     ensures trap { trap_of result ≡ store_trap words read_only (store_bytes kind) addr }
     ensures place { IfOk result (λ p. (p.word ≡ word_address addr) × (p.lane ≡ lane_of addr)) }
     ensures inside { IfOk result (λ p. p.word < words) }
@@ -43,7 +44,7 @@ pub fn store_place(kind: StoreKind, addr: u32, words: u32, read_only: u32) -> Re
 /// Errors: the number of its trap: 5 if it isn't aligned to its width, otherwise 6 if it lies outside the data.
 #[inline(always)]
 pub fn load_place(kind: LoadKind, addr: u32, words: u32) -> Result<Access, u8>
-    requires { words ≤ 65536 }
+    requires { words ≤ MOST_WORDS }
     ensures trap { trap_of result ≡ access_trap words (load_bytes kind) addr }
     ensures place { IfOk result (λ p. (p.word ≡ word_address addr) × (p.lane ≡ lane_of addr)) }
     ensures inside { IfOk result (λ p. p.word < words) }
@@ -55,7 +56,7 @@ pub fn load_place(kind: LoadKind, addr: u32, words: u32) -> Result<Access, u8>
 // Where an access of a store's width lies in data of this many words, or the number of its trap.
 #[inline(always)]
 fn data_place(kind: StoreKind, addr: u32, words: u32) -> Result<Access, u8>
-    requires { words ≤ 65536 }
+    requires { words ≤ MOST_WORDS }
     ensures trap { trap_of result ≡ access_trap words (store_bytes kind) addr }
     ensures place { IfOk result (λ p. (p.word ≡ word_address addr) × (p.lane ≡ lane_of addr)) }
     ensures inside { IfOk result (λ p. p.word < words) }

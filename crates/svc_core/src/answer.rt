@@ -1,6 +1,7 @@
 // Asked turns, done on a memory of words in place.
 
 ghost use Rattle.std.specs.Prelude.{◌≡◌, ◌<◌, ◌≤◌, ℕ, None, length, slice_index, option_to_list};
+ghost use Rattle.svc_image.specs.declared.layout.TheConstants.{MOST_WORDS};
 ghost use Rattle.svc_core_laws.specs.Numbers.{load_bytes, store_bytes};
 ghost use Rattle.svc_core_laws.specs.Turns.{access_trap, store_trap};
 ghost use Rattle.svc_core_laws.specs.Program.{over, wrote, output};
@@ -18,7 +19,7 @@ impl Core {
     #[inline(always)]
     pub fn answer(&mut self, ask: Ask, memory: &mut [u32], read_only: u32) -> Option<u32>
         requires ready { IsReady self.old ask }
-        requires few { length memory.old ≤ 65536 }
+        requires few { length memory.old ≤ MOST_WORDS }
         ensures core { self.new ≡ (answered (length memory.old) read_only ask self.old (slice_index memory.old)).core }
         ensures memory { (a : ℕ) → slice_index memory.new a
             ≡ over (wrote (answered (length memory.old) read_only ask self.old (slice_index memory.old)).log)
@@ -47,7 +48,7 @@ impl Core {
     fn load(&mut self, memory: &[u32], kind: LoadKind, rd: Register, addr: u32)
         requires running { self.old.done ≡ None }
         requires in_time { self.old.count < self.old.limit }
-        requires few { length memory.now ≤ 65536 }
+        requires few { length memory.now ≤ MOST_WORDS }
         ensures { self.new
             ≡ (load_answer self.old kind rd addr (slice_index memory.now)
             (access_trap (length memory.now) (load_bytes kind) addr)).core }
@@ -65,7 +66,7 @@ impl Core {
     fn store(&mut self, memory: &mut [u32], read_only: u32, kind: StoreKind, addr: u32, value: u32)
         requires running { self.old.done ≡ None }
         requires in_time { self.old.count < self.old.limit }
-        requires few { length memory.old ≤ 65536 }
+        requires few { length memory.old ≤ MOST_WORDS }
         ensures core { self.new
             ≡ (store_answer self.old kind addr value (slice_index memory.old)
             (store_trap (length memory.old) read_only (store_bytes kind) addr)).core }

@@ -1,6 +1,7 @@
 // What a burst says of its turns.
 
 ghost use Rattle.std.specs.Prelude.{◌≡◌, ◌≤◌, ◌+◌};
+ghost use Rattle.svc_base.specs.declared.limits.TheConstants.{MAX_BURST_TURNS};
 ghost use Rattle.svc_core_laws.specs.Bursts.{Follows, ask_turns, IsReady};
 
 use crate::burst::Burst;
@@ -60,7 +61,7 @@ impl Burst {
         ensures follows { Follows self.now }
         ensures counts { (self.now.end.count ≡ self.now.start.count + self.now.local)
             × (self.now.end.limit ≡ self.now.start.limit) }
-        ensures few { self.now.local + ask_turns self.now.ask ≤ 63 }
+        ensures few { self.now.local + ask_turns self.now.ask ≤ MAX_BURST_TURNS }
     {
         &self.end
     }

@@ -1,6 +1,8 @@
 // What a core says of its task.
 
 ghost use Rattle.std.specs.Prelude.{◌≡◌, ◌≤◌, ◌+◌};
+ghost use Rattle.svc_base.specs.declared.limits.TheConstants.{MAX_TASK_OUTPUT};
+ghost use Rattle.svc_image.specs.declared.layout.TheConstants.{MOST_WORDS};
 ghost use Rattle.svc_core_laws.specs.State.{ended};
 
 use crate::core_state::Core;
@@ -28,7 +30,7 @@ impl Core {
     #[inline]
     pub fn emitted(&self) -> u8
         ensures value { result ≡ self.now.emitted }
-        ensures few { self.now.emitted ≤ 64 }
+        ensures few { self.now.emitted ≤ MAX_TASK_OUTPUT }
     {
         self.emitted
     }
@@ -38,7 +40,7 @@ impl Core {
     pub fn limit(&self) -> u32
         ensures value { result ≡ self.now.limit }
         ensures some { 1 ≤ self.now.limit }
-        ensures few { self.now.limit ≤ 65536 }
+        ensures few { self.now.limit ≤ MOST_WORDS }
     {
         self.limit
     }

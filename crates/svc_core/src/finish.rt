@@ -1,6 +1,7 @@
 // How a turn that asked ends, once it has its answer.
 
 ghost use Rattle.std.specs.Prelude.{◌≡◌, ◌<◌, None};
+ghost use Rattle.svc_base.specs.declared.limits.TheConstants.{MAX_TASK_OUTPUT};
 ghost use Rattle.svc_core_laws.specs.Local.{goes_on, sets};
 ghost use Rattle.svc_core_laws.specs.Turns.{arrives, outputs};
 
@@ -33,7 +34,7 @@ impl Core {
     pub fn finish_emit(&mut self, image: &Image)
         requires running { self.old.done ≡ None }
         requires in_time { self.old.count < self.old.limit }
-        requires room { self.old.emitted < 64 }
+        requires room { self.old.emitted < MAX_TASK_OUTPUT }
         ensures { self.new ≡ arrives image.now (outputs self.old) }
     {
         self.output_word();

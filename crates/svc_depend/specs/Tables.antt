@@ -1,6 +1,7 @@
 -- The texts of what tasks need: together, task by task, and word by word.
 use Rattle.std.specs.Prelude.{ℕ, zero, suc, ◌||◌, nat_lt, cond, List, [], ◌∷◌, ◌++◌, None, codes, decimal, flat_map}
 use Rattle.std.specs.Prelude.{unwrap_or}
+use Rattle.svc_base.specs.declared.config.TheConstants.{MAX_UNITS}
 use Rattle.svc_image.specs.Image.{Image}
 use Rattle.svc_core_laws.specs.declared.end.Ending.{Ending}
 use Rattle.svc_core_laws.specs.Turns.{data_words}
@@ -21,7 +22,7 @@ named_row name number = row name (number ∷ [])
 abbrev pub totals_rows : Totals → List ℕ
 totals_rows t =
     named_row (codes "turns") t.turns ++ named_row (codes "needs") t.needs ++ named_row (codes "memory") t.memory
-    ++ named_row (codes "nearest") (unwrap_or t.nearest 0) ++ named_row (codes "units") (units_of 16 t.nearest)
+    ++ named_row (codes "nearest") (unwrap_or t.nearest 0) ++ named_row (codes "units") (units_of MAX_UNITS t.nearest)
     ++ named_row (codes "chain") t.chain
 
 -- so many tasks and their ending, as a summary tells them, and what they need together

@@ -2,6 +2,7 @@
 
 ghost use Rattle.std.specs.Prelude.{◌≡◌, ◌≤◌, ◌<◌, ◌^◌, ◌+◌, ◌*◌, ◌++◌, [], ℕ, suc, true, Some, IfOk, IfSome, OnOk};
 ghost use Rattle.std.specs.Prelude.{length, slice_index};
+ghost use Rattle.svc_image.specs.declared.layout.TheConstants.{MOST_WORDS};
 ghost use Rattle.svc_image.specs.Image.{is_entry};
 ghost use Rattle.svc_core_laws.specs.Program.{exposed, no_reads, no_words, task};
 ghost use Rattle.svc_core_laws.specs.State.{State, limit_of};
@@ -54,7 +55,7 @@ pub(crate) fn link_task(
 ) -> Result<End, AllocError>
     requires entry { is_entry image.now entry ≡ true }
     requires words { length memory.old ≡ length image.now.words }
-    requires few { length memory.old ≤ 65536 }
+    requires few { length memory.old ≤ MOST_WORDS }
     requires size { length tracker.old.words.items ≡ length memory.old }
     requires early { tracker.old.task < 2 ^ 31 }
     requires room { tracker.old.turns < 2 ^ 58 }

@@ -1,6 +1,7 @@
 // One task, from its entry to its end, followed turn by turn.
 
 ghost use Rattle.std.specs.Prelude.{◌≡◌, ◌≤◌, ◌<◌, ◌^◌, ◌+◌, ◌*◌, suc, true, Some, length};
+ghost use Rattle.svc_image.specs.declared.layout.TheConstants.{MOST_WORDS};
 ghost use Rattle.svc_image.specs.Image.{is_entry};
 ghost use Rattle.svc_core_laws.specs.State.{State, limit_of};
 ghost use Rattle.svc_depend.specs.Tracking.{IsBelow};
@@ -15,7 +16,7 @@ use svc_image::Image;
 pub(crate) fn run_task(image: &Image, entry: u32, memory: &mut [u32], tracker: &mut Tracker) -> End
     requires entry { is_entry image.now entry ≡ true }
     requires words { length memory.old ≡ length image.now.words }
-    requires few { length memory.old ≤ 65536 }
+    requires few { length memory.old ≤ MOST_WORDS }
     requires size { length tracker.old.words.items ≡ length memory.old }
     requires early { tracker.old.task < 2 ^ 31 }
     requires room { tracker.old.turns < 2 ^ 58 }

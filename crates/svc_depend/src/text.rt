@@ -2,6 +2,7 @@
 
 ghost use Rattle.std.specs.Prelude.{◌≡◌, ◌++◌, ◌<◌, ℕ, OnOk, IfErr, IfOk, length, unwrap_or};
 ghost use Rattle.std.specs.Io.KnownBytes.{Appends};
+ghost use Rattle.svc_base.specs.declared.config.TheConstants.{MAX_UNITS};
 ghost use Rattle.svc_image.specs.Image.{Image};
 ghost use Rattle.svc_report.specs.Faults.{IsWriteFault};
 ghost use Rattle.svc_depend_laws.specs.Needs.{units_of};
@@ -14,12 +15,10 @@ use crate::needs::{TaskNeeds, Totals};
 use crate::word::Word;
 use std::alloc::{AllocError, Global};
 use std::io::Write;
+use svc_base::config::MAX_UNITS;
 use svc_core::Ending;
 use svc_report::{ReportError, write_summary};
 use svc_text::{put_row, write_text};
-
-// The most units that a machine has.
-const MAX_UNITS: u32 = 16;
 
 // Adds a row of a name and a number.
 fn put_named(text: &mut Vec<u8>, name: &str, number: u64) -> Result<(), AllocError>
@@ -40,7 +39,7 @@ fn distance_told(nearest: Option<u32>) -> u64
 
 // As many units as the nearest distance, and at most as many as there may be.
 fn units_of(nearest: Option<u32>) -> u64
-    ensures { result ≡ units_of 16 nearest }
+    ensures { result ≡ units_of MAX_UNITS nearest }
 {
     match nearest {
         Some(distance) => u64::from(distance.min(MAX_UNITS)),

@@ -1,6 +1,7 @@
 // One turn of a task, and the words that it touches.
 
 ghost use Rattle.std.specs.Prelude.{◌≡◌, ◌≤◌, ◌<◌, ℕ, None, IfSome, length, slice_index};
+ghost use Rattle.svc_image.specs.declared.layout.TheConstants.{MOST_WORDS};
 ghost use Rattle.svc_core_laws.specs.Program.{over, wrote};
 ghost use Rattle.svc_core_laws.specs.Numbers.{load_bytes, store_bytes};
 ghost use Rattle.svc_core_laws.specs.Steps.{step_of};
@@ -26,7 +27,7 @@ pub(crate) struct Touch {
 pub(crate) fn take_turn(image: &Image, core: &mut Core, memory: &mut [u32]) -> Touch
     requires running { core.old.done ≡ None }
     requires words { length memory.old ≡ length image.now.words }
-    requires few { length memory.old ≤ 65536 }
+    requires few { length memory.old ≤ MOST_WORDS }
     ensures core { core.new ≡ (step_of image.now core.old memory.old).core }
     ensures memory { (a : ℕ) → slice_index memory.new a
         ≡ over (wrote (step_of image.now core.old memory.old).log) (slice_index memory.old) a }
@@ -46,7 +47,7 @@ pub(crate) fn take_turn(image: &Image, core: &mut Core, memory: &mut [u32]) -> T
 
 // The words that a turn touches which asks this of data of so many words, of which the first ones are read-only.
 fn touch_of(ask: Ask, words: u32, read_only: u32) -> Touch
-    requires { words ≤ 65536 }
+    requires { words ≤ MOST_WORDS }
     ensures read_inside { IfSome result.reads (λ w. w < words) }
     ensures write_inside { IfSome result.writes (λ w. w < words) }
     ensures reads { result.reads ≡ asked_read words read_only ask }
@@ -77,7 +78,7 @@ fn touch_of(ask: Ask, words: u32, read_only: u32) -> Touch
 
 // The word of a load, unless it traps.
 fn load_word(kind: LoadKind, addr: u32, words: u32) -> Option<u32>
-    requires { words ≤ 65536 }
+    requires { words ≤ MOST_WORDS }
     ensures word { result ≡ unless_trap (access_trap words (load_bytes kind) addr) (word_address addr) }
     ensures inside { IfSome result (λ w. w < words) }
 {
@@ -89,7 +90,7 @@ fn load_word(kind: LoadKind, addr: u32, words: u32) -> Option<u32>
 
 // The word of a store, unless it traps.
 fn store_word(kind: StoreKind, addr: u32, words: u32, read_only: u32) -> Option<u32>
-    requires { words ≤ 65536 }
+    requires { words ≤ MOST_WORDS }
     ensures word { result ≡ unless_trap (store_trap words read_only (store_bytes kind) addr) (word_address addr) }
     ensures inside { IfSome result (λ w. w < words) }
 {

@@ -3,7 +3,7 @@
 ghost use Rattle.std.specs.Prelude.{◌≢◌, ◌≤◌, [], Some, IfSome};
 ghost use Rattle.svc_request.specs.declared.request.Request.{Request};
 ghost use Rattle.svc_answer.specs.Requests.{Does};
-ghost use Rattle.svc_command.specs.Asked.{MayAsk};
+ghost use Rattle.svc_command.specs.Asked.{KeepsAsked, MayAsk};
 ghost use Rattle.svc_desk.specs.Held.{held_by, held_over, words_in};
 
 use crate::desk::Desk;
@@ -30,6 +30,9 @@ pub fn answered(alloc: Global, line: &str, files: Lent<'_>) -> Option<Answer>
         (held_over it.saved.sizes.items it.saved.contents.items files.entry.sizes.now files.entry.contents.now)
         (Some []) (Some it.out.items) it.status) }
     ensures status { IfSome result (λ it. it.status ≤ 2) }
+    ensures kept { IfSome result (λ it. KeepsAsked (words_in line.now)
+        (held_by files.entry.sizes.now files.entry.contents.now)
+        (held_over it.saved.sizes.items it.saved.contents.items files.entry.sizes.now files.entry.contents.now)) }
 {
     let Ok(words) = words_of(alloc, line) else {
         return None;

@@ -8,7 +8,7 @@ use Rattle.indexmap.specs.IndexMap.{insert_entry}
 use Rattle.std.proofs.lemmas.Option.{none-some, same_Some}
 use Rattle.svc_base.specs.declared.config.Config.{Config}
 use Rattle.svc_image.specs.Image.{Image, IsImage}
-use Rattle.svc_machine_laws.specs.Standing.{Standing, opened_at}
+use Rattle.svc_machine_laws.specs.Standing.{Standing}
 use Rattle.svc_base.specs.declared.ids.UnitId.{UnitId}
 use Rattle.svc_explore_laws.specs.declared.observation.Observation.{Observation}
 use Rattle.svc_machine_laws.proofs.Places.{some_at, within}

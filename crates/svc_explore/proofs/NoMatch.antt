@@ -1,6 +1,5 @@
 -- What was looked for, and a play that shows it or none.
-use Rattle.std.proofs.Common.{ℕ, ◌≡◌, ◌⊎◌, List, [], ◌∷◌, ◌++◌, Option, Some, zero, suc, inl, inr, sym, subst, ap, ◌∙◌, slice_get, get_or, take, length, ◌<◌, ◌+◌, arith, Bool, false, true≢false, IsTrue}
-use Rattle.std.specs.List.{AllByRecursion}
+use Rattle.std.proofs.Common.{ℕ, ◌≡◌, ◌⊎◌, List, [], ◌∷◌, ◌++◌, Some, zero, suc, inl, inr, sym, subst, ap, ◌∙◌, slice_get, get_or, take, length, ◌<◌, ◌+◌, Bool, false, true≢false, IsTrue}
 use Rattle.std.proofs.lemmas.List.{take_more}
 use Rattle.std.proofs.lemmas.Option.{none-some, same_Some}
 use Rattle.svc_base.specs.declared.config.Config.{Config}
@@ -8,7 +7,7 @@ use Rattle.svc_image.specs.Image.{Image}
 use Rattle.svc_machine_laws.specs.Standing.{Standing, opened_at}
 use Rattle.svc_history_laws.specs.declared.entry.Entry.{Entry}
 use Rattle.svc_explore_laws.specs.declared.observation.Observation.{Observation}
-use Rattle.svc_explore_laws.specs.Closed.{AreIn, IsIn, ShowNothingElse, ShowsFound}
+use Rattle.svc_explore_laws.specs.Closed.{IsIn, ShowNothingElse, ShowsFound}
 use Rattle.svc_explore_laws.specs.Moves.{IsTurn, Plays}
 use Rattle.svc_explore_laws.specs.Observations.{observations}
 use Rattle.svc_explore.specs.declared.found.Seen.{Seen}
@@ -19,7 +18,6 @@ use Rattle.svc_observations.specs.Sought.{Matches}
 use Rattle.svc_explore.specs.Witnesses.{ShowNoMatch, ShowsSight}
 use Rattle.svc_explore.proofs.Growing.{map_append}
 use Rattle.svc_explore.proofs.Permuting.{all_get}
-use Rattle.svc_explore.proofs.PlayEnds.{is_play}
 
 -- ---- what a play shows
 

@@ -12,7 +12,7 @@ use Rattle.svc_history_laws.proofs.Legality.{entry_leads, last-append}
 use Rattle.svc_history.specs.Moves.{NextMove, Begin, RunOn, Commit, Wait, Ended, move_of}
 use Rattle.svc_history.specs.Recorded.{Recorded, IsLegal, standing_of}
 use Rattle.svc_schedule.specs.Moves as schedule
-use Rattle.svc_schedule.specs.Moves.{IsMade, IsMove}
+use Rattle.svc_schedule.specs.Moves.{IsMade}
 use Rattle.svc_schedule.specs.Steps.{FirstMoves, IsScheduled, Steps, asked}
 use Rattle.svc_explore_laws.specs.Moves.{Asks, Moves, Plays}
 use Rattle.svc_explore_laws.proofs.ClosedPlays.{moves_event}

@@ -10,7 +10,7 @@ use Rattle.svc_core_laws.specs.Program.{Emit, Load, Local, Memory, Narrow, Progr
 use Rattle.svc_core_laws.specs.State.{State}
 use Rattle.svc_core_laws.specs.Words.{program}
 use Rattle.svc_bus_laws.specs.LineTable.{Line, LineTable, is_active, is_reusable, line_at, unit_at}
-use Rattle.svc_bus_laws.specs.Steps.{marked, purged, read, settled, squash, store, survivors, write}
+use Rattle.svc_bus_laws.specs.Steps.{line_after_marking, line_after_purging, read, line_after_commit, squash, store, survivors, write}
 use Rattle.svc_bus_laws.specs.Versioned.{view}
 use Rattle.svc_bus_laws.specs.LineTable as table
 use Rattle.svc_machine_laws.specs.declared.reply.Reply.{Reply}
@@ -20,13 +20,13 @@ use Rattle.svc_machine_laws.specs.Events as event
 use Rattle.svc_machine_laws.specs.LineEvents.{line_cancel, line_check, line_commit, line_settle, line_turn, word_of}
 use Rattle.svc_machine_laws.specs.PlainMachine.{Task, stays, unit_of}
 use Rattle.svc_machine_laws.specs.Reached.{IsReached}
-use Rattle.svc_machine_laws.specs.Replies.{checked, plain_asked, plain_submitted, turn_done}
+use Rattle.svc_machine_laws.specs.Replies.{reply_after_check, plain_asked, plain_submitted, turn_done}
 use Rattle.svc_machine_laws.specs.Standing.{Standing, opened_at, reply_to, stepped}
 use Rattle.svc_machine_laws.specs.WholeMachine.{Seat, seat_entry}
 use Rattle.svc_machine_laws.proofs.Given.{Given}
 use Rattle.svc_machine_laws.proofs.Lines.{read_keeps}
 use Rattle.svc_machine_laws.proofs.Places.{found}
-use Rattle.svc_history_laws.specs.Board.{Tally, counted, no_events}
+use Rattle.svc_history_laws.specs.Board.{Tally, tally_with, no_events}
 use Rattle.svc_history_laws.specs.Entries.{address_told, entry_of}
 use Rattle.svc_history_laws.specs.Legal.{IsAccepted, Legal, LegalEntry, LegalHistory, LegalKind, after_entry, by_kind, last, led_to, the_arg, the_ask, the_local}
 use Rattle.svc_history_laws.specs.Submissions.{after_submission, core_on, lines_asked, submission, submitted_at}
@@ -69,13 +69,13 @@ read_free : (t : LineTable) (p b u a : ℕ) → ((u == unit_at t p) && (a == b))
 read_free t p b u a miss free =
     read_keeps (λ (s : LineTable). s.lines u a) t p b
     (with_free (u == unit_at t p) (a == b) _ (t.lines u a) (λ line. line) miss refl free ∙ sym free)
-    (with_free (u == unit_at t p) (a == b) _ (t.lines u a) purged miss refl free ∙ sym free)
+    (with_free (u == unit_at t p) (a == b) _ (t.lines u a) line_after_purging miss refl free ∙ sym free)
     ∙ free
 
 write_free : (t : LineTable) (p b v u a : ℕ) → ((u == unit_at t p) && (a == b)) ≡ false → Free u a t → Free u a (write t p b v)
 write_free t p b v u a miss free =
     squash_free (store t p b v) (survivors t p b) u a
-    (with_free (u == unit_at t p) (a == b) _ (t.lines u a) (λ line. marked (t.commits + p) (purged line)) miss refl free)
+    (with_free (u == unit_at t p) (a == b) _ (t.lines u a) (λ line. line_after_marking (t.commits + p) (line_after_purging line)) miss refl free)
 
 turn_free : {C : Type 0} (w : Want C) (t : LineTable) (p u a : ℕ) → Misses w t p u a → Free u a t → Free u a (line_turn w t p)
 turn_free (Local c) t p u a miss free = free
@@ -85,7 +85,7 @@ turn_free (Narrow b f c) t p u a miss free =
     let units : (read t p b).units ≡ t.units = read_keeps (λ (s : LineTable). s.units) t p b refl refl in
     let same : ((u == unit_at (read t p b) p) && (a == b)) ≡ false =
     ap (λ (us : List ℕ). (u == get_or us p 0) && (a == b)) units ∙ miss in
-    write_free (read t p b) p b (f (view (table.versioned t) p b)) u a same (read_free t p b u a miss free)
+    write_free (read t p b) p b (f (view (table.versioned_map t) p b)) u a same (read_free t p b u a miss free)
 turn_free (Emit w c) t p u a miss free = free
 
 check_free : (b : Bool) (t : LineTable) (p u a : ℕ) → Free u a t → Free u a (line_check b t p)
@@ -96,8 +96,8 @@ cancel_free : (t : LineTable) (o : Option ℕ) (u a : ℕ) → Free u a t → Fr
 cancel_free t None u a free = free
 cancel_free t (Some p) u a free = squash_free t p u a free
 
-settled_free : (x : Bool) (old : Option Line) → old ≡ None → cond x (settled old) old ≡ None
-settled_free true old free = ap settled free
+settled_free : (x : Bool) (old : Option Line) → old ≡ None → cond x (line_after_commit old) old ≡ None
+settled_free true old free = ap line_after_commit free
 settled_free false old free = free
 
 settle_free : (t : LineTable) (keep : Bool) (u a : ℕ) → Free u a t → Free u a (line_settle t keep)
@@ -110,10 +110,10 @@ commit_free p t (s ∷ seats) u a free =
     let keep = stays (p.done s.core) (map seat_entry seats) in
     settled_free _ ((line_settle t keep).lines u a) (settle_free t keep u a free)
 
-replaced_free : (y x : Bool) (old : Option Line) → old ≡ None → cond x (cond y None (purged old)) old ≡ None
+replaced_free : (y x : Bool) (old : Option Line) → old ≡ None → cond x (cond y None (line_after_purging old)) old ≡ None
 replaced_free true true old free = refl
 replaced_free true false old free = free
-replaced_free false true old free = ap purged free
+replaced_free false true old free = ap line_after_purging free
 replaced_free false false old free = free
 
 -- ---- what it leaves of a word that isn't spilled
@@ -155,7 +155,7 @@ told_wanted p (Store b v c) look serves a = refl
 told_wanted p (Narrow b f c) look serves a = refl
 told_wanted p (Emit w c) look serves a = refl
 
-checked_what : (wrong : Bool) (k count place : ℕ) (r : Reply) → (checked wrong k count place r).what ≡ r.what
+checked_what : (wrong : Bool) (k count place : ℕ) (r : Reply) → (reply_after_check wrong k count place r).what ≡ r.what
 checked_what false k count place r = refl
 checked_what true k count place r = refl
 
@@ -242,7 +242,7 @@ free_on : (img : Image) → Given img → (config : Config) (u a : ℕ) (s : Sta
 unfolding Legal last
 free_on img given config u a s n [] legal stands miss free = free
 free_on img given config u a s n (e ∷ es) legal stands miss free =
-    free_on img given config u a (after_entry img s e) (counted n e) es legal.1 (tallies_entry img given config s n e legal.0 stands)
+    free_on img given config u a (after_entry img s e) (tally_with n e) es legal.1 (tallies_entry img given config s n e legal.0 stands)
     (or_second (names u a e) (list_any (names u a) es) miss)
     (entry_free img config u a s e stands.reached legal.0 (or_first (names u a e) (list_any (names u a) es) miss) free)
 

@@ -23,8 +23,8 @@ use Rattle.svc_machine_laws.proofs.Numbers.{all_counted}
 use Rattle.svc_machine_laws.proofs.Standings.{event_reached}
 use Rattle.svc_machine.specs.Value.{MachineValue, StandsAt, IsSequentialMachine}
 use Rattle.svc_history_laws.specs.declared.entry.Entry.{Entry}
-use Rattle.svc_history_laws.specs.Entries.{count_of, entry_of, named, telling}
-use Rattle.svc_history_laws.specs.Board.{Tally, assigns, board, counted, counted_on, commits, no_events}
+use Rattle.svc_history_laws.specs.Entries.{count_of, entry_of, entry_asking, telling}
+use Rattle.svc_history_laws.specs.Board.{Tally, assigns, board, tally_with, counted_on, commits, no_events}
 use Rattle.svc_history_laws.specs.Legal.{Legal, LegalEntry, last, led_to, after_entry}
 use Rattle.svc_history_laws.proofs.Legality.{legal_entry, entry_leads, last-append, Legal-append}
 use Rattle.svc_history.specs.Applying.{IsApplied, refused_at}
@@ -137,10 +137,10 @@ counts r kept =
       events_few = omega (arith, events, few);
     }
 
-counted-append : (t : Tally) (es : List Entry) (e : Entry) → counted_on t (es ++ e ∷ []) ≡ counted (counted_on t es) e
+counted-append : (t : Tally) (es : List Entry) (e : Entry) → counted_on t (es ++ e ∷ []) ≡ tally_with (counted_on t es) e
 unfolding counted_on
 counted-append t [] e = refl
-counted-append t (f ∷ es) e = counted-append (counted t f) es e
+counted-append t (f ∷ es) e = counted-append (tally_with t f) es e
 
 -- the recorder after an accepted event
 pub record Follows (r : Recorded) (x : Event) (m : MachineValue) (e : Entry) : Type 0 where
@@ -178,7 +178,7 @@ recorded r x m e kept f =
     let more = ap (λ (q : Standing). q.plain.accepted) stepped_is ∙ one_more img config s x f.accepted in
     let commits_more = ap (λ (q : Standing). q.plain.commits) stepped_is ∙ step_commits img (given img kept.image) config s x f.accepted in
     let kind = ap (λ (y : Entry). commits y.kind) f.entry ∙ kind_commits img s x in
-    let longer : board es ≡ counted (board r.entries) e = counted-append no_events r.entries e in
+    let longer : board es ≡ tally_with (board r.entries) e = counted-append no_events r.entries e in
     let tally = ap (λ (t : Tally). t.committed) longer in
     let events_more = ap (λ (t : Tally). t.events) longer in
     let assigned_more = ap (λ (t : Tally). t.assigned) longer in
@@ -218,7 +218,7 @@ opening_kept m image at = record {
 }
 
 -- the entry that is written is the event's
-pub entry_is : (x : Event) (r answer : Reply) (n e : Entry) → n ≡ named x → r ≡ answer → e ≡ telling r n → e ≡ entry_of x answer
+pub entry_is : (x : Event) (r answer : Reply) (n e : Entry) → n ≡ entry_asking x → r ≡ answer → e ≡ telling r n → e ≡ entry_of x answer
 unfolding entry_of
 entry_is x r answer n e names is tells = tells ∙ ap₂ telling is names
 

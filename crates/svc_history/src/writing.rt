@@ -3,7 +3,7 @@
 ghost use Rattle.std.specs.Prelude.{◌≡◌, ◌<◌, ◌^◌, IfSome, None, Option, option_map, option_and_then};
 ghost use Rattle.svc_machine_laws.specs.Events.{IsEvent};
 ghost use Rattle.svc_machine.specs.Events.{event_of};
-ghost use Rattle.svc_history_laws.specs.Entries.{address_told, cause_of, count_of, first_of, kind_served, named};
+ghost use Rattle.svc_history_laws.specs.Entries.{address_told, cause_of, count_of, first_of, kind_served, entry_asking};
 ghost use Rattle.svc_history_laws.specs.Entries.{reply_told, served_told, telling, unit_served, why_cut, word_told};
 ghost use Rattle.svc_history.specs.Writing.{IsSmall, entry_with, task_told};
 
@@ -36,7 +36,7 @@ fn plain(kind: Kind, unit: UnitId, arg: Option<u32>) -> EventFields
 
 /// The fields that an event gives its entry.
 pub(crate) fn fields_of(event: Event<'_>) -> EventFields
-    ensures entry { entry_with result ≡ named (event_of event.entry) }
+    ensures entry { entry_with result ≡ entry_asking (event_of event.entry) }
     ensures sound { IsEvent (event_of event.entry) }
 {
     match event {

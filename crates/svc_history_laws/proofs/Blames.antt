@@ -16,7 +16,7 @@ use Rattle.svc_machine_laws.specs.declared.reply.Reply.{Reply}
 use Rattle.svc_bus_laws.specs.LineTable.{LineTable}
 use Rattle.svc_machine_laws.specs.PlainMachine.{Plain, running, run_done, run_entry, submit}
 use Rattle.svc_machine_laws.specs.WholeMachine as whole
-use Rattle.svc_machine_laws.specs.WholeMachine.{Machine, is_misled, machine_of, seen}
+use Rattle.svc_machine_laws.specs.WholeMachine.{Machine, is_misled, machine_of, memory_seen}
 use Rattle.svc_machine_laws.specs.Events.{Event, IsEvent, Submit, task_place, asked_want}
 use Rattle.svc_machine_laws.specs.Replies.{turn_done, serves_at, whole_asked, whole_submitted, whole_reply, plain_reply}
 use Rattle.svc_machine_laws.specs.Standing.{Standing, opened_at, refused, reply_to}
@@ -29,7 +29,7 @@ use Rattle.svc_machine_laws.proofs.Blames.{blamed}
 use Rattle.svc_machine_laws.proofs.TaskLogs.{checked_what}
 use Rattle.svc_history_laws.specs.declared.entry.ReplyKind.TheVariants as reply
 use Rattle.svc_history_laws.specs.declared.entry.Entry.{Entry}
-use Rattle.svc_history_laws.specs.Entries.{entry_of, named, reply_told, address_told, why_cut, cause_of, first_of, count_of}
+use Rattle.svc_history_laws.specs.Entries.{entry_of, entry_asking, reply_told, address_told, why_cut, cause_of, first_of, count_of}
 use Rattle.svc_history_laws.specs.Legal.{the_ask, the_local, LegalHistory, LegalEntry, led_to}
 use Rattle.svc_history_laws.specs.Causes.{CutsFrom, HasCause, CutsBy, IsBlamed}
 use Rattle.svc_history_laws.specs.Histories.{HasEvent}
@@ -65,7 +65,7 @@ stored img given config s b is ok w asked a wrote =
     ∙ sym (submitted_what p (machine_of p s.plain) s.lines can.place b.end (asked_want img b))
     ∙ ap (λ o. (whole_submitted p (machine_of p s.plain) s.lines o b.end (asked_want img b)).what) (sym place)
     ∙ ap (λ (r : Reply). r.what) (reply_is img given config s (Submit b) is ok) in
-    subst (IsStored a) answer (write_stored p w a (seen (machine_of p s.plain).versioned can.place) (serves_at s.lines can.place) wrote)
+    subst (IsStored a) answer (write_stored p w a (memory_seen (machine_of p s.plain).versioned can.place) (serves_at s.lines can.place) wrote)
 
 module _ (img : Image) (given : Given img) (config : Config) (s : Standing) (reached : IsReached img config s) (x : Event) (is : IsEvent x) (ok : refused img config s x ≡ None) where
   abbrev r : Reply
@@ -85,18 +85,18 @@ module _ (img : Image) (given : Given img) (config : Config) (s : Standing) (rea
       subst (λ (y : Event). IsEvent y → refused img config s y ≡ None → IsStored a.0 (reply_to img s y).what) (sym b.event)
       (λ its accepted. stored img given config s b.burst its accepted b.want b.asked a.0 b.wrote) is ok in
       record {
-        kind = ap (λ (y : Event). (named y).kind) b.event;
+        kind = ap (λ (y : Event). (entry_asking y).kind) b.event;
         reply = there.told;
         word = a;
         address = there.address;
         place = b.place;
-        at = ap (λ (y : Event). task_place s.plain (named y).unit.0) b.event ∙ b.at;
+        at = ap (λ (y : Event). task_place s.plain (entry_asking y).unit.0) b.event ∙ b.at;
         victim = b.victim;
         is_victim = b.is_victim;
         cuts = cuts_from cut b.victim h b.cut_at;
       }
   caused cut h cause.WrongGuess (inl b) = inl (record {
-    kind = ap (λ (y : Event). (named y).kind) b.event;
+    kind = ap (λ (y : Event). (entry_asking y).kind) b.event;
     head = b.head;
     next = b.next;
     others = b.others;
@@ -109,18 +109,18 @@ module _ (img : Image) (given : Given img) (config : Config) (s : Standing) (rea
       let turned : Plain = submit p s.plain b.place b.burst.local (is_some (asked_want img b.burst)) in
       let same : turned ≡ submit p s.plain b.place (the_local e) (the_ask e) =
       ap (submit p s.plain b.place b.burst.local) (wants_where_asks img b.burst)
-      ∙ sym (ap (λ (y : Event). submit p s.plain b.place (the_local (named y)) (the_ask (named y))) b.event) in
+      ∙ sym (ap (λ (y : Event). submit p s.plain b.place (the_local (entry_asking y)) (the_ask (entry_asking y))) b.event) in
       inr (record {
-        kind = ap (λ (y : Event). (named y).kind) b.event;
+        kind = ap (λ (y : Event). (entry_asking y).kind) b.event;
         place = b.place;
-        at = ap (λ (y : Event). task_place s.plain (named y).unit.0) b.event ∙ b.at;
+        at = ap (λ (y : Event). task_place s.plain (entry_asking y).unit.0) b.event ∙ b.at;
         misleads = subst (λ (n : Plain). Misleads (run_done p) run_entry (running p n) b.place) same b.misleads;
         cuts = cuts_from cut (suc b.place) h b.cut_at;
       })
   caused cut h cause.Cancelled b = record {
-    kind = ap (λ (y : Event). (named y).kind) b.event;
+    kind = ap (λ (y : Event). (entry_asking y).kind) b.event;
     place = b.place;
-    at = ap (λ (y : Event). task_place s.plain (named y).unit.0) b.event ∙ b.at;
+    at = ap (λ (y : Event). task_place s.plain (entry_asking y).unit.0) b.event ∙ b.at;
     cuts = cuts_from cut b.place h b.cut_at;
   }
 

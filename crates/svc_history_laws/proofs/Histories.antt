@@ -21,7 +21,7 @@ use Rattle.svc_core_laws.specs.Words.{program}
 use Rattle.svc_core_laws.specs.State.{State}
 use Rattle.svc_core_laws.specs.Program.{Program}
 use Rattle.svc_history_laws.specs.declared.entry.Entry.{Entry}
-use Rattle.svc_history_laws.specs.Board.{Tally, IsInOrder, no_events, assigns, commits, counted, counted_on, board}
+use Rattle.svc_history_laws.specs.Board.{Tally, IsInOrder, no_events, assigns, commits, tally_with, counted_on, board}
 use Rattle.svc_history_laws.specs.Entries.{entry_of, count_of}
 use Rattle.svc_history_laws.specs.Legal.{LegalEntry, after_entry, Legal, LegalHistory, last, led_to}
 use Rattle.svc_history_laws.specs.Histories.{HasEvent, LeadsOn}
@@ -104,7 +104,7 @@ pub record Tallies (img : Image) (config : Config) (s : Standing) (t : Tally) : 
   pub few : t.assigned ≤ t.events
 
 tallies_step : (img : Image) → Given img → (config : Config) (s : Standing) (t : Tally) (x : Event) → IsEvent x → refused img config s x ≡ None → Tallies img config s t
-    → Tallies img config (stepped img s x) (counted t (entry_of x (reply_to img s x)))
+    → Tallies img config (stepped img s x) (tally_with t (entry_of x (reply_to img s x)))
 tallies_step img given config s t x is ok h =
     let r : Reply = reply_to img s x in
     let assigned = kind_begins x r in
@@ -120,16 +120,16 @@ tallies_step img given config s t x is ok h =
       few = omega (arith, assigned, one, h.few);
     }
 
-pub tallies_entry : (img : Image) → Given img → (config : Config) (s : Standing) (t : Tally) (e : Entry) → LegalEntry img config s e → Tallies img config s t → Tallies img config (after_entry img s e) (counted t e)
+pub tallies_entry : (img : Image) → Given img → (config : Config) (s : Standing) (t : Tally) (e : Entry) → LegalEntry img config s e → Tallies img config s t → Tallies img config (after_entry img s e) (tally_with t e)
 tallies_entry img given config s t e legal h =
     let x : HasEvent img config s e = has_event img given config s e legal in
-    subst (λ (n : Standing). Tallies img config n (counted t e)) (sym x.leads)
-    (subst (λ (f : Entry). Tallies img config (stepped img s x.event) (counted t f)) (sym x.entry) (tallies_step img given config s t x.event x.is x.accepted h))
+    subst (λ (n : Standing). Tallies img config n (tally_with t e)) (sym x.leads)
+    (subst (λ (f : Entry). Tallies img config (stepped img s x.event) (tally_with t f)) (sym x.entry) (tallies_step img given config s t x.event x.is x.accepted h))
 
 tallies_on : (img : Image) → Given img → (config : Config) (s : Standing) (t : Tally) (es : List Entry) → Legal img config s es → Tallies img config s t → Tallies img config (last img s es) (counted_on t es)
 unfolding Legal last counted_on
 tallies_on img given config s t [] legal h = h
-tallies_on img given config s t (e ∷ es) legal h = tallies_on img given config (after_entry img s e) (counted t e) es legal.1 (tallies_entry img given config s t e legal.0 h)
+tallies_on img given config s t (e ∷ es) legal h = tallies_on img given config (after_entry img s e) (tally_with t e) es legal.1 (tallies_entry img given config s t e legal.0 h)
 
 -- the numbers of a legal history
 pub tallies : (img : Image) → Given img → (config : Config) (es : List Entry) → LegalHistory img config es → Tallies img config (led_to img config es) (board es)
@@ -140,7 +140,7 @@ tallies img given config es legal =
 events_counted : (t : Tally) (es : List Entry) → (counted_on t es).events ≡ t.events + length es
 unfolding counted_on
 events_counted t [] = omega arith
-events_counted t (e ∷ es) = let ih = events_counted (counted t e) es in omega (arith, ih)
+events_counted t (e ∷ es) = let ih = events_counted (tally_with t e) es in omega (arith, ih)
 
 pub leads_on : (img : Image) → Given img → (config : Config) (es : List Entry) → LegalHistory img config es → LeadsOn img config es
 leads_on img given config es legal =

@@ -25,7 +25,7 @@ use Rattle.svc_machine_laws.specs.declared.reply.What.{What}
 use Rattle.svc_machine_laws.specs.declared.reply.What.TheVariants as what
 use Rattle.svc_machine_laws.specs.declared.reply.Reply.{Reply}
 use Rattle.svc_machine_laws.specs.PlainMachine.{Plain, running, row_of, unit_of}
-use Rattle.svc_machine_laws.specs.WholeMachine.{machine_of, seen}
+use Rattle.svc_machine_laws.specs.WholeMachine.{machine_of, memory_seen}
 use Rattle.svc_machine_laws.specs.Events.{Event, IsEvent, Assign, Submit, Replace, Cancel, Commit, task_place, asked_want}
 use Rattle.svc_machine_laws.specs.Replies.{served_by, turn_done, serves_at, whole_asked, whole_submitted, whole_reply, plain_reply}
 use Rattle.svc_machine_laws.specs.Standing.{Standing, opened_at, refused, stepped, reply_to}
@@ -169,7 +169,7 @@ served_turn p t place (Emit v c) look = tt
 served_asked : (img : Image) (s : Standing) (place : ℕ) (o : Option (Want State)) → IsServed s.lines place (whole_asked (program img) (machine_of (program img) s.plain) s.lines place o).what
 unfolding IsServed
 served_asked img s place None = tt
-served_asked img s place (Some w) = served_turn (program img) s.lines place w (seen (machine_of (program img) s.plain).versioned place)
+served_asked img s place (Some w) = served_turn (program img) s.lines place w (memory_seen (machine_of (program img) s.plain).versioned place)
 
 served_reply : (img : Image) → Given img → (config : Config) (s : Standing) (b : Advance) → IsEvent (Submit b) → refused img config s (Submit b) ≡ None → (place : ℕ) → task_place s.plain b.unit.0 ≡ Some place
     → IsServed s.lines place (reply_to img s (Submit b)).what

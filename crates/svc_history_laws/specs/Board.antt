@@ -31,8 +31,8 @@ commits Cancel = 0
 commits Commit = 1
 
 -- one more entry
-abbrev pub counted : Tally → Entry → Tally
-counted t e = record {
+abbrev pub tally_with : Tally → Entry → Tally
+tally_with t e = record {
   events = t.events + 1;
   assigned = t.assigned + assigns e.kind;
   committed = t.committed + commits e.kind;
@@ -42,7 +42,7 @@ counted t e = record {
 -- the numbers after more entries
 unfoldable pub counted_on : Tally → List Entry → Tally
 counted_on t [] = t
-counted_on t (e ∷ es) = counted_on (counted t e) es
+counted_on t (e ∷ es) = counted_on (tally_with t e) es
 
 -- the numbers of a history
 abbrev pub board : List Entry → Tally

@@ -125,12 +125,12 @@ plain_entry k unit arg local ask =
     }
 
 -- the entry that has the fields of its event
-abbrev pub named : Event → Entry
-named (AssignEvent unit guess) = plain_entry Assign (record { 0 = unit }) (Some guess) None None
-named (SubmitEvent b) = plain_entry Submit b.unit None (Some b.local) (Some (not (is_nothing b.ask)))
-named (ReplaceEvent unit address) = plain_entry Replace (record { 0 = unit }) (Some address) None None
-named (CancelEvent unit) = plain_entry Cancel (record { 0 = unit }) None None None
-named (CommitEvent by) = plain_entry Commit (record { 0 = by }) None None None
+abbrev pub entry_asking : Event → Entry
+entry_asking (AssignEvent unit guess) = plain_entry Assign (record { 0 = unit }) (Some guess) None None
+entry_asking (SubmitEvent b) = plain_entry Submit b.unit None (Some b.local) (Some (not (is_nothing b.ask)))
+entry_asking (ReplaceEvent unit address) = plain_entry Replace (record { 0 = unit }) (Some address) None None
+entry_asking (CancelEvent unit) = plain_entry Cancel (record { 0 = unit }) None None None
+entry_asking (CommitEvent by) = plain_entry Commit (record { 0 = by }) None None None
 
 -- an entry with these fields of its reply
 abbrev pub telling : Reply → Entry → Entry
@@ -147,4 +147,4 @@ telling r e = record e {
 
 -- the entry of an event with this answer
 unfoldable pub entry_of : Event → Reply → Entry
-entry_of x r = telling r (named x)
+entry_of x r = telling r (entry_asking x)

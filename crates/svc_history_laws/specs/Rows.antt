@@ -7,8 +7,8 @@ use Rattle.svc_history_laws.specs.declared.entry.Entry.{Entry}
 use Rattle.svc_history_laws.specs.Entries.{plain_entry}
 
 -- an assignment to the unit
-abbrev pub assigned : (unit : ℕ) → Entry
-assigned unit =
+abbrev pub assignment_of : (unit : ℕ) → Entry
+assignment_of unit =
     let e : Entry = plain_entry Assign (record { 0 = unit }) (Some 0) None None in
     record e { reply = reply.Assigned; word = Some 0 }
 

@@ -1,5 +1,6 @@
 -- When a submit is legal, and where it leads, stated without a burst.
 use Rattle.std.specs.Prelude.{◌≡◌, ℕ, ◌+◌, ◌<◌, ◌≤◌, Bool, true, cond, Option, Some, None, slice_get}
+use Rattle.svc_base.specs.declared.limits.TheConstants.{MAX_BURST_TURNS}
 use Rattle.svc_base.specs.declared.ids.UnitId.{UnitId}
 use Rattle.svc_image.specs.Image.{Image}
 use Rattle.svc_core_laws.specs.State.{State}
@@ -46,7 +47,7 @@ word_wanted img core = word_of ((program img).want core)
 pub record IsSubmission (img : Image) (s : Standing) (unit place : ℕ) (task : Task)
     (local : ℕ) (ask : Bool) : Type 0 where
   pub some : 0 < local + turns_of ask
-  pub few : local + turns_of ask ≤ 63
+  pub few : local + turns_of ask ≤ MAX_BURST_TURNS
   -- the task hasn't ended
   pub goes_on : (core_on img s.plain place task 0).done ≡ None
   pub locals : (n : ℕ) → n < local → IsLocalAt img (core_on img s.plain place task n)

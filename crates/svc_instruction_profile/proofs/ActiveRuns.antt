@@ -34,7 +34,7 @@ use Rattle.svc_machine_laws.proofs.TaskLogs.{logs_follow}
 use Rattle.svc_history_laws.specs.declared.entry.CutKind.{CutKind}
 use Rattle.svc_history_laws.specs.declared.entry.Entry.{Entry}
 use Rattle.svc_history_laws.specs.declared.entry.Kind.TheVariants.{Commit}
-use Rattle.svc_history_laws.specs.Entries.{cause_of, entry_of, first_of, named, telling, why_cut}
+use Rattle.svc_history_laws.specs.Entries.{cause_of, entry_of, first_of, entry_asking, telling, why_cut}
 use Rattle.svc_history_laws.proofs.Histories.{kind_commits}
 use Rattle.svc_report.specs.Counting.{one_where}
 use Rattle.svc_report.specs.Summary.{is_kind}
@@ -444,7 +444,7 @@ module _ (img : Image) (given : Given img) (config : Config) (s : Standing) (rea
       let head : units s.plain ≡ logs.unit ∷ others = sym (units_logged p s.plain) ∙ ap (map logged) logs.head in
       let front : units (next x) ≡ take (length (units (next x))) others =
       is_front (units (next x)) (map logged (cond logs.keep logs.others [])) others (logs_units p (next x) (cond logs.keep logs.others []) logs.logs) (rest logs.keep logs.others) in
-      let number : (told_of x).word ≡ Some s.plain.commits = tells_number p s.plain.commits logs.unit others s.plain.tasks (named x) head in
+      let number : (told_of x).word ≡ Some s.plain.commits = tells_number p s.plain.commits logs.unit others s.plain.tasks (entry_asking x) head in
       let all = head_leaves x is ok refl refl logs.unit others head front (λ m. ap (λ (o : Option ℕ). is_number o m) number) runs.active (subst (AreTasks s.plain.commits runs.active) head are.tasks) in
       let k = step_commits img given config s x ok in
       let more : (next x).commits ≡ suc s.plain.commits = omega (arith, k) in

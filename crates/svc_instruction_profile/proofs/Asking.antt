@@ -14,14 +14,14 @@ use Rattle.svc_machine_laws.specs.Events as event
 use Rattle.svc_machine_laws.specs.PlainMachine.{Plain, Task}
 use Rattle.svc_machine_laws.specs.PlainMachine as plain
 use Rattle.svc_machine_laws.specs.Refusals.{seat_at}
-use Rattle.svc_machine_laws.specs.Replies.{checked, committed, plain_cancelled, plain_committed, plain_reply, plain_submitted, ran}
+use Rattle.svc_machine_laws.specs.Replies.{reply_after_check, reply_to_commit, plain_cancelled, plain_committed, plain_reply, plain_submitted, ran}
 use Rattle.svc_machine_laws.specs.Standing.{Standing, opened_at, reply_to}
 use Rattle.svc_machine_laws.specs.WholeMachine.{Machine, machine_of}
 use Rattle.svc_history_laws.specs.declared.entry.CutKind.TheVariants as cause
 use Rattle.svc_history_laws.specs.declared.entry.Entry.{Entry}
 use Rattle.svc_history_laws.specs.declared.entry.Kind.{Kind}
 use Rattle.svc_history_laws.specs.declared.entry.Kind.TheVariants.{Assign, Submit, Replace, Cancel, Commit}
-use Rattle.svc_history_laws.specs.Entries.{cause_of, entry_of, named, plain_entry, reply_told, telling}
+use Rattle.svc_history_laws.specs.Entries.{cause_of, entry_of, entry_asking, plain_entry, reply_told, telling}
 use Rattle.svc_history_laws.specs.Legal.{IsAccepted, IsSubmitted, Legal, LegalEntry, LegalHistory, LegalKind, after_entry, the_arg, the_ask, the_local}
 use Rattle.svc_history_laws.proofs.Replays.{seat_of_task}
 use Rattle.svc_report.specs.Summary.{is_cause, is_kind}
@@ -56,7 +56,7 @@ quiet_asks a r e q = record {
 ran_quiet : IsQuiet ran
 ran_quiet = record { loads = refl; stores = refl; outputs = refl; violation = refl }
 
-checked_quiet : (wrong : Bool) (k count place : ℕ) → IsQuiet (checked wrong k count place ran)
+checked_quiet : (wrong : Bool) (k count place : ℕ) → IsQuiet (reply_after_check wrong k count place ran)
 checked_quiet false k count place = ran_quiet
 checked_quiet true k count place = record { loads = refl; stores = refl; outputs = refl; violation = refl }
 
@@ -68,7 +68,7 @@ cancelled_quiet : (s : Plain) (place : Option ℕ) → IsQuiet (plain_cancelled 
 cancelled_quiet s None = ran_quiet
 cancelled_quiet s (Some place) = record { loads = refl; stores = refl; outputs = refl; violation = refl }
 
-end_quiet : {A : Type 0} (k : ℕ) (ended : Option End) (keep : Bool) (rest : List A) → IsQuiet (committed k ended keep rest)
+end_quiet : {A : Type 0} (k : ℕ) (ended : Option End) (keep : Bool) (rest : List A) → IsQuiet (reply_to_commit k ended keep rest)
 end_quiet k ended true rest = record { loads = refl; stores = refl; outputs = refl; violation = refl }
 end_quiet k ended false [] = record { loads = refl; stores = refl; outputs = refl; violation = refl }
 end_quiet k ended false (x ∷ rest) = record { loads = refl; stores = refl; outputs = refl; violation = refl }
@@ -99,7 +99,7 @@ commit_quiet img s by = committed_quiet (program img) s.plain.commits s.plain.ta
 
 accepted_asks : (img : Image) (config : Config) (s : Standing) (x : Event) (e : Entry) (a : Option ℕ) → IsAccepted img config s x e → IsQuiet (reply_to img s x) → AsksAt a e
 unfolding entry_of
-accepted_asks img config s x e a accepted quiet = subst (AsksAt a) (sym accepted.1) (quiet_asks a (reply_to img s x) (named x) quiet)
+accepted_asks img config s x e a accepted quiet = subst (AsksAt a) (sym accepted.1) (quiet_asks a (reply_to img s x) (entry_asking x) quiet)
 
 some_asks : (a : Option ℕ) (p : ℕ) (e : Entry) → a ≡ Some p → AsksAt a e
 some_asks a p e is = subst (λ (a : Option ℕ). AsksAt a e) (sym is) (record { loads = λ h. refl; stores = λ h. refl; outputs = λ h. refl; violation = λ h. refl })

@@ -25,7 +25,7 @@ use Rattle.svc_history_laws.specs.declared.entry.Entry.{Entry}
 use Rattle.svc_history_laws.specs.declared.entry.Kind.{Kind}
 use Rattle.svc_history_laws.specs.declared.entry.Kind.TheVariants.{Assign, Submit, Replace, Cancel, Commit}
 use Rattle.svc_history_laws.specs.Causes.{IsCaused, IsRead}
-use Rattle.svc_history_laws.specs.Entries.{entry_of, kind_served, named, plain_entry, reply_told, served_told, telling}
+use Rattle.svc_history_laws.specs.Entries.{entry_of, kind_served, entry_asking, plain_entry, reply_told, served_told, telling}
 use Rattle.svc_history_laws.specs.Histories.{HasEvent}
 use Rattle.svc_history_laws.specs.Legal.{Legal, LegalEntry, LegalHistory, LegalKind, after_entry, last, led_to, the_arg, the_ask, the_local}
 use Rattle.svc_history_laws.proofs.Histories.{Stands, last_take, stands, tallies}
@@ -72,7 +72,7 @@ Tells e = (r : Reply) × (f : Entry) × (e ≡ telling r f)
 
 event_tells : (x : Event) (r : Reply) (e : Entry) → e ≡ entry_of x r → Tells e
 unfolding Tells entry_of
-event_tells x r e is = (r, named x, is)
+event_tells x r e is = (r, entry_asking x, is)
 
 kind_tells : (k : Kind) (img : Image) (config : Config) (s : Standing) (e : Entry) → LegalKind k img config s e → Tells e
 unfolding Tells

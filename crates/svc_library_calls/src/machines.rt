@@ -7,7 +7,7 @@ use crate::attempt::{Attempt, Refused, ready};
 use crate::images::sample;
 use std::alloc::Global;
 use svc_base::{Config, OpenError, UnitId};
-use svc_core::{Burst, Core, Lease};
+use svc_core::{Burst, Core, Lease, MAX_BURST_TURNS};
 use svc_core_laws::Ending;
 use svc_history::{Event, Machine, Recorder, TraceFaultKind, check_trace};
 use svc_machine::drive;
@@ -39,7 +39,7 @@ fn burst(machine: &Machine, line: Line) -> Option<Burst> {
     match line {
         Line::Submit(unit) => {
             let lease = machine.lease(UnitId(unit))?;
-            Some(lease.advance(machine.image(), 63))
+            Some(lease.advance(machine.image(), MAX_BURST_TURNS))
         }
         Line::Assign(..) | Line::Cancel(_) | Line::Commit(_) => None,
     }
@@ -128,7 +128,7 @@ fn driven(alloc: Global) -> Attempt {
     let config = four_units()?;
     let image = sample(alloc)?;
     let lease = Lease::new(UnitId(0), 0, Core::start(&image, image.start()));
-    let burst = lease.advance(&image, 63);
+    let burst = lease.advance(&image, MAX_BURST_TURNS);
     let events = [
         Event::Assign {
             unit: UnitId(0),
@@ -150,7 +150,7 @@ fn driven(alloc: Global) -> Attempt {
 fn scheduled(alloc: Global) -> Attempt {
     let config = ready(Config::new(4, 16, 2, 100, 1_000))?;
     let image = sample(alloc)?;
-    match run_schedule(alloc, &image, config, 63, &mut Youngest) {
+    match run_schedule(alloc, &image, config, MAX_BURST_TURNS, &mut Youngest) {
         Ok(recorder) => Ok(recorder.entries().len() == 54 && is_done(recorder.machine())),
         Err(OpenError::Memory) => Err(Refused::Told),
     }

@@ -13,10 +13,10 @@ use Rattle.svc_core_laws.specs.Program.{Want, Store, Narrow}
 use Rattle.svc_core_laws.specs.Turns.{arrives, word_address, lane_of}
 use Rattle.svc_core_laws.specs.Words.{stored, wants_store, wants_write}
 use Rattle.svc_bus_laws.specs.Versioned.{view}
-use Rattle.svc_bus_laws.specs.LineTable.{Line, LineTable, is_active, is_reusable, line_at, unit_at, versioned}
+use Rattle.svc_bus_laws.specs.LineTable.{Line, LineTable, is_active, is_reusable, line_at, unit_at, versioned_map}
 use Rattle.svc_bus_laws.specs.Supplier.{Supplier}
 use Rattle.svc_bus_laws.specs.Supplier as supply
-use Rattle.svc_bus_laws.specs.Steps.{read, write, reuse, fill, with_line, reused, filled_line, purged}
+use Rattle.svc_bus_laws.specs.Steps.{read, write, reuse, fill, with_line, line_after_reuse, filled_line, line_after_purging}
 use Rattle.svc_bus_laws.specs.BusState.{BusState, Agrees, unnumbered}
 use Rattle.svc_bus_laws.specs.Refusals.{bus_cache, set_full}
 use Rattle.svc_bus_laws.proofs.ReadLaws.{active_parts, reusable_parts}
@@ -45,9 +45,9 @@ own_line t p a = split (is_active (line_at t p a)) (is_reusable (line_at t p a))
     split true y on other = let l = active_parts (line_at t p a) on in valid (line_at t p a) l.0 l.1
     split false true off on =
         let l = reusable_parts (line_at t p a) on in
-        ap (λ o. is_none (unnumbered o)) (here t.lines (unit_at t p) a (reused (t.commits + p) (line_at t p a)) (λ line. line))
-        ∙ ap (λ o. is_none (unnumbered (reused (t.commits + p) o))) l.1
-    split false false off other = ap (λ o. is_none (unnumbered o)) (here t.lines (unit_at t p) a (Some (filled_line t p a)) purged)
+        ap (λ o. is_none (unnumbered o)) (here t.lines (unit_at t p) a (line_after_reuse (t.commits + p) (line_at t p a)) (λ line. line))
+        ∙ ap (λ o. is_none (unnumbered (line_after_reuse (t.commits + p) o))) l.1
+    split false false off other = ap (λ o. is_none (unnumbered o)) (here t.lines (unit_at t p) a (Some (filled_line t p a)) line_after_purging)
 
 -- so it has room for it
 free_after : (b : BusState) (unit : ℕ) (t : LineTable) (p a : ℕ) → Agrees b (read t p a) → unit_at t p ≡ unit → set_full (bus_cache b unit) a ≡ None
@@ -123,12 +123,12 @@ module _ (img : Image) (seat : Seat State) (t : LineTable) (p a lane v : ℕ) (p
   written store.Byte h c e = record {
     seat = refl;
     table = subst (λ w. Agrees wrote (write (read t p a) p a w)) h.word_is e;
-    reply_is = ap₂ (λ w s. record { what = what.Stored (record { 0 = a }) w s; cut = cut }) h.word_is h.served_is ∙ ap {B = Reply} (λ o. record { what = what.Stored (record { 0 = a }) (word_written store.Byte lane v (view (versioned t) p a)) (Some (Rattle.svc_machine_laws.specs.Replies.serves_at t p a)); cut = o }) c;
+    reply_is = ap₂ (λ w s. record { what = what.Stored (record { 0 = a }) w s; cut = cut }) h.word_is h.served_is ∙ ap {B = Reply} (λ o. record { what = what.Stored (record { 0 = a }) (word_written store.Byte lane v (view (versioned_map t) p a)) (Some (Rattle.svc_machine_laws.specs.Replies.serves_at t p a)); cut = o }) c;
   }
   written store.Half h c e = record {
     seat = refl;
     table = subst (λ w. Agrees wrote (write (read t p a) p a w)) h.word_is e;
-    reply_is = ap₂ (λ w s. record { what = what.Stored (record { 0 = a }) w s; cut = cut }) h.word_is h.served_is ∙ ap {B = Reply} (λ o. record { what = what.Stored (record { 0 = a }) (word_written store.Half lane v (view (versioned t) p a)) (Some (Rattle.svc_machine_laws.specs.Replies.serves_at t p a)); cut = o }) c;
+    reply_is = ap₂ (λ w s. record { what = what.Stored (record { 0 = a }) w s; cut = cut }) h.word_is h.served_is ∙ ap {B = Reply} (λ o. record { what = what.Stored (record { 0 = a }) (word_written store.Half lane v (view (versioned_map t) p a)) (Some (Rattle.svc_machine_laws.specs.Replies.serves_at t p a)); cut = o }) c;
   }
   written store.Word h c e = record {
     seat = refl;

@@ -25,7 +25,7 @@ use Rattle.svc_machine_laws.specs.MachineLaws.{HasEnded}
 use Rattle.svc_machine_laws.specs.Events.{Commit, plain_event, whole_event}
 use Rattle.svc_machine_laws.specs.LineEvents.{line_event, line_commit, line_settle}
 use Rattle.svc_machine_laws.specs.Guide.{Guide, guide_committed, guide_settled, guide_cut}
-use Rattle.svc_machine_laws.specs.Replies.{whole_reply, whole_committed, committed, cut_from}
+use Rattle.svc_machine_laws.specs.Replies.{whole_reply, whole_committed, reply_to_commit, cut_from}
 use Rattle.svc_machine_laws.specs.Reached.{words_waiting}
 use Rattle.svc_machine_laws.proofs.Given.{given}
 use Rattle.svc_machine_laws.proofs.Accepted.{CanCommit, can_commit, seat_here}
@@ -234,5 +234,5 @@ module _ (m : Parts) (kept : Kept m) (by : ℕ) (ok : IsAccepted m (Commit by)) 
         let many : length seats ≡ suc (length others) = ap (λ (l : List Seat). length l) h.are ∙ ap suc (sym (count whole_seat h.others)) in
         ap {B = Reply} (λ (c : Option Cut). record { what = what.Committed (record { 0 = k }) end; cut = c })
         (cut_is ∙ ap {B = Option Cut} (λ x. cond x (Some (cut_from cause.WrongGuess k (length seats) 1)) None) cuts_are ∙ settled_cut end k (length seats) others many)
-        ∙ ap (λ o. committed k o (stays o (map seat_entry others)) others) (sym h.ended)
+        ∙ ap (λ o. reply_to_commit k o (stays o (map seat_entry others)) others) (sym h.ended)
         ∙ sym (ap (whole_committed (program m.image) k) seats_are)

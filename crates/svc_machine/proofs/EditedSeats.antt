@@ -8,7 +8,7 @@ use Rattle.svc_core_laws.specs.Words.{program}
 use Rattle.svc_core_laws.specs.Program.{Memory, Want, Local, Load, Store, Narrow, Emit}
 use Rattle.svc_bus_laws.specs.Versioned.{Row, Versioned, Victim, view, victim_answer}
 use Rattle.svc_bus_laws.specs.ByRows.{edit, victim_after, read_rows, exposed_row}
-use Rattle.svc_bus_laws.specs.LineTable.{LineTable, versioned}
+use Rattle.svc_bus_laws.specs.LineTable.{LineTable, versioned_map}
 use Rattle.svc_bus_laws.specs.Steps.{read}
 use Rattle.svc_bus_laws.specs.BusState.{BusState}
 use Rattle.svc_bus_laws.specs.Sound.{IsSound}
@@ -18,7 +18,7 @@ use Rattle.svc_machine_laws.specs.declared.reply.Cause.TheVariants as cause
 use Rattle.svc_machine_laws.specs.declared.reply.Cut.{Cut}
 use Rattle.svc_machine_laws.specs.declared.reply.Reply.{Reply}
 use Rattle.svc_machine_laws.specs.PlainMachine.{cut_by}
-use Rattle.svc_machine_laws.specs.WholeMachine.{Seat, Machine, seat_turn, at_core, seen}
+use Rattle.svc_machine_laws.specs.WholeMachine.{Seat, Machine, seat_turn, at_core, memory_seen}
 use Rattle.svc_machine_laws.specs.WholeMachine as whole
 use Rattle.svc_machine_laws.specs.Blame.{tasks_cut}
 use Rattle.svc_machine_laws.specs.MachineLaws.{IsWithin}
@@ -75,13 +75,13 @@ read_length (suc p) a rows = edit_length (exposed_row a) (suc p) rows
 
 -- what an asked turn cuts, by the rows
 pub asked_cut_is : (w : Want State) (t : LineTable) (place : ℕ) → IsSound t → place < length t.units → IsWithin t.words w
-    → asked_cut w t place ≡ turn_cut w (versioned t).rows (versioned t).commits (length (versioned t).rows) place
+    → asked_cut w t place ≡ turn_cut w (versioned_map t).rows (versioned_map t).commits (length (versioned_map t).rows) place
 asked_cut_is (Local c) t place sound within known = refl
 asked_cut_is (Load a value go) t place sound within known = refl
-asked_cut_is (Store a w c) t place sound within known = stored_cut_is (versioned t) place a
+asked_cut_is (Store a w c) t place sound within known = stored_cut_is (versioned_map t) place a
 asked_cut_is (Narrow a f c) t place sound within known =
-    let v : Versioned = versioned t in
-    stored_cut_is (versioned (read t place a)) place a
+    let v : Versioned = versioned_map t in
+    stored_cut_is (versioned_map (read t place a)) place a
     ∙ ap (λ (u : Versioned). option_map (λ n. cut_from (cause.Violation (record { 0 = a })) u.commits (length u.rows) (suc place + n)) (victim_after u.rows place a)) (read_step t place a sound within known).same_map
     ∙ ap₂ (λ count o. option_map (λ n. cut_from (cause.Violation (record { 0 = a })) v.commits count (suc place + n)) o) (read_length place a v.rows) (read_victim place a a v.rows)
 asked_cut_is (Emit w c) t place sound within known = refl
@@ -121,14 +121,14 @@ left_after (Emit w c) v place = nothing_cut (length v.rows)
 -- what it needs of the machine and of a line table
 pub record IsTurn (m : Machine State) (t : LineTable) (place : ℕ) (before : Seat State) (want : Option (Want State)) : Type 0 where
   pub sound : IsSound t
-  pub same_map : versioned t ≡ m.versioned
+  pub same_map : versioned_map t ≡ m.versioned
   pub within : place < length t.units
   pub as_many : length m.seats ≡ length m.versioned.rows
   pub at : slice_get m.seats place ≡ Some before
   pub known : (w : Want State) → want ≡ Some w → IsWithin t.words w
 
 module _ (img : Image) (m : Machine State) (t : LineTable) (place : ℕ) (last : State) (before seat : Seat State) (bus : BusState) (reply : Reply) where
-  look : versioned t ≡ m.versioned → view (versioned t) place ≡ seen m.versioned place
+  look : versioned_map t ≡ m.versioned → view (versioned_map t) place ≡ memory_seen m.versioned place
   look same = ap (λ (u : Versioned). view u place) same ∙ view_by_rows m.versioned place
 
   cut_is : (w : Want State) → IsTurn m t place before (Some w) → IsDone img (Some w) t place (at_core last before) seat bus reply
@@ -159,7 +159,7 @@ module _ (img : Image) (m : Machine State) (t : LineTable) (place : ℕ) (last :
       take_all (length m.seats - tasks_cut reply.cut) (slice_set m.seats place seat) (omega (arith, none, all))
       ∙ set_edit (at_core last) place m.seats before seat h.at done.seat
   seats_done (Some w) h done =
-      let f : Seat State → Seat State = λ s. seat_turn w (seen m.versioned place) (at_core last s) in
+      let f : Seat State → Seat State = λ s. seat_turn w (memory_seen m.versioned place) (at_core last s) in
       let left = (left_after w m.versioned place).1 in
       let turned : seat ≡ f before = done.seat ∙ ap (λ l. seat_turn w l (at_core last before)) (look h.same_map) in
       ap₂ (λ n c. take (n - tasks_cut c) (slice_set m.seats place seat)) h.as_many (cut_is w h done)

@@ -28,7 +28,7 @@ use Rattle.svc_machine_laws.specs.LineEvents.{line_ask, line_check, line_submit,
 use Rattle.svc_machine_laws.specs.Blame.{tasks_cut}
 use Rattle.svc_machine_laws.specs.Guide.{Guide, guide_of, guide_cut}
 use Rattle.svc_machine_laws.specs.Reached.{IsReached}
-use Rattle.svc_machine_laws.specs.Replies.{checked, cut_from, whole_asked, whole_submitted, whole_reply}
+use Rattle.svc_machine_laws.specs.Replies.{reply_after_check, cut_from, whole_asked, whole_submitted, whole_reply}
 use Rattle.svc_machine_laws.specs.declared.reply.Cause.TheVariants as cause
 use Rattle.svc_machine_laws.specs.declared.reply.Cut.{Cut}
 use Rattle.svc_machine_laws.specs.declared.reply.Reply.{Reply}
@@ -100,7 +100,7 @@ guide_checked : (p : Program State) (entries : List ℕ) (c : Bool) (n : ℕ) (s
 guide_checked p entries true n s = ap {B = Guide} (λ l. record (guide_of p entries s) { active = l }) (sym (map_take entry_of n s.tasks))
 guide_checked p entries false n s = refl
 
-reply_checked : (c : Bool) (k n place : ℕ) (r : Reply) → let o : Reply = record { what = r.what; cut = option_or (cond c (Some (cut_from cause.WrongGuess k n (suc place))) None) r.cut } in o ≡ checked c k n place r
+reply_checked : (c : Bool) (k n place : ℕ) (r : Reply) → let o : Reply = record { what = r.what; cut = option_or (cond c (Some (cut_from cause.WrongGuess k n (suc place))) None) r.cut } in o ≡ reply_after_check c k n place r
 reply_checked true k n place r = refl
 reply_checked false k n place r = refl
 

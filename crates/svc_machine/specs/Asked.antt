@@ -12,7 +12,7 @@ use Rattle.svc_core_laws.specs.State.{State}
 use Rattle.svc_core_laws.specs.Program.{Memory, Want, Local, Load, Store, Narrow, Emit}
 use Rattle.svc_core_laws.specs.Words.{program, stored}
 use Rattle.svc_bus_laws.specs.Versioned.{Victim, view, victim_answer}
-use Rattle.svc_bus_laws.specs.LineTable.{LineTable, versioned}
+use Rattle.svc_bus_laws.specs.LineTable.{LineTable, versioned_map}
 use Rattle.svc_bus_laws.specs.Steps.{read}
 use Rattle.svc_bus_laws.specs.BusState.{BusState, Agrees}
 use Rattle.svc_bus.specs.Calls.{RunsAt, full_refusal}
@@ -39,7 +39,7 @@ refused_for b unit (Some a) = full_refusal b unit a
 
 -- what a read of the word leaves and gives
 pub record IsRead (t : LineTable) (place a : ℕ) (bus : BusState) (value : ℕ) (served : Served) : Type 0 where
-  pub value_is : value ≡ view (versioned t) place a
+  pub value_is : value ≡ view (versioned_map t) place a
   pub served_is : served ≡ serves_at t place a
   pub table : Agrees bus (read t place a)
 
@@ -65,7 +65,7 @@ served_first store.Word t place a = None
 pub record IsPrepared (t : LineTable) (unit place a : ℕ) (kind : StoreKind) (lane value : ℕ)
     (bus : BusState) (word : ℕ) (served : Option Served) : Type 0 where
   pub runs : RunsAt bus unit (read_first kind t place a) place
-  pub word_is : word ≡ word_written kind lane value (view (versioned t) place a)
+  pub word_is : word ≡ word_written kind lane value (view (versioned_map t) place a)
   pub served_is : served ≡ served_first kind t place a
   pub words : bus.words ≡ t.words
 
@@ -84,7 +84,7 @@ violation_cut a v = record {
 
 -- the tasks that a store of this word squashes
 abbrev pub stored_cut : LineTable → (place a : ℕ) → Option Cut
-stored_cut t place a = option_map (violation_cut a) (victim_answer (versioned t) place a)
+stored_cut t place a = option_map (violation_cut a) (victim_answer (versioned_map t) place a)
 
 -- what such a turn squashes; a store of less than a word reads its word first
 abbrev pub asked_cut : Want State → LineTable → (place : ℕ) → Option Cut
@@ -103,14 +103,14 @@ seat_asked (Some w) look seat = seat_turn w look seat
 abbrev pub asked_answer : Image → Option (Want State) → LineTable → (place : ℕ) → Reply
 asked_answer img None t place = ran
 asked_answer img (Some w) t place = record {
-  what = turn_done (program img) w (view (versioned t) place) (serves_at t place);
+  what = turn_done (program img) w (view (versioned_map t) place) (serves_at t place);
   cut = asked_cut w t place;
 }
 
 -- the asked turn that wants this was done
 pub record IsDone (img : Image) (want : Option (Want State)) (t : LineTable) (place : ℕ)
     (before after : Seat State) (bus : BusState) (reply : Reply) : Type 0 where
-  pub seat : after ≡ seat_asked want (view (versioned t) place) before
+  pub seat : after ≡ seat_asked want (view (versioned_map t) place) before
   pub table : Agrees bus (line_ask want t place)
   pub reply_is : reply ≡ asked_answer img want t place
 

@@ -3,6 +3,7 @@
 ghost use Rattle.std.specs.Prelude.{◌≡◌, ◌<◌, ◌≤◌, ◌+◌, ◌%◌, ◌^◌, ℕ, Some, None, length, option_map};
 ghost use Rattle.std.specs.Prelude.{IfErr, IfOk, OnErr, OnOk};
 ghost use Rattle.std.specs.Result.{result_err};
+ghost use Rattle.svc_base.specs.declared.limits.TheConstants.{MAX_TASK_OUTPUT};
 ghost use Rattle.svc_core_laws.specs.declared.end.End.TheVariants as end;
 ghost use Rattle.svc_core_laws.specs.Bursts.{IsReady};
 ghost use Rattle.svc_core_laws.specs.Local.{ends};
@@ -140,7 +141,7 @@ fn do_store(
 fn do_emit(image: &Image, seat: &mut Seat, word: u32) -> Reply
     requires going { seat.old.lease.core.done ≡ None }
     requires in_time { seat.old.lease.core.count < seat.old.lease.core.limit }
-    requires few { seat.old.lease.core.emitted < 64 }
+    requires few { seat.old.lease.core.emitted < MAX_TASK_OUTPUT }
     requires waiting { length seat.old.waiting.items ≡ seat.old.lease.core.emitted }
     ensures seat { whole_seat seat.new
         ≡ seat_turn (Emit word (arrives image.now (outputs seat.old.lease.core))) (λ a. 0) (whole_seat seat.old) }

@@ -14,10 +14,10 @@ use Rattle.svc_machine_laws.specs.declared.reply.Cause.TheVariants as cause
 use Rattle.svc_machine_laws.specs.declared.reply.What.TheVariants as what
 use Rattle.svc_machine_laws.specs.declared.reply.Reply.{Reply}
 use Rattle.svc_machine_laws.specs.PlainMachine.{Task, Plain, Running, runs_of, running, run_of, row_of, memory_at, entry_of, entry_for, stays}
-use Rattle.svc_machine_laws.specs.WholeMachine.{machine_of, seat_of, seat_entry, seen}
+use Rattle.svc_machine_laws.specs.WholeMachine.{machine_of, seat_of, seat_entry, memory_seen}
 use Rattle.svc_machine_laws.specs.MachineLaws.{Taken}
 use Rattle.svc_machine_laws.specs.Events.{Event, Assign, Submit, Replace, Cancel, Commit, IsEvent, asked_want}
-use Rattle.svc_machine_laws.specs.Replies.{turn_done, turn_cut, cut_from, committed, cancelled, serves_at, whole_asked, whole_submitted, whole_cancelled, whole_committed, whole_reply, plain_asked_of, plain_asked, plain_submitted, plain_cancelled, plain_committed, plain_reply}
+use Rattle.svc_machine_laws.specs.Replies.{turn_done, turn_cut, cut_from, reply_to_commit, reply_to_cancel, serves_at, whole_asked, whole_submitted, whole_cancelled, whole_committed, whole_reply, plain_asked_of, plain_asked, plain_submitted, plain_cancelled, plain_committed, plain_reply}
 use Rattle.svc_machine_laws.specs.Standing.{Standing, refused}
 use Rattle.svc_machine_laws.proofs.Given.{Given}
 use Rattle.svc_machine_laws.proofs.Accepted.{can_submit, can_cancel, seat_places}
@@ -28,7 +28,7 @@ use Rattle.svc_machine_laws.proofs.Parts.{part_locals}
 use Rattle.svc_machine_laws.specs.PlainMachine as plain
 use Rattle.svc_machine_laws.specs.WholeMachine as whole
 use Rattle.svc_machine_laws.specs.WholeMachine.{Machine}
-use Rattle.svc_machine_laws.specs.Replies.{checked}
+use Rattle.svc_machine_laws.specs.Replies.{reply_after_check}
 use Rattle.svc_machine_laws.proofs.Checks.{same_check}
 use Rattle.svc_machine_laws.proofs.Submits.{submit_step}
 use Rattle.svc_machine_laws.proofs.Steps.{map_runs}
@@ -63,7 +63,7 @@ asked_reply {C} p s t place local last (Some w) tk = of (slice_get s.tasks place
         let own : are_local p local x.run.core ≡ true = subst (λ (z : Running C). are_local p local z.run.core ≡ true) same tk.own in
         let core : locals p local x.run.core ≡ last = subst (λ (z : Running C). locals p local z.run.core ≡ last) same tk.end_is in
         let run : part p task.entry (local + task.turns) m ≡ record { core = locals p local x.run.core; log = x.run.log } = part_locals p task.entry local task.turns m own in
-        let look : seen (machine_of p s).versioned place ≡ over (wrote x.run.log) m = view_hide rows (seq p s.commits).memory place ∙ view_at p (seq p s.commits).memory s.tasks place task e in
+        let look : memory_seen (machine_of p s).versioned place ≡ over (wrote x.run.log) m = view_hide rows (seq p s.commits).memory place ∙ view_at p (seq p s.commits).memory s.tasks place task e in
         let wants : w ≡ p.want (locals p local x.run.core) = sym (ap p.want core ∙ tk.ask_is w refl) in
         let reply : Want C → Memory → List Row → ℕ → Reply = λ v l q n. record { what = turn_done p v l (serves_at t place); cut = turn_cut v q s.commits n place } in
         ap₂ (λ l n. reply w l (with_head rows) n) look (count p (seq p s.commits).memory s.tasks)
@@ -71,7 +71,7 @@ asked_reply {C} p s t place local last (Some w) tk = of (slice_get s.tasks place
         ∙ ap (λ v. reply v (over (wrote x.run.log) m) rows (length s.tasks)) wants
         ∙ ap (λ (r : Run C). reply (p.want r.core) (over (wrote r.log) m) rows (length s.tasks)) (sym run)
 
-rest_cut : {C : Type 0} (p : Program C) (k : ℕ) (ended : Option End) (keep : Bool) (m : Memory) (ts : List Task) → committed k ended keep (map seat_of (runs_of p m ts)) ≡ committed k ended keep ts
+rest_cut : {C : Type 0} (p : Program C) (k : ℕ) (ended : Option End) (keep : Bool) (m : Memory) (ts : List Task) → reply_to_commit k ended keep (map seat_of (runs_of p m ts)) ≡ reply_to_commit k ended keep ts
 rest_cut p k ended keep m [] = refl
 rest_cut p k ended true m (t ∷ ts) = refl
 rest_cut p k ended false m (t ∷ ts) =
@@ -84,7 +84,7 @@ commit_reply {C} p k (t ∷ ts) =
     let r : Run C = part p t.entry t.turns (seq p k).memory in
     let m : Memory = over (wrote r.log) (seq p k).memory in
     rest_cut p k (p.done r.core) (stays (p.done r.core) (map seat_entry (map seat_of (runs_of p m ts)))) m ts
-    ∙ ap (λ l. committed k (p.done r.core) (stays (p.done r.core) l) ts) (map_runs p seat_entry entry_of (λ y. refl) m ts)
+    ∙ ap (λ l. reply_to_commit k (p.done r.core) (stays (p.done r.core) l) ts) (map_runs p seat_entry entry_of (λ y. refl) m ts)
 
 module _ (img : Image) (given : Given img) (config : Config) (s : Standing) where
   abbrev p : Program State
@@ -103,14 +103,14 @@ module _ (img : Image) (given : Given img) (config : Config) (s : Standing) wher
       let m : Machine State = machine_of p s.plain in
       let after : Plain = plain.submit p s.plain can.place b.local (is_some ask) in
       ap (λ o. whole_submitted p m s.lines o b.end ask) (seat_places img config s b.unit.0 ∙ can.at)
-      ∙ ap (λ (n : Machine State). checked (whole.is_misled p n.seats can.place) s.plain.commits (length m.seats) can.place (whole_asked p m s.lines can.place ask)) (sym (submit_step p s.plain can.place b.local b.end ask tk))
-      ∙ ap (λ c. checked c s.plain.commits (length m.seats) can.place (whole_asked p m s.lines can.place ask)) (same_check p after can.place)
-      ∙ ap₂ (λ n r. checked (plain.is_misled p after can.place) s.plain.commits n can.place r) (count p (seq p s.plain.commits).memory s.plain.tasks) (asked_reply p s.plain s.lines can.place b.local b.end ask tk)
+      ∙ ap (λ (n : Machine State). reply_after_check (whole.is_misled p n.seats can.place) s.plain.commits (length m.seats) can.place (whole_asked p m s.lines can.place ask)) (sym (submit_step p s.plain can.place b.local b.end ask tk))
+      ∙ ap (λ c. reply_after_check c s.plain.commits (length m.seats) can.place (whole_asked p m s.lines can.place ask)) (same_check p after can.place)
+      ∙ ap₂ (λ n r. reply_after_check (plain.is_misled p after can.place) s.plain.commits n can.place r) (count p (seq p s.plain.commits).memory s.plain.tasks) (asked_reply p s.plain s.lines can.place b.local b.end ask tk)
       ∙ sym (ap (λ o. plain_submitted p s.plain s.lines o b.local (is_some (asked_want img b))) can.at)
   reply_is (Replace unit a) is h = refl
   reply_is (Cancel unit) is h =
       let can = can_cancel img config s unit h in
       ap (whole_cancelled (machine_of p s.plain)) (seat_places img config s unit ∙ can.at)
-      ∙ ap (λ n. cancelled s.plain.commits n can.place) (count p (seq p s.plain.commits).memory s.plain.tasks)
+      ∙ ap (λ n. reply_to_cancel s.plain.commits n can.place) (count p (seq p s.plain.commits).memory s.plain.tasks)
       ∙ sym (ap (plain_cancelled s.plain) can.at)
   reply_is (Commit by) is h = commit_reply p s.plain.commits s.plain.tasks

@@ -28,7 +28,7 @@ use Rattle.svc_machine_laws.specs.Blame.{Writes, IsBlamed, Misleads}
 use Rattle.svc_machine_laws.proofs.Given.{Given}
 use Rattle.svc_machine_laws.proofs.Accepted.{can_submit, can_cancel, can_commit, seat_places}
 use Rattle.svc_machine_laws.proofs.Answering.{count, asked_reply}
-use Rattle.svc_machine_laws.specs.Replies.{checked, plain_asked, plain_submitted}
+use Rattle.svc_machine_laws.specs.Replies.{reply_after_check, plain_asked, plain_submitted}
 use Rattle.svc_machine_laws.proofs.MachineEvents.{taken, head_ended}
 use Rattle.svc_machine_laws.proofs.Parts.{seq_commit}
 
@@ -154,7 +154,7 @@ cancel_blame img s unit place at cut h =
 
 checked_blame : (img : Image) (s : Standing) (b : Advance) (place : ℕ) → task_place s.plain b.unit.0 ≡ Some place → (r : Reply) (cut : Cut) → (r.cut ≡ Some cut → IsBlamed img s.plain (Submit b) cut)
     → (c : Bool) → is_misled (program img) (submit (program img) s.plain place b.local (is_some (asked_want img b))) place ≡ c
-    → (checked c s.plain.commits (length s.plain.tasks) place r).cut ≡ Some cut → IsBlamed img s.plain (Submit b) cut
+    → (reply_after_check c s.plain.commits (length s.plain.tasks) place r).cut ≡ Some cut → IsBlamed img s.plain (Submit b) cut
 checked_blame img s b place at r cut turn false e h = turn h
 checked_blame img s b place at r cut turn true e h =
     subst (IsBlamed img s.plain (Submit b)) (same_Some _ cut h)

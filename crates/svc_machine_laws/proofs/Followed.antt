@@ -11,7 +11,7 @@ use Rattle.svc_core_laws.specs.declared.end.End.{End}
 use Rattle.svc_core_laws.specs.Program.{Memory, Program, Run, part, seq, due_after, IsProgram}
 use Rattle.svc_core_laws.specs.Words.{program}
 use Rattle.svc_bus_laws.specs.ByRows.{cut_at, edit}
-use Rattle.svc_machine_laws.specs.PlainMachine.{Task, Plain, Running, runs_of, running, entry_of, entry_for, stays, settled, more, one_more, cut_by, take_turn_by, submitted, row_of, IsDue, cuts_next}
+use Rattle.svc_machine_laws.specs.PlainMachine.{Task, Plain, Running, runs_of, running, entry_of, entry_for, stays, staying_tasks, more, one_more, cut_by, take_turn_by, tasks_after_submit, row_of, IsDue, cuts_next}
 use Rattle.svc_machine_laws.specs.PlainMachine as plain
 use Rattle.svc_machine_laws.specs.MachineLaws.{HasEnded}
 use Rattle.svc_machine_laws.specs.Guess.{newer_successor, successor_at, guess, guess_after, youngest, entry_after, last_end}
@@ -61,12 +61,12 @@ asked_front : {C : Type 0} (p : Program C) (runs : List (Running C)) (ts : List 
 asked_front p runs ts place None = sym (take_all (length ts) (map entry_of ts) (let e = map_count entry_of ts in omega (arith, e)))
 asked_front p runs ts place (Some x) = edit_front entry_of place one_more (cut_by (p.want x.run.core) (map row_of runs) place) ts (λ t. refl)
 
-submit_front : {C : Type 0} (p : Program C) (m : Memory) (ts : List Task) (place local : ℕ) (ask : Bool) → map entry_of (submitted p m ts place local ask) ≡ take (length (submitted p m ts place local ask)) (map entry_of ts)
+submit_front : {C : Type 0} (p : Program C) (m : Memory) (ts : List Task) (place local : ℕ) (ask : Bool) → map entry_of (tasks_after_submit p m ts place local ask) ≡ take (length (tasks_after_submit p m ts place local ask)) (map entry_of ts)
 submit_front p m ts place local false = edit_front entry_of place (more local) None ts (λ t. refl)
 submit_front p m ts place local true =
     let now : List Task = edit place (more local) None ts in
     asked_front p (runs_of p m now) now place (slice_get (runs_of p m now) place)
-    ∙ ap (take (length (submitted p m ts place local true))) (edit_all entry_of place (more local) ts (λ t. refl))
+    ∙ ap (take (length (tasks_after_submit p m ts place local true))) (edit_all entry_of place (more local) ts (λ t. refl))
 
 pub submit_guide : {C : Type 0} (p : Program C) (entries : List ℕ) (s : Plain) (place local : ℕ) (ask : Bool)
     → guide_of p entries (plain.submit p s place local ask) ≡ guide_cut (length (plain.submit p s place local ask).tasks) (guide_of p entries s)
@@ -92,7 +92,7 @@ successors_step p k (x ∷ entries) began next e f =
     ap₂ (λ (y : Option ℕ) (ys : List (Option ℕ)). y ∷ ys) (ap₂ (λ b n. newer_successor b x n (successor_at p k x)) e f) (successors_step p k entries began next e f)
 
 -- the entries that stay
-kept_entries : (ended : End) (e : ℕ) (ts : List Task) → map entry_of (settled (Some ended) ts) ≡ drop 1 (cond (cuts_next ended (map entry_of ts)) (take 1 (e ∷ map entry_of ts)) (e ∷ map entry_of ts))
+kept_entries : (ended : End) (e : ℕ) (ts : List Task) → map entry_of (staying_tasks (Some ended) ts) ≡ drop 1 (cond (cuts_next ended (map entry_of ts)) (take 1 (e ∷ map entry_of ts)) (e ∷ map entry_of ts))
 kept_entries ended e [] = none (stays (Some ended) [])
   where
     none : (b : Bool) → let ts : List Task = [] in map entry_of (cond b ts []) ≡ drop 1 (e ∷ [])
@@ -122,8 +122,8 @@ commit_tasks_guide {C} p good entries k a e (t ∷ ts) x ended here due done =
     let over : p.done r.core ≡ Some ended = done (record { task = t; run = r }) refl in
     let next : (seq p (suc k)).due ≡ due_after (Some ended) = ap (λ q. q.due) (seq_commit p good k t.entry t.turns ended due over) ∙ ap due_after over in
     let of : Option ℕ → List (Option ℕ) → List ℕ → Guide = λ d o l. record { entries = entries; due = d; successors = o; active = l } in
-    ap (λ o. of (seq p (suc k)).due (map (successor_at p (suc k)) entries) (map entry_of (settled o ts))) over
-    ∙ ap₂ (λ d o. of d o (map entry_of (settled (Some ended) ts))) next (successors_step p k entries (Some t.entry) (due_after (Some ended)) due next)
+    ap (λ o. of (seq p (suc k)).due (map (successor_at p (suc k)) entries) (map entry_of (staying_tasks o ts))) over
+    ∙ ap₂ (λ d o. of d o (map entry_of (staying_tasks (Some ended) ts))) next (successors_step p k entries (Some t.entry) (due_after (Some ended)) due next)
     ∙ ap (of (due_after (Some ended)) (with_successor entries (Some t.entry) (due_after (Some ended)) (map (successor_at p k) entries))) (kept_entries ended t.entry ts)
     ∙ sym (settled_parts ended (cuts_next ended (map entry_of ts)) (guide_of p entries s) t.entry (map entry_of ts) refl)
 

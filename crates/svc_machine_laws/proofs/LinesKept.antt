@@ -20,7 +20,7 @@ use Rattle.svc_bus_laws.proofs.RefusalProofs.{unpinned_head}
 use Rattle.svc_bus_laws.proofs.SquashLaws.{squash_law}
 use Rattle.svc_machine_laws.specs.PlainMachine.{Task, Plain, Running, IsDue, runs_of, running, unit_of, entry_of, entry_for, stays, cut_by}
 use Rattle.svc_machine_laws.specs.PlainMachine as plain
-use Rattle.svc_machine_laws.specs.WholeMachine.{Seat, Machine, machine_of, seat_of, seat_unit, seat_entry, seat_turn, at_core, seen, settle}
+use Rattle.svc_machine_laws.specs.WholeMachine.{Seat, Machine, machine_of, seat_of, seat_unit, seat_entry, seat_turn, at_core, memory_seen, settle}
 use Rattle.svc_machine_laws.specs.WholeMachine as whole
 use Rattle.svc_machine_laws.specs.Events.{task_place}
 use Rattle.svc_machine_laws.specs.LineEvents.{line_ask, line_commit, line_settle}
@@ -60,10 +60,10 @@ module _ (img : Image) (config : Config) where
       let m : Machine State = machine_of p s in
       let next : Plain = plain.submit p s place local true in
       let cut : Option ℕ = cut_by w m.versioned.rows place in
-      let turn : Seat State → Seat State = λ z. seat_turn w (seen m.versioned place) (at_core end z) in
+      let turn : Seat State → Seat State = λ z. seat_turn w (memory_seen m.versioned place) (at_core end z) in
       sym (map_runs p seat_unit unit_of (λ x. refl) (seq p s.commits).memory next.tasks)
       ∙ ap (λ (n : Machine State). map seat_unit n.seats) (submit_step p s place local end (Some w) t)
-      ∙ map_edit seat_unit turn (λ u. u) place cut m.seats (λ z h. same_unit w (seen m.versioned place) (at_core end z))
+      ∙ map_edit seat_unit turn (λ u. u) place cut m.seats (λ z h. same_unit w (memory_seen m.versioned place) (at_core end z))
       ∙ ap (edit place (λ u. u) cut) (map_runs p seat_unit unit_of (λ x. refl) (seq p s.commits).memory s.tasks)
     where
       same_unit : (w : Want State) (look : Memory) (z : Seat State) → (seat_turn w look z).unit ≡ z.unit

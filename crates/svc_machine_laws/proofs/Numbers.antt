@@ -15,7 +15,7 @@ use Rattle.svc_machine_laws.specs.declared.reply.Cause.TheVariants as cause
 use Rattle.svc_machine_laws.specs.declared.reply.Reply.{Reply}
 use Rattle.svc_machine_laws.specs.PlainMachine.{Task, Plain, Running, runs_of, running, row_of, cut_by, entry_of, stays}
 use Rattle.svc_machine_laws.specs.PlainMachine as plain
-use Rattle.svc_machine_laws.specs.WholeMachine.{Machine, Seat, machine_of, seat_of, seat_turn, at_core, seen}
+use Rattle.svc_machine_laws.specs.WholeMachine.{Machine, Seat, machine_of, seat_of, seat_turn, at_core, memory_seen}
 use Rattle.svc_machine_laws.specs.MachineLaws.{Taken}
 use Rattle.svc_machine_laws.specs.Events.{Event, Assign, Submit, Replace, Cancel, Commit, IsEvent, task_place, asked_want, plain_event, plain_submit, plain_cancel}
 use Rattle.svc_machine_laws.specs.Replies.{turn_cut, cut_from, wrong_guess, whole_asked, whole_submitted, whole_reply, plain_cancelled, plain_committed, plain_reply}
@@ -23,7 +23,7 @@ use Rattle.svc_machine_laws.specs.Standing.{Standing, refused, stepped, reply_to
 use Rattle.svc_machine_laws.specs.Blame.{tasks_cut, begun}
 use Rattle.svc_machine_laws.proofs.Given.{Given}
 use Rattle.svc_machine_laws.proofs.Accepted.{can_submit, can_cancel, can_commit, seat_places}
-use Rattle.svc_machine_laws.specs.Replies.{checked, plain_asked, plain_submitted}
+use Rattle.svc_machine_laws.specs.Replies.{reply_after_check, plain_asked, plain_submitted}
 use Rattle.svc_machine_laws.proofs.Checks.{misled_within}
 use Rattle.svc_machine_laws.proofs.Answering.{count, asked_reply}
 use Rattle.svc_machine_laws.proofs.Followed.{edit_count, map_count}
@@ -76,7 +76,7 @@ module _ (p : Program State) (s : Plain) (place : ℕ) (inside : place < length 
   submit_cuts t local last None tk = let n = edit_count place (plain.more local) s.tasks in omega (arith, n)
   submit_cuts t local last (Some w) tk =
       let after : Plain = plain.submit p s place local true in
-      let turn : Seat State → Seat State = λ z. seat_turn w (seen m.versioned place) (at_core last z) in
+      let turn : Seat State → Seat State = λ z. seat_turn w (memory_seen m.versioned place) (at_core last z) in
       let same : length (machine_of p after).seats ≡ length (edit place turn (cut_by w m.versioned.rows place) m.seats) = ap (λ (n : Machine State). length n.seats) (submit_step p s place local last (Some w) tk) in
       let left = count p (seq p after.commits).memory after.tasks in
       let cuts = turn_cuts turn w in
@@ -84,10 +84,10 @@ module _ (p : Program State) (s : Plain) (place : ℕ) (inside : place < length 
 
 -- and those that the check cuts besides
 check_cuts : (p : Program State) (s a : Plain) (place : ℕ) (r : Reply) → length a.tasks + tasks_cut r.cut ≡ length s.tasks
-    → length (plain.check p a place).tasks + tasks_cut (checked (plain.is_misled p a place) s.commits (length s.tasks) place r).cut ≡ length s.tasks
+    → length (plain.check p a place).tasks + tasks_cut (reply_after_check (plain.is_misled p a place) s.commits (length s.tasks) place r).cut ≡ length s.tasks
 check_cuts p s a place r h = of (plain.is_misled p a place) refl
   where
-    of : (b : Bool) → plain.is_misled p a place ≡ b → length (cond b (plain.keep (suc place) a) a).tasks + tasks_cut (checked b s.commits (length s.tasks) place r).cut ≡ length s.tasks
+    of : (b : Bool) → plain.is_misled p a place ≡ b → length (cond b (plain.keep (suc place) a) a).tasks + tasks_cut (reply_after_check b s.commits (length s.tasks) place r).cut ≡ length s.tasks
     of false e = h
     of true e =
         let inside = misled_within p a place e in

@@ -6,7 +6,7 @@ use Rattle.svc_core_laws.specs.declared.end.End.{End}
 use Rattle.svc_core_laws.specs.declared.end.End.TheVariants as end
 use Rattle.svc_core_laws.specs.Program.{Memory, Program, part, task, Seq, seq, next_task, due_after, stopped_after, IsProgram}
 use Rattle.svc_bus_laws.specs.ByRows.{edit}
-use Rattle.svc_machine_laws.specs.PlainMachine.{Task, Running, IsDue, runs_of, settled, entry_of, entry_for, more, one_more, take_turn_by, submitted, cut_by, row_of}
+use Rattle.svc_machine_laws.specs.PlainMachine.{Task, Running, IsDue, runs_of, staying_tasks, entry_of, entry_for, more, one_more, take_turn_by, tasks_after_submit, cut_by, row_of}
 use Rattle.svc_machine_laws.proofs.Parts.{seq_commit}
 
 -- the run goes on, or has stopped
@@ -54,14 +54,14 @@ pub due_asked : {C : Type 0} (p : Program C) (due : Option ℕ) (runs : List (Ru
 due_asked p due runs ts place None h = h
 due_asked p due runs ts place (Some x) h = due_edit due place one_more (cut_by (p.want x.run.core) (map row_of runs) place) ts (λ t. refl) h
 
-pub due_submit : {C : Type 0} (p : Program C) (due : Option ℕ) (m : Memory) (ts : List Task) (place local : ℕ) (ask : Bool) → IsDue due ts → IsDue due (submitted p m ts place local ask)
+pub due_submit : {C : Type 0} (p : Program C) (due : Option ℕ) (m : Memory) (ts : List Task) (place local : ℕ) (ask : Bool) → IsDue due ts → IsDue due (tasks_after_submit p m ts place local ask)
 due_submit p due m ts place local false h = due_edit due place (more local) None ts (λ t. refl) h
 due_submit p due m ts place local true h =
     let now : List Task = edit place (more local) None ts in
     due_asked p due (runs_of p m now) now place (slice_get (runs_of p m now) place) (due_edit due place (more local) None ts (λ t. refl) h)
 
 -- what stays at a commit begins at the entry with which the head ended
-due_settled : (ended : Option End) (ts : List Task) → IsDue (due_after ended) (settled ended ts)
+due_settled : (ended : Option End) (ts : List Task) → IsDue (due_after ended) (staying_tasks ended ts)
 due_settled None ts = tt
 due_settled (Some (end.Exit code)) ts = tt
 due_settled (Some (end.Trap number)) ts = tt
@@ -74,7 +74,7 @@ due_settled (Some (end.Next e)) (t ∷ ts) = split (t.entry == e) refl
 
 pub due_commit : {C : Type 0} (p : Program C) → IsProgram p → (k e n : ℕ) (ts : List Task) (end : End)
     → (seq p k).due ≡ Some e → p.done (part p e n (seq p k).memory).core ≡ Some end
-    → IsDue (seq p (suc k)).due (settled (p.done (part p e n (seq p k).memory).core) ts)
+    → IsDue (seq p (suc k)).due (staying_tasks (p.done (part p e n (seq p k).memory).core) ts)
 due_commit p good k e n ts end due ended =
-    subst (λ q. IsDue q.due (settled (p.done (part p e n (seq p k).memory).core) ts)) (sym (seq_commit p good k e n end due ended))
+    subst (λ q. IsDue q.due (staying_tasks (p.done (part p e n (seq p k).memory).core) ts)) (sym (seq_commit p good k e n end due ended))
     (due_settled (p.done (part p e n (seq p k).memory).core) ts)

@@ -11,7 +11,7 @@ use Rattle.svc_core_laws.specs.Program.{Memory, Program, Want, Local, Load, Stor
 use Rattle.svc_core_laws.specs.Words.{program}
 use Rattle.svc_bus_laws.specs.Versioned.{Row}
 use Rattle.svc_bus_laws.specs.ByRows.{view_of, edit}
-use Rattle.svc_machine_laws.specs.PlainMachine.{Task, Plain, Running, runs_of, running, row_of, more, one_more, cut_by, take_turn_by, submitted, stays, settled, entry_of, entry_for, commit_tasks, IsDue}
+use Rattle.svc_machine_laws.specs.PlainMachine.{Task, Plain, Running, runs_of, running, row_of, more, one_more, cut_by, take_turn_by, tasks_after_submit, stays, staying_tasks, entry_of, entry_for, commit_tasks, IsDue}
 use Rattle.svc_machine_laws.specs.PlainMachine as plain
 use Rattle.svc_machine_laws.specs.MachineLaws.{Taken}
 use Rattle.svc_machine_laws.specs.Reached.{BeganAtEntry, IsCounted}
@@ -34,7 +34,7 @@ asked_entries : {C : Type 0} (img : Image) (p : Program C) (runs : List (Running
 asked_entries img p runs ts place None h = h
 asked_entries img p runs ts place (Some x) h = every_edit (BeganAtEntry img) place one_more (cut_by (p.want x.run.core) (map row_of runs) place) ts (λ t e k. k) h
 
-pub submit_entries : {C : Type 0} (img : Image) (p : Program C) (m : Memory) (ts : List Task) (place local : ℕ) (ask : Bool) → AllByRecursion (BeganAtEntry img) ts → AllByRecursion (BeganAtEntry img) (submitted p m ts place local ask)
+pub submit_entries : {C : Type 0} (img : Image) (p : Program C) (m : Memory) (ts : List Task) (place local : ℕ) (ask : Bool) → AllByRecursion (BeganAtEntry img) ts → AllByRecursion (BeganAtEntry img) (tasks_after_submit p m ts place local ask)
 submit_entries img p m ts place local false h = every_edit (BeganAtEntry img) place (more local) None ts (λ t e k. k) h
 submit_entries img p m ts place local true h =
     let now : List Task = edit place (more local) None ts in
@@ -47,7 +47,7 @@ commit_entries img p k a e (t ∷ ts) h = every_if (BeganAtEntry img) (stays (p.
 
 -- ---- a stopped run has no task
 
-stopped_settles : (o : Option End) (ts : List Task) → is_some (stopped_after o) ≡ true → settled o ts ≡ []
+stopped_settles : (o : Option End) (ts : List Task) → is_some (stopped_after o) ≡ true → staying_tasks o ts ≡ []
 stopped_settles None ts h = absurd (both_ways false refl h)
 stopped_settles (Some (end.Next e)) ts h = absurd (both_ways false refl h)
 stopped_settles (Some (end.Exit code)) ts h = refl
@@ -115,7 +115,7 @@ commit_counted img good k a e [] ended due done h = tt
 commit_counted img good k a e (t ∷ ts) ended due done h =
     let p : Program State = program img in
     let r : Run State = part p t.entry t.turns (seq p k).memory in
-    subst (λ q. AllByRecursion IsCounted (runs_of p q.memory (settled r.core.done ts))) (sym (seq_commit p good k t.entry t.turns ended due (done (record { task = t; run = r }) refl)))
+    subst (λ q. AllByRecursion IsCounted (runs_of p q.memory (staying_tasks r.core.done ts))) (sym (seq_commit p good k t.entry t.turns ended due (done (record { task = t; run = r }) refl)))
     (keep (stays r.core.done (map entry_of ts)) (over (wrote r.log) (seq p k).memory) h.1)
   where
     keep : (b : Bool) (m : Memory) → AllByRecursion IsCounted (runs_of (program img) m ts) → AllByRecursion IsCounted (runs_of (program img) m (cond b ts []))

@@ -4,7 +4,7 @@ use Rattle.svc_core_laws.specs.declared.end.End.{End}
 use Rattle.svc_core_laws.specs.Program.{Memory, Program, Run, wrote, output, over, part, Seq, seq, followed_by, due_after, stopped_after, IsProgram}
 use Rattle.svc_bus_laws.specs.Versioned.{Row, with_head, fresh_row}
 use Rattle.svc_bus_laws.specs.ByRows as rows
-use Rattle.svc_machine_laws.specs.PlainMachine.{Task, Plain, Running, IsDue, runs_of, running, row_of, stays, settled, entry_of, entry_for, assign, cancel, commit, commit_tasks}
+use Rattle.svc_machine_laws.specs.PlainMachine.{Task, Plain, Running, IsDue, runs_of, running, row_of, stays, staying_tasks, entry_of, entry_for, assign, cancel, commit, commit_tasks}
 use Rattle.svc_machine_laws.specs.WholeMachine.{Seat, Machine, seat_of, machine_of, with_seats, settle, seat_entry}
 use Rattle.svc_machine_laws.specs.WholeMachine as whole
 use Rattle.svc_machine_laws.specs.MachineLaws.{HasEnded}
@@ -127,7 +127,7 @@ commit_tasks_step {C} p good k accepted epoch (t ∷ ts) end due ended =
       accepted = suc accepted;
       epoch = epoch;
     } in
-    ap (λ x. machine_by x (suc k) (suc accepted) epoch (runs_of p x.memory (settled (p.done r.core) ts)))
+    ap (λ x. machine_by x (suc k) (suc accepted) epoch (runs_of p x.memory (staying_tasks (p.done r.core) ts)))
     (seq_commit p good k t.entry t.turns end due (ended (record { task = t; run = r }) refl))
     ∙ settled_machine p s t ts (keep (map entry_of ts))
     ∙ ap (λ l. of (keep l)) (sym (map_runs p seat_entry entry_of (λ y. refl) next.memory ts))

@@ -5,7 +5,7 @@ use Rattle.svc_image.specs.Image.{Image}
 use Rattle.svc_core_laws.specs.Program.{over, wrote, seq}
 use Rattle.svc_core_laws.specs.Words.{program}
 use Rattle.svc_bus_laws.specs.Versioned.{Versioned, view}
-use Rattle.svc_bus_laws.specs.Supplier.{supplier, supplied}
+use Rattle.svc_bus_laws.specs.Supplier.{supplier, supplied_value}
 use Rattle.svc_bus_laws.proofs.SupplierLaws.{supplier_value}
 use Rattle.svc_machine_laws.specs.PlainMachine.{Task, unit_of, memory_at}
 use Rattle.svc_machine_laws.specs.MachineLaws.{run_at}
@@ -16,7 +16,7 @@ use Rattle.svc_machine_laws.proofs.Followed.{map_count}
 use Rattle.svc_machine_laws.proofs.Places.{within}
 
 pub supplier_holds : (img : Image) (config : Config) (s : Standing) → IsReached img config s → (place a : ℕ) (t : Task) → slice_get s.plain.tasks place ≡ Some t
-    → supplied s.lines place a (supplier s.lines place a)
+    → supplied_value s.lines place a (supplier s.lines place a)
     ≡ Some (over (wrote (run_at (program img) s.plain place t).log) (memory_at (program img) (seq (program img) s.plain.commits).memory s.plain.tasks place) a)
 supplier_holds img config s reached place a t at =
     let units = ap length reached.lines.units ∙ map_count unit_of s.plain.tasks in

@@ -14,9 +14,9 @@ use Rattle.svc_bus_laws.specs.LineTable.{LineTable}
 use Rattle.svc_core_laws.specs.declared.end.End.TheVariants as end
 use Rattle.svc_machine_laws.specs.declared.reply.Reply.{Reply}
 use Rattle.svc_machine_laws.specs.declared.reply.What.TheVariants as what
-use Rattle.svc_machine_laws.specs.PlainMachine.{Task, Plain, Running, IsDue, runs_of, running, row_of, cut_by, entry_of, entry_for, stays, settled}
+use Rattle.svc_machine_laws.specs.PlainMachine.{Task, Plain, Running, IsDue, runs_of, running, row_of, cut_by, entry_of, entry_for, stays, staying_tasks}
 use Rattle.svc_machine_laws.specs.PlainMachine as plain
-use Rattle.svc_machine_laws.specs.WholeMachine.{machine_of, seen}
+use Rattle.svc_machine_laws.specs.WholeMachine.{machine_of, memory_seen}
 use Rattle.svc_machine_laws.specs.MachineLaws.{Taken, HasEnded}
 use Rattle.svc_machine_laws.specs.Events.{Event, Assign, Submit, Replace, Cancel, Commit, IsEvent, task_place, asked_want, plain_event, plain_submit, plain_cancel}
 use Rattle.svc_machine_laws.specs.Replies.{turn_done, serves_at, whole_asked, whole_submitted, whole_reply, plain_committed, plain_reply}
@@ -26,7 +26,7 @@ use Rattle.svc_machine_laws.specs.Logs.{TaskLog, log_of, logs_of, action_of, plu
 use Rattle.svc_machine_laws.proofs.Given.{Given}
 use Rattle.svc_machine_laws.proofs.Accepted.{can_submit, can_cancel, can_commit, seat_places}
 use Rattle.svc_machine_laws.specs.declared.reply.What.{What}
-use Rattle.svc_machine_laws.specs.Replies.{checked, plain_submitted}
+use Rattle.svc_machine_laws.specs.Replies.{reply_after_check, plain_submitted}
 use Rattle.svc_machine_laws.proofs.Checks.{take_edit}
 use Rattle.svc_machine_laws.proofs.Answering.{asked_reply}
 use Rattle.svc_machine_laws.proofs.EditedLists.{map_append_one, map_take, map_edit, view_hide}
@@ -65,7 +65,7 @@ submit_logs {C} p s t unit place local last (Some w) at tk =
     let all : List (Running C) = running p s in
     let rows : List Row = map row_of all in
     let look : Memory = view_of rows m place in
-    let sees : Memory = seen (machine_of p s).versioned place in
+    let sees : Memory = memory_seen (machine_of p s).versioned place in
     let same : look ≡ sees = sym (view_hide rows m place) in
     let wants : p.want (locals p local tk.run.run.core) ≡ w = ap p.want tk.end_is ∙ tk.ask_is w refl in
     record {
@@ -92,7 +92,7 @@ check_logs {C} p s a unit done r = of (plain.is_misled p a r.place)
       logs = cancel_logs p a (suc r.place) ∙ ap (take (suc r.place)) r.logs ∙ take_edit r.place (adds (action_of done)) r.cut (logs_of p s);
     }
 
-pub checked_what : (b : Bool) (k n place : ℕ) (r : Reply) → (checked b k n place r).what ≡ r.what
+pub checked_what : (b : Bool) (k n place : ℕ) (r : Reply) → (reply_after_check b k n place r).what ≡ r.what
 checked_what true k n place r = refl
 checked_what false k n place r = refl
 
@@ -113,7 +113,7 @@ commit_tasks_logs {C} p good k a e (t ∷ ts) x ended here due done =
       others = rest;
       head = ap {B = List TaskLog} (λ l. record { unit = t.unit; log = l } ∷ rest) says;
       keep = stays (p.done r.core) (map entry_of ts);
-      logs = ap (λ q. map log_of (runs_of p q.memory (settled (p.done r.core) ts))) (seq_commit p good k t.entry t.turns ended due over_is) ∙ left (stays (p.done r.core) (map entry_of ts)) m;
+      logs = ap (λ q. map log_of (runs_of p q.memory (staying_tasks (p.done r.core) ts))) (seq_commit p good k t.entry t.turns ended due over_is) ∙ left (stays (p.done r.core) (map entry_of ts)) m;
     }
   where
     left : (b : Bool) (m : Memory) → map log_of (runs_of p m (cond b ts [])) ≡ cond b (map log_of (runs_of p m ts)) []

@@ -4,7 +4,7 @@ use Rattle.svc_core_laws.specs.declared.end.End.{End}
 use Rattle.svc_core_laws.specs.Program.{Memory, Program, Want, Local, Load, Store, Narrow, Emit, Run, Seq, act, over, wrote, output, part, seq, locals, IsProgram}
 use Rattle.svc_bus_laws.specs.Versioned.{Row}
 use Rattle.svc_bus_laws.specs.ByRows.{view_of, edit, cut_at}
-use Rattle.svc_machine_laws.specs.PlainMachine.{Task, Plain, Running, IsDue, runs_of, running, row_of, cut_by, stays, settled, entry_of, commit_tasks}
+use Rattle.svc_machine_laws.specs.PlainMachine.{Task, Plain, Running, IsDue, runs_of, running, row_of, cut_by, stays, staying_tasks, entry_of, commit_tasks}
 use Rattle.svc_machine_laws.specs.PlainMachine as plain
 use Rattle.svc_machine_laws.specs.MachineLaws.{Taken}
 use Rattle.svc_machine_laws.specs.Reached.{words_waiting}
@@ -78,6 +78,6 @@ commit_waiting {C} p good k a e (t ∷ ts) ended due done =
     let r : Run C = part p t.entry t.turns (seq p k).memory in
     let after = seq_commit p good k t.entry t.turns ended due (done (record { task = t; run = r }) refl) in
     let out = ap (λ (q : Seq). length q.output) after ∙ length-append (seq p k).output (output r.log) in
-    let runs = ap (λ (q : Seq). words_waiting (runs_of p q.memory (settled (p.done r.core) ts))) after in
+    let runs = ap (λ (q : Seq). words_waiting (runs_of p q.memory (staying_tasks (p.done r.core) ts))) after in
     let kept = kept_waiting p (stays (p.done r.core) (map entry_of ts)) (over (wrote r.log) (seq p k).memory) ts in
     omega (arith, out, runs, kept)

@@ -5,7 +5,7 @@ use Rattle.svc_core_laws.specs.State.{State}
 use Rattle.svc_core_laws.specs.Program.{Want, Local, Load, Store, Narrow, Emit, Program}
 use Rattle.svc_core_laws.specs.Words.{program}
 use Rattle.svc_bus_laws.specs.Versioned.{view}
-use Rattle.svc_bus_laws.specs.LineTable.{LineTable, versioned}
+use Rattle.svc_bus_laws.specs.LineTable.{LineTable, versioned_map}
 use Rattle.svc_bus_laws.specs.Steps.{read, write, replace, squash, commit, begin}
 use Rattle.svc_machine_laws.specs.PlainMachine.{stays}
 use Rattle.svc_machine_laws.specs.WholeMachine.{Seat, Machine, seat_entry, submit, is_misled}
@@ -17,7 +17,7 @@ abbrev pub line_turn : {C : Type 0} → Want C → LineTable → ℕ → LineTab
 line_turn (Local c) t place = t
 line_turn (Load a value go) t place = read t place a
 line_turn (Store a w c) t place = write t place a w
-line_turn (Narrow a f c) t place = write (read t place a) place a (f (view (versioned t) place a))
+line_turn (Narrow a f c) t place = write (read t place a) place a (f (view (versioned_map t) place a))
 line_turn (Emit w c) t place = t
 
 -- the word that a turn wants, if any

@@ -84,9 +84,9 @@ abbrev pub take_turn : {C : Type 0} → Program C → Memory → List Task → �
 take_turn p m ts place = take_turn_by p (runs_of p m ts) ts place (slice_get (runs_of p m ts) place)
 
 -- this many local turns, and one more if there is an ask
-abbrev pub submitted : {C : Type 0} → Program C → Memory → List Task → ℕ → ℕ → Bool → List Task
-submitted p m ts place local false = edit place (more local) None ts
-submitted p m ts place local true = take_turn p m (edit place (more local) None ts) place
+abbrev pub tasks_after_submit : {C : Type 0} → Program C → Memory → List Task → ℕ → ℕ → Bool → List Task
+tasks_after_submit p m ts place local false = edit place (more local) None ts
+tasks_after_submit p m ts place local true = take_turn p m (edit place (more local) None ts) place
 
 -- whether the next task stays when a head with this end is committed: it does if it began where the head handed on
 abbrev pub stays : Option End → List ℕ → Bool
@@ -97,8 +97,8 @@ stays (Some (end.Next e)) [] = false
 stays (Some (end.Next e)) (x ∷ entries) = x == e
 
 -- the tasks that stay
-abbrev pub settled : Option End → List Task → List Task
-settled ended ts = cond (stays ended (map entry_of ts)) ts []
+abbrev pub staying_tasks : Option End → List Task → List Task
+staying_tasks ended ts = cond (stays ended (map entry_of ts)) ts []
 
 -- whether a task with this end cuts the next ones, which began at these entries: without a next one it doesn't; an exit
 -- or trap always does, and otherwise it does if the next one began elsewhere
@@ -161,7 +161,7 @@ assign p s unit guess =
 
 -- turns of the task at a place: this many local ones, and one more if there is an ask
 abbrev pub submit : {C : Type 0} → Program C → Plain → (place local : ℕ) → Bool → Plain
-submit p s place local ask = accept s (submitted p (seq p s.commits).memory s.tasks place local ask)
+submit p s place local ask = accept s (tasks_after_submit p (seq p s.commits).memory s.tasks place local ask)
 
 -- a replacement changes no task
 abbrev pub replace : Plain → Plain
@@ -178,7 +178,7 @@ commit_tasks p s (t ∷ ts) =
     record s {
       commits = suc s.commits;
       accepted = suc s.accepted;
-      tasks = settled (p.done (part p t.entry t.turns (seq p s.commits).memory).core) ts;
+      tasks = staying_tasks (p.done (part p t.entry t.turns (seq p s.commits).memory).core) ts;
     }
 
 -- the head is committed

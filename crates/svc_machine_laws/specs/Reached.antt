@@ -7,7 +7,7 @@ use Rattle.svc_core_laws.specs.State.{State}
 use Rattle.svc_core_laws.specs.Program.{output, seq}
 use Rattle.svc_core_laws.specs.Words.{program}
 use Rattle.svc_core_laws.specs.Turns.{data_words}
-use Rattle.svc_bus_laws.specs.LineTable.{LineTable, versioned}
+use Rattle.svc_bus_laws.specs.LineTable.{LineTable, versioned_map}
 use Rattle.svc_bus_laws.specs.Sound.{IsSound}
 use Rattle.svc_machine_laws.specs.PlainMachine.{Task, Plain, Running, running, unit_of, IsDue}
 use Rattle.svc_machine_laws.specs.WholeMachine.{machine_of}
@@ -17,7 +17,7 @@ use Rattle.svc_machine_laws.specs.Standing.{Standing}
 -- versioned map
 pub record AreItsLines (img : Image) (config : Config) (s : Plain) (t : LineTable) : Type 0 where
   pub sound : IsSound t
-  pub same_map : versioned t ≡ (machine_of (program img) s).versioned
+  pub same_map : versioned_map t ≡ (machine_of (program img) s).versioned
   pub units : t.units ≡ map unit_of s.tasks
   pub caches : t.caches ≡ config.units
   pub sets : t.sets ≡ config.sets

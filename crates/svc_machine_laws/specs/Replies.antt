@@ -22,7 +22,7 @@ use Rattle.svc_machine_laws.specs.declared.reply.Cut.{Cut}
 use Rattle.svc_machine_laws.specs.declared.reply.Reply.{Reply}
 use Rattle.svc_machine_laws.specs.PlainMachine.{Task, Plain, running, row_of, memory_at, entry_of, entry_for, stays}
 use Rattle.svc_machine_laws.specs.PlainMachine as plain
-use Rattle.svc_machine_laws.specs.WholeMachine.{Machine, Seat, seat_entry, seen}
+use Rattle.svc_machine_laws.specs.WholeMachine.{Machine, Seat, seat_entry, memory_seen}
 use Rattle.svc_machine_laws.specs.WholeMachine as whole
 use Rattle.svc_machine_laws.specs.Events.{Event, Assign, Submit, Replace, Cancel, Commit, seat_place, task_place}
 use Rattle.svc_machine_laws.specs.Events.{asked_want}
@@ -75,11 +75,11 @@ wrong_guess k (x ∷ xs) = Some (cut_from cause.WrongGuess k (suc (length (x ∷
 abbrev pub ran : Reply
 ran = record { what = what.Ran; cut = None }
 
-abbrev pub cancelled : (k count place : ℕ) → Reply
-cancelled k count place = record { what = what.Cancelled; cut = Some (cut_from cause.Cancelled k count place) }
+abbrev pub reply_to_cancel : (k count place : ℕ) → Reply
+reply_to_cancel k count place = record { what = what.Cancelled; cut = Some (cut_from cause.Cancelled k count place) }
 
-abbrev pub committed : {A : Type 0} → ℕ → Option End → Bool → List A → Reply
-committed k ended keep rest = record {
+abbrev pub reply_to_commit : {A : Type 0} → ℕ → Option End → Bool → List A → Reply
+reply_to_commit k ended keep rest = record {
   what = what.Committed (record { 0 = k }) (unwrap_or ended (end.Next 0));
   cut = cond keep None (wrong_guess k rest);
 }
@@ -93,29 +93,29 @@ abbrev pub whole_asked : {C : Type 0} → Program C → Machine C → LineTable 
 whole_asked p m t place None = ran
 whole_asked p m t place (Some w) =
     record {
-      what = turn_done p w (seen m.versioned place) (serves_at t place);
+      what = turn_done p w (memory_seen m.versioned place) (serves_at t place);
       cut = turn_cut w m.versioned.rows m.versioned.commits (length m.seats) place;
     }
 
 -- the one cut of a submit: a wrong guess if the check finds one among the tasks that the turn has left, otherwise the
 -- turn's own
-abbrev pub checked : Bool → (k count place : ℕ) → Reply → Reply
-checked false k count place r = r
-checked true k count place r = record r { cut = Some (cut_from cause.WrongGuess k count (suc place)) }
+abbrev pub reply_after_check : Bool → (k count place : ℕ) → Reply → Reply
+reply_after_check false k count place r = r
+reply_after_check true k count place r = record r { cut = Some (cut_from cause.WrongGuess k count (suc place)) }
 
 abbrev pub whole_submitted : {C : Type 0} → Program C → Machine C → LineTable → Option ℕ → C → Option (Want C) → Reply
 whole_submitted p m t None end w = ran
 whole_submitted p m t (Some place) end w =
-    checked (whole.is_misled p (whole.submit m place end w).seats place) m.versioned.commits (length m.seats) place
-    (whole_asked p m t place w)
+    reply_after_check (whole.is_misled p (whole.submit m place end w).seats place)
+    m.versioned.commits (length m.seats) place (whole_asked p m t place w)
 
 abbrev pub whole_cancelled : {C : Type 0} → Machine C → Option ℕ → Reply
 whole_cancelled m None = ran
-whole_cancelled m (Some place) = cancelled m.versioned.commits (length m.seats) place
+whole_cancelled m (Some place) = reply_to_cancel m.versioned.commits (length m.seats) place
 
 abbrev pub whole_committed : {C : Type 0} → Program C → ℕ → List (Seat C) → Reply
 whole_committed p k [] = ran
-whole_committed p k (s ∷ seats) = committed k (p.done s.core) (stays (p.done s.core) (map seat_entry seats)) seats
+whole_committed p k (s ∷ seats) = reply_to_commit k (p.done s.core) (stays (p.done s.core) (map seat_entry seats)) seats
 
 -- the whole machine's reply to an accepted event
 unfoldable pub whole_reply : Image → Machine State → LineTable → Event → Reply
@@ -149,18 +149,18 @@ plain_asked p s t place local true = plain_asked_of p s t place local (slice_get
 abbrev pub plain_submitted : {C : Type 0} → Program C → Plain → LineTable → Option ℕ → ℕ → Bool → Reply
 plain_submitted p s t None local ask = ran
 plain_submitted p s t (Some place) local ask =
-    checked (plain.is_misled p (plain.submit p s place local ask) place) s.commits (length s.tasks) place
+    reply_after_check (plain.is_misled p (plain.submit p s place local ask) place) s.commits (length s.tasks) place
     (plain_asked p s t place local ask)
 
 abbrev pub plain_cancelled : Plain → Option ℕ → Reply
 plain_cancelled s None = ran
-plain_cancelled s (Some place) = cancelled s.commits (length s.tasks) place
+plain_cancelled s (Some place) = reply_to_cancel s.commits (length s.tasks) place
 
 abbrev pub plain_committed : {C : Type 0} → Program C → ℕ → List Task → Reply
 plain_committed p k [] = ran
 plain_committed p k (t ∷ ts) =
     let ended = p.done (part p t.entry t.turns (seq p k).memory).core in
-    committed k ended (stays ended (map entry_of ts)) ts
+    reply_to_commit k ended (stays ended (map entry_of ts)) ts
 
 -- the plain machine's reply to an accepted event
 unfoldable pub plain_reply : Image → Plain → LineTable → Event → Reply

@@ -5,7 +5,7 @@ use Rattle.svc_base.specs.declared.refusal.Refusal.{Refusal}
 use Rattle.svc_image.specs.Image.{Image}
 use Rattle.svc_core_laws.specs.State.{State}
 use Rattle.svc_core_laws.specs.Words.{program}
-use Rattle.svc_bus_laws.specs.LineTable.{LineTable, opened}
+use Rattle.svc_bus_laws.specs.LineTable.{LineTable, opening_table}
 use Rattle.svc_machine_laws.specs.declared.reply.Reply.{Reply}
 use Rattle.svc_machine_laws.specs.PlainMachine.{Plain, plain_opening}
 use Rattle.svc_machine_laws.specs.WholeMachine.{Machine, machine_of, opening}
@@ -26,7 +26,7 @@ pub record Whole : Type 0 where
 
 -- the lines of an image's memory before any event
 abbrev pub no_lines : Image → Config → LineTable
-no_lines img config = opened config.units config.sets config.ways img.words
+no_lines img config = opening_table config.units config.sets config.ways img.words
 
 -- before any event; the first epoch is given
 abbrev pub opened_at : Image → Config → (first : ℕ) → Standing

@@ -62,8 +62,8 @@ machine_of p s =
     }
 
 -- what the task at a place reads
-abbrev pub seen : Versioned → ℕ → Memory
-seen v place = view_of v.rows v.committed place
+abbrev pub memory_seen : Versioned → ℕ → Memory
+memory_seen v place = view_of v.rows v.committed place
 
 abbrev pub at_core : {C : Type 0} → C → Seat C → Seat C
 at_core c s = record s { core = c }
@@ -81,7 +81,7 @@ abbrev pub map_turn : {C : Type 0} → Want C → Versioned → ℕ → Versione
 map_turn (Local c) v place = v
 map_turn (Load a value go) v place = read v place a
 map_turn (Store a w c) v place = write v place a w
-map_turn (Narrow a f c) v place = write (read v place a) place a (f (seen v place a))
+map_turn (Narrow a f c) v place = write (read v place a) place a (f (memory_seen v place a))
 map_turn (Emit w c) v place = v
 
 -- one more event is accepted, and these are the map and the seats
@@ -106,7 +106,8 @@ abbrev pub submit : {C : Type 0} → Machine C → (place : ℕ) → C → Optio
 submit m place end None = with_seats m m.versioned (edit place (at_core end) None m.seats)
 submit m place end (Some w) =
     with_seats m (map_turn w m.versioned place)
-    (edit place (λ s. seat_turn w (seen m.versioned place) (at_core end s)) (cut_by w m.versioned.rows place) m.seats)
+    (edit place (λ s. seat_turn w (memory_seen m.versioned place) (at_core end s))
+    (cut_by w m.versioned.rows place) m.seats)
 
 -- a replacement changes neither the map nor a seat
 abbrev pub replace : {C : Type 0} → Machine C → Machine C

@@ -6,7 +6,7 @@ ghost use Rattle.svc_base.specs.declared.config.Config.{Config};
 ghost use Rattle.svc_image.specs.Image.{Image, IsImage};
 ghost use Rattle.svc_core_laws.specs.Program.{over, wrote, seq};
 ghost use Rattle.svc_core_laws.specs.Words.{program};
-ghost use Rattle.svc_bus_laws.specs.Supplier.{supplier, supplied};
+ghost use Rattle.svc_bus_laws.specs.Supplier.{supplier, supplied_value};
 ghost use Rattle.svc_machine_laws.specs.PlainMachine.{Task, memory_at};
 ghost use Rattle.svc_machine_laws.specs.MachineLaws.{run_at};
 ghost use Rattle.svc_machine_laws.specs.Events.{Event, IsEvent};
@@ -50,7 +50,7 @@ pub fn tasks_are_few()
 /// The supplier of an active task's read holds the word that the task's run sees, when it is run again.
 pub fn supplier_holds()
     ensures { (img : Image) → (config : Config) → (s : Standing) → IsReached img config s → (place a : ℕ) → (t : Task)
-        → slice_get s.plain.tasks place ≡ Some t → supplied s.lines place a (supplier s.lines place a)
+        → slice_get s.plain.tasks place ≡ Some t → supplied_value s.lines place a (supplier s.lines place a)
         ≡ Some (over (wrote (run_at (program img) s.plain place t).log)
         (memory_at (program img) (seq (program img) s.plain.commits).memory s.plain.tasks place) a) }
 {}

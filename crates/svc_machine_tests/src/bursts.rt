@@ -4,8 +4,8 @@ use byteorder::{ByteOrder, LittleEndian};
 use std::alloc::Global;
 use std::process::Abort;
 use svc_base::UnitId;
-use svc_core::{Ask, Burst, Core, End, Lease};
-use svc_image::Image;
+use svc_core::{Ask, Burst, Core, End, Lease, MAX_BURST_TURNS};
+use svc_image::{DATA_START, Image};
 use svc_rv32i::StoreKind;
 use svc_samples::P;
 
@@ -55,7 +55,7 @@ fn burst_of(image: &Image, max: u32) -> Burst {
 
 // The first burst: its unit, where it ends after how many turns, and what it asks.
 fn first_burst(rt: &impl Abort, alloc: Global) -> (UnitId, u64, u32, u32, Ask) {
-    let burst = burst_of(&sample(rt, alloc, 0, NONE), 63);
+    let burst = burst_of(&sample(rt, alloc, 0, NONE), MAX_BURST_TURNS);
     let end = burst.end();
     (
         burst.unit(),
@@ -72,11 +72,11 @@ fn shapes_to_an_ask(rt: &impl Abort, alloc: Global) -> [Shape; 5] {
     let first = sample(rt, alloc, 0, NONE);
     let second = sample(rt, alloc, 12, NONE);
     [
-        shape(&burst_of(&first, 63)),
+        shape(&burst_of(&first, MAX_BURST_TURNS)),
         shape(&burst_of(&first, 3)),
         shape(&burst_of(&first, 2)),
         shape(&burst_of(&first, 0)),
-        shape(&burst_of(&second, 63)),
+        shape(&burst_of(&second, MAX_BURST_TURNS)),
     ]
 }
 
@@ -84,7 +84,7 @@ fn shapes_to_an_ask(rt: &impl Abort, alloc: Global) -> [Shape; 5] {
 fn an_ask_stops(rt: HostRuntime) {
     let store = Ask::Store {
         kind: StoreKind::Word,
-        addr: 0x0010_0000,
+        addr: DATA_START,
         value: 5,
     };
     assert_eq!(rt; first_burst(&rt, rt.alloc()), (UnitId(1), 7, 8, 2, store));
@@ -109,7 +109,10 @@ fn shapes_of(image: &Image, max: u32) -> [Shape; 2] {
 fn shapes_to_an_end(rt: &impl Abort, alloc: Global) -> [[Shape; 2]; 2] {
     let leads_on = sample(rt, alloc, 0, LEADS_ON);
     let breaks = sample(rt, alloc, 0, BREAKS);
-    [shapes_of(&leads_on, 63), shapes_of(&breaks, 63)]
+    [
+        shapes_of(&leads_on, MAX_BURST_TURNS),
+        shapes_of(&breaks, MAX_BURST_TURNS),
+    ]
 }
 
 #[test]
@@ -133,7 +136,7 @@ fn a_burst_has_63_turns(rt: HostRuntime) {
 
 // Whether the sample's first burst of a task that begins here is of the sample with these changes.
 fn is_of(rt: &impl Abort, alloc: Global, start: u32, changes: &[(usize, u32)]) -> bool {
-    let burst = burst_of(&sample(rt, alloc, start, NONE), 63);
+    let burst = burst_of(&sample(rt, alloc, start, NONE), MAX_BURST_TURNS);
     burst.is_of(&sample(rt, alloc, 0, changes))
 }
 
@@ -152,10 +155,10 @@ fn a_burst_is_of_its_image(rt: HostRuntime) {
 // The shape and the owner of a burst made in the place of a longer one of another image, and whether it is of its image
 // and begins with the core of its lease.
 fn refilled(rt: &impl Abort, alloc: Global) -> (Shape, UnitId, u64, bool, bool) {
-    let mut burst = burst_of(&sample(rt, alloc, 0, SPINS), 63);
+    let mut burst = burst_of(&sample(rt, alloc, 0, SPINS), MAX_BURST_TURNS);
     let image = sample(rt, alloc, 12, NONE);
     let lease = Lease::new(UnitId(2), 8, core_of(&image));
-    burst.refill(&lease, &image, 63);
+    burst.refill(&lease, &image, MAX_BURST_TURNS);
     let same_start = burst.start().is_same(&lease.core);
     (
         shape(&burst),

@@ -1,12 +1,13 @@
 // Runs of the sample of two tasks. Expected numbers of events come from the twin in unproved Rust.
 
 ghost use Rattle.std.specs.Prelude.{◌<◌, ◌≤◌};
+ghost use Rattle.svc_base.specs.declared.limits.TheConstants.{MAX_BURST_TURNS};
 
 use arrayvec::ArrayVec;
 use std::alloc::Global;
 use std::process::Abort;
 use svc_base::{Config, UnitId};
-use svc_core::Ending;
+use svc_core::{Ending, MAX_BURST_TURNS};
 use svc_history::Recorder;
 use svc_image::Image;
 use svc_samples::P;
@@ -37,7 +38,7 @@ fn end_of<R: Abort, Q: Policy>(
     policy: &mut Q,
 ) -> (Ending, usize)
     requires some { 0 < burst }
-    requires few { burst ≤ 63 }
+    requires few { burst ≤ MAX_BURST_TURNS }
 {
     let image = Image::read(alloc, &P).expect(rt, "an image");
     let run = run_schedule(alloc, &image, config, burst, policy).expect(rt, "a run");
@@ -61,7 +62,7 @@ fn each_step_is_an_event_up_to_the_limit(rt: HostRuntime) {
 #[test]
 fn steps_are_counted_by_turns(rt: HostRuntime) {
     let config = limits(&rt, 1_000, 4);
-    let end = end_of(&rt, rt.alloc(), config, 63, &mut Rotate);
+    let end = end_of(&rt, rt.alloc(), config, MAX_BURST_TURNS, &mut Rotate);
     assert_eq!(rt; end, (Ending::Open(0), 4));
 }
 
@@ -70,7 +71,7 @@ fn steps_are_counted_by_turns(rt: HostRuntime) {
 fn units_that_are_left_out_are_asked(rt: HostRuntime) {
     for unit in [3, 200] {
         let config = limits(&rt, 1_000, 1_000);
-        let (ending, _) = end_of(&rt, rt.alloc(), config, 63, &mut Always(unit));
+        let (ending, _) = end_of(&rt, rt.alloc(), config, MAX_BURST_TURNS, &mut Always(unit));
         assert_eq!(rt; ending, Ending::Exit(5));
     }
 }

@@ -6,7 +6,7 @@
 use std::alloc::AllocError;
 use std::process::Abort;
 use svc_base::{Config, UnitId};
-use svc_core::Burst;
+use svc_core::{Burst, MAX_BURST_TURNS};
 use svc_machine::Machine;
 use svc_samples::{Line, TEN};
 
@@ -20,7 +20,7 @@ pub fn first(count: usize) -> &'static [Line] {
 /// The unit's lease, advanced by 63 turns; none without a lease.
 pub fn taken(machine: &Machine, unit: u8) -> Option<Burst> {
     let lease = machine.lease(UnitId(unit))?;
-    Some(lease.advance(machine.image(), 63))
+    Some(lease.advance(machine.image(), MAX_BURST_TURNS))
 }
 
 /// Four units, with room for this many events.

@@ -1,5 +1,5 @@
 -- The text of a table is read back.
-use Rattle.std.proofs.Common.{◌≡◌, ◌==◌, ◌∷◌, ◌++◌, ◌∙◌, [], ℕ, zero, suc, List, Bool, Option, Some, None, Result, Ok, Err, true, false, refl, sym, ap, subst, append_assoc, get_or, length, map, arith, inl, inr}
+use Rattle.std.proofs.Common.{◌≡◌, ◌==◌, ◌∷◌, ◌++◌, ◌∙◌, [], ℕ, zero, suc, List, Option, Some, Result, Ok, Err, true, false, refl, sym, ap, subst, append_assoc, get_or, length, map, arith, inl, inr}
 use Rattle.std.specs.Prelude.{IfErr, IfOk, IfSome, MatchResult, codes, decimal, flat_map}
 use Rattle.std.specs.Cmp.Lexicographic.{slice_cmp}
 use Rattle.std.specs.List.{AllByRecursion}

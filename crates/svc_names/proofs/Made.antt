@@ -1,5 +1,5 @@
 -- Labels in the order of a table make one.
-use Rattle.std.proofs.Common.{◌≡◌, ◌∙◌, ◌++◌, ◌+◌, ◌<◌, ◌≤◌, ◌∷◌, [], ℕ, zero, suc, List, Bool, true, false, refl, sym, ap, subst, get_or, length, map, arith, inl, inr}
+use Rattle.std.proofs.Common.{◌≡◌, ◌∙◌, ◌++◌, ◌+◌, ◌<◌, ◌≤◌, ◌∷◌, [], ℕ, zero, suc, List, true, false, refl, sym, ap, subst, get_or, length, map, arith, inl, inr}
 use Rattle.std.specs.Cmp.Lexicographic.{slice_cmp}
 use Rattle.std.specs.List.{Contains}
 use Rattle.std.specs.List.Sorted.{IsPermutation, IsSortedBy}
@@ -14,7 +14,7 @@ use Rattle.svc_asm.specs.declared.labels.Label.{Label}
 use Rattle.svc_asm.specs.Labels.{parts_of}
 use Rattle.svc_names.specs.declared.name.Name.{Name}
 use Rattle.svc_names.specs.Made.{IsTableOf, NotBelow, compared, is_below, pair_of, pairs_of}
-use Rattle.svc_names.specs.Table.{IsTable, comes_next, is_before, is_name_text}
+use Rattle.svc_names.specs.Table.{IsTable, comes_next, is_name_text}
 
 -- ---- two names of which neither stands before the other
 

@@ -20,14 +20,14 @@ use Rattle.svc_machine_laws.specs.Events.{Event, asked_want, task_place}
 use Rattle.svc_machine_laws.specs.Events as event
 use Rattle.svc_machine_laws.specs.PlainMachine.{Plain, Task}
 use Rattle.svc_machine_laws.specs.PlainMachine as plain
-use Rattle.svc_machine_laws.specs.Replies.{checked, committed, plain_asked, plain_asked_of, plain_cancelled, plain_committed, plain_reply, plain_submitted, turn_cut, turn_done}
+use Rattle.svc_machine_laws.specs.Replies.{reply_after_check, reply_to_commit, plain_asked, plain_asked_of, plain_cancelled, plain_committed, plain_reply, plain_submitted, turn_cut, turn_done}
 use Rattle.svc_machine_laws.specs.Standing.{Standing, opened_at, reply_to}
 use Rattle.svc_history_laws.specs.declared.entry.CutKind.TheVariants as cause
 use Rattle.svc_history_laws.specs.declared.entry.Entry.{Entry}
 use Rattle.svc_history_laws.specs.declared.entry.Kind.{Kind}
 use Rattle.svc_history_laws.specs.declared.entry.Kind.TheVariants.{Assign, Submit, Replace, Cancel, Commit}
 use Rattle.svc_history_laws.specs.declared.entry.ServedKind.TheVariants as served
-use Rattle.svc_history_laws.specs.Entries.{address_told, cause_of, entry_of, kind_served, named, plain_entry, reply_told, served_told, telling}
+use Rattle.svc_history_laws.specs.Entries.{address_told, cause_of, entry_of, kind_served, entry_asking, plain_entry, reply_told, served_told, telling}
 use Rattle.svc_history_laws.specs.Legal.{IsAccepted, Legal, LegalEntry, LegalHistory, LegalKind, after_entry, the_arg, the_ask, the_local}
 use Rattle.svc_history_laws.specs.Submissions.{submission}
 use Rattle.svc_report.specs.Summary.{is_cause, is_supplier}
@@ -97,7 +97,7 @@ asked_blames : {C : Type 0} (p : Program C) (s : Plain) (t : LineTable) (place l
 asked_blames p s t place local false is = never is
 asked_blames p s t place local true is = asked_of_blames p s t place local (slice_get s.tasks place) is
 
-checked_blames : (wrong : Bool) (k count place : ℕ) (r : Reply) → BlamesItsWord r → BlamesItsWord (checked wrong k count place r)
+checked_blames : (wrong : Bool) (k count place : ℕ) (r : Reply) → BlamesItsWord r → BlamesItsWord (reply_after_check wrong k count place r)
 checked_blames false k count place r blames = blames
 checked_blames true k count place r blames = λ is. never is
 
@@ -109,7 +109,7 @@ cancelled_blames : (s : Plain) (place : Option ℕ) → BlamesItsWord (plain_can
 cancelled_blames s None is = never is
 cancelled_blames s (Some place) is = never is
 
-end_blames : {A : Type 0} (k : ℕ) (ended : Option End) (keep : Bool) (rest : List A) → BlamesItsWord (committed k ended keep rest)
+end_blames : {A : Type 0} (k : ℕ) (ended : Option End) (keep : Bool) (rest : List A) → BlamesItsWord (reply_to_commit k ended keep rest)
 end_blames k ended true rest is = never is
 end_blames k ended false [] is = never is
 end_blames k ended false (x ∷ rest) is = never is
@@ -124,7 +124,7 @@ committed_blames p k (t ∷ ts) is =
 
 accepted_names : (img : Image) (config : Config) (s : Standing) (x : Event) (e : Entry) → IsAccepted img config s x e → BlamesItsWord (reply_to img s x) → NamesItsWord e
 unfolding entry_of
-accepted_names img config s x e accepted blames = subst NamesItsWord (sym accepted.1) (telling_names (reply_to img s x) (named x) blames)
+accepted_names img config s x e accepted blames = subst NamesItsWord (sym accepted.1) (telling_names (reply_to img s x) (entry_asking x) blames)
 
 reply_blames : (img : Image) (s : Standing) (x : Event) → BlamesItsWord (reply_to img s x)
 unfolding reply_to plain_reply

@@ -14,6 +14,7 @@ use std::alloc::{AllocError, Global};
 use std::sync::Wait;
 use std::thread::Threads;
 use svc_base::Config;
+use svc_base::limits::MAX_BURST_TURNS;
 use svc_command::execute;
 use svc_library_calls::attempt::{Attempt, Refused, ready};
 use svc_program::{
@@ -202,7 +203,7 @@ fn explore<R: Threads + Wait + Sync + AllocGlobal>(rt: &R) -> Attempt {
     let explored = Explored {
         image: Source::File("p"),
         config: ready(Config::new(1, 16, 2, 100, 1000))?,
-        burst: 63,
+        burst: MAX_BURST_TURNS,
         states: 100,
         names: None,
     };
@@ -290,7 +291,7 @@ fn schedule<'a, R: Threads + Wait + Sync + AllocGlobal>(
     let run = Run {
         image: Source::File("p"),
         config: ready(Config::new(4, 16, 2, 100, 1000))?,
-        schedule: Schedule::new(Order::Youngest, 63, after),
+        schedule: Schedule::new(Order::Youngest, MAX_BURST_TURNS, after),
         trace,
         row,
     };

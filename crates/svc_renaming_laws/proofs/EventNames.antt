@@ -8,7 +8,7 @@ use Rattle.svc_core_laws.specs.Program.{Program, Want, Local, Load, Store, Narro
 use Rattle.svc_core_laws.specs.Words.{program}
 use Rattle.svc_core_laws.specs.Bursts.{Advance, Follows}
 use Rattle.svc_bus_laws.specs.Versioned.{view}
-use Rattle.svc_bus_laws.specs.LineTable.{LineTable, versioned}
+use Rattle.svc_bus_laws.specs.LineTable.{LineTable, versioned_map}
 use Rattle.svc_bus_laws.specs.Steps.{read, write, squash, commit}
 use Rattle.svc_bus_laws.specs.Sound.{IsSound}
 use Rattle.svc_machine_laws.specs.PlainMachine.{unit_of, stays}
@@ -58,7 +58,7 @@ module _ (r : Renaming) (t : LineTable) (is : IsRenaming t.caches r) where
         let caches : (read t place a).caches ≡ t.caches = read_keeps (λ u. u.caches) t place a refl refl in
         let units : (read t place a).units ≡ t.units = read_keeps (λ u. u.units) t place a refl refl in
         (λ i. write (renamed_read r t is sound place a inside i) place a (f (view (same_map r t is sound i) place a)))
-        ∙ renamed_write r (read t place a) (subst (λ n. IsRenaming n r) (sym caches) is) (read_step t place a sound inside known).sound place a (f (view (versioned t) place a))
+        ∙ renamed_write r (read t place a) (subst (λ n. IsRenaming n r) (sym caches) is) (read_step t place a sound inside known).sound place a (f (view (versioned_map t) place a))
         (subst (λ us. place < length us) (sym units) inside)
     renamed_turn (Emit w c) place inside known = refl
 

@@ -5,8 +5,8 @@ use Rattle.std.specs.Option.{option_or}
 use Rattle.std.proofs.lemmas.List.{length-map}
 use Rattle.svc_bus_laws.specs.Versioned.{Versioned, view}
 use Rattle.svc_bus_laws.specs.Versioned as versions
-use Rattle.svc_bus_laws.specs.LineTable.{Line, LineTable, is_active, version_in, exposed_in, is_reusable, unit_at, line_at, versioned}
-use Rattle.svc_bus_laws.specs.Steps.{with_at, with_line, purged, marked, settled, reused, is_overtaken, filled_line, fill, reuse, read, survivors, written_line, squash, store, write, replace, commit, begin}
+use Rattle.svc_bus_laws.specs.LineTable.{Line, LineTable, is_active, version_in, exposed_in, is_reusable, unit_at, line_at, versioned_map}
+use Rattle.svc_bus_laws.specs.Steps.{with_at, with_line, line_after_purging, line_after_marking, line_after_commit, line_after_reuse, is_overtaken, filled_line, fill, reuse, read, survivors, written_line, squash, store, write, replace, commit, begin}
 use Rattle.svc_bus_laws.specs.BusState.{unnumbered}
 use Rattle.svc_bus_laws.specs.BusLine.{is_active_line}
 use Rattle.svc_bus_laws.specs.Refusals.{table_cache, is_head, is_pinned, set_full, is_not_resident}
@@ -106,7 +106,7 @@ module _ (r : Renaming) (t : LineTable) (is : IsRenaming t.caches r) where
     sets = refl;
     ways = refl;
     words = refl;
-    lines = λ v b. ap (λ c. cond c (settled (t.lines (r.back v) b)) (t.lines (r.back v) b)) (is_at r t.caches is t.units 0 v has);
+    lines = λ v b. ap (λ c. cond c (line_after_commit (t.lines (r.back v) b)) (t.lines (r.back v) b)) (is_at r t.caches is t.units 0 v has);
     spill = λ a. refl;
     backing = λ a. refl;
     commits = refl;
@@ -120,7 +120,7 @@ module _ (r : Renaming) (t : LineTable) (is : IsRenaming t.caches r) where
       sets = refl;
       ways = refl;
       words = refl;
-      lines = λ v b. line_changed u (r.there u) a None None purged v b (same_name r t.caches is v u) refl;
+      lines = λ v b. line_changed u (r.there u) a None None line_after_purging v b (same_name r t.caches is v u) refl;
       spill = λ b. ap (λ v. with_at t.spill a (option_or (version_in (t.lines v a)) (t.spill a)) b) (is.returns u);
       backing = λ b. ap (λ w. with_at t.backing a w b) (same_committed r t is sound a);
       commits = refl;
@@ -150,7 +150,7 @@ module _ (r : Renaming) (t : LineTable) (is : IsRenaming t.caches r) where
         sets = refl;
         ways = refl;
         words = refl;
-        lines = λ v b. line_changed (unit_at t p) (unit_at s p) a (Some (filled_line t p a)) (Some (filled_line s p a)) purged v b (name v) (ap Some filled);
+        lines = λ v b. line_changed (unit_at t p) (unit_at s p) a (Some (filled_line t p a)) (Some (filled_line s p a)) line_after_purging v b (name v) (ap Some filled);
         spill = λ b. refl;
         backing = λ b. ap (λ w. with_at t.backing a w b) (same_committed r t is sound a);
         commits = refl;
@@ -163,7 +163,7 @@ module _ (r : Renaming) (t : LineTable) (is : IsRenaming t.caches r) where
         sets = refl;
         ways = refl;
         words = refl;
-        lines = λ v b. line_changed (unit_at t p) (unit_at s p) a (reused (t.commits + p) (line_at t p a)) (reused (t.commits + p) (line_at s p a)) (λ line. line) v b (name v) (ap (reused (t.commits + p)) (same_line r t is p a within));
+        lines = λ v b. line_changed (unit_at t p) (unit_at s p) a (line_after_reuse (t.commits + p) (line_at t p a)) (line_after_reuse (t.commits + p) (line_at s p a)) (λ line. line) v b (name v) (ap (line_after_reuse (t.commits + p)) (same_line r t is p a within));
         spill = λ b. refl;
         backing = λ b. refl;
         commits = refl;
@@ -182,7 +182,7 @@ module _ (r : Renaming) (t : LineTable) (is : IsRenaming t.caches r) where
       few : survivors t p a ≤ length t.units
       few =
           let count = rows_count t in
-          let guarded = (survivors_are (versioned t) p a (omega (arith, within, count))).within in
+          let guarded = (survivors_are (versioned_map t) p a (omega (arith, within, count))).within in
           omega (arith, guarded, count)
 
       written : (w : ℕ) → written_line s p a w ≡ written_line t p a w
@@ -204,7 +204,7 @@ module _ (r : Renaming) (t : LineTable) (is : IsRenaming t.caches r) where
         sets = refl;
         ways = refl;
         words = refl;
-        lines = λ v b. line_changed (unit_at t p) (unit_at s p) a (Some (written_line t p a w)) (Some (written_line s p a w)) (λ line. marked (t.commits + p) (purged line)) v b (name v) (ap Some (written w));
+        lines = λ v b. line_changed (unit_at t p) (unit_at s p) a (Some (written_line t p a w)) (Some (written_line s p a w)) (λ line. line_after_marking (t.commits + p) (line_after_purging line)) v b (name v) (ap Some (written w));
         spill = λ b. refl;
         backing = λ b. ap (λ x. with_at t.backing a x b) (same_committed r t is sound a);
         commits = refl;

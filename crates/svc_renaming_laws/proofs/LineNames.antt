@@ -6,7 +6,7 @@ use Rattle.std.proofs.lemmas.Bool.{cases_eq, and_parts, leb-true}
 use Rattle.std.proofs.lemmas.List.{length-map}
 use Rattle.svc_bus_laws.specs.Search.{greatest, any_below, tabulate}
 use Rattle.svc_bus_laws.specs.Versioned.{view}
-use Rattle.svc_bus_laws.specs.LineTable.{Line, LineTable, is_active, version_in, exposed_in, is_committed_dirty, is_reusable, task_in, unit_at, line_at, is_newest, newest, value_of, committed_value, own_version, row_of, versioned, is_cut}
+use Rattle.svc_bus_laws.specs.LineTable.{Line, LineTable, is_active, version_in, exposed_in, is_committed_dirty, is_reusable, task_in, unit_at, line_at, is_newest, newest, value_of, committed_value, own_version, row_of, versioned_map, is_cut}
 use Rattle.svc_bus_laws.specs.Supplier.{Supplier, Hit, Reuse, Version, Spill, by_committed, by_version, supplier}
 use Rattle.svc_bus_laws.specs.Steps.{is_overtaken}
 use Rattle.svc_bus_laws.specs.Sound.{IsSoundLine, IsSound}
@@ -94,7 +94,7 @@ module _ (r : Renaming) (t : LineTable) (is : IsRenaming t.caches r) where
     same_row : (p : ℕ) → p < length t.units → row_of s p ≡ row_of t p
     same_row p h = λ i. record { versions = λ a. same_own p a h i; exposed = λ a. not (p == 0) && exposed_in (same_line p a h i) }
 
-    pub same_map : versioned s ≡ versioned t
+    pub same_map : versioned_map s ≡ versioned_map t
     same_map =
         let rows : tabulate (length s.units) (row_of s) ≡ tabulate (length t.units) (row_of t) =
         ap (λ n. tabulate n (row_of s)) units_count ∙ tabulate_same (length t.units) (row_of s) (row_of t) same_row in

@@ -20,12 +20,12 @@ use Rattle.svc_machine_laws.specs.declared.reply.Reply.{Reply}
 use Rattle.svc_machine_laws.specs.PlainMachine.{Task, Plain, running, row_of, memory_at, entry_for, unit_of, stays}
 use Rattle.svc_machine_laws.specs.PlainMachine as plain
 use Rattle.svc_machine_laws.specs.Events.{Event, Assign, Submit, Replace, Cancel, Commit, task_place, asked_want}
-use Rattle.svc_machine_laws.specs.Replies.{served_by, turn_done, turn_cut, committed, wrong_guess, serves_at, checked, plain_asked_of, plain_asked, plain_submitted, plain_cancelled, plain_committed, plain_reply}
+use Rattle.svc_machine_laws.specs.Replies.{served_by, turn_done, turn_cut, reply_to_commit, wrong_guess, serves_at, reply_after_check, plain_asked_of, plain_asked, plain_submitted, plain_cancelled, plain_committed, plain_reply}
 use Rattle.svc_machine_laws.specs.Standing.{Standing, reply_to}
 use Rattle.svc_machine_laws.specs.Reached.{IsReached}
 use Rattle.svc_machine_laws.proofs.Places.{within}
 use Rattle.svc_history_laws.specs.declared.entry.Entry.{Entry}
-use Rattle.svc_history_laws.specs.Entries.{reply_told, address_told, word_told, served_told, kind_served, unit_served, cause_of, first_of, count_of, named, telling, entry_of}
+use Rattle.svc_history_laws.specs.Entries.{reply_told, address_told, word_told, served_told, kind_served, unit_served, cause_of, first_of, count_of, entry_asking, telling, entry_of}
 use Rattle.svc_renaming_laws.specs.Renamings.{Renaming, IsRenaming}
 use Rattle.svc_renaming_laws.specs.RenamedLines.{renamed_lines, renamed_supplier}
 use Rattle.svc_renaming_laws.specs.Renamed.{renamed_task, renamed_plain, renamed_standing, renamed_unit, renamed_event, renamed_served, renamed_what, renamed_reply, renamed_entry}
@@ -102,7 +102,7 @@ module _ (r : Renaming) where
   froms_renamed None = refl
   froms_renamed (Some x) = from_renamed x
 
-  named_renamed : (x : Event) → named (renamed_event r x) ≡ renamed_entry r (named x)
+  named_renamed : (x : Event) → entry_asking (renamed_event r x) ≡ renamed_entry r (entry_asking x)
   named_renamed (Assign unit guess) = refl
   named_renamed (Submit b) = refl
   named_renamed (Replace unit address) = refl
@@ -133,7 +133,7 @@ module _ (r : Renaming) where
 
   pub entry_renamed : (x : Event) (y : Reply) → entry_of (renamed_event r x) (renamed_reply r y) ≡ renamed_entry r (entry_of x y)
   unfolding entry_of
-  entry_renamed x y = ap (telling (renamed_reply r y)) (named_renamed x) ∙ telling_renamed y (named x)
+  entry_renamed x y = ap (telling (renamed_reply r y)) (named_renamed x) ∙ telling_renamed y (entry_asking x)
 
   -- ---- the answer
   served_renamed : (x : Supplier) → served_by (renamed_supplier r x) ≡ renamed_served r (served_by x)
@@ -153,7 +153,7 @@ module _ (r : Renaming) where
   done_renamed p (Narrow a f c) look here there same = ap (λ x. what.Stored (record { 0 = a }) (f (look a)) (Some x)) (same a)
   done_renamed p (Emit w c) look here there same = refl
 
-  checked_renamed : (b : Bool) (k count place : ℕ) (y : Reply) → checked b k count place (renamed_reply r y) ≡ renamed_reply r (checked b k count place y)
+  checked_renamed : (b : Bool) (k count place : ℕ) (y : Reply) → reply_after_check b k count place (renamed_reply r y) ≡ renamed_reply r (reply_after_check b k count place y)
   checked_renamed false k count place y = refl
   checked_renamed true k count place y = refl
 
@@ -165,7 +165,7 @@ module _ (r : Renaming) where
   committed_renamed p k [] = refl
   committed_renamed {C} p k (t ∷ ts) =
       let ended : Option End = p.done (part p t.entry t.turns (seq p k).memory).core in
-      ap (λ l. committed k ended (stays ended l) (map (renamed_task r) ts)) (tasks_entries r ts)
+      ap (λ l. reply_to_commit k ended (stays ended l) (map (renamed_task r) ts)) (tasks_entries r ts)
       ∙ ap {B = Reply} (λ c. record { what = what.Committed (record { 0 = k }) (unwrap_or ended (Rattle.svc_core_laws.specs.declared.end.End.TheVariants.Next 0)); cut = cond (stays ended (map plain.entry_of ts)) None c }) (guess_renamed k ts)
 
   module _ (img : Image) (config : Config) (s : Standing) (is : IsRenaming config.units r) (reached : IsReached img config s) where
@@ -212,7 +212,7 @@ module _ (r : Renaming) where
     submitted (Some place) local ask =
         let misled : plain.is_misled p (plain.submit p (renamed_plain r s.plain) place local ask) place ≡ plain.is_misled p (plain.submit p s.plain place local ask) place =
         ap (λ k. plain.is_misled p k place) (submit_renamed r p s.plain place local ask) ∙ misled_renamed r p (plain.submit p s.plain place local ask) place in
-        (λ i. checked (misled i) s.plain.commits (count i) place (asked place local ask i))
+        (λ i. reply_after_check (misled i) s.plain.commits (count i) place (asked place local ask i))
         ∙ checked_renamed (plain.is_misled p (plain.submit p s.plain place local ask) place) s.plain.commits (length s.plain.tasks) place (plain_asked p s.plain s.lines place local ask)
 
     cancelled_at : (o : Option ℕ) → plain_cancelled (renamed_plain r s.plain) o ≡ renamed_reply r (plain_cancelled s.plain o)

@@ -7,9 +7,9 @@ use Rattle.svc_core_laws.specs.Program.{Memory, Program, Run, Want, Local, Load,
 use Rattle.svc_core_laws.specs.Words.{program}
 use Rattle.svc_bus_laws.specs.Versioned.{with_head}
 use Rattle.svc_bus_laws.specs.ByRows.{edit}
-use Rattle.svc_machine_laws.specs.PlainMachine.{Task, Plain, Running, unit_of, entry_of, runs_of, running, row_of, memory_at, more, one_more, cut_by, take_turn_by, take_turn, submitted, stays, settled, cuts_after, run_done, run_entry, entry_for, accept}
+use Rattle.svc_machine_laws.specs.PlainMachine.{Task, Plain, Running, unit_of, entry_of, runs_of, running, row_of, memory_at, more, one_more, cut_by, take_turn_by, take_turn, tasks_after_submit, stays, staying_tasks, cuts_after, run_done, run_entry, entry_for, accept}
 use Rattle.svc_machine_laws.specs.PlainMachine as plain
-use Rattle.svc_machine_laws.specs.WholeMachine.{Seat, Machine, machine_of, seat_of, seat_unit, seat_entry, seat_turn, at_core, seen}
+use Rattle.svc_machine_laws.specs.WholeMachine.{Seat, Machine, machine_of, seat_of, seat_unit, seat_entry, seat_turn, at_core, memory_seen}
 use Rattle.svc_machine_laws.specs.WholeMachine as whole
 use Rattle.svc_machine_laws.specs.Events.{Event, Assign, Submit, Replace, Cancel, Commit, place_in, task_place, seat_place, asked_want, plain_submit, plain_cancel, plain_event}
 use Rattle.svc_machine_laws.specs.Refusals.{seat_at}
@@ -95,7 +95,7 @@ module _ (r : Renaming) where
           ap (λ rows. edit place one_more (cut_by (p.want x.run.core) rows place) (map (renamed_task r) ts)) (rows_renamed (runs_of p m ts))
           ∙ sym (map_edit (renamed_task r) one_more one_more place (cut_by (p.want x.run.core) (map row_of (runs_of p m ts)) place) ts (λ x h. refl))
 
-  submitted_renamed : {C : Type 0} (p : Program C) (m : Memory) (ts : List Task) (place local : ℕ) (ask : Bool) → submitted p m (map (renamed_task r) ts) place local ask ≡ map (renamed_task r) (submitted p m ts place local ask)
+  submitted_renamed : {C : Type 0} (p : Program C) (m : Memory) (ts : List Task) (place local : ℕ) (ask : Bool) → tasks_after_submit p m (map (renamed_task r) ts) place local ask ≡ map (renamed_task r) (tasks_after_submit p m ts place local ask)
   submitted_renamed p m ts place local false = more_renamed local place ts
   submitted_renamed p m ts place local true =
       ap (λ us. take_turn p m us place) (more_renamed local place ts) ∙ asked_renamed p m (edit place (more local) None ts) place
@@ -134,8 +134,8 @@ module _ (r : Renaming) where
   seats_after : {C : Type 0} (m : Machine C) (place : ℕ) (end : C) (w : Option (Want C)) → (whole.submit (renamed_machine r m) place end w).seats ≡ map (renamed_seat r) (whole.submit m place end w).seats
   seats_after m place end None = sym (map_edit (renamed_seat r) (at_core end) (at_core end) place None m.seats (λ x h. refl))
   seats_after m place end (Some w) =
-      sym (map_edit (renamed_seat r) (λ s. seat_turn w (seen m.versioned place) (at_core end s)) (λ s. seat_turn w (seen m.versioned place) (at_core end s)) place
-      (cut_by w m.versioned.rows place) m.seats (λ x h. turn_renamed w (seen m.versioned place) end x))
+      sym (map_edit (renamed_seat r) (λ s. seat_turn w (memory_seen m.versioned place) (at_core end s)) (λ s. seat_turn w (memory_seen m.versioned place) (at_core end s)) place
+      (cut_by w m.versioned.rows place) m.seats (λ x h. turn_renamed w (memory_seen m.versioned place) end x))
 
   pub misled_after : {C : Type 0} (p : Program C) (m : Machine C) (place : ℕ) (end : C) (w : Option (Want C))
       → whole.is_misled p (whole.submit (renamed_machine r m) place end w).seats place ≡ whole.is_misled p (whole.submit m place end w).seats place

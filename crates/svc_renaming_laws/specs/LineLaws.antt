@@ -1,6 +1,6 @@
 -- The bus has nothing to do with the names of units.
 use Rattle.std.specs.Prelude.{◌≡◌, ℕ, ◌<◌, length, option_map}
-use Rattle.svc_bus_laws.specs.LineTable.{LineTable, newest, versioned}
+use Rattle.svc_bus_laws.specs.LineTable.{LineTable, newest, versioned_map}
 use Rattle.svc_bus_laws.specs.Supplier.{supplier}
 use Rattle.svc_bus_laws.specs.Steps.{read, write, replace, squash, commit, begin}
 use Rattle.svc_bus_laws.specs.Sound.{IsSound}
@@ -17,7 +17,7 @@ abbrev pub RenamedSound : Type 0
 RenamedSound = OfRenamings (λ r t. IsSound (renamed_lines r t))
 
 abbrev pub RenamedMap : Type 0
-RenamedMap = OfRenamings (λ r t. versioned (renamed_lines r t) ≡ versioned t)
+RenamedMap = OfRenamings (λ r t. versioned_map (renamed_lines r t) ≡ versioned_map t)
 
 -- the unit of the newest committed dirty line of each word is the renamed one. This needs that the table is sound: of
 -- two such lines with one number, that of the lower unit would be taken

@@ -1,6 +1,7 @@
 -- The text of a trace.
 use Rattle.std.specs.Prelude.{ℕ, zero, suc, List, [], ◌∷◌, ◌++◌, Option, IfSome, codes, decimal, flat_map, length, take}
 use Rattle.std.specs.Prelude.{get_or, ◌<◌, ◌≤◌, ◌^◌, ◌≡◌, ◌≢◌}
+use Rattle.svc_base.specs.declared.limits.TheConstants.{MAX_BURST_TURNS}
 use Rattle.svc_history_laws.specs.declared.entry.Entry.{Entry}
 use Rattle.svc_report.specs.declared.error.ReportError.{ReportError}
 use Rattle.svc_report.specs.Fields.{address_text, ask_word, cause_word, kind_word, optional, reply_word, served_word}
@@ -39,7 +40,7 @@ trace_records h = records_of header columns h
 pub record HasRow (e : Entry) : Type 0 where
   pub unit : e.unit.0 ≤ 255
   pub arg : IfSome e.arg (λ n. n < 2 ^ 32)
-  pub local : IfSome e.local (λ n. n ≤ 63)
+  pub local : IfSome e.local (λ n. n ≤ MAX_BURST_TURNS)
   pub addr : IfSome e.addr (λ a. a.0 < 2 ^ 32)
   pub word : IfSome e.word (λ n. n < 2 ^ 32)
   pub from : IfSome e.from (λ u. u.0 ≤ 255)

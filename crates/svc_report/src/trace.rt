@@ -22,6 +22,7 @@ use csv::ByteRecord;
 use itoa::Buffer;
 use std::alloc::Global;
 use std::io::{Read, Write};
+use svc_base::limits::MAX_BURST_TURNS;
 use svc_history_laws::Entry;
 
 // The names of the columns.
@@ -42,7 +43,7 @@ const HEADER: [&[u8]; 13] = [
 ];
 
 // The most local turns of a burst.
-const MOST_LOCAL: u8 = 63;
+const MOST_LOCAL: u8 = MAX_BURST_TURNS as u8;
 
 // Writes the row of an entry, through the pending lines.
 fn write_row<W: Write>(pending: &mut Pending, entry: &Entry, w: &mut W) -> Result<(), ReportError>

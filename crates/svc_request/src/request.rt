@@ -1,6 +1,7 @@
 // What may be asked of the program.
 
 ghost use Rattle.std.specs.Prelude.{◌≡◌, ◌<◌, ◌≤◌, ◌↔◌, IfSome, IsSome};
+ghost use Rattle.svc_base.specs.declared.limits.TheConstants.{MAX_BURST_TURNS};
 
 use svc_base::Config;
 use svc_core::MAX_BURST_TURNS;
@@ -46,14 +47,14 @@ pub struct Schedule<'a> {
     /// The script's file whose events come before the first step.
     pub after: Option<&'a str>,
     pub ghost some: { 0 < burst },
-    pub ghost few: { burst ≤ 63 },
+    pub ghost few: { burst ≤ MAX_BURST_TURNS },
 }
 
 impl<'a> Schedule<'a> {
     /// The schedule of these, after the script of this file; none if the turns of a burst are not 1 to
     /// [`MAX_BURST_TURNS`].
     pub fn new(order: Order, burst: u32, after: Option<&'a str>) -> Option<Schedule<'a>>
-        ensures given { IsSome result ↔ ((0 < burst) × (burst ≤ 63)) }
+        ensures given { IsSome result ↔ ((0 < burst) × (burst ≤ MAX_BURST_TURNS)) }
         ensures order { IfSome result (λ s. s.order ≡ order) }
         ensures burst { IfSome result (λ s. s.burst ≡ burst) }
         ensures after { IfSome result (λ s. s.after ≡ after.entry) }

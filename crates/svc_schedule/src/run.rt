@@ -1,6 +1,7 @@
 //! A whole run, and one that goes on from where a recorder stands.
 
 ghost use Rattle.std.specs.Prelude.{◌≡◌, ◌<◌, ◌≤◌, IfOk, IfErr, OnOk, OnErr};
+ghost use Rattle.svc_base.specs.declared.limits.TheConstants.{MAX_BURST_TURNS};
 ghost use Rattle.svc_schedule.specs.Steps.{GoesOn, IsScheduled};
 
 use crate::bursts::first_bursts;
@@ -25,7 +26,7 @@ pub fn run_schedule<P: Policy>(
     policy: &mut P,
 ) -> Result<Recorder, OpenError>
     requires some { 0 < burst }
-    requires few { burst ≤ 63 }
+    requires few { burst ≤ MAX_BURST_TURNS }
     ensures run { IfOk result (IsScheduled P.gives image.now config burst policy.old policy.new) }
     ensures err { IfErr result (λ e. e ≡ OpenError.Memory) }
 {
@@ -52,7 +53,7 @@ pub fn continue_schedule<P: Policy>(
     policy: &mut P,
 ) -> Result<(), OpenError>
     requires some { 0 < burst }
-    requires few { burst ≤ 63 }
+    requires few { burst ≤ MAX_BURST_TURNS }
     ensures goes { OnOk result (GoesOn P.gives burst policy.old policy.new recorder.old recorder.new) }
     ensures err { IfErr result (λ e. e ≡ OpenError.Memory) }
     ensures unchanged { OnErr result (recorder.new ≡ recorder.old) }

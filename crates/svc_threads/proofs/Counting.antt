@@ -2,7 +2,7 @@
 use Rattle.std.proofs.Common.{◌≡◌, ℕ, ◌+◌, ◌<◌, ◌≤◌, List, [], ◌∷◌, ◌++◌, length, take, drop, get_or, refl, sym, ap, ◌∙◌, subst, arith}
 use Rattle.std.proofs.lemmas.List.{take_more, take-append-drop}
 use Rattle.svc_history_laws.specs.declared.entry.Entry.{Entry}
-use Rattle.svc_history_laws.specs.Board.{Tally, board, counted, counted_on, no_events}
+use Rattle.svc_history_laws.specs.Board.{Tally, board, tally_with, counted_on, no_events}
 use Rattle.svc_history.specs.Recorded.{Recorded, IsCounted}
 use Rattle.svc_threads.specs.declared.board.BoardRow.{BoardRow}
 use Rattle.svc_threads.specs.Boards.{AtMost, row_of, zeros}
@@ -11,9 +11,9 @@ use Rattle.svc_threads.specs.Counts.{row_of_entries, with_entry, IsSmall}
 counted_on-append : (t : Tally) (es fs : List Entry) → counted_on t (es ++ fs) ≡ counted_on (counted_on t es) fs
 unfolding counted_on
 counted_on-append t [] fs = refl
-counted_on-append t (e ∷ es) fs = counted_on-append (counted t e) es fs
+counted_on-append t (e ∷ es) fs = counted_on-append (tally_with t e) es fs
 
-one_more : (t : Tally) (e : Entry) → counted_on t (e ∷ []) ≡ counted t e
+one_more : (t : Tally) (e : Entry) → counted_on t (e ∷ []) ≡ tally_with t e
 unfolding counted_on
 one_more t e = refl
 
@@ -28,7 +28,7 @@ Below s t = AtMost (row_of s) (row_of t)
 grows : (t : Tally) (es : List Entry) → Below t (counted_on t es)
 unfolding counted_on
 grows t [] = (omega arith, omega arith, omega arith, omega arith)
-grows t (e ∷ es) = let g = grows (counted t e) es in (omega (arith, g), omega (arith, g), omega (arith, g), omega (arith, g))
+grows t (e ∷ es) = let g = grows (tally_with t e) es in (omega (arith, g), omega (arith, g), omega (arith, g), omega (arith, g))
 
 pub row_longer : (es : List Entry) (e : Entry) → row_of_entries (es ++ e ∷ []) ≡ with_entry (row_of_entries es) e
 row_longer es e = ap row_of (counted_on-append no_events es (e ∷ []) ∙ one_more (board es) e)

@@ -13,7 +13,7 @@ ghost use Rattle.svc_vcl.specs.Planned.{supplier_of};
 
 use crate::search::{is_overtaken, nearest_version, newest_version, reusable_copy};
 use svc_base::{Served, UnitId};
-use svc_line::LineBits;
+use svc_line::{Line, LineBits};
 use svc_vol::VersionList;
 
 /// What a read does.
@@ -21,10 +21,8 @@ use svc_vol::VersionList;
 pub struct ReadPlan {
     /// Who supplies the value.
     pub served: Served,
-    /// The value, which the unit's line has after the read.
-    pub value: u32,
-    /// The bits of the unit's line after the read.
-    pub bits: LineBits,
+    /// The unit's line after the read, with the value. It links to no unit.
+    pub line: Line,
 }
 
 // The supplier and its value, if the unit's own line isn't it: the nearest earlier version, otherwise the spilled
@@ -57,8 +55,8 @@ fn is_first_use(place: usize, spill: Option<u32>) -> bool
     place != 0 || spill.is_none()
 }
 
-/// The plan of a read by the unit of the task at a place: who supplies the value, the value that the task sees, and the
-/// bits of the unit's line after it. `spill` is the word's spilled value, and `backing` its value in memory.
+/// The plan of a read by the unit of the task at a place: who supplies the value, and the unit's line after it, with
+/// the value that the task sees. `spill` is the word's spilled value, and `backing` its value in memory.
 pub fn plan_read(
     list: &VersionList,
     unit: UnitId,
@@ -70,31 +68,41 @@ pub fn plan_read(
     ensures served { (b : BusState) (t : LineTable) (a : ℕ) → IsReadRequest b t a list.now unit.0 place spill backing
         → supplier_of result.served ≡ bus_supplier b place a }
     ensures value { (b : BusState) (t : LineTable) (a : ℕ) → IsReadRequest b t a list.now unit.0 place spill backing
-        → result.value ≡ bus_view b place a }
+        → result.line.value ≡ bus_view b place a }
     ensures line { (b : BusState) (t : LineTable) (a : ℕ) → IsReadRequest b t a list.now unit.0 place spill backing
-        → (bus_read b place a).lines unit.0 a ≡ Some (line_with result.value (bits_of result.bits)) }
+        → (bus_read b place a).lines unit.0 a ≡ Some (line_with result.line.value (bits_of result.line.bits)) }
     ensures valid { (b : BusState) (t : LineTable) (a : ℕ) → IsReadRequest b t a list.now unit.0 place spill backing
-        → (bits_of result.bits).valid ≡ true }
+        → (bits_of result.line.bits).valid ≡ true }
+    ensures unlinked { result.line.next ≡ None }
 {
     if let Some(own) = list.active()[place] {
         return ReadPlan {
             served: Served::Hit,
-            value: own.line.value,
-            bits: own.line.bits,
+            line: Line {
+                value: own.line.value,
+                bits: own.line.bits,
+                next: None,
+            },
         };
     }
     if let Some(copy) = reusable_copy(list.committed(), unit) {
         return ReadPlan {
             served: Served::Reuse,
-            value: copy.line.value,
-            bits: copy.line.bits.on_reuse(),
+            line: Line {
+                value: copy.line.value,
+                bits: copy.line.bits.on_reuse(),
+                next: None,
+            },
         };
     }
     let (served, value) = supplier(list, place, spill, backing);
     let overtaken = is_overtaken(list.active(), list.active().len(), place);
     ReadPlan {
         served,
-        value,
-        bits: LineBits::on_load(is_first_use(place, spill), overtaken),
+        line: Line {
+            value,
+            bits: LineBits::on_load(is_first_use(place, spill), overtaken),
+            next: None,
+        },
     }
 }

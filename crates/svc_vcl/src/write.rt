@@ -19,7 +19,7 @@ use crate::search::{is_overtaken, nearest_version, next_version, victim};
 use arrayvec::ArrayVec;
 use bitflags::Flags;
 use svc_base::UnitId;
-use svc_line::LineBits;
+use svc_line::{Line, LineBits};
 use svc_vol::{CAPACITY, HeldLine, VersionList};
 
 /// The types allow at most this many lines to become stale: all of a version list.
@@ -30,10 +30,8 @@ pub const STALE_CAPACITY: usize = 2 * CAPACITY;
 pub struct WritePlan {
     /// The place of the task that is squashed, with all after it.
     pub victim: Option<usize>,
-    /// The bits of the unit's line after the write.
-    pub bits: LineBits,
-    /// The link of the unit's line after the write: the unit of the next newer version among the tasks that are left.
-    pub next: Option<UnitId>,
+    /// The unit's line after the write. It links to the unit of the next newer version among the tasks that are left.
+    pub line: Line,
     /// The unit with the nearest older version of an active task. The write links that version to the writer's unit.
     pub previous: Option<UnitId>,
 }
@@ -126,8 +124,8 @@ fn unit_of(version: Option<HeldLine>) -> Option<UnitId>
     }
 }
 
-/// The plan of a write by the unit of the task at a place: the victim, if any, the bits of the unit's line after it,
-/// and the links of that line and of the version before it. (A write purges the word, so no committed version is left.)
+/// The plan of a write by the unit of the task at a place: the victim, if any, the unit's line after it, and the link
+/// of the version before it. (A write purges the word, so no committed version is left.)
 ///
 /// `changed` is large, so it is filled in place. It gets the lines of other units that the write changes, as they were
 /// before it: the committed copies and the lines of earlier tasks, which become stale, and the version before, which is
@@ -136,17 +134,19 @@ pub fn plan_write(
     list: &VersionList,
     unit: UnitId,
     place: usize,
+    value: u32,
     changed: &mut ArrayVec<HeldLine, STALE_CAPACITY>,
 ) -> WritePlan
     requires { place < length list.now.active }
     ensures victim { (b : BusState) (t : LineTable) (a : ℕ) → IsRequest b t a list.now unit.0 place
         → result.victim ≡ victim (bus_map b) place a }
-    ensures line { (b : BusState) (t : LineTable) (a value : ℕ) → IsRequest b t a list.now unit.0 place
-        → (bus_write b place a value).lines unit.0 a ≡ Some (line_with value (bits_of result.bits)) }
-    ensures valid { (bits_of result.bits).valid ≡ true }
+    ensures line { (b : BusState) (t : LineTable) (a : ℕ) → IsRequest b t a list.now unit.0 place
+        → (bus_write b place a value).lines unit.0 a ≡ Some (line_with value (bits_of result.line.bits)) }
+    ensures value { result.line.value ≡ value }
+    ensures valid { (bits_of result.line.bits).valid ≡ true }
     // the links
     ensures next { (b : BusState) (t : LineTable) (a : ℕ) → IsRequest b t a list.now unit.0 place
-        → option_map (λ unit. unit.0) result.next ≡ unit_of b.units
+        → option_map (λ unit. unit.0) result.line.next ≡ unit_of b.units
         (place_after (survivors (bus_map b) place a) (λ q. is_some (version_of_line (bus_line_at b q a))) place) }
     ensures previous { (b : BusState) (t : LineTable) (a : ℕ) → IsRequest b t a list.now unit.0 place
         → option_map (λ unit. unit.0) result.previous ≡ unit_of b.units
@@ -176,8 +176,7 @@ pub fn plan_write(
     list_previous(changed, nearest);
     WritePlan {
         victim,
-        bits,
-        next,
+        line: Line { value, bits, next },
         previous: unit_of(nearest),
     }
 }

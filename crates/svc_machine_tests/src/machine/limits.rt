@@ -5,7 +5,7 @@ use super::{Answer, opened_from, play, step};
 use std::alloc::Global;
 use std::process::Abort;
 use svc_base::{Refusal, UnitId, WordAddr};
-use svc_core::Burst;
+use svc_core::{Burst, MAX_BURST_TURNS};
 use svc_image::Image;
 use svc_machine::{Event, Reply, What};
 use svc_samples::{Line, P};
@@ -53,7 +53,7 @@ pub fn first_burst(rt: &impl Abort, alloc: Global, file: &[u8]) -> Burst {
     play(rt, &mut machine, &[BEGIN]);
     let lease = machine.lease(UnitId(0)).expect(rt, "a lease");
     let image = Image::read(alloc, file).expect(rt, "an image");
-    lease.advance(&image, 63)
+    lease.advance(&image, MAX_BURST_TURNS)
 }
 
 // How that burst is answered when it is submitted, and when it is submitted again.

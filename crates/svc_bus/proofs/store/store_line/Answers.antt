@@ -1,4 +1,4 @@
-use Rattle.std.proofs.Common.{◌≡◌, ◌∙◌, ◌==◌, ◌&&◌, sym, ap, true, is_ok, length, Some, option_map}
+use Rattle.std.proofs.Common.{◌∙◌, ◌==◌, ◌&&◌, ap, length, Some, option_map}
 use Rattle.svc_base.specs.declared.ids.UnitId.{UnitId}
 use Rattle.svc_line.specs.Line.{seen_line}
 use Rattle.svc_vcl.specs.Planned.{is_named}

@@ -1,4 +1,4 @@
-use Rattle.std.proofs.Common.{◌≡◌, ◌∙◌, false, ap, refl, sym}
+use Rattle.std.proofs.Common.{◌≡◌, ◌∙◌, false, ap, sym}
 use Rattle.svc_machine.specs.Reads.{is_full}
 use Rattle.svc_history.specs.Recorded.{Recorded}
 use Rattle.svc_explore.specs.Tries.{IsTried}

@@ -1,4 +1,4 @@
-use Rattle.std.proofs.Common.{◌≡◌, ◌∙◌, List, false, inl, refl, subst, sym, vec_items}
+use Rattle.std.proofs.Common.{◌≡◌, ◌∙◌, List, false, subst, sym, vec_items}
 use Rattle.svc_explore_laws.specs.Closed.{IsIn}
 use Rattle.svc_explore.specs.Counts.{AddsPlace}
 use Rattle.svc_explore.specs.Search.{GrowsTo, Place, are_keys}

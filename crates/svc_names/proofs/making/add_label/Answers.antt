@@ -1,8 +1,7 @@
-use Rattle.std.proofs.Common.{◌≡◌, ◌∙◌, ◌++◌, ◌∷◌, [], ℕ, List, ap, false, sym, true, subst, arith}
+use Rattle.std.proofs.Common.{◌≡◌, ◌∙◌, ℕ, List, ap, false, sym, true, arith}
 use Rattle.std.specs.Ordering.{is_lt}
-use Rattle.svc_names.specs.Made.{NotBelow, compared, pair_of}
+use Rattle.svc_names.specs.Made.{compared, pair_of}
 use Rattle.svc_names.specs.Table.{comes_next, is_name_text}
-use Rattle.svc_asm.specs.Labels.{parts_of}
 use Rattle.svc_names.proofs.Made.{last_pushed, passed_label, pushed_label, stands_there}
 use Rattle.svc_names.proofs.Order.{table_more}
 use Rattle.svc_names.proofs.making.add_label.Goals as goal

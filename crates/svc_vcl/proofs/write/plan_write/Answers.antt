@@ -27,7 +27,7 @@ returns-clause-victim c = λ b t a request.
     c.victim-victim.ensures ∙ ap (λ active. victim_in active c.args.place) c.active-active.ensures.lines ∙ victim_is b t a c.args.list.now c.args.unit.0 c.args.place request
 
 pub returns-clause-line : goal.returns-clause-line
-returns-clause-line c = λ b t a value request.
+returns-clause-line c = λ b t a request.
     let list = c.args.list.now in
     let place = c.args.place in
     let left : c.unwrap_or-left.result ≡ unwrap_or (victim_in c.active-active.result.now place) (length c.active-active.result.now) = c.unwrap_or-left.ensures ∙ ap (λ victim. unwrap_or victim (length c.active-active.result.now)) c.victim-victim.ensures in
@@ -37,7 +37,7 @@ returns-clause-line c = λ b t a value request.
     ∙ overtaken_after b t a list c.args.unit.0 place request in
     let bits : bits_of c.on_store-bits.result ≡ after_store (own_bits (slot_at list.active place)) c.is_overtaken-overtaken.result =
     c.on_store-bits.ensures ∙ ap (λ own. after_store own c.is_overtaken-overtaken.result) (c.own_bits.ensures ∙ ap (λ active. own_bits (slot_at active place)) c.active-active.ensures.lines) in
-    written_line b t a list c.args.unit.0 place request value (bits_of c.on_store-bits.result) c.is_overtaken-overtaken.result bits passed
+    written_line b t a list c.args.unit.0 place request c.args.value (bits_of c.on_store-bits.result) c.is_overtaken-overtaken.result bits passed
 
 pub next_version-requires-clause-few : goal.next_version-requires-clause-few
 next_version-requires-clause-few c =

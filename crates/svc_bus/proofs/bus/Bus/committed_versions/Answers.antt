@@ -1,6 +1,4 @@
-use Rattle.std.proofs.Common.{subst}
 use Rattle.svc_bus.specs.Observed.{observed}
-use Rattle.svc_bus.specs.Versions.{AreItsVersions}
 use Rattle.svc_bus.proofs.ItsVersions.{its_versions}
 use Rattle.svc_bus.proofs.Requests.{listable}
 use Rattle.svc_bus.proofs.Rooms.{room_for_each}

@@ -1,5 +1,4 @@
-use Rattle.std.proofs.Common.{◌≡◌, ◌∙◌, sym, ap, subst, Some, None, List, length, option_map, map}
-use Rattle.svc_cache.specs.Places.{CacheValue}
+use Rattle.std.proofs.Common.{◌∙◌, sym, ap, option_map}
 use Rattle.svc_vol.specs.declared.held_line.HeldLine.{HeldLine}
 use Rattle.svc_vcl.specs.Listed.{newest_version_in}
 use Rattle.svc_bus.specs.Observed.{observed}

@@ -1,5 +1,6 @@
 use Rattle.std.proofs.Common.{◌≡◌, ◌∙◌, refl, sym, ap, ap₂, subst, ℕ, ◌+◌, ◌<◌, false, Some, None, List, Option, length, get_or, option_map, arith}
 use Rattle.std.proofs.lemmas.List.{with_items_is}
+use Rattle.svc_base.specs.declared.ids.UnitId.{UnitId}
 use Rattle.svc_base.specs.declared.refusal.Refusal.TheVariants as refusal
 use Rattle.svc_line.specs.Bits.{bits_of}
 use Rattle.svc_line.specs.Line.{SeenLine, seen_line as seen_of}
@@ -67,10 +68,10 @@ looked c known = record {
   backing_is = sym (read_item (old c).backing c.args.word.0 c.index-backing.result.now 0 c.index-backing.ensures known);
 }
 
-looked_plan : (c : goal.After-probes-2-1) → c.args.word.0 < length (old c).backing → IsPlanned (old c) c.place_of-place.result c.args.word.0 c.plan_read-plan.result.served c.plan_read-plan.result.value (bits_of c.plan_read-plan.result.bits)
+looked_plan : (c : goal.After-probes-2-1) → c.args.word.0 < length (old c).backing → IsPlanned (old c) c.place_of-place.result c.args.word.0 c.plan_read-plan.result.served c.plan_read-plan.result.line.value (bits_of c.plan_read-plan.result.line.bits)
 unfolding observed
 looked_plan c known =
-    planned_read (old c) c.fill_beside.new.self c.place_of-place.result c.args.word.0 c.args.unit.0 c.index-backing.result.now c.get.result c.plan_read-plan.result.served c.plan_read-plan.result.value (bits_of c.plan_read-plan.result.bits)
+    planned_read (old c) c.fill_beside.new.self c.place_of-place.result c.args.word.0 c.args.unit.0 c.index-backing.result.now c.get.result c.plan_read-plan.result.served c.plan_read-plan.result.line.value (bits_of c.plan_read-plan.result.line.bits)
     c.self.invariant (looked c known) c.plan_read-plan.ensures.served c.plan_read-plan.ensures.line c.plan_read-plan.ensures.valid
 
 pub carry_out-requires-clause-valid : goal.carry_out-requires-clause-valid
@@ -84,7 +85,7 @@ pub carry_out-requires-clause-active : goal.carry_out-requires-clause-active
 unfolding observed
 carry_out-requires-clause-active c =
     let known : c.args.word.0 < length (old c).backing = rw (← c.self.view_is) at c.requires.in_memory in
-    plan_clear (old c) c.self.invariant c.place_of-place.result c.args.word.0 c.plan_read-plan.result.served c.plan_read-plan.result.value (bits_of c.plan_read-plan.result.bits) (looked_plan c known)
+    plan_clear (old c) c.self.invariant c.place_of-place.result c.args.word.0 c.plan_read-plan.result.served c.plan_read-plan.result.line.value (bits_of c.plan_read-plan.result.line.bits) (looked_plan c known)
 
 pub carry_out-requires-clause-room : goal.carry_out-requires-clause-room
 carry_out-requires-clause-room c =
@@ -125,10 +126,10 @@ seen c known = record {
   backing_is = sym (read_item (before c).backing c.args.word.0 c.index-backing.result.now 0 c.index-backing.ensures known);
 }
 
-seen_plan : (c : goal.After-self-3-1) → c.args.word.0 < length (before c).backing → IsPlanned (before c) c.place_of-place.result c.args.word.0 c.plan_read-plan.result.served c.plan_read-plan.result.value (bits_of c.plan_read-plan.result.bits)
+seen_plan : (c : goal.After-self-3-1) → c.args.word.0 < length (before c).backing → IsPlanned (before c) c.place_of-place.result c.args.word.0 c.plan_read-plan.result.served c.plan_read-plan.result.line.value (bits_of c.plan_read-plan.result.line.bits)
 unfolding observed
 seen_plan c known =
-    planned_read (before c) c.fill_beside.new.self c.place_of-place.result c.args.word.0 c.args.unit.0 c.index-backing.result.now c.get.result c.plan_read-plan.result.served c.plan_read-plan.result.value (bits_of c.plan_read-plan.result.bits)
+    planned_read (before c) c.fill_beside.new.self c.place_of-place.result c.args.word.0 c.args.unit.0 c.index-backing.result.now c.get.result c.plan_read-plan.result.served c.plan_read-plan.result.line.value (bits_of c.plan_read-plan.result.line.bits)
     c.self.invariant (seen c known) c.plan_read-plan.ensures.served c.plan_read-plan.ensures.line c.plan_read-plan.ensures.valid
 
 sizes_are : (c : goal.After-self-3-1) (told : ℕ) → KeepsSizes (before c) (after c told)
@@ -140,12 +141,14 @@ sizes_are c told = record {
 
 -- the unit's line after the read
 abbrev line_after : goal.After-self-3-1 → Option SeenLine
-line_after c = Some (record { value = c.plan_read-plan.result.value; bits = bits_of c.plan_read-plan.result.bits; next = None })
+line_after c = Some (record { value = c.plan_read-plan.result.line.value; bits = bits_of c.plan_read-plan.result.line.bits; next = None })
 
 lines_are : (c : goal.After-self-3-1) (u a : ℕ) → held_line c.carry_out.new.caches u a ≡ lines_after c.plan_read-plan.result.served (held_line (before c).caches) (get_or (before c).units c.place_of-place.result 0) c.args.word.0 (line_after c) u a
 lines_are c u a =
+    let plan = c.plan_read-plan.result in
     c.in_default.ensures.lines u a
-    ∙ ap₂ (λ (xs : List CacheValue) (unit : ℕ). lines_after c.plan_read-plan.result.served (held_line xs) unit c.args.word.0 (line_after c) u a) c.deref_mut.ensures.value (sym c.place_of-place.ensures.at_work)
+    ∙ ap (λ (next : Option UnitId). lines_after plan.served (held_line c.deref_mut.result.now) c.args.unit.0 c.args.word.0 (Some (record (seen_of plan.line) { next = option_map (λ (unit : UnitId). unit.0) next })) u a) c.plan_read-plan.ensures.unlinked
+    ∙ ap₂ (λ (xs : List CacheValue) (unit : ℕ). lines_after plan.served (held_line xs) unit c.args.word.0 (line_after c) u a) c.deref_mut.ensures.value (sym c.place_of-place.ensures.at_work)
 
 memory_is : (c : goal.After-self-3-1) (a : ℕ) → get_or c.carry_out.new.backing a 0 ≡ memory_after c.plan_read-plan.result.served (λ x. get_or (before c).backing x 0) c.args.word.0 (committed_in (before c).caches (before c).backing c.args.word.0) a
 memory_is c a =
@@ -160,7 +163,7 @@ invariant_of-self-2 c =
     let count : length c.carry_out.new.caches ≡ inside.caches.len = (sizes_are c 0).caches.count ∙ sym inside.caches.ok.0 in
     let words : length c.carry_out.new.backing ≡ inside.backing.len = (sizes_are c 0).backing ∙ sym inside.backing.ok.0 in
     rw (with_items_is inside.caches c.carry_out.new.caches count, with_items_is inside.backing c.carry_out.new.backing words)
-    (read_bus (before c) c.self.invariant c.place_of-place.result c.args.word.0 c.plan_read-plan.result.served c.plan_read-plan.result.value (bits_of c.plan_read-plan.result.bits) (seen_plan c known) (after c _) (sizes_are c _) refl refl refl (lines_are c) (memory_is c))
+    (read_bus (before c) c.self.invariant c.place_of-place.result c.args.word.0 c.plan_read-plan.result.served c.plan_read-plan.result.line.value (bits_of c.plan_read-plan.result.line.bits) (seen_plan c known) (after c _) (sizes_are c _) refl refl refl (lines_are c) (memory_is c))
 
 pub returns-clause-refused : goal.returns-clause-refused
 unfolding observed
@@ -171,7 +174,7 @@ returns-clause-refused c =
     ap₂ (λ (xs : List CacheValue) (ws : List ℕ). full_in xs unit (length ws) c.args.word.0) (sym c.deref_mut.ensures.value) (sym c.deref_mut-2.ensures.value)
     ∙ ap (λ u. full_in c.deref_mut.result.now u (length c.deref_mut-2.result.now) c.args.word.0) c.place_of-place.ensures.at_work ∙ c.in_default.ensures.refused other in
     let none : full_in (before c).caches unit (length (before c).backing) c.args.word.0 ≡ None =
-    never_refused (before c) c.self.invariant c.place_of-place.result c.args.word.0 c.plan_read-plan.result.served c.plan_read-plan.result.value (bits_of c.plan_read-plan.result.bits) (seen_plan c known) room in
+    never_refused (before c) c.self.invariant c.place_of-place.result c.args.word.0 c.plan_read-plan.result.served c.plan_read-plan.result.line.value (bits_of c.plan_read-plan.result.line.bits) (seen_plan c known) room in
     let shown = full_shown (before c) unit c.self.invariant (units_known (before c) c.self.invariant c.place_of-place.result c.place_of-place.ensures.within) c.args.word.0 in
     rw (← c.self.view_is, ← c.place_of-place.ensures.at_work) (ap (option_map (λ word. refusal.SetFull (record { 0 = word }))) (sym shown ∙ none))
 
@@ -180,7 +183,7 @@ unfolding observed
 returns-clause-value c =
     let known : c.args.word.0 < length (before c).backing = rw (← c.self.view_is) at c.requires.in_memory in
     rw (← c.self.view_is) (λ t place runs.
-    value_seen (before c) c.self.invariant t runs.agrees c.place_of-place.result place c.args.word.0 c.place_of-place.ensures.within runs.within (runs.unit_is ∙ sym c.place_of-place.ensures.at_work) c.plan_read-plan.result.value
+    value_seen (before c) c.self.invariant t runs.agrees c.place_of-place.result place c.args.word.0 c.place_of-place.ensures.within runs.within (runs.unit_is ∙ sym c.place_of-place.ensures.at_work) c.plan_read-plan.result.line.value
     (c.plan_read-plan.ensures.value (observed (before c)) t c.args.word.0 (asked (before c) t c.fill_beside.new.self c.place_of-place.result c.args.word.0 c.args.unit.0 c.index-backing.result.now c.get.result runs.agrees (seen c known))))
 
 pub returns-clause-served : goal.returns-clause-served
@@ -199,7 +202,7 @@ returns-clause-table c =
     let count : length c.carry_out.new.caches ≡ inside.caches.len = (sizes_are c 0).caches.count ∙ sym inside.caches.ok.0 in
     let words : length c.carry_out.new.backing ≡ inside.backing.len = (sizes_are c 0).backing ∙ sym inside.backing.ok.0 in
     rw (with_items_is inside.caches c.carry_out.new.caches count, with_items_is inside.backing c.carry_out.new.backing words, ← c.self.view_is) (λ t place runs.
-    read_kept (before c) c.self.invariant c.place_of-place.result c.args.word.0 c.plan_read-plan.result.served c.plan_read-plan.result.value (bits_of c.plan_read-plan.result.bits) (seen_plan c known) (after c _) (sizes_are c _) refl refl refl (lines_are c) (memory_is c)
+    read_kept (before c) c.self.invariant c.place_of-place.result c.args.word.0 c.plan_read-plan.result.served c.plan_read-plan.result.line.value (bits_of c.plan_read-plan.result.line.bits) (seen_plan c known) (after c _) (sizes_are c _) refl refl refl (lines_are c) (memory_is c)
     t place runs.agrees runs.within (runs.unit_is ∙ sym c.place_of-place.ensures.at_work))
 
 pub returns-clause-probes : goal.returns-clause-probes
@@ -210,5 +213,5 @@ returns-clause-probes c =
     let each : CountsEachOther c.args.probes c.fill_beside.new.probes (before c).caches = subst (CountsEachOther c.args.probes c.fill_beside.new.probes) c.deref.ensures.value c.fill_beside.ensures.counted in
     let changed : CountsUpTo c.fill_beside.new.probes c.carry_out.new.probes (length (before c).caches) = subst (λ (xs : List CacheValue). CountsUpTo c.fill_beside.new.probes c.carry_out.new.probes (length xs)) c.deref_mut.ensures.value c.in_default.ensures.searches in
     let found : lines_in (before c).caches c.args.word.0 (get_or (before c).units c.place_of-place.result 0) ≡ option_map seen_of c.args.line = rw (← c.self.view_is, ← c.place_of-place.ensures.at_work) at c.requires.line in
-    let miss = never_hit (before c) c.self.invariant c.place_of-place.result c.args.word.0 c.plan_read-plan.result.served c.plan_read-plan.result.value (bits_of c.plan_read-plan.result.bits) (seen_plan c known) c.args.line found c.requires.idle in
+    let miss = never_hit (before c) c.self.invariant c.place_of-place.result c.args.word.0 c.plan_read-plan.result.served c.plan_read-plan.result.line.value (bits_of c.plan_read-plan.result.line.bits) (seen_plan c known) c.args.line found c.requires.idle in
     rw (← c.self.view_is) (look_ups c.plan_read-plan.result.served (length (before c).caches) c.fill_beside.new.probes c.carry_out.new.probes miss c.self.invariant.some_caches (omega (arith, each.searches, one.searches)) changed)

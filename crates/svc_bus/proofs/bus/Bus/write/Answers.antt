@@ -3,8 +3,7 @@ use Rattle.std.proofs.lemmas.List.{with_items_is}
 use Rattle.svc_vol.specs.declared.held_line.HeldLine.{HeldLine}
 use Rattle.svc_base.specs.declared.ids.UnitId.{UnitId}
 use Rattle.svc_base.specs.declared.refusal.Refusal.TheVariants as refusal
-use Rattle.svc_line.specs.Bits.{bits_of}
-use Rattle.svc_line.specs.Line.{SeenLine}
+use Rattle.svc_line.specs.Line.{SeenLine, seen_line}
 use Rattle.svc_cache.specs.Places.{CacheValue}
 use Rattle.svc_vol.specs.Lines.{CountsOneOfEach}
 use Rattle.svc_bus_laws.specs.Steps.{with_at}
@@ -64,9 +63,9 @@ unfolding observed
 store_line-requires-clause-active c =
     let list = listed _ c.self.invariant c.args.word.0 c.fill.new.self c.deref.result.now c.deref.ensures.value c.fill.ensures.list in
     let known : c.args.word.0 < length c.self.inside.backing.items = rw (← c.self.view_is) at c.requires.in_memory in
-    line_active _ c.self.invariant c.args.unit.0 c.place_of-place.result c.args.word.0 c.place_of-place.ensures.within c.place_of-place.ensures.at_work c.fill.new.self list c.plan_write-plan.new.changed.items c.plan_write-plan.ensures.listed c.args.value c.unwrap_or-left.result (bits_of c.plan_write-plan.result.bits) (option_map (λ (u : UnitId). u.0) c.plan_write-plan.result.next) (option_map (λ (u : UnitId). u.0) c.plan_write-plan.result.previous)
+    line_active _ c.self.invariant c.args.unit.0 c.place_of-place.result c.args.word.0 c.place_of-place.ensures.within c.place_of-place.ensures.at_work c.fill.new.self list c.plan_write-plan.new.changed.items c.plan_write-plan.ensures.listed c.args.value c.unwrap_or-left.result (seen_line c.plan_write-plan.result.line) (option_map (λ (u : UnitId). u.0) c.plan_write-plan.result.previous)
     (left_is _ c.self.invariant c.args.unit.0 c.place_of-place.result c.args.word.0 c.place_of-place.ensures.within c.place_of-place.ensures.at_work c.fill.new.self list c.plan_write-plan.result.victim c.len-tasks.result c.len-tasks.ensures.count c.plan_write-plan.ensures.victim c.unwrap_or-left.result c.unwrap_or-left.ensures)
-    c.plan_write-plan.ensures.valid c.plan_write-plan.ensures.line c.plan_write-plan.ensures.others c.plan_write-plan.ensures.next c.plan_write-plan.ensures.previous c.plan_write-plan.ensures.linked known
+    c.plan_write-plan.ensures.value c.plan_write-plan.ensures.valid c.plan_write-plan.ensures.line c.plan_write-plan.ensures.others c.plan_write-plan.ensures.next c.plan_write-plan.ensures.previous c.plan_write-plan.ensures.linked known
 
 pub store_line-requires-clause-room : goal.store_line-requires-clause-room
 store_line-requires-clause-room c = room_to_store _ c.self.invariant c.deref_mut.result.now c.deref_mut.ensures.value c.new-probes.result c.fill.new.probes c.new-probes.ensures.searches c.new-probes.ensures.places (subst (CountsOneOfEach c.new-probes.result c.fill.new.probes) c.deref.ensures.value c.fill.ensures.counted)
@@ -96,7 +95,7 @@ abbrev after : goal.After-victim_of → ℕ → BusValue
 after c told = record (before c) { caches = c.store_line.new.caches; spill = c.empty_spill.new.spill; backing = c.store_line.new.backing; units = c.cut_from.new.self; probes = told }
 
 abbrev line : goal.After-victim_of → SeenLine
-line c = record { value = c.args.value; bits = bits_of c.plan_write-plan.result.bits; next = option_map (λ (u : UnitId). u.0) c.plan_write-plan.result.next }
+line c = seen_line c.plan_write-plan.result.line
 
 abbrev previous : goal.After-victim_of → Option ℕ
 previous c = option_map (λ (u : UnitId). u.0) c.plan_write-plan.result.previous
@@ -108,9 +107,9 @@ plan_of : (c : goal.After-victim_of) → IsPlanned (before c) c.place_of-place.r
 plan_of c =
     let list : HasList (before c) c.args.word.0 c.fill.new.self = listed (before c) c.self.invariant c.args.word.0 c.fill.new.self c.deref.result.now c.deref.ensures.value c.fill.ensures.list in
     planned (before c) c.self.invariant c.args.unit.0 c.place_of-place.result c.args.word.0 c.place_of-place.ensures.within c.place_of-place.ensures.at_work c.fill.new.self list
-    c.plan_write-plan.new.changed.items c.plan_write-plan.ensures.listed c.args.value c.unwrap_or-left.result (bits_of c.plan_write-plan.result.bits) (option_map (λ (u : UnitId). u.0) c.plan_write-plan.result.next) (option_map (λ (u : UnitId). u.0) c.plan_write-plan.result.previous)
+    c.plan_write-plan.new.changed.items c.plan_write-plan.ensures.listed c.args.value c.unwrap_or-left.result (seen_line c.plan_write-plan.result.line) (option_map (λ (u : UnitId). u.0) c.plan_write-plan.result.previous)
     (left_is (before c) c.self.invariant c.args.unit.0 c.place_of-place.result c.args.word.0 c.place_of-place.ensures.within c.place_of-place.ensures.at_work c.fill.new.self list c.plan_write-plan.result.victim c.len-tasks.result c.len-tasks.ensures.count c.plan_write-plan.ensures.victim c.unwrap_or-left.result c.unwrap_or-left.ensures)
-    c.plan_write-plan.ensures.valid c.plan_write-plan.ensures.line c.plan_write-plan.ensures.others c.plan_write-plan.ensures.next c.plan_write-plan.ensures.previous c.plan_write-plan.ensures.linked
+    c.plan_write-plan.ensures.value c.plan_write-plan.ensures.valid c.plan_write-plan.ensures.line c.plan_write-plan.ensures.others c.plan_write-plan.ensures.next c.plan_write-plan.ensures.previous c.plan_write-plan.ensures.linked
 
 sizes_are : (c : goal.After-victim_of) (told : ℕ) → KeepsSizes (before c) (after c told)
 sizes_are c told = record {

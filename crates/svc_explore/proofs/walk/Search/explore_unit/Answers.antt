@@ -1,4 +1,4 @@
-use Rattle.std.proofs.Common.{◌≡◌, ◌≤◌, ◌∙◌, List, ℕ, length, Some, ap, arith, subst, sym, slice_get, option_map, option_to_list, vec_items}
+use Rattle.std.proofs.Common.{◌≡◌, ◌≤◌, ◌∙◌, List, length, Some, ap, arith, subst, sym, slice_get, option_map, option_to_list, vec_items}
 use Rattle.std.specs.Map.Iter.{deref_pair}
 use Rattle.std.proofs.lemmas.Option.{same_Some}
 use Rattle.svc_base.specs.declared.config.Config.{Config}

@@ -1,4 +1,4 @@
-use Rattle.std.proofs.Common.{◌≡◌, ◌++◌, ◌∙◌, ℕ, List, ap, append_assoc, codes, flat_map}
+use Rattle.std.proofs.Common.{◌++◌, ◌∙◌, ℕ, List, ap, append_assoc, codes, flat_map}
 use Rattle.svc_names.specs.Made.{name_row}
 use Rattle.svc_names.proofs.names.Names.put_table.Goals as goal
 
