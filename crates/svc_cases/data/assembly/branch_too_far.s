@@ -1,3 +1,3 @@
 .svc_entry
-    beqz a0, . + 4096
+    beqz a0, . + 1048580
     ecall

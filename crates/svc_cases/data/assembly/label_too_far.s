@@ -1,4 +1,4 @@
-.set far, 4100
+.set far, 1048588
 .svc_entry
     nop
     beqz a0, far
