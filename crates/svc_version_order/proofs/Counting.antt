@@ -1,12 +1,12 @@
 -- How many numbers of a range pass a test.
 use Rattle.std.proofs.Common.{◌≡◌, ◌≢◌, ◌∙◌, ◌+◌, ◌<◌, ◌≤◌, ◌++◌, ◌∷◌, [], ℕ, zero, suc, Bool, true, false, inl, inr, ◌⊎◌, refl, ap, ap₂, sym, arith, eq-eqb, eqb-true}
 use Rattle.std.specs.Prelude.{◌||◌, ◌==◌, List, cond, count_by, flat_map}
-use Rattle.std.specs.List.{range_with_len}
+use Rattle.std.specs.List.{list_any, range_with_len}
 use Rattle.std.proofs.Math.Bool.{or-false}
 use Rattle.std.proofs.lemmas.Bool.{cases_Bool, cases_eq}
 use Rattle.std.proofs.lemmas.List.{append-nil}
 use Rattle.std.proofs.lemmas.List.Sums.{sum_by_push}
-use Rattle.svc_held.proofs.Ranges.{from_zero, lists_more}
+use Rattle.svc_held.proofs.Ranges.{any_more, from_zero, lists_more}
 
 abbrev one_if : Bool → ℕ
 one_if x = cond x 1 0
@@ -76,3 +76,24 @@ one_row f u (suc n) below none =
     last more (inl same) = ap (λ l. l ++ f n) (no_rows f n (λ x less. none x (omega (arith, less)) (λ e. omega (arith, e, same, less)))) ∙ ap f (sym same)
     last more (inr apart) =
         ap₂ (λ l m. l ++ m) (more (omega (arith, below, apart))) (none n (omega arith) apart) ∙ append-nil (f u)
+
+-- whether a number of a range passes, where all others fail, or all
+
+pub any_below : (p : ℕ → Bool) (n : ℕ) → ((x : ℕ) → x < n → p x ≡ false) → list_any p (range_with_len 0 n) ≡ false
+any_below p zero fails = refl
+any_below p (suc n) fails =
+    let e : n + 1 ≡ suc n = omega arith in
+    ap (λ m. list_any p (range_with_len 0 m)) (sym e) ∙ any_more p n
+    ∙ ap₂ (λ x y. x || y) (any_below p n (λ x below. fails x (omega (arith, below)))) (fails n (omega arith))
+
+pub any_one : (p : ℕ → Bool) (u n : ℕ) → u < n → ((x : ℕ) → (x == u) ≡ false → p x ≡ false) → list_any p (range_with_len 0 n) ≡ p u
+any_one p u zero below fails = absurd (omega (arith, below))
+any_one p u (suc n) below fails =
+    let e : n + 1 ≡ suc n = omega arith in
+    ap (λ m. list_any p (range_with_len 0 m)) (sym e) ∙ any_more p n ∙ last (λ less. any_one p u n less fails) (cases_eq u n)
+  where
+    last : (u < n → list_any p (range_with_len 0 n) ≡ p u) → (u ≡ n) ⊎ (u ≢ n) → (list_any p (range_with_len 0 n) || p n) ≡ p u
+    last earlier (inl same) =
+        ap (λ x. x || p n) (any_below p n (λ x less. fails x (neither x u (λ e. omega (arith, e, same, less))))) ∙ ap p (sym same)
+    last earlier (inr apart) =
+        ap₂ (λ x y. x || y) (earlier (omega (arith, below, apart))) (fails n (neither n u (λ e. apart (sym e)))) ∙ or-false (p u)

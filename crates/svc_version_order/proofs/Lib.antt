@@ -1,4 +1,5 @@
-mod Counting
+pub mod Counting
 pub mod VersionFields
 pub mod OrdersHeld
 pub mod TaskFields
+pub mod LoneLines

@@ -72,3 +72,7 @@ named_row units b commits runs n = order_row units b commits runs n.word.0
 -- a row for each of n words
 abbrev pub order_rows : (units words : ℕ) → BusState → (commits : ℕ) → List (Running State) → List ℕ
 order_rows units words b commits runs = flat_map (order_row units b commits runs) (range_with_len 0 words)
+
+-- the field of the only valid line of a word: that of a committed task, or of an active one among these
+abbrev pub lone_field : (committed : Bool) → (unit : ℕ) → (tasks : List ℕ) → List ℕ
+lone_field committed unit tasks = cond committed (committed_field unit) tasks

@@ -5,6 +5,7 @@
 mod active;
 mod clean;
 mod fields;
+mod lone;
 mod order;
 mod versions;
 

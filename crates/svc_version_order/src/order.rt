@@ -11,10 +11,11 @@ ghost use Rattle.svc_version_order.specs.Order.{line_fields, named_row, order_ro
 
 use crate::active::put_tasks;
 use crate::clean::put_all_clean;
+use crate::lone::put_lone;
 use crate::versions::put_versions;
 use std::alloc::AllocError;
 use svc_base::UnitId;
-use svc_held::{Named, holds_line};
+use svc_held::{Named, Namers, holds_line};
 use svc_machine::Machine;
 use svc_text::{Piece, put_fields};
 
@@ -84,8 +85,8 @@ fn put_row(
     put_lines(machine, named, units, rows)
 }
 
-// Adds the row of a named word, if there is a valid line of it.
-fn put_order(
+// Adds the row of a named word, if there is a valid line of it in some unit.
+fn put_any(
     machine: &Machine,
     named: Named,
     units: u32,
@@ -102,6 +103,26 @@ fn put_order(
         put_row(machine, named, units, rows)
     } else {
         Ok(())
+    }
+}
+
+// Adds the row of a named word, if there is a valid line of it.
+fn put_order(
+    machine: &Machine,
+    named: Named,
+    units: u32,
+    rows: &mut Vec<u8>,
+) -> Result<(), AllocError>
+    requires few { units ≤ 16 }
+    requires all { units ≡ machine.now.config.units }
+    requires own { HasItsLines (observed machine.now.bus) (data_words machine.now.image) named }
+    ensures { let m = machine.now in
+        OnOk result (rows.new.items ≡ rows.old.items
+        ++ order_row units (observed m.bus) m.plain.commits (running (program m.image) m.plain) named.word.0) }
+{
+    match named.by {
+        Namers::One(unit) => put_lone(machine, named, unit, rows),
+        Namers::Nobody | Namers::Several => put_any(machine, named, units, rows),
     }
 }
 
