@@ -1,7 +1,7 @@
 #!/usr/bin/env python3
 """What a picture shows, as rows: a twin of svc_marks's `picture_rows`, from a trace alone.
 
-draw_twin.py TRACE [FROM] [COUNT]
+draw_twin.py TRACE [FROM] [COUNT] [unit=A-B] [task=A-B] [word=A-B]
 """
 import csv
 import sys
@@ -43,7 +43,36 @@ def show(value):
     return "" if value is None else str(value)
 
 
-def main(path, begin=0, count=400):
+class Choice:
+    """The units, tasks and words that are shown: each a first and a last number, or None."""
+
+    def __init__(self, options):
+        self.ranges = {}
+        for name in ["unit", "task", "word"]:
+            first, _, last = options.get(name, "").partition("-")
+            if first:
+                self.ranges[name] = (int(first), int(last or first))
+
+    def has(self, **numbers):
+        for name, value in numbers.items():
+            first, last = self.ranges.get(name, (None, None))
+            if first is not None and not (value not in (None, "") and first <= int(value) <= last):
+                return False
+        return True
+
+
+def asked(words):
+    """Numbers, and options as a dictionary."""
+    options = dict(word.split("=") for word in words if "=" in word)
+    return [int(word) for word in words if "=" not in word], options
+
+
+def main(path, *words):
+    numbers, options = asked(words)
+    show_rows(path, Choice(options), *numbers)
+
+
+def show_rows(path, choice, begin=0, count=1000000):
     with open(path, newline="") as file:
         rows = list(csv.DictReader(file))
     rows = rows[: begin + count]
@@ -51,7 +80,8 @@ def main(path, begin=0, count=400):
     end = len(rows)
     bars = [t for t in tasks_of(rows) if t.first < end and (end if t.last is None else t.last) >= begin]
     for t in bars:
-        print(f"bar,{t.number},{t.unit},{t.entry},{t.first},{show(t.last)},{t.fate}")
+        if choice.has(unit=t.unit, task=t.number):
+            print(f"bar,{t.number},{t.unit},{t.entry},{t.first},{show(t.last)},{t.fate}")
     stores = {}
 
     def runs(task, unit, at):
@@ -62,12 +92,13 @@ def main(path, begin=0, count=400):
         row = rows[at]
         task = next((t for t in bars if runs(t, row["unit"], at)), None)
         kind = KINDS.get(row["reply"])
-        if kind:
+        shown = choice.has(unit=row["unit"], task=task.number if task else None, word=row["addr"])
+        if kind and shown:
             values = [at, row["unit"], task.number if task else "", kind, row["addr"], row["word"], row["served"]]
             print("mark," + ",".join(map(str, values)))
-        if row["from"] and row["served"] in ("version", "spill", "committed"):
+        if shown and row["from"] and row["served"] in ("version", "spill", "committed"):
             print(f"arrow,{show(stores.get((row['from'], row['addr'])))},{at},version,{row['addr']}")
-        if row["cause"] == "violation":
+        if shown and row["cause"] == "violation":
             victim = next((t for t in bars if t.number == number(row["first"]) and t.last == at), None)
             if victim:
                 reads = [
@@ -82,4 +113,4 @@ def main(path, begin=0, count=400):
 
 
 if __name__ == "__main__":
-    main(sys.argv[1], *map(int, sys.argv[2:]))
+    main(*sys.argv[1:])

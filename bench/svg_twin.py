@@ -1,12 +1,12 @@
 #!/usr/bin/env python3
 """The picture that `draw` saves: a twin of svc_draw's text, from a trace alone.
 
-svg_twin.py TRACE UNITS [FROM] [COUNT]
+svg_twin.py TRACE UNITS [FROM] [COUNT] [unit=A-B] [task=A-B] [word=A-B] [values=auto|all|none]
 """
 import csv
 import sys
 
-from draw_twin import number, tasks_of
+from draw_twin import Choice, asked, number, tasks_of
 
 LEFT, WIDTH, RIGHT, TOP, HEIGHT, BOTTOM = 90, 1490, 1580, 118, 720, 838
 FILLS = {
@@ -18,6 +18,18 @@ NAMES = {
 }
 STEPS = [1, 2, 5, 10, 20, 50, 100, 200, 500, 1000, 2000, 5000, 10000, 20000, 50000, 100000]
 LETTERS = {"": "", "hit": "H", "reuse": "R", "version": "V", "spill": "S", "committed": "C", "memory": "M"}
+# Of many entries, things of a kind that stand near one another are joined: what these are called, and what they have in common.
+STRIPES = {
+    "committed": ("committed", " fill='#d3ead0' stroke='#333'"), "violation": ("read too early", " fill='url(#violation)'"),
+    "guess": ("wrong guess", " fill='url(#guess)'"), "cancel": ("cancelled", " fill='url(#cancel)'"),
+}
+JOINED = {
+    "commit": ("commits", " stroke='#2e7d32' stroke-width='2' stroke-dasharray='6 4'"),
+    "version": ("versions read", " stroke='#14508c' stroke-width='2' marker-end='url(#thin)'"),
+    "violation": ("reads too early", " stroke='#b01010' stroke-width='4' marker-end='url(#bold)'"),
+    "load": ("loads", ""), "store": ("stores", ""), "output": ("words put out", ""), "replace": ("lines replaced", ""),
+}
+ROWS = ["load", "store", "output", "replace"]
 RIM = "<g paint-order='stroke' stroke='#fff' stroke-width='4' stroke-linejoin='round'>\n"
 
 
@@ -58,7 +70,8 @@ def label(x, y, style, words):
 
 
 class Picture:
-    def __init__(self, lines, units, begin, count):
+    def __init__(self, lines, options, units, begin=0, count=1000000):
+        self.choice, self.values = Choice(options), options.get("values", "auto")
         # Later entries aren't looked at.
         self.lines, self.units = lines[: begin + count + 1], units
         rows = list(csv.DictReader(self.lines))
@@ -68,6 +81,7 @@ class Picture:
         self.all_rows, self.rows = rows, rows[: self.end]
         self.shown = max(self.end - self.begin, 1)
         self.bar_height = min(HEIGHT // units * 4 // 5, 130)
+        self.columns = min(360 // units, 149)
         self.radius = min(min(max(WIDTH // self.shown // 3, 4), 10), self.bar_height // 4)
         tasks = tasks_of(rows)
         self.bars = [t for t in tasks if t.first < self.end and (self.end if t.last is None else t.last) >= self.begin]
@@ -170,6 +184,20 @@ class Picture:
         words = f"task {t.number} @ {t.entry}" if both + 8 <= letters else f"{t.number}@{t.entry}" if both + 1 <= letters else str(t.number)
         return label(self.bar_left(t) + 4, self.bar_top(int(t.unit)) + 12, "font-size='12'", words)
 
+    def chosen_bars(self):
+        return [t for t in self.bars if self.choice.has(unit=t.unit, task=t.number)]
+
+    def chosen_marks(self):
+        chosen = []
+        if not self.choice.ranges:
+            return self.marks()
+        for mark in self.marks():
+            at, row = mark[1], self.rows[mark[1]]
+            runs = [t for t in self.bars if t.unit == row["unit"] and t.first <= at and (t.last is None or at <= t.last)]
+            if self.choice.has(unit=row["unit"], task=runs[0].number if runs else None, word=row["addr"]):
+                chosen.append(mark)
+        return chosen
+
     def marks(self):
         """Kind, index and, of an arrow, its other end: a unit and an index."""
         stores, found = {}, []
@@ -234,13 +262,86 @@ class Picture:
             letters = max(end - edge, 0) // 8
             both = f"word {row['addr']} = {value}" if row["addr"] else value
             words = both if len(both) <= letters else value
-            return label(end, y + 5, ended, words) if len(value) <= letters else ""
+            said = {"auto": len(value) <= letters, "all": True, "none": False}[self.values]
+            return label(end, y + 5, ended, words) if said else ""
         if kind == "replace" or WIDTH // self.shown < 100 or self.bar_height < 60:
             return ""
         if kind == "commit":
             return label(x - 6, 136, ended, f"task {value} is committed")
         words = "the version goes to a reader" if kind == "version" else "read too early"
         return label((x + right) // 2 + 12, (y + down) // 2 + 2, "font-style='italic'", words)
+
+    # ---- things that are joined
+
+    def column(self, place):
+        return max(min(place, self.end) - self.begin, 0) * self.columns // self.shown
+
+    def column_x(self, place):
+        return LEFT + min((2 * self.column(place) + 1) * WIDTH // (2 * self.columns), WIDTH)
+
+    def spot_x(self, place):
+        return LEFT if place is None else self.column_x(place)
+
+    def row_y(self, lane, kind):
+        return self.bar_top(lane) + self.bar_height * (2 * ROWS.index(kind) + 1) // 8
+
+    def is_short(self, task):
+        end = self.end if task.last is None else min(task.last, self.end)
+        return self.column(max(task.first, self.begin)) == self.column(end)
+
+    def joined(self, cells, name, style, element, shape):
+        """A group with an element for each cell, in order, of things that are pairs of a first and a last entry."""
+        text = f"<g{style}>\n"
+        for key in sorted(cells):
+            things = cells[key]
+            text += f"{shape(key, things)}<title>{len(things)} {name}, entries {things[0][0]} to {things[-1][1]}</title></{element}>\n"
+        return text + "</g>\n"
+
+    def stripes(self, fate):
+        cells = {}
+        for t in self.chosen_bars():
+            if t.fate == fate and self.is_short(t):
+                begin = max(t.first, self.begin)
+                cells.setdefault((int(t.unit), self.column(begin)), []).append((begin, t.last))
+
+        def box(key, things):
+            left, right = self.x(things[0][0]), self.x(things[-1][1])
+            y = self.bar_top(key[0]) + self.bar_height * list(STRIPES).index(fate) // 4
+            return f"<rect x='{left}' y='{y}' width='{max(right - left, 2)}' height='{self.bar_height // 4}'>"
+
+        return self.joined(cells, *STRIPES[fate], "rect", box)
+
+    def joined_marks(self, marks, kind):
+        cells = {}
+        for mark in marks:
+            if mark[0] == kind:
+                lane = 0 if kind == "commit" else int(self.rows[mark[1]]["unit"])
+                cells.setdefault((lane, self.column(mark[1])), []).append((mark[1], mark[1], mark[2]))
+
+        def line(x, y, right, down):
+            return f"<path d='M{x} {y}L{right} {down}'>"
+
+        def shape(key, things):
+            at, _, other = things[0]
+            lane = int(self.rows[at]["unit"])
+            x = self.column_x(at)
+            if kind == "commit":
+                return line(x, TOP, x, BOTTOM)
+            if kind == "version":
+                return line(self.spot_x(other[1]), self.row_y(other[0], "store"), x, self.row_y(lane, "load"))
+            if kind == "violation":
+                return line(x, self.row_y(lane, "store"), self.spot_x(other[1]), self.row_y(other[0], "load"))
+            return f"<use href='#{kind}' x='{x}' y='{self.row_y(lane, kind)}'>"
+
+        return self.joined(cells, *JOINED[kind], "use" if kind in ROWS else "path", shape)
+
+    def joined_text(self, marks):
+        long = [t for t in self.chosen_bars() if not self.is_short(t)]
+        parts = [self.head(), self.legend(), self.lanes(), *map(self.bar, long), *map(self.stripes, STRIPES)]
+        parts += [self.joined_marks(marks, kind) for kind in JOINED]
+        parts += [RIM, *map(self.bar_name, long), "</g>\n", "<text x='835' y='884' text-anchor='middle'>"]
+        parts += ["a mark stands for all of its kind near it; point at it for how many</text>\n"]
+        return "".join(parts + [self.axis(), "</svg>\n"])
 
     def axis(self):
         step = next((s for s in STEPS if 44 * self.shown <= s * WIDTH), 100000)
@@ -253,19 +354,22 @@ class Picture:
         return text + "<text x='1580' y='884' text-anchor='end'>entry of the trace, counted from 0</text>\n"
 
     def text(self):
-        marks = self.marks()
+        marks, bars = self.chosen_marks(), self.chosen_bars()
+        if self.shown >= 1000:
+            return self.joined_text(marks)
         layers = [["commit"], ["version", "violation"], ["load", "store", "output", "replace"]]
-        parts = [self.head(), self.legend(), self.lanes(), *map(self.bar, self.bars)]
+        parts = [self.head(), self.legend(), self.lanes(), *map(self.bar, bars)]
         parts += [self.mark(m) for layer in layers for m in marks if m[0] in layer]
-        parts += [RIM, self.all_words(marks), *map(self.bar_name, self.bars), "</g>\n"]
+        parts += [RIM, self.all_words(marks), *map(self.bar_name, bars), "</g>\n"]
         return "".join(parts + [self.axis(), "</svg>\n"])
 
 
-def main(path, units, begin=0, count=400):
+def main(path, *words):
+    numbers, options = asked(words)
     with open(path, newline="") as file:
         lines = file.read().splitlines(keepends=True)
-    sys.stdout.write(Picture(lines, units, begin, count).text())
+    sys.stdout.write(Picture(lines, options, *numbers).text())
 
 
 if __name__ == "__main__":
-    main(sys.argv[1], *map(int, sys.argv[2:]))
+    main(*sys.argv[1:])

@@ -1,3 +1,4 @@
+pub mod Remaining
 pub mod Rows
 pub mod Texts
 pub mod Words

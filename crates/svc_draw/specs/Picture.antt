@@ -1,5 +1,5 @@
 -- The picture of a history: its text, of the bars and marks that are shown.
-use Rattle.std.specs.Prelude.{ℕ, List, ◌++◌, length, flat_map}
+use Rattle.std.specs.Prelude.{ℕ, List, ◌++◌, cond, length, flat_map}
 use Rattle.svc_history_laws.specs.declared.entry.Entry.{Entry}
 use Rattle.svc_marks.specs.declared.bars.Bar.{Bar}
 use Rattle.svc_marks.specs.declared.marks.Mark.{Mark}
@@ -7,11 +7,13 @@ use Rattle.svc_draw.specs.declared.sheet.Sheet.{Sheet}
 use Rattle.svc_marks.specs.Bars.{bars_of, window_of}
 use Rattle.svc_draw.specs.Drawing.{bar_name, bar_text, layer_text}
 use Rattle.svc_draw.specs.Frame.{radius}
+use Rattle.svc_draw.specs.Grid.{is_joined}
+use Rattle.svc_draw.specs.Joined.{joined_bars, joined_lines, joined_shapes, long_name}
 use Rattle.svc_draw.specs.Kinds.{plain_kinds, supplied_kinds}
 use Rattle.svc_draw.specs.Legend.{axis, head, lanes, legend}
 use Rattle.svc_marks.specs.Marks.{marks_of}
 use Rattle.svc_draw.specs.Values.{values_text}
-use Rattle.svc_shapes.specs.Shapes.{arrow_heads, closing, parts_close, parts_open, rim_close, rim_open}
+use Rattle.svc_shapes.specs.Shapes.{arrow_heads, closing, joined_words, parts_close, parts_open, rim_close, rim_open}
 
 -- what is made once, and used where it stands: the heads of arrows and the kinds of marks
 unfoldable pub parts : (size : ℕ) → List ℕ
@@ -22,16 +24,29 @@ unfoldable pub surroundings : Sheet → (total : ℕ) → List ℕ
 surroundings s total = head ++ parts (radius s) ++ legend s total ++ lanes s
 
 -- the bars, and on them the marks, layer by layer
+unfoldable pub single_things : Sheet → List Bar → List Mark → List ℕ
+single_things s bs ms = flat_map (bar_text s) bs ++ layer_text s 0 ms ++ layer_text s 1 ms ++ layer_text s 2 ms
+
+-- those of many entries, joined
+unfoldable pub joined_things : Sheet → List Bar → List Mark → List ℕ
+joined_things s bs ms = joined_bars s bs ++ joined_lines s ms ++ joined_shapes s ms
+
 unfoldable pub things : Sheet → List Bar → List Mark → List ℕ
-things s bs ms = flat_map (bar_text s) bs ++ layer_text s 0 ms ++ layer_text s 1 ms ++ layer_text s 2 ms
+things s bs ms = cond (is_joined s) (joined_things s bs ms) (single_things s bs ms)
 
 -- and on these the words
+unfoldable pub single_words : Sheet → List Bar → List Mark → List ℕ
+single_words s bs ms = rim_open ++ values_text s ms ++ flat_map (bar_name s) bs ++ rim_close
+
+unfoldable pub joined_things_words : Sheet → List Bar → List ℕ
+joined_things_words s bs = rim_open ++ flat_map (long_name s) bs ++ rim_close ++ joined_words
+
 unfoldable pub words : Sheet → List Bar → List Mark → List ℕ
-words s bs ms = rim_open ++ values_text s ms ++ flat_map (bar_name s) bs ++ rim_close ++ axis s
+words s bs ms = cond (is_joined s) (joined_things_words s bs) (single_words s bs ms)
 
 -- a picture of these bars and marks, of a history of so many entries
 unfoldable pub picture_text : Sheet → (total : ℕ) → List Bar → List Mark → List ℕ
-picture_text s total bs ms = surroundings s total ++ things s bs ms ++ words s bs ms ++ closing
+picture_text s total bs ms = surroundings s total ++ things s bs ms ++ words s bs ms ++ axis s ++ closing
 
 -- so many of a history's entries, from one on
 abbrev pub sheet_of : List Entry → (units from count : ℕ) → Sheet

@@ -44,9 +44,9 @@ pub(crate) fn name_of(fate: Fate) -> &'static str
     }
 }
 
-// Writes a bar, with its title.
+/// Writes a bar, with its title.
 #[tactic(auto, unfolding(crate::specs::Drawing::bar_text))]
-fn write_bar(frame: &Frame, bar: &Bar, text: &mut Vec<u8>) -> Result<(), AllocError>
+pub(crate) fn write_bar(frame: &Frame, bar: &Bar, text: &mut Vec<u8>) -> Result<(), AllocError>
     ensures { OnOk result (text.new.items ≡ text.old.items ++ bar_text frame.now.sheet bar.now) }
 {
     let x = frame.bar_left(bar);
@@ -110,9 +110,9 @@ fn write_name_at(
     }
 }
 
-// Writes a bar's words, if there is room for any.
+/// Writes a bar's words, if there is room for any.
 #[tactic(auto, unfolding(crate::specs::Drawing::bar_name))]
-fn write_name(frame: &Frame, bar: &Bar, text: &mut Vec<u8>) -> Result<(), AllocError>
+pub(crate) fn write_name(frame: &Frame, bar: &Bar, text: &mut Vec<u8>) -> Result<(), AllocError>
     ensures { OnOk result (text.new.items ≡ text.old.items ++ bar_name frame.now.sheet bar.now) }
 {
     let letters = frame.bar_width(bar).saturating_sub(8) / 7;
@@ -146,8 +146,8 @@ fn write_title(place: u64, entry: &Entry, text: &mut Vec<u8>) -> Result<(), Allo
     Ok(())
 }
 
-// The element of a mark.
-fn element_of(kind: MarkKind) -> &'static str
+/// The element of a mark.
+pub(crate) fn element_of(kind: MarkKind) -> &'static str
     ensures { result.now ≡ element_of kind }
 {
     match kind {

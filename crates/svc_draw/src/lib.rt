@@ -3,11 +3,14 @@
 
 mod drawing;
 mod frame;
+mod grid;
+mod joined;
 mod kinds;
 mod legend;
 mod picture;
 mod row;
 pub mod sheet;
+mod tallies;
 mod values;
 
 pub use picture::draw;

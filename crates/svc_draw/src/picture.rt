@@ -3,10 +3,12 @@
 ghost use Rattle.std.specs.Prelude.{◌≡◌, ◌++◌, ◌≤◌, IfErr, IfOk, OnOk, length};
 ghost use Rattle.svc_base.specs.declared.config.TheConstants.{MAX_EVENTS, MAX_UNITS};
 ghost use Rattle.svc_report.specs.Faults.{IsMemoryFault};
-ghost use Rattle.svc_draw.specs.Picture.{parts, picture_of, picture_text, surroundings, things, words};
+ghost use Rattle.svc_draw.specs.Picture.{joined_things, joined_things_words, parts, picture_of, picture_text};
+ghost use Rattle.svc_draw.specs.Picture.{single_things, single_words, surroundings, things, words};
 
 use crate::drawing::{write_bars, write_layer, write_names};
 use crate::frame::Frame;
+use crate::joined::{write_joined_bars, write_joined_lines, write_joined_shapes, write_long_names};
 use crate::kinds::{write_plain_kinds, write_supplied_kinds};
 use crate::legend::{write_axis, write_head, write_lanes, write_legend};
 use crate::sheet::Sheet;
@@ -15,7 +17,9 @@ use std::alloc::{AllocError, Global};
 use svc_history_laws::Entry;
 use svc_marks::{Bar, Mark, Window, bars_of, marks_of};
 use svc_report::ReportError;
-use svc_shapes::{arrow_heads, closing, parts_close, parts_open, rim_close, rim_open};
+use svc_shapes::{
+    arrow_heads, closing, joined_words, parts_close, parts_open, rim_close, rim_open,
+};
 
 // Writes what is made once: the heads of arrows and the kinds of marks.
 #[tactic(auto, unfolding(crate::specs::Picture::parts))]
@@ -44,6 +48,39 @@ fn write_surroundings(frame: &Frame, total: u64, text: &mut Vec<u8>) -> Result<(
 }
 
 // Writes the bars, and on them the marks, layer by layer.
+#[tactic(auto, unfolding(crate::specs::Picture::single_things))]
+fn write_single_things(
+    frame: &Frame,
+    bars: &[Bar],
+    marks: &[Mark],
+    text: &mut Vec<u8>,
+) -> Result<(), AllocError>
+    ensures { OnOk result (text.new.items ≡ text.old.items ++ single_things frame.now.sheet bars.now marks.now) }
+{
+    write_bars(frame, bars, text)?;
+    write_layer(frame, 0, marks, text)?;
+    write_layer(frame, 1, marks, text)?;
+    write_layer(frame, 2, marks, text)?;
+    Ok(())
+}
+
+// Writes them joined.
+#[tactic(auto, unfolding(crate::specs::Picture::joined_things))]
+fn write_joined_things(
+    frame: &Frame,
+    bars: &[Bar],
+    marks: &[Mark],
+    text: &mut Vec<u8>,
+) -> Result<(), AllocError>
+    ensures { OnOk result (text.new.items ≡ text.old.items ++ joined_things frame.now.sheet bars.now marks.now) }
+{
+    write_joined_bars(frame, bars, text)?;
+    write_joined_lines(frame, marks, text)?;
+    write_joined_shapes(frame, marks, text)?;
+    Ok(())
+}
+
+// Writes them as the number of entries wants it.
 #[tactic(auto, unfolding(crate::specs::Picture::things))]
 fn write_things(
     frame: &Frame,
@@ -53,14 +90,43 @@ fn write_things(
 ) -> Result<(), AllocError>
     ensures { OnOk result (text.new.items ≡ text.old.items ++ things frame.now.sheet bars.now marks.now) }
 {
-    write_bars(frame, bars, text)?;
-    write_layer(frame, 0, marks, text)?;
-    write_layer(frame, 1, marks, text)?;
-    write_layer(frame, 2, marks, text)?;
-    Ok(())
+    if frame.is_joined() {
+        write_joined_things(frame, bars, marks, text)
+    } else {
+        write_single_things(frame, bars, marks, text)
+    }
 }
 
 // Writes the words on these.
+#[tactic(auto, unfolding(crate::specs::Picture::single_words))]
+fn write_single_words(
+    frame: &Frame,
+    bars: &[Bar],
+    marks: &[Mark],
+    text: &mut Vec<u8>,
+) -> Result<(), AllocError>
+    ensures { OnOk result (text.new.items ≡ text.old.items ++ single_words frame.now.sheet bars.now marks.now) }
+{
+    rim_open(text)?;
+    write_values(frame, marks, text)?;
+    write_names(frame, bars, text)?;
+    rim_close(text)?;
+    Ok(())
+}
+
+// Writes those on things that are joined.
+#[tactic(auto, unfolding(crate::specs::Picture::joined_things_words))]
+fn write_joined_words(frame: &Frame, bars: &[Bar], text: &mut Vec<u8>) -> Result<(), AllocError>
+    ensures { OnOk result (text.new.items ≡ text.old.items ++ joined_things_words frame.now.sheet bars.now) }
+{
+    rim_open(text)?;
+    write_long_names(frame, bars, text)?;
+    rim_close(text)?;
+    joined_words(text)?;
+    Ok(())
+}
+
+// Writes these words as the number of entries wants it.
 #[tactic(auto, unfolding(crate::specs::Picture::words))]
 fn write_words(
     frame: &Frame,
@@ -70,12 +136,11 @@ fn write_words(
 ) -> Result<(), AllocError>
     ensures { OnOk result (text.new.items ≡ text.old.items ++ words frame.now.sheet bars.now marks.now) }
 {
-    rim_open(text)?;
-    write_values(frame, marks, text)?;
-    write_names(frame, bars, text)?;
-    rim_close(text)?;
-    write_axis(frame, text)?;
-    Ok(())
+    if frame.is_joined() {
+        write_joined_words(frame, bars, text)
+    } else {
+        write_single_words(frame, bars, marks, text)
+    }
 }
 
 // Writes a picture of these bars and marks, of a history of so many entries.
@@ -93,6 +158,7 @@ fn write_picture(
     write_surroundings(frame, total, text)?;
     write_things(frame, bars, marks, text)?;
     write_words(frame, bars, marks, text)?;
+    write_axis(frame, text)?;
     closing(text)?;
     Ok(())
 }

@@ -117,6 +117,37 @@ rim_open = codes "<g paint-order='stroke' stroke='#fff' stroke-width='4' stroke-
 unfoldable pub rim_close : List ℕ
 rim_close = codes "</g>\n"
 
+-- ---- things that are joined
+
+-- a group of elements that share these attributes
+unfoldable pub group_open : (attributes : List ℕ) → List ℕ
+group_open attributes = concat (codes "<g" ∷ attributes ∷ codes ">\n" ∷ [])
+
+unfoldable pub group_close : List ℕ
+group_close = codes "</g>\n"
+
+-- a box and a line that have these, and stay open for a title
+unfoldable pub plain_box : (x y width height : ℕ) → List ℕ
+plain_box x y width height =
+    concat (codes "<rect x='" ∷ decimal x ∷ codes "' y='" ∷ decimal y ∷ codes "' width='" ∷ decimal width
+    ∷ codes "' height='" ∷ decimal height ∷ codes "'>" ∷ [])
+
+unfoldable pub plain_line : (x y right down : ℕ) → List ℕ
+plain_line x y right down =
+    concat (codes "<path d='M" ∷ decimal x ∷ codes " " ∷ decimal y ∷ codes "L" ∷ decimal right ∷ codes " "
+    ∷ decimal down ∷ codes "'>" ∷ [])
+
+-- how many things are joined, of which entries
+unfoldable pub joined_title : (count : ℕ) → (name : List ℕ) → (first last : ℕ) → List ℕ
+joined_title count name first last =
+    concat (codes "<title>" ∷ decimal count ∷ codes " " ∷ name ∷ codes ", entries " ∷ decimal first ∷ codes " to "
+    ∷ decimal last ∷ codes "</title>" ∷ [])
+
+-- the words below a picture that has such things
+unfoldable pub joined_words : List ℕ
+joined_words =
+    codes "<text x='835' y='884' text-anchor='middle'>a mark stands for all of its kind near it; point at it for how many</text>\n"
+
 -- ---- the legend
 
 -- what is shown

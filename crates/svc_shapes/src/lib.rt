@@ -2,6 +2,7 @@
 #![tactic(auto)]
 
 mod around;
+mod joined;
 mod kinds;
 mod shapes;
 pub mod sheet;
@@ -10,6 +11,7 @@ pub use around::{
     arrow_heads, axis_words, bold_sample, border, closing, commit_sample, fate_sample, hatching,
     headline, lane, mark_sample, opening, paper_text, parts_close, parts_open, thin_sample, tick,
 };
+pub use joined::{group_close, group_open, joined_title, joined_words, plain_box, plain_line};
 pub use kinds::{cross, diamond, kind_close, kind_open, letter_above, letter_within, ring, square};
 pub use shapes::{
     bar_box, bold_arrow, box_title, close, commit_line, label, mark_at, rim_close, rim_open,
