@@ -286,8 +286,8 @@ one from a store to the read that came too early, for which it squashed a task. 
 of the trace. Entries after the last one shown may be faulty; for an earlier fault it reports the first one, as
 check does, and saves nothing. Give the options that the trace was made with.
 
-Nothing is printed. The file grows with the entries that it shows, by some 150 bytes for each; from a few
-thousand on, a browser takes long to open it.
+From 1000 entries on, marks of a kind that stand near one another are drawn as one, and so are short bars of one
+fate; point at it to see how many they are. So a file stays below 500 kB, whatever the trace. Nothing is printed.
 
 With --rows it saves what the picture shows as rows instead: bar,TASK,UNIT,ADDRESS,FIRST,LAST,FATE for each bar,
 mark,ENTRY,UNIT,TASK,KIND,WORD,VALUE,BY for each mark, and arrow,FROM,TO,KIND,WORD for each arrow.

@@ -1,7 +1,8 @@
 // The bars and marks of a picture of many entries: those of a kind in a cell of its grid are drawn as one.
 
 ghost use Rattle.std.specs.Prelude.{◌≡◌, ◌++◌, OnOk, flat_map};
-ghost use Rattle.svc_draw.specs.Joined.{joined_bars, joined_kind, joined_lines, joined_mark, joined_shape, joined_shapes};
+ghost use Rattle.svc_draw.specs.Joined.{joined_bars, joined_kind, joined_lines, joined_mark, joined_shape};
+ghost use Rattle.svc_draw.specs.Joined.{joined_shapes};
 ghost use Rattle.svc_draw.specs.Joined.{joined_text, long_bar, long_name, marks_called, other_x, other_y, stripe};
 ghost use Rattle.svc_draw.specs.Joined.{stripe_box, stripe_style, stripe_text, stripes, style_of, tasks_called, use_at};
 ghost use Rattle.svc_draw.specs.Grid.{column_x, row_y};
