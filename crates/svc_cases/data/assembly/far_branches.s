@@ -23,6 +23,7 @@ last:
     bltz a0, below
     bgtz a0, below - 4
     ecall
+    .align 12
 .data
 table:
     .word below, last, here - below

@@ -16,3 +16,5 @@ aside:
 .weak other
 .set other, near
 .globl aside
+.data
+    .word aside
