@@ -159,7 +159,7 @@ push_one : (v d : ℕ) → d < 10 → v * 10 + d < 2 ^ 32 → push_digit 10 v (4
 unfolding push_digit
 push_one v d h k =
     let small : nat_lt d 10 ≡ true = le-leb (suc d) 10 (omega arith) in
-    let fits : nat_lt (v * 10 + d) (2 ^ 32) ≡ true = le-leb (suc (v * 10 + d)) (2 ^ 32) (omega arith) in
+    let fits : nat_lt (v * 10 + d) (2 ^ 64) ≡ true = le-leb (suc (v * 10 + d)) (2 ^ 64) (omega arith) in
     rw (digit_value d h, small, fits) refl
 
 -- one digit is its number

@@ -5,7 +5,7 @@ use Rattle.std.proofs.lemmas.List.{append_assoc}
 use Rattle.svc_rv32i.specs.declared.instr.Register.{Register}
 use Rattle.svc_rv32i.specs.Meaning.{register}
 use Rattle.svc_operands.specs.declared.operands.Signed.{Signed}
-use Rattle.svc_operands.specs.Characters.{is_name, past_blanks, past, behind, mark_at, value_on, value_of}
+use Rattle.svc_operands.specs.Characters.{is_name, past_blanks, past, behind, mark_at, value_on, long_of, value_of}
 use Rattle.svc_draft.specs.Layouts.{Layout}
 use Rattle.svc_operands.specs.Names.{numbered, register_named}
 use Rattle.svc_operands.specs.Operands.{register_at, first_register_at, wrapped, halved, steps_of}
@@ -25,9 +25,14 @@ spaced_value_back d n rest tail h e =
     let small : n % 2 ^ 32 ≡ n = omega (arith, h) in
     rw (spaced_expression_back (Some d) n rest h e.stop e.no_sign, small) refl
 
-value_is : (ds : List ℕ) → 0 < length ds → value_of 10 ds ≡ value_on 10 0 ds
-value_is [] h = absurd (omega (arith, h))
-value_is (c ∷ ds) h = refl
+long_is : (ds : List ℕ) → 0 < length ds → long_of 10 ds ≡ value_on 10 0 ds
+long_is [] h = absurd (omega (arith, h))
+long_is (c ∷ ds) h = refl
+
+-- a number of 32 bits from its digits
+value_is : (ds : List ℕ) (n : ℕ) → n < 2 ^ 32 → long_of 10 ds ≡ Some n → value_of 10 ds ≡ Some n
+unfolding value_of
+value_is ds n h is = let small : nat_lt n (2 ^ 32) ≡ true = le-leb (suc n) (2 ^ 32) (omega (arith, h)) in rw (is, small) refl
 
 -- a register
 register_is : (r : Register) → register r.number ≡ r
@@ -39,7 +44,8 @@ unfolding register_named numbered
 named_back r =
     let facts = numerals r.number (omega (arith, r.in_range)) (omega (arith, r.in_range)) in
     let small : nat_lt r.number 32 ≡ true = le-leb (suc r.number) 32 (omega (arith, r.in_range)) in
-    let value : value_of 10 (decimal r.number) ≡ Some r.number = value_is (decimal r.number) facts.some ∙ facts.value in
+    let long : long_of 10 (decimal r.number) ≡ Some r.number = long_is (decimal r.number) facts.some ∙ facts.value in
+    let value = value_is (decimal r.number) r.number (omega (arith, r.in_range)) long in
     rw (value, small) (ap Some (register_is r))
 
 pub register_back : (r : Register) (rest : List ℕ) → stops rest ≡ true → register_at (register_text r ++ rest) ≡ Some (r, rest)

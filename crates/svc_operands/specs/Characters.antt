@@ -88,10 +88,10 @@ base_of radices.Octal = 8
 base_of radices.Decimal = 10
 base_of radices.Hexadecimal = 16
 
--- the number so far and one digit more, where it still has 32 bits
+-- the number so far and one digit more, where it still has 64 bits
 abbrev pub push_value : ℕ → ℕ → ℕ → Option ℕ
 push_value radix value d =
-    if nat_lt d radix && nat_lt (value * radix + d) (2 ^ 32) then Some (value * radix + d) else None
+    if nat_lt d radix && nat_lt (value * radix + d) (2 ^ 64) then Some (value * radix + d) else None
 
 unfoldable pub push_digit : ℕ → ℕ → ℕ → Option ℕ
 push_digit radix value c = do
@@ -105,22 +105,28 @@ value_on radix value (c ∷ rest) = do
   next ← push_digit radix value c
   value_on radix next rest
 
-abbrev pub value_of : ℕ → List ℕ → Option ℕ
-value_of radix [] = None
-value_of radix (c ∷ rest) = value_on radix 0 (c ∷ rest)
+abbrev pub long_of : ℕ → List ℕ → Option ℕ
+long_of radix [] = None
+long_of radix (c ∷ rest) = value_on radix 0 (c ∷ rest)
+
+-- the number of these digits, where it has 32 bits
+unfoldable pub value_of : ℕ → List ℕ → Option ℕ
+value_of radix digits = do
+  n ← long_of radix digits
+  if nat_lt n (2 ^ 32) then Some n else None
 
 -- what 0 and this are as a number: hexadecimal behind 0x, binary behind 0b, and else octal
 unfoldable pub behind_zero : List ℕ → Option ℕ
 behind_zero [] = Some 0
 behind_zero (c ∷ digits) =
-    if c == 120 || c == 88 then value_of 16 digits else
-    if c == 98 || c == 66 then value_of 2 digits else
-    value_of 8 (c ∷ digits)
+    if c == 120 || c == 88 then long_of 16 digits else
+    if c == 98 || c == 66 then long_of 2 digits else
+    long_of 8 (c ∷ digits)
 
--- a number: decimal, where it doesn't begin with 0
+-- a number of 64 bits: decimal, where it doesn't begin with 0
 unfoldable pub number_of : List ℕ → Option ℕ
 number_of [] = None
-number_of (c ∷ digits) = if c == 48 then behind_zero digits else value_of 10 (c ∷ digits)
+number_of (c ∷ digits) = if c == 48 then behind_zero digits else long_of 10 (c ∷ digits)
 
 -- what a letter behind a backslash stands for
 unfoldable pub escaped : ℕ → Option ℕ

@@ -1,7 +1,7 @@
 // The characters of a program's text: spaces, names, marks, numbers, and characters between single quotes.
 
 ghost use Rattle.std.specs.Prelude.{◌≡◌, ◌<◌, ◌≤◌, IfSome, option_map};
-ghost use Rattle.svc_operands.specs.Characters.{opens, blank_behind, past_spaces, is_over, is_name, past, name_at, past_name, mark_at, digit, base_of, push_digit, value_of, behind_zero, number_of, escaped, quoted_escape, closed_at, escape_in_quotes, in_quotes, character_at};
+ghost use Rattle.svc_operands.specs.Characters.{opens, blank_behind, past_spaces, is_over, is_name, past, name_at, past_name, mark_at, digit, base_of, push_digit, long_of, value_of, behind_zero, number_of, escaped, quoted_escape, closed_at, escape_in_quotes, in_quotes, character_at};
 
 #[tactic(auto, unfolding(crate::specs::Characters::is_name))]
 fn is_name(c: u8) -> bool
@@ -120,11 +120,11 @@ pub fn digit(c: u8) -> Option<u32>
 }
 
 #[tactic(auto, unfolding(crate::specs::Characters::push_digit))]
-fn push_digit(radix: u32, value: u32, c: u8) -> Option<u32>
+fn push_digit(radix: u64, value: u64, c: u8) -> Option<u64>
     requires { radix ≤ 16 }
     ensures { result ≡ push_digit radix value c }
 {
-    let digit = digit(c)?;
+    let digit = digit(c)? as u64;
     if digit >= radix {
         return None;
     }
@@ -140,7 +140,7 @@ pub enum Radix {
     Hexadecimal,
 }
 
-fn base_of(radix: Radix) -> u32
+fn base_of(radix: Radix) -> u64
     ensures value { result ≡ base_of radix }
     ensures small { result ≤ 16 }
 {
@@ -152,10 +152,9 @@ fn base_of(radix: Radix) -> u32
     }
 }
 
-/// The number of these digits.
 #[tactic(auto, unfolding(crate::specs::Characters::value_on))]
-pub fn value_of(radix: Radix, digits: &[u8]) -> Option<u32>
-    ensures { result ≡ value_of (base_of radix) digits.now }
+fn long_of(radix: Radix, digits: &[u8]) -> Option<u64>
+    ensures { result ≡ long_of (base_of radix) digits.now }
 {
     if digits.is_empty() {
         return None;
@@ -168,26 +167,39 @@ pub fn value_of(radix: Radix, digits: &[u8]) -> Option<u32>
     Some(value)
 }
 
+/// The number of these digits, where it has 32 bits.
+#[tactic(auto, unfolding(crate::specs::Characters::value_of))]
+pub fn value_of(radix: Radix, digits: &[u8]) -> Option<u32>
+    ensures { result ≡ value_of (base_of radix) digits.now }
+{
+    let value = long_of(radix, digits)?;
+    if value < 0x1_0000_0000 {
+        Some(value as u32)
+    } else {
+        None
+    }
+}
+
 #[tactic(auto, unfolding(crate::specs::Characters::behind_zero))]
-fn behind_zero(digits: &[u8]) -> Option<u32>
+fn behind_zero(digits: &[u8]) -> Option<u64>
     ensures { result ≡ behind_zero digits.now }
 {
     match digits {
         [] => Some(0),
-        [b'x' | b'X', digits @ ..] => value_of(Radix::Hexadecimal, digits),
-        [b'b' | b'B', digits @ ..] => value_of(Radix::Binary, digits),
-        _ => value_of(Radix::Octal, digits),
+        [b'x' | b'X', digits @ ..] => long_of(Radix::Hexadecimal, digits),
+        [b'b' | b'B', digits @ ..] => long_of(Radix::Binary, digits),
+        _ => long_of(Radix::Octal, digits),
     }
 }
 
-/// The number that a name is: decimal, hexadecimal behind 0x, binary behind 0b, octal behind 0.
+/// The number of 64 bits that a name is: decimal, hexadecimal behind 0x, binary behind 0b, octal behind 0.
 #[tactic(auto, unfolding(crate::specs::Characters::number_of))]
-pub fn number_of(name: &[u8]) -> Option<u32>
+pub fn number_of(name: &[u8]) -> Option<u64>
     ensures { result ≡ number_of name.now }
 {
     match name {
         [b'0', digits @ ..] => behind_zero(digits),
-        _ => value_of(Radix::Decimal, name),
+        _ => long_of(Radix::Decimal, name),
     }
 }
 

@@ -132,7 +132,7 @@ fn read_plain<'a>(names: Option<&Draft>, text: &'a [u8]) -> Read<'a, u64>
     ensures { Gives (λ x. (x.0, x.1.now)) result (plain_at (option_map (λ d. layout_of d.now) names.entry) text.now) }
 {
     if let Ok((number, rest)) = read_number(text) {
-        return Ok((number as u64, rest));
+        return Ok((number, rest));
     }
     let (name, rest) = split_name(text);
     match named_by(names, name) {

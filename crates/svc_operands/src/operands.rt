@@ -59,9 +59,9 @@ pub fn read_base(text: &[u8]) -> Read<'_, Register>
     Ok((base, rest))
 }
 
-/// A number, or a character as one.
+/// A number of 64 bits, or a character as one.
 #[tactic(auto, unfolding(crate::specs::Operands::number_at))]
-pub fn read_number(text: &[u8]) -> Read<'_, u32>
+pub fn read_number(text: &[u8]) -> Read<'_, u64>
     ensures { Gives (λ x. (x.0, x.1.now)) result (number_at text.now) }
 {
     let (name, rest) = split_name(text);
@@ -69,7 +69,7 @@ pub fn read_number(text: &[u8]) -> Read<'_, u32>
         return Ok((number, rest));
     }
     match split_character(text) {
-        Some((character, rest)) => Ok((character as u32, rest)),
+        Some((character, rest)) => Ok((character as u64, rest)),
         None => Err(stopped_at(text, Wanted::Number)),
     }
 }

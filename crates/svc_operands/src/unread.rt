@@ -21,7 +21,7 @@ pub enum Wanted {
     Open,
     #[error("a closing parenthesis")]
     Close,
-    #[error("a number of 32 bits or a label of this text")]
+    #[error("a number of 64 bits or a label of this text")]
     Value,
     #[error("a label of this text or an offset as . + 8")]
     Target,
