@@ -1,12 +1,14 @@
 // The words that a history's entries name: no other word has a line or is spilled.
 
-ghost use Rattle.std.specs.Prelude.{◌≡◌, ◌<◌, ◌^◌, ◌++◌, OnOk, IfOk, All, flat_map, length, replicate};
+ghost use Rattle.std.specs.Prelude.{◌≡◌, ◌<◌, ◌≤◌, ◌^◌, ◌++◌, ℕ, false, Option, OnOk, IfOk, All, flat_map, length};
+ghost use Rattle.std.specs.Prelude.{replicate};
 ghost use Rattle.std.specs.List.{range_with_len};
 ghost use Rattle.svc_held.specs.declared.named.Namers.TheVariants.{Nobody};
 ghost use Rattle.svc_held.specs.Named.{AreNamed, IsMarked, and_unit, are_some, marked, marked_at, may_have, named_at};
 ghost use Rattle.svc_held.specs.Named.{named_by};
+ghost use Rattle.svc_held.specs.Span.{is_asked};
 
-use crate::span::{Span, is_asked};
+use crate::span::{Span, bounds, is_asked};
 use std::alloc::{AllocError, Global};
 use svc_base::{UnitId, WordAddr};
 use svc_history::Entry;
@@ -116,7 +118,47 @@ fn push_named(
     Ok(())
 }
 
-// The words that are marked or asked for, in their order.
+// Adds the marked words from one on, up to another, to those before them, if none of these is asked for.
+fn list_outside(
+    marks: &[Namers],
+    from: usize,
+    to: usize,
+    named: &mut Vec<Named>,
+) -> Result<(), AllocError>
+    requires few { length marks.now < 2 ^ 32 }
+    requires range { from ≤ to }
+    requires inside { to ≤ length marks.now }
+    ensures { (asked : Option Span) → ((word : ℕ) → from ≤ word → word < to → is_asked asked word ≡ false)
+        → named.old.items ≡ flat_map (named_at asked marks.now) (range_with_len 0 from)
+        → OnOk result (named.new.items ≡ flat_map (named_at asked marks.now) (range_with_len 0 to)) }
+{
+    for word in from..to {
+        push_named(None, WordAddr(word as u32), marks[word], named)?;
+    }
+    Ok(())
+}
+
+// Adds the words from one on, up to another, that are marked or asked for, to those before them.
+fn list_inside(
+    marks: &[Namers],
+    asked: Option<Span>,
+    from: usize,
+    to: usize,
+    named: &mut Vec<Named>,
+) -> Result<(), AllocError>
+    requires few { length marks.now < 2 ^ 32 }
+    requires range { from ≤ to }
+    requires inside { to ≤ length marks.now }
+    requires begun { named.old.items ≡ flat_map (named_at asked marks.now) (range_with_len 0 from) }
+    ensures { OnOk result (named.new.items ≡ flat_map (named_at asked marks.now) (range_with_len 0 to)) }
+{
+    for word in from..to {
+        push_named(asked, WordAddr(word as u32), marks[word], named)?;
+    }
+    Ok(())
+}
+
+// The words that are marked or asked for, in their order. Whether one is asked for is tested only where some are.
 fn list_marked(
     alloc: Global,
     marks: &[Namers],
@@ -127,9 +169,10 @@ fn list_marked(
         (λ named. named.items ≡ flat_map (named_at asked marks.now) (range_with_len 0 (length marks.now))) }
 {
     let mut named = Vec::new(alloc);
-    for word in 0..marks.len() {
-        push_named(asked, WordAddr(word as u32), marks[word], &mut named)?;
-    }
+    let (first, end) = bounds(asked, marks.len());
+    list_outside(marks, 0, first, &mut named)?;
+    list_inside(marks, asked, first, end, &mut named)?;
+    list_outside(marks, end, marks.len(), &mut named)?;
     Ok(named)
 }
 

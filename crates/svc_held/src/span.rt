@@ -1,6 +1,6 @@
 // Spans of words.
 
-ghost use Rattle.std.specs.Prelude.{◌≡◌};
+ghost use Rattle.std.specs.Prelude.{◌≡◌, ◌<◌, ◌≤◌, ◌⊎◌, ℕ, false};
 ghost use Rattle.svc_held.specs.Span.{in_span, is_asked};
 
 /// Words of data by their numbers, from the first to the last, both included.
@@ -28,5 +28,21 @@ pub fn is_asked(asked: Option<Span>, word: u32) -> bool
     match asked {
         Some(span) => span.has(word),
         None => false,
+    }
+}
+
+/// Where a span begins among so many words, and where it ends. Without a span both are 0.
+pub(crate) fn bounds(asked: Option<Span>, words: usize) -> (usize, usize)
+    ensures range { result.0 ≤ result.1 }
+    ensures inside { result.1 ≤ words }
+    ensures before { (word : ℕ) → word < result.0 → is_asked asked word ≡ false }
+    ensures after { (word : ℕ) → result.1 ≤ word → word < words → is_asked asked word ≡ false }
+{
+    match asked {
+        Some(span) => {
+            let end = (span.last as usize + 1).min(words);
+            ((span.first as usize).min(end), end)
+        }
+        None => (0, 0),
     }
 }

@@ -1,11 +1,11 @@
-use Rattle.std.proofs.Common.{◌∙◌, ◌++◌, List, ap, sym, get_or}
+use Rattle.std.proofs.Common.{◌∙◌, ◌++◌, List, ap, sym, get_or, arith}
 use Rattle.std.proofs.lemmas.Option.{get_or_from_slice_get, slice_get-get_or}
 use Rattle.svc_held.specs.declared.named.Named.{Named}
 use Rattle.svc_held.specs.declared.named.Namers.{Namers}
 use Rattle.svc_held.specs.declared.named.Namers.TheVariants.{Nobody}
 use Rattle.svc_held.specs.Named.{named_at, named_by}
 use Rattle.svc_held.proofs.Ranges.{lists_more}
-use Rattle.svc_held.proofs.named.list_marked.Goals as goal
+use Rattle.svc_held.proofs.named.list_inside.Goals as goal
 
 pub loop-word-preserved : goal.loop-word-preserved
 loop-word-preserved c =
@@ -13,6 +13,6 @@ loop-word-preserved c =
     let f = named_at asked c.args.marks.now in
     let at = c.loop-word.word in
     let marks = c.args.marks.now in
-    let same = get_or_from_slice_get marks at (get_or marks at Nobody) _ (slice_get-get_or marks at Nobody c.loop-word-test.true) in
+    let same = get_or_from_slice_get marks at (get_or marks at Nobody) _ (slice_get-get_or marks at Nobody (omega (arith, c.loop-word-test.true))) in
     c.in_ok-push_named.ensures ∙ ap (λ (n : Namers). c.loop-word.named.items ++ named_by asked at n) same
     ∙ ap (λ (l : List Named). l ++ f at) c.loop-word.invariant ∙ sym (lists_more f at)
