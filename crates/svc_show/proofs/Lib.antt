@@ -2,4 +2,5 @@ pub mod HeldRows
 pub mod Standings
 pub mod Settled
 pub mod Caches
+pub mod Namers
 pub mod TaskRows

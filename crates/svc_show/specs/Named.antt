@@ -13,6 +13,7 @@ use Rattle.svc_held.specs.declared.named.Named.{Named}
 use Rattle.svc_held.specs.declared.span.Span.{Span}
 use Rattle.svc_held.specs.Held.{is_named_line, line_named}
 use Rattle.svc_held.specs.Span.{is_asked}
+use Rattle.svc_show.specs.declared.cached.Cached.{Cached}
 use Rattle.svc_show.specs.declared.cached.Versions.{Versions}
 use Rattle.svc_show.specs.declared.cached.Versions.TheVariants.{Absent, One, Several}
 use Rattle.svc_show.specs.Rows.{line_row, memory_row, spill_row}
@@ -41,6 +42,10 @@ and_version Several value = Several
 -- with a line, if it has one
 abbrev pub and_line : Versions → Option BusLine → Versions
 and_line vs line = cond (is_committed_dirty_line line) (and_version vs (value_of_line line)) vs
+
+-- neither a line nor a version
+abbrev pub nothing : Cached
+nothing = record { line = false; versions = Absent }
 
 -- among n units none has a version, or only this one has, with this value
 abbrev pub NoneHas : BusState → Named → (units : ℕ) → Type 0

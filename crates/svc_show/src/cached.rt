@@ -7,12 +7,13 @@ ghost use Rattle.svc_core_laws.specs.Sequence.{plain_seq};
 ghost use Rattle.svc_core_laws.specs.Turns.{data_words};
 ghost use Rattle.svc_bus.specs.Calls.{line_shown};
 ghost use Rattle.svc_bus.specs.Observed.{observed};
+ghost use Rattle.svc_held.specs.declared.named.Namers.TheVariants as namers;
 ghost use Rattle.svc_held.specs.Held.{HasItsLines, is_named_line};
-ghost use Rattle.svc_show.specs.Named.{AreVersions, and_line, and_version};
+ghost use Rattle.svc_show.specs.Named.{AreVersions, and_line, and_version, nothing};
 
 use crate::bits::is_version;
 use svc_base::UnitId;
-use svc_held::{Named, backing_of, line_of_named};
+use svc_held::{Named, Namers, backing_of, line_of_named};
 use svc_line::LineBits;
 use svc_machine::Machine;
 
@@ -67,17 +68,52 @@ impl Cached {
         }
     }
 
-    /// What the caches of the units have of a named word.
+    // Nothing.
+    fn nothing() -> Cached
+        ensures { result ≡ nothing }
+    {
+        Cached {
+            line: false,
+            versions: Versions::Absent,
+        }
+    }
+
+    /// What the caches of the units have of a named word. None is searched but those of units that name it.
     pub(crate) fn of(machine: &Machine, units: u32, named: Named) -> Cached
         requires few { units ≤ 16 }
         ensures line { result.line
             ≡ list_any (is_named_line (observed machine.now.bus) named) (range_with_len 0 units) }
         ensures versions { AreVersions (observed machine.now.bus) named units result.versions }
     {
-        let mut cached = Cached {
-            line: false,
-            versions: Versions::Absent,
-        };
+        match named.by {
+            Namers::Nobody => Cached::nothing(),
+            Namers::One(unit) => Cached::of_one(machine, units, named, unit),
+            Namers::Several => Cached::of_each(machine, units, named),
+        }
+    }
+
+    // What they have of a word that this unit alone names.
+    fn of_one(machine: &Machine, units: u32, named: Named, unit: UnitId) -> Cached
+        requires alone { named.by ≡ namers.One unit }
+        ensures line { result.line
+            ≡ list_any (is_named_line (observed machine.now.bus) named) (range_with_len 0 units) }
+        ensures versions { AreVersions (observed machine.now.bus) named units result.versions }
+    {
+        if u32::from(unit.0) < units {
+            Cached::nothing().and(line_of_named(machine, unit, named))
+        } else {
+            Cached::nothing()
+        }
+    }
+
+    // The same, cache by cache.
+    fn of_each(machine: &Machine, units: u32, named: Named) -> Cached
+        requires few { units ≤ 16 }
+        ensures line { result.line
+            ≡ list_any (is_named_line (observed machine.now.bus) named) (range_with_len 0 units) }
+        ensures versions { AreVersions (observed machine.now.bus) named units result.versions }
+    {
+        let mut cached = Cached::nothing();
         for unit in 0..units {
             cached = cached.and(line_of_named(machine, UnitId(unit as u8), named));
         }

@@ -3,7 +3,7 @@ use Rattle.std.specs.List.{list_any, range_with_len}
 use Rattle.svc_bus.specs.Observed.{observed}
 use Rattle.svc_held.specs.Held.{is_named_line}
 use Rattle.svc_show.specs.Named.{AreVersions}
-use Rattle.svc_show.proofs.cached.Cached.of.Given as goal
+use Rattle.svc_show.proofs.cached.Cached.of_each.Given as goal
 
 abbrev pub invariant-loop-unit : goal.invariant-loop-unit
 invariant-loop-unit l =
