@@ -30,6 +30,6 @@ returns-else-from-units c =
     let unit = c.args.unit in
     let units = c.args.units in
     record {
-      line = ap (λ (k : Cached). k.line) c.nothing.ensures ∙ sym (line_past b n unit c.requires.alone units (omega arith));
-      versions = subst (AreVersions b n units) (sym (ap (λ (k : Cached). k.versions) c.nothing.ensures)) (version_past b n unit c.requires.alone units (omega arith));
+      line = ap (λ (k : Cached). k.line) c.nothing-else-from-units.ensures ∙ sym (line_past b n unit c.requires.alone units (omega arith));
+      versions = subst (AreVersions b n units) (sym (ap (λ (k : Cached). k.versions) c.nothing-else-from-units.ensures)) (version_past b n unit c.requires.alone units (omega arith));
     }
