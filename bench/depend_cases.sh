@@ -52,7 +52,7 @@ by_hand() {
 run_of() {
     local units=$1 seed=$2 name=depend_third_on_${1}_by_seed_$2
     image_of programs/every_third.svci
-    "$folder/schedule_twin" "$folder/image" "$units" 16 2 100000 1000000 random "$seed" 1 - > "$data/depend/$name.txt"
+    "$folder/schedule_twin" "$folder/image" "$units" 16 2 100000 1000000 random "$seed" 1 - - > "$data/depend/$name.txt"
     grep -q "^cut-violation,$3" "$data/depend/$name.txt"
     echo "$name,0,depend/$name.txt,,,run programs/every_third.svci --units $units --schedule random --burst 1 --seed $seed" >> "$folder/cases"
 }

@@ -19,7 +19,7 @@ echo name,status,out,err,saved,words > "$data/cases/examples.csv"
 example() {
     local name=$1 units=$2 sets=$3 ways=$4 order=$5 status=${6:-0} at=examples/$1
     "$root/bench/example_image.py" "$data/$at.s" "$data/$at.svci" "$data/$at.listing.s"
-    "$folder/schedule_twin" "$data/$at.svci" "$units" "$sets" "$ways" 100000 1000000 "$order" 0 63 "$data/$at.csv" > "$data/$at.txt"
+    "$folder/schedule_twin" "$data/$at.svci" "$units" "$sets" "$ways" 100000 1000000 "$order" 0 63 "$data/$at.csv" - > "$data/$at.txt"
     cat >> "$data/cases/examples.csv" <<END
 example_${name}_is_assembled,0,,,made.svci=$at.svci,assemble $at.s made.svci
 example_${name}_is_listed,0,$at.listing.s,,,list $at.svci
@@ -33,7 +33,7 @@ END
 from_c() {
     local name=$1 at=examples/$1
     "$root/bench/example_image.py" "$data/$at.s" "$data/$at.svci" "$data/$at.listing.s"
-    "$folder/schedule_twin" "$data/$at.svci" 4 16 2 100000 1000000 rotate 0 63 - > "$data/$at.txt"
+    "$folder/schedule_twin" "$data/$at.svci" 4 16 2 100000 1000000 rotate 0 63 - - > "$data/$at.txt"
     gcc -O2 -DHOST -o "$folder/host" "$root/examples/c/$2.c"
     "$folder/host" > "$data/$at.host.txt"
     cat >> "$data/cases/examples.csv" <<END

@@ -37,7 +37,8 @@ def names_of(symbols):
     return "name,address\n" + "".join(f"{name},{address}\n" for address, name in sorted(named))
 
 
-def main(text, image, listing, names=None):
+def image_of(text):
+    """The image of the program in a file, and nm's rows."""
     plain, entries, limit, registers = [], 0, 65536, {}
     for line in open(text):
         words = line.split("#")[0].replace(",", " ").split()
@@ -75,7 +76,11 @@ def main(text, image, listing, names=None):
     values = [symbols[it] if re.match(r"[A-Za-z_]", it) else int(it, 0) for it in (registers.get(n, "0") for n in range(1, 32))]
     counts = (len(starts), len(parts[0]) // 4, len(parts[1]) // 4, limit, starts[0])
     made = b"SVCI" + struct.pack("<HHIIII", 1, *counts) + struct.pack("<31I", *values)
-    made += struct.pack(f"<{len(starts)}I", *starts) + parts[0] + parts[1]
+    return made + struct.pack(f"<{len(starts)}I", *starts) + parts[0] + parts[1], rows
+
+
+def main(text, image, listing, names=None):
+    made, rows = image_of(text)
     with open(image, "wb") as it:
         it.write(made)
     with open(listing, "w") as it:

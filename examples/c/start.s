@@ -106,7 +106,7 @@ put_word:
     ret
 
 .bss
-    .align 2
+    .align 4
 stack:
     .zero 256
 stack_end:
