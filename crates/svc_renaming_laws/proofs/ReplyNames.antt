@@ -217,7 +217,7 @@ module _ (r : Renaming) where
 
     cancelled_at : (o : Option ℕ) → plain_cancelled (renamed_plain r s.plain) o ≡ renamed_reply r (plain_cancelled s.plain o)
     cancelled_at None = refl
-    cancelled_at (Some place) = ap (λ n. Rattle.svc_machine_laws.specs.Replies.cancelled s.plain.commits n place) count
+    cancelled_at (Some place) = ap (λ n. Rattle.svc_machine_laws.specs.Replies.reply_to_cancel s.plain.commits n place) count
 
     pub reply_renamed : (x : Event) → reply_to img (renamed_standing r s) (renamed_event r x) ≡ renamed_reply r (reply_to img s x)
     unfolding reply_to plain_reply
