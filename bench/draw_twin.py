@@ -44,7 +44,7 @@ def show(value):
 
 
 class Choice:
-    """The units, tasks and words that are shown: each a first and a last number, or None."""
+    """The units, tasks and words that are shown: each a first and a last number, or None. What has no word is shown with any."""
 
     def __init__(self, options):
         self.ranges = {}
@@ -55,8 +55,10 @@ class Choice:
 
     def has(self, **numbers):
         for name, value in numbers.items():
-            first, last = self.ranges.get(name, (None, None))
-            if first is not None and not (value not in (None, "") and first <= int(value) <= last):
+            if name not in self.ranges or (name == "word" and value == ""):
+                continue
+            first, last = self.ranges[name]
+            if value is None or not first <= int(value) <= last:
                 return False
         return True
 

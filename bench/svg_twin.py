@@ -1,14 +1,14 @@
 #!/usr/bin/env python3
 """The picture that `draw` saves: a twin of svc_draw's text, from a trace alone.
 
-svg_twin.py TRACE UNITS [FROM] [COUNT] [unit=A-B] [task=A-B] [word=A-B] [values=auto|all|none]
+svg_twin.py TRACE UNITS [FROM] [COUNT] [unit=A-B] [task=A-B] [word=A-B] [values=auto|all|none] [compact=yes]
 """
 import csv
 import sys
 
 from draw_twin import Choice, asked, number, tasks_of
 
-LEFT, WIDTH, RIGHT, TOP, HEIGHT, BOTTOM = 90, 1490, 1580, 118, 720, 838
+LEFT, WIDTH, RIGHT, TOP = 90, 1490, 1580, 118
 FILLS = {
     "active": "url(#active)", "committed": "#d3ead0", "violation": "url(#violation)", "guess": "url(#guess)", "cancel": "url(#cancel)",
 }
@@ -72,6 +72,9 @@ def label(x, y, style, words):
 class Picture:
     def __init__(self, lines, options, units, begin=0, count=1000000):
         self.choice, self.values = Choice(options), options.get("values", "auto")
+        self.compact = options.get("compact") == "yes"
+        self.height = 240 if self.compact else 720
+        self.bottom = TOP + self.height
         # Later entries aren't looked at.
         self.lines, self.units = lines[: begin + count + 1], units
         rows = list(csv.DictReader(self.lines))
@@ -80,7 +83,7 @@ class Picture:
         self.end = min(self.begin + count, self.total)
         self.all_rows, self.rows = rows, rows[: self.end]
         self.shown = max(self.end - self.begin, 1)
-        self.bar_height = min(HEIGHT // units * 4 // 5, 130)
+        self.bar_height = min(self.height // units * 4 // 5, 130)
         self.columns = min(360 // units, 149)
         self.radius = min(min(max(WIDTH // self.shown // 3, 4), 10), self.bar_height // 4)
         tasks = tasks_of(rows)
@@ -101,10 +104,10 @@ class Picture:
         return LEFT + min((2 * before + 1) * WIDTH // (2 * self.shown), WIDTH)
 
     def lane_top(self, lane):
-        return TOP + min(lane * HEIGHT // self.units, HEIGHT)
+        return TOP + min(lane * self.height // self.units, self.height)
 
     def bar_top(self, lane):
-        return self.lane_top(lane) + (HEIGHT // self.units - self.bar_height) // 2
+        return self.lane_top(lane) + (self.height // self.units - self.bar_height) // 2
 
     def y(self, lane):
         return self.bar_top(lane) + self.bar_height * 18 // 25
@@ -125,12 +128,13 @@ class Picture:
             ("cancel", "", "#e6ddf3", "<circle cx='4' cy='4' r='2' fill='#7a5bb0'/>"),
             ("active", "", "#ffffff", "<rect width='8' height='1' y='4' fill='#9ab4d0'/>"),
         ]
-        text = "<?xml version='1.0' encoding='UTF-8'?>\n<svg xmlns='http://www.w3.org/2000/svg' width='1600' height='900' "
-        text += "viewBox='0 0 1600 900' font-family='Helvetica, Arial, sans-serif' font-size='14' fill='#111'>\n<defs>\n"
+        text = "<?xml version='1.0' encoding='UTF-8'?>\n<svg xmlns='http://www.w3.org/2000/svg' width='1600' "
+        text += f"height='{self.bottom + 62}' viewBox='0 0 1600 {self.bottom + 62}' "
+        text += "font-family='Helvetica, Arial, sans-serif' font-size='14' fill='#111'>\n<defs>\n"
         for name, turn, paper, lines in patterns:
             text += f"<pattern id='{name}' width='8' height='8' patternUnits='userSpaceOnUse'{turn}>"
             text += f"<rect width='8' height='8' fill='{paper}'/>{lines}</pattern>\n"
-        text += "</defs>\n<rect width='1600' height='900' fill='#fff'/>\n<defs>\n"
+        text += f"</defs>\n<rect width='1600' height='{self.bottom + 62}' fill='#fff'/>\n<defs>\n"
         for name, width, height, tip, path, color in [
             ("thin", 12, 10, 11, "M0 0L11 5L0 10Z", "#14508c"), ("bold", 18, 16, 18, "M0 0L17 8L0 16Z", "#b01010"),
         ]:
@@ -166,7 +170,7 @@ class Picture:
             height = self.lane_top(n + 1) - top
             text += f"<rect x='90' y='{top}' width='1490' height='{height}' fill='{'#fff' if n % 2 else '#f4f5f7'}'/>"
             text += f"<text x='20' y='{top + height // 2 + 5}'>unit {n}</text>\n"
-        return text + "<rect x='90' y='118' width='1490' height='720' fill='none' stroke='#888'/>\n"
+        return text + f"<rect x='90' y='118' width='1490' height='{self.height}' fill='none' stroke='#888'/>\n"
 
     # ---- bars and marks
 
@@ -236,7 +240,7 @@ class Picture:
         row = self.rows[at]
         used = kind + (LETTERS[row["served"]] if kind in ("load", "store") else "")
         shape, element = {
-            "commit": (f"<path d='M{x} 118V838' fill='none' stroke='#2e7d32' stroke-width='2' stroke-dasharray='6 4'>", "path"),
+            "commit": (f"<path d='M{x} 118V{self.bottom}' fill='none' stroke='#2e7d32' stroke-width='2' stroke-dasharray='6 4'>", "path"),
             "version": (f"<path d='M{right} {down}L{x} {y}' fill='none' stroke='#14508c' stroke-width='2' marker-end='url(#thin)'>", "path"),
             "violation": (f"<path d='M{x} {y}L{right} {down}' fill='none' stroke='#b01010' stroke-width='4' marker-end='url(#bold)'>", "path"),
         }.get(kind, (f"<use href='#{used}' x='{x}' y='{y}'>", "use"))
@@ -326,7 +330,7 @@ class Picture:
             lane = int(self.rows[at]["unit"])
             x = self.column_x(at)
             if kind == "commit":
-                return line(x, TOP, x, BOTTOM)
+                return line(x, TOP, x, self.bottom)
             if kind == "version":
                 return line(self.spot_x(other[1]), self.row_y(other[0], "store"), x, self.row_y(lane, "load"))
             if kind == "violation":
@@ -339,7 +343,8 @@ class Picture:
         long = [t for t in self.chosen_bars() if not self.is_short(t)]
         parts = [self.head(), self.legend(), self.lanes(), *map(self.bar, long), *map(self.stripes, STRIPES)]
         parts += [self.joined_marks(marks, kind) for kind in JOINED]
-        parts += [RIM, *map(self.bar_name, long), "</g>\n", "<text x='835' y='884' text-anchor='middle'>"]
+        parts += [] if self.compact else [RIM, *map(self.bar_name, long), "</g>\n"]
+        parts += [f"<text x='835' y='{self.bottom + 46}' text-anchor='middle'>"]
         parts += ["a mark stands for all of its kind near it; point at it for how many</text>\n"]
         return "".join(parts + [self.axis(), "</svg>\n"])
 
@@ -349,9 +354,11 @@ class Picture:
         for at in range(self.begin, self.end):
             if at % step == 0:
                 x = self.x(at)
-                text += f"<path d='M{x} 838V845' stroke='#111'/><text x='{x}' y='860' text-anchor='middle'>{at}</text>\n"
-        text += "<text x='90' y='884'>in a bar: the number of its task @ the address where that began</text>\n"
-        return text + "<text x='1580' y='884' text-anchor='end'>entry of the trace, counted from 0</text>\n"
+                text += f"<path d='M{x} {self.bottom}V{self.bottom + 7}' stroke='#111'/>"
+                text += f"<text x='{x}' y='{self.bottom + 22}' text-anchor='middle'>{at}</text>\n"
+        if not self.compact:
+            text += f"<text x='90' y='{self.bottom + 46}'>in a bar: the number of its task @ the address where that began</text>\n"
+        return text + f"<text x='1580' y='{self.bottom + 46}' text-anchor='end'>entry of the trace, counted from 0</text>\n"
 
     def text(self):
         marks, bars = self.chosen_marks(), self.chosen_bars()
@@ -360,7 +367,7 @@ class Picture:
         layers = [["commit"], ["version", "violation"], ["load", "store", "output", "replace"]]
         parts = [self.head(), self.legend(), self.lanes(), *map(self.bar, bars)]
         parts += [self.mark(m) for layer in layers for m in marks if m[0] in layer]
-        parts += [RIM, self.all_words(marks), *map(self.bar_name, bars), "</g>\n"]
+        parts += [] if self.compact else [RIM, self.all_words(marks), *map(self.bar_name, bars), "</g>\n"]
         return "".join(parts + [self.axis(), "</svg>\n"])
 
 

@@ -6,7 +6,7 @@ use Rattle.svc_base.specs.declared.config.Config.{Config}
 use Rattle.svc_image.specs.Image.{Image}
 use Rattle.svc_history_laws.specs.declared.entry.Entry.{Entry}
 use Rattle.svc_explore_laws.specs.declared.observation.Observation.{Observation}
-use Rattle.svc_explore_laws.specs.Closed.{IsIn, ShowNothingElse}
+use Rattle.svc_explore_laws.specs.Closed.{ShowNothingElse}
 use Rattle.svc_explore.specs.declared.found.Seen.{Seen}
 use Rattle.svc_observations.specs.declared.sought.Sought.{Sought}
 use Rattle.svc_explore.specs.declared.walk.Exploration.{Exploration}
@@ -14,7 +14,7 @@ use Rattle.svc_explore.specs.Counts.{IsTold, KeepsLimits}
 use Rattle.svc_explore.specs.Found.{AreWitnessed, are_seen}
 use Rattle.svc_observations.specs.Order.{AreInOrder}
 use Rattle.svc_explore.specs.Rows.{exploration_text, finding_text}
-use Rattle.svc_explore.specs.Witnesses.{IsWitness, ShowNoMatch}
+use Rattle.svc_explore.specs.Witnesses.{IsFirstMatch, IsWitness, ShowNoMatch}
 use Rattle.svc_observations.specs.Sought.{Matches}
 use Rattle.svc_names.specs.declared.names.Names.{Names}
 use Rattle.svc_names.specs.declared.rows.Rows.TheVariants as rows
@@ -43,12 +43,13 @@ pub record TellsSchedules (names : Option (Bor Names)) (img : Image) (config : C
 abbrev pub HasWitness : Image → Explored → Observation → (saves : List Entry → Type 0) → Type 0
 HasWitness img explored o saves = (es : List Entry) × IsWitness img explored.config explored.burst o es × saves es
 
--- one of what was found is what is looked for, and has such a witness; or no play shows anything that is
+-- the first of what was found that is looked for has such a witness; or no play shows anything that is looked for
 abbrev pub IsAnswerTo : Image → Explored → Sought → Exploration → (saves : List Entry → Type 0) → Option (Bor Seen)
     → Type 0
 IsAnswerTo img explored sought x saves None = ShowNoMatch img explored.config explored.burst sought
 IsAnswerTo img explored sought x saves (Some seen) =
-    IsIn seen.now x.found.items × Matches sought seen.now.what × HasWitness img explored seen.now.what saves
+    IsFirstMatch sought seen.now x.found.items × Matches sought seen.now.what
+    × HasWitness img explored seen.now.what saves
 
 -- what was found is told with the names that are given, and the exit status says whether anything was
 pub record FindsSight (names : Option (Bor Names)) (img : Image) (explored : Explored) (sought : Sought)

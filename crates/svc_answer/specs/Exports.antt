@@ -7,8 +7,8 @@ use Rattle.svc_core_laws.specs.Turns.{data_words}
 use Rattle.svc_history_laws.specs.declared.entry.Entry.{Entry}
 use Rattle.svc_history_laws.specs.Legal.{LegalHistory}
 use Rattle.svc_export.specs.Export.{export_of}
-use Rattle.svc_held.specs.declared.span.Span.{Span}
-use Rattle.svc_held.specs.Span.{is_asked}
+use Rattle.svc_span.specs.declared.span.Span.{Span}
+use Rattle.svc_span.specs.Span.{is_asked}
 use Rattle.svc_request.specs.declared.request.Exported.{Exported}
 use Rattle.svc_request.specs.Held.{Held}
 

@@ -153,9 +153,8 @@ Does (request.Show traced shown) held saved old new exit =
     IsTracedIn held traced (λ img es. IsNamedIn held shown.names
     (λ names. TellsMachine shown.at shown.extras names img traced.config es old new exit))
 Does (request.Draw traced picture) held saved old new exit =
-    IsTracedIn held traced (λ img es. IsDrawn img traced.config es picture.from picture.count
-    × SavesDrawing saved picture.file.now picture.rows traced.config.units es picture.from picture.count) × (new ≡ old)
-    × (exit ≡ 0)
+    IsTracedIn held traced (λ img es. IsDrawn img traced.config es picture.view
+    × SavesDrawing saved picture traced.config.units es) × (new ≡ old) × (exit ≡ 0)
 Does (request.Export traced exported) held saved old new exit =
     IsTracedIn held traced (λ img es. Exports saved exported img traced.config es) × (new ≡ old) × (exit ≡ 0)
 Does (request.Assemble assembly) held saved old new exit =

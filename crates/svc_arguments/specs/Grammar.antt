@@ -42,7 +42,8 @@ grammar =
     ∷ subcommand "show" (demand "IMAGE" ∷ demand "TRACE" ∷ option "at" ∷ option "detail" ∷ option "moves"
     ∷ option "memory" ∷ option "names" ∷ machine)
     ∷ subcommand "draw" (demand "IMAGE" ∷ demand "TRACE" ∷ demand "FILE.svg" ∷ setting "from" "0"
-    ∷ setting "count" "400" ∷ option "rows" ∷ machine)
+    ∷ option "count" ∷ option "unit" ∷ option "task" ∷ option "word" ∷ option "values" ∷ option "compact"
+    ∷ option "rows" ∷ machine)
     ∷ subcommand "export" (demand "IMAGE" ∷ demand "TRACE" ∷ demand "FILE" ∷ demand "format" ∷ option "words"
     ∷ machine)
     ∷ subcommand "assemble" (demand "FILE" ∷ demand "IMAGE" ∷ option "names" ∷ [])

@@ -6,8 +6,8 @@ use svc_base::limits::MAX_BURST_TURNS;
 /// The greatest number of tasks that may be asked of the plain runner.
 const MAX_TASKS: u32 = 1_000_000;
 
-// An option that takes a number, and may be left out.
-const OPTION: Argument = Argument {
+/// An option that takes a number, and may be left out.
+pub(crate) const OPTION: Argument = Argument {
     name: "",
     takes: Takes::Number(0, u32::MAX),
     value: "N",
@@ -18,8 +18,8 @@ const OPTION: Argument = Argument {
     help: "",
 };
 
-// A file.
-const FILE: Argument = Argument {
+/// A file.
+pub(crate) const FILE: Argument = Argument {
     takes: Takes::File,
     is_required: true,
     ..OPTION
@@ -40,12 +40,6 @@ pub(crate) const EVENTS_FILE: Argument = Argument {
 pub(crate) const TRACE_FILE: Argument = Argument {
     name: "TRACE",
     help: "The trace's file",
-    ..FILE
-};
-
-pub(crate) const PICTURE: Argument = Argument {
-    name: "FILE.svg",
-    help: "The file that the picture is saved in",
     ..FILE
 };
 
@@ -108,13 +102,6 @@ pub(crate) const HEADER: Argument = Argument {
     takes: Takes::Nothing,
     needs: Some("row"),
     help: "Prints the names of the columns before the row",
-    ..OPTION
-};
-
-pub(crate) const ROWS: Argument = Argument {
-    name: "rows",
-    takes: Takes::Nothing,
-    help: "Saves what the picture shows as rows instead",
     ..OPTION
 };
 
@@ -202,21 +189,6 @@ pub(crate) const TO: Argument = Argument {
     name: "to",
     takes: Takes::Index,
     help: "Counts this many of the trace's entries; without it, all",
-    ..OPTION
-};
-
-pub(crate) const FROM: Argument = Argument {
-    name: "from",
-    default: Some("0"),
-    help: "The first entry to show, counted from 0",
-    ..OPTION
-};
-
-pub(crate) const COUNT: Argument = Argument {
-    name: "count",
-    takes: Takes::Number(1, u32::MAX),
-    default: Some("400"),
-    help: "How many entries to show at most: 1 to 4294967295",
     ..OPTION
 };
 

@@ -283,16 +283,22 @@ assignment to its commit or squash; its filling says which. Marks are loads, sto
 cross is a replacement. The letter at a word that was read says who supplied it: H hit, R reuse, V version,
 S spill, C committed, M memory. A thin arrow goes from the store of a version to a read that received it, a bold
 one from a store to the read that came too early, for which it squashed a task. Point at a mark to see its row
-of the trace. Entries after the last one shown may be faulty; for an earlier fault it reports the first one, as
-check does, and saves nothing. Give the options that the trace was made with.
+of the trace. All entries from --from on are shown, or as many as --count says; those after the last one shown
+may be faulty. For an earlier fault it reports the first one, as check does, and saves nothing. Give the options
+that the trace was made with.
+
+--unit, --task and --word choose what is shown: the bars and marks of these units and tasks, and of loads, stores,
+replacements and arrows those of these words. A value stands beside its mark where it has room; --values says that
+all do, or none. With --compact lanes are a third as high, and nothing has words, for an overview.
 
 From 1000 entries on, marks of a kind that stand near one another are drawn as one, and so are short bars of one
-fate; point at it to see how many they are. So a file stays below 500 kB, whatever the trace. Nothing is printed.
+fate; point at it to see how many they are. So a file stays below 500 kB, whatever the trace; such marks have no
+values. Nothing is printed.
 
 With --rows it saves what the picture shows as rows instead: bar,TASK,UNIT,ADDRESS,FIRST,LAST,FATE for each bar,
 mark,ENTRY,UNIT,TASK,KIND,WORD,VALUE,BY for each mark, and arrow,FROM,TO,KIND,WORD for each arrow.
 
-Example: svcsim draw sum.svci sum.csv sum.svg --from 10 --count 20";
+Example: svcsim draw sum.svci sum.csv sum.svg --from 10 --count 20 --word 3";
 
 /// The help of `export`.
 pub(crate) const EXPORT: &str =

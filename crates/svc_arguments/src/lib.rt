@@ -4,4 +4,5 @@
 mod argument;
 mod arguments;
 pub mod command;
+mod drawing;
 mod helps;

@@ -1,15 +1,15 @@
 -- A text has one layout, which its lines make.
-use Rattle.std.proofs.Common.{◌≡◌, ℕ, zero, suc, ◌-◌, ◌<◌, ◌==◌, true, false, inl, inr, refl, List, [], ◌∷◌, length, Option, Some, None, ap, sym, ◌∙◌, subst, arith}
+use Rattle.std.proofs.Common.{◌≡◌, ℕ, zero, suc, ◌-◌, ◌<◌, ◌==◌, Bool, true, false, inl, inr, refl, List, [], ◌∷◌, length, Option, Some, None, ap, sym, ◌∙◌, subst, arith}
 use Rattle.std.proofs.lemmas.Bool.{eqb-true}
 use Rattle.svc_image.specs.Image.{Image}
 use Rattle.svc_draft.specs.declared.statement.Statement.{Statement}
-use Rattle.svc_draft.specs.Layouts.{Layout, after, first_pass, next_round, last_round, second_pass, IsMadeOf}
+use Rattle.svc_draft.specs.Layouts.{Layout, after, first_pass, once_more, next_round, last_round, second_pass, measuring_pass, laying_pass, IsMadeOf}
 use Rattle.svc_operands.specs.Characters.{name_at}
-use Rattle.svc_asm.specs.DataLines.{next_at}
-use Rattle.svc_asm.specs.declared.rounds.TheConstants.{MOST_ROUNDS}
+use Rattle.svc_asm_lines.specs.DataLines.{next_at}
+use Rattle.svc_asm.specs.declared.rounds.TheConstants.{MOST_PASSES, MOST_ROUNDS}
 use Rattle.svc_asm.specs.Labels.{Gives}
 use Rattle.svc_asm.specs.Passes.{Takes, Makes}
-use Rattle.svc_asm.specs.Programs.{IsRound, Settles, IsLaid, IsProgramOf}
+use Rattle.svc_asm.specs.Programs.{IsPass, Lacks, Finds, Begins, IsRound, Settles, IsLaid, IsProgramOf}
 
 -- what is read and laid is one
 same_read : (d : Layout) (text : List ℕ) (s t : Statement) (rest tail : List ℕ) → next_at d text ≡ Some (s, rest) → next_at d text ≡ Some (t, tail) → (s ≡ t) × (rest ≡ tail)
@@ -59,21 +59,56 @@ pub makes_of : (ss : List Statement) (text : List ℕ) (d made : Layout) (labels
 makes_of [] text d made labels h = (h.0, h.1)
 makes_of (s ∷ ss) text d made labels h = (h.0, h.1, h.3, makes_of ss h.0 h.1 made h.2 h.5)
 
+-- a pass from one beginning ends in one way
+pub one_pass : (text : List ℕ) (begun a b : Layout) → IsPass text begun a → IsPass text begun b → a ≡ b
+one_pass text begun a b h k = one_made h.0 k.0 text begun a b h.1 k.1
+
+not_both : (a b : Bool) → a ≡ b → a ≡ true → b ≡ false → ⊥
+not_both a b same one other = let wrong : true ≡ false = sym one ∙ same ∙ other in cc
+
+-- the names that a text needs are found in one way
+lacks_not : (text : List ℕ) (begun a b : Layout) → Lacks text begun a → IsPass text begun b → b.lacks_names ≡ false → ⊥
+lacks_not text begun a b h k whole = not_both a.lacks_names b.lacks_names (ap (λ (x : Layout). x.lacks_names) (one_pass text begun a b h.is k)) h.lacks whole
+
+pub one_found : (n : ℕ) (text : List ℕ) (begun a b : Layout) → Finds n text begun a → Finds n text begun b → a ≡ b
+one_found zero text begun a b h k = one_pass text begun a b h k
+one_found (suc n) text begun a b (inl h) (inl k) = one_pass text begun a b h.0 k.0
+one_found (suc n) text begun a b (inl h) (inr k) = absurd (lacks_not text begun k.0 a k.1 h.0 h.1)
+one_found (suc n) text begun a b (inr h) (inl k) = absurd (lacks_not text begun h.0 b h.1 k.0 k.1)
+one_found (suc n) text begun a b (inr h) (inr k) =
+    let same : h.0 ≡ k.0 = one_pass text begun h.0 k.0 h.1.is k.1.is in
+    one_found n text (once_more k.0) a b (subst (λ (d : Layout). Finds n text (once_more d) a) same h.2) k.2
+
+-- the pass that lays a text begins in one way
+pub one_begun : (has : Bool) (text : List ℕ) (first a b : Layout) → Begins has text first a → Begins has text first b → a ≡ b
+one_begun false text first a b h k = h ∙ sym k
+one_begun true text first a b h k =
+    h.2 ∙ ap (λ (d : Layout). laying_pass d) (one_pass text (measuring_pass first) h.0 k.0 h.1 k.1) ∙ sym k.2
+
+one_begun_at : (text : List ℕ) (first other a b : Layout) → first ≡ other → Begins first.has_distances text first a → Begins other.has_distances text other b → a ≡ b
+one_begun_at text first other a b same h k = one_begun other.has_distances text other a b (subst (λ (d : Layout). Begins d.has_distances text d a) same h) k
+
+-- where distances aren't measured, no pass begins that lays the text
+pub not_measured : (has : Bool) (text : List ℕ) (first made : Layout) → has ≡ true → ((d : Layout) → IsPass text (measuring_pass first) d → ⊥) → Begins has text first made → ⊥
+not_measured false text first made is none h = cc
+not_measured true text first made is none h = none h.0 h.1
+
 -- a round from one beginning ends in one way
 pub one_round : (text : List ℕ) (begun a b : Layout) (ls ms : List (List ℕ × ℕ)) → IsRound text begun a ls → IsRound text begun b ms → a ≡ b
 one_round text begun a b ls ms h k =
-    let same : h.first ≡ k.first = one_made h.first_lines k.first_lines text begun h.first k.first h.finds k.finds in
-    let makes = makes_of h.lines text (second_pass h.first) a ls h.gives in
-    one_made h.lines k.lines text (second_pass k.first) a b (subst (λ (d : Layout). Makes h.lines text (second_pass d) a) same makes) (makes_of k.lines text (second_pass k.first) b ms k.gives)
+    let first : h.first ≡ k.first = one_found MOST_PASSES text begun h.first k.first h.finds k.finds in
+    let laid : h.laid ≡ k.laid = one_begun_at text h.first k.first h.laid k.laid first h.begins k.begins in
+    let makes = makes_of h.lines text h.laid a ls h.gives in
+    one_made h.lines k.lines text k.laid a b (subst (λ (d : Layout). Makes h.lines text d a) laid makes) (makes_of k.lines text k.laid b ms k.gives)
 
-not_both : (d e : Layout) → d ≡ e → d.grew ≡ true → e.grew ≡ false → ⊥
-not_both d e same grows settled = let wrong : true ≡ false = sym grows ∙ ap (λ (x : Layout). x.grew) same ∙ settled in cc
+not_settled : (d e : Layout) → d ≡ e → d.grew ≡ true → e.grew ≡ false → ⊥
+not_settled d e same grows settled = not_both d.grew e.grew (ap (λ (x : Layout). x.grew) same) grows settled
 
 pub one_settled : (n : ℕ) (text : List ℕ) (begun a b : Layout) (ls ms : List (List ℕ × ℕ)) → Settles n text begun a ls → Settles n text begun b ms → a ≡ b
 one_settled zero text begun a b ls ms h k = one_round text last_round a b ls ms h k
 one_settled (suc n) text begun a b ls ms (inl h) (inl k) = one_round text begun a b ls ms h.0 k.0
-one_settled (suc n) text begun a b ls ms (inl h) (inr k) = absurd (not_both k.0 a (one_round text begun k.0 a k.1.labels ls k.1.is h.0) k.1.grew h.1)
-one_settled (suc n) text begun a b ls ms (inr h) (inl k) = absurd (not_both h.0 b (one_round text begun h.0 b h.1.labels ms h.1.is k.0) h.1.grew k.1)
+one_settled (suc n) text begun a b ls ms (inl h) (inr k) = absurd (not_settled k.0 a (one_round text begun k.0 a k.1.labels ls k.1.is h.0) k.1.grew h.1)
+one_settled (suc n) text begun a b ls ms (inr h) (inl k) = absurd (not_settled h.0 b (one_round text begun h.0 b h.1.labels ms h.1.is k.0) h.1.grew k.1)
 one_settled (suc n) text begun a b ls ms (inr h) (inr k) =
     let same : h.0 ≡ k.0 = one_round text begun h.0 k.0 h.1.labels k.1.labels h.1.is k.1.is in
     one_settled n text (next_round k.0) a b ls ms (subst (λ (d : Layout). Settles n text (next_round d) a ls) same h.2) k.2
@@ -82,30 +117,54 @@ one_settled (suc n) text begun a b ls ms (inr h) (inr k) =
 pub one_laid : (text : List ℕ) (a b : Layout) → IsLaid text a → IsLaid text b → a ≡ b
 one_laid text a b h k = one_settled MOST_ROUNDS text first_pass a b h.labels k.labels h.settles k.settles
 
--- two passes that go through are a round
-pub round_by : (text : List ℕ) (ss ts : List Statement) (a b c d : Layout) (labels : List (List ℕ × ℕ))
-    → Makes ss text a b → c ≡ second_pass b → Gives ts text c d labels → IsRound text a d labels
-round_by text ss ts a b c d labels finds f gives = record {
-  first_lines = ss;
-  first = b;
-  finds = finds;
-  lines = ts;
-  gives = subst (λ (x : Layout). Gives ts text x d labels) f gives;
-}
+-- the passes that go through are a round
+pub round_by : (text : List ℕ) (ts : List Statement) (a first laid d : Layout) (labels : List (List ℕ × ℕ))
+    → Finds MOST_PASSES text a first → Begins first.has_distances text first laid → Gives ts text laid d labels → IsRound text a d labels
+round_by text ts a first laid d labels finds begins gives = record { first = first; finds = finds; laid = laid; begins = begins; lines = ts; gives = gives }
 
--- a first pass that doesn't go through, and a second one
-pub not_found : (text : List ℕ) (a made : Layout) (labels : List (List ℕ × ℕ)) → ((ss : List Statement) (made : Layout) → Makes ss text a made → ⊥) → IsRound text a made labels → ⊥
-not_found text a made labels none is = none is.first_lines is.first is.finds
+-- names that aren't found, a pass that doesn't begin, and one that doesn't go through
+pub not_found : (text : List ℕ) (a made : Layout) (labels : List (List ℕ × ℕ)) → ((first : Layout) → Finds MOST_PASSES text a first → ⊥) → IsRound text a made labels → ⊥
+not_found text a made labels none is = none is.first is.finds
 
-pub not_laid : (text : List ℕ) (ss : List Statement) (a b c made : Layout) (labels : List (List ℕ × ℕ)) → Makes ss text a b → c ≡ second_pass b
-    → ((ts : List Statement) (made : Layout) (given : List (List ℕ × ℕ)) → Gives ts text c made given → ⊥) → IsRound text a made labels → ⊥
-not_laid text ss a b c made labels finds f none is =
-    let same : is.first ≡ b = one_made is.first_lines ss text a is.first b is.finds finds in
-    let names : second_pass is.first ≡ second_pass b = ap (λ (x : Layout). second_pass x) same in
-    none is.lines made labels (subst (λ (x : Layout). Gives is.lines text x made labels) (names ∙ sym f) is.gives)
+pub not_begun : (text : List ℕ) (a first made : Layout) (labels : List (List ℕ × ℕ)) → Finds MOST_PASSES text a first
+    → ((laid : Layout) → Begins first.has_distances text first laid → ⊥) → IsRound text a made labels → ⊥
+not_begun text a first made labels finds none is =
+    let same : is.first ≡ first = one_found MOST_PASSES text a is.first first is.finds finds in
+    none is.laid (subst (λ (d : Layout). Begins d.has_distances text d is.laid) same is.begins)
+
+pub not_laid : (text : List ℕ) (a first laid made : Layout) (labels : List (List ℕ × ℕ)) → Finds MOST_PASSES text a first → Begins first.has_distances text first laid
+    → ((ts : List Statement) (made : Layout) (given : List (List ℕ × ℕ)) → Gives ts text laid made given → ⊥) → IsRound text a made labels → ⊥
+not_laid text a first laid made labels finds begins none is =
+    let same : is.first ≡ first = one_found MOST_PASSES text a is.first first is.finds finds in
+    let laid_same : is.laid ≡ laid = one_begun_at text is.first first is.laid laid same is.begins begins in
+    none is.lines made labels (subst (λ (x : Layout). Gives is.lines text x made labels) laid_same is.gives)
 
 one_less : (n : ℕ) → suc n - 1 ≡ n
 one_less n = omega arith
+
+-- the first of some passes finds the names, and where it lacks some, those behind it have to
+pub first_finds : (n : ℕ) (text : List ℕ) (begun made : Layout) → IsPass text begun made → (n ≡ 0 → ⊥) → made.lacks_names ≡ false → Finds n text begun made
+first_finds zero text begun made is some whole = is
+first_finds (suc n) text begun made is some whole = inl (is, whole)
+
+pub next_finds : (n : ℕ) (text : List ℕ) (begun pass made : Layout) → (n ≡ 0 → ⊥) → IsPass text begun pass → pass.lacks_names ≡ true → Finds (n - 1) text (once_more pass) made → Finds n text begun made
+next_finds zero text begun pass made some is lacks h = absurd (some refl)
+next_finds (suc n) text begun pass made some is lacks h = inr (pass, record { is = is; lacks = lacks }, subst (λ (k : ℕ). Finds k text (once_more pass) made) (one_less n) h)
+
+-- where the first doesn't go through, none do
+pub no_pass : (n : ℕ) (text : List ℕ) (begun made : Layout) → ((d : Layout) → IsPass text begun d → ⊥) → Finds n text begun made → ⊥
+no_pass zero text begun made none h = none made h
+no_pass (suc n) text begun made none (inl h) = none made h.0
+no_pass (suc n) text begun made none (inr h) = none h.0 h.1.is
+
+pub none_finds : (n : ℕ) (text : List ℕ) (begun pass made : Layout) → (n ≡ 0 → ⊥) → IsPass text begun pass → pass.lacks_names ≡ true
+    → ((d : Layout) → Finds (n - 1) text (once_more pass) d → ⊥) → Finds n text begun made → ⊥
+none_finds zero text begun pass made some is lacks none h = absurd (some refl)
+none_finds (suc n) text begun pass made some is lacks none (inl h) = lacks_not text begun pass made (record { is = is; lacks = lacks }) h.0 h.1
+none_finds (suc n) text begun pass made some is lacks none (inr h) =
+    let same : h.0 ≡ pass = one_pass text begun h.0 pass h.1.is is in
+    let rest : Finds n text (once_more pass) made = subst (λ (d : Layout). Finds n text (once_more d) made) same h.2 in
+    none made (subst (λ (k : ℕ). Finds k text (once_more pass) made) (sym (one_less n)) rest)
 
 -- the first of some rounds settles a text, and where it grows, those behind it have to
 pub first_settles : (n : ℕ) (text : List ℕ) (begun made : Layout) (labels : List (List ℕ × ℕ)) → (n ≡ 0 → ⊥) → IsRound text begun made labels → made.grew ≡ false → Settles n text begun made labels
@@ -127,7 +186,7 @@ no_round (suc n) text begun made labels some none (inr h) = none h.0 h.1.labels 
 pub none_settles : (n : ℕ) (text : List ℕ) (begun round made : Layout) (found labels : List (List ℕ × ℕ)) → (n ≡ 0 → ⊥) → IsRound text begun round found → round.grew ≡ true
     → ((d : Layout) (ls : List (List ℕ × ℕ)) → Settles (n - 1) text (next_round round) d ls → ⊥) → Settles n text begun made labels → ⊥
 none_settles zero text begun round made found labels some is grew none h = absurd (some refl)
-none_settles (suc n) text begun round made found labels some is grew none (inl h) = not_both round made (one_round text begun round made found labels is h.0) grew h.1
+none_settles (suc n) text begun round made found labels some is grew none (inl h) = not_settled round made (one_round text begun round made found labels is h.0) grew h.1
 none_settles (suc n) text begun round made found labels some is grew none (inr h) =
     let same : h.0 ≡ round = one_round text begun h.0 round h.1.labels found h.1.is is in
     let rest : Settles n text (next_round round) made labels = subst (λ (d : Layout). Settles n text (next_round d) made labels) same h.2 in

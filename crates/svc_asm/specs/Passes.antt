@@ -3,7 +3,7 @@ use Rattle.std.specs.Prelude.{◌≡◌, ℕ, ◌<◌, List, [], ◌∷◌, leng
 use Rattle.svc_draft.specs.declared.statement.Statement.{Statement}
 use Rattle.svc_draft.specs.Layouts.{Layout, after}
 use Rattle.svc_operands.specs.Characters.{name_at}
-use Rattle.svc_asm.specs.DataLines.{next_at}
+use Rattle.svc_asm_lines.specs.DataLines.{next_at}
 
 -- the first line of a text is read, leaves less of it, and changes the layout so
 pub record Takes (text : List ℕ) (old : Layout) (said : Statement) (rest : List ℕ) (new : Layout) : Type 0 where

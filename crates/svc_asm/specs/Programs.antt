@@ -1,19 +1,46 @@
 -- What a whole text says, and the image that it makes.
-use Rattle.std.specs.Prelude.{◌≡◌, ◌⊎◌, ℕ, zero, suc, true, false, List}
+use Rattle.std.specs.Prelude.{◌≡◌, ◌⊎◌, ℕ, zero, suc, Bool, true, false, List}
 use Rattle.svc_image.specs.Image.{Image}
 use Rattle.svc_draft.specs.declared.statement.Statement.{Statement}
-use Rattle.svc_draft.specs.Layouts.{Layout, first_pass, next_round, last_round, second_pass, IsMadeOf}
-use Rattle.svc_asm.specs.declared.rounds.TheConstants.{MOST_ROUNDS}
+use Rattle.svc_draft.specs.Layouts.{Layout, first_pass, once_more, next_round, last_round, second_pass}
+use Rattle.svc_draft.specs.Layouts.{measuring_pass, laying_pass, IsMadeOf}
+use Rattle.svc_asm.specs.declared.rounds.TheConstants.{MOST_PASSES, MOST_ROUNDS}
 use Rattle.svc_asm.specs.Passes.{Makes}
 use Rattle.svc_asm.specs.Labels.{Gives}
 
--- a round reads a text twice: its first pass finds the labels, and its second one lays the text under their names, and gives these labels
+-- a pass over a text
+abbrev pub IsPass : List ℕ → (begun ended : Layout) → Type 0
+IsPass text begun ended = (lines : List Statement) × Makes lines text begun ended
+
+-- a first pass sets a name to what isn't known yet
+pub record Lacks (text : List ℕ) (begun ended : Layout) : Type 0 where
+  pub is : IsPass text begun ended
+  pub lacks : ended.lacks_names ≡ true
+
+-- a first pass finds the names; where it sets some to what isn't known yet, it is made once more with the names that it
+-- found, so often at most
+abbrev pub Finds : ℕ → List ℕ → (begun first : Layout) → Type 0
+Finds zero text begun first = IsPass text begun first
+Finds (suc n) text begun first =
+    (IsPass text begun first × (first.lacks_names ≡ false))
+    ⊎ ((pass : Layout) × Lacks text begun pass × Finds n text (once_more pass) first)
+
+-- how the pass begins that lays the text: behind the first one, or, where there are distances, behind one that measures
+-- these
+abbrev pub Begins : Bool → List ℕ → (first begun : Layout) → Type 0
+Begins false text first begun = begun ≡ second_pass first
+Begins true text first begun =
+    (measured : Layout) × IsPass text (measuring_pass first) measured × (begun ≡ laying_pass measured)
+
+-- a round reads a text at least twice: its first pass finds the names, and its last one lays the text under them, and
+-- gives these labels
 pub record IsRound (text : List ℕ) (begun ended : Layout) (labels : List (List ℕ × ℕ)) : Type 0 where
-  pub first_lines : List Statement
   pub first : Layout
-  pub finds : Makes first_lines text begun first
+  pub finds : Finds MOST_PASSES text begun first
+  pub laid : Layout
+  pub begins : Begins first.has_distances text first laid
   pub lines : List Statement
-  pub gives : Gives lines text (second_pass first) ended labels
+  pub gives : Gives lines text laid ended labels
 
 -- a round finds branches that don't reach their targets, and the next one has them turned
 pub record Grows (text : List ℕ) (begun ended : Layout) : Type 0 where
@@ -21,7 +48,8 @@ pub record Grows (text : List ℕ) (begun ended : Layout) : Type 0 where
   pub is : IsRound text begun ended labels
   pub grew : ended.grew ≡ true
 
--- a text is laid by a round in which each branch reaches its target; behind so many that don't, by one in which every branch is turned
+-- a text is laid by a round in which each branch reaches its target; behind so many that don't, by one in which every
+-- branch is turned
 abbrev pub Settles : ℕ → List ℕ → (begun ended : Layout) → List (List ℕ × ℕ) → Type 0
 Settles zero text begun ended labels = IsRound text last_round ended labels
 Settles (suc n) text begun ended labels =

@@ -13,9 +13,9 @@ ghost use Rattle.svc_asm.specs.Passes.{Takes};
 ghost use Rattle.svc_asm.specs.Programs.{IsProgramOf};
 
 use crate::found::{Found, found_in};
-use crate::parts::read_next;
 use crate::rounds::lay;
 use std::alloc::Global;
+use svc_asm_lines::read_next;
 use svc_draft::{Draft, Next, Refusal, Statement};
 use svc_image::Image;
 use svc_operands::{Unread, Wanted, skip_spaces, split_name, stopped_at};

@@ -97,7 +97,8 @@ pub(crate) fn take_labelled_lines<'a>(
     requires { labels.old.items ≡ [] }
     ensures ok { IfOk result (λ _. (ss : List Statement)
         × Gives ss text.now (layout_of draft.old) (layout_of draft.new) (map parts_of labels.new.items)) }
-    ensures err { IfErr result (λ e. (e ≡ halt.Memory) ⊎ ((ss : List Statement) (made : Layout) (given : List (List ℕ × ℕ))
+    ensures err { IfErr result (λ e. (e ≡ halt.Memory)
+        ⊎ ((ss : List Statement) (made : Layout) (given : List (List ℕ × ℕ))
         → Gives ss text.now (layout_of draft.old) made given → ⊥)) }
 {
     let mut rest = text;

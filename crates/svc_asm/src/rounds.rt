@@ -1,4 +1,4 @@
-// Rounds: each reads a text twice, and turns the branches that the one before found too far from their targets.
+// Rounds: each reads a text twice or more, and turns the branches that the one before found too far from their targets.
 
 ghost use Rattle.std.specs.Prelude.{◌≡◌, ◌⊎◌, ℕ, List, IfErr, IfOk, map};
 ghost use Rattle.svc_draft.specs.declared.statement.Statement.{Statement};
@@ -6,7 +6,7 @@ ghost use Rattle.svc_draft.specs.Layouts.{Layout, layout_of, first_pass};
 ghost use Rattle.svc_asm.specs.declared.assembling.Stop.TheVariants as halt;
 ghost use Rattle.svc_asm.specs.Labels.{parts_of};
 ghost use Rattle.svc_asm.specs.Passes.{Makes};
-ghost use Rattle.svc_asm.specs.Programs.{IsRound, Settles};
+ghost use Rattle.svc_asm.specs.Programs.{Begins, Finds, IsPass, IsRound, Settles};
 
 use crate::assembling::{Stop, take_line};
 use crate::labels::{Label, take_labelled_lines};
@@ -17,12 +17,14 @@ use svc_draft::Draft;
 /// it, which may bring others too far, but few rounds ever do.
 pub const MOST_ROUNDS: usize = 16;
 
+/// How often a first pass is made once more at most: so many names, each set to the next one further down, are found.
+pub const MOST_PASSES: usize = 8;
+
 // Adds what every line says.
 fn take_lines<'a>(text: &'a [u8], draft: &mut Draft<'a>) -> Result<(), Stop>
-    ensures ok { IfOk result (λ _.
-        (ss : List Statement) × Makes ss text.now (layout_of draft.old) (layout_of draft.new)) }
+    ensures ok { IfOk result (λ _. IsPass text.now (layout_of draft.old) (layout_of draft.new)) }
     ensures err { IfErr result (λ e. (e ≡ halt.Memory)
-        ⊎ ((ss : List Statement) (made : Layout) → Makes ss text.now (layout_of draft.old) made → ⊥)) }
+        ⊎ ((made : Layout) → IsPass text.now (layout_of draft.old) made → ⊥)) }
 {
     let mut rest = text;
     while !rest.is_empty() {
@@ -30,6 +32,45 @@ fn take_lines<'a>(text: &'a [u8], draft: &mut Draft<'a>) -> Result<(), Stop>
         rest = behind;
     }
     Ok(())
+}
+
+// A first pass that finds the names, which is made once more so often at most.
+fn find<'a>(
+    alloc: Global,
+    text: &'a [u8],
+    passes: usize,
+    begun: Draft<'a>,
+) -> Result<Draft<'a>, Stop>
+    ensures ok { IfOk result (λ first. Finds passes text.now (layout_of begun.entry) (layout_of first)) }
+    ensures err { IfErr result (λ e. (e ≡ halt.Memory)
+        ⊎ ((made : Layout) → Finds passes text.now (layout_of begun.entry) made → ⊥)) }
+{
+    let mut pass = begun;
+    take_lines(text, &mut pass)?;
+    if passes == 0 {
+        return Ok(pass);
+    }
+    if !pass.lacks_names() {
+        return Ok(pass);
+    }
+    let more = pass.once_more(alloc);
+    let first = find(alloc, text, passes - 1, more)?;
+    Ok(first)
+}
+
+// How the pass begins that lays the text, behind the first one.
+fn begin<'a>(alloc: Global, text: &'a [u8], first: Draft<'a>) -> Result<Draft<'a>, Stop>
+    ensures ok { IfOk result (λ laid.
+        Begins (layout_of first.entry).has_distances text.now (layout_of first.entry) (layout_of laid)) }
+    ensures err { IfErr result (λ e. (e ≡ halt.Memory) ⊎ ((made : Layout)
+        → Begins (layout_of first.entry).has_distances text.now (layout_of first.entry) made → ⊥)) }
+{
+    if !first.has_distances() {
+        return Ok(first.again(alloc));
+    }
+    let mut measuring = first.to_measure(alloc);
+    take_lines(text, &mut measuring)?;
+    Ok(measuring.to_lay(alloc))
 }
 
 // One round, from how its first pass begins. Beside how it ends, how many bytes are left from the value of the last
@@ -45,9 +86,8 @@ fn lay_round<'a>(
     ensures err { IfErr result (λ e. (e ≡ halt.Memory) ⊎ ((made : Layout) (given : List (List ℕ × ℕ))
         → IsRound text.now (layout_of begun.entry) made given → ⊥)) }
 {
-    let mut first = begun;
-    take_lines(text, &mut first)?;
-    let mut draft = first.again(alloc);
+    let first = find(alloc, text, MOST_PASSES, begun)?;
+    let mut draft = begin(alloc, text, first)?;
     labels.clear();
     let start = take_labelled_lines(text, &mut draft, labels)?;
     Ok((draft, start))
@@ -78,7 +118,8 @@ fn settle<'a>(
     Ok((settled, start))
 }
 
-/// What the lines of a text make, and its labels, in the order of their lines. Beside that, how many bytes are left from
+/// What the lines of a text make, and its labels, in the order of their lines. Beside that, how many bytes are left
+/// from
 /// the value of the last `.svc_start` on.
 pub(crate) fn lay<'a>(
     alloc: Global,

@@ -23,3 +23,4 @@ pub mod Overtaking
 pub mod Writing
 pub mod Planning
 pub mod Hitting
+mod Copying

@@ -40,30 +40,30 @@ module _ (lines : UnitLines) (count : ℕ) (list : ListValue) (units : List ℕ)
       let bits = and_parts (seen_line (held_at list.committed k).line).bits.valid (seen_line (held_at list.committed k).line).bits.commit only.committed in
       record { within = only.within; held = only.held; valid = bits.0; commits = bits.1 }
 
-  -- an entry is of the unit of its task
-  record IsEntry (place : ℕ) (version : HeldLine) : Type 0 where
+  -- a slot is of the unit of its task
+  record IsSlot (place : ℕ) (version : HeldLine) : Type 0 where
     unit_is : version.unit.0 ≡ get_or units place 0
     line : IsLine false version
 
   sizes : length list.active ≡ length units
   sizes = sym (length-map list.active (option_map seen_held_line)) ∙ ap length shows ∙ length-map units (λ u. active_line u (lines u))
 
-  of_active : (place : ℕ) (version : HeldLine) → place < length units → slot_at list.active place ≡ Some version → IsEntry place version
+  of_active : (place : ℕ) (version : HeldLine) → place < length units → slot_at list.active place ≡ Some version → IsSlot place version
   of_active place version within is = go (lines (get_or units place 0)) refl
     where
-      entry_is : Some (seen_held_line version) ≡ active_line (get_or units place 0) (lines (get_or units place 0))
-      entry_is =
+      slot_is : Some (seen_held_line version) ≡ active_line (get_or units place 0) (lines (get_or units place 0))
+      slot_is =
           ap (option_map seen_held_line) (sym is)
           ∙ sym (get_or-map (option_map seen_held_line) list.active place None None (omega (arith, within, sizes)))
-          ∙ ap (λ (entries : List (Option SeenHeldLine)). get_or entries place None) shows
+          ∙ ap (λ (slots : List (Option SeenHeldLine)). get_or slots place None) shows
           ∙ get_or-map (λ u. active_line u (lines u)) units place 0 None within
 
-      go : (line : Option SeenLine) → lines (get_or units place 0) ≡ line → IsEntry place version
-      go None none = let e = entry_is ∙ ap (active_line (get_or units place 0)) none in cc
+      go : (line : Option SeenLine) → lines (get_or units place 0) ≡ line → IsSlot place version
+      go None none = let e = slot_is ∙ ap (active_line (get_or units place 0)) none in cc
       go (Some l) held = elim (cases_Bool (is_active l.bits)) [
-        | inr idle ↦ let e : Some (seen_held_line version) ≡ None = entry_is ∙ ap (active_line (get_or units place 0)) held ∙ rw idle refl in cc
+        | inr idle ↦ let e : Some (seen_held_line version) ≡ None = slot_is ∙ ap (active_line (get_or units place 0)) held ∙ rw idle refl in cc
         | inl active ↦
-            let same : seen_held_line version ≡ record { unit = get_or units place 0; line = l } = some_is (entry_is ∙ ap (active_line (get_or units place 0)) held ∙ rw active refl) in
+            let same : seen_held_line version ≡ record { unit = get_or units place 0; line = l } = some_is (slot_is ∙ ap (active_line (get_or units place 0)) held ∙ rw active refl) in
             let unit : version.unit.0 ≡ get_or units place 0 = ap (λ (v : SeenHeldLine). v.unit) same in
             let bits = and_parts l.bits.valid (not l.bits.commit) active in
             let shown : seen_line version.line ≡ l = ap (λ (v : SeenHeldLine). v.line) same in
@@ -120,7 +120,7 @@ module _ (lines : UnitLines) (count : ℕ) (list : ListValue) (units : List ℕ)
         absurd (omega (arith, less, e)))
 
     -- a line of an earlier task that was listed is one of the active versions
-    is_passed : (entry : Option HeldLine) (version : HeldLine) → unmarked_line entry ≡ Some version → entry ≡ Some version
+    is_passed : (slot : Option HeldLine) (version : HeldLine) → unmarked_line slot ≡ Some version → slot ≡ Some version
     is_passed None version e = cc
     is_passed (Some own) version e = go (bits_of own.line.bits).stale e
       where
@@ -128,21 +128,21 @@ module _ (lines : UnitLines) (count : ℕ) (list : ListValue) (units : List ℕ)
         go true e = cc
         go false e = e
 
-    earlier_entry : (q : ℕ) (version : HeldLine) → q < length (take place list.active) → unmarked_line (get_or (take place list.active) q None) ≡ Some version → IsEntry q version
-    earlier_entry q version within is =
+    earlier_slot : (q : ℕ) (version : HeldLine) → q < length (take place list.active) → unmarked_line (get_or (take place list.active) q None) ≡ Some version → IsSlot q version
+    earlier_slot q version within is =
         let short : length (take place list.active) ≡ place = length-take-le place list.active (omega (arith, below, sizes)) in
         of_active q version (omega (arith, within, short, below)) (sym (get_or-take place list.active q None (omega (arith, within, short))) ∙ is_passed (get_or (take place list.active) q None) version is)
 
     passed_line : (k : ℕ) → k < length passed → IsLine false (held_at passed k)
     passed_line k within =
         let from = kept_from unmarked_line None (take place list.active) k within in
-        (earlier_entry from.place (held_at passed k) from.within from.is).line
+        (earlier_slot from.place (held_at passed k) from.within from.is).line
 
     passed_apart : (i j : ℕ) → i < j → j < length passed → unit_at passed i ≢ unit_at passed j
     passed_apart = kept_apart unmarked_line None (take place list.active) (λ i j v w less within one two same.
         let short : length (take place list.active) ≡ place = length-take-le place list.active (omega (arith, below, sizes)) in
-        let first = earlier_entry i v (omega (arith, less, within)) one in
-        let second = earlier_entry j w within two in
+        let first = earlier_slot i v (omega (arith, less, within)) one in
+        let second = earlier_slot j w within two in
         let e = distinct i j (omega (arith, less, within, short, below)) (omega (arith, within, short, below)) (sym first.unit_is ∙ same ∙ second.unit_is) in
         absurd (omega (arith, less, e)))
 
@@ -174,23 +174,23 @@ module _ (lines : UnitLines) (count : ℕ) (list : ListValue) (units : List ℕ)
             go true s e = e
             go false s e = refl
 
-    entry_changed : (q : ℕ) (version : HeldLine) → q < place → IsEntry q version → IsChanged version
-    entry_changed q version low entry = record {
-      within = entry.line.within;
-      held = entry.line.held;
-      valid = entry.line.valid;
-      other = λ e. let same = distinct q place (omega (arith, low, inside)) inside (sym entry.unit_is ∙ e ∙ sym at) in absurd (omega (arith, same, low));
-      kept = ap (λ c. c && (seen_line version.line).bits.store) entry.line.commits;
+    slot_changed : (q : ℕ) (version : HeldLine) → q < place → IsSlot q version → IsChanged version
+    slot_changed q version low slot = record {
+      within = slot.line.within;
+      held = slot.line.held;
+      valid = slot.line.valid;
+      other = λ e. let same = distinct q place (omega (arith, low, inside)) inside (sym slot.unit_is ∙ e ∙ sym at) in absurd (omega (arith, same, low));
+      kept = ap (λ c. c && (seen_line version.line).bits.store) slot.line.commits;
     }
 
     -- where an earlier task's line comes from, and that it has no T
     record IsPassed (version : HeldLine) : Type 0 where
       place_of : ℕ
       low : place_of < place
-      entry : IsEntry place_of version
+      slot : IsSlot place_of version
       fresh : (bits_of version.line.bits).stale ≡ false
 
-    fresh_of : (entry : Option HeldLine) (version : HeldLine) → unmarked_line entry ≡ Some version → (bits_of version.line.bits).stale ≡ false
+    fresh_of : (slot : Option HeldLine) (version : HeldLine) → unmarked_line slot ≡ Some version → (bits_of version.line.bits).stale ≡ false
     fresh_of None version e = cc
     fresh_of (Some own) version e = go (bits_of own.line.bits).stale refl e
       where
@@ -206,7 +206,7 @@ module _ (lines : UnitLines) (count : ℕ) (list : ListValue) (units : List ℕ)
         record {
           place_of = from.place;
           low = omega (arith, low, short);
-          entry = earlier_entry from.place (held_at passed k) from.within from.is;
+          slot = earlier_slot from.place (held_at passed k) from.within from.is;
           fresh = fresh_of (get_or (take place list.active) from.place None) (held_at passed k) from.is;
         }
 
@@ -224,14 +224,14 @@ module _ (lines : UnitLines) (count : ℕ) (list : ListValue) (units : List ℕ)
     record IsPrevious (version : HeldLine) : Type 0 where
       place_of : ℕ
       low : place_of < place
-      entry : IsEntry place_of version
+      slot : IsSlot place_of version
       stale : (bits_of version.line.bits).stale ≡ true
 
     one_at_most : (x : Bool) (v : HeldLine) → length (cond x (v ∷ []) []) ≤ 1
     one_at_most true v = omega arith
     one_at_most false v = omega arith
 
-    few_of : (entry : Option HeldLine) → length (relinked_in entry) ≤ 1
+    few_of : (slot : Option HeldLine) → length (relinked_in slot) ≤ 1
     few_of None = omega arith
     few_of (Some v) = one_at_most (bits_of v.line.bits).stale v
 
@@ -244,13 +244,13 @@ module _ (lines : UnitLines) (count : ℕ) (list : ListValue) (units : List ℕ)
     empty_of None j e h = omega (arith, h)
     empty_of (Some v) j e h = cc
 
-    previous_of : (q : ℕ) → q < place → (entry : Option HeldLine) → slot_at list.active q ≡ entry → nearest_version_in list.active place ≡ slot_at list.active q → (j : ℕ) → j < length linked → IsPrevious (held_at linked j)
+    previous_of : (q : ℕ) → q < place → (slot : Option HeldLine) → slot_at list.active q ≡ slot → nearest_version_in list.active place ≡ slot_at list.active q → (j : ℕ) → j < length linked → IsPrevious (held_at linked j)
     previous_of q low None is near j h = absurd (empty_of (nearest_version_in list.active place) j (near ∙ is) h)
     previous_of q low (Some v) is near j h =
         let all : linked ≡ relinked_in (Some v) = ap relinked_in (near ∙ is) in
         let one = lone (bits_of v.line.bits).stale v j (subst (λ (vs : List HeldLine). j < length vs) all h) in
         let same : held_at linked j ≡ v = ap (λ (vs : List HeldLine). held_at vs j) all ∙ one.1 in
-        subst IsPrevious (sym same) (record { place_of = q; low = low; entry = of_active q v (omega (arith, low, inside)) is; stale = one.0 })
+        subst IsPrevious (sym same) (record { place_of = q; low = low; slot = of_active q v (omega (arith, low, inside)) is; stale = one.0 })
 
     linked_from : (k : ℕ) → k < length linked → IsPrevious (held_at linked k)
     linked_from k within = elim (greatest_cases place (λ q. is_version (slot_at list.active q))) [
@@ -291,9 +291,9 @@ module _ (lines : UnitLines) (count : ℕ) (list : ListValue) (units : List ℕ)
     changed_is k within = elim (sides k (length stale)) [
       | inl early ↦ elim (sides k (length copies)) [
         | inl before ↦ subst IsChanged (sym (at_stale k early ∙ at_copy k before)) (copy_changed k before)
-        | inr past ↦ let from = passed_from (k - length copies) (rest k early past) in subst IsChanged (sym (at_stale k early ∙ at_passed k past)) (entry_changed from.place_of _ from.low from.entry)
+        | inr past ↦ let from = passed_from (k - length copies) (rest k early past) in subst IsChanged (sym (at_stale k early ∙ at_passed k past)) (slot_changed from.place_of _ from.low from.slot)
       ]
-      | inr late ↦ let from = linked_from (k - length stale) (last k within late) in subst IsChanged (sym (at_linked k late)) (entry_changed from.place_of _ from.low from.entry)
+      | inr late ↦ let from = linked_from (k - length stale) (last k within late) in subst IsChanged (sym (at_linked k late)) (slot_changed from.place_of _ from.low from.slot)
     ]
 
     stale_apart : (i j : ℕ) → i < j → j < length stale → unit_at stale i ≢ unit_at stale j
@@ -311,7 +311,7 @@ module _ (lines : UnitLines) (count : ℕ) (list : ListValue) (units : List ℕ)
     -- a line without T and one with it are of different units
     faded : (v w : HeldLine) → IsPassed v → IsPrevious w → v.unit.0 ≢ w.unit.0
     faded v w one two same =
-        let e : seen_line v.line ≡ seen_line w.line = some_is (sym one.entry.line.held ∙ ap lines same ∙ two.entry.line.held) in
+        let e : seen_line v.line ≡ seen_line w.line = some_is (sym one.slot.line.held ∙ ap lines same ∙ two.slot.line.held) in
         absurd (true≢false (sym two.stale ∙ ap (λ (x : SeenLine). x.bits.stale) (sym e) ∙ one.fresh))
 
     -- no two are of one unit
@@ -326,7 +326,7 @@ module _ (lines : UnitLines) (count : ℕ) (list : ListValue) (units : List ℕ)
           let from = linked_from (j - length stale) place_j in
           let there : unit_at stale i ≡ (held_at linked (j - length stale)).unit.0 = ap (λ (x : HeldLine). x.unit.0) (sym (at_stale i early)) ∙ same ∙ ap (λ (x : HeldLine). x.unit.0) (at_linked j late) in
           elim (sides i (length copies)) [
-            | inl before ↦ crossed (held_at copies i) (held_at linked (j - length stale)) (copy_line i before) from.entry.line (ap (λ (x : HeldLine). x.unit.0) (sym (at_copy i before)) ∙ there)
+            | inl before ↦ crossed (held_at copies i) (held_at linked (j - length stale)) (copy_line i before) from.slot.line (ap (λ (x : HeldLine). x.unit.0) (sym (at_copy i before)) ∙ there)
             | inr past ↦ faded (held_at passed (i - length copies)) (held_at linked (j - length stale)) (passed_from (i - length copies) (rest i early past)) from (ap (λ (x : HeldLine). x.unit.0) (sym (at_passed i past)) ∙ there)
           ]
     ]

@@ -11,7 +11,7 @@ use Rattle.svc_bus_laws.specs.Steps.{with_at, write, written_line}
 use Rattle.svc_bus_laws.specs.Steps as table
 use Rattle.svc_bus_laws.specs.BusLine.{BusLine, is_active_line, is_dirty_line, version_of_line}
 use Rattle.svc_bus_laws.specs.BusLine as shown
-use Rattle.svc_bus_laws.specs.BusState.{Agrees, BusState, unnumbered}
+use Rattle.svc_bus_laws.specs.BusState.{Agrees, BusState, without_number}
 use Rattle.svc_bus_laws.specs.BusSteps.{bus_write, line_after_cut}
 use Rattle.svc_bus_laws.specs.BusView.{bus_line_at, bus_map}
 use Rattle.svc_bus_laws.proofs.SeenLaws.{map_seen}
@@ -174,12 +174,12 @@ module _ (b : BusValue) (sound : IsSoundBus b) (place word value : ℕ) (line : 
   there : (write t place word value).lines (unit_at t place) word ≡ cond (is_cut t.units (table.survivors t place word) (unit_at t place) && true) None (Some written)
   there = rw (eq-eqb word word refl, eq-eqb (unit_at t place) (unit_at t place) refl)
 
-  shows : ◌≡◌ {A = Option BusLine} (Some (line_with value line.bits)) (unnumbered (cond (is_cut t.units (table.survivors t place word) (unit_at t place) && true) None (Some written)))
+  shows : ◌≡◌ {A = Option BusLine} (Some (line_with value line.bits)) (without_number (cond (is_cut t.units (table.survivors t place word) (unit_at t place) && true) None (Some written)))
   shows =
       sym plan.own
       ∙ (write_agrees s t place word value sound.linked.agrees (subst (λ us. place < length us) sound.linked.agrees.units within) (subst (λ m. word < m) sound.linked.agrees.words known)).lines own word
-      ∙ ap (λ us. unnumbered ((write t place word value).lines (get_or us place 0) word)) sound.linked.agrees.units
-      ∙ ap unnumbered there
+      ∙ ap (λ us. without_number ((write t place word value).lines (get_or us place 0) word)) sound.linked.agrees.units
+      ∙ ap without_number there
 
   cuts : is_cut b.units n own ≡ is_cut t.units (table.survivors t place word) (unit_at t place)
   cuts = λ i. is_cut (sound.linked.agrees.units i) (survivors (map_seen s t sound.linked.agrees i) place word) (get_or (sound.linked.agrees.units i) place 0)
@@ -195,7 +195,7 @@ module _ (b : BusValue) (sound : IsSoundBus b) (place word value : ℕ) (line : 
       some_is : {x y : BusLine} → ◌≡◌ {A = Option BusLine} (Some x) (Some y) → x ≡ y
       some_is e = cc
 
-      go : (x : Bool) → is_cut t.units (table.survivors t place word) (unit_at t place) ≡ x → ◌≡◌ {A = Option BusLine} (Some (line_with value line.bits)) (unnumbered (cond (x && true) None (Some written))) → IsLeft
+      go : (x : Bool) → is_cut t.units (table.survivors t place word) (unit_at t place) ≡ x → ◌≡◌ {A = Option BusLine} (Some (line_with value line.bits)) (without_number (cond (x && true) None (Some written))) → IsLeft
       go true is e = cc
       go false is e = record { uncut = cuts ∙ is; active = ap (λ (l : BusLine). l.commit) (some_is e) }
 

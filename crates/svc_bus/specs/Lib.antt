@@ -11,3 +11,4 @@ pub mod Marks
 pub mod Stores
 pub mod Looking
 pub mod Versions
+pub mod Sizes

@@ -1,4 +1,4 @@
--- The lines of a word that a store overtakes, and the version before it, which it links to the writer.
+-- What a store does to the other lines of its word: it overtakes some, and links the version before it to the writer.
 use Rattle.std.specs.Prelude.{◌≡◌, ℕ, ◌<◌, ◌≤◌, Bool, true, cond, Option, Some, None, List, length}
 use Rattle.svc_line.specs.Bits.{bits_of, after_overtaking}
 use Rattle.svc_line.specs.Line.{SeenLine, seen_line}

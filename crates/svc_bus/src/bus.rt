@@ -88,7 +88,7 @@ fn open_caches(alloc: Global, units: u32, sets: u32, ways: u32) -> Result<Vec<Ca
 
 impl Bus {
     /// A bus over `units` caches of `sets` times `ways` lines each, without lines or tasks, over this memory. It
-    /// allocates all that it will ever need; no other call of it takes memory.
+    /// allocates all that it will ever need; no other call takes memory.
     ///
     /// Errors: [`OpenError::Memory`].
     #[tactic(auto, unfolding(crate::specs::Observed::observed))]

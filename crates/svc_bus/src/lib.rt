@@ -8,6 +8,7 @@
 #![tactic(auto)]
 
 pub mod bus;
+mod copy;
 mod marks;
 mod read;
 mod reads;

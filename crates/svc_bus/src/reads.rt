@@ -3,7 +3,7 @@
 ghost use Rattle.std.specs.Prelude.{◌≡◌, ◌<◌, true, Option, option_map, length, get_or, IfSome};
 ghost use Rattle.svc_line.specs.Bits.{bits_of};
 ghost use Rattle.svc_bus_laws.specs.LineTable.{LineTable, committed_value};
-ghost use Rattle.svc_bus_laws.specs.BusState.{Agrees, unnumbered};
+ghost use Rattle.svc_bus_laws.specs.BusState.{Agrees, without_number};
 ghost use Rattle.svc_bus_laws.specs.BusView.{bus_newest};
 ghost use Rattle.svc_bus_laws.specs.Refusals.{bus_cache, set_full};
 ghost use Rattle.svc_bus.specs.Observed.{observed};
@@ -88,7 +88,7 @@ impl Bus {
 
     /// The head's version of the word whose line was replaced, if any.
     #[tactic(auto, unfolding(crate::specs::Observed::observed))]
-    pub fn spilled(&self, word: WordAddr) -> Option<u32>
+    pub fn spilled_version(&self, word: WordAddr) -> Option<u32>
         requires in_memory { word.0 < (observed self.now).words }
         ensures value { (t : LineTable) → Agrees (observed self.now) t → result ≡ t.spill word.0 }
     {
@@ -100,7 +100,7 @@ impl Bus {
     pub fn line_at(&self, unit: UnitId, word: WordAddr) -> Option<(LineBits, u32)>
         requires known { unit.0 < (observed self.now).caches }
         ensures line { (t : LineTable) → Agrees (observed self.now) t
-            → option_map line_shown result ≡ unnumbered (t.lines unit.0 word.0) }
+            → option_map line_shown result ≡ without_number (t.lines unit.0 word.0) }
         ensures valid { IfSome result (λ line. (bits_of line.0).valid ≡ true) }
         ensures named { IfSome result (λ line. (bits_of line.0).unnamed ≡ 0) }
     {

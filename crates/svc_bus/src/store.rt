@@ -39,7 +39,7 @@ pub(crate) struct Store<'a> {
     /// The other lines of the word that change, with their units: those that it overtakes, and the version before.
     pub changed: &'a [HeldLine],
     /// How many tasks it leaves.
-    pub left: usize,
+    pub tasks_left: usize,
 }
 
 /// The unit's line of the word becomes the stored one, the word is purged in the other caches, the overtaken lines get
@@ -69,8 +69,8 @@ pub(crate) fn store_line(
     ensures same_caches { OnErr result (caches.new ≡ caches.old) }
     ensures same_memory { OnErr result (backing.new ≡ backing.old) }
     ensures lines { OnOk result ((u a : ℕ) → held_line caches.new u a
-        ≡ left_line queue.now store.now.left u (stored_line (held_line caches.old) store.now.unit.0 store.now.word.0
-        (Some (seen_line store.now.line))
+        ≡ left_line queue.now store.now.tasks_left u (stored_line (held_line caches.old)
+        store.now.unit.0 store.now.word.0 (Some (seen_line store.now.line))
         (option_map (λ (u : UnitId). u.0) store.now.previous) store.now.changed.now u a)) }
     ensures memory { OnOk result ((a : ℕ) → get_or backing.new a 0
         ≡ with_at (λ x. get_or backing.old x 0) store.now.word.0
@@ -84,7 +84,7 @@ pub(crate) fn store_line(
         line,
         previous,
         changed,
-        left,
+        tasks_left,
     } = *store;
     put_line(caches, backing, list, unit, word, line, probes)?;
     let mark = MarkingStore {
@@ -93,7 +93,7 @@ pub(crate) fn store_line(
         previous,
     };
     mark_lines(caches, changed, &mark, probes);
-    squash_lines(caches, queue, left);
+    squash_lines(caches, queue, tasks_left);
     Ok(())
 }
 

@@ -72,7 +72,7 @@ impl Bus {
             line: plan.line,
             previous: plan.previous,
             changed: &self.changed,
-            left,
+            tasks_left: left,
         };
         store_line(
             &mut self.caches,

@@ -8,7 +8,7 @@ use Rattle.svc_bus_laws.specs.Versioned.{view}
 use Rattle.svc_bus_laws.specs.LineTable.{Line, LineTable, is_active, is_reusable, version_in, is_committed_dirty, task_in, unit_at, line_at, versioned_map}
 use Rattle.svc_bus_laws.specs.Steps.{with_line, line_after_purging, line_after_reuse, fill, reuse, read, replace, filled_line, is_overtaken}
 use Rattle.svc_bus_laws.specs.BusLine.{BusLine, is_dirty_line, version_of_line, purged_line, reused_line}
-use Rattle.svc_bus_laws.specs.BusState.{BusState, Agrees, unnumbered, is_dirty, is_lower}
+use Rattle.svc_bus_laws.specs.BusState.{BusState, Agrees, without_number, is_dirty, is_lower}
 use Rattle.svc_bus_laws.specs.BusView.{bus_line_at, bus_map}
 use Rattle.svc_bus_laws.specs.BusSteps.{is_overtaken_line, line_after_request, order_after_request, filled_bus_line, bus_fill, bus_replace, bus_reuse, bus_read}
 use Rattle.svc_bus_laws.specs.Refusals.{table_cache, is_pinned}
@@ -19,11 +19,11 @@ use Rattle.svc_bus_laws.proofs.RefusalProofs.{unpinned_head}
 use Rattle.svc_bus_laws.proofs.SeenLaws.{dirty_line_is, version_line_is, unit_is, version_seen, active_seen, reusable_seen, committed_seen, map_seen}
 use Rattle.svc_bus_laws.proofs.AgreeWrites.{where_both}
 
-purged_line_is : (line : Option Line) → purged_line (unnumbered line) ≡ unnumbered (line_after_purging line)
+purged_line_is : (line : Option Line) → purged_line (without_number line) ≡ without_number (line_after_purging line)
 purged_line_is None = refl
 purged_line_is (Some l) = go (l.commit && l.store)
   where
-    go : (z : Bool) → cond z None (unnumbered (Some l)) ≡ unnumbered (cond z None (Some l))
+    go : (z : Bool) → cond z None (without_number (Some l)) ≡ without_number (cond z None (Some l))
     go true = refl
     go false = refl
 
@@ -38,7 +38,7 @@ module _ (b : BusState) (t : LineTable) (u a : ℕ) (agrees : Agrees b t) (line 
   abbrev after : ℕ → ℕ → Option Line
   after = with_line t.lines u a line line_after_purging
 
-  request_lines : (v x : ℕ) → line_after_request b u a (unnumbered line) v x ≡ unnumbered (after v x)
+  request_lines : (v x : ℕ) → line_after_request b u a (without_number line) v x ≡ without_number (after v x)
   request_lines v x = elim (cases_eq x a) [
     | inr ne ↦ rw (ne_eqb x a ne) (agrees.lines v x)
     | inl e ↦ elim (cases_eq v u) [
@@ -65,12 +65,12 @@ module _ (b : BusState) (t : LineTable) (u a : ℕ) (agrees : Agrees b t) (line 
       there : x ≡ a → v ≢ u → after v x ≡ line_after_purging (t.lines v x)
       there e other = rw (eq-eqb x a e, ne_eqb v u other)
 
-  request_order : (x y z : ℕ) → order_after_request b u a (unnumbered line) x y z ≡ ((is_dirty (after y x) && is_dirty (after z x)) && ltb (task_in (after y x)) (task_in (after z x)))
+  request_order : (x y z : ℕ) → order_after_request b u a (without_number line) x y z ≡ ((is_dirty (after y x) && is_dirty (after z x)) && ltb (task_in (after y x)) (task_in (after z x)))
   request_order x y z =
       ap₂ (λ i j. (i && j) && b.is_older x y z) (bit y) (bit z)
       ∙ where_both (is_dirty (after y x)) (is_dirty (after z x)) _ _ (λ e f. agrees.order x y z ∙ by_dirty (t.lines y x) (t.lines z x) (sym (ap is_dirty (kept y x e)) ∙ e) (sym (ap is_dirty (kept z x f)) ∙ f) ∙ sym (ap₂ (λ i j. ltb (task_in i) (task_in j)) (kept y x e) (kept z x f)))
     where
-      bit : (v : ℕ) → is_dirty_line (line_after_request b u a (unnumbered line) v x) ≡ is_dirty (after v x)
+      bit : (v : ℕ) → is_dirty_line (line_after_request b u a (without_number line) v x) ≡ is_dirty (after v x)
       bit v = ap is_dirty_line (request_lines v x) ∙ dirty_line_is (after v x)
 
       by_dirty : (k l : Option Line) → is_dirty k ≡ true → is_dirty l ≡ true → ((is_dirty k && is_dirty l) && ltb (task_in k) (task_in l)) ≡ ltb (task_in k) (task_in l)
@@ -98,7 +98,7 @@ fill_agrees b t p a value agrees within known miss is = record {
     overtaken = ap (λ (us : List ℕ). any_below (length us) (λ q. ltb p q && is_some (version_of_line (bus_line_at b q a)))) agrees.units
         ∙ any_same (length t.units) _ _ (λ q h. ap (λ o. ltb p q && is_some o) (version_seen b t agrees q a))
 
-    filled : ◌≡◌ {A = Option BusLine} (Some (filled_bus_line b p a value)) (unnumbered (Some (filled_line t p a)))
+    filled : ◌≡◌ {A = Option BusLine} (Some (filled_bus_line b p a value)) (without_number (Some (filled_line t p a)))
     filled = λ i. Some (record { value = is i; store = false; load = not ((p == 0) && is_some (agrees.spill a i)); commit = false; stale = overtaken i })
 
 pub replace_agrees : (b : BusState) (t : LineTable) (u a : ℕ) → Agrees b t → is_pinned (table_cache t u) t.units u a ≡ false → Agrees (bus_replace b u a) (replace t u a)
@@ -137,15 +137,15 @@ reuse_agrees b t p a agrees within reusable = record {
     unit : get_or b.units p 0 ≡ unit_at t p
     unit = ap (λ (us : List ℕ). get_or us p 0) agrees.units
 
-    reused_is : (n : ℕ) (line : Option Line) → reused_line (unnumbered line) ≡ unnumbered (line_after_reuse n line)
+    reused_is : (n : ℕ) (line : Option Line) → reused_line (without_number line) ≡ without_number (line_after_reuse n line)
     reused_is n None = refl
     reused_is n (Some l) = refl
 
-    reused_lines : (v x : ℕ) → (bus_reuse b p a).lines v x ≡ unnumbered ((reuse t p a).lines v x)
+    reused_lines : (v x : ℕ) → (bus_reuse b p a).lines v x ≡ without_number ((reuse t p a).lines v x)
     reused_lines v x = elim (cases_eq x a) [
       | inr ne ↦ rw (ne_eqb x a ne) (agrees.lines v x)
       | inl e ↦ elim (cases_eq v (unit_at t p)) [
-        | inl same ↦ rw (eq-eqb x a e, eq-eqb v (get_or b.units p 0) (same ∙ sym unit), eq-eqb v (unit_at t p) same) (ap reused_line (agrees.lines v x ∙ (λ i. unnumbered (t.lines (same i) (e i)))) ∙ reused_is (t.commits + p) (line_at t p a))
+        | inl same ↦ rw (eq-eqb x a e, eq-eqb v (get_or b.units p 0) (same ∙ sym unit), eq-eqb v (unit_at t p) same) (ap reused_line (agrees.lines v x ∙ (λ i. without_number (t.lines (same i) (e i)))) ∙ reused_is (t.commits + p) (line_at t p a))
         | inr other ↦ rw (eq-eqb x a e, ne_eqb v (get_or b.units p 0) (λ z. other (z ∙ unit)), ne_eqb v (unit_at t p) other) (agrees.lines v x)
       ]
     ]

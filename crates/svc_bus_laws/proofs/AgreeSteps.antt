@@ -5,7 +5,7 @@ use Rattle.svc_bus_laws.specs.LineTable.{Line, LineTable, is_active, is_cut, tas
 use Rattle.svc_bus_laws.specs.Steps.{line_after_commit, line_after_squashing, commit, squash, begin}
 use Rattle.svc_bus_laws.specs.Sound.{IsSound}
 use Rattle.svc_bus_laws.specs.BusLine.{is_active_line, is_dirty_line, settled_line}
-use Rattle.svc_bus_laws.specs.BusState.{BusState, Agrees, unnumbered, is_dirty}
+use Rattle.svc_bus_laws.specs.BusState.{BusState, Agrees, without_number, is_dirty}
 use Rattle.svc_bus_laws.specs.BusSteps.{bus_begin, bus_commit, line_after_cut, bus_squash}
 use Rattle.svc_bus_laws.proofs.Numbered.{squash_is, squash_line}
 use Rattle.svc_bus_laws.proofs.CommitLaws.{commit_sound}
@@ -13,7 +13,7 @@ use Rattle.svc_bus_laws.proofs.SquashLaws.{squash_sound}
 use Rattle.svc_bus_laws.proofs.BeginLaws.{begin_sound}
 use Rattle.svc_bus_laws.proofs.SeenLaws.{active_line_is, dirty_line_is}
 
-settled_is : (line : Option Line) → unnumbered (line_after_commit line) ≡ settled_line (unnumbered line)
+settled_is : (line : Option Line) → without_number (line_after_commit line) ≡ settled_line (without_number line)
 settled_is None = refl
 settled_is (Some l) = refl
 
@@ -36,7 +36,7 @@ commit_agrees b t agrees has_head = record {
   units = ap (drop 1) agrees.units;
 }
   where
-    both : (x : Bool) (line : Option Line) → cond x (settled_line (unnumbered line)) (unnumbered line) ≡ unnumbered (cond x (line_after_commit line) line)
+    both : (x : Bool) (line : Option Line) → cond x (settled_line (without_number line)) (without_number line) ≡ without_number (cond x (line_after_commit line) line)
     both true line = sym (settled_is line)
     both false line = refl
 
@@ -71,14 +71,14 @@ twice true y = refl
 twice false y = refl
 
 module _ (b : BusState) (t : LineTable) (n : ℕ) (agrees : Agrees b t) where
-  pub cut_line : IsSound t → (v a : ℕ) → line_after_cut b n v a ≡ unnumbered (line_after_squashing (t.commits + n) (t.lines v a))
+  pub cut_line : IsSound t → (v a : ℕ) → line_after_cut b n v a ≡ without_number (line_after_squashing (t.commits + n) (t.lines v a))
   cut_line sound v a =
       (λ i. cond (is_cut (agrees.units i) n v && is_active_line (agrees.lines v a i)) None (agrees.lines v a i))
-      ∙ ap (λ x. cond (is_cut t.units n v && x) None (unnumbered (t.lines v a))) (active_line_is (t.lines v a))
+      ∙ ap (λ x. cond (is_cut t.units n v && x) None (without_number (t.lines v a))) (active_line_is (t.lines v a))
       ∙ both (is_cut t.units n v && is_active (t.lines v a)) (t.lines v a)
-      ∙ ap unnumbered (squash_line t n sound v a)
+      ∙ ap without_number (squash_line t n sound v a)
     where
-      both : (x : Bool) (line : Option Line) → cond x None (unnumbered line) ≡ unnumbered (cond x None line)
+      both : (x : Bool) (line : Option Line) → cond x None (without_number line) ≡ without_number (cond x None line)
       both true line = refl
       both false line = refl
 
@@ -89,7 +89,7 @@ module _ (b : BusState) (t : LineTable) (n : ℕ) (agrees : Agrees b t) where
     sets = agrees.sets;
     ways = agrees.ways;
     words = agrees.words;
-    lines = λ v a. cut_line agrees.sound v a ∙ sym (ap unnumbered (squash_line t n agrees.sound v a));
+    lines = λ v a. cut_line agrees.sound v a ∙ sym (ap without_number (squash_line t n agrees.sound v a));
     order = λ a u v.
         ap₂ (λ x y. (is_dirty_line x && is_dirty_line y) && b.is_older a u v) (cut_line agrees.sound u a) (cut_line agrees.sound v a)
         ∙ ap₂ (λ x y. (x && y) && b.is_older a u v) (dirty_line_is (line_after_squashing (t.commits + n) (t.lines u a))) (dirty_line_is (line_after_squashing (t.commits + n) (t.lines v a)))

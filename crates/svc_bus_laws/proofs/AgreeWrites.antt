@@ -6,7 +6,7 @@ use Rattle.svc_bus_laws.specs.Versioned as map
 use Rattle.svc_bus_laws.specs.LineTable.{Line, LineTable, task_in, unit_at, versioned_map}
 use Rattle.svc_bus_laws.specs.Steps.{line_after_purging, line_after_marking, line_after_squashing, written_line, survivors, write, is_overtaken}
 use Rattle.svc_bus_laws.specs.BusLine.{is_dirty_line, purged_line, marked_line}
-use Rattle.svc_bus_laws.specs.BusState.{BusState, Agrees, unnumbered, is_dirty, is_lower}
+use Rattle.svc_bus_laws.specs.BusState.{BusState, Agrees, without_number, is_dirty, is_lower}
 use Rattle.svc_bus_laws.specs.BusSteps.{line_after_cut, is_below, is_above, is_overtaken_line, written_bus_line, line_after_write, order_after_write, bus_write_leaving, bus_write}
 use Rattle.svc_bus_laws.proofs.Searches.{any_found, any_none, any_same}
 use Rattle.svc_bus_laws.proofs.Maps.{survivors_are}
@@ -127,29 +127,29 @@ module _ (b : BusState) (t : LineTable) (p a w : ℕ) (agrees : Agrees b t) (wit
   overtaken_is : is_overtaken_line b n p a ≡ is_overtaken t n p a
   overtaken_is = any_same n _ _ (λ q h. ap (λ o. ltb p q && is_some o) (version_seen b t agrees q a))
 
-  written_is : Some (written_bus_line b n p a w) ≡ unnumbered (line_after_squashing (t.commits + n) (Some (written_line t p a w)))
+  written_is : Some (written_bus_line b n p a w) ≡ without_number (line_after_squashing (t.commits + n) (Some (written_line t p a w)))
   written_is =
       let stays : leb (t.commits + n) (t.commits + p) ≡ false = lt-leb (t.commits + n) (t.commits + p) (omega (arith, reaches)) in
       let load = exposed_seen b t agrees p a in
       rw stays (λ i. Some (record { value = w; store = true; load = load i; commit = false; stale = overtaken_is i }))
 
   -- another unit's line of the word
-  other_is : (v : ℕ) → marked_line (is_below b p v) (purged_line (line_after_cut b n v a)) ≡ unnumbered (line_after_squashing (t.commits + n) (line_after_marking (t.commits + p) (line_after_purging (t.lines v a))))
+  other_is : (v : ℕ) → marked_line (is_below b p v) (purged_line (line_after_cut b n v a)) ≡ without_number (line_after_squashing (t.commits + n) (line_after_marking (t.commits + p) (line_after_purging (t.lines v a))))
   other_is v = ap (λ x. marked_line (is_below b p v) (purged_line x)) (cut_line b t n agrees agrees.sound v a) ∙ go (t.lines v a) refl
     where
-      settled_case : (l : Line) (x y : Bool) → l.commit ≡ true → l.store ≡ y → marked_line x (purged_line (unnumbered (line_after_squashing (t.commits + n) (Some l)))) ≡ unnumbered (line_after_squashing (t.commits + n) (line_after_marking (t.commits + p) (line_after_purging (Some l))))
+      settled_case : (l : Line) (x y : Bool) → l.commit ≡ true → l.store ≡ y → marked_line x (purged_line (without_number (line_after_squashing (t.commits + n) (Some l)))) ≡ without_number (line_after_squashing (t.commits + n) (line_after_marking (t.commits + p) (line_after_purging (Some l))))
       settled_case l x true c s = rw (c, s)
       settled_case l x false c s = rw (c, s)
 
-      go : (line : Option Line) → t.lines v a ≡ line → marked_line (is_below b p v) (purged_line (unnumbered (line_after_squashing (t.commits + n) line))) ≡ unnumbered (line_after_squashing (t.commits + n) (line_after_marking (t.commits + p) (line_after_purging line)))
+      go : (line : Option Line) → t.lines v a ≡ line → marked_line (is_below b p v) (purged_line (without_number (line_after_squashing (t.commits + n) line))) ≡ without_number (line_after_squashing (t.commits + n) (line_after_marking (t.commits + p) (line_after_purging line)))
       go None e = refl
       go (Some l) e = elim (cases_Bool l.commit) [
         | inl set ↦ settled_case l (is_below b p v) l.store set refl
-        | inr clear ↦ ap (λ x. marked_line x (purged_line (unnumbered (line_after_squashing (t.commits + n) (Some l))))) (below_is v a l e clear) ∙ clear_case l clear
+        | inr clear ↦ ap (λ x. marked_line x (purged_line (without_number (line_after_squashing (t.commits + n) (Some l))))) (below_is v a l e clear) ∙ clear_case l clear
       ]
         where
           abbreviated : Line → Type 0
-          abbreviated k = marked_line (ltb k.task (t.commits + p)) (purged_line (unnumbered (line_after_squashing (t.commits + n) (Some k)))) ≡ unnumbered (line_after_squashing (t.commits + n) (line_after_marking (t.commits + p) (line_after_purging (Some k))))
+          abbreviated k = marked_line (ltb k.task (t.commits + p)) (purged_line (without_number (line_after_squashing (t.commits + n) (Some k)))) ≡ without_number (line_after_squashing (t.commits + n) (line_after_marking (t.commits + p) (line_after_purging (Some k))))
 
           parts : (k : Line) (z : Bool) → leb (t.commits + n) k.task ≡ z → abbreviated (record k { commit = false })
           parts k true e = rw e
@@ -158,7 +158,7 @@ module _ (b : BusState) (t : LineTable) (p a w : ℕ) (agrees : Agrees b t) (wit
           clear_case : (k : Line) → k.commit ≡ false → abbreviated k
           clear_case k c = subst abbreviated (sym (λ i. record k { commit = c i })) (parts k (leb (t.commits + n) k.task) refl)
 
-  pub write_lines_agree : (v x : ℕ) → line_after_write b n p a w v x ≡ unnumbered ((numbered_write t p a w).lines v x)
+  pub write_lines_agree : (v x : ℕ) → line_after_write b n p a w v x ≡ without_number ((numbered_write t p a w).lines v x)
   write_lines_agree v x = elim (cases_eq x a) [
     | inr ne ↦ rw (ne_eqb x a ne) (cut_line b t n agrees agrees.sound v x)
     | inl e ↦ elim (cases_eq v u) [

@@ -4,7 +4,7 @@ use Rattle.std.proofs.lemmas.Bool.{cases_Bool, ltb-false}
 use Rattle.svc_bus_laws.specs.LineTable.{Line, LineTable, task_in, unit_at}
 use Rattle.svc_bus_laws.specs.Sound.{IsSoundLine}
 use Rattle.svc_bus_laws.specs.BusLine.{BusLine, is_dirty_line, is_committed_dirty_line, version_of_line}
-use Rattle.svc_bus_laws.specs.BusState.{BusState, Agrees, unnumbered, is_dirty}
+use Rattle.svc_bus_laws.specs.BusState.{BusState, Agrees, without_number, is_dirty}
 use Rattle.svc_bus_laws.specs.BusView.{bus_line_at}
 use Rattle.svc_bus_laws.proofs.SeenLaws.{dirty_line_is, unit_is}
 
@@ -65,10 +65,10 @@ module _ (b : BusState) (t : LineTable) (a : ℕ) (agrees : Agrees b t) where
   ]
 
   committed_bit : (u : ℕ) (k : IsDirtyLine t u a) → is_committed_dirty_line (b.lines u a) ≡ true → k.line.commit ≡ true
-  committed_bit u k e = (both k.line.commit k.line.store (sym (ap is_committed_dirty_line (agrees.lines u a ∙ ap unnumbered k.there)) ∙ e)).0
+  committed_bit u k e = (both k.line.commit k.line.store (sym (ap is_committed_dirty_line (agrees.lines u a ∙ ap without_number k.there)) ∙ e)).0
 
   active_bit : (u : ℕ) (k : IsDirtyLine t u a) → is_some (version_of_line (b.lines u a)) ≡ true → k.line.commit ≡ false
-  active_bit u k e = go k.line.commit k.line.store (sym (ap (λ line. is_some (version_of_line line)) (agrees.lines u a ∙ ap unnumbered k.there)) ∙ e)
+  active_bit u k e = go k.line.commit k.line.store (sym (ap (λ line. is_some (version_of_line line)) (agrees.lines u a ∙ ap without_number k.there)) ∙ e)
     where
       go : (c s : Bool) → is_some (cond (not c && s) (Some k.line.value) None) ≡ true → c ≡ false
       go true s e = absurd (true≢false (sym e))

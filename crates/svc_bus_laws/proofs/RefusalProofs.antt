@@ -5,7 +5,7 @@ use Rattle.std.proofs.lemmas.Bool.{cases_Bool}
 use Rattle.svc_bus_laws.specs.Search.{least, how_many}
 use Rattle.svc_bus_laws.specs.LineTable.{Line, LineTable, is_active, unit_at}
 use Rattle.svc_bus_laws.specs.BusLine.{BusLine, is_active_line, is_committed_line}
-use Rattle.svc_bus_laws.specs.BusState.{BusState, Agrees, unnumbered}
+use Rattle.svc_bus_laws.specs.BusState.{BusState, Agrees, without_number}
 use Rattle.svc_bus_laws.specs.Refusals.{CacheState, bus_cache, table_cache, is_in_set, is_committed_in_set, is_set_full, full_address, set_full, is_not_resident, is_head, is_pinned, IsNamed}
 use Rattle.svc_bus_laws.proofs.Searches.{Found, least_cases, some_is}
 
@@ -92,13 +92,13 @@ pinned_resides b u a e = go (b.lines u a) (both (is_active_line (b.lines u a)) (
     go None e = absurd (true≢false (sym e))
     go (Some l) e = refl
 
-active_seen : (line : Option Line) → is_active_line (unnumbered line) ≡ is_active line
+active_seen : (line : Option Line) → is_active_line (without_number line) ≡ is_active line
 active_seen None = refl
 active_seen (Some l) = refl
 
 pub unpinned_head : (t : LineTable) (u a : ℕ) → is_pinned (table_cache t u) t.units u a ≡ false → is_active (t.lines u a) ≡ true → (0 < length t.units) × (unit_at t 0 ≡ u)
 unpinned_head t u a free active =
-    let head = both (ltb 0 (length t.units)) (unit_at t 0 == u) (heads (is_active_line (unnumbered (t.lines u a))) (is_head t.units u) free (active_seen (t.lines u a) ∙ active)) in
+    let head = both (ltb 0 (length t.units)) (unit_at t 0 == u) (heads (is_active_line (without_number (t.lines u a))) (is_head t.units u) free (active_seen (t.lines u a) ∙ active)) in
     (ltb-true 0 (length t.units) head.0, eqb-true (unit_at t 0) u head.1)
   where
     heads : (x y : Bool) → (x && not y) ≡ false → x ≡ true → y ≡ true

@@ -8,8 +8,8 @@ use Rattle.svc_bus_laws.specs.Walk.{walk_lines}
 use Rattle.svc_bus_laws.specs.Supplier.{Supplier, Hit, Reuse, Version, Spill, Committed, Memory, supplier}
 use Rattle.svc_bus_laws.specs.Steps.{commit, replace, squash_from, begin}
 use Rattle.svc_bus_laws.specs.Steps as step
-use Rattle.svc_bus_laws.specs.BusLine.{shown}
-use Rattle.svc_bus_laws.specs.BusState.{unnumbered}
+use Rattle.svc_bus_laws.specs.BusLine.{bits_and_value}
+use Rattle.svc_bus_laws.specs.BusState.{without_number}
 use Rattle.svc_bus_laws.specs.Refusals.{table_cache, set_full, is_not_resident, is_pinned}
 
 -- ---- steps and answers by unit
@@ -32,7 +32,7 @@ abbrev cut : LineTable → ℕ → ℕ → Option Victim
 cut t u a = victim_answer (versioned_map t) (place t u) a
 
 abbrev line : LineTable → ℕ → ℕ → Option (ℕ × ℕ)
-line t u a = shown (unnumbered (t.lines u a))
+line t u a = bits_and_value (without_number (t.lines u a))
 
 -- the lines of a word in the caches of units 0 to 3
 abbrev lines : LineTable → ℕ → List (Option (ℕ × ℕ))

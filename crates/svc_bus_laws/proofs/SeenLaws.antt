@@ -8,7 +8,7 @@ use Rattle.svc_bus_laws.specs.LineTable.{Line, LineTable, is_active, is_reusable
 use Rattle.svc_bus_laws.specs.Supplier.{Hit, Reuse, Version, Spill, supplier, by_version, by_committed}
 use Rattle.svc_bus_laws.specs.Sound.{IsSound}
 use Rattle.svc_bus_laws.specs.BusLine.{is_active_line, is_reusable_line, is_committed_dirty_line, is_dirty_line, is_exposed_line, value_of_line, version_of_line}
-use Rattle.svc_bus_laws.specs.BusState.{BusState, Agrees, unnumbered, is_dirty, is_lower, state_of}
+use Rattle.svc_bus_laws.specs.BusState.{BusState, Agrees, without_number, is_dirty, is_lower, state_of}
 use Rattle.svc_bus_laws.specs.BusView.{bus_line_at, is_newest_line, bus_newest, value_of_unit, bus_committed, bus_row, bus_map, bus_view, bus_victim, bus_by_version, bus_supplier}
 use Rattle.svc_bus_laws.specs.BusSteps.{bus_opened}
 use Rattle.svc_bus_laws.specs.LineTable.{opening_table}
@@ -18,31 +18,31 @@ use Rattle.svc_bus_laws.proofs.Searches.{least_same, all_same, greatest_same}
 
 -- ---- one line
 
-pub active_line_is : (line : Option Line) → is_active_line (unnumbered line) ≡ is_active line
+pub active_line_is : (line : Option Line) → is_active_line (without_number line) ≡ is_active line
 active_line_is None = refl
 active_line_is (Some l) = refl
 
-pub reusable_line_is : (line : Option Line) → is_reusable_line (unnumbered line) ≡ is_reusable line
+pub reusable_line_is : (line : Option Line) → is_reusable_line (without_number line) ≡ is_reusable line
 reusable_line_is None = refl
 reusable_line_is (Some l) = refl
 
-pub dirty_line_is : (line : Option Line) → is_dirty_line (unnumbered line) ≡ is_dirty line
+pub dirty_line_is : (line : Option Line) → is_dirty_line (without_number line) ≡ is_dirty line
 dirty_line_is None = refl
 dirty_line_is (Some l) = refl
 
-pub version_line_is : (line : Option Line) → version_of_line (unnumbered line) ≡ version_in line
+pub version_line_is : (line : Option Line) → version_of_line (without_number line) ≡ version_in line
 version_line_is None = refl
 version_line_is (Some l) = refl
 
-pub exposed_line_is : (line : Option Line) → is_exposed_line (unnumbered line) ≡ exposed_in line
+pub exposed_line_is : (line : Option Line) → is_exposed_line (without_number line) ≡ exposed_in line
 exposed_line_is None = refl
 exposed_line_is (Some l) = refl
 
-pub committed_line_is : (line : Option Line) → is_committed_dirty_line (unnumbered line) ≡ is_committed_dirty line
+pub committed_line_is : (line : Option Line) → is_committed_dirty_line (without_number line) ≡ is_committed_dirty line
 committed_line_is None = refl
 committed_line_is (Some l) = refl
 
-pub value_line_is : (line : Option Line) → value_of_line (unnumbered line) ≡ value_in line
+pub value_line_is : (line : Option Line) → value_of_line (without_number line) ≡ value_in line
 value_line_is None = refl
 value_line_is (Some l) = refl
 
@@ -74,8 +74,8 @@ module _ (b : BusState) (t : LineTable) (agrees : Agrees b t) where
   pub unit_is : (q : ℕ) → get_or b.units q 0 ≡ unit_at t q
   unit_is q = ap (λ (us : List ℕ). get_or us q 0) agrees.units
 
-  pub line_is : (q a : ℕ) → bus_line_at b q a ≡ unnumbered (line_at t q a)
-  line_is q a = agrees.lines (get_or b.units q 0) a ∙ ap (λ u. unnumbered (t.lines u a)) (unit_is q)
+  pub line_is : (q a : ℕ) → bus_line_at b q a ≡ without_number (line_at t q a)
+  line_is q a = agrees.lines (get_or b.units q 0) a ∙ ap (λ u. without_number (t.lines u a)) (unit_is q)
 
   pub version_seen : (q a : ℕ) → version_of_line (bus_line_at b q a) ≡ version_in (line_at t q a)
   version_seen q a = ap version_of_line (line_is q a) ∙ version_line_is (line_at t q a)

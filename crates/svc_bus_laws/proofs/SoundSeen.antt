@@ -4,7 +4,7 @@ use Rattle.svc_bus_laws.specs.LineTable.{Line, LineTable, line_at}
 use Rattle.svc_bus_laws.specs.Sound.{IsSound}
 use Rattle.svc_bus_laws.specs.Supplier.{Supplier, Hit, Reuse, Version, Spill, Committed, Memory, supplier, supplied_value}
 use Rattle.svc_bus_laws.specs.BusLine.{is_active_line, is_committed_dirty_line, value_of_line}
-use Rattle.svc_bus_laws.specs.BusState.{BusState, SameBus, Agrees, unnumbered}
+use Rattle.svc_bus_laws.specs.BusState.{BusState, SameBus, Agrees, without_number}
 use Rattle.svc_bus_laws.specs.BusView.{bus_supplier, bus_supplied, bus_view}
 use Rattle.svc_bus_laws.specs.SoundState.{IsSpilledState, IsSoundState}
 use Rattle.svc_bus_laws.proofs.ReadLaws.{active_parts}
@@ -42,7 +42,7 @@ module _ (b : BusState) (t : LineTable) (agrees : Agrees b t) where
   within p h = subst (λ us. p < length us) agrees.units h
 
   none_at : (u a : ℕ) → t.lines u a ≡ None → b.lines u a ≡ None
-  none_at u a e = agrees.lines u a ∙ ap unnumbered e
+  none_at u a e = agrees.lines u a ∙ ap without_number e
 
   working : (u a : ℕ) → is_active_line (b.lines u a) ≡ true → (p : ℕ) × (p < length b.units) × (get_or b.units p 0 ≡ u)
   working u a e =

@@ -74,6 +74,6 @@ abbrev pub bits_of : BusLine → ℕ
 bits_of l = 1 + cond l.store 2 0 + cond l.load 4 0 + cond l.commit 8 0 + cond l.stale 16 0
 
 -- the bits and the value of a valid line
-abbrev pub shown : Option BusLine → Option (ℕ × ℕ)
-shown None = None
-shown (Some l) = Some (bits_of l, l.value)
+abbrev pub bits_and_value : Option BusLine → Option (ℕ × ℕ)
+bits_and_value None = None
+bits_and_value (Some l) = Some (bits_of l, l.value)

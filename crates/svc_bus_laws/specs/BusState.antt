@@ -25,9 +25,9 @@ pub record BusState : Type 0 where
   pub probes : ℕ
 
 -- a line without its number
-abbrev pub unnumbered : Option Line → Option BusLine
-unnumbered None = None
-unnumbered (Some l) =
+abbrev pub without_number : Option Line → Option BusLine
+without_number None = None
+without_number (Some l) =
     Some (record { value = l.value; store = l.store; load = l.load; commit = l.commit; stale = l.stale })
 
 -- S set
@@ -48,7 +48,7 @@ pub record Agrees (b : BusState) (t : LineTable) : Type 0 where
   pub sets : b.sets ≡ t.sets
   pub ways : b.ways ≡ t.ways
   pub words : b.words ≡ t.words
-  pub lines : (u a : ℕ) → b.lines u a ≡ unnumbered (t.lines u a)
+  pub lines : (u a : ℕ) → b.lines u a ≡ without_number (t.lines u a)
   pub order : (a u v : ℕ) → b.is_older a u v ≡ is_lower t a u v
   pub spill : (a : ℕ) → b.spill a ≡ t.spill a
   pub backing : (a : ℕ) → b.backing a ≡ t.backing a
@@ -75,7 +75,7 @@ state_of probes t = record {
   sets = t.sets;
   ways = t.ways;
   words = t.words;
-  lines = λ u a. unnumbered (t.lines u a);
+  lines = λ u a. without_number (t.lines u a);
   is_older = is_lower t;
   spill = t.spill;
   backing = t.backing;

@@ -6,7 +6,7 @@ use Rattle.std.specs.Option.{option_or}
 use Rattle.svc_bus_laws.specs.Search.{least, how_many}
 use Rattle.svc_bus_laws.specs.LineTable.{LineTable}
 use Rattle.svc_bus_laws.specs.BusLine.{BusLine, is_active_line, is_committed_line}
-use Rattle.svc_bus_laws.specs.BusState.{BusState, unnumbered}
+use Rattle.svc_bus_laws.specs.BusState.{BusState, without_number}
 
 -- one unit's cache: how many sets, ways and words there are, and its lines by word
 pub record CacheState : Type 0 where
@@ -20,7 +20,7 @@ abbrev pub bus_cache : BusState → ℕ → CacheState
 bus_cache b u = record { sets = b.sets; ways = b.ways; words = b.words; lines = b.lines u }
 
 abbrev pub table_cache : LineTable → ℕ → CacheState
-table_cache t u = record { sets = t.sets; ways = t.ways; words = t.words; lines = λ a. unnumbered (t.lines u a) }
+table_cache t u = record { sets = t.sets; ways = t.ways; words = t.words; lines = λ a. without_number (t.lines u a) }
 
 -- the second word has a valid line, in the set of the first
 abbrev pub is_in_set : CacheState → ℕ → ℕ → Bool

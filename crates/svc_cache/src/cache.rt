@@ -70,6 +70,15 @@ impl Cache {
         }
     }
 
+    /// It becomes equal to another cache of its size. It takes no memory.
+    pub fn copy_from(&mut self, other: &Cache)
+        requires sets { self.old.sets ≡ other.now.sets }
+        requires ways { self.old.ways ≡ other.now.ways }
+        ensures { self.new ≡ other.now }
+    {
+        self.places.copy_from_slice(&other.places);
+    }
+
     // Where the places of the word's set begin. The sets are a power of two, so a mask is the remainder.
     #[tactic(auto, using(crate::proofs::Powers::mask_of_power, crate::proofs::Powers::power_positive))]
     fn row_start(&self, word: WordAddr) -> usize

@@ -4,11 +4,16 @@ use denote.Ref.{Bor}
 use Rattle.svc_base.specs.declared.config.Config.{Config}
 use Rattle.svc_export.specs.declared.export.Format.{Format}
 use Rattle.svc_export.specs.declared.export.Format.TheVariants as format
+use Rattle.svc_marks.specs.declared.view.Choice.{Choice}
+use Rattle.svc_marks.specs.declared.view.View.{View}
 use Rattle.svc_observations.specs.declared.sought.Sought.{Sought}
 use Rattle.svc_observations.specs.Sought.{sought_text}
 use Rattle.svc_report.specs.declared.table.TableRow.{TableRow}
+use Rattle.svc_sheet.specs.declared.sheet.Style.{Style}
+use Rattle.svc_sheet.specs.declared.sheet.Values.{Values}
+use Rattle.svc_sheet.specs.declared.sheet.Values.TheVariants as values
 use Rattle.svc_show.specs.declared.extras.Extras.{Extras}
-use Rattle.svc_held.specs.declared.span.Span.{Span}
+use Rattle.svc_span.specs.declared.span.Span.{Span}
 use Rattle.svc_request.specs.declared.request.Assembly.{Assembly}
 use Rattle.svc_request.specs.declared.request.Depended.{Depended}
 use Rattle.svc_request.specs.declared.request.Explored.{Explored}
@@ -17,6 +22,7 @@ use Rattle.svc_request.specs.declared.request.NeedsTable.{NeedsTable}
 use Rattle.svc_request.specs.declared.request.NeedsTable.TheVariants as needs
 use Rattle.svc_request.specs.declared.request.Order.{Order}
 use Rattle.svc_request.specs.declared.request.Order.TheVariants as order
+use Rattle.svc_request.specs.declared.request.Picture.{Picture}
 use Rattle.svc_request.specs.declared.request.Run.{Run}
 use Rattle.svc_request.specs.declared.request.Schedule.{Schedule}
 use Rattle.svc_request.specs.declared.request.Scripted.{Scripted}
@@ -146,6 +152,36 @@ pub record GivesShown (words : List (List ℕ)) (shown : Shown) : Type 0 where
   pub extras : GivesExtras words shown.extras
   pub names : GivesNames words shown.names
 
+-- a picture shows the units, tasks and words that its options give, or all
+pub record GivesChoice (words : List (List ℕ)) (choice : Choice) : Type 0 where
+  pub units : IfSome choice.units (GivesSpan words (codes "unit"))
+  pub tasks : IfSome choice.tasks (GivesSpan words (codes "task"))
+  pub words_are : IfSome choice.words (GivesSpan words (codes "word"))
+
+-- of the entries from the one that the line gives on, or from the first, as many as it gives, or all
+pub record GivesView (words : List (List ℕ)) (view : View) : Type 0 where
+  pub from : IsNumberOf (codes "from") 0 view.from words
+  pub count : IfSome view.count (λ n. IsGivenNumber (codes "count") n words)
+  pub choice : GivesChoice words view.choice
+
+-- values stand where there is room, unless the line says where
+abbrev pub GivesValues : List (List ℕ) → Values → Type 0
+GivesValues words values.WithRoom = ⊤
+GivesValues words values.All = IsValueOf (codes "values") (codes "all") words
+GivesValues words values.Nowhere = IsValueOf (codes "values") (codes "none") words
+
+-- a picture is compact only if the line says so
+pub record GivesStyle (words : List (List ℕ)) (style : Style) : Type 0 where
+  pub values : GivesValues words style.values
+  pub compact : style.is_compact ≡ true → HasWord (option_word (codes "compact")) words
+
+-- a picture takes its file, what it shows, and how, from the line
+pub record GivesPicture (words : List (List ℕ)) (picture : Picture) : Type 0 where
+  pub file : HasWord picture.file.now words
+  pub view : GivesView words picture.view
+  pub style : GivesStyle words picture.style
+  pub rows : picture.rows ≡ true → HasWord (option_word (codes "rows")) words
+
 -- the viewer's format is the one that the line names
 abbrev pub GivesFormat : List (List ℕ) → Format → Type 0
 GivesFormat words format.Chrome = IsValueOf (codes "format") (codes "chrome") words
@@ -193,10 +229,7 @@ Gives words (request.Profile traced to by names) =
     GivesTraced words traced × IfSome to (λ n. IsGivenNumber (codes "to") n words) × IfSome by (GivesTable words)
     × GivesNames words names
 Gives words (request.Show traced shown) = GivesTraced words traced × GivesShown words shown
-Gives words (request.Draw traced picture) =
-    GivesTraced words traced × HasWord picture.file.now words
-    × IsNumberOf (codes "from") 0 picture.from words × IsNumberOf (codes "count") 400 picture.count words
-    × (picture.rows ≡ true → HasWord (option_word (codes "rows")) words)
+Gives words (request.Draw traced picture) = GivesTraced words traced × GivesPicture words picture
 Gives words (request.Export traced exported) = GivesTraced words traced × GivesExported words exported
 Gives words (request.Assemble assembly) = GivesAssembly words assembly
 Gives words (request.List image names) = GivesImage words image × GivesNames words names

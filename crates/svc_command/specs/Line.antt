@@ -2,7 +2,7 @@
 use Rattle.std.specs.Prelude.{◌≡◌, ◌+◌, ◌++◌, ◌⊎◌, ℕ, List, Some, map, codes, slice_get, string_bytes}
 use Rattle.std.specs.Str.Parse.{IsNumeral, digits_value, without_leading_plus}
 use Rattle.std.specs.declared.string.String.{String}
-use Rattle.svc_held.specs.declared.span.Span.{Span}
+use Rattle.svc_span.specs.declared.span.Span.{Span}
 
 -- the texts of words, the program's name first
 abbrev pub texts : {A : Type 0} → List (String A) → List (List ℕ)

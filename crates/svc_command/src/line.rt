@@ -67,6 +67,17 @@ impl<'a> Line<'_, 'a> {
         }
     }
 
+    /// The number of an option, if it is given.
+    pub(crate) fn number_if_given(self, name: &str) -> Result<Option<u32>, Fault>
+        ensures { IfOk result (λ number. IfSome number
+            (λ n. IsGivenNumber name.now n (texts self.entry.words.now))) }
+    {
+        match self.option(name)? {
+            Some(text) => Ok(Some(number_of::<u32>(text).ok_or(Fault::File)?)),
+            None => Ok(None),
+        }
+    }
+
     /// The number of 64 bits of an option, if it is given.
     pub(crate) fn index(self, name: &str) -> Result<Option<u64>, Fault>
         ensures { IfOk result (λ index. IfSome index (λ n. IsGivenNumber name.now n (texts self.entry.words.now))) }

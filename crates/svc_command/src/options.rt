@@ -1,18 +1,18 @@
 //! What the options of several subcommands give.
 
 ghost use Rattle.std.specs.Prelude.{◌≡◌, ◌++◌, IfOk, IfSome, codes};
-ghost use Rattle.svc_command.specs.Given.{GivesCompared, GivesConfig, GivesExtras, GivesFormat, GivesImage};
+ghost use Rattle.svc_command.specs.Given.{GivesChoice, GivesCompared, GivesConfig, GivesExtras, GivesFormat};
 ghost use Rattle.svc_command.specs.Given.{GivesNeedsTable, GivesOrder, GivesRow, GivesSchedule, GivesSought, GivesSpan};
-ghost use Rattle.svc_command.specs.Given.{GivesTable};
+ghost use Rattle.svc_command.specs.Given.{GivesImage, GivesStyle, GivesTable, GivesValues, GivesView};
 ghost use Rattle.svc_command.specs.Line.{IsValueOf, ReadsAs, ReadsSpan, texts};
 
 use crate::line::{Line, number_of};
-use std::alloc::Global;
+use std::alloc::{AllocError, Global};
 use svc_base::Config;
 use svc_core::MAX_BURST_TURNS;
 use svc_program::{
-    Compared, Extras, Fault, Format, NeedsTable, Order, Schedule, Sought, Source, Span, Table,
-    TableRow,
+    Choice, Compared, Extras, Fault, Format, NeedsTable, Order, Schedule, Sought, Source, Span,
+    Style, Table, TableRow, Values, View,
 };
 
 const SEED_ALONE: &str = "error: the argument '--seed <N>' is of '--schedule random' alone
@@ -21,12 +21,6 @@ For more information, try '--help'.
 ";
 
 const NOT_SOUGHT: &str = "error: the value of '--find' is not WHAT, WHAT,TASK or WHAT,TASK,WORD
-
-For more information, try '--help'.
-";
-
-const NOT_A_SPAN: &str =
-    "error: the value of '--memory' or '--words' is not A or A-B, where A is at most B
 
 For more information, try '--help'.
 ";
@@ -205,8 +199,62 @@ pub(crate) fn span(alloc: Global, line: Line<'_, '_>, name: &str) -> Result<Opti
     };
     match span_of(text) {
         Some(span) => Ok(Some(span)),
-        None => Err(Fault::CommandLine(String::from_str(alloc, NOT_A_SPAN)?)),
+        None => Err(not_a_span(alloc, name)?),
     }
+}
+
+// The option of this name has a value that is no span.
+fn not_a_span(alloc: Global, name: &str) -> Result<Fault, AllocError> {
+    let text = format!(in alloc;
+        "error: the value of '--{name}' is not A or A-B, where A is at most B\n\nFor more information, try '--help'.\n"
+    )?;
+    Ok(Fault::CommandLine(text))
+}
+
+// Which bars and marks a picture shows.
+fn choice(alloc: Global, line: Line<'_, '_>) -> Result<Choice, Fault>
+    ensures { IfOk result (GivesChoice (texts line.entry.words.now)) }
+{
+    Ok(Choice {
+        units: span(alloc, line, "unit")?,
+        tasks: span(alloc, line, "task")?,
+        words: span(alloc, line, "word")?,
+    })
+}
+
+/// What a picture shows of a trace.
+pub(crate) fn view(alloc: Global, line: Line<'_, '_>) -> Result<View, Fault>
+    ensures { IfOk result (GivesView (texts line.entry.words.now)) }
+{
+    Ok(View {
+        from: line.number("from", 0)?,
+        count: line.number_if_given("count")?,
+        choice: choice(alloc, line)?,
+    })
+}
+
+// Beside which marks values stand.
+fn values(line: Line<'_, '_>) -> Result<Values, Fault>
+    ensures { IfOk result (GivesValues (texts line.entry.words.now)) }
+{
+    match line.option("values")? {
+        None => Ok(Values::WithRoom),
+        Some("auto") => Ok(Values::WithRoom),
+        Some("all") => Ok(Values::All),
+        Some("none") => Ok(Values::Nowhere),
+        // The parser accepts no other name.
+        Some(_) => Err(Fault::File),
+    }
+}
+
+/// How a picture is drawn.
+pub(crate) fn style(line: Line<'_, '_>) -> Result<Style, Fault>
+    ensures { IfOk result (GivesStyle (texts line.entry.words.now)) }
+{
+    Ok(Style {
+        values: values(line)?,
+        is_compact: line.flag("compact"),
+    })
 }
 
 /// What is shown beside the rows of every show.

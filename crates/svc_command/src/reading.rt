@@ -136,7 +136,7 @@ fn asked_by_files<'a>(alloc: Global, name: &str, line: Line<'_, 'a>) -> Result<R
         "check" => check(line),
         "profile" => profile(line),
         "show" => show(alloc, line),
-        "draw" => draw(line),
+        "draw" => draw(alloc, line),
         "export" => export(alloc, line),
         _ => asked_by_text(name, line),
     }

@@ -7,7 +7,8 @@ ghost use Rattle.svc_command.specs.Line.{IsNamed, texts};
 
 use crate::line::Line;
 use crate::options::{
-    compared, configuration, extras, format, image, needs_table, row, schedule, sought, span, table,
+    compared, configuration, extras, format, image, needs_table, row, schedule, sought, span,
+    style, table, view,
 };
 use std::alloc::Global;
 use svc_core::MAX_BURST_TURNS;
@@ -139,21 +140,19 @@ pub(crate) fn show<'a>(alloc: Global, line: Line<'_, 'a>) -> Result<Request<'a>,
 }
 
 /// The trace that `draw` asks for, and the picture.
-pub(crate) fn draw<'a>(line: Line<'_, 'a>) -> Result<Request<'a>, Fault>
+pub(crate) fn draw<'a>(alloc: Global, line: Line<'_, 'a>) -> Result<Request<'a>, Fault>
     ensures named { IsNamed (codes "draw") (texts line.entry.words.now)
         → IfOk result (Names (texts line.entry.words.now)) }
     ensures gives { IfOk result (Gives (texts line.entry.words.now)) }
 {
     let traced = traced(line)?;
-    Ok(Request::Draw(
-        traced,
-        Picture {
-            file: line.file("FILE.svg")?,
-            from: line.number("from", 0)?,
-            count: line.number("count", 400)?,
-            rows: line.flag("rows"),
-        },
-    ))
+    let picture = Picture {
+        file: line.file("FILE.svg")?,
+        view: view(alloc, line)?,
+        style: style(line)?,
+        rows: line.flag("rows"),
+    };
+    Ok(Request::Draw(traced, picture))
 }
 
 /// The trace that `export` asks for, and how it is saved.

@@ -2,10 +2,10 @@
 
 ghost use Rattle.std.specs.Prelude.{◌≡◌, ◌==◌, ◌+◌, ◌*◌, ◌/◌, ◌^◌, ◌<◌, ◌≤◌, ◌%◌, IfOk};
 ghost use Rattle.svc_image.specs.declared.layout.TheConstants.{MOST_WORDS};
-ghost use Rattle.svc_core_laws.specs.Numbers.{extended, load_bytes, store_bytes};
+ghost use Rattle.svc_core_laws.specs.Numbers.{extension, load_bytes, store_bytes};
 ghost use Rattle.svc_core_laws.specs.Turns.{access_trap, store_trap, word_address, lane_of};
 ghost use Rattle.svc_core.specs.Places.{trap_of};
-ghost use Rattle.svc_core_laws.specs.Words.{loaded, stored};
+ghost use Rattle.svc_core_laws.specs.Words.{loaded_value, stored_word};
 
 use svc_image::DATA_START;
 use svc_rv32i::{LoadKind, StoreKind};
@@ -108,9 +108,9 @@ fn is_aligned(kind: StoreKind, addr: u32) -> bool
 
 /// The value that a load takes from a word, from this byte on.
 #[inline(always)]
-pub fn loaded(kind: LoadKind, lane: u32, word: u32) -> u32
+pub fn loaded_value(kind: LoadKind, lane: u32, word: u32) -> u32
     requires { lane + load_bytes kind ≤ 4 }
-    ensures { result ≡ loaded kind lane word }
+    ensures { result ≡ loaded_value kind lane word }
 {
     match kind {
         // Its lane is 0.
@@ -121,10 +121,10 @@ pub fn loaded(kind: LoadKind, lane: u32, word: u32) -> u32
 
 /// The word with its bytes from a lane on replaced by the lowest bytes of a value.
 #[inline(always)]
-pub fn stored(kind: StoreKind, lane: u32, value: u32, word: u32) -> u32
+pub fn stored_word(kind: StoreKind, lane: u32, value: u32, word: u32) -> u32
     requires fits { lane + store_bytes kind ≤ 4 }
     requires aligned { lane % store_bytes kind ≡ 0 }
-    ensures { result ≡ stored kind lane value word }
+    ensures { result ≡ stored_word kind lane value word }
 {
     match kind {
         StoreKind::Byte => with_byte(lane, value % 0x100, word),
@@ -167,10 +167,10 @@ fn lowest(kind: LoadKind, bytes: u32) -> u32
 }
 
 // The register's new value, by the kind of the load.
-#[tactic(auto, unfolding(svc_core_laws::specs::Numbers::extended))]
+#[tactic(auto, unfolding(svc_core_laws::specs::Numbers::extension))]
 fn extend(kind: LoadKind, number: u32) -> u32
     requires { number < 256 ^ load_bytes kind }
-    ensures { result ≡ extended kind number }
+    ensures { result ≡ extension kind number }
 {
     match kind {
         LoadKind::Byte => {
@@ -196,7 +196,7 @@ fn extend(kind: LoadKind, number: u32) -> u32
 fn with_byte(lane: u32, byte: u32, word: u32) -> u32
     requires lane { lane < 4 }
     requires byte { byte < 256 }
-    ensures { result ≡ stored StoreKind.Byte lane byte word }
+    ensures { result ≡ stored_word StoreKind.Byte lane byte word }
 {
     match lane {
         0 => word / 0x100 * 0x100 + byte,

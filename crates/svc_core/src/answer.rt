@@ -6,9 +6,9 @@ ghost use Rattle.svc_core_laws.specs.Numbers.{load_bytes, store_bytes};
 ghost use Rattle.svc_core_laws.specs.Turns.{access_trap, store_trap};
 ghost use Rattle.svc_core_laws.specs.Program.{over, wrote, output};
 ghost use Rattle.svc_core_laws.specs.Bursts.{IsReady};
-ghost use Rattle.svc_core_laws.specs.Steps.{answered, load_answer, store_answer};
+ghost use Rattle.svc_core_laws.specs.Steps.{after_ask, load_answer, store_answer};
 
-use crate::access::{load_place, loaded, store_place, stored};
+use crate::access::{load_place, loaded_value, store_place, stored_word};
 use crate::core_state::Core;
 use svc_core_laws::Ask;
 use svc_rv32i::{LoadKind, Register, StoreKind};
@@ -20,12 +20,12 @@ impl Core {
     pub fn answer(&mut self, ask: Ask, memory: &mut [u32], read_only: u32) -> Option<u32>
         requires ready { IsReady self.old ask }
         requires few { length memory.old ≤ MOST_WORDS }
-        ensures core { self.new ≡ (answered (length memory.old) read_only ask self.old (slice_index memory.old)).core }
+        ensures core { self.new ≡ (after_ask (length memory.old) read_only ask self.old (slice_index memory.old)).core }
         ensures memory { (a : ℕ) → slice_index memory.new a
-            ≡ over (wrote (answered (length memory.old) read_only ask self.old (slice_index memory.old)).log)
+            ≡ over (wrote (after_ask (length memory.old) read_only ask self.old (slice_index memory.old)).log)
             (slice_index memory.old) a }
         ensures output { option_to_list result
-            ≡ output (answered (length memory.old) read_only ask self.old (slice_index memory.old)).log }
+            ≡ output (after_ask (length memory.old) read_only ask self.old (slice_index memory.old)).log }
     {
         match ask {
             Ask::Nothing => None,
@@ -56,7 +56,7 @@ impl Core {
         match load_place(kind, addr, memory.len() as u32) {
             Ok(access) => {
                 let word = memory[access.word as usize];
-                self.set(rd, loaded(kind, access.lane, word));
+                self.set(rd, loaded_value(kind, access.lane, word));
             }
             Err(trap) => self.trap(trap),
         }
@@ -78,7 +78,7 @@ impl Core {
         match store_place(kind, addr, memory.len() as u32, read_only) {
             Ok(access) => {
                 let at = access.word as usize;
-                memory[at] = stored(kind, access.lane, value, memory[at]);
+                memory[at] = stored_word(kind, access.lane, value, memory[at]);
                 self.pass();
             }
             Err(trap) => self.trap(trap),

@@ -3,7 +3,7 @@
 ghost use Rattle.std.specs.Prelude.{◌≡◌, ◌≤◌, ◌+◌};
 ghost use Rattle.svc_base.specs.declared.limits.TheConstants.{MAX_TASK_OUTPUT};
 ghost use Rattle.svc_image.specs.declared.layout.TheConstants.{MOST_WORDS};
-ghost use Rattle.svc_core_laws.specs.State.{ended};
+ghost use Rattle.svc_core_laws.specs.State.{end_count};
 
 use crate::core_state::Core;
 use svc_core_laws::End;
@@ -21,7 +21,7 @@ impl Core {
     #[inline]
     pub fn count(&self) -> u32
         ensures value { result ≡ self.now.count }
-        ensures few { self.now.count ≤ self.now.limit + ended self.now.done }
+        ensures few { self.now.count ≤ self.now.limit + end_count self.now.done }
     {
         self.count
     }

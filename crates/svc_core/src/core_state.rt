@@ -4,7 +4,7 @@ ghost use Rattle.std.specs.Prelude.{◌≡◌, ◌<◌, true, false, IsTrue, ◌
 ghost use Rattle.svc_image.specs.Image.{is_entry};
 ghost use Rattle.svc_core_laws.specs.State.{value_of, start};
 ghost use Rattle.svc_core_laws.specs.Same.{same_end, same_words, same_state};
-ghost use Rattle.svc_core.specs.Empty.{exited};
+ghost use Rattle.svc_core.specs.Empty.{exit_core};
 
 use std::marker::Model;
 use svc_core_laws::End;
@@ -79,8 +79,8 @@ impl Core {
     }
 
     // The core of a task that has ended without a turn.
-    pub(crate) fn ended() -> Core
-        ensures { result ≡ exited }
+    pub(crate) fn at_exit() -> Core
+        ensures { result ≡ exit_core }
     {
         Core {
             pc: 0,

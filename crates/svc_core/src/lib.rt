@@ -12,7 +12,7 @@ mod finish;
 mod numbers;
 mod turn;
 
-pub use access::{Access, load_place, loaded, store_place, stored};
+pub use access::{Access, load_place, loaded_value, store_place, stored_word};
 pub use burst::{Burst, Lease};
 pub use core_state::Core;
 pub use effect::Effect;

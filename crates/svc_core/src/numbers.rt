@@ -1,15 +1,15 @@
 // Operations and comparisons of 32 bits.
 
 ghost use Rattle.std.specs.Prelude.{◌≡◌};
-ghost use Rattle.svc_core_laws.specs.Numbers.{operated, compared};
+ghost use Rattle.svc_core_laws.specs.Numbers.{operation_result, comparison_holds};
 
 use svc_rv32i::{Comparison, Operation};
 
 /// The result of an operation on two numbers; a shift takes the lowest five bits of the second.
 #[inline(always)]
-#[tactic(auto, unfolding(svc_core_laws::specs::Numbers::operated))]
+#[tactic(auto, unfolding(svc_core_laws::specs::Numbers::operation_result))]
 pub fn operate(op: Operation, a: u32, b: u32) -> u32
-    ensures { result ≡ operated op a b }
+    ensures { result ≡ operation_result op a b }
 {
     match op {
         Operation::Add => a.wrapping_add(b),
@@ -27,9 +27,9 @@ pub fn operate(op: Operation, a: u32, b: u32) -> u32
 
 /// Whether a branch that compares these two numbers is taken.
 #[inline(always)]
-#[tactic(auto, unfolding(svc_core_laws::specs::Numbers::compared))]
+#[tactic(auto, unfolding(svc_core_laws::specs::Numbers::comparison_holds))]
 pub fn compare(test: Comparison, a: u32, b: u32) -> bool
-    ensures { result ≡ compared test a b }
+    ensures { result ≡ comparison_holds test a b }
 {
     match test {
         Comparison::Equal => a == b,

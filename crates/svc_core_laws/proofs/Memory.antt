@@ -5,7 +5,7 @@ use Rattle.std.proofs.lemmas.List.{get_or_past}
 use Rattle.std.proofs.lemmas.Nat.{pow-add, mod_below, div-add-mod'}
 use Rattle.std.proofs.Math.Nat.{pow-suc, suc-add, add-mul-mod_self_left, add-mul-div_left, mod-eq_of_lt, div-eq_of_lt, div-div-eq-div-mul}
 use Rattle.std.proofs.Math.ListN.{length-set}
-use Rattle.svc_core_laws.specs.Bytes.{number_at, word_at, with_bytes, extracted, replaced}
+use Rattle.svc_core_laws.specs.Bytes.{number_at, word_at, with_bytes, bytes_from, word_with_bytes}
 
 -- a number is its lower bytes and its higher ones
 number-split : (i j k : ℕ) (m : List ℕ) → number_at (i + j) k m ≡ number_at i k m + 256 ^ i * number_at j (k + i) m
@@ -42,7 +42,7 @@ unfolding word_at
 parts o n r a m e = record { whole = ap (λ (s : ℕ). number_at s (4 * a) m) (sym e) ∙ number-split o (n + r) (4 * a) m ∙ ap (λ (x : ℕ). number_at o (4 * a) m + 256 ^ o * x) (number-split n r (4 * a + o) m) }
 
 -- the load of n bytes from byte o of a word
-pub load-is : (o n r a : ℕ) (m : List ℕ) → o + (n + r) ≡ 4 → ((i : ℕ) → get_or m i 0 < 256) → number_at n (4 * a + o) m ≡ extracted o n (word_at m a)
+pub load-is : (o n r a : ℕ) (m : List ℕ) → o + (n + r) ≡ 4 → ((i : ℕ) → get_or m i 0 < 256) → number_at n (4 * a + o) m ≡ bytes_from o n (word_at m a)
 load-is o n r a m e bytes =
     let p = parts o n r a m e in
     let A = number_at o (4 * a) m in
@@ -50,7 +50,7 @@ load-is o n r a m e bytes =
     let C = number_at r (4 * a + o + n) m in
     let high : (A + 256 ^ o * (B + 256 ^ n * C)) / 256 ^ o ≡ B + 256 ^ n * C = high_part A (B + 256 ^ n * C) (256 ^ o) (number-below o (4 * a) m bytes) (pow_256 o) in
     let low : (B + 256 ^ n * C) % 256 ^ n ≡ B = low_part B C (256 ^ n) (number-below n (4 * a + o) m bytes) in
-    sym (ap (λ (w : ℕ). extracted o n w) p.whole ∙ ap (λ (x : ℕ). x % 256 ^ n) high ∙ low)
+    sym (ap (λ (w : ℕ). bytes_from o n w) p.whole ∙ ap (λ (x : ℕ). x % 256 ^ n) high ∙ low)
 
 -- what stands elsewhere stays
 pub length-with_bytes : (n k v : ℕ) (m : List ℕ) → length (with_bytes n k v m) ≡ length m
@@ -94,7 +94,7 @@ number_written (suc n) k v m h =
     rw (here, rest, pow-suc 256 n) (mod_split v (256 ^ n) (pow_256 n))
 
 -- the store of n bytes into byte o of a word
-pub store-is : (o n r a v : ℕ) (m : List ℕ) → o + (n + r) ≡ 4 → ((i : ℕ) → get_or m i 0 < 256) → 4 * a + 4 ≤ length m → word_at (with_bytes n (4 * a + o) v m) a ≡ replaced o n v (word_at m a)
+pub store-is : (o n r a v : ℕ) (m : List ℕ) → o + (n + r) ≡ 4 → ((i : ℕ) → get_or m i 0 < 256) → 4 * a + 4 ≤ length m → word_at (with_bytes n (4 * a + o) v m) a ≡ word_with_bytes o n v (word_at m a)
 store-is o n r a v m e bytes fits =
     let m' = with_bytes n (4 * a + o) v m in
     let p = parts o n r a m e in

@@ -8,14 +8,14 @@ use Rattle.svc_rv32i.specs.declared.instr.LoadKind.{LoadKind}
 use Rattle.svc_rv32i.specs.declared.instr.LoadKind.TheVariants as load
 use Rattle.svc_rv32i.specs.declared.instr.StoreKind.{StoreKind}
 use Rattle.svc_rv32i.specs.declared.instr.StoreKind.TheVariants as store
-use Rattle.svc_core_laws.specs.Numbers.{extended, load_bytes, store_bytes}
+use Rattle.svc_core_laws.specs.Numbers.{extension, load_bytes, store_bytes}
 use Rattle.svc_image.specs.Image.{Image}
 use Rattle.svc_core_laws.specs.State.{State}
 use Rattle.svc_core_laws.specs.Local.{TurnOutcome, ends, goes_on, sets}
 use Rattle.svc_core_laws.specs.Local as out
-use Rattle.svc_core_laws.specs.Bytes.{number_at, word_at, with_bytes, extracted, replaced, IsMemory}
+use Rattle.svc_core_laws.specs.Bytes.{number_at, word_at, with_bytes, bytes_from, word_with_bytes, IsMemory}
 use Rattle.svc_core_laws.specs.Turns.{Turn, data_words, data_start, word_address, access_trap, unless_read_only, store_trap, arrives, next, loads, stores, on_bytes, plain}
-use Rattle.svc_core_laws.specs.Words.{wants_load, wants_store, wanted, wants}
+use Rattle.svc_core_laws.specs.Words.{wants_load, wants_store, outcome_want, wants}
 use Rattle.svc_core_laws.specs.Program.{Memory, Run, Action, act, wrote, over, output, Words, with_word}
 use Rattle.svc_core_laws.proofs.Memory.{load-is, store-is, store_elsewhere, length-with_bytes, bytes-with_bytes, number-below}
 
@@ -86,9 +86,9 @@ same_load img base log s m stands kind rd addr is None e =
     let x = addr - data_start in
     let n = load_bytes kind in
     let p = place img n addr (load_width kind) e in
-    let same : extracted (x % 4) n (word_at m (x / 4)) ≡ number_at n x m = sym (load-is (x % 4) n p.rest (x / 4) m p.fits is.bytes) ∙ ap (λ (k : ℕ). number_at n k m) (quotient x) in
+    let same : bytes_from (x % 4) n (word_at m (x / 4)) ≡ number_at n x m = sym (load-is (x % 4) n p.rest (x / 4) m p.fits is.bytes) ∙ ap (λ (k : ℕ). number_at n k m) (quotient x) in
     record {
-      core = ap (λ (v : ℕ). arrives img (sets rd.number (extended kind v) s)) same;
+      core = ap (λ (v : ℕ). arrives img (sets rd.number (extension kind v) s)) same;
       memory = stands;
       output = sym (append-nil (output log));
       is_memory = is;
@@ -99,12 +99,12 @@ over_one : (b w a x : ℕ) (words : Words) (m : Memory) → (b ≡ a → w ≡ x
 over_one b w a x words m at elsewhere = cond_both (b == a) (Some w) (words a) (λ (o : Option ℕ). unwrap_or o (m a) ≡ x) (λ e. at (eqb-true b a e)) (λ e. elsewhere (eqb-false b a e))
 
 -- the memory after a store, by words
-stored : (img : Image) (base : Memory) (log : List Action) (m : List ℕ) → Stands base log m → (n addr v : ℕ) → IsMemory (data_words img) m → Place img n addr → (a : ℕ) → over (with_word ((addr - data_start) / 4) (replaced ((addr - data_start) % 4) n v (word_at m ((addr - data_start) / 4))) (wrote log)) base a ≡ word_at (with_bytes n (addr - data_start) v m) a
+stored : (img : Image) (base : Memory) (log : List Action) (m : List ℕ) → Stands base log m → (n addr v : ℕ) → IsMemory (data_words img) m → Place img n addr → (a : ℕ) → over (with_word ((addr - data_start) / 4) (word_with_bytes ((addr - data_start) % 4) n v (word_at m ((addr - data_start) / 4))) (wrote log)) base a ≡ word_at (with_bytes n (addr - data_start) v m) a
 stored img base log m stands n addr v is p a =
     let x = addr - data_start in
     let turned : word_at (with_bytes n x v m) a ≡ word_at (with_bytes n (4 * (x / 4) + x % 4) v m) a = ap (λ (k : ℕ). word_at (with_bytes n k v m) a) (sym (quotient x)) in
     let fits : 4 * (x / 4) + 4 ≤ length m = omega (arith, p.within, is.size) in
-    over_one (x / 4) (replaced (x % 4) n v (word_at m (x / 4))) a (word_at (with_bytes n x v m) a) (wrote log) base
+    over_one (x / 4) (word_with_bytes (x % 4) n v (word_at m (x / 4))) a (word_at (with_bytes n x v m) a) (wrote log) base
     (λ same. sym (store-is (x % 4) n p.rest (x / 4) v m p.fits is.bytes fits) ∙ ap (word_at (with_bytes n (4 * (x / 4) + x % 4) v m)) same ∙ sym turned)
     (λ other. stands a ∙ sym (store_elsewhere (x % 4) n p.rest (x / 4) a v m p.fits (λ e. other (sym e))) ∙ sym turned)
 
@@ -112,7 +112,7 @@ kept : (img : Image) (m : List ℕ) (n k v : ℕ) → IsMemory (data_words img) 
 kept img m n k v is = record { size = length-with_bytes n k v m ∙ is.size; bytes = bytes-with_bytes n k v m is.bytes }
 
 -- a whole word in place of a word
-replaced_whole : (o v w : ℕ) → o ≡ 0 → w < 2 ^ 32 → replaced o 4 v w ≡ v % 2 ^ 32
+replaced_whole : (o v w : ℕ) → o ≡ 0 → w < 2 ^ 32 → word_with_bytes o 4 v w ≡ v % 2 ^ 32
 replaced_whole o v w e h = rw e (omega arith)
 
 whole_word : (m : List ℕ) (a : ℕ) → ((i : ℕ) → get_or m i 0 < 256) → word_at m a < 2 ^ 32
@@ -126,7 +126,7 @@ same_store img base log s m stands store.Half addr v is None e = record { core =
 same_store img base log s m stands store.Word addr v is None e =
     let x = addr - data_start in
     let p = place img 4 addr four (written-access (data_words img) img.read_only 4 addr e) in
-    let whole : replaced (x % 4) 4 v (word_at m (x / 4)) ≡ v % 2 ^ 32 = replaced_whole (x % 4) v (word_at m (x / 4)) (omega (arith, p.fits)) (whole_word m (x / 4) is.bytes) in
+    let whole : word_with_bytes (x % 4) 4 v (word_at m (x / 4)) ≡ v % 2 ^ 32 = replaced_whole (x % 4) v (word_at m (x / 4)) (omega (arith, p.fits)) (whole_word m (x / 4) is.bytes) in
     record {
       core = refl;
       memory = λ a. ap (λ (w : ℕ). over (with_word (x / 4) w (wrote log)) base a) (sym whole) ∙ stored img base log m stands 4 addr v is p a;
@@ -134,7 +134,7 @@ same_store img base log s m stands store.Word addr v is None e =
       is_memory = kept img m 4 x v is;
     }
 
-same_outcome : (img : Image) (base : Memory) (log : List Action) (s : State) (m : List ℕ) → Stands base log m → (x : TurnOutcome) → IsMemory (data_words img) m → After img base log (on_bytes img s m x) (act (wanted img s x) (word_at m) log)
+same_outcome : (img : Image) (base : Memory) (log : List Action) (s : State) (m : List ℕ) → Stands base log m → (x : TurnOutcome) → IsMemory (data_words img) m → After img base log (on_bytes img s m x) (act (outcome_want img s x) (word_at m) log)
 same_outcome img base log s m stands (out.Local c) is = record { core = refl; memory = stands; output = sym (append-nil (output log)); is_memory = is }
 same_outcome img base log s m stands (out.Load kind rd addr) is = same_load img base log s m stands kind rd addr is (access_trap (data_words img) (load_bytes kind) addr) refl
 same_outcome img base log s m stands (out.Store kind addr v) is = same_store img base log s m stands kind addr v is (store_trap (data_words img) img.read_only (store_bytes kind) addr) refl

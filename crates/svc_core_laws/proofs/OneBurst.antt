@@ -3,7 +3,7 @@ use Rattle.std.proofs.Common.{◌≡◌, ℕ, zero, suc, ◌<◌, ◌≤◌, inl
 use Rattle.std.proofs.lemmas.Option.{none-some}
 use Rattle.std.proofs.lemmas.Bool.{cases_lt}
 use Rattle.svc_image.specs.declared.fetched.Fetched.{Fetched}
-use Rattle.svc_image.specs.Image.{Image, fetched}
+use Rattle.svc_image.specs.Image.{Image, fetch_answer}
 use Rattle.svc_core_laws.specs.declared.end.End.{End}
 use Rattle.svc_core_laws.specs.declared.ask.Ask.{Ask}
 use Rattle.svc_core_laws.specs.declared.ask.Ask.TheVariants as ask
@@ -13,7 +13,7 @@ use Rattle.svc_core_laws.specs.Local as out
 use Rattle.svc_core_laws.specs.Turns.{next}
 use Rattle.svc_core_laws.specs.Words.{program}
 use Rattle.svc_core_laws.specs.Program.{locals}
-use Rattle.svc_core_laws.specs.Bursts.{Advance, after, before, core_of, IsLook, IsAsked, Follows, AreOf, IsAdvance, HasStopped, is_nothing, shown, ask_turns}
+use Rattle.svc_core_laws.specs.Bursts.{Advance, after, before, core_of, IsLook, IsAsked, Follows, AreOf, IsAdvance, HasStopped, is_nothing, burst_outcome, ask_turns}
 use Rattle.svc_core_laws.proofs.Looks.{get_past}
 use Rattle.svc_core_laws.proofs.Means.{Taken, taken, all_locals, asked}
 
@@ -34,7 +34,7 @@ runs_not : (o : Option End) → o ≡ None → is_some o ≡ true → ⊥
 runs_not None e h = cc
 runs_not (Some x) e h = none-some x (sym e)
 
-asks_not : (s c : State) (a : Ask) → is_nothing a ≡ false → shown s a ≡ out.Local c → ⊥
+asks_not : (s c : State) (a : Ask) → is_nothing a ≡ false → burst_outcome s a ≡ out.Local c → ⊥
 asks_not s c ask.Nothing h e = cc
 asks_not s c (ask.Load kind rd addr) h e = cc
 asks_not s c (ask.Store kind addr v) h e = cc
@@ -77,7 +77,7 @@ once (ask.Load kind rd addr) h = refl
 once (ask.Store kind addr v) h = refl
 once (ask.Emit w) h = refl
 
-shown_same : (s t : State) (x y : Ask) → is_nothing x ≡ false → is_nothing y ≡ false → shown s x ≡ shown t y → x ≡ y
+shown_same : (s t : State) (x y : Ask) → is_nothing x ≡ false → is_nothing y ≡ false → burst_outcome s x ≡ burst_outcome t y → x ≡ y
 shown_same s t ask.Nothing y h k e = cc
 shown_same s t (ask.Load kind rd addr) ask.Nothing h k e = cc
 shown_same s t (ask.Load kind rd addr) (ask.Load kind' rd' addr') h k e = cc
@@ -130,13 +130,13 @@ same_before img max a b h (suc n) le =
     let e : out.Local (before a.looks (suc n) a.start) ≡ out.Local (before b.looks (suc n) b.start) = sym p.next_is ∙ (ap (next img) (same_after img max a b h n (omega arith) (omega arith)) ∙ q.next_is) in
     ap (core_of s) e
 
-look_by : (img : Image) (s t : State) (x y : Option Fetched) → s ≡ t → IsLook s x → IsLook t y → ((look : Fetched) → x ≡ Some look → look ≡ fetched img look.pc) → ((look : Fetched) → y ≡ Some look → look ≡ fetched img look.pc) → x ≡ y
+look_by : (img : Image) (s t : State) (x y : Option Fetched) → s ≡ t → IsLook s x → IsLook t y → ((look : Fetched) → x ≡ Some look → look ≡ fetch_answer img look.pc) → ((look : Fetched) → y ≡ Some look → look ≡ fetch_answer img look.pc) → x ≡ y
 look_by img s t None None e p q own own' = refl
 look_by img s t None (Some look) e p q own own' = absurd (runs_not s.done (ap (λ (c : State). c.done) e ∙ q.1) p)
 look_by img s t (Some look) None e p q own own' = absurd (runs_not t.done (sym (ap (λ (c : State). c.done) e) ∙ p.1) q)
 look_by img s t (Some look) (Some look') e p q own own' =
     let place : look.pc ≡ look'.pc = p.0 ∙ (ap (λ (c : State). c.pc) e ∙ sym q.0) in
-    ap Some (own look refl ∙ (ap (fetched img) place ∙ sym (own' look' refl)))
+    ap Some (own look refl ∙ (ap (fetch_answer img) place ∙ sym (own' look' refl)))
 
 same_look_at : (img : Image) (max : ℕ) (a b : Advance) → Both img max a b → (n : ℕ) → slice_get a.looks n ≡ slice_get b.looks n
 same_look_at img max a b h n =

@@ -17,12 +17,12 @@ with_bytes zero k v m = m
 with_bytes (suc n) k v m = with_bytes n (suc k) (v / 256) (slice_set m k (v % 256))
 
 -- n bytes of a word, from its byte o on
-abbrev pub extracted : (o n w : ℕ) → ℕ
-extracted o n w = w / 256 ^ o % 256 ^ n
+abbrev pub bytes_from : (o n w : ℕ) → ℕ
+bytes_from o n w = w / 256 ^ o % 256 ^ n
 
 -- a word with the lowest n bytes of v in place of its bytes from o on
-abbrev pub replaced : (o n v w : ℕ) → ℕ
-replaced o n v w = w % 256 ^ o + 256 ^ o * (v % 256 ^ n + 256 ^ n * (w / 256 ^ (o + n)))
+abbrev pub word_with_bytes : (o n v w : ℕ) → ℕ
+word_with_bytes o n v w = w % 256 ^ o + 256 ^ o * (v % 256 ^ n + 256 ^ n * (w / 256 ^ (o + n)))
 
 -- the lowest n bytes of a number
 abbrev pub low_bytes : (n v : ℕ) → List ℕ

@@ -5,7 +5,8 @@ ghost use Rattle.std.specs.Prelude.{Some, is_some, length, slice_index};
 ghost use Rattle.svc_image.specs.Image.{Image, IsImage, is_entry};
 ghost use Rattle.svc_core_laws.specs.declared.end.End.{End};
 ghost use Rattle.svc_core_laws.specs.State.{State};
-ghost use Rattle.svc_core_laws.specs.Bytes.{IsMemory, number_at, word_at, with_bytes, extracted, replaced, bytes_of};
+ghost use Rattle.svc_core_laws.specs.Bytes.{IsMemory, number_at, word_at, with_bytes, bytes_from, word_with_bytes};
+ghost use Rattle.svc_core_laws.specs.Bytes.{bytes_of};
 ghost use Rattle.svc_core_laws.specs.Turns.{data_words, plain, then_plain};
 ghost use Rattle.svc_core_laws.specs.Program.{Program, IsProgram, Memory, part, turn, seq, exposed, wrote, act, output};
 ghost use Rattle.svc_core_laws.specs.Program as want;
@@ -58,9 +59,9 @@ pub fn one_turn_more()
 /// and leaves every other word.
 pub fn bytes_of_a_word()
     ensures load { (o n r a : ℕ) → (m : List ℕ) → o + (n + r) ≡ 4 → ((i : ℕ) → slice_index m i < 256)
-        → number_at n (4 * a + o) m ≡ extracted o n (word_at m a) }
+        → number_at n (4 * a + o) m ≡ bytes_from o n (word_at m a) }
     ensures store { (o n r a v : ℕ) → (m : List ℕ) → o + (n + r) ≡ 4 → ((i : ℕ) → slice_index m i < 256)
-        → 4 * a + 4 ≤ length m → word_at (with_bytes n (4 * a + o) v m) a ≡ replaced o n v (word_at m a) }
+        → 4 * a + 4 ≤ length m → word_at (with_bytes n (4 * a + o) v m) a ≡ word_with_bytes o n v (word_at m a) }
     ensures elsewhere { (o n r a b v : ℕ) → (m : List ℕ) → o + (n + r) ≡ 4 → b ≢ a
         → word_at (with_bytes n (4 * a + o) v m) b ≡ word_at m b }
 {}

@@ -14,9 +14,9 @@ use Rattle.svc_core_laws.specs.Numbers.{load_bytes, store_bytes}
 use Rattle.svc_core_laws.specs.State.{State}
 use Rattle.svc_core_laws.specs.Local.{outcome_at}
 use Rattle.svc_core_laws.specs.Turns.{data_words, word_address, access_trap, store_trap}
-use Rattle.svc_core_laws.specs.Words.{wants, wanted, wants_load, wants_store}
-use Rattle.svc_core_laws.specs.Bursts.{is_nothing, shown}
-use Rattle.svc_core_laws.specs.Steps.{step_of, answered}
+use Rattle.svc_core_laws.specs.Words.{wants, outcome_want, wants_load, wants_store}
+use Rattle.svc_core_laws.specs.Bursts.{is_nothing, burst_outcome}
+use Rattle.svc_core_laws.specs.Steps.{step_of, after_ask}
 use Rattle.svc_core_laws.proofs.Ends.{next_running}
 use Rattle.svc_core_laws.proofs.OneStep.{at_entry, step_is}
 use Rattle.svc_core.specs.Decoded.{outcome_at_found}
@@ -46,25 +46,25 @@ store_writes img s store.Byte addr v None = refl
 store_writes img s store.Half addr v None = refl
 store_writes img s store.Word addr v None = refl
 
-shown_reads : (img : Image) (s c : State) (a : Ask) → word_read (wanted img s (shown c a)) ≡ asked_read (data_words img) img.read_only a
+shown_reads : (img : Image) (s c : State) (a : Ask) → word_read (outcome_want img s (burst_outcome c a)) ≡ asked_read (data_words img) img.read_only a
 shown_reads img s c ask.Nothing = refl
 shown_reads img s c (ask.Load kind rd addr) = load_reads img s kind rd addr (access_trap (data_words img) (load_bytes kind) addr)
 shown_reads img s c (ask.Store kind addr v) = store_reads img s kind addr v (store_trap (data_words img) img.read_only (store_bytes kind) addr)
 shown_reads img s c (ask.Emit w) = refl
 
-shown_writes : (img : Image) (s c : State) (a : Ask) → word_written (wanted img s (shown c a)) ≡ asked_written (data_words img) img.read_only a
+shown_writes : (img : Image) (s c : State) (a : Ask) → word_written (outcome_want img s (burst_outcome c a)) ≡ asked_written (data_words img) img.read_only a
 shown_writes img s c ask.Nothing = refl
 shown_writes img s c (ask.Load kind rd addr) = load_writes img s kind rd addr (access_trap (data_words img) (load_bytes kind) addr)
 shown_writes img s c (ask.Store kind addr v) = store_writes img s kind addr v (store_trap (data_words img) img.read_only (store_bytes kind) addr)
 shown_writes img s c (ask.Emit w) = refl
 
-module _ (img : Image) (s c : State) (a : Ask) (found : Option Decoded) (words read_only : ℕ) (running : s.done ≡ None) (here : found ≡ decoded_at img s.pc) (turn : outcome_at_found s found ≡ shown c a) (size : words ≡ data_words img) (first : read_only ≡ img.read_only) where
-  outcome : outcome_at s (fetch img s.pc) ≡ shown c a
+module _ (img : Image) (s c : State) (a : Ask) (found : Option Decoded) (words read_only : ℕ) (running : s.done ≡ None) (here : found ≡ decoded_at img s.pc) (turn : outcome_at_found s found ≡ burst_outcome c a) (size : words ≡ data_words img) (first : read_only ≡ img.read_only) where
+  outcome : outcome_at s (fetch img s.pc) ≡ burst_outcome c a
   outcome = found_turn s (fetch img s.pc) ∙ ap (outcome_at_found s) (sym here) ∙ turn
 
-  wants_is : wants img s ≡ wanted img s (shown c a)
+  wants_is : wants img s ≡ outcome_want img s (burst_outcome c a)
   unfolding wants
-  wants_is = ap (wanted img s) (next_running img s running ∙ outcome)
+  wants_is = ap (outcome_want img s) (next_running img s running ∙ outcome)
 
   pub turn_reads : asked_read words read_only a ≡ word_read (wants img s)
   turn_reads = ap₂ (λ n r. asked_read n r a) size first ∙ sym (ap word_read wants_is ∙ shown_reads img s c a)
@@ -73,5 +73,5 @@ module _ (img : Image) (s c : State) (a : Ask) (found : Option Decoded) (words r
   turn_writes = ap₂ (λ n r. asked_written n r a) size first ∙ sym (ap word_written wants_is ∙ shown_writes img s c a)
 
   -- the whole turn
-  pub turn_is : (m : List ℕ) → (is_nothing a ≡ false → c ≡ s) → step_of img s m ≡ at_entry img (answered words read_only a c (slice_index m))
+  pub turn_is : (m : List ℕ) → (is_nothing a ≡ false → c ≡ s) → step_of img s m ≡ at_entry img (after_ask words read_only a c (slice_index m))
   turn_is m asked = step_is img a s c (fetch img s.pc) words read_only m running refl outcome asked size first

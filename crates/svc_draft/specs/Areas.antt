@@ -1,5 +1,6 @@
 -- The bytes of sections of data.
-use Rattle.std.specs.Prelude.{ℕ, zero, suc, ◌+◌, ◌-◌, ◌%◌, ◌==◌, nat_le, List, [], ◌∷◌, ◌++◌, length, take, replicate, Option, Some, None, if◌then◌else◌}
+use Rattle.std.specs.Prelude.{ℕ, zero, suc, ◌+◌, ◌-◌, ◌%◌, ◌==◌, nat_le, List, [], ◌∷◌, ◌++◌, length, take, replicate}
+use Rattle.std.specs.Prelude.{Option, Some, None, if◌then◌else◌}
 use Rattle.svc_image.specs.Format.{bytes_of_half, bytes_of_word}
 use Rattle.svc_draft.specs.Options.{◌>>=◌}
 use Rattle.svc_draft.specs.declared.statement.Width.{Width}
@@ -40,6 +41,8 @@ abbrev pub some_word : List ℕ → List ℕ
 some_word [] = 0 ∷ 0 ∷ 0 ∷ 0 ∷ []
 some_word (b ∷ bytes) = b ∷ bytes
 
--- the data of an image, in whole words: its sections one behind the other, .data and .bss each from a multiple of a step on
+-- the data of an image, in whole words: its sections one behind the other, .data and .bss each from a multiple of a
+-- step on
 unfoldable pub data_of : (data_step bss_step : ℕ) → (rodata data_bytes bss : List ℕ) → List ℕ
-data_of data_step bss_step rodata data_bytes bss = some_word (filled 4 (filled bss_step (filled data_step rodata ++ data_bytes) ++ bss))
+data_of data_step bss_step rodata data_bytes bss =
+    some_word (filled 4 (filled bss_step (filled data_step rodata ++ data_bytes) ++ bss))

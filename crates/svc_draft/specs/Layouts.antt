@@ -1,5 +1,7 @@
 -- Where the lines of a program put what they say, and the image that this makes.
-use Rattle.std.specs.Prelude.{Bool, false, not, replicate, ◌==◌, Option, Some, None, ℕ, List, [], ◌∷◌, if◌then◌else◌, ◌≡◌, ◌+◌, ◌*◌, ◌-◌, ◌/◌, ◌%◌, ◌^◌, true, nat_eq, nat_le, nat_lt, is_some, ◌++◌, length, map, unwrap_or, slice_set, slice_get, option_map, take, drop, ◌&&◌, ◌||◌}
+use Rattle.std.specs.Prelude.{Bool, false, not, replicate, ◌==◌, Option, Some, None, ℕ, List, [], ◌∷◌, if◌then◌else◌}
+use Rattle.std.specs.Prelude.{◌≡◌, ◌+◌, ◌*◌, ◌-◌, ◌/◌, ◌%◌, ◌^◌, true, nat_eq, nat_le, nat_lt, is_some, ◌++◌, length}
+use Rattle.std.specs.Prelude.{map, unwrap_or, slice_set, slice_get, option_map, take, drop, ◌&&◌, ◌||◌}
 use Rattle.svc_image.specs.declared.version.Version.{Version}
 use Rattle.svc_image.specs.declared.version.Version.TheVariants as version
 use Rattle.svc_image.specs.Version.{version_number, read_only_by, limits_by}
@@ -61,7 +63,8 @@ Distances = ℕ → Option ℕ
 abbrev pub no_distances : Distances
 no_distances place = None
 
--- the branches that are turned: each is the opposite branch over a jump, and is known by how many bytes of the text are left from its target on
+-- the branches that are turned: each is the opposite branch over a jump, and is known by how many bytes of the text are
+-- left from its target on
 abbrev pub Branches : Type 0
 Branches = ℕ → Option (Unit {0})
 
@@ -75,7 +78,15 @@ Weak = List ℕ → Option (Unit {0})
 abbrev pub no_weak : Weak
 no_weak name = None
 
--- what an image is made of so far: the version where it is said; the limit of the entries that have none of their own; how many of the first data words are read-only; the start where it is said; the registers; the entries, and the limit that each has of its own; the words of the text, the bytes of each section of data, of which step .data and .bss begin at a multiple, the section of what follows, and what is read next; the names, whether these are all the names of the program, as they are in the second pass, and how far behind the data's beginning .data and .bss begin then; the local labels, which the second pass has from the first one, and how many of them it has passed; the distances of the instructions with %pcrel_hi so far; the branches that are turned, whether all are, and whether this pass found more; the weak names so far
+-- what an image is made of so far: the version where it is said; the limit of the entries that have none of their own;
+-- how many of the first data words are read-only; the start where it is said; the registers; the entries, and the limit
+-- that each has of its own; the words of the text, the bytes of each section of data, of which step .data and .bss
+-- begin at a multiple, the section of what follows, and what is read next; the names, whether these are all the names
+-- of the program, as they are in the second pass, and how far behind the data's beginning .data and .bss begin then;
+-- the names that the pass before found, and whether one of this pass is set to what isn't known yet; the local labels,
+-- which the second pass has from the first one, and how many of them it has passed; the distances of the instructions
+-- with %pcrel_hi, whether there are any, and whether all are measured; the branches that are turned, whether all are,
+-- and whether this pass found more; the weak names so far
 pub record Layout : Type 0 where
   pub version : Option Version
   pub limit : ℕ
@@ -96,9 +107,13 @@ pub record Layout : Type 0 where
   pub known : Bool
   pub data_from : ℕ
   pub bss_from : ℕ
+  pub before : Names
+  pub lacks_names : Bool
   pub locals : List Local
   pub passed : ℕ
   pub distances : Distances
+  pub has_distances : Bool
+  pub measured : Bool
   pub turned : Branches
   pub turns_all : Bool
   pub grew : Bool
@@ -125,9 +140,13 @@ layout_of d = record {
   known = d.known;
   data_from = d.data_from;
   bss_from = d.bss_from;
+  before = λ name. get_by (λ key. bytes_eq name key.now) d.before;
+  lacks_names = d.lacks_names;
   locals = d.locals.items;
   passed = d.passed;
   distances = get nat_eq d.distances;
+  has_distances = d.has_distances;
+  measured = d.measured;
   turned = get nat_eq d.turned;
   turns_all = d.turns_all;
   grew = d.grew;
@@ -135,9 +154,12 @@ layout_of d = record {
 }
 
 abbrev pub zeros : List ℕ
-zeros = 0 ∷ 0 ∷ 0 ∷ 0 ∷ 0 ∷ 0 ∷ 0 ∷ 0 ∷ 0 ∷ 0 ∷ 0 ∷ 0 ∷ 0 ∷ 0 ∷ 0 ∷ 0 ∷ 0 ∷ 0 ∷ 0 ∷ 0 ∷ 0 ∷ 0 ∷ 0 ∷ 0 ∷ 0 ∷ 0 ∷ 0 ∷ 0 ∷ 0 ∷ 0 ∷ 0 ∷ []
+zeros =
+    0 ∷ 0 ∷ 0 ∷ 0 ∷ 0 ∷ 0 ∷ 0 ∷ 0 ∷ 0 ∷ 0 ∷ 0 ∷ 0 ∷ 0 ∷ 0 ∷ 0 ∷ 0 ∷
+    0 ∷ 0 ∷ 0 ∷ 0 ∷ 0 ∷ 0 ∷ 0 ∷ 0 ∷ 0 ∷ 0 ∷ 0 ∷ 0 ∷ 0 ∷ 0 ∷ 0 ∷ []
 
--- the layout of a program without lines, in a pass with these names and sections
+-- the layout of a program without lines, in a pass with these names and sections; where all names are known, distances
+-- are too
 abbrev pub empty : Names → Bool → (data_from bss_from : ℕ) → Layout
 empty names known data_from bss_from = record {
   version = None;
@@ -159,9 +181,13 @@ empty names known data_from bss_from = record {
   known = known;
   data_from = data_from;
   bss_from = bss_from;
+  before = no_names;
+  lacks_names = false;
   locals = [];
   passed = 0;
   distances = no_distances;
+  has_distances = false;
+  measured = known;
   turned = no_branches;
   turns_all = false;
   grew = false;
@@ -182,7 +208,8 @@ bss_begin d = multiple d.bss_step (data_begin d + length d.data_bytes)
 abbrev pub data_size : Layout → ℕ
 data_size d = multiple 4 (bss_begin d + length d.bss_bytes)
 
--- no lines yet, in the first pass of the first round, of the round behind one that ended so, and of one in which every branch is turned
+-- no lines yet, in the first pass of the first round, of the round behind one that ended so, and of one in which every
+-- branch is turned
 abbrev pub first_pass : Layout
 first_pass = empty no_names false 0 0
 
@@ -192,9 +219,35 @@ next_round d = record first_pass { turned = d.turned }
 abbrev pub last_round : Layout
 last_round = record first_pass { turns_all = true }
 
+-- no lines yet, in a first pass once more, behind one that found these names
+abbrev pub once_more : Layout → Layout
+once_more d = record first_pass { before = d.names; turned = d.turned; turns_all = d.turns_all }
+
 -- no lines yet, in the second pass of a round, behind such a first one
 abbrev pub second_pass : Layout → Layout
-second_pass d = record (empty d.names true (data_begin d) (bss_begin d)) { data_step = d.data_step; bss_step = d.bss_step; locals = d.locals; turned = d.turned; turns_all = d.turns_all; weak = d.weak }
+second_pass d = record (empty d.names true (data_begin d) (bss_begin d)) {
+  data_step = d.data_step;
+  bss_step = d.bss_step;
+  locals = d.locals;
+  turned = d.turned;
+  turns_all = d.turns_all;
+  weak = d.weak;
+}
+
+-- the same where a pass more comes first, which measures distances, and behind that one
+abbrev pub measuring_pass : Layout → Layout
+measuring_pass d = record (second_pass d) { measured = false }
+
+abbrev pub laying_pass : Layout → Layout
+laying_pass d = record (empty d.names true d.data_from d.bss_from) {
+  data_step = d.data_step;
+  bss_step = d.bss_step;
+  locals = d.locals;
+  distances = d.distances;
+  turned = d.turned;
+  turns_all = d.turns_all;
+  weak = d.weak;
+}
 
 -- whether a branch is turned
 abbrev pub is_turned : Layout → ℕ → Bool
@@ -234,16 +287,26 @@ here d = place d (spot_here d)
 abbrev pub address_of : Layout → List ℕ → Option ℕ
 address_of d name = if d.known then option_map (place d) (d.names name) else Some (here d)
 
--- the address of the last local label of a number before here, and of the next one behind here; in the first pass any may yet come
+-- the address of the last local label of a number before here, and of the next one behind here; in the first pass any
+-- may yet come
 abbrev pub address_back : Layout → ℕ → Option ℕ
 address_back d n = if d.known then option_map (place d) (last_local n None (take d.passed d.locals)) else Some (here d)
 
 abbrev pub address_ahead : Layout → ℕ → Option ℕ
 address_ahead d n = if d.known then option_map (place d) (first_local n (drop d.passed d.locals)) else Some (here d)
 
--- how far it is to the value whose high part the instruction at a place has; in the first pass any may yet come to stand there
+-- how far it is to the value whose high part the instruction at a place has; until all are measured, any may yet come
+-- to stand there
 abbrev pub distance_from : Layout → ℕ → Option ℕ
-distance_from d place = if d.known then d.distances place else Some 0
+distance_from d place = if d.measured then d.distances place else Some 0
+
+-- the place that a name stands for by a line above, or by the pass before
+abbrev pub first_spot : Option Spot → Option Spot → Option Spot
+first_spot (Some s) other = Some s
+first_spot None other = other
+
+abbrev pub spot_of : Layout → List ℕ → Option Spot
+spot_of d name = first_spot (d.names name) (d.before name)
 
 -- a word more of the text, of which an image has at most 65,536
 unfoldable pub with_word : ℕ → Layout → Option Layout
@@ -268,11 +331,14 @@ with_blank count d = if count == 0 then Some d else in_section (with_zeros count
 
 -- so many copies of a number of so many bytes
 unfoldable pub with_fill : (count size value : ℕ) → Layout → Option Layout
-with_fill count size value d = if count == 0 || size == 0 then Some d else in_section (with_copies count (sized size value)) d.section d >>= with_room
+with_fill count size value d =
+    if count == 0 || size == 0 then Some d else
+    in_section (with_copies count (sized size value)) d.section d >>= with_room
 
 -- so many instructions that do nothing, addi x0, x0, 0 (0x13)
 unfoldable pub with_nops : ℕ → Layout → Option Layout
-with_nops count d = if nat_le (length d.text + count) 65536 then Some (record d { text = d.text ++ replicate count 19 }) else None
+with_nops count d =
+    if nat_le (length d.text + count) 65536 then Some (record d { text = d.text ++ replicate count 19 }) else None
 
 -- so many bytes that say nothing: zeros, and in the text instructions that do nothing
 abbrev pub with_filling : Section → ℕ → Layout → Option Layout
@@ -316,11 +382,16 @@ with_instruction w d = word_in d.section w d
 
 -- an instruction with the high part of how far it is to a value
 unfoldable pub with_relative : ℕ → ℕ → Layout → Option Layout
-with_relative w n d = with_instruction w (record d { distances = update nat_eq d.distances (here d) (Some n) })
+with_relative w n d =
+    with_instruction w (record d { distances = update nat_eq d.distances (here d) (Some n); has_distances = true })
 
--- a branch that doesn't reach its target: one word stands for it, and it is turned in the next round
+-- a branch that doesn't reach its target: one word stands for it, and once distances are measured, it is noted, to be
+-- turned in the next round
+abbrev pub noting : ℕ → Layout → Layout
+noting left d = if d.measured then record d { turned = update nat_eq d.turned left (Some tt); grew = true } else d
+
 unfoldable pub with_turned : ℕ → Layout → Option Layout
-with_turned left d = with_instruction 19 (record d { turned = update nat_eq d.turned left (Some tt); grew = true })
+with_turned left d = with_instruction 19 (noting left d)
 
 -- the version, of which a program has one
 unfoldable pub with_version : Version → Layout → Option Layout
@@ -338,7 +409,9 @@ abbrev pub read_only_up_to : ℕ → Layout → Option Layout
 read_only_up_to bytes d = Some (record d { read_only = bytes / 4 })
 
 unfoldable pub with_read_only : Layout → Option Layout
-with_read_only d = if data_up_to d.section d % 4 == 0 then with_version version.Two d >>= read_only_up_to (data_up_to d.section d) else None
+with_read_only d =
+    if data_up_to d.section d % 4 == 0 then with_version version.Two d >>= read_only_up_to (data_up_to d.section d)
+    else None
 
 -- the limits of turns that a task may have
 abbrev pub is_limit : ℕ → Bool
@@ -348,13 +421,19 @@ is_limit n = nat_le 1 n && nat_le n 65536
 unfoldable pub with_limit : ℕ → Layout → Option Layout
 with_limit n d = if is_limit n then Some (record d { limit = n }) else None
 
--- whether an entry may stand at the next word of the text: none does, there are fewer than 1,024, and the text isn't full
+-- whether an entry may stand at the next word of the text: none does, there are fewer than 1,024, and the text isn't
+-- full
 abbrev pub takes_entry : Layout → Bool
-takes_entry d = nat_lt (length d.text) 65536 && (nat_lt (length d.entries) 1024 && not (list_any (λ e. e == 4 * length d.text) d.entries))
+takes_entry d =
+    nat_lt (length d.text) 65536
+    && (nat_lt (length d.entries) 1024 && not (list_any (λ e. e == 4 * length d.text) d.entries))
 
 -- an entry at the next word of the text; only version 2 gives it a limit of its own
 unfoldable pub with_place : Option ℕ → Layout → Option Layout
-with_place limit d = if takes_entry d then Some (record d { entries = d.entries ++ (4 * length d.text ∷ []); limits = d.limits ++ (limit ∷ []) }) else None
+with_place limit d =
+    if takes_entry d
+    then Some (record d { entries = d.entries ++ (4 * length d.text ∷ []); limits = d.limits ++ (limit ∷ []) })
+    else None
 
 abbrev pub with_own : Option ℕ → Layout → Option Layout
 with_own None d = Some d
@@ -364,7 +443,8 @@ unfoldable pub with_entry : Option ℕ → Layout → Option Layout
 with_entry limit d = with_own limit d >>= with_place limit
 
 unfoldable pub with_register : Register → ℕ → Layout → Option Layout
-with_register r n d = if r.number == 0 then None else Some (record d { registers = slice_set d.registers (r.number - 1) n })
+with_register r n d =
+    if r.number == 0 then None else Some (record d { registers = slice_set d.registers (r.number - 1) n })
 
 abbrev pub is_place : ℕ → Option ℕ → Bool
 is_place place None = false
@@ -375,6 +455,11 @@ unfoldable pub with_symbol : List ℕ → Spot → Layout → Option Layout
 with_symbol name s d =
     if d.known then if is_place (place d s) (option_map (place d) (d.names name)) then Some d else None
     else if is_some (d.names name) then None else Some (record d { names = update bytes_eq d.names name (Some s) })
+
+-- a name and what it is set to, which a first pass may not know yet
+abbrev pub with_set : List ℕ → Option Spot → Layout → Option Layout
+with_set name (Some s) d = with_symbol name s d
+with_set name None d = if d.known then None else Some (record d { lacks_names = true })
 
 -- a weak name more, or once more
 unfoldable pub with_weak : List ℕ → Layout → Option Layout
@@ -388,13 +473,17 @@ is_local d n (Some l) = l.number == n && place d l.spot == here d
 unfoldable pub with_passed : ℕ → Layout → Option Layout
 with_passed n d = if is_local d n (slice_get d.locals d.passed) then Some (record d { passed = d.passed + 1 }) else None
 
--- a local label: in the first pass one more, of which a text has at most 4,096, and in the second it stands where the first found it
+-- a local label: in the first pass one more, of which a text has at most 4,096, and in the second it stands where the
+-- first found it
 unfoldable pub with_local : ℕ → Layout → Option Layout
 with_local n d =
     if d.known then with_passed n d
-    else if nat_lt (length d.locals) 4096 then Some (record d { locals = d.locals ++ (record { number = n; spot = spot_here d } ∷ []) }) else None
+    else if nat_lt (length d.locals) 4096
+    then Some (record d { locals = d.locals ++ (record { number = n; spot = spot_here d } ∷ []) })
+    else None
 
--- so many zeros in .bss, behind zeros up to a multiple of a step, which a name stands for; what follows stands where it stood before
+-- so many zeros in .bss, behind zeros up to a multiple of a step, which a name stands for; what follows stands where it
+-- stood before
 unfoldable pub with_common : List ℕ → ℕ → ℕ → Layout → Option Layout
 with_common name count step d = do
   aligned ← with_align step (record d { section = section.Bss })
@@ -419,7 +508,7 @@ after name (say.Align step) d = with_align step d
 after name (say.Open n) d = going_on n d
 after name (say.Value width n next) d = with_value width n d >>= going_on next
 after name (say.Long low high next) d = with_value wide.Word low d >>= with_value wide.Word high >>= going_on next
-after name (say.Symbol s) d = with_symbol name s d >>= going_on go.Line
+after name (say.Symbol s) d = with_set name s d >>= going_on go.Line
 after name (say.Common count step) d = with_common name count step d
 after name (say.Pair v w) d = with_instruction v d >>= with_instruction w
 after name (say.Turned left) d = with_turned left d
@@ -447,7 +536,8 @@ data_in d = data_of d.data_step d.bss_step d.rodata_bytes d.data_bytes d.bss_byt
 -- what the version of a layout has in its own way
 abbrev pub IsOwnOf : Own → Layout → Type 0
 IsOwnOf (own.One limit) d = (version_in d.version ≡ version.One) × (limit ≡ d.limit)
-IsOwnOf (own.Two read_only limits) d = (version_in d.version ≡ version.Two) × (read_only ≡ d.read_only) × (limits.items ≡ limits_in d.limit d.limits)
+IsOwnOf (own.Two read_only limits) d =
+    (version_in d.version ≡ version.Two) × (read_only ≡ d.read_only) × (limits.items ≡ limits_in d.limit d.limits)
 
 -- the image that a layout makes
 unfoldable pub image_laid : Layout → Image

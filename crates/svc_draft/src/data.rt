@@ -4,7 +4,10 @@ ghost use Rattle.std.specs.Prelude.{◌≡◌, ◌+◌, ◌%◌, ◌≤◌, ◌+
 ghost use Rattle.svc_image.specs.declared.error.ImageError.TheVariants as image_error;
 ghost use Rattle.svc_image.specs.Format.{bytes_of_half, bytes_of_word};
 ghost use Rattle.svc_draft.specs.Areas.{padding, with_more, with_zeros, with_copies, filled, data_of, bytes_in};
-ghost use Rattle.svc_draft.specs.Layouts.{multiple, greater_step, data_begin, bss_begin, data_size, layout_of, in_section, with_room, with_bytes, with_blank, with_fill, with_nops, with_filling, with_step, with_align, with_value, with_common, with_word, with_instruction, with_turned, with_relative};
+ghost use Rattle.svc_draft.specs.Layouts.{multiple, greater_step, data_begin, bss_begin, data_size, layout_of};
+ghost use Rattle.svc_draft.specs.Layouts.{in_section, with_room, with_bytes, with_blank, with_fill, with_nops};
+ghost use Rattle.svc_draft.specs.Layouts.{with_filling, with_step, with_align, with_value, with_common, with_word};
+ghost use Rattle.svc_draft.specs.Layouts.{with_instruction};
 ghost use Rattle.svc_draft.specs.Refusals.{Changes};
 
 use crate::draft::Draft;
@@ -14,8 +17,8 @@ use byteorder::{ByteOrder, LittleEndian};
 use std::alloc::Global;
 use svc_image::{ImageError, MOST_WORDS};
 
-// The instruction that does nothing: addi x0, x0, 0.
-const NOP: u32 = 0x13;
+/// The instruction that does nothing: addi x0, x0, 0.
+pub(crate) const NOP: u32 = 0x13;
 
 // The most bytes of a section.
 const MOST_BYTES: usize = 4 * MOST_WORDS as usize;
@@ -253,7 +256,8 @@ impl<'a> Draft<'a> {
 
     pub(crate) fn copy_into_section(&mut self, count: u32, unit: &[u8]) -> Result<(), Refusal>
         ensures { Changes result
-            (in_section (with_copies count unit.now) (layout_of self.old).section (layout_of self.old)) (layout_of self.new) }
+            (in_section (with_copies count unit.now) (layout_of self.old).section (layout_of self.old))
+            (layout_of self.new) }
     {
         match self.section {
             Section::Text => Err(Refusal::InText),
@@ -376,24 +380,5 @@ impl<'a> Draft<'a> {
         }
         self.text.push(word)?;
         Ok(())
-    }
-
-    // One word stands for the branch in this round, which makes no image.
-    #[tactic(auto, unfolding(crate::specs::Layouts::with_turned))]
-    pub(crate) fn turn(&mut self, left: usize) -> Result<(), Refusal>
-        ensures { Changes result (with_turned left (layout_of self.old)) (layout_of self.new) }
-    {
-        self.turned.insert(left, ())?;
-        self.grew = true;
-        self.push_instruction(NOP)
-    }
-
-    #[tactic(auto, unfolding(crate::specs::Layouts::with_relative))]
-    pub(crate) fn push_relative(&mut self, word: u32, distance: u32) -> Result<(), Refusal>
-        ensures { Changes result (with_relative word distance (layout_of self.old)) (layout_of self.new) }
-    {
-        let place = self.here();
-        self.distances.insert(place, distance)?;
-        self.push_instruction(word)
     }
 }

@@ -32,9 +32,13 @@ pub struct Draft<'a> {
     pub(crate) known: bool,
     pub(crate) data_from: u32,
     pub(crate) bss_from: u32,
+    pub(crate) before: HashMap<&'a [u8], Spot>,
+    pub(crate) lacks_names: bool,
     pub(crate) locals: Vec<Local>,
     pub(crate) passed: usize,
     pub(crate) distances: HashMap<u32, u32>,
+    pub(crate) has_distances: bool,
+    pub(crate) measured: bool,
     pub(crate) turned: HashMap<usize, ()>,
     pub(crate) turns_all: bool,
     pub(crate) grew: bool,
@@ -53,7 +57,9 @@ pub struct Draft<'a> {
 impl<'a> Draft<'a> {
     ghost use Rattle.std.specs.Prelude.{Some};
     ghost use Rattle.svc_draft.specs.Refusals.{Refuses};
-    ghost use Rattle.svc_draft.specs.Layouts.{layout_of, empty, first_pass, second_pass, next_round, last_round, is_turned, is_weak, size, base, place, spot_here, here, after};
+    ghost use Rattle.svc_draft.specs.Layouts.{layout_of, empty, first_pass, second_pass, measuring_pass, laying_pass};
+    ghost use Rattle.svc_draft.specs.Layouts.{once_more, next_round, last_round, is_turned, is_weak, size, base};
+    ghost use Rattle.svc_draft.specs.Layouts.{place, spot_here, here, after};
 
     /// No lines yet, in the first pass of the first round, in which no branch is turned.
     pub fn new(alloc: Global) -> Draft<'a>
@@ -80,6 +86,17 @@ impl<'a> Draft<'a> {
         last
     }
 
+    /// No lines yet, in a first pass once more, behind one that found these names.
+    pub fn once_more(self, alloc: Global) -> Draft<'a>
+        ensures { layout_of result ≡ once_more (layout_of self.entry) }
+    {
+        let mut more = Draft::new(alloc);
+        more.before = self.names;
+        more.turned = self.turned;
+        more.turns_all = self.turns_all;
+        more
+    }
+
     /// No lines yet, in the second pass, behind a first one that ended so.
     pub fn again(self, alloc: Global) -> Draft<'a>
         ensures { layout_of result ≡ second_pass (layout_of self.entry) }
@@ -88,6 +105,7 @@ impl<'a> Draft<'a> {
         let bss_from = self.bss_begin();
         let mut again = Draft::with_names(self.names, alloc);
         again.known = true;
+        again.measured = true;
         again.data_from = data_from;
         again.bss_from = bss_from;
         again.data_step = self.data_step;
@@ -97,6 +115,34 @@ impl<'a> Draft<'a> {
         again.turns_all = self.turns_all;
         again.weak = self.weak;
         again
+    }
+
+    /// No lines yet, in a pass that measures distances, behind a first one that ended so.
+    pub fn to_measure(self, alloc: Global) -> Draft<'a>
+        ensures { layout_of result ≡ measuring_pass (layout_of self.entry) }
+    {
+        let mut measuring = self.again(alloc);
+        measuring.measured = false;
+        measuring
+    }
+
+    /// No lines yet, in the pass that lays the text, behind one that measured the distances.
+    pub fn to_lay(self, alloc: Global) -> Draft<'a>
+        ensures { layout_of result ≡ laying_pass (layout_of self.entry) }
+    {
+        let mut laying = Draft::with_names(self.names, alloc);
+        laying.known = true;
+        laying.measured = true;
+        laying.data_from = self.data_from;
+        laying.bss_from = self.bss_from;
+        laying.data_step = self.data_step;
+        laying.bss_step = self.bss_step;
+        laying.locals = self.locals;
+        laying.distances = self.distances;
+        laying.turned = self.turned;
+        laying.turns_all = self.turns_all;
+        laying.weak = self.weak;
+        laying
     }
 
     fn with_names(names: HashMap<&'a [u8], Spot>, alloc: Global) -> Draft<'a>
@@ -121,9 +167,13 @@ impl<'a> Draft<'a> {
             known: false,
             data_from: 0,
             bss_from: 0,
+            before: HashMap::new(alloc),
+            lacks_names: false,
             locals: Vec::new(alloc),
             passed: 0,
             distances: HashMap::new(alloc),
+            has_distances: false,
+            measured: false,
             turned: HashMap::new(alloc),
             turns_all: false,
             grew: false,
@@ -183,11 +233,25 @@ impl<'a> Draft<'a> {
         self.place(self.spot_here())
     }
 
-    /// Whether this pass has found a branch that doesn't reach its target, and that is turned in the next round.
+    /// Whether this pass has noted a branch that doesn't reach its target, and that is turned in the next round.
     pub fn grew(&self) -> bool
         ensures { result ≡ (layout_of self.now).grew }
     {
         self.grew
+    }
+
+    /// Whether this pass has set a name to what isn't known yet.
+    pub fn lacks_names(&self) -> bool
+        ensures { result ≡ (layout_of self.now).lacks_names }
+    {
+        self.lacks_names
+    }
+
+    /// Whether this pass has met a `%pcrel_hi`, of which a `%pcrel_lo` further up may want the distance.
+    pub fn has_distances(&self) -> bool
+        ensures { result ≡ (layout_of self.now).has_distances }
+    {
+        self.has_distances
     }
 
     /// Whether a branch is turned: it is the opposite branch over a jump. It is known by how many bytes of the text are
@@ -246,7 +310,7 @@ impl<'a> Draft<'a> {
                 self.next = next;
             }
             Statement::Symbol(spot) => {
-                self.set_symbol(name, spot)?;
+                self.set_name(name, spot)?;
                 self.next = Next::Line;
             }
             Statement::Common(count, step) => return self.push_common(name, count, step),

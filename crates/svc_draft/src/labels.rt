@@ -1,7 +1,9 @@
 // Names and local labels: what stands for what.
 
 ghost use Rattle.std.specs.Prelude.{◌≡◌, IfErr, OnOk, Some, None};
-ghost use Rattle.svc_draft.specs.Layouts.{last_local, first_local, layout_of, place, address_of, address_back, address_ahead, distance_from, with_symbol, with_weak, with_passed, with_local};
+ghost use Rattle.svc_draft.specs.Layouts.{last_local, first_local, layout_of, place, address_of, address_back};
+ghost use Rattle.svc_draft.specs.Layouts.{address_ahead, distance_from, spot_of, with_symbol, with_set, with_weak};
+ghost use Rattle.svc_draft.specs.Layouts.{with_passed, with_local};
 ghost use Rattle.svc_draft.specs.Refusals.{Refuses, Changes};
 
 use crate::draft::Draft;
@@ -12,11 +14,14 @@ use crate::statement::{Local, Spot};
 const MOST_LOCALS: usize = 4096;
 
 impl<'a> Draft<'a> {
-    /// The place that a name stands for, where a line before has said it or the second pass reads.
+    /// The place that a name stands for, where a line above has said it or the pass before found it.
     pub fn spot_of(&self, name: &[u8]) -> Option<Spot>
-        ensures { result ≡ (layout_of self.now).names name.now }
+        ensures { result ≡ spot_of (layout_of self.now) name.now }
     {
-        self.names.get(name).copied()
+        match self.names.get(name).copied() {
+            Some(spot) => Some(spot),
+            None => self.before.get(name).copied(),
+        }
     }
 
     /// The address that a name stands for. In the first pass any name may yet come to stand for one.
@@ -26,7 +31,7 @@ impl<'a> Draft<'a> {
         if !self.known {
             return Some(self.here());
         }
-        Some(self.place(self.spot_of(name)?))
+        Some(self.place(self.names.get(name).copied()?))
     }
 
     /// The address of the last local label of this number before here. In the first pass any may yet come to stand.
@@ -49,12 +54,13 @@ impl<'a> Draft<'a> {
         Some(self.place(first_local(number, &self.locals[self.passed..])?))
     }
 
-    /// How far it is from the instruction with `%pcrel_hi` at this address to its value. In the first pass any may yet
-    /// come to stand there.
+    /// How far it is from the instruction with `%pcrel_hi` at this address to its value. Until all are measured, any
+    /// may
+    /// yet come to stand there.
     pub fn distance_from(&self, place: u32) -> Option<u32>
         ensures { result ≡ distance_from (layout_of self.now) place }
     {
-        if !self.known {
+        if !self.measured {
             return Some(0);
         }
         self.distances.get(&place).copied()
@@ -78,6 +84,20 @@ impl<'a> Draft<'a> {
         }
         self.names.insert(name, spot)?;
         Ok(())
+    }
+
+    pub(crate) fn set_name(&mut self, name: &'a [u8], spot: Option<Spot>) -> Result<(), Refusal>
+        ensures ok { OnOk result (with_set name.now spot (layout_of self.old) ≡ Some (layout_of self.new)) }
+        ensures err { IfErr result (λ e. Refuses e (with_set name.now spot (layout_of self.old))) }
+    {
+        match spot {
+            Some(spot) => self.set_symbol(name, spot),
+            None if self.known => Err(Refusal::LabelTwice),
+            None => {
+                self.lacks_names = true;
+                Ok(())
+            }
+        }
     }
 
     #[tactic(auto, unfolding(crate::specs::Layouts::with_weak))]

@@ -5,6 +5,7 @@ mod data;
 mod draft;
 mod labels;
 mod making;
+mod notes;
 mod refusal;
 mod settings;
 mod statement;

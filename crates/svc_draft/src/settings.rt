@@ -1,7 +1,8 @@
 // What directives of images say: the version, read-only data, limits, entries and registers.
 
 ghost use Rattle.std.specs.Prelude.{◌≡◌};
-ghost use Rattle.svc_draft.specs.Layouts.{has_other, layout_of, is_limit, with_version, data_up_to, with_read_only, with_own, with_place, with_entry, with_limit, with_register};
+ghost use Rattle.svc_draft.specs.Layouts.{has_other, layout_of, is_limit, with_version, data_up_to, with_read_only};
+ghost use Rattle.svc_draft.specs.Layouts.{with_own, with_place, with_entry, with_limit, with_register};
 ghost use Rattle.svc_draft.specs.Refusals.{Changes};
 
 use crate::draft::Draft;

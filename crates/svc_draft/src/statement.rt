@@ -99,7 +99,8 @@ pub enum Statement {
     Register(Register, u32),
     /// `.text`, `.data` and their like: what follows is lines of this section.
     Section(Section),
-    /// `.fill COUNT, SIZE, VALUE`: so many copies of a number of so many bytes, 8 at most. `.zero N` is `.fill N, 1, 0`.
+    /// `.fill COUNT, SIZE, VALUE`: so many copies of a number of so many bytes, 8 at most. `.zero N` is `.fill N, 1,
+    /// 0`.
     Fill(u32, u32, u32),
     /// `.align N`: zeros, or instructions that do nothing, up to the next address that this number divides.
     Align(u32),
@@ -109,8 +110,8 @@ pub enum Statement {
     Value(Width, u32, Next),
     /// A number of eight bytes, by its low and its high half, and what is read next.
     Long(u32, u32, Next),
-    /// A name and what it stands for: the end of `.set NAME, VALUE`.
-    Symbol(Spot),
+    /// A name and what it stands for: the end of `.set NAME, VALUE`. A first pass may not know that yet.
+    Symbol(Option<Spot>),
     /// A name, and the size and the alignment of the zeros in `.bss` that it names: the end of
     /// `.comm NAME, SIZE, ALIGNMENT`.
     Common(u32, u32),

@@ -1,4 +1,2 @@
 pub mod Remaining
-pub mod Rows
 pub mod Texts
-pub mod Words

@@ -5,7 +5,7 @@ use Rattle.svc_task_runs.specs.declared.task_run.Fate.{Fate}
 use Rattle.svc_marks.specs.declared.bars.Bar.{Bar}
 use Rattle.svc_marks.specs.declared.marks.Mark.{Mark}
 use Rattle.svc_marks.specs.declared.marks.MarkKind.{MarkKind}
-use Rattle.svc_draw.specs.declared.sheet.Sheet.{Sheet}
+use Rattle.svc_sheet.specs.declared.sheet.Sheet.{Sheet}
 use Rattle.svc_draw.specs.declared.tallies.Tally.{Tally}
 use Rattle.svc_draw.specs.Tallies.{with_bar, with_bars, with_mark, with_marks}
 

@@ -8,13 +8,13 @@ use Rattle.svc_marks.specs.declared.marks.Mark.{Mark}
 use Rattle.svc_marks.specs.declared.marks.MarkKind.{MarkKind}
 use Rattle.svc_marks.specs.declared.marks.MarkKind.TheVariants as mark
 use Rattle.svc_marks.specs.declared.marks.Spot.{Spot}
-use Rattle.svc_draw.specs.declared.sheet.Sheet.{Sheet}
+use Rattle.svc_sheet.specs.declared.sheet.Sheet.{Sheet}
 use Rattle.svc_draw.specs.declared.tallies.Tally.{Tally}
-use Rattle.svc_draw.specs.Drawing.{bar_name, bar_text, element_of}
-use Rattle.svc_draw.specs.Frame.{bar_height, x_of}
-use Rattle.svc_draw.specs.Grid.{column_x, is_short, place_column_x, row_y, stripe_y}
+use Rattle.svc_sheet.specs.Drawing.{bar_name, bar_text, element_of}
+use Rattle.svc_sheet.specs.Frame.{bar_height, bottom, x_of}
+use Rattle.svc_sheet.specs.Grid.{column_x, is_short, place_column_x, row_y, stripe_y}
 use Rattle.svc_draw.specs.Tallies.{bars_tallied, marks_tallied, stripe_of}
-use Rattle.svc_shapes.specs.declared.sheet.TheConstants.{BOTTOM, TOP}
+use Rattle.svc_shapes.specs.declared.sheet.TheConstants.{TOP}
 use Rattle.svc_shapes.specs.Shapes.{close, group_close, group_open, joined_title, mark_at, plain_box, plain_line}
 
 -- ---- bars
@@ -101,7 +101,7 @@ joined_shape s t mark.Load = use_at s t 0 (codes "load")
 joined_shape s t mark.Store = use_at s t 1 (codes "store")
 joined_shape s t mark.PutOut = use_at s t 2 (codes "output")
 joined_shape s t mark.Replace = use_at s t 3 (codes "replace")
-joined_shape s t mark.Commit = plain_line (column_x s t.first) TOP (column_x s t.first) BOTTOM
+joined_shape s t mark.Commit = plain_line (column_x s t.first) TOP (column_x s t.first) (bottom s)
 joined_shape s t mark.Handed =
     plain_line (other_x s t t.other) (other_y s 1 t t.other) (column_x s t.first) (row_y s t.lane 0)
 joined_shape s t mark.Squash =

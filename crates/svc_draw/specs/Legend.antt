@@ -7,13 +7,13 @@ use Rattle.svc_history_laws.specs.declared.entry.ServedKind.TheVariants as by
 use Rattle.svc_report.specs.Fields.{served_word}
 use Rattle.svc_task_runs.specs.declared.task_run.Fate.{Fate}
 use Rattle.svc_task_runs.specs.declared.task_run.Fate.TheVariants as fate
-use Rattle.svc_draw.specs.declared.sheet.Sheet.{Sheet}
+use Rattle.svc_sheet.specs.declared.sheet.Sheet.{Sheet}
 use Rattle.svc_shapes.specs.declared.sheet.TheConstants.{WIDTH}
-use Rattle.svc_draw.specs.Drawing.{fill_of, name_of}
-use Rattle.svc_draw.specs.Frame.{lane_top, shown, x_of}
-use Rattle.svc_draw.specs.Kinds.{letter_of}
-use Rattle.svc_shapes.specs.Shapes.{axis_words, bold_sample, border, commit_sample, fate_sample, paper_text, hatching}
-use Rattle.svc_shapes.specs.Shapes.{headline, lane, mark_sample, opening, thin_sample, tick}
+use Rattle.svc_sheet.specs.Drawing.{fill_of, name_of}
+use Rattle.svc_sheet.specs.Frame.{bottom, height, lane_top, shown, x_of}
+use Rattle.svc_sheet.specs.Kinds.{letter_of}
+use Rattle.svc_shapes.specs.Shapes.{axis_words, bar_words, bold_sample, border, commit_sample, fate_sample}
+use Rattle.svc_shapes.specs.Shapes.{paper_text, hatching, headline, lane, mark_sample, opening, thin_sample, tick}
 
 -- ---- what each picture begins with
 
@@ -27,8 +27,8 @@ hatchings =
     ++ hatching (codes "cancel") [] (codes "#e6ddf3") (codes "<circle cx='4' cy='4' r='2' fill='#7a5bb0'/>")
     ++ hatching (codes "active") [] (codes "#ffffff") (codes "<rect width='8' height='1' y='4' fill='#9ab4d0'/>")
 
-unfoldable pub head : List ℕ
-head = opening ++ hatchings ++ paper_text
+unfoldable pub head : Sheet → List ℕ
+head s = opening (bottom s) ++ hatchings ++ paper_text (bottom s)
 
 -- ---- the legend
 
@@ -88,7 +88,7 @@ unfoldable pub lane_text : Sheet → (number : ℕ) → List ℕ
 lane_text s n = lane n (lane_top s n) (height_of s n) (lane_fill n) (lane_top s n + height_of s n / 2 + 5)
 
 unfoldable pub lanes : Sheet → List ℕ
-lanes s = flat_map (lane_text s) (range_with_len 0 s.units) ++ border
+lanes s = flat_map (lane_text s) (range_with_len 0 s.units) ++ border (height s)
 
 -- ---- the axis
 
@@ -106,7 +106,16 @@ step_for shown = max (unwrap_or (find (has_room shown) steps) 100000) 1
 
 -- an entry's number, if it is a multiple of the step
 unfoldable pub number_at : Sheet → (place : ℕ) → List ℕ
-number_at s place = cond (place % step_for (shown s) == 0) (tick (x_of s place) place) []
+number_at s place = cond (place % step_for (shown s) == 0) (tick (x_of s place) (bottom s) place) []
+
+-- below it, what a bar's words are, if bars have words
+abbrev pub names_told : Sheet → List ℕ
+names_told s = cond s.style.is_compact [] (bar_words (bottom s))
+
+-- and what the numbers are
+unfoldable pub words_below : Sheet → List ℕ
+words_below s = names_told s ++ axis_words (bottom s)
 
 unfoldable pub axis : Sheet → List ℕ
-axis s = flat_map (number_at s) (range_with_len s.window.from (s.window.to - s.window.from)) ++ axis_words
+axis s =
+    flat_map (number_at s) (range_with_len s.window.from (s.window.to - s.window.from)) ++ words_below s

@@ -1,10 +1,4 @@
-pub mod Drawing
-pub mod Frame
-pub mod Grid
 pub mod Joined
-pub mod Kinds
 pub mod Legend
 pub mod Picture
-pub mod Row
 pub mod Tallies
-pub mod Values

@@ -1,18 +1,19 @@
 -- The picture of a history: its text, of the bars and marks that are shown.
-use Rattle.std.specs.Prelude.{ℕ, List, ◌++◌, cond, length, flat_map}
+use Rattle.std.specs.Prelude.{ℕ, List, [], ◌++◌, cond, length, flat_map}
 use Rattle.svc_history_laws.specs.declared.entry.Entry.{Entry}
 use Rattle.svc_marks.specs.declared.bars.Bar.{Bar}
 use Rattle.svc_marks.specs.declared.marks.Mark.{Mark}
-use Rattle.svc_draw.specs.declared.sheet.Sheet.{Sheet}
-use Rattle.svc_marks.specs.Bars.{bars_of, window_of}
-use Rattle.svc_draw.specs.Drawing.{bar_name, bar_text, layer_text}
-use Rattle.svc_draw.specs.Frame.{radius}
-use Rattle.svc_draw.specs.Grid.{is_joined}
+use Rattle.svc_marks.specs.declared.view.View.{View}
+use Rattle.svc_marks.specs.View.{bars_shown, marks_shown, window_shown}
+use Rattle.svc_sheet.specs.declared.sheet.Sheet.{Sheet}
+use Rattle.svc_sheet.specs.declared.sheet.Style.{Style}
+use Rattle.svc_sheet.specs.Drawing.{bar_name, bar_text, layer_text}
+use Rattle.svc_sheet.specs.Frame.{bottom, radius}
+use Rattle.svc_sheet.specs.Grid.{is_joined}
 use Rattle.svc_draw.specs.Joined.{joined_bars, joined_lines, joined_shapes, long_name}
-use Rattle.svc_draw.specs.Kinds.{plain_kinds, supplied_kinds}
+use Rattle.svc_sheet.specs.Kinds.{plain_kinds, supplied_kinds}
 use Rattle.svc_draw.specs.Legend.{axis, head, lanes, legend}
-use Rattle.svc_marks.specs.Marks.{marks_of}
-use Rattle.svc_draw.specs.Values.{values_text}
+use Rattle.svc_sheet.specs.Values.{values_text}
 use Rattle.svc_shapes.specs.Shapes.{arrow_heads, closing, joined_words, parts_close, parts_open, rim_close, rim_open}
 
 -- what is made once, and used where it stands: the heads of arrows and the kinds of marks
@@ -21,7 +22,7 @@ parts size = parts_open ++ arrow_heads size ++ plain_kinds size ++ supplied_kind
 
 -- what lies below: these, the legend and the lanes
 unfoldable pub surroundings : Sheet → (total : ℕ) → List ℕ
-surroundings s total = head ++ parts (radius s) ++ legend s total ++ lanes s
+surroundings s total = head s ++ parts (radius s) ++ legend s total ++ lanes s
 
 -- the bars, and on them the marks, layer by layer
 unfoldable pub single_things : Sheet → List Bar → List Mark → List ℕ
@@ -39,22 +40,29 @@ unfoldable pub single_words : Sheet → List Bar → List Mark → List ℕ
 single_words s bs ms = rim_open ++ values_text s ms ++ flat_map (bar_name s) bs ++ rim_close
 
 unfoldable pub joined_things_words : Sheet → List Bar → List ℕ
-joined_things_words s bs = rim_open ++ flat_map (long_name s) bs ++ rim_close ++ joined_words
+joined_things_words s bs = rim_open ++ flat_map (long_name s) bs ++ rim_close
 
-unfoldable pub words : Sheet → List Bar → List Mark → List ℕ
-words s bs ms = cond (is_joined s) (joined_things_words s bs) (single_words s bs ms)
+abbrev pub words_on : Sheet → List Bar → List Mark → List ℕ
+words_on s bs ms = cond (is_joined s) (joined_things_words s bs) (single_words s bs ms)
+
+-- on a compact picture there are none
+abbrev pub words : Sheet → List Bar → List Mark → List ℕ
+words s bs ms = cond s.style.is_compact [] (words_on s bs ms)
+
+-- what is said of things that are joined
+abbrev pub joined_note : Sheet → List ℕ
+joined_note s = cond (is_joined s) (joined_words (bottom s)) []
 
 -- a picture of these bars and marks, of a history of so many entries
 unfoldable pub picture_text : Sheet → (total : ℕ) → List Bar → List Mark → List ℕ
-picture_text s total bs ms = surroundings s total ++ things s bs ms ++ words s bs ms ++ axis s ++ closing
+picture_text s total bs ms =
+    surroundings s total ++ things s bs ms ++ words s bs ms ++ joined_note s ++ axis s ++ closing
 
--- so many of a history's entries, from one on
-abbrev pub sheet_of : List Entry → (units from count : ℕ) → Sheet
-sheet_of es units from count = record { window = window_of es from count; units = units }
+-- what is shown of a history, drawn so
+abbrev pub sheet_of : List Entry → (units : ℕ) → View → Style → Sheet
+sheet_of es units view style = record { window = window_shown es view; units = units; style = style }
 
--- the picture of these
-abbrev pub picture_on : Sheet → List Entry → List ℕ
-picture_on s es = picture_text s (length es) (bars_of es s.window) (marks_of es s.window (bars_of es s.window))
-
-unfoldable pub picture_of : List Entry → (units from count : ℕ) → List ℕ
-picture_of es units from count = picture_on (sheet_of es units from count) es
+-- the picture of that
+unfoldable pub picture_of : List Entry → (units : ℕ) → View → Style → List ℕ
+picture_of es units view style =
+    picture_text (sheet_of es units view style) (length es) (bars_shown es view) (marks_shown es view)

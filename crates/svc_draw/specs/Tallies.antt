@@ -6,10 +6,10 @@ use Rattle.svc_marks.specs.declared.marks.MarkKind.{MarkKind}
 use Rattle.svc_marks.specs.declared.marks.MarkKind.TheVariants as mark
 use Rattle.svc_task_runs.specs.declared.task_run.Fate.{Fate}
 use Rattle.svc_task_runs.specs.declared.task_run.Fate.TheVariants as fate
-use Rattle.svc_draw.specs.declared.sheet.Sheet.{Sheet}
+use Rattle.svc_sheet.specs.declared.sheet.Sheet.{Sheet}
 use Rattle.svc_draw.specs.declared.tallies.Tally.{Tally}
 use Rattle.svc_draw.specs.declared.tallies.TheConstants.{MOST}
-use Rattle.svc_draw.specs.Grid.{cell, is_short}
+use Rattle.svc_sheet.specs.Grid.{cell, is_short}
 
 -- nothing
 abbrev pub none : Tally

@@ -5,18 +5,17 @@ ghost use Rattle.svc_draw.specs.Joined.{joined_bars, joined_kind, joined_lines, 
 ghost use Rattle.svc_draw.specs.Joined.{joined_shapes};
 ghost use Rattle.svc_draw.specs.Joined.{joined_text, long_bar, long_name, marks_called, other_x, other_y, stripe};
 ghost use Rattle.svc_draw.specs.Joined.{stripe_box, stripe_style, stripe_text, stripes, style_of, tasks_called, use_at};
-ghost use Rattle.svc_draw.specs.Grid.{column_x, row_y};
+ghost use Rattle.svc_sheet.specs.Grid.{column_x, row_y};
 ghost use Rattle.svc_marks.specs.declared.marks.MarkKind.TheVariants as mark;
 
-use crate::drawing::{element_of, write_bar, write_name};
-use crate::frame::Frame;
 use crate::tallies::{Tally, stripe_of, tally_bars, tally_marks};
 use std::alloc::AllocError;
 use svc_marks::{Bar, Mark, MarkKind};
-use svc_shapes::sheet::{BOTTOM, TOP};
+use svc_shapes::sheet::TOP;
 use svc_shapes::{
     Point, close, group_close, group_open, joined_title, mark_at, plain_box, plain_line,
 };
+use svc_sheet::{Frame, element_of, write_bar, write_name};
 use svc_task_runs::Fate;
 
 // What the stripes of a fate have in common.
@@ -257,7 +256,7 @@ fn write_line(frame: &Frame, tally: &Tally, text: &mut Vec<u8>) -> Result<(), Al
     let top = Point { x, y: TOP as u32 };
     let bottom = Point {
         x,
-        y: BOTTOM as u32,
+        y: frame.bottom(),
     };
     plain_line(text, top, bottom)
 }

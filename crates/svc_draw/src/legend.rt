@@ -3,22 +3,20 @@
 ghost use Rattle.std.specs.Prelude.{◌≡◌, ◌++◌, ◌≤◌, ◌<◌, ◌^◌, OnOk};
 ghost use Rattle.std.specs.List.{find};
 ghost use Rattle.svc_base.specs.declared.config.TheConstants.{MAX_EVENTS};
-ghost use Rattle.svc_draw.specs.Frame.{shown};
+ghost use Rattle.svc_sheet.specs.Frame.{shown};
 ghost use Rattle.svc_draw.specs.Legend.{arrow_samples, axis, fate_samples, has_room, hatchings, head, lane_fill};
-ghost use Rattle.svc_draw.specs.Legend.{lane_text, lanes, legend, load_sample, mark_samples, number_at, sample_of};
-ghost use Rattle.svc_draw.specs.Legend.{step_for, supplier_sample, supplier_samples};
+ghost use Rattle.svc_draw.specs.Legend.{lane_text, lanes, legend, load_sample, mark_samples, names_told, number_at};
+ghost use Rattle.svc_draw.specs.Legend.{sample_of, step_for, supplier_sample, supplier_samples, words_below};
 
-use crate::drawing::{fill_of, name_of};
-use crate::frame::Frame;
-use crate::kinds::letter_of;
 use std::alloc::AllocError;
 use svc_history_laws::ServedKind;
 use svc_report::Word;
 use svc_shapes::sheet::WIDTH;
 use svc_shapes::{
-    Point, axis_words, bold_sample, border, commit_sample, fate_sample, hatching, headline, lane,
-    mark_sample, opening, paper_text, thin_sample, tick,
+    Point, axis_words, bar_words, bold_sample, border, commit_sample, fate_sample, hatching,
+    headline, lane, mark_sample, opening, paper_text, thin_sample, tick,
 };
+use svc_sheet::{Frame, fill_of, letter_of, name_of};
 use svc_task_runs::Fate;
 
 // The steps between two numbers of the axis.
@@ -46,12 +44,12 @@ fn write_hatchings(text: &mut Vec<u8>) -> Result<(), AllocError>
 
 /// Writes what each picture begins with.
 #[tactic(auto, unfolding(crate::specs::Legend::head))]
-pub(crate) fn write_head(text: &mut Vec<u8>) -> Result<(), AllocError>
-    ensures { OnOk result (text.new.items ≡ text.old.items ++ head) }
+pub(crate) fn write_head(frame: &Frame, text: &mut Vec<u8>) -> Result<(), AllocError>
+    ensures { OnOk result (text.new.items ≡ text.old.items ++ head frame.now.sheet) }
 {
-    opening(text)?;
+    opening(text, frame.bottom())?;
     write_hatchings(text)?;
-    paper_text(text)?;
+    paper_text(text, frame.bottom())?;
     Ok(())
 }
 
@@ -186,7 +184,7 @@ pub(crate) fn write_lanes(frame: &Frame, text: &mut Vec<u8>) -> Result<(), Alloc
     for number in 0..frame.sheet.units {
         write_lane(frame, number, text)?;
     }
-    border(text)?;
+    border(text, frame.height())?;
     Ok(())
 }
 
@@ -233,10 +231,30 @@ fn write_number(frame: &Frame, step: u64, place: u64, text: &mut Vec<u8>) -> Res
     ensures { OnOk result (text.new.items ≡ text.old.items ++ number_at frame.now.sheet place) }
 {
     if place % step == 0 {
-        tick(text, frame.x(place), place)
+        tick(text, frame.x(place), frame.bottom(), place)
     } else {
         Ok(())
     }
+}
+
+// Writes what a bar's words are, if bars have words.
+fn write_names_told(frame: &Frame, text: &mut Vec<u8>) -> Result<(), AllocError>
+    ensures { OnOk result (text.new.items ≡ text.old.items ++ names_told frame.now.sheet) }
+{
+    if frame.sheet.style.is_compact {
+        return Ok(());
+    }
+    bar_words(text, frame.bottom())
+}
+
+// Writes it, and what the numbers are.
+#[tactic(auto, unfolding(crate::specs::Legend::words_below))]
+fn write_words_below(frame: &Frame, text: &mut Vec<u8>) -> Result<(), AllocError>
+    ensures { OnOk result (text.new.items ≡ text.old.items ++ words_below frame.now.sheet) }
+{
+    write_names_told(frame, text)?;
+    axis_words(text, frame.bottom())?;
+    Ok(())
 }
 
 /// Writes the axis.
@@ -248,6 +266,6 @@ pub(crate) fn write_axis(frame: &Frame, text: &mut Vec<u8>) -> Result<(), AllocE
     for place in frame.sheet.window.from..frame.sheet.window.to {
         write_number(frame, step, place, text)?;
     }
-    axis_words(text)?;
+    write_words_below(frame, text)?;
     Ok(())
 }

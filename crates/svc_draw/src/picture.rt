@@ -3,22 +3,22 @@
 ghost use Rattle.std.specs.Prelude.{◌≡◌, ◌++◌, ◌≤◌, IfErr, IfOk, OnOk, length};
 ghost use Rattle.svc_base.specs.declared.config.TheConstants.{MAX_EVENTS, MAX_UNITS};
 ghost use Rattle.svc_report.specs.Faults.{IsMemoryFault};
-ghost use Rattle.svc_draw.specs.Picture.{joined_things, joined_things_words, parts, picture_of, picture_text};
-ghost use Rattle.svc_draw.specs.Picture.{single_things, single_words, surroundings, things, words};
+ghost use Rattle.svc_draw.specs.Picture.{joined_note, joined_things, joined_things_words, parts, picture_of};
+ghost use Rattle.svc_draw.specs.Picture.{picture_text, single_things, single_words, surroundings, things, words};
+ghost use Rattle.svc_draw.specs.Picture.{words_on};
 
-use crate::drawing::{write_bars, write_layer, write_names};
-use crate::frame::Frame;
 use crate::joined::{write_joined_bars, write_joined_lines, write_joined_shapes, write_long_names};
-use crate::kinds::{write_plain_kinds, write_supplied_kinds};
 use crate::legend::{write_axis, write_head, write_lanes, write_legend};
-use crate::sheet::Sheet;
-use crate::values::write_values;
 use std::alloc::{AllocError, Global};
 use svc_history_laws::Entry;
-use svc_marks::{Bar, Mark, Window, bars_of, marks_of};
+use svc_marks::{Bar, Mark, View, things_of};
 use svc_report::ReportError;
 use svc_shapes::{
     arrow_heads, closing, joined_words, parts_close, parts_open, rim_close, rim_open,
+};
+use svc_sheet::{
+    Frame, Sheet, Style, write_bars, write_layer, write_names, write_plain_kinds,
+    write_supplied_kinds, write_values,
 };
 
 // Writes what is made once: the heads of arrows and the kinds of marks.
@@ -40,7 +40,7 @@ fn write_parts(size: u32, text: &mut Vec<u8>) -> Result<(), AllocError>
 fn write_surroundings(frame: &Frame, total: u64, text: &mut Vec<u8>) -> Result<(), AllocError>
     ensures { OnOk result (text.new.items ≡ text.old.items ++ surroundings frame.now.sheet total) }
 {
-    write_head(text)?;
+    write_head(frame, text)?;
     write_parts(frame.radius(), text)?;
     write_legend(frame, total, text)?;
     write_lanes(frame, text)?;
@@ -122,12 +122,26 @@ fn write_joined_words(frame: &Frame, bars: &[Bar], text: &mut Vec<u8>) -> Result
     rim_open(text)?;
     write_long_names(frame, bars, text)?;
     rim_close(text)?;
-    joined_words(text)?;
     Ok(())
 }
 
 // Writes these words as the number of entries wants it.
-#[tactic(auto, unfolding(crate::specs::Picture::words))]
+fn write_words_on(
+    frame: &Frame,
+    bars: &[Bar],
+    marks: &[Mark],
+    text: &mut Vec<u8>,
+) -> Result<(), AllocError>
+    ensures { OnOk result (text.new.items ≡ text.old.items ++ words_on frame.now.sheet bars.now marks.now) }
+{
+    if frame.is_joined() {
+        write_joined_words(frame, bars, text)
+    } else {
+        write_single_words(frame, bars, marks, text)
+    }
+}
+
+// Writes them, unless the picture is compact.
 fn write_words(
     frame: &Frame,
     bars: &[Bar],
@@ -136,10 +150,20 @@ fn write_words(
 ) -> Result<(), AllocError>
     ensures { OnOk result (text.new.items ≡ text.old.items ++ words frame.now.sheet bars.now marks.now) }
 {
+    if frame.sheet.style.is_compact {
+        return Ok(());
+    }
+    write_words_on(frame, bars, marks, text)
+}
+
+// Writes what is said of things that are joined.
+fn write_joined_note(frame: &Frame, text: &mut Vec<u8>) -> Result<(), AllocError>
+    ensures { OnOk result (text.new.items ≡ text.old.items ++ joined_note frame.now.sheet) }
+{
     if frame.is_joined() {
-        write_joined_words(frame, bars, text)
+        joined_words(text, frame.bottom())
     } else {
-        write_single_words(frame, bars, marks, text)
+        Ok(())
     }
 }
 
@@ -158,6 +182,7 @@ fn write_picture(
     write_surroundings(frame, total, text)?;
     write_things(frame, bars, marks, text)?;
     write_words(frame, bars, marks, text)?;
+    write_joined_note(frame, text)?;
     write_axis(frame, text)?;
     closing(text)?;
     Ok(())
@@ -178,7 +203,7 @@ fn picture(
     Ok(text)
 }
 
-/// The picture of `count` of a history's entries, from an index on: one SVG that needs no other file.
+/// The picture of what a view shows of a history, drawn in a style: one SVG that needs no other file.
 ///
 /// Errors: [`ReportError::Memory`].
 #[tactic(auto, unfolding(crate::specs::Picture::picture_of))]
@@ -186,25 +211,24 @@ pub fn draw(
     alloc: Global,
     entries: &[Entry],
     units: u32,
-    from: u64,
-    count: u64,
+    view: &View,
+    style: Style,
 ) -> Result<Vec<u8>, ReportError>
     requires few { length entries.now ≤ MAX_EVENTS }
     requires some_units { 1 ≤ units }
     requires few_units { units ≤ MAX_UNITS }
-    ensures ok { IfOk result (λ text. text.items ≡ picture_of entries.now units from count) }
+    ensures ok { IfOk result (λ text. text.items ≡ picture_of entries.now units view.now style) }
     ensures err { IfErr result IsMemoryFault }
 {
-    let window = Window::of(entries, from, count);
-    let bars = bars_of(alloc, entries, &window)?;
-    let marks = marks_of(alloc, entries, &window, &bars)?;
+    let things = things_of(alloc, entries, view)?;
     let frame = Frame {
         sheet: Sheet {
-            window,
+            window: things.window,
             units: units as u8,
+            style,
         },
     };
     let total = entries.len() as u64;
-    let text = picture(alloc, &frame, total, &bars, &marks)?;
+    let text = picture(alloc, &frame, total, &things.bars, &things.marks)?;
     Ok(text)
 }

@@ -4,8 +4,8 @@ ghost use Rattle.std.specs.Prelude.{◌≡◌, ◌<◌};
 ghost use Rattle.svc_draw.specs.Tallies.{and_one, bars_tallied, mark_cell, marks_tallied, none, number_of, one_bar};
 ghost use Rattle.svc_draw.specs.Tallies.{one_mark, stripe_of, with_bar, with_mark, with_one};
 
-use crate::frame::Frame;
 use svc_marks::{Bar, Mark, MarkKind, Spot};
+use svc_sheet::Frame;
 use svc_task_runs::Fate;
 
 /// As many things as are counted in a cell; a trace has fewer.

@@ -4,7 +4,7 @@ use Rattle.std.specs.List.{AllByRecursion}
 use Rattle.svc_base.specs.declared.config.Config.{Config}
 use Rattle.svc_base.specs.declared.ids.UnitId.{UnitId}
 use Rattle.svc_image.specs.Image.{Image}
-use Rattle.svc_machine_laws.specs.Standing.{stepped, opened_at}
+use Rattle.svc_machine_laws.specs.Standing.{standing_after, opened_at}
 use Rattle.svc_machine_laws.specs.Reached.{IsReached}
 use Rattle.svc_history.specs.Recorded.{Recorded, standing_of}
 use Rattle.svc_explore_laws.specs.declared.observation.Observation.{Observation}
@@ -30,7 +30,7 @@ if_ok (Err e) P Q f h = h
 -- a recorder, where its unit was tried
 module _ (most : ℕ) (r : Recorded) (unit : ℕ) where
   -- where the move leads
-  there : (sights : List Observation) (next : List ℕ) (m : IsMovedTo most r unit sights next) → HasKey r.machine.image r.machine.config (stepped r.machine.image (standing_of r) m.moved.event) next
+  there : (sights : List Observation) (next : List ℕ) (m : IsMovedTo most r unit sights next) → HasKey r.machine.image r.machine.config (standing_after r.machine.image (standing_of r) m.moved.event) next
   there sights next m =
       subst (λ s. HasKey r.machine.image r.machine.config s next) m.moved.standing
       (subst (λ c. HasKey r.machine.image c (standing_of m.new) next) m.moved.config (subst (λ i. HasKey i m.new.machine.config (standing_of m.new) next) m.moved.image m.has_key))
@@ -76,7 +76,7 @@ shows_it most r unit path leads (tried.Moves happened squashed next) h =
         seen = (i, ap (λ l. slice_get l i) (sym h.sights_are) ∙ at);
       }),
       record {
-        standing = stepped img (standing_of r) h.moved.event;
+        standing = standing_after img (standing_of r) h.moved.event;
         leads = leads_more img config most (opened_at img config 0) (standing_of r) path unit h.moved.event leads h.moved.moves;
         has_key = there most r unit.0 (both happened squashed) (vec_items next) h;
       },

@@ -5,6 +5,7 @@ pub mod KeyTells
 pub mod Leading
 pub mod Exploring
 pub mod Growing
+pub mod Led
 pub mod UnitOrders
 pub mod Founding
 pub mod Permuting

@@ -13,7 +13,7 @@ use Rattle.svc_machine_laws.specs.PlainMachine as plain
 use Rattle.svc_machine_laws.specs.WholeMachine.{Machine, machine_of}
 use Rattle.svc_machine_laws.specs.Events.{Event, Assign, Submit, Replace, Cancel, Commit, seat_place, task_place, asked_want, want_of, plain_event, plain_submit, plain_cancel}
 use Rattle.svc_machine_laws.specs.LineEvents.{line_event, line_submit}
-use Rattle.svc_machine_laws.specs.Standing.{Standing, opened_at, refused, stepped}
+use Rattle.svc_machine_laws.specs.Standing.{Standing, opened_at, refusal_of, standing_after}
 use Rattle.svc_machine_laws.specs.Reached.{IsReached}
 use Rattle.std.proofs.lemmas.Bool.{leb-true}
 use Rattle.svc_machine_laws.proofs.Accepted.{can_assign, can_submit, can_replace, can_cancel, can_commit}
@@ -44,28 +44,28 @@ module _ (img : Image) (b c : Advance) (alike : AreAlikeBursts b c) where
   unfolding line_event
   burst_lines m t = λ i. line_submit (program img) m (alike.end i) (wants i) t (seat_place m (alike.unit i).0)
 
-  pub burst_step : (s : Standing) → stepped img s (Submit b) ≡ stepped img s (Submit c)
-  unfolding stepped plain_event
+  pub burst_step : (s : Standing) → standing_after img s (Submit b) ≡ standing_after img s (Submit c)
+  unfolding standing_after plain_event
   burst_step s = λ i. record { plain = burst_plain s.plain i; lines = burst_lines (machine_of (program img) s.plain) s.lines i }
 
-step_alike : (img : Image) (s : Standing) (x y : Event) → AreAlikeEvents x y → stepped img s x ≡ stepped img s y
+step_alike : (img : Image) (s : Standing) (x y : Event) → AreAlikeEvents x y → standing_after img s x ≡ standing_after img s y
 step_alike img s (Submit b) (Submit c) alike = burst_step img b c alike s
 step_alike img s (Submit b) (Assign unit guess) alike = absurd alike
 step_alike img s (Submit b) (Replace unit address) alike = absurd alike
 step_alike img s (Submit b) (Cancel unit) alike = absurd alike
 step_alike img s (Submit b) (Commit by) alike = absurd alike
-step_alike img s (Assign unit guess) y e = ap (stepped img s) e
-step_alike img s (Replace unit address) y e = ap (stepped img s) e
-step_alike img s (Cancel unit) y e = ap (stepped img s) e
-step_alike img s (Commit by) y e = ap (stepped img s) e
+step_alike img s (Assign unit guess) y e = ap (standing_after img s) e
+step_alike img s (Replace unit address) y e = ap (standing_after img s) e
+step_alike img s (Cancel unit) y e = ap (standing_after img s) e
+step_alike img s (Commit by) y e = ap (standing_after img s) e
 
 pub one_step : (img : Image) (config : Config) (most : ℕ) (s : Standing) → IsReached img config s → HasRoom config s.plain → (unit : ℕ) (x y : Event)
-    → Moves img config most s unit x → Moves img config most s unit y → stepped img s x ≡ stepped img s y
+    → Moves img config most s unit x → Moves img config most s unit y → standing_after img s x ≡ standing_after img s y
 one_step img config most s reached room unit x y h i =
     step_alike img s x y (only_alike img config most s s (future_refl img config s reached) room unit x y h i)
 
 -- an accepted event finds room
-pub room_of : (img : Image) (config : Config) (s : Standing) (x : Event) → refused img config s x ≡ None → s.plain.accepted < config.events
+pub room_of : (img : Image) (config : Config) (s : Standing) (x : Event) → refusal_of img config s x ≡ None → s.plain.accepted < config.events
 room_of img config s (Assign unit guess) h = (can_assign img config s unit guess h).room
 room_of img config s (Submit b) h = (can_submit img config s b h).room
 room_of img config s (Replace unit address) h = (can_replace img config s unit address h).room
@@ -101,8 +101,8 @@ event_more img s (Cancel unit) = of (task_place s unit)
     of (Some place) = omega arith
 event_more img s (Commit by) = commit_more img s s.tasks
 
-pub step_more : (img : Image) (s : Standing) (x : Event) → (stepped img s x).plain.accepted ≤ s.plain.accepted + 1
-unfolding stepped
+pub step_more : (img : Image) (s : Standing) (x : Event) → (standing_after img s x).plain.accepted ≤ s.plain.accepted + 1
+unfolding standing_after
 step_more img s x = event_more img s.plain x
 
 -- ---- one turn of the loop that follows a schedule
@@ -115,7 +115,7 @@ module _ (img : Image) (config : Config) (most : ℕ) (old : Recorded) (path : L
     (config_is : old.machine.config ≡ config) (rest : LeadsOn img config most path index (standing_of old)) (inside : index < length path) where
   -- what the schedule asks for next
   pub next : (t : Standing) → Leads img config most (opened_at img config 0) path t
-      → (x : Event) × Moves img config most (standing_of old) (get_or path index d).0 x × Leads img config most (stepped img (standing_of old) x) (drop (index + 1) path) t
+      → (x : Event) × Moves img config most (standing_of old) (get_or path index d).0 x × Leads img config most (standing_after img (standing_of old) x) (drop (index + 1) path) t
   next t h = subst (λ us. Leads img config most (standing_of old) us t) (drop_more path index d inside) (rest t h)
 
   pub rest_stuck : old.machine.image ≡ img → HasNoMove old.machine.image old.machine.config most (standing_of old) (get_or path index d).0 → (t : Standing) → Leads img config most (opened_at img config 0) path t → ⊥
@@ -151,11 +151,11 @@ module _ (img : Image) (config : Config) (most : ℕ) (old new : Recorded) (path
       let n = next img config most old path index d config_is rest inside t h in
       let mine : Moves img config most (standing_of old) unit moved.event =
       subst (λ c. Moves img c most (standing_of old) unit moved.event) config_is (subst (λ i. Moves i old.machine.config most (standing_of old) unit moved.event) image_is moved.moves) in
-      let same : stepped img (standing_of old) n.0 ≡ standing_of new =
+      let same : standing_after img (standing_of old) n.0 ≡ standing_of new =
       one_step img config most (standing_of old)
       (subst (λ c. IsReached img c (standing_of old)) config_is (subst (λ i. IsReached i old.machine.config (standing_of old)) image_is reached))
       (subst (λ c. HasRoom c (standing_of old).plain) config_is room) unit n.0 moved.event n.1 mine
-      ∙ ap (λ i. stepped i (standing_of old) moved.event) (sym image_is) ∙ sym moved.standing in
+      ∙ ap (λ i. standing_after i (standing_of old) moved.event) (sym image_is) ∙ sym moved.standing in
       subst (λ s. Leads img config most s (drop (index + 1) path) t) same n.2
 
 -- at the end of the schedule

@@ -6,7 +6,7 @@ use Rattle.svc_base.specs.declared.ids.UnitId.{UnitId}
 use Rattle.svc_image.specs.Image.{Image, IsImage}
 use Rattle.svc_machine_laws.specs.PlainMachine.{Plain}
 use Rattle.svc_machine_laws.specs.Events.{Event}
-use Rattle.svc_machine_laws.specs.Standing.{Standing, opened_at, reply_to, stepped}
+use Rattle.svc_machine_laws.specs.Standing.{Standing, opened_at, reply_to, standing_after}
 use Rattle.svc_machine_laws.specs.Reached.{IsReached}
 use Rattle.svc_machine.specs.Value.{StandsAt}
 use Rattle.svc_history_laws.specs.declared.entry.Entry.{Entry}
@@ -72,8 +72,8 @@ module _ (img : Image) (config : Config) (most : ℕ) (path : List UnitId) (unit
       let seen : IsIn o (observations s.plain e) =
       subst (λ z. IsIn o (observations s.plain z)) step.0
       (subst (λ (z : Standing). IsIn o (observations z.plain (entry_of x (reply_to img z x)))) same shows.seen) in
-      let turn : IsTurn img config most s (stepped img s y) e = record { unit = unit; event = y; moves = mine; entry = refl; leads = refl } in
-      let last = shown_last img config most o (opened_at img config 0) s (stepped img s y) r.entries e plays turn seen in
+      let turn : IsTurn img config most s (standing_after img s y) e = record { unit = unit; event = y; moves = mine; entry = refl; leads = refl } in
+      let last = shown_last img config most o (opened_at img config 0) s (standing_after img s y) r.entries e plays turn seen in
       let entries : new.entries ≡ r.entries ++ e ∷ [] = moved.entries ∙ ap (λ i. r.entries ++ entry_of y (reply_to i s y) ∷ []) image_is in
       let shown = subst IsShownBy (sym entries) last in
       record {

@@ -41,11 +41,13 @@ pub record IsLongest (moves : ℕ) (places : List Place) : Type 0 where
   pub is : length (path_at place) ≡ moves
 
 -- what a search has found so far: each key and each observation with its schedule, and no key but the first without a
--- move
+-- move. Its units move in a recorder of the image and the configuration.
 pub record IsSound (img : Image) (config : Config) (most : ℕ) (s : Search) : Type 0 where
   pub witnessed : AreWitnessed img config most s.found.items
   pub met : AreMet img config most s.keys.entries
   pub moved : length s.keys.entries ≤ s.moves + 1
+  pub mover_image : s.mover.machine.image ≡ img
+  pub mover_config : s.mover.machine.config ≡ config
 
 -- how far an exploration went, told by the keys that it met and that are closed where it was whole
 pub record IsTold (img : Image) (config : Config) (most : ℕ) (x : Exploration) : Type 0 where

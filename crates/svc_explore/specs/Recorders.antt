@@ -4,7 +4,7 @@ use Rattle.svc_base.specs.declared.config.Config.{Config}
 use Rattle.svc_base.specs.declared.ids.UnitId.{UnitId}
 use Rattle.svc_image.specs.Image.{Image}
 use Rattle.svc_machine_laws.specs.Events.{Event}
-use Rattle.svc_machine_laws.specs.Standing.{Standing, opened_at, stepped, reply_to}
+use Rattle.svc_machine_laws.specs.Standing.{Standing, opened_at, standing_after, reply_to}
 use Rattle.svc_history_laws.specs.declared.entry.Entry.{Entry}
 use Rattle.svc_history_laws.specs.Entries.{entry_of}
 use Rattle.svc_history.specs.Recorded.{Recorded, standing_of}
@@ -18,7 +18,7 @@ pub record HasMoved (most : ℕ) (old new : Recorded) (unit : ℕ) : Type 0 wher
   pub event : Event
   pub moves : Moves old.machine.image old.machine.config most (standing_of old) unit event
   pub entries : new.entries ≡ old.entries ++ entry_of event (reply_to old.machine.image (standing_of old) event) ∷ []
-  pub standing : standing_of new ≡ stepped old.machine.image (standing_of old) event
+  pub standing : standing_of new ≡ standing_after old.machine.image (standing_of old) event
   pub image : new.machine.image ≡ old.machine.image
   pub config : new.machine.config ≡ old.machine.config
 
@@ -26,7 +26,7 @@ pub record HasMoved (most : ℕ) (old new : Recorded) (unit : ℕ) : Type 0 wher
 abbrev pub Leads : Image → Config → (most : ℕ) → Standing → List UnitId → Standing → Type 0
 Leads img config most s [] t = t ≡ s
 Leads img config most s (unit ∷ units) t =
-    (x : Event) × Moves img config most s unit.0 x × Leads img config most (stepped img s x) units t
+    (x : Event) × Moves img config most s unit.0 x × Leads img config most (standing_after img s x) units t
 
 -- the schedule leads from the opening to no other standing
 abbrev pub LeadsOnly : Image → Config → (most : ℕ) → List UnitId → Standing → Type 0

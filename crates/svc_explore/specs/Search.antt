@@ -1,5 +1,5 @@
 -- What a search has found so far.
-use Rattle.std.specs.Prelude.{◌≡◌, ◌⊎◌, ℕ, ◌<◌, Some, List, Vec, map, vec_items, slice_get}
+use Rattle.std.specs.Prelude.{◌≡◌, ◌⊎◌, ℕ, ◌<◌, ◌≤◌, Some, List, Vec, length, map, vec_items, slice_get}
 use Rattle.std.specs.declared.alloc.Global.{Global}
 use Rattle.svc_base.specs.declared.config.Config.{Config}
 use Rattle.svc_image.specs.Image.{Image}
@@ -11,7 +11,8 @@ use Rattle.svc_explore_laws.specs.Moves.{HasRoom}
 use Rattle.svc_explore_laws.specs.Closed.{HasNoMove}
 use Rattle.svc_renaming_laws.specs.ClosedUpToNames.{IsFollowedUpToNames, IsOpeningListed}
 use Rattle.svc_explore.specs.KeyWords.{HasKey}
-use Rattle.svc_explore.specs.Recorders.{Leads}
+use Rattle.svc_explore.specs.Recorders.{GaveFew, Leads, LeadsOnly}
+use Rattle.svc_history.specs.Recorded.{Recorded, standing_of}
 
 -- the second list has what the first one has, at the same places
 abbrev pub GrowsTo : {A : Type 0} → List A → List A → Type 0
@@ -30,6 +31,18 @@ path_at e = vec_items e.1
 -- the keys as lists, without the schedules that lead there
 abbrev pub are_keys : List Place → List (List ℕ)
 are_keys = map key_at
+
+-- the recorder stands where the schedule leads, and nowhere else does that lead
+pub record IsLedBy (most : ℕ) (path : List UnitId) (r : Recorded) : Type 0 where
+  pub few : GaveFew (standing_of r)
+  pub short : (standing_of r).plain.accepted ≤ length path
+  pub leads :
+      Leads r.machine.image r.machine.config most (opened_at r.machine.image r.machine.config 0) path (standing_of r)
+  pub only : LeadsOnly r.machine.image r.machine.config most path (standing_of r)
+
+-- it stands where the schedule of the key of this index leads
+abbrev pub IsLedThere : (most : ℕ) → List Place → (index : ℕ) → Recorded → Type 0
+IsLedThere most places index r = (e : Place) → slice_get places index ≡ Some e → IsLedBy most (path_at e) r
 
 -- from here, with room for its move, the unit has none, or its move was followed
 pub record IsExploredFrom (img : Image) (config : Config) (most : ℕ) (keys : List (List ℕ)) (found : List Observation)

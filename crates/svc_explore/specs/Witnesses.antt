@@ -1,5 +1,5 @@
 -- What shows an observation, and when nothing does.
-use Rattle.std.specs.Prelude.{ℕ, ◌⊎◌, List, [], ◌∷◌}
+use Rattle.std.specs.Prelude.{◌≡◌, ℕ, ◌⊎◌, List, [], ◌∷◌, Some, slice_get, take}
 use Rattle.svc_base.specs.declared.config.Config.{Config}
 use Rattle.svc_image.specs.Image.{Image}
 use Rattle.svc_machine_laws.specs.Standing.{Standing, opened_at}
@@ -11,6 +11,8 @@ use Rattle.svc_explore_laws.specs.Moves.{Plays}
 use Rattle.svc_explore_laws.specs.Observations.{observations}
 use Rattle.svc_observations.specs.declared.sought.Sought.{Sought}
 use Rattle.svc_observations.specs.Sought.{Matches}
+use Rattle.svc_explore.specs.declared.found.Seen.{Seen}
+use Rattle.svc_explore.specs.Found.{are_seen}
 
 -- one of the entries of a play shows the observation
 abbrev pub ShowsSight : (img : Image) (config : Config) (most : ℕ) (o : Observation) (s : Standing) (es : List Entry)
@@ -31,3 +33,9 @@ ShowNoMatch img config most sought =
     (o : Observation) → Matches sought o → (es : List Entry)
     → (play : Plays img config most (opened_at img config 0) es)
     → ShowsSight img config most o (opened_at img config 0) es play → ⊥
+
+-- it is one of what was found, and none before it matches
+pub record IsFirstMatch (sought : Sought) (seen : Seen) (found : List Seen) : Type 0 where
+  pub index : ℕ
+  pub there : slice_get found index ≡ Some seen
+  pub before : (o : Observation) → IsIn o (are_seen (take index found)) → Matches sought o → ⊥

@@ -1,12 +1,11 @@
 // One step of the search: a unit's move where a schedule leads.
 
 ghost use Rattle.std.specs.Prelude.{◌≡◌, ◌<◌, ◌≤◌, ◌++◌, ◌∷◌, [], List, IfOk, IfSome, IsNone, length};
-ghost use Rattle.svc_machine_laws.specs.Standing.{Standing, opened_at};
+ghost use Rattle.svc_machine_laws.specs.Standing.{opened_at};
 ghost use Rattle.svc_history.specs.Recorded.{standing_of};
 ghost use Rattle.svc_base.specs.declared.ids.UnitId.{UnitId};
 ghost use Rattle.svc_explore_laws.specs.Moves.{HasRoom};
 ghost use Rattle.svc_explore.specs.Recorders.{GaveFew, Leads, LeadsNowhere, LeadsOnly, PlaysTo};
-ghost use Rattle.svc_explore.specs.KeyWords.{HasKey};
 ghost use Rattle.svc_explore.specs.Tries.{IsOff, IsTried, ShowsIt, TriedBy};
 ghost use Rattle.svc_history_laws.specs.declared.entry.Entry.{Entry};
 
@@ -21,7 +20,11 @@ use svc_image::Image;
 use svc_observations::{happened, roster_of, squashed};
 
 // A machine of the image before any event.
-fn open_recorder(alloc: Global, image: &Image, config: Config) -> Result<Recorder, AllocError>
+pub(crate) fn open_recorder(
+    alloc: Global,
+    image: &Image,
+    config: Config,
+) -> Result<Recorder, AllocError>
     ensures image { IfOk result (λ r. r.machine.image ≡ image.now) }
     ensures config { IfOk result (λ r. r.machine.config ≡ config) }
     ensures none { IfOk result (λ r. r.entries ≡ []) }
@@ -34,18 +37,6 @@ fn open_recorder(alloc: Global, image: &Image, config: Config) -> Result<Recorde
         return Err(AllocError);
     };
     Ok(recorder)
-}
-
-// The key of a machine before any event.
-pub(crate) fn opening_key(
-    alloc: Global,
-    image: &Image,
-    config: Config,
-) -> Result<Vec<u64>, AllocError>
-    ensures { IfOk result (λ key. HasKey image.now config (opened_at image.now config 0) key.items) }
-{
-    let recorder = open_recorder(alloc, image, config)?;
-    key_of(alloc, &recorder)
 }
 
 // The machine where a schedule leads, if it leads anywhere.
@@ -104,6 +95,8 @@ fn try_move(
     requires room { HasRoom recorder.old.machine.config (standing_of recorder.old).plain }
     ensures tried { IfOk result (IsTried most recorder.old unit.0) }
     ensures on { IfOk result (λ tried. IsOff tried → ⊥) }
+    ensures image { recorder.new.machine.image ≡ recorder.old.machine.image }
+    ensures config { recorder.new.machine.config ≡ recorder.old.machine.config }
 {
     let roster = roster_of(alloc, recorder)?;
     if !make_move(recorder, unit, most) {
@@ -135,6 +128,8 @@ fn try_at(
         → ShowsIt recorder.old.machine.image recorder.old.machine.config most path unit tried) }
     ensures off { IfOk result (λ tried. IsOff tried
         → recorder.old.machine.config.events ≤ (standing_of recorder.old).plain.accepted) }
+    ensures image { recorder.new.machine.image ≡ recorder.old.machine.image }
+    ensures config { recorder.new.machine.config ≡ recorder.old.machine.config }
 {
     keeps(recorder);
     if recorder.machine().is_full() {
@@ -143,25 +138,31 @@ fn try_at(
     try_move(alloc, recorder, most, unit)
 }
 
-// The unit makes its move where a schedule leads.
+// The unit makes its move from where a recorder stands, in another one.
 pub(crate) fn try_unit(
     alloc: Global,
-    image: &Image,
-    config: Config,
+    there: &Recorder,
+    mover: &mut Recorder,
     most: u32,
-    path: &[UnitId],
     unit: UnitId,
 ) -> Result<Tried, AllocError>
-    ensures tried { IfOk result (TriedBy image.now config most path.now unit.0) }
-    ensures shown { IfOk result (ShowsIt image.now config most path.now unit) }
-    // It is off only where the history is full.
-    ensures off { IfOk result (λ tried. IsOff tried → (s : Standing)
-        → Leads image.now config most (opened_at image.now config 0) path.now s → config.events ≤ length path.now) }
+    requires image { mover.old.machine.image ≡ there.now.machine.image }
+    requires config { mover.old.machine.config ≡ there.now.machine.config }
+    requires few { GaveFew (standing_of there.now) }
+    ensures tried { IfOk result (λ tried. (path : List UnitId)
+        → LeadsOnly there.now.machine.image there.now.machine.config most path (standing_of there.now)
+        → TriedBy there.now.machine.image there.now.machine.config most path unit.0 tried) }
+    ensures shown { IfOk result (λ tried. (path : List UnitId)
+        → Leads there.now.machine.image there.now.machine.config most
+        (opened_at there.now.machine.image there.now.machine.config 0) path (standing_of there.now)
+        → ShowsIt there.now.machine.image there.now.machine.config most path unit tried) }
+    ensures off { IfOk result (λ tried. IsOff tried
+        → there.now.machine.config.events ≤ (standing_of there.now).plain.accepted) }
+    ensures image { mover.new.machine.image ≡ there.now.machine.image }
+    ensures config { mover.new.machine.config ≡ there.now.machine.config }
 {
-    match replay(alloc, image, config, path, most)? {
-        Some(mut recorder) => try_at(alloc, &mut recorder, most, unit),
-        None => Ok(Tried::Off),
-    }
+    mover.copy_from(there);
+    try_at(alloc, mover, most, unit)
 }
 
 // The last entry of a history.

@@ -8,14 +8,16 @@ ghost use Rattle.svc_explore.specs.Found.{AreWitnessed, are_seen};
 ghost use Rattle.svc_observations.specs.Order.{AreInOrder};
 ghost use Rattle.svc_renaming_laws.specs.ClosedUpToNames.{IsOpeningListed};
 ghost use Rattle.svc_explore.specs.KeyWords.{HasKey};
-ghost use Rattle.svc_explore.specs.Search.{GrowsTo, IsExploredAt, IsPartlyClosed, are_keys};
+ghost use Rattle.svc_explore.specs.Search.{GrowsTo, IsExploredAt, IsLedThere, IsPartlyClosed, are_keys};
 
 use crate::found::{Seen, note_seen};
+use crate::key::key_of;
 use crate::order::put_in_order;
-use crate::search::{Tried, opening_key, try_unit};
+use crate::search::{Tried, open_recorder, replay, try_unit};
 use indexmap::IndexMap;
 use std::alloc::{AllocError, Global};
 use svc_base::{Config, UnitId};
+use svc_history::Recorder;
 use svc_image::Image;
 
 /// What an exploration found.
@@ -39,6 +41,8 @@ struct Search {
     keys: IndexMap<Vec<u64>, Vec<UnitId>>,
     found: Vec<Seen>,
     moves: u64,
+    // where each unit makes its move: it becomes equal to the machine where a schedule leads, again for each
+    mover: Recorder,
 }
 
 // Notes a key, and the schedule that leads there, unless it was met before.
@@ -72,27 +76,28 @@ impl Search {
     fn explore_unit(
         &mut self,
         alloc: Global,
-        image: &Image,
-        config: Config,
         most: u32,
         index: usize,
+        there: &Recorder,
         unit: UnitId,
     ) -> Result<bool, AllocError>
         requires inside { index < length self.old.keys.entries }
-        requires sound { IsSound image.now config most self.old }
+        requires led { IsLedThere most self.old.keys.entries index there.now }
+        requires sound { IsSound there.now.machine.image there.now.machine.config most self.old }
         requires few { self.old.moves < 2 ^ 63 }
         ensures explored { IfOk result (λ ok. IsTrue ok
-            → IsExploredAt image.now config most self.new.keys.entries (are_seen self.new.found.items) index unit.0) }
-        ensures stopped { IfOk result (λ ok. IsFalse ok → HasFull config self.new.keys.entries) }
+            → IsExploredAt there.now.machine.image there.now.machine.config most self.new.keys.entries
+            (are_seen self.new.found.items) index unit.0) }
+        ensures stopped { IfOk result (λ ok. IsFalse ok → HasFull there.now.machine.config self.new.keys.entries) }
         ensures moves { OnOk result (self.new.moves ≤ self.old.moves + 1) }
         ensures keys { OnOk result (GrowsTo self.old.keys.entries self.new.keys.entries) }
         ensures longer { OnOk result (length self.old.keys.entries ≤ length self.new.keys.entries) }
         ensures found { OnOk result (GrowsTo (are_seen self.old.found.items) (are_seen self.new.found.items)) }
-        ensures sound { OnOk result (IsSound image.now config most self.new) }
+        ensures sound { OnOk result (IsSound there.now.machine.image there.now.machine.config most self.new) }
     {
         let (_, path) = self.keys.get_index(index).unwrap();
         let path = path.as_slice();
-        match try_unit(alloc, image, config, most, path, unit)? {
+        match try_unit(alloc, there, &mut self.mover, most, unit)? {
             Tried::Off => Ok(false),
             Tried::Rests => Ok(true),
             Tried::Moves {
@@ -108,6 +113,26 @@ impl Search {
                 Ok(true)
             }
         }
+    }
+
+    // The machine where the schedule of a key leads.
+    fn replay_key(
+        &self,
+        alloc: Global,
+        image: &Image,
+        config: Config,
+        most: u32,
+        index: usize,
+    ) -> Result<Recorder, AllocError>
+        requires inside { index < length self.now.keys.entries }
+        requires sound { IsSound image.now config most self.now }
+        ensures image { IfOk result (λ r. r.machine.image ≡ image.now) }
+        ensures config { IfOk result (λ r. r.machine.config ≡ config) }
+        ensures led { IfOk result (IsLedThere most self.now.keys.entries index) }
+    {
+        let (_, path) = self.keys.get_index(index).unwrap();
+        let there = replay(alloc, image, config, path.as_slice(), most)?.unwrap();
+        Ok(there)
     }
 
     // Each unit makes its move where the schedule of a key leads. Whether that was possible.
@@ -131,8 +156,10 @@ impl Search {
         ensures found { OnOk result (GrowsTo (are_seen self.old.found.items) (are_seen self.new.found.items)) }
         ensures sound { OnOk result (IsSound image.now config most self.new) }
     {
+        let there = self.replay_key(alloc, image, config, most, index)?;
         for unit in 0..config.units {
-            if !self.explore_unit(alloc, image, config, most, index, UnitId(unit as u8))? {
+            let unit = UnitId(unit as u8);
+            if !self.explore_unit(alloc, most, index, &there, unit)? {
                 return Ok(false);
             }
         }
@@ -203,13 +230,15 @@ fn opened(alloc: Global, image: &Image, config: Config) -> Result<Search, AllocE
     ensures unmoved { IfOk result (λ s. s.moves ≡ 0) }
     ensures sound { IfOk result (λ s. (most : ℕ) → IsSound image.now config most s) }
 {
-    let key = opening_key(alloc, image, config)?;
+    let mover = open_recorder(alloc, image, config)?;
+    let key = key_of(alloc, &mover)?;
     let mut keys = IndexMap::new(alloc);
     note_key(&mut keys, key, Vec::new(alloc))?;
     Ok(Search {
         keys,
         found: Vec::new(alloc),
         moves: 0,
+        mover,
     })
 }
 

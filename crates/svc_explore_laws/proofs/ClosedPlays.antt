@@ -9,7 +9,7 @@ use Rattle.svc_core_laws.specs.Words.{program}
 use Rattle.svc_machine_laws.specs.WholeMachine.{Seat, machine_of}
 use Rattle.svc_machine_laws.specs.Events.{Event, Submit, IsEvent}
 use Rattle.svc_machine_laws.specs.Refusals.{seat_at}
-use Rattle.svc_machine_laws.specs.Standing.{Standing, refused, stepped, opened_at}
+use Rattle.svc_machine_laws.specs.Standing.{Standing, refusal_of, standing_after, opened_at}
 use Rattle.svc_machine_laws.specs.Reached.{IsReached}
 use Rattle.svc_machine_laws.proofs.Given.{given}
 use Rattle.svc_machine_laws.proofs.Standings.{step_reached}
@@ -30,7 +30,7 @@ module _ (img : Image) (config : Config) (most : ℕ) (s : Standing) (unit : ℕ
   event_with seat (Some end) h = subst IsEvent (sym h.1) tt
   event_with seat None h = of h.2
     where
-      of : SubmitsOrReplaces unit h.0 (refused img config s (Submit h.0)) x → IsEvent x
+      of : SubmitsOrReplaces unit h.0 (refusal_of img config s (Submit h.0)) x → IsEvent x
       of (inl l) = subst IsEvent (sym l.0) h.1.advance.follows
       of (inr l) = subst IsEvent (sym l.2) tt
 
@@ -51,7 +51,7 @@ module _ (img : Image) (is_image : IsImage img) (config : Config) (most : ℕ) {
     pub listed : IsIn (key other) keys
     pub same : HaveOneFuture img s other
 
-  next : (s t : Standing) (x : Event) → IsEvent x → IsReached img config s → refused img config s x ≡ None → t ≡ stepped img s x → IsReached img config t
+  next : (s t : Standing) (x : Event) → IsEvent x → IsReached img config s → refusal_of img config s x ≡ None → t ≡ standing_after img s x → IsReached img config t
   next s t x is reached h leads = subst (IsReached img config) (sym leads) (step_reached img (given img is_image) config s reached x is h)
 
   -- the unit's move where its key was explored
@@ -68,10 +68,10 @@ module _ (img : Image) (is_image : IsImage img) (config : Config) (most : ℕ) {
         subst (λ os. AreIn os found) (ap (observations u.plain) (sym (turn.entry ∙ both.0)) ∙ sym (same_sights img s u same e)) move.found_is,
         record {
           reached = next s t x is reached turn.moves.accepted turn.leads;
-          other = stepped img u y;
-          also = next u (stepped img u y) y iy also move.moves.accepted refl;
+          other = standing_after img u y;
+          also = next u (standing_after img u y) y iy also move.moves.accepted refl;
           listed = move.leads;
-          same = subst (λ z. HaveOneFuture img z (stepped img u y)) (sym turn.leads) both.1;
+          same = subst (λ z. HaveOneFuture img z (standing_after img u y)) (sym turn.leads) both.1;
         },
       )
 

@@ -4,7 +4,7 @@ use Rattle.std.specs.List.{AllByRecursion}
 use Rattle.svc_base.specs.declared.config.Config.{Config}
 use Rattle.svc_image.specs.Image.{Image}
 use Rattle.svc_machine_laws.specs.Events.{Event}
-use Rattle.svc_machine_laws.specs.Standing.{Standing, stepped, reply_to, opened_at}
+use Rattle.svc_machine_laws.specs.Standing.{Standing, standing_after, reply_to, opened_at}
 use Rattle.svc_machine_laws.specs.Reached.{IsReached}
 use Rattle.svc_history_laws.specs.declared.entry.Entry.{Entry}
 use Rattle.svc_history_laws.specs.Entries.{entry_of}
@@ -40,7 +40,7 @@ pub record IsFollowed (img : Image) (config : Config) (most : ℕ) {K : Type 0} 
   pub event : Event
   pub moves : Moves img config most s unit event
   pub found_is : IsFound img s event found
-  pub leads : IsIn (key (stepped img s event)) keys
+  pub leads : IsIn (key (standing_after img s event)) keys
 
 -- a standing with this key that has room, where the unit has no move or its move was followed
 pub record IsExplored (img : Image) (config : Config) (most : ℕ) {K : Type 0} (key : Standing → K) (keys : List K)

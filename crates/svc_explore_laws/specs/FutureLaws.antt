@@ -3,7 +3,7 @@ use Rattle.std.specs.Prelude.{◌≡◌, ℕ, None, List}
 use Rattle.svc_base.specs.declared.config.Config.{Config}
 use Rattle.svc_image.specs.Image.{Image, IsImage}
 use Rattle.svc_machine_laws.specs.Events.{Event, IsEvent}
-use Rattle.svc_machine_laws.specs.Standing.{Standing, refused, stepped, reply_to}
+use Rattle.svc_machine_laws.specs.Standing.{Standing, refusal_of, standing_after, reply_to}
 use Rattle.svc_machine_laws.specs.Reached.{IsReached}
 use Rattle.svc_history_laws.specs.Entries.{entry_of}
 use Rattle.svc_explore_laws.specs.Futures.{HaveOneFuture, AreAlikeEvents}
@@ -20,9 +20,9 @@ FutureSteps =
     (img : Image) → IsImage img → (config : Config)
     → (s t : Standing) → IsReached img config s → IsReached img config t → HaveOneFuture img s t
     → (x y : Event) → IsEvent x → IsEvent y → AreAlikeEvents x y
-    → refused img config s x ≡ None → refused img config t y ≡ None
+    → refusal_of img config s x ≡ None → refusal_of img config t y ≡ None
     → (entry_of x (reply_to img s x) ≡ entry_of y (reply_to img t y))
-    × HaveOneFuture img (stepped img s x) (stepped img t y)
+    × HaveOneFuture img (standing_after img s x) (standing_after img t y)
 
 -- where one standing has a move of a unit, each standing with the same future that has room has one alike
 abbrev pub FutureMoves : Type 0

@@ -4,12 +4,12 @@ use Rattle.std.specs.Prelude.{Result, Ok, Err, IfOk}
 use Rattle.svc_image.specs.Image.{IsImage}
 use Rattle.svc_core_laws.specs.Turns.{data_words}
 use Rattle.svc_bus.specs.Observed.{observed}
-use Rattle.svc_bus_laws.specs.BusState.{unnumbered}
+use Rattle.svc_bus_laws.specs.BusState.{without_number}
 use Rattle.svc_machine_laws.proofs.Given.{given}
 use Rattle.svc_history.specs.Recorded.{IsLegal, Recorded}
 use Rattle.svc_held.specs.declared.named.Named.{Named}
 use Rattle.svc_held.specs.declared.named.Namers.TheVariants.{Nobody}
-use Rattle.svc_held.specs.declared.span.Span.{Span}
+use Rattle.svc_span.specs.declared.span.Span.{Span}
 use Rattle.svc_held.specs.Held.{IsHeldBy}
 use Rattle.svc_held.specs.Named.{AreNamed}
 use Rattle.svc_held.proofs.Listed.{nobody_has}
@@ -24,7 +24,7 @@ held r legal is asked named are =
       marks = are.marks;
       named_is = are.named_is;
       lines = λ u w inside miss.
-          legal.here.lines.lines u w ∙ ap unnumbered (no_line img (given img is) config r.entries legal.legal u w (are.marked.told u w inside miss));
+          legal.here.lines.lines u w ∙ ap without_number (no_line img (given img is) config r.entries legal.legal u w (are.marked.told u w inside miss));
       spill = λ w inside none.
           legal.here.lines.spill w
           ∙ no_spill img config r.entries legal.legal w (λ u. are.marked.told u w inside (nobody_has (get_or are.marks w Nobody) none u));

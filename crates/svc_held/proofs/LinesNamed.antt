@@ -21,7 +21,7 @@ use Rattle.svc_machine_laws.specs.LineEvents.{line_cancel, line_check, line_comm
 use Rattle.svc_machine_laws.specs.PlainMachine.{Task, stays, unit_of}
 use Rattle.svc_machine_laws.specs.Reached.{IsReached}
 use Rattle.svc_machine_laws.specs.Replies.{reply_after_check, plain_asked, plain_submitted, turn_done}
-use Rattle.svc_machine_laws.specs.Standing.{Standing, opened_at, reply_to, stepped}
+use Rattle.svc_machine_laws.specs.Standing.{Standing, opened_at, reply_to, standing_after}
 use Rattle.svc_machine_laws.specs.WholeMachine.{Seat, seat_entry}
 use Rattle.svc_machine_laws.proofs.Given.{Given}
 use Rattle.svc_machine_laws.proofs.Lines.{read_keeps}
@@ -198,7 +198,7 @@ miss_by x y z miss same = ap (λ (b : Bool). x && b) same ∙ miss
 
 entry_free : (img : Image) (config : Config) (u a : ℕ) (s : Standing) (e : Entry) → IsReached img config s → LegalEntry img config s e → names u a e ≡ false
     → Free u a s.lines → Free u a (after_entry img s e).lines
-unfolding LegalEntry after_entry stepped Rattle.svc_machine_laws.specs.LineEvents.line_event
+unfolding LegalEntry after_entry standing_after Rattle.svc_machine_laws.specs.LineEvents.line_event
 entry_free img config u a s e reached legal miss free = by e.kind legal
   where
     by : (k : Kind) → LegalKind k img config s e → Free u a (by_kind k img s e).lines
@@ -215,7 +215,7 @@ entry_free img config u a s e reached legal miss free = by e.kind legal
 
 entry_kept : (img : Image) (config : Config) (a : ℕ) (s : Standing) (e : Entry) → LegalEntry img config s e → is_word a e.addr ≡ false
     → Kept a s.lines → Kept a (after_entry img s e).lines
-unfolding LegalEntry after_entry stepped Rattle.svc_machine_laws.specs.LineEvents.line_event
+unfolding LegalEntry after_entry standing_after Rattle.svc_machine_laws.specs.LineEvents.line_event
 entry_kept img config a s e legal miss kept = by e.kind legal
   where
     by : (k : Kind) → LegalKind k img config s e → Kept a (by_kind k img s e).lines

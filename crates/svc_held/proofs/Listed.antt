@@ -9,10 +9,10 @@ use Rattle.svc_bus_laws.specs.BusState.{BusState}
 use Rattle.svc_held.specs.declared.named.Named.{Named}
 use Rattle.svc_held.specs.declared.named.Namers.{Namers}
 use Rattle.svc_held.specs.declared.named.Namers.TheVariants.{Nobody, One, Several}
-use Rattle.svc_held.specs.declared.span.Span.{Span}
+use Rattle.svc_span.specs.declared.span.Span.{Span}
 use Rattle.svc_held.specs.Held.{HasItsLines, IsHeldBy, is_cached, is_named_line, line_named}
 use Rattle.svc_held.specs.Named.{are_some, may_have, named_at, named_by}
-use Rattle.svc_held.specs.Span.{is_asked}
+use Rattle.svc_span.specs.Span.{is_asked}
 use Rattle.svc_held.proofs.Ranges.{same_any}
 
 -- of nobody no unit may be one

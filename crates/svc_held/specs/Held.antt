@@ -6,7 +6,7 @@ use Rattle.svc_bus_laws.specs.BusState.{BusState}
 use Rattle.svc_held.specs.declared.named.Named.{Named}
 use Rattle.svc_held.specs.declared.named.Namers.{Namers}
 use Rattle.svc_held.specs.declared.named.Namers.TheVariants as namers
-use Rattle.svc_held.specs.declared.span.Span.{Span}
+use Rattle.svc_span.specs.declared.span.Span.{Span}
 use Rattle.svc_held.specs.Named.{are_some, may_have, named_at}
 
 -- among n words, these have all that is in a line or spilled, and all that is asked for: a line is in a unit that names

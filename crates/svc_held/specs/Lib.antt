@@ -1,4 +1,3 @@
-pub mod Span
 pub mod Named
 pub mod Held
 pub mod Tasks

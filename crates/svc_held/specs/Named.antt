@@ -8,8 +8,8 @@ use Rattle.svc_history_laws.specs.declared.entry.Entry.{Entry}
 use Rattle.svc_held.specs.declared.named.Named.{Named}
 use Rattle.svc_held.specs.declared.named.Namers.{Namers}
 use Rattle.svc_held.specs.declared.named.Namers.TheVariants as namers
-use Rattle.svc_held.specs.declared.span.Span.{Span}
-use Rattle.svc_held.specs.Span.{is_asked}
+use Rattle.svc_span.specs.declared.span.Span.{Span}
+use Rattle.svc_span.specs.Span.{is_asked}
 
 -- there is a word, and it is this one
 abbrev pub is_word : (word : ℕ) → Option WordAddr → Bool

@@ -7,9 +7,9 @@ ghost use Rattle.svc_held.specs.Held.{IsHeldBy};
 
 use crate::holds::words_of;
 use crate::named::{Named, named_words};
-use crate::span::Span;
 use std::alloc::{AllocError, Global};
 use svc_history::Recorder;
+use svc_span::Span;
 
 /// The words of a history's machine that can be in a line or spilled, those that its entries name, and those that are
 /// asked for, in their order. No other word need be looked up.

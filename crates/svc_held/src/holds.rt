@@ -43,7 +43,7 @@ pub fn spill_of(machine: &Machine, word: WordAddr) -> Option<u32>
     ensures { result ≡ (observed machine.now.bus).spill word.0 }
 {
     let _standing = machine.config();
-    machine.spilled(word)
+    machine.spilled_version(word)
 }
 
 /// The word is spilled.

@@ -12,5 +12,4 @@ pub use bits::{is_committed, is_loaded, is_stale, is_stored};
 pub use held::held_words;
 pub use holds::{backing_of, has_spill, holds_line, line_of, line_of_named, spill_of, words_of};
 pub use named::{Named, Namers};
-pub use span::{Span, is_asked};
 pub use tasks::number_at;

@@ -6,12 +6,13 @@ ghost use Rattle.std.specs.List.{range_with_len};
 ghost use Rattle.svc_held.specs.declared.named.Namers.TheVariants.{Nobody};
 ghost use Rattle.svc_held.specs.Named.{AreNamed, IsMarked, and_unit, are_some, marked, marked_at, may_have, named_at};
 ghost use Rattle.svc_held.specs.Named.{named_by};
-ghost use Rattle.svc_held.specs.Span.{is_asked};
+ghost use Rattle.svc_span.specs.Span.{is_asked};
 
-use crate::span::{Span, bounds, is_asked};
+use crate::span::bounds;
 use std::alloc::{AllocError, Global};
 use svc_base::{UnitId, WordAddr};
 use svc_history::Entry;
+use svc_span::{Span, is_asked};
 
 /// The units whose entries name a word.
 #[derive(Clone, Copy)]

@@ -7,12 +7,12 @@ use Rattle.svc_core_laws.specs.Words.{program}
 use Rattle.svc_bus_laws.specs.BusState.{AreAlike}
 use Rattle.svc_bus_laws.proofs.Alike.{alike_maps}
 use Rattle.svc_bus.specs.Observed.{observed}
-use Rattle.svc_machine_laws.specs.Blame.{begun, tasks_cut}
+use Rattle.svc_machine_laws.specs.Blame.{tasks_begun, tasks_cut}
 use Rattle.svc_machine_laws.specs.declared.reply.Cut.{Cut}
 use Rattle.svc_machine_laws.specs.declared.reply.Reply.{Reply}
 use Rattle.svc_machine_laws.specs.PlainMachine.{Plain, Task, commit_tasks, submit}
 use Rattle.svc_machine_laws.specs.Events.{asked_want, plain_event, plain_submit, plain_cancel, Event, Assign, Submit, Replace, Cancel, Commit, IsEvent}
-use Rattle.svc_machine_laws.specs.Standing.{Standing, opened_at, refused, stepped, after_event, reply_to, is_commit, whole_of, unless}
+use Rattle.svc_machine_laws.specs.Standing.{Standing, opened_at, refusal_of, standing_after, after_event, reply_to, is_commit, whole_of, unless}
 use Rattle.svc_machine_laws.specs.Headline.{IsSequential}
 use Rattle.svc_machine_laws.specs.Reached.{IsReached}
 use Rattle.svc_machine_laws.proofs.Folds.{reached_is, step_commits, opened_reached}
@@ -70,17 +70,17 @@ sequential r kept =
           subst (λ (k : ℕ). IsSequential img k (whole_of img s)) (ap (λ (q : Plain). q.commits) (sym at.plain) ∙ count) is;
     }
 
-accepted_step : (img : Image) (config : Config) (s : Standing) (x : Event) → refused img config s x ≡ None → after_event img config s x ≡ stepped img s x
+accepted_step : (img : Image) (config : Config) (s : Standing) (x : Event) → refusal_of img config s x ≡ None → after_event img config s x ≡ standing_after img s x
 unfolding after_event
-accepted_step img config s x h = ap (λ o. unless o s (stepped img s x)) h
+accepted_step img config s x h = ap (λ o. unless o s (standing_after img s x)) h
 
-refused_step : (img : Image) (config : Config) (s : Standing) (x : Event) (r : Refusal) → refused img config s x ≡ Some r → after_event img config s x ≡ s
+refused_step : (img : Image) (config : Config) (s : Standing) (x : Event) (r : Refusal) → refusal_of img config s x ≡ Some r → after_event img config s x ≡ s
 unfolding after_event
-refused_step img config s x r h = ap (λ o. unless o s (stepped img s x)) h
+refused_step img config s x r h = ap (λ o. unless o s (standing_after img s x)) h
 
 -- an accepted event is one more
-one_more : (img : Image) (config : Config) (s : Standing) (x : Event) → refused img config s x ≡ None → (stepped img s x).plain.accepted ≡ s.plain.accepted + 1
-unfolding stepped plain_event
+one_more : (img : Image) (config : Config) (s : Standing) (x : Event) → refusal_of img config s x ≡ None → (standing_after img s x).plain.accepted ≡ s.plain.accepted + 1
+unfolding standing_after plain_event
 one_more img config s (Assign unit guess) h = omega arith
 one_more img config s (Submit b) h =
     let can = can_submit img config s b h in
@@ -103,7 +103,7 @@ kind_commits img s (Replace unit a) = refl
 kind_commits img s (Cancel unit) = refl
 kind_commits img s (Commit by) = refl
 
-kind_assigns : (x : Event) (r : Reply) → assigns (entry_of x r).kind ≡ begun x
+kind_assigns : (x : Event) (r : Reply) → assigns (entry_of x r).kind ≡ tasks_begun x
 unfolding entry_of
 kind_assigns (Assign unit guess) r = refl
 kind_assigns (Submit b) r = refl
@@ -119,7 +119,7 @@ cuts_told : (x : Event) (r : Reply) → unwrap_or (entry_of x r).squashed 0 ≡ 
 unfolding entry_of
 cuts_told x r = cuts_counted r.cut
 
-begun_few : (x : Event) → begun x ≤ 1
+begun_few : (x : Event) → tasks_begun x ≤ 1
 begun_few (Assign unit guess) = omega arith
 begun_few (Submit b) = omega arith
 begun_few (Replace unit a) = omega arith
@@ -145,7 +145,7 @@ counted-append t (f ∷ es) e = counted-append (tally_with t f) es e
 -- the recorder after an accepted event
 pub record Follows (r : Recorded) (x : Event) (m : MachineValue) (e : Entry) : Type 0 where
   pub event : IsEvent x
-  pub accepted : refused r.machine.image r.machine.config (standing_of r) x ≡ None
+  pub accepted : refusal_of r.machine.image r.machine.config (standing_of r) x ≡ None
   pub image : m.image ≡ r.machine.image
   pub config : m.config ≡ r.machine.config
   pub at : StandsAt m (after_event r.machine.image r.machine.config (standing_of r) x)
@@ -171,7 +171,7 @@ recorded r x m e kept f =
     let s : Standing = standing_of r in
     let es : List Entry = r.entries ++ e ∷ [] in
     let led : led_to img config es ≡ after_event img config s x = leads r x m e kept f in
-    let stepped_is : led_to img config es ≡ stepped img s x = led ∙ accepted_step img config s x f.accepted in
+    let stepped_is : led_to img config es ≡ standing_after img s x = led ∙ accepted_step img config s x f.accepted in
     let move = moved r m f.image f.config in
     let all : Legal img config (opened_at img config 0) es =
     Legal-append img config (opened_at img config 0) r.entries e kept.legal.legal (subst (LegalEntry img config s) (sym f.entry) (legal_entry img (given img kept.image) config s x f.event f.accepted)) in
@@ -223,7 +223,7 @@ unfolding entry_of
 entry_is x r answer n e names is tells = tells ∙ ap₂ telling is names
 
 -- an event is accepted below the limit alone
-pub below_limit : (img : Image) (config : Config) (s : Standing) (x : Event) → refused img config s x ≡ None → s.plain.accepted < config.events
+pub below_limit : (img : Image) (config : Config) (s : Standing) (x : Event) → refusal_of img config s x ≡ None → s.plain.accepted < config.events
 below_limit img config s (Assign unit guess) h = (can_assign img config s unit guess h).room
 below_limit img config s (Submit b) h = (can_submit img config s b h).room
 below_limit img config s (Replace unit a) h = (can_replace img config s unit a h).room

@@ -19,7 +19,7 @@ use Rattle.svc_machine_laws.specs.WholeMachine.{seat_of}
 use Rattle.svc_machine_laws.specs.Events.{task_place, asked_want, Event, Assign, Submit, Replace, Cancel, Commit, IsEvent}
 use Rattle.svc_machine_laws.specs.Blame.{IsBlamedOn}
 use Rattle.svc_machine_laws.specs.Replies.{plain_reply, plain_committed, plain_cancelled, plain_submitted, plain_asked, plain_asked_of, turn_done, serves_at}
-use Rattle.svc_machine_laws.specs.Standing.{Standing, refused, reply_to}
+use Rattle.svc_machine_laws.specs.Standing.{Standing, refusal_of, reply_to}
 use Rattle.svc_machine_laws.specs.Reached.{IsReached}
 use Rattle.svc_machine_laws.proofs.Blames.{blamed}
 use Rattle.svc_machine_laws.proofs.Given.{Given}
@@ -53,7 +53,7 @@ first_within img s x cut cause.Cancelled b =
     omega (arith, b.cut_at.first, units, spot)
 
 -- a commit tells the number of commits before it
-told_commits : (img : Image) (config : Config) (s : Standing) (x : Event) → refused img config s x ≡ None → task_told (reply_to img s x).what ≤ s.plain.commits
+told_commits : (img : Image) (config : Config) (s : Standing) (x : Event) → refusal_of img config s x ≡ None → task_told (reply_to img s x).what ≤ s.plain.commits
 unfolding reply_to plain_reply
 told_commits img config s (Assign unit guess) ok = omega arith
 told_commits img config s (Submit b) ok = asked_tells (task_place s.plain b.unit.0) (is_some (asked_want img b))
@@ -96,7 +96,7 @@ told_commits img config s (Commit by) ok = commit_tells s.plain.tasks
     commit_tells [] = omega arith
     commit_tells (t ∷ ts) = omega arith
 
-pub small : (img : Image) → Given img → (config : Config) → config.events ≤ MAX_EVENTS → config.units ≤ MAX_UNITS → (s : Standing) → IsReached img config s → (x : Event) → IsEvent x → refused img config s x ≡ None → (r : Reply) → r ≡ reply_to img s x → IsSmall r
+pub small : (img : Image) → Given img → (config : Config) → config.events ≤ MAX_EVENTS → config.units ≤ MAX_UNITS → (s : Standing) → IsReached img config s → (x : Event) → IsEvent x → refusal_of img config s x ≡ None → (r : Reply) → r ≡ reply_to img s x → IsSmall r
 small img given config few units s reached x is ok r e = record {
   task = let told = told_commits img config s x ok in let same = ap (λ (q : Reply). task_told q.what) e in omega (arith, told, same, reached.commits_few, reached.accepted_few, few);
   first = of r.cut refl;

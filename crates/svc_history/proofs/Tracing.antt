@@ -14,7 +14,7 @@ use Rattle.svc_machine_laws.specs.PlainMachine.{Plain}
 use Rattle.svc_machine_laws.specs.WholeMachine.{Machine, Seat, machine_of, seat_unit}
 use Rattle.svc_machine_laws.specs.Events.{Event, Submit, seat_place}
 use Rattle.svc_machine_laws.specs.Refusals.{seat_at}
-use Rattle.svc_machine_laws.specs.Standing.{refused, reply_to, Standing, opened_at}
+use Rattle.svc_machine_laws.specs.Standing.{refusal_of, reply_to, Standing, opened_at}
 use Rattle.svc_machine_laws.proofs.Places.{found}
 use Rattle.svc_machine.specs.Value.{MachineValue}
 use Rattle.svc_machine.specs.Reads.{lease_of, lease_from}
@@ -41,14 +41,14 @@ replay_there : (r : Recorded) (e : Entry) (x : Event) → IsLegal r → IsReplay
 replay_there r e x is replay = subst (λ (s : Plain). IsReplay r.machine.image s e x) is.here.plain replay
 
 pub wrong_refused : (r : Recorded) (e : Entry) (x : Event) (why : Refusal) → IsLegal r → IsReplay r.machine.image r.machine.plain e x
-    → refused r.machine.image r.machine.config (standing_of r) x ≡ Some why → IsWrongThere r e fault.Refused
+    → refusal_of r.machine.image r.machine.config (standing_of r) x ≡ Some why → IsWrongThere r e fault.Refused
 wrong_refused r e x why is replay h =
     let there = replay_there r e x is replay in (
       λ legal. none-some why (sym (legal_agrees r.machine.image r.machine.config (standing_of r) e x legal there).accepted ∙ h),
-      λ y other. ap is_some (ap (refused r.machine.image r.machine.config (standing_of r)) (one_replay r.machine.image (standing_of r).plain e y x e.kind other there) ∙ h),
+      λ y other. ap is_some (ap (refusal_of r.machine.image r.machine.config (standing_of r)) (one_replay r.machine.image (standing_of r).plain e y x e.kind other there) ∙ h),
     )
 
-pub wrong_differs : (r : Recorded) (e f : Entry) (x : Event) → IsLegal r → IsReplay r.machine.image r.machine.plain e x → refused r.machine.image r.machine.config (standing_of r) x ≡ None
+pub wrong_differs : (r : Recorded) (e f : Entry) (x : Event) → IsLegal r → IsReplay r.machine.image r.machine.plain e x → refusal_of r.machine.image r.machine.config (standing_of r) x ≡ None
     → f ≡ entry_of x (reply_to r.machine.image (standing_of r) x) → (f ≡ e → ⊥) → IsWrongThere r e fault.Differs
 wrong_differs r e f x is replay ok wrote other =
     let there = replay_there r e x is replay in (

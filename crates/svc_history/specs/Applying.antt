@@ -2,7 +2,7 @@
 use Rattle.std.specs.Prelude.{◌≡◌, ◌++◌, ◌∷◌, [], length, Option, Some, None, Result, IfOk, OnErr, MatchResult}
 use Rattle.svc_base.specs.declared.refusal.Refusal.{Refusal}
 use Rattle.svc_machine_laws.specs.Events.{Event}
-use Rattle.svc_machine_laws.specs.Standing.{Standing, after_event, refused, reply_to}
+use Rattle.svc_machine_laws.specs.Standing.{Standing, after_event, refusal_of, reply_to}
 use Rattle.svc_machine.specs.Value.{IsSequentialMachine}
 use Rattle.svc_history_laws.specs.declared.entry.Entry.{Entry}
 use Rattle.svc_history_laws.specs.declared.entry.Slip.{Slip}
@@ -12,7 +12,7 @@ use Rattle.svc_history.specs.Recorded.{Recorded, IsCounted, IsLegal, standing_of
 
 -- the first refusal that applies, by the table of refusals, if any
 abbrev pub refused_at : Recorded → Event → Option Refusal
-refused_at r x = refused r.machine.image r.machine.config (standing_of r) x
+refused_at r x = refusal_of r.machine.image r.machine.config (standing_of r) x
 
 -- it is refused exactly when the table says so, with that refusal
 abbrev pub IsRefusedByTable : Recorded → Event → Result Slip Refusal → Type 0

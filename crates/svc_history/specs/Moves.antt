@@ -21,12 +21,12 @@ pub data NextMove : Type 0 where
   Ended : NextMove
 
 -- the move that code answers, which lends the lease
-abbrev pub told : Move → NextMove
-told (move.Begin guess) = Begin guess
-told (move.RunOn lease) = RunOn lease.now
-told move.Commit = Commit
-told move.Wait = Wait
-told move.Ended = Ended
+abbrev pub code_move : Move → NextMove
+code_move (move.Begin guess) = Begin guess
+code_move (move.RunOn lease) = RunOn lease.now
+code_move move.Commit = Commit
+code_move move.Wait = Wait
+code_move move.Ended = Ended
 
 -- with a task: it runs the task on until that has ended, and then commits it if it is the head
 abbrev pub with_task : Lease → (is_head : Bool) → NextMove

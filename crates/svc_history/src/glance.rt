@@ -1,7 +1,7 @@
 // What a unit sees of a recorder, and what it does next.
 
 ghost use Rattle.std.specs.Prelude.{◌≡◌, option_map};
-ghost use Rattle.svc_history.specs.Moves.{next_move, told};
+ghost use Rattle.svc_history.specs.Moves.{next_move, code_move};
 
 use svc_core::Lease;
 
@@ -37,7 +37,7 @@ impl Glance {
     /// What the unit does next, given what it sees: nothing more once the run is over. Without a task it begins one at
     /// the guess. It runs on a task that has not ended, and commits one that has if it is the head. Otherwise it waits.
     pub fn next_move(&self) -> Move<'_>
-        ensures { told result ≡ next_move self.now }
+        ensures { code_move result ≡ next_move self.now }
     {
         move_by(self.ended, self.lease.as_ref(), self.is_head, self.guess)
     }
@@ -51,7 +51,7 @@ pub(crate) fn move_by(
     guess: Option<u32>,
 ) -> Move<'_>
     ensures { let lease = option_map (λ lent. lent.now) lease.entry in
-        told result ≡ next_move (record { ended = ended; lease = lease; is_head = is_head; guess = guess }) }
+        code_move result ≡ next_move (record { ended = ended; lease = lease; is_head = is_head; guess = guess }) }
 {
     if ended {
         return Move::Ended;

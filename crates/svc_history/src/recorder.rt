@@ -7,7 +7,7 @@ ghost use Rattle.svc_history_laws.specs.Board.{board};
 ghost use Rattle.svc_history.specs.Recorded.{IsCounted, IsLegal};
 ghost use Rattle.svc_history.specs.Applying.{IsApplied};
 ghost use Rattle.svc_history.specs.Glances.{IsGlance, IsUnitKnown, has_ended};
-ghost use Rattle.svc_history.specs.Moves.{move_of, told};
+ghost use Rattle.svc_history.specs.Moves.{move_of, code_move};
 
 use crate::glance::{Glance, Move, move_by};
 use crate::writing::{fields_of, telling};
@@ -54,6 +54,17 @@ impl Recorder {
             return Err(OpenError::Memory);
         };
         Ok(Recorder { machine, entries })
+    }
+
+    /// It becomes equal to another recorder of the same image and configuration. It takes no memory.
+    pub fn copy_from(&mut self, other: &Recorder)
+        requires image { self.old.machine.image ≡ other.now.machine.image }
+        requires config { self.old.machine.config ≡ other.now.machine.config }
+        ensures { self.new ≡ other.now }
+    {
+        self.machine.copy_from(&other.machine);
+        self.entries.clear();
+        let _room = self.entries.extend_from_slice(&other.entries);
     }
 
     /// One event. An accepted one appends exactly one entry, that event's with its reply, and a refused one changes
@@ -134,7 +145,7 @@ impl Recorder {
     /// Errors: [`Refusal::NoSuchUnit`].
     pub fn next_move(&self, unit: UnitId) -> Result<Move<'_>, Refusal>
         ensures refused { IsUnitKnown self.now.machine.config unit result }
-        ensures moves { IfOk result (λ next. told next ≡ move_of self.now.machine unit.0) }
+        ensures moves { IfOk result (λ next. code_move next ≡ move_of self.now.machine unit.0) }
         ensures legal { IsLegal self.now }
     {
         let _entries = &self.entries;

@@ -41,7 +41,7 @@ pub struct TraceFault {
     pub kind: TraceFaultKind,
 }
 
-// Replaces a burst by the one that an entry of a submission names where its machine stands. The answer is none if the
+// Replaces a burst by the one that an entry of a submission names where its machine stands. It answers `None` if the
 // entry lacks what that needs.
 fn make_burst(burst: &mut Burst, machine: &Machine, entry: &Entry) -> Option<()>
     ensures replay { IfSome result (λ _.

@@ -19,7 +19,7 @@ use Rattle.svc_machine_laws.specs.WholeMachine as whole
 use Rattle.svc_machine_laws.specs.WholeMachine.{Machine, is_misled, machine_of, memory_seen}
 use Rattle.svc_machine_laws.specs.Events.{Event, IsEvent, Submit, task_place, asked_want}
 use Rattle.svc_machine_laws.specs.Replies.{turn_done, serves_at, whole_asked, whole_submitted, whole_reply, plain_reply}
-use Rattle.svc_machine_laws.specs.Standing.{Standing, opened_at, refused, reply_to}
+use Rattle.svc_machine_laws.specs.Standing.{Standing, opened_at, refusal_of, reply_to}
 use Rattle.svc_machine_laws.specs.Reached.{IsReached}
 use Rattle.svc_machine_laws.specs.Blame.{Writes, IsCutAt, IsBlamedOn, Misleads}
 use Rattle.svc_machine_laws.proofs.Given.{Given}
@@ -53,7 +53,7 @@ write_stored p (Store b v c) a look serves h = record { told = refl; address = a
 write_stored p (Narrow b f c) a look serves h = record { told = refl; address = ap (λ (x : ℕ). let y : WordAddr = record { 0 = x } in Some y) h }
 write_stored p (Emit v c) a look serves h = absurd h
 
-stored : (img : Image) → Given img → (config : Config) (s : Standing) (b : Advance) → IsEvent (Submit b) → refused img config s (Submit b) ≡ None
+stored : (img : Image) → Given img → (config : Config) (s : Standing) (b : Advance) → IsEvent (Submit b) → refusal_of img config s (Submit b) ≡ None
     → (w : Want State) → asked_want img b ≡ Some w → (a : ℕ) → Writes w a → IsStored a (reply_to img s (Submit b)).what
 unfolding reply_to plain_reply whole_reply
 stored img given config s b is ok w asked a wrote =
@@ -67,7 +67,7 @@ stored img given config s b is ok w asked a wrote =
     ∙ ap (λ (r : Reply). r.what) (reply_is img given config s (Submit b) is ok) in
     subst (IsStored a) answer (write_stored p w a (memory_seen (machine_of p s.plain).versioned can.place) (serves_at s.lines can.place) wrote)
 
-module _ (img : Image) (given : Given img) (config : Config) (s : Standing) (reached : IsReached img config s) (x : Event) (is : IsEvent x) (ok : refused img config s x ≡ None) where
+module _ (img : Image) (given : Given img) (config : Config) (s : Standing) (reached : IsReached img config s) (x : Event) (is : IsEvent x) (ok : refusal_of img config s x ≡ None) where
   abbrev r : Reply
   r = reply_to img s x
 
@@ -82,7 +82,7 @@ module _ (img : Image) (given : Given img) (config : Config) (s : Standing) (rea
   unfolding entry_of
   caused cut h (cause.Violation a) b =
       let there : IsStored a.0 r.what =
-      subst (λ (y : Event). IsEvent y → refused img config s y ≡ None → IsStored a.0 (reply_to img s y).what) (sym b.event)
+      subst (λ (y : Event). IsEvent y → refusal_of img config s y ≡ None → IsStored a.0 (reply_to img s y).what) (sym b.event)
       (λ its accepted. stored img given config s b.burst its accepted b.want b.asked a.0 b.wrote) is ok in
       record {
         kind = ap (λ (y : Event). (entry_asking y).kind) b.event;

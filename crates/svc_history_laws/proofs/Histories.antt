@@ -8,9 +8,9 @@ use Rattle.svc_machine_laws.specs.declared.reply.Reply.{Reply}
 use Rattle.svc_machine_laws.specs.PlainMachine.{Plain}
 use Rattle.svc_machine_laws.specs.Events.{Event, IsEvent, Assign, Submit, Replace, Cancel, Commit, asked_want, plain_event, plain_submit, plain_cancel}
 use Rattle.svc_machine_laws.specs.PlainMachine as plain
-use Rattle.svc_machine_laws.specs.Standing.{Standing, opened_at, refused, stepped, reply_to, is_commit}
+use Rattle.svc_machine_laws.specs.Standing.{Standing, opened_at, refusal_of, standing_after, reply_to, is_commit}
 use Rattle.svc_machine_laws.specs.Reached.{IsReached}
-use Rattle.svc_machine_laws.specs.Blame.{tasks_cut, begun}
+use Rattle.svc_machine_laws.specs.Blame.{tasks_cut, tasks_begun}
 use Rattle.svc_machine_laws.proofs.Given.{Given}
 use Rattle.svc_machine_laws.proofs.Accepted.{can_submit, can_cancel}
 use Rattle.svc_machine_laws.proofs.Checks.{check_accepted}
@@ -48,7 +48,7 @@ last_take img s (f ∷ es) zero e h = ap (after_entry img s) (same_Some f e h)
 last_take img s (f ∷ es) (suc i) e h = last_take img (after_entry img s f) es i e h
 
 -- an entry counts what its event does
-kind_begins : (x : Event) (r : Reply) → assigns (entry_of x r).kind ≡ begun x
+kind_begins : (x : Event) (r : Reply) → assigns (entry_of x r).kind ≡ tasks_begun x
 unfolding entry_of
 kind_begins (Assign unit guess) r = refl
 kind_begins (Submit b) r = refl
@@ -72,7 +72,7 @@ cuts x r = of r.cut
     of None = refl
     of (Some cut) = refl
 
-begins_one : (x : Event) → begun x ≤ 1
+begins_one : (x : Event) → tasks_begun x ≤ 1
 begins_one (Assign unit guess) = omega arith
 begins_one (Submit b) = omega arith
 begins_one (Replace unit a) = omega arith
@@ -86,8 +86,8 @@ commit_accepted p s = of s.tasks
     of [] = refl
     of (t ∷ ts) = refl
 
-step_accepted : (img : Image) (config : Config) (s : Standing) (x : Event) → refused img config s x ≡ None → (stepped img s x).plain.accepted ≡ suc s.plain.accepted
-unfolding stepped plain_event
+step_accepted : (img : Image) (config : Config) (s : Standing) (x : Event) → refusal_of img config s x ≡ None → (standing_after img s x).plain.accepted ≡ suc s.plain.accepted
+unfolding standing_after plain_event
 step_accepted img config s (Assign unit guess) h = refl
 step_accepted img config s (Submit b) h = let can = can_submit img config s b h in
     ap (λ o. (plain_submit img s.plain o b).accepted) can.at ∙ check_accepted (program img) (plain.submit (program img) s.plain can.place b.local (is_some (asked_want img b))) can.place
@@ -103,8 +103,8 @@ pub record Tallies (img : Image) (config : Config) (s : Standing) (t : Tally) : 
   pub tasks : t.assigned ≡ t.committed + t.squashed + length s.plain.tasks
   pub few : t.assigned ≤ t.events
 
-tallies_step : (img : Image) → Given img → (config : Config) (s : Standing) (t : Tally) (x : Event) → IsEvent x → refused img config s x ≡ None → Tallies img config s t
-    → Tallies img config (stepped img s x) (tally_with t (entry_of x (reply_to img s x)))
+tallies_step : (img : Image) → Given img → (config : Config) (s : Standing) (t : Tally) (x : Event) → IsEvent x → refusal_of img config s x ≡ None → Tallies img config s t
+    → Tallies img config (standing_after img s x) (tally_with t (entry_of x (reply_to img s x)))
 tallies_step img given config s t x is ok h =
     let r : Reply = reply_to img s x in
     let assigned = kind_begins x r in
@@ -124,7 +124,7 @@ pub tallies_entry : (img : Image) → Given img → (config : Config) (s : Stand
 tallies_entry img given config s t e legal h =
     let x : HasEvent img config s e = has_event img given config s e legal in
     subst (λ (n : Standing). Tallies img config n (tally_with t e)) (sym x.leads)
-    (subst (λ (f : Entry). Tallies img config (stepped img s x.event) (tally_with t f)) (sym x.entry) (tallies_step img given config s t x.event x.is x.accepted h))
+    (subst (λ (f : Entry). Tallies img config (standing_after img s x.event) (tally_with t f)) (sym x.entry) (tallies_step img given config s t x.event x.is x.accepted h))
 
 tallies_on : (img : Image) → Given img → (config : Config) (s : Standing) (t : Tally) (es : List Entry) → Legal img config s es → Tallies img config s t → Tallies img config (last img s es) (counted_on t es)
 unfolding Legal last counted_on

@@ -3,22 +3,22 @@ use Rattle.std.proofs.Common.{inl, inr, ℕ, zero, suc, ◌≡◌, ◌+◌, ◌<
 use Rattle.svc_base.specs.declared.config.Config.{Config}
 use Rattle.svc_base.specs.declared.ids.UnitId.{UnitId}
 use Rattle.svc_image.specs.declared.fetched.Fetched.{Fetched}
-use Rattle.svc_image.specs.Image.{Image, fetch, fetched}
+use Rattle.svc_image.specs.Image.{Image, fetch, fetch_answer}
 use Rattle.svc_core_laws.specs.declared.ask.Ask.{Ask}
 use Rattle.svc_core_laws.specs.declared.ask.Ask.TheVariants as ask
 use Rattle.svc_core_laws.specs.State.{State}
 use Rattle.svc_core_laws.specs.Local.{TurnOutcome, outcome_at}
 use Rattle.svc_core_laws.specs.Local as out
-use Rattle.svc_core_laws.specs.Turns.{arrived, next}
+use Rattle.svc_core_laws.specs.Turns.{entry_test, next}
 use Rattle.svc_core_laws.specs.Program.{Memory, part, seq}
 use Rattle.svc_core_laws.specs.Words.{program}
-use Rattle.svc_core_laws.specs.Bursts.{Advance, Follows, AreOf, IsLocal, word_seen, after, is_nothing, ask_turns, shown}
+use Rattle.svc_core_laws.specs.Bursts.{Advance, Follows, AreOf, IsLocal, word_seen, after, is_nothing, ask_turns, burst_outcome}
 use Rattle.svc_core_laws.proofs.Ends.{next_running}
 use Rattle.svc_core_laws.proofs.Looks.{Seen, seen_last, Grows, grown_ended, grown_running, still, opened_running, one_of, are_of_more, fetched_place, fetched_own}
 use Rattle.svc_machine_laws.specs.PlainMachine.{Task, run_of, memory_at}
 use Rattle.svc_machine_laws.specs.WholeMachine.{seat_of}
 use Rattle.svc_machine_laws.specs.Events.{Event, IsEvent, Submit, Assign as AssignEvent, Replace as ReplaceEvent, Cancel as CancelEvent, Commit as CommitEvent}
-use Rattle.svc_machine_laws.specs.Standing.{Standing, refused, reply_to}
+use Rattle.svc_machine_laws.specs.Standing.{Standing, refusal_of, reply_to}
 use Rattle.svc_machine_laws.proofs.Given.{Given}
 use Rattle.svc_history_laws.specs.declared.entry.Kind.{Kind}
 use Rattle.svc_history_laws.specs.declared.entry.Kind.TheVariants.{Assign, Submit as SubmitKind, Replace, Cancel, Commit}
@@ -45,7 +45,7 @@ record Ran (img : Image) (unit : UnitId) (epoch : ℕ) (start : State) (n : ℕ)
 
 opened : (img : Image) (unit : UnitId) (epoch : ℕ) (start : State) → start.done ≡ None → Ran img unit epoch start 0
 opened img unit epoch start running =
-    let look : Fetched = fetched img start.pc in
+    let look : Fetched = fetch_answer img start.pc in
     record {
       burst = still unit epoch start (look ∷ []);
       unit_is = refl;
@@ -57,8 +57,8 @@ opened img unit epoch start running =
       idle = refl;
     }
 
-fetched_word : (img : Image) (pc : ℕ) → (fetched img pc).word ≡ fetch img pc
-unfolding fetched
+fetched_word : (img : Image) (pc : ℕ) → (fetch_answer img pc).word ≡ fetch img pc
+unfolding fetch_answer
 fetched_word img pc = refl
 
 -- the word that was seen last is the image's
@@ -86,13 +86,13 @@ grown img unit epoch start n r at few =
   where
     of : (c : State) → Grows r.burst c → (x : Bool) → is_none c.done ≡ x → Ran img unit epoch start (suc n)
     of c g true e =
-        let look : Fetched = fetched img c.pc in
+        let look : Fetched = fetch_answer img c.pc in
         record {
-          burst = record r.burst { looks = r.burst.looks ++ look ∷ []; local = r.burst.local + 1; end = arrived look.entry c };
+          burst = record r.burst { looks = r.burst.looks ++ look ∷ []; local = r.burst.local + 1; end = entry_test look.entry c };
           unit_is = r.unit_is;
           epoch_is = r.epoch_is;
           start_is = r.start_is;
-          follows = grown_running r.burst c (arrived look.entry c) look (r.burst.looks ++ look ∷ []) g e (fetched_place img look c.pc refl) refl refl;
+          follows = grown_running r.burst c (entry_test look.entry c) look (r.burst.looks ++ look ∷ []) g e (fetched_place img look c.pc refl) refl refl;
           looks = are_of_more img r.burst.looks look r.looks (fetched_own img look c.pc refl);
           local_is = omega (arith, r.local_is);
           idle = r.idle;
@@ -109,7 +109,7 @@ grown img unit epoch start n r at few =
     }
 
 -- what a running core asks
-ask_of : (s : State) (x : TurnOutcome) → (IsLocal x → ⊥) → (a : Ask) × (x ≡ shown s a) × (is_nothing a ≡ false)
+ask_of : (s : State) (x : TurnOutcome) → (IsLocal x → ⊥) → (a : Ask) × (x ≡ burst_outcome s a) × (is_nothing a ≡ false)
 ask_of s (out.Local c) not_local = absurd (not_local tt)
 ask_of s (out.Load kind rd addr) not_local = (ask.Load kind rd addr, refl, refl)
 ask_of s (out.Store kind addr v) not_local = (ask.Store kind addr v, refl, refl)
@@ -179,7 +179,7 @@ module _ (img : Image) (config : Config) (s : Standing) (e : Entry) (sub : IsSub
       let turns : turns_of (the_ask e) ≡ 1 = ap turns_of h in
       let one : ask_turns a.0 ≡ 1 = sym (turns_of-asks a.0) ∙ ap (λ x. turns_of (not x)) a.2 in
       let fits : Fits r.burst.end = subst Fits (end_is (the_local e) r) (task_fits img task.entry (the_local e + task.turns) memory) in
-      let outcome : outcome_at r.burst.end (word_seen (slice_get r.burst.looks r.burst.local)) ≡ shown r.burst.end a.0 = outcome_last img r.burst r.follows r.looks at.0 ∙ a.1 in (
+      let outcome : outcome_at r.burst.end (word_seen (slice_get r.burst.looks r.burst.local)) ≡ burst_outcome r.burst.end a.0 = outcome_last img r.burst r.follows r.looks at.0 ∙ a.1 in (
         record r.burst { ask = a.0 },
         record {
           seat = seat_of (run_of (program img) memory task);
@@ -212,7 +212,7 @@ record Named (img : Image) (config : Config) (s : Standing) (e : Entry) (k : Kin
   event : Event
   is : IsEvent event
   replay : ReplaysAs k img s.plain e event
-  accepted : refused img config s event ≡ None
+  accepted : refusal_of img config s event ≡ None
   entry : e ≡ entry_of event (reply_to img s event)
 
 event_of : (img : Image) (config : Config) (s : Standing) (e : Entry) (k : Kind) → LegalKind k img config s e → Named img config s e k

@@ -10,7 +10,7 @@ use Rattle.svc_core_laws.specs.State.{State}
 use Rattle.svc_core_laws.specs.Turns.{next}
 use Rattle.svc_core_laws.specs.Program.{Memory, Want, Run, part, seq, locals, are_local}
 use Rattle.svc_core_laws.specs.Words.{program}
-use Rattle.svc_core_laws.specs.Bursts.{Advance, Follows, AreOf, IsLocal, after, is_nothing, ask_turns, shown, Means}
+use Rattle.svc_core_laws.specs.Bursts.{Advance, Follows, AreOf, IsLocal, after, is_nothing, ask_turns, burst_outcome, Means}
 use Rattle.svc_core_laws.specs.Same.{same_state}
 use Rattle.svc_core_laws.proofs.Means.{all_locals, taken, are_of_looks}
 use Rattle.svc_bus_laws.specs.LineTable.{LineTable}
@@ -23,7 +23,7 @@ use Rattle.svc_machine_laws.specs.Events.{Event, Assign, Submit, Replace, Cancel
 use Rattle.svc_machine_laws.specs.LineEvents.{line_turn, line_ask, line_check, line_submit, line_event, word_of}
 use Rattle.svc_machine_laws.specs.Refusals.{cases_of, refuse, full_set, asked_word}
 use Rattle.svc_machine_laws.specs.Replies.{plain_reply, plain_submitted}
-use Rattle.svc_machine_laws.specs.Standing.{Standing, refused, stepped, reply_to}
+use Rattle.svc_machine_laws.specs.Standing.{Standing, refusal_of, standing_after, reply_to}
 use Rattle.svc_machine_laws.proofs.Cases.{no_case}
 use Rattle.svc_machine_laws.proofs.Given.{Given}
 use Rattle.svc_machine_laws.proofs.Accepted.{CanSubmit, can_submit, seat_places}
@@ -122,7 +122,7 @@ asked_at img b means follows h =
       | inr here ↦ (here.0, not_local b.ask some (means.ask some))
     ]
   where
-    not_local : (a : Ask) → is_nothing a ≡ false → next img b.end ≡ shown b.end a → IsLocal (next img b.end) → ⊥
+    not_local : (a : Ask) → is_nothing a ≡ false → next img b.end ≡ burst_outcome b.end a → IsLocal (next img b.end) → ⊥
     not_local ask.Nothing some e l = cc
     not_local (ask.Load kind rd addr) some e l = subst IsLocal e l
     not_local (ask.Store kind addr v) some e l = subst IsLocal e l
@@ -164,7 +164,7 @@ pub record Submits (img : Image) (config : Config) (s : Standing) (b : Advance) 
   pub taken : Taken (program img) s.plain place b.local b.end (asked_want img b)
   pub turns : IsSubmission img s b.unit.0 place task b.local (not (is_nothing b.ask))
 
-pub submits : (img : Image) → Given img → (config : Config) (s : Standing) (b : Advance) → Follows b → b.unit.0 < config.units → refused img config s (Submit b) ≡ None → Submits img config s b
+pub submits : (img : Image) → Given img → (config : Config) (s : Standing) (b : Advance) → Follows b → b.unit.0 < config.units → refusal_of img config s (Submit b) ≡ None → Submits img config s b
 submits img given config s b follows known h =
     let can : CanSubmit img config s b = can_submit img config s b h in
     let here : RunsTask img s.plain can.place can.run = task_here img s.plain can.place can.run can.here in
@@ -211,8 +211,8 @@ lines_turned img b t place c means e = of (asked_want img b) refl (is_nothing b.
     of (Some w) k true h = let no : false ≡ true = h ∙ ap is_some k in cc
     of (Some w) k false h = ap (λ v. line_turn v t place) (ap ((program img).want) e ∙ asked_next img b means w k)
 
-pub submission_leads : (img : Image) → Given img → (config : Config) (s : Standing) (b : Advance) → Submits img config s b → after_submission img s b.unit.0 b.local (not (is_nothing b.ask)) ≡ stepped img s (Submit b)
-unfolding stepped plain_event line_event
+pub submission_leads : (img : Image) → Given img → (config : Config) (s : Standing) (b : Advance) → Submits img config s b → after_submission img s b.unit.0 b.local (not (is_nothing b.ask)) ≡ standing_after img s (Submit b)
+unfolding standing_after plain_event line_event
 submission_leads img given config s b sub =
     let p = program img in
     let there : core_on img s.plain sub.place sub.task b.local ≡ b.end = core_after img s.plain sub.place sub.task b sub.starts b.local (omega arith) ∙ sym sub.starts.follows.end in
@@ -240,12 +240,12 @@ unfolding entry_of reply_to plain_reply
 submission_is img s b =
     ap (λ x. telling (plain_submitted (program img) s.plain s.lines (task_place s.plain b.unit.0) b.local x) (plain_entry kind.Submit b.unit None (Some b.local) (Some (not (is_nothing b.ask))))) (sym (wants_where_asks img b))
 
-known_unit : (img : Image) (config : Config) (s : Standing) (b : Advance) → refused img config s (Submit b) ≡ None → b.unit.0 < config.units
-unfolding refused refuse
+known_unit : (img : Image) (config : Config) (s : Standing) (b : Advance) → refusal_of img config s (Submit b) ≡ None → b.unit.0 < config.units
+unfolding refusal_of refuse
 known_unit img config s b h = leb-false config.units b.unit.0 (no_case (cases_of img config (machine_of (program img) s.plain) s.lines (Submit b)) h 0)
 
 -- the entry of an accepted event is legal
-pub legal_entry : (img : Image) → Given img → (config : Config) (s : Standing) (x : Event) → IsEvent x → refused img config s x ≡ None → LegalEntry img config s (entry_of x (reply_to img s x))
+pub legal_entry : (img : Image) → Given img → (config : Config) (s : Standing) (x : Event) → IsEvent x → refusal_of img config s x ≡ None → LegalEntry img config s (entry_of x (reply_to img s x))
 unfolding LegalEntry entry_of
 legal_entry img given config s (Assign unit guess) is h = (h, refl)
 legal_entry img given config s (Submit b) is h =
@@ -265,7 +265,7 @@ legal_entry img given config s (Cancel unit) is h = (h, refl)
 legal_entry img given config s (Commit by) is h = (h, refl)
 
 -- and leads where the event does
-pub entry_leads : (img : Image) → Given img → (config : Config) (s : Standing) (x : Event) → IsEvent x → refused img config s x ≡ None → after_entry img s (entry_of x (reply_to img s x)) ≡ stepped img s x
+pub entry_leads : (img : Image) → Given img → (config : Config) (s : Standing) (x : Event) → IsEvent x → refusal_of img config s x ≡ None → after_entry img s (entry_of x (reply_to img s x)) ≡ standing_after img s x
 unfolding after_entry entry_of
 entry_leads img given config s (Assign unit guess) is h = refl
 entry_leads img given config s (Submit b) is h = submission_leads img given config s b (submits img given config s b is (known_unit img config s b h) h)

@@ -19,10 +19,10 @@ use Rattle.svc_core_laws.specs.Numbers.{load_bytes, store_bytes}
 use Rattle.svc_core_laws.specs.State.{State}
 use Rattle.svc_core_laws.specs.Local.{TurnOutcome, ends, goes_on, sets, calls, outcome_of, outcome_of_meaning, outcome_of_word, outcome_at}
 use Rattle.svc_core_laws.specs.Local as out
-use Rattle.svc_core_laws.specs.Turns.{data_words, access_trap, store_trap, arrived_if, arrived, arrives, outputs}
-use Rattle.svc_core_laws.specs.Words.{wants_load, wants_store, wanted, wants, program}
+use Rattle.svc_core_laws.specs.Turns.{data_words, access_trap, store_trap, entry_test_if, entry_test, arrives, outputs}
+use Rattle.svc_core_laws.specs.Words.{wants_load, wants_store, outcome_want, wants, program}
 use Rattle.svc_core_laws.specs.Program.{Memory, Want, Run, Action, act, part, over, wrote}
-use Rattle.svc_core_laws.specs.Bursts.{shown, IsReady}
+use Rattle.svc_core_laws.specs.Bursts.{burst_outcome, IsReady}
 use Rattle.svc_core_laws.proofs.Ends.{CountsTurn, Locally, outcome_counts, next_running, stays}
 
 -- what an outcome says of the turns and words left
@@ -113,13 +113,13 @@ moves s (out.Emit w) r fits counts left = (below_limit s.count s.limit (fits.tur
 trapped_fits : (s : State) (e : End) → Fits s → Fits (ends e s)
 trapped_fits s e fits = record { turns = λ n. absurd (none-some e (sym n)); words = fits.words }
 
-arrived_fits : (entry : Bool) (s : State) (o : Option End) → s.done ≡ o → Fits s → Fits (arrived_if entry s o)
+arrived_fits : (entry : Bool) (s : State) (o : Option End) → s.done ≡ o → Fits s → Fits (entry_test_if entry s o)
 arrived_fits true s None e fits = record { turns = λ n. absurd (none-some (end.Next s.pc) (sym n)); words = fits.words }
 arrived_fits false s None e fits = fits
 arrived_fits entry s (Some x) e fits = fits
 
 arrives_fits : (img : Image) (s : State) → Fits s → Fits (arrives img s)
-unfolding arrived
+unfolding entry_test
 arrives_fits img s fits = arrived_fits (is_entry img s.pc) s s.done refl fits
 
 set_fits : (r v : ℕ) (s : State) → s.count < s.limit → Fits s → Fits (sets r v s)
@@ -142,7 +142,7 @@ store_fits img s store.Byte addr v None m log fits lt = arrives_fits img (goes_o
 store_fits img s store.Half addr v None m log fits lt = arrives_fits img (goes_on s) (gone_fits s lt fits)
 store_fits img s store.Word addr v None m log fits lt = arrives_fits img (goes_on s) (gone_fits s lt fits)
 
-wanted_fits : (img : Image) (s : State) (x : TurnOutcome) (m : Memory) (log : List Action) → Fits s → Moves s x → Fits (act (wanted img s x) m log).core
+wanted_fits : (img : Image) (s : State) (x : TurnOutcome) (m : Memory) (log : List Action) → Fits s → Moves s x → Fits (act (outcome_want img s x) m log).core
 unfolding Moves
 wanted_fits img s (out.Local c) m log fits moved = arrives_fits img c moved
 wanted_fits img s (out.Load kind rd addr) m log fits moved = load_fits img s kind rd addr (access_trap (data_words img) (load_bytes kind) addr) m log fits moved
@@ -152,7 +152,7 @@ wanted_fits img s (out.Emit w) m log fits moved = arrives_fits img (outputs s) (
 turn_fits : (img : Image) (s : State) (m : Memory) (log : List Action) (o : Option End) → s.done ≡ o → Fits s → Fits (act (wants img s) m log).core
 unfolding wants
 turn_fits img s m log None r fits =
-    subst (λ (x : TurnOutcome). Fits (act (wanted img s x) m log).core) (sym (next_running img s r))
+    subst (λ (x : TurnOutcome). Fits (act (outcome_want img s x) m log).core) (sym (next_running img s r))
     (wanted_fits img s (outcome_at s (fetch img s.pc)) m log fits (moves s (outcome_at s (fetch img s.pc)) r fits (outcome_counts (λ pc. Unit {0}) s (fetch img s.pc) r) (leaves s (fetch img s.pc))))
 turn_fits img s m log (Some e) h fits = subst (λ (w : Want State). Fits (act w m log).core) (sym (stays img s e h)) fits
 
@@ -162,11 +162,11 @@ task_fits img e zero m = record { turns = λ n. omega arith; words = omega arith
 task_fits img e (suc n) m = let r : Run State = part (program img) e n m in turn_fits img r.core (over (wrote r.log) m) r.log r.core.done refl (task_fits img e n m)
 
 -- and what it asks for may be done
-pub ready_for : (s : State) (word : Option ℕ) (a : Ask) → s.done ≡ None → Fits s → outcome_at s word ≡ shown s a → IsReady s a
+pub ready_for : (s : State) (word : Option ℕ) (a : Ask) → s.done ≡ None → Fits s → outcome_at s word ≡ burst_outcome s a → IsReady s a
 unfolding Leaves
 ready_for s word a r fits e = of a (subst (Leaves s) e (leaves s word))
   where
-    of : (a : Ask) → Leaves s (shown s a) → IsReady s a
+    of : (a : Ask) → Leaves s (burst_outcome s a) → IsReady s a
     of ask.Nothing left = tt
     of (ask.Load kind rd addr) left = (r, below_limit s.count s.limit (fits.turns r) left)
     of (ask.Store kind addr v) left = (r, below_limit s.count s.limit (fits.turns r) left)

@@ -28,7 +28,7 @@ use Rattle.svc_machine_laws.specs.PlainMachine.{Plain, running, row_of, unit_of}
 use Rattle.svc_machine_laws.specs.WholeMachine.{machine_of, memory_seen}
 use Rattle.svc_machine_laws.specs.Events.{Event, IsEvent, Assign, Submit, Replace, Cancel, Commit, task_place, asked_want}
 use Rattle.svc_machine_laws.specs.Replies.{served_by, turn_done, serves_at, whole_asked, whole_submitted, whole_reply, plain_reply}
-use Rattle.svc_machine_laws.specs.Standing.{Standing, opened_at, refused, stepped, reply_to}
+use Rattle.svc_machine_laws.specs.Standing.{Standing, opened_at, refusal_of, standing_after, reply_to}
 use Rattle.svc_machine_laws.specs.Reached.{IsReached}
 use Rattle.svc_machine_laws.specs.Logs.{TaskLog, log_of, logs_of, action_of, plus, adds, LogsFollow}
 use Rattle.svc_machine_laws.proofs.Given.{Given}
@@ -171,7 +171,7 @@ unfolding IsServed
 served_asked img s place None = tt
 served_asked img s place (Some w) = served_turn (program img) s.lines place w (memory_seen (machine_of (program img) s.plain).versioned place)
 
-served_reply : (img : Image) → Given img → (config : Config) (s : Standing) (b : Advance) → IsEvent (Submit b) → refused img config s (Submit b) ≡ None → (place : ℕ) → task_place s.plain b.unit.0 ≡ Some place
+served_reply : (img : Image) → Given img → (config : Config) (s : Standing) (b : Advance) → IsEvent (Submit b) → refusal_of img config s (Submit b) ≡ None → (place : ℕ) → task_place s.plain b.unit.0 ≡ Some place
     → IsServed s.lines place (reply_to img s (Submit b)).what
 unfolding reply_to plain_reply whole_reply
 served_reply img given config s b is ok place at =
@@ -240,16 +240,16 @@ module _ (img : Image) (given : Given img) (config : Config) (es : List Entry) (
   p = program img
 
   abbrev Next : Event → Type 0
-  Next x = Readers img config es (suc i) (stepped img s x).plain
+  Next x = Readers img config es (suc i) (standing_after img s x).plain
 
   -- a new read of the task at a place
-  module _ (b : Advance) (is : IsEvent (Submit b)) (ok : refused img config s (Submit b) ≡ None) (same : e ≡ entry_of (Submit b) (reply_to img s (Submit b)))
-      (place : ℕ) (place_at : task_place s.plain b.unit.0 ≡ Some place) (cut : Option ℕ) (logs : logs_of (program img) (stepped img s (Submit b)).plain ≡ edit place (adds (action_of (reply_to img s (Submit b)).what)) cut (logs_of (program img) s.plain)) where
+  module _ (b : Advance) (is : IsEvent (Submit b)) (ok : refusal_of img config s (Submit b) ≡ None) (same : e ≡ entry_of (Submit b) (reply_to img s (Submit b)))
+      (place : ℕ) (place_at : task_place s.plain b.unit.0 ≡ Some place) (cut : Option ℕ) (logs : logs_of (program img) (standing_after img s (Submit b)).plain ≡ edit place (adds (action_of (reply_to img s (Submit b)).what)) cut (logs_of (program img) s.plain)) where
     abbrev done : What
     done = (reply_to img s (Submit b)).what
 
     abbrev n : Plain
-    n = (stepped img s (Submit b)).plain
+    n = (standing_after img s (Submit b)).plain
 
     commits_same : n.commits ≡ s.plain.commits
     commits_same = let k = step_commits img given config s (Submit b) ok in omega (arith, k)
@@ -330,11 +330,11 @@ module _ (img : Image) (given : Given img) (config : Config) (es : List Entry) (
           ])
     ]
 
-  reads_step : (x : Event) → IsEvent x → refused img config s x ≡ None → e ≡ entry_of x (reply_to img s x) → LogsFollow (program img) s.plain (stepped img s x).plain x (reply_to img s x).what → Next x
+  reads_step : (x : Event) → IsEvent x → refusal_of img config s x ≡ None → e ≡ entry_of x (reply_to img s x) → LogsFollow (program img) s.plain (standing_after img s x).plain x (reply_to img s x).what → Next x
   unfolding Readers entry_of
   reads_step (Assign unit guess) is ok same logs q t h not_head a ex =
       let can = can_assign img config s unit guess ok in
-      let n : Plain = (stepped img s (Assign unit guess)).plain in
+      let n : Plain = (standing_after img s (Assign unit guess)).plain in
       let commits_same : n.commits ≡ s.plain.commits = let k = step_commits img given config s (Assign unit guess) ok in omega (arith, k) in
       let begun : TaskLog = record { unit = unit; log = [] } in
       elim (get_one_more (logs_of p s.plain) begun q t (ap (λ l. slice_get l q) (sym logs) ∙ h)) [
@@ -352,7 +352,7 @@ module _ (img : Image) (given : Given img) (config : Config) (es : List Entry) (
       ]
   reads_step (Submit b) is ok same logs q t h not_head a ex = submit_step b is ok same logs.place logs.at logs.cut logs.logs q t h not_head a ex
   reads_step (Replace unit address) is ok same logs q t h not_head a ex =
-      let n : Plain = (stepped img s (Replace unit address)).plain in
+      let n : Plain = (standing_after img s (Replace unit address)).plain in
       let commits_same : n.commits ≡ s.plain.commits = let k = step_commits img given config s (Replace unit address) ok in omega (arith, k) in
       carried img config es i s.plain n q q t.unit a e at
       (λ own k. let wrong : does.Replace ≡ does.Assign = sym (ap (λ (d : Entry). d.kind) same) ∙ k in cc)
@@ -360,7 +360,7 @@ module _ (img : Image) (given : Given img) (config : Config) (es : List Entry) (
       (λ number lt. version_kept img s.plain n number a commits_same (λ u le there some. record { log = u; at = ap (λ l. slice_get l (number - s.plain.commits)) logs ∙ there; some = some }))
       (readers q t (ap (λ l. slice_get l q) (sym logs) ∙ h) not_head a ex)
   reads_step (Cancel unit) is ok same logs q t h not_head a ex =
-      let n : Plain = (stepped img s (Cancel unit)).plain in
+      let n : Plain = (standing_after img s (Cancel unit)).plain in
       let commits_same : n.commits ≡ s.plain.commits = let k = step_commits img given config s (Cancel unit) ok in omega (arith, k) in
       let left : slice_get (take logs.place (logs_of p s.plain)) q ≡ Some t = ap (λ l. slice_get l q) (sym logs.logs) ∙ h in
       carried img config es i s.plain n q q t.unit a e at
@@ -370,7 +370,7 @@ module _ (img : Image) (given : Given img) (config : Config) (es : List Entry) (
       record { log = u; at = ap (λ l. slice_get l (number - s.plain.commits)) logs.logs ∙ (take_before logs.place (logs_of p s.plain) q (number - s.plain.commits) t left (omega (arith, lt, le)) ∙ there); some = some }))
       (readers q t (get_taken logs.place (logs_of p s.plain) q t left) not_head a ex)
   reads_step (Commit by) is ok same logs q t h not_head a ex =
-      let n : Plain = (stepped img s (Commit by)).plain in
+      let n : Plain = (standing_after img s (Commit by)).plain in
       let one_more : n.commits ≡ 1 + s.plain.commits = step_commits img given config s (Commit by) ok in
       let kept : (r : ℕ) → slice_get (cond logs.keep logs.others []) r ≡ slice_get logs.others r = stay logs.keep logs.others (ap (λ l. slice_get l q) (sym logs.logs) ∙ h) in
       let now : (r : ℕ) → slice_get (logs_of p n) r ≡ slice_get (logs_of p s.plain) (suc r) = λ r. ap (λ l. slice_get l r) logs.logs ∙ (kept r ∙ ap (λ (l : List TaskLog). slice_get l (suc r)) (sym logs.head)) in

@@ -23,7 +23,7 @@ use Rattle.svc_machine_laws.specs.WholeMachine.{Machine, Seat, machine_of, seat_
 use Rattle.svc_machine_laws.specs.Events.{Event, Submit, Assign as AssignEvent, Replace as ReplaceEvent, Cancel as CancelEvent, Commit as CommitEvent, asked_want, task_place, seat_place}
 use Rattle.svc_machine_laws.specs.LineEvents.{word_of}
 use Rattle.svc_machine_laws.specs.Refusals.{cases_of, first_case, refuse, full_set, asked_word, seat_at, is_current, has_ended}
-use Rattle.svc_machine_laws.specs.Standing.{Standing, refused, reply_to}
+use Rattle.svc_machine_laws.specs.Standing.{Standing, refusal_of, reply_to}
 use Rattle.svc_machine_laws.proofs.Accepted.{seat_places, seat_here}
 use Rattle.svc_machine_laws.proofs.Anew.{runs_at}
 use Rattle.svc_machine_laws.proofs.Cases.{case_at}
@@ -161,8 +161,8 @@ no_case_holds img config s b f (suc (suc (suc (suc (suc (suc zero)))))) = f.room
 no_case_holds img config s b f (suc (suc (suc (suc (suc (suc (suc zero))))))) = f.some
 no_case_holds img config s b f (suc (suc (suc (suc (suc (suc (suc (suc i)))))))) = refl
 
-not_refused : (img : Image) (config : Config) (s : Standing) (b : Advance) → NoCase img config s b → refused img config s (Submit b) ≡ None
-unfolding refused refuse
+not_refused : (img : Image) (config : Config) (s : Standing) (b : Advance) → NoCase img config s b → refusal_of img config s (Submit b) ≡ None
+unfolding refusal_of refuse
 not_refused img config s b f = all_off (cases_of img config (machine_of (program img) s.plain) s.lines (Submit b)) (no_case_holds img config s b f)
 
 same_number : (x y : ℕ) → x ≡ y → (x == y) ≡ true
@@ -241,7 +241,7 @@ module _ (img : Image) (config : Config) (s : Standing) (e : Entry) (b : Advance
       idle local (ask.Store kind addr v) same h some = refl
       idle local (ask.Emit w) same h some = refl
 
-  pub accepted_replay : refused img config s (Submit b) ≡ None
+  pub accepted_replay : refusal_of img config s (Submit b) ≡ None
   accepted_replay = not_refused img config s b no_case
 
   pub entry_replay : e ≡ entry_of (Submit b) (reply_to img s (Submit b))
@@ -255,10 +255,10 @@ module _ (img : Image) (config : Config) (s : Standing) (e : Entry) (b : Advance
 
 -- what an entry that is legal says of its replay
 pub record Agreed (img : Image) (config : Config) (s : Standing) (e : Entry) (x : Event) : Type 0 where
-  pub accepted : refused img config s x ≡ None
+  pub accepted : refusal_of img config s x ≡ None
   pub entry : e ≡ entry_of x (reply_to img s x)
 
-agreed_by : (img : Image) (config : Config) (s : Standing) (e : Entry) (x y : Event) → y ≡ x → (refused img config s x ≡ None) × (e ≡ entry_of x (reply_to img s x)) → Agreed img config s e y
+agreed_by : (img : Image) (config : Config) (s : Standing) (e : Entry) (x y : Event) → y ≡ x → (refusal_of img config s x ≡ None) × (e ≡ entry_of x (reply_to img s x)) → Agreed img config s e y
 agreed_by img config s e x y same h = subst (Agreed img config s e) (sym same) (record { accepted = h.0; entry = h.1 })
 
 agreed : (img : Image) (config : Config) (s : Standing) (e : Entry) (x : Event) (k : Kind) → LegalKind k img config s e → ReplaysAs k img s.plain e x → Agreed img config s e x

@@ -14,7 +14,7 @@ use Rattle.svc_machine_laws.specs.declared.reply.What.TheVariants as what
 use Rattle.svc_machine_laws.specs.declared.reply.Reply.{Reply}
 use Rattle.svc_machine_laws.specs.PlainMachine.{Task, Plain, Running, runs_of, unit_of}
 use Rattle.svc_machine_laws.specs.Events.{Event, IsEvent, Assign, Submit, Replace, Cancel, Commit}
-use Rattle.svc_machine_laws.specs.Standing.{Standing, opened_at, refused, stepped, reply_to, is_commit}
+use Rattle.svc_machine_laws.specs.Standing.{Standing, opened_at, refusal_of, standing_after, reply_to, is_commit}
 use Rattle.svc_machine_laws.specs.Reached.{IsReached}
 use Rattle.svc_machine_laws.specs.Replies.{plain_reply, plain_committed}
 use Rattle.svc_machine_laws.specs.Logs.{TaskLog, log_of, logs_of, action_of, plus, adds, CommitsAnswers, LogsFollow}
@@ -135,8 +135,8 @@ module _ (img : Image) (given : Given img) (config : Config) (s : Standing) (rea
   abbrev p : Program State
   p = program img
 
-  tells_step : (x : Event) → IsEvent x → refused img config s x ≡ None → LogsFollow p s.plain (stepped img s x).plain x (reply_to img s x).what
-      → Tells img (stepped img s x).plain (λ u. told_on u (f u) (entry_of x (reply_to img s x)))
+  tells_step : (x : Event) → IsEvent x → refusal_of img config s x ≡ None → LogsFollow p s.plain (standing_after img s x).plain x (reply_to img s x).what
+      → Tells img (standing_after img s x).plain (λ u. told_on u (f u) (entry_of x (reply_to img s x)))
   unfolding Tells entry_of
   tells_step (Assign unit guess) is ok logs q t h =
       let can = can_assign img config s unit guess ok in
@@ -202,7 +202,7 @@ told_entry : (img : Image) → Given img → (config : Config) (s : Standing) (f
 told_entry img given config s f e legal h =
     let x : HasEvent img config s e = has_event img given config s e legal in
     subst (λ (n : Standing). Told img config n (λ u. told_on u (f u) e)) (sym x.leads)
-    (subst (λ (d : Entry). Told img config (stepped img s x.event) (λ u. told_on u (f u) d)) (sym x.entry)
+    (subst (λ (d : Entry). Told img config (standing_after img s x.event) (λ u. told_on u (f u) d)) (sym x.entry)
     (record {
       reached = step_reached img given config s h.reached x.event x.is x.accepted;
       tells = tells_step img given config s h.reached f h.tells x.event x.is x.accepted (logs_follow img given config s h.reached x.event x.is x.accepted);
@@ -227,7 +227,7 @@ record Says (img : Image) (s : Standing) (f : ℕ → List Action) (e : Entry) :
   number : e.word ≡ Some s.plain.commits
   answers : f head.unit ≡ said (program img) s.plain.commits
 
-says_event : (img : Image) → Given img → (config : Config) (s : Standing) (f : ℕ → List Action) → Told img config s f → (x : Event) → IsEvent x → refused img config s x ≡ None
+says_event : (img : Image) → Given img → (config : Config) (s : Standing) (f : ℕ → List Action) → Told img config s f → (x : Event) → IsEvent x → refusal_of img config s x ≡ None
     → (entry_of x (reply_to img s x)).kind ≡ kind.Commit → Says img s f (entry_of x (reply_to img s x))
 unfolding entry_of reply_to plain_reply Tells
 says_event img given config s f h (Assign unit guess) is ok k = cc
@@ -235,7 +235,7 @@ says_event img given config s f h (Submit b) is ok k = cc
 says_event img given config s f h (Replace unit a) is ok k = cc
 says_event img given config s f h (Cancel unit) is ok k = cc
 says_event img given config s f h (Commit by) is ok k =
-    let logs : CommitsAnswers (program img) s.plain (stepped img s (Commit by)).plain = logs_follow img given config s h.reached (Commit by) is ok in
+    let logs : CommitsAnswers (program img) s.plain (standing_after img s (Commit by)).plain = logs_follow img given config s h.reached (Commit by) is ok in
     let t : TaskLog = record { unit = logs.unit; log = said (program img) s.plain.commits } in
     let first : slice_get (logs_of (program img) s.plain) 0 ≡ Some t = ap (λ (l : List TaskLog). slice_get l 0) logs.head in
     let top = head_of img s.plain t first in

@@ -5,7 +5,7 @@ use Rattle.svc_image.specs.Image.{Image}
 use Rattle.svc_machine_laws.specs.PlainMachine.{Task}
 use Rattle.svc_machine_laws.specs.Events.{Event, task_place}
 use Rattle.svc_machine_laws.specs.Events as event
-use Rattle.svc_machine_laws.specs.Standing.{Standing, opened_at, refused, stepped, reply_to}
+use Rattle.svc_machine_laws.specs.Standing.{Standing, opened_at, refusal_of, standing_after, reply_to}
 use Rattle.svc_history_laws.specs.declared.entry.Kind.{Kind}
 use Rattle.svc_history_laws.specs.declared.entry.Kind.TheVariants.{Assign, Submit, Replace, Cancel, Commit}
 use Rattle.svc_history_laws.specs.declared.entry.Entry.{Entry}
@@ -24,7 +24,7 @@ the_ask e = unwrap_or e.ask false
 
 -- the entry is that of an event that isn't refused
 abbrev pub IsAccepted : Image → Config → Standing → Event → Entry → Type 0
-IsAccepted img config s x e = (refused img config s x ≡ None) × (e ≡ entry_of x (reply_to img s x))
+IsAccepted img config s x e = (refusal_of img config s x ≡ None) × (e ≡ entry_of x (reply_to img s x))
 
 -- the entry is that of turns that its unit's task may submit
 pub record IsSubmitted (img : Image) (config : Config) (s : Standing) (e : Entry) : Type 0 where
@@ -52,11 +52,11 @@ LegalEntry img config s e = LegalKind e.kind img config s e
 
 -- where an entry leads
 abbrev pub by_kind : Kind → Image → Standing → Entry → Standing
-by_kind Assign img s e = stepped img s (event.Assign e.unit.0 (the_arg e))
+by_kind Assign img s e = standing_after img s (event.Assign e.unit.0 (the_arg e))
 by_kind Submit img s e = after_submission img s e.unit.0 (the_local e) (the_ask e)
-by_kind Replace img s e = stepped img s (event.Replace e.unit.0 (the_arg e))
-by_kind Cancel img s e = stepped img s (event.Cancel e.unit.0)
-by_kind Commit img s e = stepped img s (event.Commit e.unit.0)
+by_kind Replace img s e = standing_after img s (event.Replace e.unit.0 (the_arg e))
+by_kind Cancel img s e = standing_after img s (event.Cancel e.unit.0)
+by_kind Commit img s e = standing_after img s (event.Commit e.unit.0)
 
 -- where an entry leads
 unfoldable pub after_entry : Image → Standing → Entry → Standing

@@ -10,7 +10,7 @@ use Rattle.svc_machine_laws.specs.WholeMachine.{Seat, machine_of}
 use Rattle.svc_machine_laws.specs.Refusals.{seat_at}
 use Rattle.svc_machine_laws.specs.Events.{Event}
 use Rattle.svc_machine_laws.specs.Events as event
-use Rattle.svc_machine_laws.specs.Standing.{Standing, refused, reply_to}
+use Rattle.svc_machine_laws.specs.Standing.{Standing, refusal_of, reply_to}
 use Rattle.svc_history_laws.specs.declared.entry.Kind.{Kind}
 use Rattle.svc_history_laws.specs.declared.entry.Kind.TheVariants.{Assign, Submit, Replace, Cancel, Commit}
 use Rattle.svc_history_laws.specs.declared.entry.Entry.{Entry}
@@ -52,13 +52,13 @@ Lacks Commit img s e = ⊥
 -- the entry names no event there, because it lacks what its event needs or its unit has no task to run on; or its event
 -- is refused
 abbrev pub IsRefusedThere : Image → Config → Standing → Entry → Type 0
-IsRefusedThere img config s e = (x : Event) → IsReplay img s.plain e x → is_some (refused img config s x) ≡ true
+IsRefusedThere img config s e = (x : Event) → IsReplay img s.plain e x → is_some (refusal_of img config s x) ≡ true
 
 -- its event is accepted there, and has another entry
 pub record DiffersThere (img : Image) (config : Config) (s : Standing) (e : Entry) : Type 0 where
   pub event : Event
   pub replay : IsReplay img s.plain e event
-  pub accepted : refused img config s event ≡ None
+  pub accepted : refusal_of img config s event ≡ None
   pub entry : e ≢ entry_of event (reply_to img s event)
 
 -- the entries before the index are legal, and the entry there isn't legal after them

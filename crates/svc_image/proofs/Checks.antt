@@ -6,7 +6,7 @@ use Rattle.svc_image.specs.declared.error.ImageError.{ImageError}
 use Rattle.svc_image.specs.declared.error.ImageError.TheVariants.{Start, Short, Trailing}
 use Rattle.svc_image.specs.declared.header.Header.{Header}
 use Rattle.svc_image.specs.Format.{Check, first_of, header_checks, entry_checks, each_of, start_checks, limit_checks, end_checks, checks_after_entries, fault, is_outside, words_in, entry_count_in, listed_in, start_in, entries_in, end_place}
-use Rattle.svc_image.specs.Reading.{checked, header_in, size_of}
+use Rattle.svc_image.specs.Reading.{unless_fault, header_in, size_of}
 
 -- checks that pass hand on to those after them
 pub first_of-append-none : (xs ys : List Check) → first_of xs ≡ None → first_of (xs ++ ys) ≡ first_of ys
@@ -91,11 +91,11 @@ unfolding is_outside
 inside-outside most n low high = ap not (and_from (nat_le 1 n) (nat_le n most) (le-leb 1 n low) (le-leb n most high))
 
 -- what an answer of checks says of them
-pub checked-Err : {T : Type 0} (o : Option ImageError) (value : T) (e : ImageError) → Err e ≡ checked o value → o ≡ Some e
+pub checked-Err : {T : Type 0} (o : Option ImageError) (value : T) (e : ImageError) → Err e ≡ unless_fault o value → o ≡ Some e
 checked-Err None value e same = absurd (cc)
 checked-Err (Some x) value e same = cc
 
-pub checked-Ok : {T : Type 0} (o : Option ImageError) (value x : T) → Ok x ≡ checked o value → (o ≡ None) × (x ≡ value)
+pub checked-Ok : {T : Type 0} (o : Option ImageError) (value x : T) → Ok x ≡ unless_fault o value → (o ≡ None) × (x ≡ value)
 checked-Ok None value x same = (refl, cc)
 checked-Ok (Some e) value x same = absurd (cc)
 

@@ -6,7 +6,7 @@ use Rattle.std.proofs.lemmas.List.{append-nil, drop_all, get_or_default}
 use Rattle.std.proofs.lemmas.Slice.Eq.{starts_is}
 use Rattle.std.specs.List.{starts_with}
 use Rattle.svc_image.specs.Format.{Check, magic, first_of, fault, file_of, own_of, version_checks, count_checks, header_checks, entry_checks, start_checks, limit_checks, end_checks, bytes_of_half, bytes_of_word, bytes_of_words, word_at, words_in, number_in, version_in, entry_count_in, text_count_in, data_count_in, own_in, is_own_outside, start_in, registers_in, entry_in, entries_in, limits_place, listed_in, limit_in, limits_in, text_place, data_place, end_place, falls, is_misplaced}
-use Rattle.svc_image.specs.Version.{version_number, is_known, listed, read_only_by}
+use Rattle.svc_image.specs.Version.{version_number, is_known, limit_list, read_only_by}
 use Rattle.svc_image.specs.Image.{IsImage, StartsWord, IsLimit, is_entry}
 use Rattle.svc_image.specs.Reading.{image_in}
 use Rattle.svc_image.proofs.Checks.{first_of-cons, each-one, each-all, outside-false, inside-outside, fault-parts, fault-end, has_start, start-None, end-None}
@@ -223,7 +223,7 @@ file_of-image_in bytes small sound =
     ∙ words-chunk (data_count_in bytes) bytes (data_place bytes) (end_place bytes) refl (omega (arith, size)) small in
     let text_part = ap (λ (r : List ℕ). bytes_of_words text_words ++ r) words_part
     ∙ words-chunk (text_count_in bytes) bytes (text_place bytes) (data_place bytes) refl (omega (arith, size)) small in
-    let limits_part = ap (λ (r : List ℕ). bytes_of_words (listed (version_in bytes) (limits_in bytes)) ++ r) text_part
+    let limits_part = ap (λ (r : List ℕ). bytes_of_words (limit_list (version_in bytes) (limits_in bytes)) ++ r) text_part
     ∙ ap (λ (xs : List ℕ). bytes_of_words xs ++ drop (text_place bytes) bytes) (listed-from (version_in bytes) (entry_count_in bytes) (own_in bytes) after)
     ∙ words-chunk (listed_in bytes) bytes (limits_place bytes) (text_place bytes) refl (omega (arith, size)) small in
     let entries_part = ap (λ (r : List ℕ). bytes_of_words entry_words ++ r) limits_part

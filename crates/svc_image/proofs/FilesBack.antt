@@ -5,7 +5,7 @@ use Rattle.std.specs.List.{starts_with}
 use Rattle.byteorder.specs.Numbers.{little_number-reads_back}
 use Rattle.svc_image.specs.Format.{magic, fault, file_of, own_of, bytes_of_half, bytes_of_word, bytes_of_words, half_at, word_at, words_in, number_in, version_in, entry_count_in, text_count_in, data_count_in, own_in, start_in, registers_in, entries_in, limits_place, listed_in, limits_in, text_place, data_place}
 use Rattle.svc_image.specs.declared.version.Version.{Version}
-use Rattle.svc_image.specs.Version.{version_number, is_known, version_of, read_only_by, listed, listed_count, limits_by}
+use Rattle.svc_image.specs.Version.{version_number, is_known, version_of, read_only_by, limit_list, listed_count, limits_by}
 use Rattle.svc_image.specs.Image.{Image, IsImage, AreWords, is_entry}
 use Rattle.svc_image.specs.Reading.{header_bytes, header_of, image_in}
 use Rattle.svc_image.proofs.Files.{IsSound, none-from-sound}
@@ -18,7 +18,7 @@ abbrev text_bytes : Image → List ℕ
 text_bytes img = bytes_of_words img.text ++ bytes_of_words img.words
 
 abbrev limits_bytes : Image → List ℕ
-limits_bytes img = bytes_of_words (listed img.version img.limits) ++ text_bytes img
+limits_bytes img = bytes_of_words (limit_list img.version img.limits) ++ text_bytes img
 
 abbrev entries_bytes : Image → List ℕ
 entries_bytes img = bytes_of_words img.entries ++ limits_bytes img
@@ -79,7 +79,7 @@ drop-limits img sound =
     ∙ drop-bytes_of_words img.entries (limits_bytes img) (4 * entry_count_in (file_of img)) (omega (arith, count))
 
 -- as many limits are listed as the file says
-listed-file : (img : Image) → IsImage img → listed_in (file_of img) ≡ length (listed img.version img.limits)
+listed-file : (img : Image) → IsImage img → listed_in (file_of img) ≡ length (limit_list img.version img.limits)
 listed-file img sound =
     ap (λ (v : Version). listed_count v (entry_count_in (file_of img))) (version-file img)
     ∙ ap (listed_count img.version) (entry_count-file img (omega (arith, sound.entries_few)) ∙ sym sound.limits_each)
@@ -89,7 +89,7 @@ drop-text : (img : Image) → IsImage img → drop (text_place (file_of img)) (f
 drop-text img sound =
     let count = listed-file img sound in
     sym (drop-drop (4 * listed_in (file_of img)) (limits_place (file_of img)) (file_of img)) ∙ ap (λ (r : List ℕ). drop (4 * listed_in (file_of img)) r) (drop-limits img sound)
-    ∙ drop-bytes_of_words (listed img.version img.limits) (text_bytes img) (4 * listed_in (file_of img)) (omega (arith, count))
+    ∙ drop-bytes_of_words (limit_list img.version img.limits) (text_bytes img) (4 * listed_in (file_of img)) (omega (arith, count))
 
 drop-data : (img : Image) → IsImage img → drop (data_place (file_of img)) (file_of img) ≡ bytes_of_words img.words
 drop-data img sound =
@@ -122,10 +122,10 @@ limits-file : (img : Image) → IsImage img → limits_in (file_of img) ≡ img.
 limits-file img sound =
     let own = own-file img (own-fits img sound) in
     let entries = entry_count-file img (omega (arith, sound.entries_few)) in
-    let found : words_in (listed_in (file_of img)) (drop (limits_place (file_of img)) (file_of img)) ≡ listed img.version img.limits =
+    let found : words_in (listed_in (file_of img)) (drop (limits_place (file_of img)) (file_of img)) ≡ limit_list img.version img.limits =
     ap (λ (n : ℕ). words_in n (drop (limits_place (file_of img)) (file_of img))) (listed-file img sound)
-    ∙ ap (λ (r : List ℕ). words_in (length (listed img.version img.limits)) r) (drop-limits img sound)
-    ∙ words_in-bytes_of_words (listed img.version img.limits) (text_bytes img) (All-listed (λ x. x < 2 ^ 32) img.version img.limits (limits-words img sound)) in
+    ∙ ap (λ (r : List ℕ). words_in (length (limit_list img.version img.limits)) r) (drop-limits img sound)
+    ∙ words_in-bytes_of_words (limit_list img.version img.limits) (text_bytes img) (All-listed (λ x. x < 2 ^ 32) img.version img.limits (limits-words img sound)) in
     (λ i. limits_by (version-file img i) (entries i) (own i) (found i))
     ∙ limits-back img.version (length img.entries) img.read_only img.limits (λ is. (sound.first is).shared)
 
@@ -170,11 +170,11 @@ sound-file_of img sound =
     let size = length-header img in
     let registers = length-append (bytes_of_words img.registers) (entries_bytes img) in
     let entries = length-append (bytes_of_words img.entries) (limits_bytes img) in
-    let limits = length-append (bytes_of_words (listed img.version img.limits)) (text_bytes img) in
+    let limits = length-append (bytes_of_words (limit_list img.version img.limits)) (text_bytes img) in
     let listed_count = listed-file img sound in
     let text = length-append (bytes_of_words img.text) (bytes_of_words img.words) in
     record {
-      size = omega (arith, entry_count, text_count, data_count, listed_count, size, registers, entries, limits, text, sound.registers_all, length-bytes_of_words img.registers, length-bytes_of_words img.entries, length-bytes_of_words (listed img.version img.limits), length-bytes_of_words img.text, length-bytes_of_words img.words);
+      size = omega (arith, entry_count, text_count, data_count, listed_count, size, registers, entries, limits, text, sound.registers_all, length-bytes_of_words img.registers, length-bytes_of_words img.entries, length-bytes_of_words (limit_list img.version img.limits), length-bytes_of_words img.text, length-bytes_of_words img.words);
       begins = begins-file img;
       version = ap is_known (number-file img) ∙ known-number img.version;
       image = subst (λ (x : Image). IsImage x) (sym (image_in-file_of img sound)) sound;
@@ -185,6 +185,6 @@ pub fault-file_of : (img : Image) → IsImage img → fault (file_of img) ≡ No
 fault-file_of img sound = none-from-sound (file_of img) (sound-file_of img sound)
 
 -- a header and five runs of words, put one behind another, are the file
-pub put-file_of : (img : Image) → header_bytes (header_of img) ++ bytes_of_words img.registers ++ bytes_of_words img.entries ++ bytes_of_words (listed img.version img.limits) ++ bytes_of_words img.text ++ bytes_of_words img.words ≡ file_of img
+pub put-file_of : (img : Image) → header_bytes (header_of img) ++ bytes_of_words img.registers ++ bytes_of_words img.entries ++ bytes_of_words (limit_list img.version img.limits) ++ bytes_of_words img.text ++ bytes_of_words img.words ≡ file_of img
 unfolding file_of
 put-file_of img = simp append_assoc refl

@@ -5,7 +5,7 @@ use Rattle.std.proofs.lemmas.List.{length-replicate, get_or-replicate, get_or_de
 use Rattle.std.proofs.lemmas.List.Elements.{All-nil, All-replicate}
 use Rattle.svc_image.specs.declared.version.Version.{Version}
 use Rattle.svc_image.specs.declared.version.Version.TheVariants as version
-use Rattle.svc_image.specs.Version.{version_number, is_known, version_of, own_number, read_only_by, listed, listed_count, limits_by}
+use Rattle.svc_image.specs.Version.{version_number, is_known, version_of, own_number, read_only_by, limit_list, listed_count, limits_by}
 use Rattle.svc_image.specs.Format.{is_own_outside, word_at, words_in}
 use Rattle.svc_image.specs.Image.{IsLimit}
 use Rattle.svc_image.proofs.Checks.{outside-false, inside-outside}
@@ -89,22 +89,22 @@ pub own-from : (v : Version) (entries own : ℕ) (rest : List ℕ) → 1 ≤ ent
 own-from version.One entries own rest some = get_or-replicate entries 0 own 0 (omega (arith, some))
 own-from version.Two entries own rest some = refl
 
-pub listed-from : (v : Version) (entries own : ℕ) (rest : List ℕ) → listed v (limits_from v entries own rest) ≡ words_in (listed_count v entries) rest
+pub listed-from : (v : Version) (entries own : ℕ) (rest : List ℕ) → limit_list v (limits_from v entries own rest) ≡ words_in (listed_count v entries) rest
 unfolding words_in
 listed-from version.One entries own rest = refl
 listed-from version.Two entries own rest = refl
 
 -- an image's limits and its read-only words, by what its file says
-pub length-listed : (v : Version) (limits : List ℕ) → length (listed v limits) ≡ listed_count v (length limits)
+pub length-listed : (v : Version) (limits : List ℕ) → length (limit_list v limits) ≡ listed_count v (length limits)
 length-listed version.One limits = refl
 length-listed version.Two limits = refl
 
-pub All-listed : (P : ℕ → Type 0) (v : Version) (limits : List ℕ) → All P limits → All P (listed v limits)
+pub All-listed : (P : ℕ → Type 0) (v : Version) (limits : List ℕ) → All P limits → All P (limit_list v limits)
 All-listed P version.One limits all = All-nil P
 All-listed P version.Two limits all = all
 
 pub limits-back : (v : Version) (entries read_only : ℕ) (limits : List ℕ) → (v ≡ version.One → limits ≡ replicate entries (slice_index limits 0))
-    → limits_by v entries (own_number v (slice_index limits 0) read_only) (listed v limits) ≡ limits
+    → limits_by v entries (own_number v (slice_index limits 0) read_only) (limit_list v limits) ≡ limits
 limits-back version.One entries read_only limits shared = sym (shared refl)
 limits-back version.Two entries read_only limits shared = refl
 

@@ -4,6 +4,7 @@
 use Rattle.std.specs.Prelude.{ℕ, zero, suc, ◌+◌, ◌*◌, ◌%◌, Bool, false, not, ◌&&◌, List, [], ◌∷◌, ◌++◌, length, drop}
 use Rattle.std.specs.Prelude.{Option, Some, None, nat_eq, nat_lt, nat_le, ◌==◌, if◌then◌else◌, slice_index}
 use Rattle.std.specs.List.{flat_map, list_any, starts_with}
+use Rattle.svc_image.specs.declared.layout.TheConstants.{MOST_ENTRIES, MOST_WORDS}
 use Rattle.byteorder.specs.Endian.{little_bytes, little_number}
 use Rattle.svc_image.specs.declared.error.ImageError.{ImageError}
 use Rattle.svc_image.specs.declared.error.ImageError.TheVariants.{Short, Magic, Count, EntryOrder, EntryPlace, Start}
@@ -11,7 +12,8 @@ use Rattle.svc_image.specs.declared.error.ImageError.TheVariants.{Trailing}
 use Rattle.svc_image.specs.declared.error.ImageError.TheVariants as error
 use Rattle.svc_image.specs.declared.version.Version.{Version}
 use Rattle.svc_image.specs.declared.version.Version.TheVariants as version
-use Rattle.svc_image.specs.Version.{version_number, is_known, version_of, own_number, listed, listed_count, limits_by}
+use Rattle.svc_image.specs.Version.{version_number, is_known, version_of, own_number, limit_list, listed_count}
+use Rattle.svc_image.specs.Version.{limits_by}
 use Rattle.svc_image.specs.Image.{Image}
 
 -- `SVCI`, with which every image begins
@@ -39,7 +41,8 @@ file_of img =
     magic ++ (bytes_of_half (version_number img.version) ++ (bytes_of_half (length img.entries)
     ++ (bytes_of_word (length img.text) ++ (bytes_of_word (length img.words)
     ++ (bytes_of_word (own_of img) ++ (bytes_of_word img.start
-    ++ (bytes_of_words img.registers ++ (bytes_of_words img.entries ++ (bytes_of_words (listed img.version img.limits)
+    ++ (bytes_of_words img.registers ++ (bytes_of_words img.entries
+    ++ (bytes_of_words (limit_list img.version img.limits)
     ++ (bytes_of_words img.text ++ bytes_of_words img.words))))))))))
 
 -- the number of 16 bits, and that of 32 bits, at a place of the file
@@ -129,7 +132,7 @@ is_outside most count = not (nat_le 1 count && nat_le count most)
 
 -- in version 1 the limit is out of its range; in version 2 more words are read-only than there are
 abbrev pub is_own_outside : Version → (words own : ℕ) → Bool
-is_own_outside version.One words own = is_outside 65536 own
+is_own_outside version.One words own = is_outside MOST_WORDS own
 is_own_outside version.Two words own = nat_lt words own
 
 -- the checks of magic and version; each field is first checked to be whole
@@ -141,9 +144,9 @@ version_checks bytes =
 -- the checks from there up to the registers; the start is checked after the entries, and a register may hold any value
 unfoldable pub count_checks : List ℕ → List Check
 count_checks bytes =
-    ends_before bytes 8 ∷ (is_outside 1024 (entry_count_in bytes), Count)
-    ∷ ends_before bytes 12 ∷ (is_outside 65536 (text_count_in bytes), Count)
-    ∷ ends_before bytes 16 ∷ (is_outside 65536 (data_count_in bytes), Count)
+    ends_before bytes 8 ∷ (is_outside MOST_ENTRIES (entry_count_in bytes), Count)
+    ∷ ends_before bytes 12 ∷ (is_outside MOST_WORDS (text_count_in bytes), Count)
+    ∷ ends_before bytes 16 ∷ (is_outside MOST_WORDS (data_count_in bytes), Count)
     ∷ ends_before bytes 20 ∷ (is_own_outside (version_in bytes) (data_count_in bytes) (own_in bytes), Count)
     ∷ ends_before bytes 24
     ∷ ends_before bytes 148 ∷ []
@@ -179,7 +182,7 @@ start_checks bytes = (not (list_any (λ e. e == start_in bytes) (entries_in byte
 -- the checks of the k-th limit
 unfoldable pub limit_checks : List ℕ → ℕ → List Check
 limit_checks bytes k =
-    ends_before bytes (limits_place bytes + 4 * k + 4) ∷ (is_outside 65536 (limit_in bytes k), Count) ∷ []
+    ends_before bytes (limits_place bytes + 4 * k + 4) ∷ (is_outside MOST_WORDS (limit_in bytes k), Count) ∷ []
 
 -- the last checks: that text and data are whole, and that nothing follows
 unfoldable pub end_checks : List ℕ → List Check

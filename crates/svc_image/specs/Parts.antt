@@ -1,6 +1,7 @@
 -- What an image is made of, and the first fault of some parts.
 use Rattle.std.specs.Prelude.{◌≡◌, ℕ, ◌==◌, not, List, [], ◌∷◌, ◌++◌, length, Option, slice_index}
 use Rattle.std.specs.List.{list_any}
+use Rattle.svc_image.specs.declared.layout.TheConstants.{MOST_ENTRIES, MOST_WORDS}
 use Rattle.svc_image.specs.declared.error.ImageError.{ImageError}
 use Rattle.svc_image.specs.declared.error.ImageError.TheVariants.{Count, EntryOrder, EntryPlace, Start}
 use Rattle.svc_image.specs.declared.parts.Own.{Own}
@@ -52,9 +53,9 @@ pub record AreFit (p : Parts) : Type 0 where
 -- the checks of the counts, and of the number that depends on the version
 abbrev pub size_checks : Parts → List Check
 size_checks p =
-    (is_outside 1024 (length p.entries.items), Count)
-    ∷ (is_outside 65536 (length p.text.items), Count)
-    ∷ (is_outside 65536 (length p.words.items), Count)
+    (is_outside MOST_ENTRIES (length p.entries.items), Count)
+    ∷ (is_outside MOST_WORDS (length p.text.items), Count)
+    ∷ (is_outside MOST_WORDS (length p.words.items), Count)
     ∷ (is_own_outside (version_by p.own) (length p.words.items) (number_by p.own), Count) ∷ []
 
 -- the checks of the k-th entry: it is above the one before it, and at one of so many words of the text
@@ -68,7 +69,7 @@ start_checks entries start = (not (list_any (λ e. e == start) entries), Start) 
 
 -- the check of the limits that a file lists
 unfoldable pub limit_checks : List ℕ → List Check
-limit_checks limits = (list_any (is_outside 65536) limits, Count) ∷ []
+limit_checks limits = (list_any (is_outside MOST_WORDS) limits, Count) ∷ []
 
 -- the first fault of some parts, in the order of the format
 unfoldable pub fault_in : Parts → Option ImageError

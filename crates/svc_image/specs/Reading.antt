@@ -1,5 +1,6 @@
 -- What the steps of the loader answer.
 use Rattle.std.specs.Prelude.{ℕ, ◌+◌, ◌*◌, ◌≤◌, ◌++◌, List, length, drop, Option, Some, None, Result, Ok, Err}
+use Rattle.svc_image.specs.declared.layout.TheConstants.{MOST_ENTRIES, MOST_WORDS}
 use Rattle.svc_image.specs.declared.error.ImageError.{ImageError}
 use Rattle.svc_image.specs.declared.header.Header.{Header}
 use Rattle.svc_image.specs.declared.version.Version.{Version}
@@ -11,9 +12,9 @@ use Rattle.svc_image.specs.Format.{text_count_in, data_count_in, own_in, own_of,
 use Rattle.svc_image.specs.Format.{limits_in, text_place, data_place}
 
 -- the value where there is no fault, and else the fault
-abbrev pub checked : {T : Type 0} → Option ImageError → T → Result T ImageError
-checked None value = Ok value
-checked (Some error) value = Err error
+abbrev pub unless_fault : {T : Type 0} → Option ImageError → T → Result T ImageError
+unless_fault None value = Ok value
+unless_fault (Some error) value = Err error
 
 -- the numbers of a file's header
 abbrev pub header_in : List ℕ → Header
@@ -39,11 +40,11 @@ IsOwn version.Two words own = own ≤ words
 -- the counts of a header are within the format's limits
 pub record InLimits (header : Header) : Type 0 where
   pub entries_some : 1 ≤ header.entries
-  pub entries_few : header.entries ≤ 1024
+  pub entries_few : header.entries ≤ MOST_ENTRIES
   pub text_some : 1 ≤ header.text
-  pub text_few : header.text ≤ 65536
+  pub text_few : header.text ≤ MOST_WORDS
   pub words_some : 1 ≤ header.words
-  pub words_few : header.words ≤ 65536
+  pub words_few : header.words ≤ MOST_WORDS
   pub own : IsOwn header.version header.words header.own
 
 -- the numbers of an image's header

@@ -27,9 +27,9 @@ read_only_by version.One own = 0
 read_only_by version.Two own = own
 
 -- the limits that a file lists, one for each entry, in version 2 alone; and how many these are
-abbrev pub listed : Version → List ℕ → List ℕ
-listed version.One limits = []
-listed version.Two limits = limits
+abbrev pub limit_list : Version → List ℕ → List ℕ
+limit_list version.One limits = []
+limit_list version.Two limits = limits
 
 abbrev pub listed_count : Version → ℕ → ℕ
 listed_count version.One entries = 0

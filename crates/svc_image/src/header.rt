@@ -4,7 +4,7 @@ ghost use Rattle.std.specs.Prelude.{◌≡◌, ◌<◌, ◌≤◌, ◌+◌, ◌*
 ghost use Rattle.svc_image.specs.Version.{listed_count, read_only_by};
 ghost use Rattle.svc_image.specs.Format.{half_at, word_at, first_of, version_in, version_checks, count_checks};
 ghost use Rattle.svc_image.specs.Format.{header_checks, is_outside, is_own_outside};
-ghost use Rattle.svc_image.specs.Reading.{InLimits, IsOwn, checked, header_in, size_of};
+ghost use Rattle.svc_image.specs.Reading.{InLimits, IsOwn, unless_fault, header_in, size_of};
 
 use crate::error::ImageError;
 use crate::layout::{
@@ -33,7 +33,7 @@ pub struct Header {
 
 impl Header {
     /// How many limits the file lists.
-    pub fn listed(self) -> usize
+    pub fn limit_count(self) -> usize
         ensures value { result ≡ listed_count self.version self.entries }
         ensures few { result ≤ self.entries }
     {
@@ -58,7 +58,7 @@ impl Header {
         requires { InLimits self }
         ensures { result ≡ 148 + 4 * self.entries + 4 * listed_count self.version self.entries }
     {
-        ENTRIES_PLACE + 4 * self.entries + 4 * self.listed()
+        ENTRIES_PLACE + 4 * self.entries + 4 * self.limit_count()
     }
 
     /// How many bytes the file has.
@@ -133,7 +133,7 @@ pub fn own(version: Version, words: u32, value: u32) -> Result<u32, ImageError>
 // The version, if it and the magic before it have no fault.
 #[tactic(auto, unfolding(crate::specs::Format::version_checks))]
 fn check_version(bytes: &[u8]) -> Result<Version, ImageError>
-    ensures { result ≡ checked (first_of (version_checks bytes.now)) (version_in bytes.now) }
+    ensures { result ≡ unless_fault (first_of (version_checks bytes.now)) (version_in bytes.now) }
 {
     if bytes.len() < MAGIC.len() {
         return Err(ImageError::Short);
@@ -148,7 +148,7 @@ fn check_version(bytes: &[u8]) -> Result<Version, ImageError>
 #[tactic(auto, unfolding(crate::specs::Format::count_checks))]
 fn check_counts(bytes: &[u8], version: Version) -> Result<Header, ImageError>
     requires { version ≡ version_in bytes.now }
-    ensures value { result ≡ checked (first_of (count_checks bytes.now)) (header_in bytes.now) }
+    ensures value { result ≡ unless_fault (first_of (count_checks bytes.now)) (header_in bytes.now) }
     ensures counts { IfOk result InLimits }
     ensures whole { OnOk result (148 ≤ length bytes.now) }
 {
@@ -172,7 +172,7 @@ fn check_counts(bytes: &[u8], version: Version) -> Result<Header, ImageError>
 
 /// The header, if it and the registers after it have no fault.
 pub fn check_header(bytes: &[u8]) -> Result<Header, ImageError>
-    ensures value { result ≡ checked (first_of (header_checks bytes.now)) (header_in bytes.now) }
+    ensures value { result ≡ unless_fault (first_of (header_checks bytes.now)) (header_in bytes.now) }
     ensures counts { IfOk result InLimits }
     ensures whole { OnOk result (148 ≤ length bytes.now) }
 {

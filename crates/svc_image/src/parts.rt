@@ -6,7 +6,7 @@ ghost use Rattle.svc_image.specs.Format.{first_of, each_of, is_outside};
 ghost use Rattle.svc_image.specs.Image.{AreWords};
 ghost use Rattle.svc_image.specs.Parts.{AreFit, version_by, number_by, listed_by, size_checks, place_checks};
 ghost use Rattle.svc_image.specs.Parts.{start_checks, limit_checks, fault_in};
-ghost use Rattle.svc_image.specs.Reading.{checked};
+ghost use Rattle.svc_image.specs.Reading.{unless_fault};
 
 use crate::error::ImageError;
 use crate::header::{count, own};
@@ -72,7 +72,7 @@ impl Own {
     }
 
     // The limits that a file lists.
-    fn listed(&self) -> &[u32]
+    fn limit_list(&self) -> &[u32]
         ensures { result.now ≡ listed_by self.now }
     {
         match self {
@@ -105,7 +105,7 @@ fn registers_all(registers: &[u32; 31])
 
 /// The first fault of these parts, if there is one.
 pub fn check_parts(parts: &Parts) -> Result<(), ImageError>
-    ensures value { result ≡ checked (fault_in parts.now) tt }
+    ensures value { result ≡ unless_fault (fault_in parts.now) tt }
     ensures fit { AreFit parts.now }
 {
     registers_all(&parts.registers);
@@ -118,7 +118,7 @@ pub fn check_parts(parts: &Parts) -> Result<(), ImageError>
     check_sizes(parts)?;
     check_places(entries, text.len())?;
     check_start(entries, parts.start)?;
-    check_limits(parts.own.listed())
+    check_limits(parts.own.limit_list())
 }
 
 // A count from 1 to the most.
@@ -134,7 +134,7 @@ fn size(len: usize, most: u32) -> Result<u32, ImageError>
 
 // The counts, and the number that depends on the version.
 fn check_sizes(parts: &Parts) -> Result<(), ImageError>
-    ensures { result ≡ checked (first_of (size_checks parts.now)) tt }
+    ensures { result ≡ unless_fault (first_of (size_checks parts.now)) tt }
 {
     size(parts.entries.len(), MOST_ENTRIES)?;
     size(parts.text.len(), MOST_WORDS)?;
@@ -146,7 +146,7 @@ fn check_sizes(parts: &Parts) -> Result<(), ImageError>
 // The entries, in turn.
 fn check_places(entries: &[u32], words: usize) -> Result<(), ImageError>
     requires { words < 2 ^ 61 }
-    ensures { result ≡ checked (first_of (each_of (place_checks entries.now words) (length entries.now))) tt }
+    ensures { result ≡ unless_fault (first_of (each_of (place_checks entries.now words) (length entries.now))) tt }
 {
     for index in 0..entries.len() {
         check_place(entries, index, words)?;
@@ -159,7 +159,7 @@ fn check_places(entries: &[u32], words: usize) -> Result<(), ImageError>
 fn check_place(entries: &[u32], index: usize, words: usize) -> Result<(), ImageError>
     requires index { index < length entries.now }
     requires words { words < 2 ^ 61 }
-    ensures { result ≡ checked (first_of (place_checks entries.now words index)) tt }
+    ensures { result ≡ unless_fault (first_of (place_checks entries.now words index)) tt }
 {
     let entry = entries[index];
     if index > 0 && entry <= entries[index - 1] {
@@ -174,7 +174,7 @@ fn check_place(entries: &[u32], index: usize, words: usize) -> Result<(), ImageE
 // The start, which is one of the entries.
 #[tactic(auto, unfolding(crate::specs::Parts::start_checks))]
 fn check_start(entries: &[u32], start: u32) -> Result<(), ImageError>
-    ensures { result ≡ checked (first_of (start_checks entries.now start)) tt }
+    ensures { result ≡ unless_fault (first_of (start_checks entries.now start)) tt }
 {
     if !entries.contains(&start) {
         return Err(ImageError::Start);
@@ -185,7 +185,7 @@ fn check_start(entries: &[u32], start: u32) -> Result<(), ImageError>
 // The limits that a file lists.
 #[tactic(auto, unfolding(crate::specs::Parts::limit_checks))]
 fn check_limits(limits: &[u32]) -> Result<(), ImageError>
-    ensures { result ≡ checked (first_of (limit_checks limits.now)) tt }
+    ensures { result ≡ unless_fault (first_of (limit_checks limits.now)) tt }
 {
     for &limit in limits {
         count(limit, MOST_WORDS)?;

@@ -1,4 +1,4 @@
-// Words of 32 bits, to bytes and from bytes, the lowest byte first.
+// Writes words of 32 bits as bytes, and reads them back, the lowest byte first.
 
 ghost use Rattle.std.specs.Prelude.{◌≡◌, ◌++◌, ◌*◌, ◌<◌, ◌^◌, length, IfOk, IfErr, OnOk};
 ghost use Rattle.svc_image.specs.Format.{bytes_of_half, bytes_of_word, bytes_of_words, words_in};

@@ -16,14 +16,14 @@ use Rattle.svc_bus_laws.specs.ByRows.{cut_at, edit}
 use Rattle.svc_machine_laws.specs.declared.reply.Cause.{Cause}
 use Rattle.svc_machine_laws.specs.declared.reply.Cause.TheVariants as cause
 use Rattle.svc_machine_laws.specs.declared.reply.Cut.{Cut}
-use Rattle.svc_machine_laws.specs.Blame.{IsBlamedOn, IsCutAt, begun as tasks_begun, tasks_cut}
+use Rattle.svc_machine_laws.specs.Blame.{IsBlamedOn, IsCutAt, tasks_begun, tasks_cut}
 use Rattle.svc_machine_laws.specs.Events.{Event, IsEvent}
 use Rattle.svc_machine_laws.specs.Events as event
 use Rattle.svc_machine_laws.specs.Logs.{LogsFollow, TaskLog, adds, log_of, logs_of, action_of}
 use Rattle.svc_machine_laws.specs.PlainMachine.{Plain, Task, runs_of, unit_of}
 use Rattle.svc_machine_laws.specs.Reached.{IsReached}
 use Rattle.svc_machine_laws.specs.Replies.{plain_committed, plain_reply}
-use Rattle.svc_machine_laws.specs.Standing.{Standing, is_commit, refused, reply_to, stepped}
+use Rattle.svc_machine_laws.specs.Standing.{Standing, is_commit, refusal_of, reply_to, standing_after}
 use Rattle.svc_machine_laws.proofs.Blames.{blamed}
 use Rattle.svc_machine_laws.proofs.EditedLists.{map_append_one, map_edit, map_take}
 use Rattle.svc_machine_laws.proofs.Folds.{step_commits}
@@ -308,13 +308,13 @@ module _ (img : Image) (given : Given img) (config : Config) (s : Standing) (rea
   p = program img
 
   abbrev next : Event → Plain
-  next x = (stepped img s x).plain
+  next x = (standing_after img s x).plain
 
   abbrev told_of : Event → Entry
   told_of x = entry_of x (reply_to img s x)
 
   -- what is counted of the units
-  counted : (x : Event) → IsEvent x → refused img config s x ≡ None → length (units (next x)) + tasks_cut (reply_to img s x).cut + is_commit x ≡ length (units s.plain) + tasks_begun x
+  counted : (x : Event) → IsEvent x → refusal_of img config s x ≡ None → length (units (next x)) + tasks_cut (reply_to img s x).cut + is_commit x ≡ length (units s.plain) + tasks_begun x
   counted x is ok =
       let all = all_counted img given config s x is ok in
       let before = map_count unit_of s.plain.tasks in
@@ -329,7 +329,7 @@ module _ (img : Image) (given : Given img) (config : Config) (s : Standing) (rea
   unfolding entry_of
   cause_told x = refl
 
-  cuts_from : (x : Event) → IsEvent x → refused img config s x ≡ None → (cut : Cut) → (reply_to img s x).cut ≡ Some cut → IsCutFrom at (told_of x) s.plain.commits (units s.plain) cut
+  cuts_from : (x : Event) → IsEvent x → refusal_of img config s x ≡ None → (cut : Cut) → (reply_to img s x).cut ≡ Some cut → IsCutFrom at (told_of x) s.plain.commits (units s.plain) cut
   cuts_from x is ok cut h =
       let c = cut_place img s.plain x cut cut.cause (blamed img given config s reached x is ok cut h) in
       let many = map_count unit_of s.plain.tasks in
@@ -337,7 +337,7 @@ module _ (img : Image) (given : Given img) (config : Config) (s : Standing) (rea
       record { place = c.0; first = c.1.first; tasks = omega (arith, many, tasks) }
 
   -- an event that neither begins nor commits a task
-  goes_on_with : (x : Event) → IsEvent x → refused img config s x ≡ None → is_commit x ≡ 0 → tasks_begun x ≡ 0 → units (next x) ≡ take (length (units (next x))) (units s.plain)
+  goes_on_with : (x : Event) → IsEvent x → refusal_of img config s x ≡ None → is_commit x ≡ 0 → tasks_begun x ≡ 0 → units (next x) ≡ take (length (units (next x))) (units s.plain)
       → ((m : ℕ) → commits_it at (told_of x) m ≡ false) → AreTasks s.plain.commits (left at (told_of x) runs.active) (units (next x))
   goes_on_with x is ok commits_none begins_none front spares =
       let count = counted x is ok in
@@ -354,11 +354,11 @@ module _ (img : Image) (given : Given img) (config : Config) (s : Standing) (rea
       subst (λ (n : ℕ). AreTasks n (left at (told_of x) runs.active ++ begun (told_of x).kind at (told_of x) runs) (units (next x))) (sym same)
       (subst (λ (l : List TaskRun). AreTasks s.plain.commits l (units (next x))) (sym (ap (λ l. left at (told_of x) runs.active ++ l) none ∙ append-nil (left at (told_of x) runs.active))) h)
 
-  same_commits : (x : Event) → refused img config s x ≡ None → is_commit x ≡ 0 → (next x).commits ≡ s.plain.commits
+  same_commits : (x : Event) → refusal_of img config s x ≡ None → is_commit x ≡ 0 → (next x).commits ≡ s.plain.commits
   same_commits x ok none = let k = step_commits img given config s x ok in omega (arith, k, none)
 
   -- an assignment
-  assigned : (unit guess : ℕ) → IsEvent (event.Assign unit guess) → refused img config s (event.Assign unit guess) ≡ None → Next (event.Assign unit guess)
+  assigned : (unit guess : ℕ) → IsEvent (event.Assign unit guess) → refusal_of img config s (event.Assign unit guess) ≡ None → Next (event.Assign unit guess)
   unfolding step entry_of reply_to plain_reply
   assigned unit guess is ok =
       let x : Event = event.Assign unit guess in
@@ -372,7 +372,7 @@ module _ (img : Image) (given : Given img) (config : Config) (s : Standing) (rea
       (subst (AreTasks s.plain.commits (step at (told_of x) runs).active) (sym us)
       (one_more s.plain.commits (left at (told_of x) runs.active) (units s.plain) _ unit old (omega (arith, many, k)) refl))
 
-  submitted : (b : Advance) → IsEvent (event.Submit b) → refused img config s (event.Submit b) ≡ None → Next (event.Submit b)
+  submitted : (b : Advance) → IsEvent (event.Submit b) → refusal_of img config s (event.Submit b) ≡ None → Next (event.Submit b)
   unfolding entry_of
   submitted b is ok =
       let x : Event = event.Submit b in
@@ -384,7 +384,7 @@ module _ (img : Image) (given : Given img) (config : Config) (s : Standing) (rea
       none_begun x (same_commits x ok refl) refl
       (goes_on_with x is ok refl refl (is_front (units (next x)) (edit logs.place (λ u. u) logs.cut (units s.plain)) (units s.plain) us (front_edited logs.place logs.cut (units s.plain))) (λ m. refl))
 
-  replaced : (unit address : ℕ) → IsEvent (event.Replace unit address) → refused img config s (event.Replace unit address) ≡ None → Next (event.Replace unit address)
+  replaced : (unit address : ℕ) → IsEvent (event.Replace unit address) → refusal_of img config s (event.Replace unit address) ≡ None → Next (event.Replace unit address)
   unfolding entry_of
   replaced unit address is ok =
       let x : Event = event.Replace unit address in
@@ -392,7 +392,7 @@ module _ (img : Image) (given : Given img) (config : Config) (s : Standing) (rea
       let us : units (next x) ≡ units s.plain = logs_units p (next x) (logs_of p s.plain) logs ∙ units_logged p s.plain in
       none_begun x (same_commits x ok refl) refl (goes_on_with x is ok refl refl (is_front (units (next x)) (units s.plain) (units s.plain) us (front_all (units s.plain))) (λ m. refl))
 
-  cancelled : (unit : ℕ) → IsEvent (event.Cancel unit) → refused img config s (event.Cancel unit) ≡ None → Next (event.Cancel unit)
+  cancelled : (unit : ℕ) → IsEvent (event.Cancel unit) → refusal_of img config s (event.Cancel unit) ≡ None → Next (event.Cancel unit)
   unfolding entry_of
   cancelled unit is ok =
       let x : Event = event.Cancel unit in
@@ -403,7 +403,7 @@ module _ (img : Image) (given : Given img) (config : Config) (s : Standing) (rea
       (goes_on_with x is ok refl refl (is_front (units (next x)) (take logs.place (units s.plain)) (units s.plain) us (front_taken logs.place (units s.plain))) (λ m. refl))
 
   -- the head of the active tasks is committed, and the others stay or go
-  head_leaves : (x : Event) → IsEvent x → refused img config s x ≡ None → is_commit x ≡ 1 → tasks_begun x ≡ 0 → (u : ℕ) (us : List ℕ) → units s.plain ≡ u ∷ us → units (next x) ≡ take (length (units (next x))) us
+  head_leaves : (x : Event) → IsEvent x → refusal_of img config s x ≡ None → is_commit x ≡ 1 → tasks_begun x ≡ 0 → (u : ℕ) (us : List ℕ) → units s.plain ≡ u ∷ us → units (next x) ≡ take (length (units (next x))) us
       → ((m : ℕ) → commits_it at (told_of x) m ≡ (s.plain.commits == m)) → (rs : List TaskRun) → AreTasks s.plain.commits rs (u ∷ us) → AreTasks (suc s.plain.commits) (left at (told_of x) rs) (units (next x))
   head_leaves x is ok one none u us head front commits_one [] tasks = absurd tasks
   head_leaves x is ok one none u us head front commits_one (r ∷ rs) tasks =
@@ -435,7 +435,7 @@ module _ (img : Image) (given : Given img) (config : Config) (s : Standing) (rea
           let some = c.first in
           ap (λ (o : Option ℕ). is_not_above o r.number) first ∙ lt-leb cut.first.0 r.number (omega (arith, some, number))
 
-  committed : (by : ℕ) → IsEvent (event.Commit by) → refused img config s (event.Commit by) ≡ None → Next (event.Commit by)
+  committed : (by : ℕ) → IsEvent (event.Commit by) → refusal_of img config s (event.Commit by) ≡ None → Next (event.Commit by)
   unfolding step entry_of reply_to plain_reply
   committed by is ok =
       let x : Event = event.Commit by in
@@ -455,7 +455,7 @@ module _ (img : Image) (given : Given img) (config : Config) (s : Standing) (rea
       rest true logs = front_all (map logged logs)
       rest false logs = refl
 
-  tasks_follow : (x : Event) → IsEvent x → refused img config s x ≡ None → Next x
+  tasks_follow : (x : Event) → IsEvent x → refusal_of img config s x ≡ None → Next x
   tasks_follow (event.Assign unit guess) is ok = assigned unit guess is ok
   tasks_follow (event.Submit b) is ok = submitted b is ok
   tasks_follow (event.Replace unit address) is ok = replaced unit address is ok
@@ -463,7 +463,7 @@ module _ (img : Image) (given : Given img) (config : Config) (s : Standing) (rea
   tasks_follow (event.Commit by) is ok = committed by is ok
 
   -- an accepted event
-  pub active_after : (x : Event) → IsEvent x → refused img config s x ≡ None → AreActive (next x) (step at (told_of x) runs)
+  pub active_after : (x : Event) → IsEvent x → refusal_of img config s x ≡ None → AreActive (next x) (step at (told_of x) runs)
   unfolding step
   active_after x is ok =
       let k = step_commits img given config s x ok in

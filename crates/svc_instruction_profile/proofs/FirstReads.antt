@@ -17,7 +17,7 @@ use Rattle.svc_machine_laws.specs.Events as event
 use Rattle.svc_machine_laws.specs.PlainMachine.{Plain, unit_of}
 use Rattle.svc_machine_laws.specs.Reached.{IsReached}
 use Rattle.svc_machine_laws.specs.Replies.{plain_submitted}
-use Rattle.svc_machine_laws.specs.Standing.{Standing, opened_at, reply_to, stepped}
+use Rattle.svc_machine_laws.specs.Standing.{Standing, opened_at, reply_to, standing_after}
 use Rattle.svc_machine_laws.proofs.Given.{Given}
 use Rattle.svc_history_laws.specs.declared.entry.CutKind.{CutKind}
 use Rattle.svc_history_laws.specs.declared.entry.CutKind.TheVariants as why
@@ -288,7 +288,7 @@ module _ (img : Image) (given : Given img) (config : Config) (es : List Entry) (
       let x : HasEvent img config (there_at i) e = has_event img given config (there_at i) e st.here in
       let reached : IsReached img config (there_at i) = (tallies img given config (take i es) st.before).reached in
       subst (λ (n : Standing). AreActive n.plain (step i e s)) (sym (last_take img (opened_at img config 0) es i e there ∙ x.leads))
-      (subst (λ (f : Entry). AreActive (stepped img (there_at i) x.event).plain (step i f s)) (sym x.entry)
+      (subst (λ (f : Entry). AreActive (standing_after img (there_at i) x.event).plain (step i f s)) (sym x.entry)
       (active_after img given config (there_at i) reached i s are x.event x.is x.accepted))
 
   read_from : (s : Runs) (i : ℕ) (rest : List Entry) → drop i es ≡ rest → AreActive (there_at i).plain s → AllByRecursion (HasBegun es i) s.active → EachIsReadFrom asked es s i rest

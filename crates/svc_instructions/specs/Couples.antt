@@ -1,5 +1,6 @@
 -- What a name and its operands say: one instruction, or two.
-use Rattle.std.specs.Prelude.{ℕ, ◌^◌, ◌%◌, Bool, false, ◌||◌, ◌==◌, nat_le, nat_lt, List, [], ◌∷◌, Some, None, is_none, if◌then◌else◌, codes}
+use Rattle.std.specs.Prelude.{ℕ, ◌^◌, ◌%◌, Bool, false, ◌||◌, ◌==◌, nat_le, nat_lt, List, [], ◌∷◌, Some, None}
+use Rattle.std.specs.Prelude.{is_none, if◌then◌else◌, codes}
 use Rattle.std.specs.Str.{bytes_eq}
 use Rattle.svc_draft.specs.declared.statement.Statement.{Statement}
 use Rattle.svc_draft.specs.declared.statement.Statement.TheVariants as say

@@ -1,5 +1,6 @@
 -- What the rows of the table say, read from a text.
-use Rattle.std.specs.Prelude.{ℕ, ◌+◌, ◌*◌, List, [], ◌∷◌, Some, ◌/◌, ◌%◌, ◌^◌, ◌==◌, Bool, ◌&&◌, ◌||◌, Option, None, if◌then◌else◌, option_map}
+use Rattle.std.specs.Prelude.{ℕ, ◌+◌, ◌*◌, List, [], ◌∷◌, Some, ◌/◌, ◌%◌, ◌^◌, ◌==◌, Bool, ◌&&◌, ◌||◌, Option, None}
+use Rattle.std.specs.Prelude.{if◌then◌else◌, option_map}
 use Rattle.svc_draft.specs.Options.{◌>>=◌}
 use Rattle.svc_operands.specs.Characters.{name_at, past_name, mark_at, found, is_over}
 use Rattle.svc_operands.specs.Names.{number_named}

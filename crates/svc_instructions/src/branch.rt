@@ -5,7 +5,8 @@ ghost use Rattle.std.specs.List.{find};
 ghost use Rattle.svc_draft.specs.Layouts.{layout_of};
 ghost use Rattle.svc_operands.specs.Operands.{Gives};
 ghost use Rattle.svc_instructions.specs.Instructions.{parts_of};
-ghost use Rattle.svc_instructions.specs.Branches.{opposite, over_jump, is_two, far_target_at, is_branch, far_parts_at, is_named, row_named, far_at};
+ghost use Rattle.svc_instructions.specs.Branches.{opposite, over_jump, is_two, far_target_at, is_branch};
+ghost use Rattle.svc_instructions.specs.Branches.{far_parts_at, is_named, row_named, far_at};
 
 use crate::reading::{further, joined, read_part};
 use crate::table::{ALIASES, Part, ROWS, Row, parts_of};

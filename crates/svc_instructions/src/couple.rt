@@ -5,7 +5,10 @@ ghost use Rattle.std.specs.List.{find};
 ghost use Rattle.svc_draft.specs.Layouts.{layout_of};
 ghost use Rattle.svc_operands.specs.Operands.{Gives};
 ghost use Rattle.svc_instructions.specs.Instructions.{joined};
-ghost use Rattle.svc_instructions.specs.Couples.{has_name, with_high, with_low, apart, past_plt, pair_at, linked_at, couple_at, begins_name, label_at, load_at, with_store, store_at, access_at, alone_on_line, longer_at, other_at, set_to, set_at, relative_upper_at, single_at, instruction_at};
+ghost use Rattle.svc_instructions.specs.Couples.{has_name, with_high, with_low, apart, past_plt, pair_at, linked_at};
+ghost use Rattle.svc_instructions.specs.Couples.{couple_at, begins_name, label_at, load_at, with_store, store_at};
+ghost use Rattle.svc_instructions.specs.Couples.{access_at, alone_on_line, longer_at, other_at, set_to, set_at};
+ghost use Rattle.svc_instructions.specs.Couples.{relative_upper_at, single_at, instruction_at};
 
 use crate::branch::read_far;
 use crate::reading::{further, joined, read_alone};

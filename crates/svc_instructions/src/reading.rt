@@ -3,7 +3,9 @@
 ghost use Rattle.std.specs.Prelude.{◌≡◌, ◌<◌, IfSome, IfOk};
 ghost use Rattle.svc_operands.specs.Names.{number_named};
 ghost use Rattle.svc_operands.specs.Operands.{Gives};
-ghost use Rattle.svc_instructions.specs.Instructions.{order_at, orders_at, fence_at, placed, part_at, joined, parts_of, parts_at, row_at, rows_at, either_at, alone_at, taken, with_funct3, with_funct7, fixed, is_of, row_of};
+ghost use Rattle.svc_instructions.specs.Instructions.{order_at, orders_at, fence_at, placed, part_at, joined};
+ghost use Rattle.svc_instructions.specs.Instructions.{parts_of, parts_at, row_at, rows_at, either_at, alone_at};
+ghost use Rattle.svc_instructions.specs.Instructions.{taken, with_funct3, with_funct7, fixed, is_of, row_of};
 ghost use Rattle.svc_draft.specs.Layouts.{layout_of};
 ghost use Rattle.std.specs.List.{find};
 

@@ -16,7 +16,7 @@ use Rattle.svc_operands.specs.Characters.{name_at, found}
 use Rattle.svc_instructions.specs.declared.table.Part.{Part}
 use Rattle.svc_instructions.specs.declared.table.Row.{Row}
 use Rattle.svc_instructions.specs.Instructions.{parts_of, row_of}
-use Rattle.svc_asm.specs.Statements.{statement_at, line_at}
+use Rattle.svc_asm_lines.specs.Statements.{statement_at, line_at}
 use Rattle.svc_names.specs.declared.name.Name.{Name}
 use Rattle.svc_list.specs.Listings.{HasText, statement_text, label_text, row_text, code_text, word_note, Line, Says, Labels, Codes, bare, line_of, text_of, led_along, placed, target_by, target_of, coded, labels, code}
 use Rattle.svc_list.proofs.NamesBack.{Ends}

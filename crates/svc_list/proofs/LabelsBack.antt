@@ -10,7 +10,7 @@ use Rattle.svc_draft.specs.declared.statement.Spot.{Spot}
 use Rattle.svc_draft.specs.declared.statement.Statement.TheVariants as say
 use Rattle.svc_draft.specs.Layouts.{Layout, place, spot_here, is_place, with_symbol}
 use Rattle.svc_operands.specs.Characters.{is_name, past_blanks, past, name_at, past_name, behind}
-use Rattle.svc_asm.specs.Statements.{statement_at, line_at}
+use Rattle.svc_asm_lines.specs.Statements.{statement_at, line_at}
 use Rattle.svc_list.specs.Listings.{hex_digit, hex_text, label_text}
 use Rattle.svc_list.proofs.NamesBack.{dense, all_dense, no_slash, no_space}
 use Rattle.svc_list.proofs.LinesBack.{unlabelled, ended_back}

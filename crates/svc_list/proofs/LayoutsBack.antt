@@ -20,7 +20,7 @@ use Rattle.svc_draft.specs.declared.statement.Next.TheVariants as go
 use Rattle.svc_draft.specs.declared.statement.Statement.TheVariants as say
 use Rattle.svc_draft.specs.Options.{◌>>=◌}
 use Rattle.svc_draft.specs.Areas.{with_more}
-use Rattle.svc_draft.specs.Layouts.{is_limit, Layout, Names, no_distances, no_branches, no_weak, with_word, with_bytes, with_value, with_version, with_read_only, with_own, with_place, with_entry, with_limit, with_register, data_size, going_on, after, limits_in, data_in, image_laid}
+use Rattle.svc_draft.specs.Layouts.{is_limit, Layout, Names, no_names, no_distances, no_branches, no_weak, with_word, with_bytes, with_value, with_version, with_read_only, with_own, with_place, with_entry, with_limit, with_register, data_size, going_on, after, limits_in, data_in, image_laid}
 use Rattle.svc_names.specs.declared.name.Name.{Name}
 use Rattle.svc_list.specs.Listings.{Line, Says, Labels, Codes, Starts, bare, setting, settings, own_limit, marks, data_lines, all_data}
 
@@ -59,9 +59,13 @@ layout_for names known from img = record {
   known = known;
   data_from = 0;
   bss_from = from;
+  before = no_names;
+  lacks_names = false;
   locals = [];
   passed = 0;
   distances = no_distances;
+  has_distances = false;
+  measured = known;
   turned = no_branches;
   turns_all = false;
   grew = false;

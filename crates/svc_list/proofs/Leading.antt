@@ -8,7 +8,7 @@ use Rattle.svc_draft.specs.declared.statement.Statement.TheVariants as say
 use Rattle.svc_draft.specs.Options.{◌>>=◌}
 use Rattle.svc_draft.specs.Layouts.{Layout, after}
 use Rattle.svc_operands.specs.Characters.{name_at}
-use Rattle.svc_asm.specs.DataLines.{next_at}
+use Rattle.svc_asm_lines.specs.DataLines.{next_at}
 use Rattle.svc_asm.specs.Labels.{label_in, Gives}
 use Rattle.svc_asm.specs.Passes.{Makes}
 use Rattle.svc_asm.proofs.Program.{same_laid}

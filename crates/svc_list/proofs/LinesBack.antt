@@ -17,10 +17,10 @@ use Rattle.svc_draft.specs.Layouts.{Layout}
 use Rattle.svc_instructions.specs.Couples.{instruction_at}
 use Rattle.svc_operands.specs.Expressions.{operator_at}
 use Rattle.svc_operands.specs.Names.{padded}
-use Rattle.svc_asm.specs.Statements.{said_by, numbered_at, said_at, entry_before, directive_at, statement_at, ended_at, line_at}
-use Rattle.svc_asm.specs.declared.directives.Number.TheVariants as number
-use Rattle.svc_asm.specs.declared.directives.Says.TheVariants as says
-use Rattle.svc_asm.specs.DataLines.{first_at, part_at, next_at}
+use Rattle.svc_asm_lines.specs.Statements.{said_by, numbered_at, said_at, entry_before, directive_at, statement_at, ended_at, line_at}
+use Rattle.svc_asm_lines.specs.declared.directives.Number.TheVariants as number
+use Rattle.svc_asm_lines.specs.declared.directives.Says.TheVariants as says
+use Rattle.svc_asm_lines.specs.DataLines.{first_at, part_at, next_at}
 use Rattle.svc_list.specs.Listings.{first_text, statement_text, HasText, Line, Says, Labels, Codes, Starts, line_of}
 use Rattle.svc_list.proofs.NamesBack.{all_dense, stops, Ends, at_name, at_rest, no_colon}
 use Rattle.svc_list.proofs.NumbersBack.{spaced_name, decimal_some}

@@ -6,7 +6,7 @@ use Rattle.std.specs.List.{AllByRecursion}
 use Rattle.std.proofs.lemmas.Bool.{le-leb, lt-leb, cases_lt, cases_eq, ne_eqb}
 use Rattle.svc_operands.specs.Characters.{is_name, past_blanks, past}
 use Rattle.svc_operands.specs.Expressions.{operator_at}
-use Rattle.svc_asm.specs.Statements.{is_inside, end_at}
+use Rattle.svc_asm_lines.specs.Statements.{is_inside, end_at}
 use Rattle.svc_names.specs.declared.name.Name.{Name}
 use Rattle.svc_names.specs.declared.names.Names.{Names}
 use Rattle.svc_names.specs.Given.{listed, noted_by, spaced_label}

@@ -24,7 +24,7 @@ use Rattle.svc_image.proofs.Wordwise.{length-bytes_of_words}
 use Rattle.svc_operands.specs.Characters.{is_name, past_name, behind}
 use Rattle.svc_operands.specs.Values.{value_at}
 use Rattle.svc_operands.specs.Names.{padded}
-use Rattle.svc_asm.specs.Statements.{said_by, said_at, directive_at, statement_at, line_at}
+use Rattle.svc_asm_lines.specs.Statements.{said_by, said_at, directive_at, statement_at, line_at}
 use Rattle.svc_asm.specs.Programs.{IsProgramOf}
 use Rattle.svc_names.specs.declared.name.Name.{Name}
 use Rattle.svc_list.specs.Listings.{label_text, HasText, Line, Starts, bare, line_of, text_of, led_along, target_by, target_of, is_at, is_target, is_labelled, setting, settings, own_limit, marks, code, data_lines, all_data, head_lines, listing_of}
@@ -302,6 +302,6 @@ listing_is_program names_given are img sound =
     let given = given_by second.0 (listing_of names_given img) (empty names true 0 from) (layout_for names true from img) second.1 in
     record {
       layout = layout_for names true from img;
-      laid = record { labels = given.0; settles = inl (record { first_lines = first.0; first = passed no_names false 0 img; finds = first.1; lines = second.0; gives = given.1 }, refl) };
+      laid = record { labels = given.0; settles = inl (record { first = passed no_names false 0 img; finds = inl (first, refl); laid = empty names true 0 from; begins = refl; lines = second.0; gives = given.1 }, refl) };
       image = made_image names true from img sound;
     }

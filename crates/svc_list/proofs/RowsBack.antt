@@ -20,7 +20,7 @@ use Rattle.svc_instructions.specs.declared.table.Row.{Row}
 use Rattle.svc_instructions.specs.declared.table.TheConstants.{ROWS, ALIASES, COUPLES}
 use Rattle.svc_instructions.specs.Instructions.{parts_of, taken, part_at, joined, parts_at, over, row_at, rows_at, alone_at, fixed, is_of, row_of}
 use Rattle.svc_instructions.specs.Couples.{has_name, couple_at, set_at, relative_upper_at, relative_named, single_at, longer_at, other_at, lettered_at, instruction_at}
-use Rattle.svc_asm.specs.Statements.{statement_at}
+use Rattle.svc_asm_lines.specs.Statements.{statement_at}
 use Rattle.svc_list.specs.Listings.{register_text, last_text, upper_text, label_text, reach_text, part_text, parts_text, row_text, led, led_by, led_along}
 use Rattle.svc_list.proofs.NamesBack.{stops, Ends, ends_over, no_slash}
 use Rattle.svc_list.proofs.OperandsBack.{register_back, spaced_register_back, short_back, target_back, upper_back, upper_no_mark, amount_back}

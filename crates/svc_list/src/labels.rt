@@ -1,9 +1,11 @@
 // The labels of a text: at its entries, and at the targets of its branches and jumps.
 
-ghost use Rattle.std.specs.Prelude.{◌≡◌, ℕ, ◌+◌, ◌*◌, ◌-◌, ◌<◌, ◌≤◌, ◌%◌, ◌||◌, ◌==◌, false, length, slice_index_or, All, IfOk, IfSome, None};
+ghost use Rattle.std.specs.Prelude.{◌≡◌, ℕ, ◌+◌, ◌*◌, ◌-◌, ◌<◌, ◌≤◌, ◌%◌, ◌||◌, ◌==◌, false, length, slice_index_or};
+ghost use Rattle.std.specs.Prelude.{All, IfOk, IfSome, None};
 ghost use Rattle.std.specs.List.{list_any};
 ghost use Rattle.svc_image.specs.Image.{StartsWord};
-ghost use Rattle.svc_list.specs.Listings.{led, placed, led_by, led_along, target_by, target_of, is_at, is_target, is_labelled, IsShown};
+ghost use Rattle.svc_list.specs.Listings.{led, placed, led_by, led_along, target_by, target_of, is_at, is_target};
+ghost use Rattle.svc_list.specs.Listings.{is_labelled, IsShown};
 ghost use Rattle.svc_rv32i.specs.declared.instr.Instr.{Instr};
 ghost use Rattle.svc_rv32i.specs.Words.{word_of};
 ghost use Rattle.svc_instructions.specs.Instructions.{parts_of, row_of};

@@ -1,10 +1,13 @@
 // The text of an image.
 
-ghost use Rattle.std.specs.Prelude.{Bool, false, slice_index_or, [], ◌≡◌, ℕ, suc, ◌++◌, ◌∷◌, List, Option, codes, ◌<◌, ◌≤◌, ◌*◌, ◌^◌, length, slice_index, decimal, IfOk, IfSome, IfNone, OnOk};
+ghost use Rattle.std.specs.Prelude.{Bool, false, slice_index_or, [], ◌≡◌, ℕ, suc, ◌++◌, ◌∷◌, List, Option, codes};
+ghost use Rattle.std.specs.Prelude.{◌<◌, ◌≤◌, ◌*◌, ◌^◌, length, slice_index, decimal, IfOk, IfSome, IfNone, OnOk};
 ghost use Rattle.svc_asm.specs.Programs.{IsProgramOf};
 ghost use Rattle.svc_names.specs.declared.name.Name.{Name};
 ghost use Rattle.svc_names.specs.Given.{listed, noted_by};
-ghost use Rattle.svc_list.specs.Listings.{first_text, own_text, section_text, statement_text, word_note, Labels, Starts, bare, line_of, text_of, coded, datum, labels, setting, settings, own_limit, marks, code, data_lines, all_data, head_lines, listing_of};
+ghost use Rattle.svc_list.specs.Listings.{first_text, own_text, section_text, statement_text, word_note, Labels};
+ghost use Rattle.svc_list.specs.Listings.{Starts, bare, line_of, text_of, coded, datum, labels, setting, settings};
+ghost use Rattle.svc_list.specs.Listings.{own_limit, marks, code, data_lines, all_data, head_lines, listing_of};
 
 use crate::labels::{labels_of, target_by};
 use crate::text::{Hex, put_register, put_row};

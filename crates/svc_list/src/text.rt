@@ -1,7 +1,8 @@
 // Numbers, registers, labels and instructions as text.
 
 ghost use Rattle.std.specs.Prelude.{◌≡◌, ◌++◌, ◌*◌, ◌<◌, ◌≤◌, OnOk};
-ghost use Rattle.svc_list.specs.Listings.{register_text, short_text, offset_text, hex_digit, hex_text, reach_text, part_text, parts_text, row_text};
+ghost use Rattle.svc_list.specs.Listings.{register_text, short_text, offset_text, hex_digit, hex_text, reach_text};
+ghost use Rattle.svc_list.specs.Listings.{part_text, parts_text, row_text};
 ghost use Rattle.svc_instructions.specs.Instructions.{parts_of};
 
 use std::alloc::AllocError;

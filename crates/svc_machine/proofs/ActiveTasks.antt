@@ -12,7 +12,7 @@ use Rattle.svc_machine_laws.specs.WholeMachine.{seat_of}
 use Rattle.svc_machine.specs.declared.seat.Seat.{Seat}
 use Rattle.svc_machine.specs.declared.shown.ActiveTask.{ActiveTask}
 use Rattle.svc_machine.specs.Cores.{core_in, core_of}
-use Rattle.svc_machine.specs.Kept.{Parts, Kept, shown, whole_seat}
+use Rattle.svc_machine.specs.Kept.{Parts, Kept, machine_value, whole_seat}
 use Rattle.svc_machine.specs.Reads.{task_of, task_shown}
 
 -- a task as its seat shows it
@@ -27,7 +27,7 @@ counted_at (x ∷ runs) all zero = ap (λ (n : ℕ). Some (let shown : ActiveTas
 counted_at (x ∷ runs) all (suc place) = counted_at runs all.1 place
 
 pub task_read : (m : Parts) → Kept m → (seats : List Seat) → map whole_seat seats ≡ m.seats → (place : ℕ)
-    → option_map at_seat (option_map whole_seat (slice_get seats place)) ≡ task_of (shown m) place
+    → option_map at_seat (option_map whole_seat (slice_get seats place)) ≡ task_of (machine_value m) place
 task_read m kept seats same place =
     let runs = running (program m.image) m.plain in
     ap (option_map at_seat) (sym (slice_get-map whole_seat seats place) ∙ ap (λ (l : List (whole.Seat State)). slice_get l place) (same ∙ kept.seats) ∙ slice_get-map seat_of runs place)
@@ -43,7 +43,7 @@ same_core None = refl
 same_core (Some x) = refl
 
 core_read : (m : Parts) → Kept m → (seats : List Seat) → map whole_seat seats ≡ m.seats → (place : ℕ)
-    → option_map core_at (option_map whole_seat (slice_get seats place)) ≡ core_of (shown m) place
+    → option_map core_at (option_map whole_seat (slice_get seats place)) ≡ core_of (machine_value m) place
 core_read m kept seats same place =
     let runs = running (program m.image) m.plain in
     ap (option_map core_at) (sym (slice_get-map whole_seat seats place) ∙ ap (λ (l : List (whole.Seat State)). slice_get l place) (same ∙ kept.seats) ∙ slice_get-map seat_of runs place)
@@ -55,5 +55,5 @@ own_core (Some s) = refl
 
 -- the core in the seat at a place
 pub seat_core : (m : Parts) → Kept m → (seats : List Seat) → map whole_seat seats ≡ m.seats → (place : ℕ)
-    → option_map (λ (s : Seat). s.lease.core) (slice_get seats place) ≡ core_of (shown m) place
+    → option_map (λ (s : Seat). s.lease.core) (slice_get seats place) ≡ core_of (machine_value m) place
 seat_core m kept seats same place = own_core (slice_get seats place) ∙ core_read m kept seats same place

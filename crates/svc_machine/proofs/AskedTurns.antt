@@ -11,13 +11,13 @@ use Rattle.svc_core_laws.specs.State.{State}
 use Rattle.svc_core_laws.specs.Local.{goes_on}
 use Rattle.svc_core_laws.specs.Program.{Want, Store, Narrow}
 use Rattle.svc_core_laws.specs.Turns.{arrives, word_address, lane_of}
-use Rattle.svc_core_laws.specs.Words.{stored, wants_store, wants_write}
+use Rattle.svc_core_laws.specs.Words.{stored_word, wants_store, wants_write}
 use Rattle.svc_bus_laws.specs.Versioned.{view}
 use Rattle.svc_bus_laws.specs.LineTable.{Line, LineTable, is_active, is_reusable, line_at, unit_at, versioned_map}
 use Rattle.svc_bus_laws.specs.Supplier.{Supplier}
 use Rattle.svc_bus_laws.specs.Supplier as supply
 use Rattle.svc_bus_laws.specs.Steps.{read, write, reuse, fill, with_line, line_after_reuse, filled_line, line_after_purging}
-use Rattle.svc_bus_laws.specs.BusState.{BusState, Agrees, unnumbered}
+use Rattle.svc_bus_laws.specs.BusState.{BusState, Agrees, without_number}
 use Rattle.svc_bus_laws.specs.Refusals.{bus_cache, set_full}
 use Rattle.svc_bus_laws.proofs.ReadLaws.{active_parts, reusable_parts}
 use Rattle.svc_machine_laws.specs.declared.reply.Cut.{Cut}
@@ -34,25 +34,25 @@ here : (lines : ℕ → ℕ → Option Line) (u a : ℕ) (line : Option Line) (o
 here lines u a line others =
     ap₂ (λ x y. cond x (cond y line (others (lines u a))) (lines u a)) (eq-eqb a a refl) (eq-eqb u u refl)
 
-valid : (line : Option Line) (l : Line) → line ≡ Some l → is_none (unnumbered line) ≡ false
-valid line l e = ap (λ o. is_none (unnumbered o)) e
+valid : (line : Option Line) (l : Line) → line ≡ Some l → is_none (without_number line) ≡ false
+valid line l e = ap (λ o. is_none (without_number o)) e
 
 -- after a read of the word the unit has a line of it
-own_line : (t : LineTable) (p a : ℕ) → is_none (unnumbered ((read t p a).lines (unit_at t p) a)) ≡ false
+own_line : (t : LineTable) (p a : ℕ) → is_none (without_number ((read t p a).lines (unit_at t p) a)) ≡ false
 own_line t p a = split (is_active (line_at t p a)) (is_reusable (line_at t p a)) refl refl
   where
-    split : (x y : Bool) → is_active (line_at t p a) ≡ x → is_reusable (line_at t p a) ≡ y → is_none (unnumbered ((cond x t (cond y (reuse t p a) (fill t p a))).lines (unit_at t p) a)) ≡ false
+    split : (x y : Bool) → is_active (line_at t p a) ≡ x → is_reusable (line_at t p a) ≡ y → is_none (without_number ((cond x t (cond y (reuse t p a) (fill t p a))).lines (unit_at t p) a)) ≡ false
     split true y on other = let l = active_parts (line_at t p a) on in valid (line_at t p a) l.0 l.1
     split false true off on =
         let l = reusable_parts (line_at t p a) on in
-        ap (λ o. is_none (unnumbered o)) (here t.lines (unit_at t p) a (line_after_reuse (t.commits + p) (line_at t p a)) (λ line. line))
-        ∙ ap (λ o. is_none (unnumbered (line_after_reuse (t.commits + p) o))) l.1
-    split false false off other = ap (λ o. is_none (unnumbered o)) (here t.lines (unit_at t p) a (Some (filled_line t p a)) line_after_purging)
+        ap (λ o. is_none (without_number o)) (here t.lines (unit_at t p) a (line_after_reuse (t.commits + p) (line_at t p a)) (λ line. line))
+        ∙ ap (λ o. is_none (without_number (line_after_reuse (t.commits + p) o))) l.1
+    split false false off other = ap (λ o. is_none (without_number o)) (here t.lines (unit_at t p) a (Some (filled_line t p a)) line_after_purging)
 
 -- so it has room for it
 free_after : (b : BusState) (unit : ℕ) (t : LineTable) (p a : ℕ) → Agrees b (read t p a) → unit_at t p ≡ unit → set_full (bus_cache b unit) a ≡ None
 free_after b unit t p a agrees at =
-    let some : is_none (b.lines unit a) ≡ false = ap is_none (agrees.lines unit a) ∙ ap (λ u. is_none (unnumbered ((read t p a).lines u a))) (sym at) ∙ own_line t p a in
+    let some : is_none (b.lines unit a) ≡ false = ap is_none (agrees.lines unit a) ∙ ap (λ u. is_none (without_number ((read t p a).lines u a))) (sym at) ∙ own_line t p a in
     simp some
 
 pub room_after : (b : BusState) (unit : ℕ) (t : LineTable) (p a : ℕ) → Agrees b (read t p a) → unit_at t p ≡ unit → full_refusal b unit a ≡ None
@@ -90,16 +90,16 @@ module _ (b : BusState) (unit : ℕ) (t : LineTable) (p a lane value : ℕ) (bus
         unit_is = read_keeps (λ u. unit_at u p) t p a refl refl ∙ runs.unit_is;
       }
 
-  pub prepared : (kind : StoreKind) → (kind ≡ store.Word → ⊥) → RunsAt b unit t p → IsRead t p a bus old served → word ≡ stored kind lane value old → IsPrepared t unit p a kind lane value bus word (Some served)
+  pub prepared : (kind : StoreKind) → (kind ≡ store.Word → ⊥) → RunsAt b unit t p → IsRead t p a bus old served → word ≡ stored_word kind lane value old → IsPrepared t unit p a kind lane value bus word (Some served)
   prepared store.Byte less runs done is = record {
     runs = runs_after runs done;
-    word_is = is ∙ ap (stored store.Byte lane value) done.value_is;
+    word_is = is ∙ ap (stored_word store.Byte lane value) done.value_is;
     served_is = ap Some done.served_is;
     words = done.table.words ∙ read_keeps (λ u. u.words) t p a refl refl;
   }
   prepared store.Half less runs done is = record {
     runs = runs_after runs done;
-    word_is = is ∙ ap (stored store.Half lane value) done.value_is;
+    word_is = is ∙ ap (stored_word store.Half lane value) done.value_is;
     served_is = ap Some done.served_is;
     words = done.table.words ∙ read_keeps (λ u. u.words) t p a refl refl;
   }
@@ -107,8 +107,8 @@ module _ (b : BusState) (unit : ℕ) (t : LineTable) (p a lane value : ℕ) (bus
 
 -- what a store wants of this word, from this byte of it on
 abbrev writes : Image → State → StoreKind → (a lane v : ℕ) → Want State
-writes img s store.Byte a lane v = Narrow a (stored store.Byte lane v) (arrives img (goes_on s))
-writes img s store.Half a lane v = Narrow a (stored store.Half lane v) (arrives img (goes_on s))
+writes img s store.Byte a lane v = Narrow a (stored_word store.Byte lane v) (arrives img (goes_on s))
+writes img s store.Half a lane v = Narrow a (stored_word store.Half lane v) (arrives img (goes_on s))
 writes img s store.Word a lane v = Store a (v % 2 ^ 32) (arrives img (goes_on s))
 
 writes_is : (img : Image) (s : State) (kind : StoreKind) (addr v : ℕ) → writes img s kind (word_address addr) (lane_of addr) v ≡ wants_write img s kind addr v

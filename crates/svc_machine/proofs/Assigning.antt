@@ -24,7 +24,7 @@ use Rattle.svc_machine_laws.specs.Guide.{Guide, guide_assigned}
 use Rattle.svc_machine_laws.specs.Refusals.{cases_of}
 use Rattle.svc_machine_laws.specs.Replies.{whole_reply}
 use Rattle.svc_machine_laws.specs.Reached.{IsReached, BeganAtEntry}
-use Rattle.svc_machine_laws.specs.Standing.{Standing, stepped}
+use Rattle.svc_machine_laws.specs.Standing.{Standing, standing_after}
 use Rattle.svc_machine_laws.proofs.Given.{given}
 use Rattle.svc_machine_laws.proofs.Cases.{no_case}
 use Rattle.svc_machine_laws.proofs.Places.{not_found}
@@ -57,7 +57,7 @@ module _ (m : Parts) (kept : Kept m) (unit guess : ℕ) (ok : IsAccepted m (Assi
   can = can_assign m.image m.config (own_standing m kept) unit guess (ok (own_standing m kept) (stands m kept))
 
   after : IsReached m.image m.config (record { plain = plain_event m.image m.plain (Assign unit guess); lines = line_event m.image (machine_of (program m.image) m.plain) kept.lines (Assign unit guess) })
-  unfolding stepped
+  unfolding standing_after
   after = step_reached m.image (given m.image kept.sound) m.config (own_standing m kept) kept.reached (Assign unit guess) tt (ok (own_standing m kept) (stands m kept))
 
   -- there are as many seats as tasks

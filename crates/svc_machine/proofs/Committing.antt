@@ -147,7 +147,7 @@ module _ (m : Parts) (kept : Kept m) (by : ℕ) (ok : IsAccepted m (Commit by)) 
     cuts_are = ap (λ (l : List ℕ). cuts_next end (drop 1 l)) (lined ∙ ap entries_in h.are)
 
     pub active_some : 0 < length (guide_settled end m.guide).active
-    active_some = settled_active end m.guide h.head.entry (entries_in h.others) (lined ∙ ap entries_in h.are)
+    active_some = settled_active end m.guide h.head.task_entry (entries_in h.others) (lined ∙ ap entries_in h.are)
 
     -- of each line table that the bus agreed with before
     pub units_some : (bus : BusValue) → ((t : LineTable) → Agrees (observed m.bus) t → Agrees (observed bus) (cond (cuts_next end (drop 1 m.guide.active)) (squash t 1) t)) → 0 < length (observed bus).units

@@ -9,7 +9,7 @@ use Rattle.svc_machine_laws.specs.Headline.{IsSequential}
 use Rattle.svc_machine_laws.specs.Standing.{Standing, whole_of, opened_at, whole_opened, after_event, after_events, accepted_commits}
 use Rattle.svc_machine_laws.proofs.Given.{given}
 use Rattle.svc_machine_laws.proofs.Folds.{commits_are, opened_reached, reached_is}
-use Rattle.svc_machine.specs.Kept.{Parts, Kept, shown}
+use Rattle.svc_machine.specs.Kept.{Parts, Kept, machine_value}
 use Rattle.svc_machine.specs.Value.{MachineValue, StandsAt, IsSequentialMachine}
 use Rattle.svc_machine.proofs.Keeping.{reached_at}
 
@@ -21,8 +21,8 @@ after_more img config s (y ∷ xs) x = after_more img config (after_event img co
 
 -- a machine that stands where a list of events leads has committed the first tasks of the sequential order, as many as commits were accepted
 pub sequential_after : (m : Parts) → Kept m → (xs : List Event) → AllByRecursion IsEvent xs
-    → StandsAt (shown m) (after_events m.image m.config (opened_at m.image m.config 0) xs)
-    → IsSequentialMachine (accepted_commits m.image m.config (whole_opened m.image m.config 0) xs) (shown m)
+    → StandsAt (machine_value m) (after_events m.image m.config (opened_at m.image m.config 0) xs)
+    → IsSequentialMachine (accepted_commits m.image m.config (whole_opened m.image m.config 0) xs) (machine_value m)
 sequential_after m kept xs are at =
     let start : Standing = opened_at m.image m.config 0 in
     let g = given m.image kept.sound in
@@ -37,7 +37,7 @@ sequential_after m kept xs are at =
     }
 
 -- the same, of a machine as contracts see it
-pub sequential_of : (m : Parts) → Kept m → (v : MachineValue) → shown m ≡ v → (img : Image) (config : Config) → v.image ≡ img → v.config ≡ config
+pub sequential_of : (m : Parts) → Kept m → (v : MachineValue) → machine_value m ≡ v → (img : Image) (config : Config) → v.image ≡ img → v.config ≡ config
     → (xs : List Event) → AllByRecursion IsEvent xs → StandsAt v (after_events img config (opened_at img config 0) xs)
     → IsSequentialMachine (accepted_commits img config (whole_opened img config 0) xs) v
 sequential_of m kept v view img config image_is config_is xs are at =
@@ -45,9 +45,9 @@ sequential_of m kept v view img config image_is config_is xs are at =
     let Q : MachineValue → Image → Config → Type 0 = λ w i c. IsSequentialMachine (accepted_commits i c (whole_opened i c 0) xs) w in
     let i : m.image ≡ img = ap (λ (w : MachineValue). w.image) view ∙ image_is in
     let c : m.config ≡ config = ap (λ (w : MachineValue). w.config) view ∙ config_is in
-    let first : P (shown m) img config = subst (λ (w : MachineValue). P w img config) (sym view) at in
-    let second : P (shown m) m.image config = subst (λ (j : Image). P (shown m) j config) (sym i) first in
-    let own : P (shown m) m.image m.config = subst (λ (d : Config). P (shown m) m.image d) (sym c) second in
-    let found : Q (shown m) m.image m.config = sequential_after m kept xs are own in
+    let first : P (machine_value m) img config = subst (λ (w : MachineValue). P w img config) (sym view) at in
+    let second : P (machine_value m) m.image config = subst (λ (j : Image). P (machine_value m) j config) (sym i) first in
+    let own : P (machine_value m) m.image m.config = subst (λ (d : Config). P (machine_value m) m.image d) (sym c) second in
+    let found : Q (machine_value m) m.image m.config = sequential_after m kept xs are own in
     subst (λ (w : MachineValue). Q w img config) view
-    (subst (λ (d : Config). Q (shown m) img d) c (subst (λ (j : Image). Q (shown m) j m.config) i found))
+    (subst (λ (d : Config). Q (machine_value m) img d) c (subst (λ (j : Image). Q (machine_value m) j m.config) i found))

@@ -21,7 +21,7 @@ use Rattle.svc_machine_laws.specs.LineEvents.{line_event}
 use Rattle.svc_machine_laws.specs.Guide.{guide_of}
 use Rattle.svc_machine_laws.specs.Refusals.{cases_of, first_case, refuse}
 use Rattle.svc_machine_laws.specs.Replies.{whole_reply}
-use Rattle.svc_machine_laws.specs.Standing.{Standing, refused, stepped, reply_to, after_event, unless}
+use Rattle.svc_machine_laws.specs.Standing.{Standing, refusal_of, standing_after, reply_to, after_event, unless}
 use Rattle.svc_machine_laws.specs.Reached.{IsReached, IsCounted}
 use Rattle.svc_machine_laws.proofs.Given.{given}
 use Rattle.svc_machine_laws.proofs.MachineEvents.{machine_event}
@@ -32,7 +32,7 @@ use Rattle.svc_machine.specs.declared.machine.Machine.TheInside.{Inside}
 use Rattle.svc_machine.specs.Seats.{task_of, plain_of}
 use Rattle.svc_machine.specs.Value.{MachineValue, StandsAt}
 use Rattle.svc_machine.specs.Steps.{Accepts, IsStep, IsTaken}
-use Rattle.svc_machine.specs.Kept.{Parts, Kept, shown, whole_seat}
+use Rattle.svc_machine.specs.Kept.{Parts, Kept, machine_value, whole_seat}
 
 -- ---- the plain machine's tasks, from the seats
 
@@ -76,7 +76,7 @@ module _ (m : Parts) (kept : Kept m) where
         };
       }
 
-  pub reached_at : (s : Standing) → StandsAt (shown m) s → IsReached m.image m.config s
+  pub reached_at : (s : Standing) → StandsAt (machine_value m) s → IsReached m.image m.config s
   reached_at s at =
       subst (λ (q : Plain). IsReached m.image m.config (record { plain = q; lines = s.lines })) at.plain (reached_with s.lines at.lines)
 
@@ -84,7 +84,7 @@ module _ (m : Parts) (kept : Kept m) where
   abbrev pub own_standing : Standing
   own_standing = record { plain = m.plain; lines = kept.lines }
 
-  pub stands : StandsAt (shown m) own_standing
+  pub stands : StandsAt (machine_value m) own_standing
   stands = record { plain = refl; lines = kept.agrees }
 
 -- ---- an accepted event
@@ -111,7 +111,7 @@ same_plain a b k n e ts =
     ∙ ap₂ {C = Plain} (λ (e : ℕ) (ts : List Task). record { commits = b.commits; accepted = b.accepted; epoch = e; tasks = ts }) e ts
 
 abbrev pub IsAccepted : Parts → Event → Type 0
-IsAccepted m x = Accepts (shown m) x
+IsAccepted m x = Accepts (machine_value m) x
 
 -- the machine's fields
 abbrev pub parts_of : Inside → Parts
@@ -130,7 +130,7 @@ parts_of m = record {
 
 -- no case of the table of refusals holds
 pub no_refusal : (m : Parts) (kept : Kept m) (x : Event) → IsAccepted m x → first_case (cases_of m.image m.config (machine_of (program m.image) m.plain) kept.lines x) ≡ None
-unfolding refused refuse
+unfolding refusal_of refuse
 no_refusal m kept x ok = ok (own_standing m kept) (stands m kept)
 
 module _ (old : Parts) (kept : Kept old) (x : Event) (is : IsEvent x) (ok : IsAccepted old x) where
@@ -144,14 +144,14 @@ module _ (old : Parts) (kept : Kept old) (x : Event) (is : IsEvent x) (ok : IsAc
   machine_is = machine_event old.image (given old.image kept.sound) old.config (own_standing old kept) kept.reached x is (ok (own_standing old kept) (stands old kept))
 
   reached_after : (t : LineTable) → Agrees (observed old.bus) t → IsReached old.image old.config (record { plain = after; lines = line_event old.image (machine_of p old.plain) t x })
-  unfolding stepped
+  unfolding standing_after
   reached_after t agrees =
       let s : Standing = record { plain = old.plain; lines = t } in
       step_reached old.image (given old.image kept.sound) old.config s (reached_with old kept t agrees) x is (ok s (record { plain = refl; lines = agrees }))
 
   -- the reply is the plain machine's
   pub replied : (r : Reply) → ((t : LineTable) → Agrees (observed old.bus) t → r ≡ whole_reply old.image (machine_of p old.plain) t x)
-      → (s : Standing) → StandsAt (shown old) s → r ≡ reply_to old.image s x
+      → (s : Standing) → StandsAt (machine_value old) s → r ≡ reply_to old.image s x
   unfolding reply_to
   replied r h s at =
       subst (λ (q : Plain). r ≡ whole_reply old.image (machine_of p q) s.lines x) at.plain (h s.lines at.lines)
@@ -194,24 +194,24 @@ module _ (old : Parts) (kept : Kept old) (x : Event) (is : IsEvent x) (ok : IsAc
         })
 
     -- and the machine stands where the event leads from each standing
-    pub stands_after : (s : Standing) → StandsAt (shown old) s → StandsAt (shown new) (stepped old.image s x)
-    unfolding stepped
+    pub stands_after : (s : Standing) → StandsAt (machine_value old) s → StandsAt (machine_value new) (standing_after old.image s x)
+    unfolding standing_after
     stands_after s at =
-        subst (λ (q : Plain). StandsAt (shown new) (record { plain = plain_event old.image q x; lines = line_event old.image (machine_of p q) s.lines x })) at.plain
+        subst (λ (q : Plain). StandsAt (machine_value new) (record { plain = plain_event old.image q x; lines = line_event old.image (machine_of p q) s.lines x })) at.plain
         (record { plain = plain_after; lines = moved.lines s.lines at.lines })
 
 -- ---- accepted or not
 
-refused_stays : (img : Image) (config : Config) (s : Standing) (x : Event) (r : Refusal) → refused img config s x ≡ Some r → after_event img config s x ≡ s
+refused_stays : (img : Image) (config : Config) (s : Standing) (x : Event) (r : Refusal) → refusal_of img config s x ≡ Some r → after_event img config s x ≡ s
 unfolding after_event
-refused_stays img config s x r h = ap (λ o. unless o s (stepped img s x)) h
+refused_stays img config s x r h = ap (λ o. unless o s (standing_after img s x)) h
 
-accepted_leads : (img : Image) (config : Config) (s : Standing) (x : Event) → refused img config s x ≡ None → after_event img config s x ≡ stepped img s x
+accepted_leads : (img : Image) (config : Config) (s : Standing) (x : Event) → refusal_of img config s x ≡ None → after_event img config s x ≡ standing_after img s x
 unfolding after_event
-accepted_leads img config s x h = ap (λ o. unless o s (stepped img s x)) h
+accepted_leads img config s x h = ap (λ o. unless o s (standing_after img s x)) h
 
 -- a refused event is a step that changes nothing
-pub refused_step : (v : MachineValue) (x : Event) (e : Refusal) → ((s : Standing) → StandsAt v s → Some e ≡ refused v.image v.config s x) → IsStep v v x (Err e)
+pub refused_step : (v : MachineValue) (x : Event) (e : Refusal) → ((s : Standing) → StandsAt v s → Some e ≡ refusal_of v.image v.config s x) → IsStep v v x (Err e)
 refused_step v x e why = record {
   refused = λ s at. sym (why s at);
   reply = λ s at. tt;
@@ -233,11 +233,11 @@ accepted_step old new x r ok done = record {
 }
 
 -- what every accepted event comes to
-pub taken_as : (old new : Parts) (kept : Kept old) (v : MachineValue) → shown old ≡ v → (x : Event) (is : IsEvent x) (ok : IsAccepted old x) → Moved old new x
+pub taken_as : (old new : Parts) (kept : Kept old) (v : MachineValue) → machine_value old ≡ v → (x : Event) (is : IsEvent x) (ok : IsAccepted old x) → Moved old new x
     → (r : Reply) → ((t : LineTable) → Agrees (observed old.bus) t → r ≡ whole_reply old.image (machine_of (program old.image) old.plain) t x)
-    → IsTaken v (shown new) x r
+    → IsTaken v (machine_value new) x r
 taken_as old new kept v seen x is ok moved r answers =
-    subst (λ (u : MachineValue). IsTaken u (shown new) x r) seen (record {
+    subst (λ (u : MachineValue). IsTaken u (machine_value new) x r) seen (record {
       reply_is = replied old kept x is ok r answers;
       standing = stands_after old kept x is ok new moved;
       image = moved.image;

@@ -14,3 +14,4 @@ mod EditedSeats
 mod Submitting
 mod Opening
 mod Refused
+pub mod Copying

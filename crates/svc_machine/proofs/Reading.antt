@@ -10,7 +10,7 @@ use Rattle.svc_core_laws.specs.Sequence.{plain_seq, IsSameSeq}
 use Rattle.svc_core_laws.specs.Words.{program}
 use Rattle.svc_bus_laws.specs.LineTable.{Line, LineTable, committed_value}
 use Rattle.svc_bus_laws.specs.Versioned.{Versioned}
-use Rattle.svc_bus_laws.specs.BusState.{unnumbered}
+use Rattle.svc_bus_laws.specs.BusState.{without_number}
 use Rattle.svc_bus_laws.specs.Sound.{IsSound}
 use Rattle.svc_machine_laws.specs.Guess.{guess, last_end}
 use Rattle.svc_machine_laws.specs.PlainMachine.{running, run_done}
@@ -24,7 +24,7 @@ use Rattle.svc_machine_laws.specs.Events.{place_in}
 use Rattle.svc_machine_laws.specs.Refusals.{seat_at}
 use Rattle.svc_machine.specs.declared.seat.Seat.{Seat}
 use Rattle.svc_machine.specs.Reads.{lease_from, lease_of}
-use Rattle.svc_machine.specs.Kept.{Parts, Kept, shown, whole_seat}
+use Rattle.svc_machine.specs.Kept.{Parts, Kept, machine_value, whole_seat}
 use Rattle.svc_machine.specs.Seats.{seat_end}
 use Rattle.svc_machine.proofs.Seats.{last_run, last_seat, place_is}
 
@@ -53,10 +53,10 @@ module _ (m : Parts) (kept : Kept m) where
   memory_read a = ap (λ (v : Versioned). v.committed a) kept.reached.lines.same_map ∙ same.memory a
 
 -- no line lies in a cache that there isn't
-pub no_line : (t : LineTable) (u a : ℕ) → IsSound t → t.caches ≤ u → unnumbered (t.lines u a) ≡ None
+pub no_line : (t : LineTable) (u a : ℕ) → IsSound t → t.caches ≤ u → without_number (t.lines u a) ≡ None
 no_line t u a sound out = of (t.lines u a) refl
   where
-    of : (o : Option Line) → t.lines u a ≡ o → unnumbered o ≡ None
+    of : (o : Option Line) → t.lines u a ≡ o → without_number o ≡ None
     of None h = refl
     of (Some l) h = absurd (let in_cache = (sound.sound_lines u a l h).cached in omega (arith, in_cache, out))
 
@@ -87,6 +87,6 @@ no_seat_read m kept seats same unit at =
 
 pub lease_read : (m : Parts) → Kept m → (seats : List Seat) → map whole_seat seats ≡ m.seats → (unit place : ℕ)
     → position (λ (s : Seat). s.lease.unit.0 == unit) seats ≡ Some place → (seat : Seat) → slice_get seats place ≡ Some seat
-    → lease_of (shown m) unit ≡ Some seat.lease
+    → lease_of (machine_value m) unit ≡ Some seat.lease
 lease_read m kept seats same unit place at seat here =
     ap (option_map lease_from) (seat_read m kept seats same unit place at ∙ ap (option_map whole_seat) here)

@@ -34,7 +34,7 @@ use Rattle.svc_machine_laws.specs.declared.reply.Cut.{Cut}
 use Rattle.svc_machine_laws.specs.declared.reply.Reply.{Reply}
 use Rattle.svc_machine_laws.specs.Refusals.{asked_word, full_set}
 use Rattle.svc_machine_laws.specs.MachineLaws.{IsWithin, Taken}
-use Rattle.svc_machine_laws.specs.Standing.{Standing, refused}
+use Rattle.svc_machine_laws.specs.Standing.{Standing, refusal_of}
 use Rattle.svc_machine.proofs.Seats.{place_is}
 use Rattle.svc_machine_laws.proofs.Accepted.{CanSubmit, can_submit, seat_places, seat_here}
 use Rattle.svc_machine_laws.proofs.Answering.{count}
@@ -57,7 +57,7 @@ use Rattle.svc_machine.specs.Admitted.{IsAdmitted}
 use Rattle.svc_machine.specs.Asked.{IsDone, refused_for}
 use Rattle.svc_machine.specs.declared.seat.Seat as declared
 use Rattle.svc_machine.specs.Value.{MachineValue, StandsAt}
-use Rattle.svc_machine.specs.Kept.{Parts, Kept, shown, whole_seat}
+use Rattle.svc_machine.specs.Kept.{Parts, Kept, machine_value, whole_seat}
 use Rattle.svc_machine.specs.Seats.{is_misled}
 use Rattle.svc_machine.proofs.Keeping.{IsAccepted, Moved, own_standing, stands, reached_with, seat_task}
 use Rattle.svc_machine.proofs.EditedSeats.{IsTurn, few_cut, seats_done, reply_done, commits_done, accepted_done, others_done}
@@ -384,9 +384,9 @@ module _ (m : Parts) (kept : Kept m) (b : Advance) (items : List declared.Seat) 
       its_task_runs t agrees = subst (λ u. RunsAt (observed m.bus) u t place) (sym its_unit) (runs_there m kept b.unit.0 place at_place t agrees)
 
       -- why the bus refuses what it asks is why the burst is refused
-      module _ (admitted : IsAdmitted (shown m) b) (a : Ask) (asks : a ≡ b.ask) where
+      module _ (admitted : IsAdmitted (machine_value m) b) (a : Ask) (asks : a ≡ b.ask) where
         pub refused_as : (o : Option Refusal) → o ≡ refused_for (observed m.bus) y.lease.unit.0 (asked_word m.image a)
-            → (s : Standing) → StandsAt (shown m) s → refused m.image m.config s (Submit b) ≡ o
+            → (s : Standing) → StandsAt (machine_value m) s → refusal_of m.image m.config s (Submit b) ≡ o
         refused_as o is_o s at =
             admitted s at
             ∙ sym (same_room (observed m.bus) s.lines b.unit.0 (asked_word m.image b.ask) at.lines)

@@ -10,7 +10,7 @@ use Rattle.svc_bus.specs.Observed.{observed}
 use Rattle.svc_machine_laws.specs.Events as laws
 use Rattle.svc_machine_laws.specs.Events.{Submit, seat_place}
 use Rattle.svc_machine_laws.specs.Refusals.{asked_word, full_set, refuse}
-use Rattle.svc_machine_laws.specs.Standing.{Standing, refused}
+use Rattle.svc_machine_laws.specs.Standing.{Standing, refusal_of}
 use Rattle.svc_machine.specs.declared.admit.Admitted.{Admitted}
 use Rattle.svc_machine.specs.declared.admit.Admitted.TheVariants as admitted
 use Rattle.svc_machine.specs.Refusing.{machine_at}
@@ -40,7 +40,8 @@ room_refusal img t b =
 
 -- no other case of the table of refusals holds for the burst
 abbrev pub IsAdmitted : MachineValue → Advance → Type 0
-IsAdmitted m b = (s : Standing) → StandsAt m s → refused m.image m.config s (Submit b) ≡ room_refusal m.image s.lines b
+IsAdmitted m b = (s : Standing) → StandsAt m s
+    → refusal_of m.image m.config s (Submit b) ≡ room_refusal m.image s.lines b
 
 -- why the bus still refuses what was admitted, if it does
 abbrev pub refused_yet : Image → LineTable → Admitted → Option Refusal

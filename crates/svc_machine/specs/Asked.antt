@@ -10,7 +10,7 @@ use Rattle.svc_image.specs.Image.{Image}
 use Rattle.svc_core_laws.specs.declared.ask.Ask.{Ask}
 use Rattle.svc_core_laws.specs.State.{State}
 use Rattle.svc_core_laws.specs.Program.{Memory, Want, Local, Load, Store, Narrow, Emit}
-use Rattle.svc_core_laws.specs.Words.{program, stored}
+use Rattle.svc_core_laws.specs.Words.{program, stored_word}
 use Rattle.svc_bus_laws.specs.Versioned.{Victim, view, victim_answer}
 use Rattle.svc_bus_laws.specs.LineTable.{LineTable, versioned_map}
 use Rattle.svc_bus_laws.specs.Steps.{read}
@@ -51,8 +51,8 @@ read_first store.Word t place a = t
 
 -- the whole word that it writes, given the word that it read
 abbrev pub word_written : StoreKind → (lane value old : ℕ) → ℕ
-word_written store.Byte lane value old = stored store.Byte lane value old
-word_written store.Half lane value old = stored store.Half lane value old
+word_written store.Byte lane value old = stored_word store.Byte lane value old
+word_written store.Half lane value old = stored_word store.Half lane value old
 word_written store.Word lane value old = value % 2 ^ 32
 
 -- who served its read, if it made one
@@ -61,7 +61,7 @@ served_first store.Byte t place a = Some (serves_at t place a)
 served_first store.Half t place a = Some (serves_at t place a)
 served_first store.Word t place a = None
 
--- a store of this value from this byte of the word on has its whole word
+-- a store of this value, from this byte of the word on, is ready to write its whole word
 pub record IsPrepared (t : LineTable) (unit place a : ℕ) (kind : StoreKind) (lane value : ℕ)
     (bus : BusState) (word : ℕ) (served : Option Served) : Type 0 where
   pub runs : RunsAt bus unit (read_first kind t place a) place
@@ -114,7 +114,8 @@ pub record IsDone (img : Image) (want : Option (Want State)) (t : LineTable) (pl
   pub table : Agrees bus (line_ask want t place)
   pub reply_is : reply ≡ asked_answer img want t place
 
--- a task at this core asked, and its turn wants this: the bus has refused it, and nothing has changed, or it was done
+-- a task at this core asked, and its turn wants this: the bus refused the turn and nothing has changed, or the turn was
+-- done
 pub record IsAnswered (img : Image) (core : State) (ask : Ask) (want : Option (Want State)) (old new : code.Seat)
     (old_bus new_bus : BusValue) (result : Result Reply Refusal) : Type 0 where
   pub refused : result_err result ≡ refused_for (observed old_bus) old.lease.unit.0 (asked_word img ask)

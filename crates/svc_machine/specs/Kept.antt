@@ -33,15 +33,15 @@ pub record Parts : Type 0 where
   pub stopped : Option End
 
 -- what contracts see of them
-abbrev pub shown : Parts → MachineValue
-shown m = record { image = m.image; config = m.config; plain = m.plain; bus = m.bus }
+abbrev pub machine_value : Parts → MachineValue
+machine_value m = record { image = m.image; config = m.config; plain = m.plain; bus = m.bus }
 
 -- a seat as the whole machine has it
 abbrev pub whole_seat : Seat → whole.Seat State
 whole_seat seat = record {
   unit = seat.lease.unit.0;
   epoch = seat.lease.epoch;
-  entry = seat.entry;
+  entry = seat.task_entry;
   core = seat.lease.core;
   waiting = seat.waiting.items;
 }

@@ -11,7 +11,7 @@ abbrev pub task_of : Seat → Task
 task_of seat = record {
   unit = seat.lease.unit.0;
   epoch = seat.lease.epoch;
-  entry = seat.entry;
+  entry = seat.task_entry;
   turns = seat.lease.core.count;
 }
 

@@ -11,8 +11,8 @@ use Rattle.svc_machine.specs.Value.{MachineValue, StandsAt}
 pub record IsStep (old new : MachineValue) (x : Event) (result : Result Reply Refusal) : Type 0 where
   -- it is refused exactly when the table of refusals says so, with the first refusal that applies
   pub refused : (s : Standing) → StandsAt old s → MatchResult result
-      (λ _. laws.refused old.image old.config s x ≡ None)
-      (λ e. laws.refused old.image old.config s x ≡ Some e)
+      (λ _. laws.refusal_of old.image old.config s x ≡ None)
+      (λ e. laws.refusal_of old.image old.config s x ≡ Some e)
   -- otherwise the reply is the plain machine's
   pub reply : (s : Standing) → StandsAt old s → IfOk result (λ r. r ≡ laws.reply_to old.image s x)
   -- and the machine stands where the event leads
@@ -23,11 +23,11 @@ pub record IsStep (old new : MachineValue) (x : Event) (result : Result Reply Re
 
 -- no case of the table of refusals holds
 abbrev pub Accepts : MachineValue → Event → Type 0
-Accepts m x = (s : Standing) → StandsAt m s → laws.refused m.image m.config s x ≡ None
+Accepts m x = (s : Standing) → StandsAt m s → laws.refusal_of m.image m.config s x ≡ None
 
 -- an accepted event
 pub record IsTaken (old new : MachineValue) (x : Event) (reply : Reply) : Type 0 where
   pub reply_is : (s : Standing) → StandsAt old s → reply ≡ laws.reply_to old.image s x
-  pub standing : (s : Standing) → StandsAt old s → StandsAt new (laws.stepped old.image s x)
+  pub standing : (s : Standing) → StandsAt old s → StandsAt new (laws.standing_after old.image s x)
   pub image : new.image ≡ old.image
   pub config : new.config ≡ old.config

@@ -12,7 +12,7 @@ ghost use Rattle.svc_bus.specs.Observed.{observed};
 ghost use Rattle.svc_machine_laws.specs.Events.{Assign, Cancel, Commit, Replace, Submit, seat_place};
 ghost use Rattle.svc_machine_laws.specs.Refusals.{history_full, is_current, no_unit, seat_at};
 ghost use Rattle.svc_machine_laws.specs.Refusals.{asked_word, first_case, full_set};
-ghost use Rattle.svc_machine_laws.specs.Standing.{Standing, refused};
+ghost use Rattle.svc_machine_laws.specs.Standing.{Standing, refusal_of};
 ghost use Rattle.svc_machine.specs.Admitted.{IsAdmission, IsFound, event_in, refusal_by};
 ghost use Rattle.svc_machine.specs.Events.{event_of};
 ghost use Rattle.svc_machine.specs.Kept.{whole_seat};
@@ -51,7 +51,7 @@ impl Machine {
     /// table holds too; otherwise the bus tests for it.
     pub(crate) fn admit<'a>(&self, event: Event<'a>) -> Result<Admitted<'a>, Refusal>
         ensures refused { (s : Standing) → StandsAt self.now s → refusal_by self.now.image s.lines result
-            ≡ refused self.now.image self.now.config s (event_of event.entry) }
+            ≡ refusal_of self.now.image self.now.config s (event_of event.entry) }
         ensures event { IfOk result (λ admitted. event_in admitted ≡ event_of event.entry) }
         ensures found { IfOk result (λ admitted. IsFound self.now admitted) }
     {

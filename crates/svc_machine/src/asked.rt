@@ -25,7 +25,7 @@ ghost use Rattle.svc_machine.specs.Kept.{whole_seat};
 use crate::seat::Seat;
 use svc_base::{Refusal, Served, UnitId, WordAddr};
 use svc_bus::{Bus, Victim};
-use svc_core::{Access, Core, load_place, loaded, store_place, stored};
+use svc_core::{Access, Core, load_place, loaded_value, store_place, stored_word};
 use svc_core_laws::Ask;
 use svc_image::Image;
 use svc_machine_laws::{Cause, Cut, Reply, What};
@@ -87,7 +87,7 @@ fn do_load(
         Ok(access) => {
             let addr = WordAddr(access.word);
             let (word, served) = bus.read(seat.lease.unit, addr)?;
-            let value = loaded(kind, access.lane, word);
+            let value = loaded_value(kind, access.lane, word);
             seat.lease.core = *core;
             seat.lease.core.finish_load(image, rd, value);
             Ok(without_cut(What::Loaded {
@@ -169,8 +169,8 @@ fn without_cut(what: What) -> Reply
     Reply { what, cut: None }
 }
 
-// The whole word that a store leaves, and who served the read that it takes: a store of less than a word reads the
-// whole word, and replaces these bytes of it.
+// The whole word that a store leaves. A store of less than a word reads the whole word and replaces these bytes of it;
+// the answer then says who served that read.
 //
 // Errors: the bus's, if there is no room for the word that is read. Then nothing changes.
 fn word_to_store(
@@ -194,7 +194,7 @@ fn word_to_store(
         StoreKind::Word => Ok((value, None)),
         _ => {
             let (old, served) = bus.read(unit, WordAddr(access.word))?;
-            Ok((stored(kind, access.lane, value, old), Some(served)))
+            Ok((stored_word(kind, access.lane, value, old), Some(served)))
         }
     }
 }

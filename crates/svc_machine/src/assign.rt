@@ -18,17 +18,21 @@ impl Machine {
     {
         let task = TaskNo(self.commits + self.seats.len() as u64);
         let epoch = self.epoch;
-        let entry = self.sequencer.assign(guess);
+        let task_entry = self.sequencer.assign(guess);
         self.bus.begin(unit);
         let _room = self.seats.push(Seat {
-            lease: Lease::new(unit, epoch, Core::start(&self.image, entry)),
-            entry,
+            lease: Lease::new(unit, epoch, Core::start(&self.image, task_entry)),
+            task_entry,
             waiting: ArrayVec::new(),
         });
         self.epoch += 1;
         self.accepted += 1;
         Reply {
-            what: What::Assigned { task, entry, epoch },
+            what: What::Assigned {
+                task,
+                entry: task_entry,
+                epoch,
+            },
             cut: None,
         }
     }

@@ -12,6 +12,7 @@ mod assign;
 mod cancel;
 mod check;
 mod commit;
+mod copy;
 pub mod event;
 pub mod machine;
 mod reads;

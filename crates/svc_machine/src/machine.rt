@@ -95,8 +95,7 @@ fn with_room<T>(alloc: Global, count: u32) -> Result<Vec<T>, OpenError>
 }
 
 impl Machine {
-    /// A machine before any event. It allocates all that it will ever need; no other call of it
-    /// takes memory.
+    /// A machine before any event. It allocates all that it will ever need; no other call takes memory.
     ///
     /// Errors: [`OpenError::Memory`].
     pub fn open(alloc: Global, image: Image, config: Config) -> Result<Machine, OpenError>

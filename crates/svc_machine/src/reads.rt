@@ -7,7 +7,7 @@ ghost use Rattle.svc_core_laws.specs.Bytes.{word_at};
 ghost use Rattle.svc_core_laws.specs.Sequence.{plain_seq, ending_of};
 ghost use Rattle.svc_core_laws.specs.Turns.{data_words};
 ghost use Rattle.svc_core_laws.specs.Words.{program};
-ghost use Rattle.svc_bus_laws.specs.BusState.{unnumbered};
+ghost use Rattle.svc_bus_laws.specs.BusState.{without_number};
 ghost use Rattle.svc_bus_laws.specs.BusView.{bus_newest};
 ghost use Rattle.svc_bus.specs.Observed.{observed};
 ghost use Rattle.svc_bus.specs.Calls.{line_shown};
@@ -124,7 +124,7 @@ impl Machine {
     /// The bits and the value of the unit's valid line of the word.
     pub fn line_at(&self, unit: UnitId, addr: WordAddr) -> Option<(LineBits, u32)>
         ensures line { (s : Standing) → StandsAt self.now s
-            → option_map line_shown result ≡ unnumbered (s.lines.lines unit.0 addr.0) }
+            → option_map line_shown result ≡ without_number (s.lines.lines unit.0 addr.0) }
         ensures valid { IfSome result (λ line. (bits_of line.0).valid ≡ true) }
     {
         if u32::from(unit.0) >= self.config.units {

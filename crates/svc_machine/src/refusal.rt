@@ -4,7 +4,7 @@ ghost use Rattle.std.specs.Prelude.{◌≡◌, ◌<◌};
 ghost use Rattle.svc_bus_laws.specs.BusState.{Agrees};
 ghost use Rattle.svc_bus_laws.specs.LineTable.{LineTable};
 ghost use Rattle.svc_bus.specs.Observed.{observed};
-ghost use Rattle.svc_machine_laws.specs.Standing.{Standing, refused};
+ghost use Rattle.svc_machine_laws.specs.Standing.{Standing, refusal_of};
 ghost use Rattle.svc_machine.specs.Admitted.{IsFound, refused_yet, room_refusal};
 ghost use Rattle.svc_machine.specs.Events.{event_of};
 ghost use Rattle.svc_machine.specs.Value.{StandsAt};
@@ -19,7 +19,7 @@ impl Machine {
     /// Why the event would be refused, if it would be: exactly the refusal that the table of refusals has for it.
     pub fn refusal(&self, event: Event<'_>) -> Option<Refusal>
         ensures { (s : Standing) → StandsAt self.now s
-            → result ≡ refused self.now.image self.now.config s (event_of event.entry) }
+            → result ≡ refusal_of self.now.image self.now.config s (event_of event.entry) }
     {
         match self.admit(event) {
             Ok(admitted) => self.refused_yet(admitted),

@@ -13,11 +13,11 @@ use svc_core_laws::End;
 /// The seat of an active task.
 #[derive(Drop)]
 pub(crate) struct Seat {
-    /// What its unit runs it on from: that unit, the epoch of its assignment, which no other assignment has, and its
-    /// current core.
+    /// What its unit runs it on from: that unit, the epoch of its assignment (no other assignment has that epoch), and
+    /// its current core.
     pub(crate) lease: Lease,
     /// The entry at which it began.
-    pub(crate) entry: u32,
+    pub(crate) task_entry: u32,
     /// The words that it has output, which wait for its commit.
     pub(crate) waiting: ArrayVec<u32, MAX_TASK_OUTPUT>,
 }

@@ -41,7 +41,7 @@ impl Machine {
         let seat = self.seats.get(place)?;
         Some(ActiveTask {
             unit: seat.lease.unit,
-            entry: seat.entry,
+            entry: seat.task_entry,
             turns: seat.lease.core.count(),
             done: seat.lease.core.done(),
         })
@@ -56,10 +56,10 @@ impl Machine {
     }
 
     /// The head's version of the word whose line was replaced, if any.
-    pub fn spilled(&self, addr: WordAddr) -> Option<u32>
+    pub fn spilled_version(&self, addr: WordAddr) -> Option<u32>
         requires in_data { addr.0 < data_words self.now.image }
         ensures { (s : Standing) → StandsAt self.now s → result ≡ s.lines.spill addr.0 }
     {
-        self.bus.spilled(addr)
+        self.bus.spilled_version(addr)
     }
 }

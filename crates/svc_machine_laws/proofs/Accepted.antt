@@ -18,7 +18,7 @@ use Rattle.svc_machine_laws.specs.PlainMachine.{Running, running, unit_of}
 use Rattle.svc_machine_laws.specs.WholeMachine.{Seat, Machine, machine_of, seat_of, seat_unit}
 use Rattle.svc_machine_laws.specs.Events.{Event, Assign, Submit, Replace, Cancel, Commit, place_in, task_place, seat_place}
 use Rattle.svc_machine_laws.specs.Refusals.{seat_at, is_current, has_ended, cases_of, first_case, refuse, full_set, asked_word}
-use Rattle.svc_machine_laws.specs.Standing.{Standing, refused}
+use Rattle.svc_machine_laws.specs.Standing.{Standing, refusal_of}
 use Rattle.svc_machine_laws.proofs.Cases.{no_case, some_of, none_of}
 use Rattle.svc_machine_laws.proofs.Parts.{and_right}
 use Rattle.svc_machine_laws.proofs.Places.{found}
@@ -68,8 +68,8 @@ module _ (img : Image) (config : Config) (s : Standing) where
   abbrev m : Machine State
   m = machine_of (program img) s.plain
 
-  cases : (x : Event) → refused img config s x ≡ None → first_case (cases_of img config m s.lines x) ≡ None
-  unfolding refused refuse
+  cases : (x : Event) → refusal_of img config s x ≡ None → first_case (cases_of img config m s.lines x) ≡ None
+  unfolding refusal_of refuse
   cases x h = h
 
   -- the units of the seats are those of the tasks
@@ -89,7 +89,7 @@ module _ (img : Image) (config : Config) (s : Standing) where
       of (Some x) h at = (x, refl)
       of None h at = absurd (none-some unit (sym (ap (option_map (λ (z : Seat State). z.unit)) (ap (option_map seat_of) h)) ∙ sym (ap (option_map (λ (z : Seat State). z.unit)) (seat_here q)) ∙ sym (slice_get-map seat_unit m.seats q) ∙ at))
 
-  pub can_assign : (unit guess : ℕ) → refused img config s (Assign unit guess) ≡ None → CanAssign img config s unit guess
+  pub can_assign : (unit guess : ℕ) → refusal_of img config s (Assign unit guess) ≡ None → CanAssign img config s unit guess
   can_assign unit guess h =
       let off = no_case (cases_of img config m s.lines (Assign unit guess)) (cases (Assign unit guess) h) in
       record {
@@ -100,7 +100,7 @@ module _ (img : Image) (config : Config) (s : Standing) where
         room = below s.plain.accepted config.events (off 4);
       }
 
-  pub can_submit : (b : Advance) → refused img config s (Submit b) ≡ None → CanSubmit img config s b
+  pub can_submit : (b : Advance) → refusal_of img config s (Submit b) ≡ None → CanSubmit img config s b
   can_submit b h =
       let off = no_case (cases_of img config m s.lines (Submit b)) (cases (Submit b) h) in
       let spot = some_of (seat_place m b.unit.0) (off 1) in
@@ -123,12 +123,12 @@ module _ (img : Image) (config : Config) (s : Standing) where
         some = off 7;
       }
 
-  pub can_replace : (unit a : ℕ) → refused img config s (Replace unit a) ≡ None → CanReplace config s unit a
+  pub can_replace : (unit a : ℕ) → refusal_of img config s (Replace unit a) ≡ None → CanReplace config s unit a
   can_replace unit a h =
       let off = no_case (cases_of img config m s.lines (Replace unit a)) (cases (Replace unit a) h) in
       record { unpinned = off 3; room = below s.plain.accepted config.events (off 4) }
 
-  pub can_cancel : (unit : ℕ) → refused img config s (Cancel unit) ≡ None → CanCancel config s unit
+  pub can_cancel : (unit : ℕ) → refusal_of img config s (Cancel unit) ≡ None → CanCancel config s unit
   can_cancel unit h =
       let off = no_case (cases_of img config m s.lines (Cancel unit)) (cases (Cancel unit) h) in
       let spot = some_of (seat_place m unit) (off 1) in
@@ -139,7 +139,7 @@ module _ (img : Image) (config : Config) (s : Standing) where
         room = below s.plain.accepted config.events (off 3);
       }
 
-  pub can_commit : (by : ℕ) → refused img config s (Commit by) ≡ None → CanCommit img config s
+  pub can_commit : (by : ℕ) → refusal_of img config s (Commit by) ≡ None → CanCommit img config s
   can_commit by h =
       let off = no_case (cases_of img config m s.lines (Commit by)) (cases (Commit by) h) in
       of (slice_get (running (program img) s.plain) 0) refl (off 1) (off 2) (off 3) (off 4)

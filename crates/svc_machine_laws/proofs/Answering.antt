@@ -18,7 +18,7 @@ use Rattle.svc_machine_laws.specs.WholeMachine.{machine_of, seat_of, seat_entry,
 use Rattle.svc_machine_laws.specs.MachineLaws.{Taken}
 use Rattle.svc_machine_laws.specs.Events.{Event, Assign, Submit, Replace, Cancel, Commit, IsEvent, asked_want}
 use Rattle.svc_machine_laws.specs.Replies.{turn_done, turn_cut, cut_from, reply_to_commit, reply_to_cancel, serves_at, whole_asked, whole_submitted, whole_cancelled, whole_committed, whole_reply, plain_asked_of, plain_asked, plain_submitted, plain_cancelled, plain_committed, plain_reply}
-use Rattle.svc_machine_laws.specs.Standing.{Standing, refused}
+use Rattle.svc_machine_laws.specs.Standing.{Standing, refusal_of}
 use Rattle.svc_machine_laws.proofs.Given.{Given}
 use Rattle.svc_machine_laws.proofs.Accepted.{can_submit, can_cancel, seat_places}
 use Rattle.svc_machine_laws.proofs.Anew.{runs_at, view_at}
@@ -91,7 +91,7 @@ module _ (img : Image) (given : Given img) (config : Config) (s : Standing) wher
   p = program img
 
   -- THE REPLY
-  pub reply_is : (x : Event) → IsEvent x → refused img config s x ≡ None → whole_reply img (machine_of p s.plain) s.lines x ≡ plain_reply img s.plain s.lines x
+  pub reply_is : (x : Event) → IsEvent x → refusal_of img config s x ≡ None → whole_reply img (machine_of p s.plain) s.lines x ≡ plain_reply img s.plain s.lines x
   unfolding whole_reply plain_reply
   reply_is (Assign unit guess) is h =
       ap₂ (λ n l. record { what = what.Assigned (record { 0 = s.plain.commits + n }) (entry_for (seq p s.plain.commits).due l guess) s.plain.epoch; cut = None })

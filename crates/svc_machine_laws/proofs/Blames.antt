@@ -22,7 +22,7 @@ use Rattle.svc_machine_laws.specs.WholeMachine.{Machine, machine_of}
 use Rattle.svc_machine_laws.specs.MachineLaws.{HasEnded}
 use Rattle.svc_machine_laws.specs.Events.{Event, Assign, Submit, Replace, Cancel, Commit, IsEvent, asked_want, task_place}
 use Rattle.svc_machine_laws.specs.Replies.{turn_cut, cut_from, whole_asked, whole_submitted, whole_reply, plain_cancelled, plain_committed, plain_reply, wrong_guess}
-use Rattle.svc_machine_laws.specs.Standing.{Standing, refused, reply_to}
+use Rattle.svc_machine_laws.specs.Standing.{Standing, refusal_of, reply_to}
 use Rattle.svc_machine_laws.specs.Reached.{IsReached}
 use Rattle.svc_machine_laws.specs.Blame.{Writes, IsBlamed, Misleads}
 use Rattle.svc_machine_laws.proofs.Given.{Given}
@@ -168,7 +168,7 @@ checked_blame img s b place at r cut turn true e h =
     }))
 
 -- EVERY CUT of an accepted event
-pub blamed : (img : Image) → Given img → (config : Config) (s : Standing) → IsReached img config s → (x : Event) → IsEvent x → refused img config s x ≡ None
+pub blamed : (img : Image) → Given img → (config : Config) (s : Standing) → IsReached img config s → (x : Event) → IsEvent x → refusal_of img config s x ≡ None
     → (cut : Cut) → (reply_to img s x).cut ≡ Some cut → IsBlamed img s.plain x cut
 unfolding reply_to plain_reply whole_reply
 blamed img given config s reached (Assign unit guess) is ok cut h = absurd (none-some cut h)

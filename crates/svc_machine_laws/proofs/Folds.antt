@@ -14,7 +14,7 @@ use Rattle.svc_bus_laws.proofs.OpenedLaws.{opened_law}
 use Rattle.svc_machine_laws.specs.PlainMachine.{Task, Plain, Running, runs_of, running}
 use Rattle.svc_machine_laws.specs.PlainMachine as plain
 use Rattle.svc_machine_laws.specs.Events.{Event, Assign, Submit, Replace, Cancel, Commit, IsEvent, plain_event, plain_submit, plain_cancel}
-use Rattle.svc_machine_laws.specs.Standing.{Standing, Whole, whole_of, opened_at, whole_opened, refused, whole_refuse, stepped, whole_stepped, after_event, whole_after_event, after_events, whole_after_events, accepted_commits, is_commit, unless}
+use Rattle.svc_machine_laws.specs.Standing.{Standing, Whole, whole_of, opened_at, whole_opened, refusal_of, whole_refuse, standing_after, whole_after, after_event, whole_after_event, after_events, whole_after_events, accepted_commits, is_commit, unless}
 use Rattle.svc_machine_laws.specs.Reached.{IsReached, AreItsLines}
 use Rattle.svc_machine_laws.specs.Headline.{IsSequential}
 use Rattle.std.proofs.Common.{is_some}
@@ -26,8 +26,8 @@ use Rattle.svc_machine_laws.proofs.MachineEvents.{machine_event}
 use Rattle.svc_machine_laws.proofs.Standings.{event_reached}
 
 -- the refusals of a standing are those of its whole machine
-refusal_is : (img : Image) (config : Config) (s : Standing) (x : Event) → refused img config s x ≡ whole_refuse img config (whole_of img s) x
-unfolding refused
+refusal_is : (img : Image) (config : Config) (s : Standing) (x : Event) → refusal_of img config s x ≡ whole_refuse img config (whole_of img s) x
+unfolding refusal_of
 refusal_is img config s x = refl
 
 module _ (img : Image) (given : Given img) (config : Config) where
@@ -36,13 +36,13 @@ module _ (img : Image) (given : Given img) (config : Config) where
 
   -- AN EVENT of the whole machine
   pub whole_event_is : (s : Standing) → IsReached img config s → (x : Event) → IsEvent x → whole_of img (after_event img config s x) ≡ whole_after_event img config (whole_of img s) x
-  unfolding after_event whole_after_event stepped whole_stepped
+  unfolding after_event whole_after_event standing_after whole_after
   whole_event_is s reached x is =
-      split (refused img config s x) refl ∙ ap (λ o. unless o (whole_of img s) (whole_stepped img (whole_of img s) x)) (refusal_is img config s x)
+      split (refusal_of img config s x) refl ∙ ap (λ o. unless o (whole_of img s) (whole_after img (whole_of img s) x)) (refusal_is img config s x)
     where
-      split : (o : Option Refusal) → refused img config s x ≡ o → whole_of img (unless o s (stepped img s x)) ≡ unless o (whole_of img s) (whole_stepped img (whole_of img s) x)
+      split : (o : Option Refusal) → refusal_of img config s x ≡ o → whole_of img (unless o s (standing_after img s x)) ≡ unless o (whole_of img s) (whole_after img (whole_of img s) x)
       split (Some r) h = refl
-      split None h = ap {B = Whole} (λ m. record { machine = m; lines = (stepped img s x).lines }) (machine_event img given config s reached x is h)
+      split None h = ap {B = Whole} (λ m. record { machine = m; lines = (standing_after img s x).lines }) (machine_event img given config s reached x is h)
 
   -- EVERY LIST OF EVENTS
   pub events_reached : (s : Standing) (xs : List Event) → AllByRecursion IsEvent xs → IsReached img config s → IsReached img config (after_events img config s xs)
@@ -62,8 +62,8 @@ module _ (img : Image) (given : Given img) (config : Config) where
   commit_one s [] x h = absurd (none-some x h)
   commit_one s (t ∷ ts) x h = refl
 
-  pub step_commits : (s : Standing) (x : Event) → refused img config s x ≡ None → (stepped img s x).plain.commits ≡ is_commit x + s.plain.commits
-  unfolding stepped plain_event
+  pub step_commits : (s : Standing) (x : Event) → refusal_of img config s x ≡ None → (standing_after img s x).plain.commits ≡ is_commit x + s.plain.commits
+  unfolding standing_after plain_event
   step_commits s (Assign unit guess) h = sym (zero-add s.plain.commits)
   step_commits s (Submit b) h = let can = can_submit img config s b h in ap (λ o. (plain_submit img s.plain o b).commits) can.at ∙ check_commits p (plain.submit p s.plain can.place b.local (is_some (asked_want img b))) can.place ∙ sym (zero-add s.plain.commits)
   step_commits s (Replace unit a) h = sym (zero-add s.plain.commits)
@@ -75,9 +75,9 @@ module _ (img : Image) (given : Given img) (config : Config) where
 
   event_commits : (s : Standing) (x : Event) → (after_event img config s x).plain.commits ≡ unless (whole_refuse img config (whole_of img s) x) 0 (is_commit x) + s.plain.commits
   unfolding after_event
-  event_commits s x = split (refused img config s x) refl ∙ ap (λ o. unless o 0 (is_commit x) + s.plain.commits) (refusal_is img config s x)
+  event_commits s x = split (refusal_of img config s x) refl ∙ ap (λ o. unless o 0 (is_commit x) + s.plain.commits) (refusal_is img config s x)
     where
-      split : (o : Option Refusal) → refused img config s x ≡ o → (unless o s (stepped img s x)).plain.commits ≡ unless o 0 (is_commit x) + s.plain.commits
+      split : (o : Option Refusal) → refusal_of img config s x ≡ o → (unless o s (standing_after img s x)).plain.commits ≡ unless o 0 (is_commit x) + s.plain.commits
       split (Some r) h = sym (zero-add s.plain.commits)
       split None h = step_commits s x h
 

@@ -11,7 +11,7 @@ use Rattle.svc_machine_laws.specs.PlainMachine.{Running}
 use Rattle.svc_machine_laws.specs.WholeMachine.{machine_of}
 use Rattle.svc_machine_laws.specs.Events.{Event, Assign, Submit, Replace, Cancel, Commit, IsEvent, asked_want, plain_submit, plain_cancel, whole_submit, whole_cancel, plain_event, whole_event}
 use Rattle.svc_machine_laws.specs.MachineLaws.{Taken, HasEnded}
-use Rattle.svc_machine_laws.specs.Standing.{Standing, refused}
+use Rattle.svc_machine_laws.specs.Standing.{Standing, refusal_of}
 use Rattle.svc_machine_laws.specs.Reached.{IsReached}
 use Rattle.svc_machine_laws.proofs.Given.{Given}
 use Rattle.svc_machine_laws.proofs.Wants.{asked_next}
@@ -38,7 +38,7 @@ module _ (img : Image) (given : Given img) (config : Config) (s : Standing) wher
   pub head_ended : CanCommit img config s → HasEnded (program img) s.plain
   head_ended can = record { end = can.end; is = λ x h. ap (λ (r : Running State). r.run.core.done) (same_Some x can.run (sym h ∙ can.here)) ∙ can.ended }
 
-  pub machine_event : IsReached img config s → (x : Event) → IsEvent x → refused img config s x ≡ None
+  pub machine_event : IsReached img config s → (x : Event) → IsEvent x → refusal_of img config s x ≡ None
       → machine_of (program img) (plain_event img s.plain x) ≡ whole_event img (machine_of (program img) s.plain) x
   unfolding plain_event whole_event
   machine_event reached (Assign unit guess) is h = assign_step (program img) s.plain unit guess

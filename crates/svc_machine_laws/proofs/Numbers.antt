@@ -19,8 +19,8 @@ use Rattle.svc_machine_laws.specs.WholeMachine.{Machine, Seat, machine_of, seat_
 use Rattle.svc_machine_laws.specs.MachineLaws.{Taken}
 use Rattle.svc_machine_laws.specs.Events.{Event, Assign, Submit, Replace, Cancel, Commit, IsEvent, task_place, asked_want, plain_event, plain_submit, plain_cancel}
 use Rattle.svc_machine_laws.specs.Replies.{turn_cut, cut_from, wrong_guess, whole_asked, whole_submitted, whole_reply, plain_cancelled, plain_committed, plain_reply}
-use Rattle.svc_machine_laws.specs.Standing.{Standing, refused, stepped, reply_to, is_commit}
-use Rattle.svc_machine_laws.specs.Blame.{tasks_cut, begun}
+use Rattle.svc_machine_laws.specs.Standing.{Standing, refusal_of, standing_after, reply_to, is_commit}
+use Rattle.svc_machine_laws.specs.Blame.{tasks_cut, tasks_begun}
 use Rattle.svc_machine_laws.proofs.Given.{Given}
 use Rattle.svc_machine_laws.proofs.Accepted.{can_submit, can_cancel, can_commit, seat_places}
 use Rattle.svc_machine_laws.specs.Replies.{reply_after_check, plain_asked, plain_submitted}
@@ -106,9 +106,9 @@ commit_cuts p s (t ∷ ts) x here =
     let r = rest_cuts s.commits (stays (p.done (part p t.entry t.turns (seq p s.commits).memory).core) (map entry_of ts)) ts in
     omega (arith, r)
 
-pub all_counted : (img : Image) → Given img → (config : Config) (s : Standing) (x : Event) → IsEvent x → refused img config s x ≡ None
-    → length (stepped img s x).plain.tasks + tasks_cut (reply_to img s x).cut + is_commit x ≡ length s.plain.tasks + begun x
-unfolding stepped plain_event reply_to plain_reply whole_reply
+pub all_counted : (img : Image) → Given img → (config : Config) (s : Standing) (x : Event) → IsEvent x → refusal_of img config s x ≡ None
+    → length (standing_after img s x).plain.tasks + tasks_cut (reply_to img s x).cut + is_commit x ≡ length s.plain.tasks + tasks_begun x
+unfolding standing_after plain_event reply_to plain_reply whole_reply
 all_counted img given config s (Assign unit guess) is ok =
     let n : length (plain.assign (program img) s.plain unit guess).tasks ≡ length s.plain.tasks + 1 = length-append s.plain.tasks _ in
     omega (arith, n)

@@ -22,7 +22,7 @@ use Rattle.svc_machine_laws.proofs.Submits.{submit_step}
 use Rattle.svc_machine_laws.specs.Events.{Event, Assign, Submit, Replace, Cancel, Commit, IsEvent, place_in, task_place, asked_want, plain_event, plain_submit, plain_cancel}
 use Rattle.svc_machine_laws.specs.LineEvents.{line_event, line_ask, line_check, line_submit, line_cancel, line_commit}
 use Rattle.svc_machine_laws.specs.MachineLaws.{Taken, HasEnded, IsWithin}
-use Rattle.svc_machine_laws.specs.Standing.{Standing, refused, stepped, after_event, unless}
+use Rattle.svc_machine_laws.specs.Standing.{Standing, refusal_of, standing_after, after_event, unless}
 use Rattle.svc_machine_laws.specs.Reached.{IsReached, BeganAtEntry}
 use Rattle.svc_machine_laws.proofs.Given.{Given}
 use Rattle.svc_machine_laws.proofs.Wants.{asked_within, asked_counts}
@@ -189,8 +189,8 @@ module _ (img : Image) (given : Given img) (config : Config) (s : Standing) (rea
       least (t ∷ ts) = let h = can.room in omega (arith, h)
 
   -- AN ACCEPTED EVENT
-  pub step_reached : (x : Event) → IsEvent x → refused img config s x ≡ None → IsReached img config (stepped img s x)
-  unfolding stepped plain_event line_event
+  pub step_reached : (x : Event) → IsEvent x → refusal_of img config s x ≡ None → IsReached img config (standing_after img s x)
+  unfolding standing_after plain_event line_event
   step_reached (Assign unit guess) is h = after_assign unit guess (can_assign img config s unit guess h)
   step_reached (Submit b) is h =
       let can = can_submit img config s b h in
@@ -212,8 +212,8 @@ module _ (img : Image) (given : Given img) (config : Config) (s : Standing) (rea
   -- AN EVENT, accepted or not
   pub event_reached : (x : Event) → IsEvent x → IsReached img config (after_event img config s x)
   unfolding after_event
-  event_reached x is = split (refused img config s x) refl
+  event_reached x is = split (refusal_of img config s x) refl
     where
-      split : (o : Option Refusal) → refused img config s x ≡ o → IsReached img config (unless o s (stepped img s x))
+      split : (o : Option Refusal) → refusal_of img config s x ≡ o → IsReached img config (unless o s (standing_after img s x))
       split (Some r) h = reached
       split None h = step_reached x is h

@@ -20,7 +20,7 @@ use Rattle.svc_machine_laws.specs.WholeMachine.{machine_of, memory_seen}
 use Rattle.svc_machine_laws.specs.MachineLaws.{Taken, HasEnded}
 use Rattle.svc_machine_laws.specs.Events.{Event, Assign, Submit, Replace, Cancel, Commit, IsEvent, task_place, asked_want, plain_event, plain_submit, plain_cancel}
 use Rattle.svc_machine_laws.specs.Replies.{turn_done, serves_at, whole_asked, whole_submitted, whole_reply, plain_committed, plain_reply}
-use Rattle.svc_machine_laws.specs.Standing.{Standing, refused, stepped, reply_to}
+use Rattle.svc_machine_laws.specs.Standing.{Standing, refusal_of, standing_after, reply_to}
 use Rattle.svc_machine_laws.specs.Reached.{IsReached}
 use Rattle.svc_machine_laws.specs.Logs.{TaskLog, log_of, logs_of, action_of, plus, adds, AddsItsAnswer, CommitsAnswers, LogsFollow, TellsTheEnd}
 use Rattle.svc_machine_laws.proofs.Given.{Given}
@@ -120,9 +120,9 @@ commit_tasks_logs {C} p good k a e (t ∷ ts) x ended here due done =
     left true m = refl
     left false m = refl
 
-pub logs_follow : (img : Image) → Given img → (config : Config) (s : Standing) → IsReached img config s → (x : Event) → IsEvent x → refused img config s x ≡ None
-    → LogsFollow (program img) s.plain (stepped img s x).plain x (reply_to img s x).what
-unfolding stepped plain_event reply_to plain_reply whole_reply
+pub logs_follow : (img : Image) → Given img → (config : Config) (s : Standing) → IsReached img config s → (x : Event) → IsEvent x → refusal_of img config s x ≡ None
+    → LogsFollow (program img) s.plain (standing_after img s x).plain x (reply_to img s x).what
+unfolding standing_after plain_event reply_to plain_reply whole_reply
 logs_follow img given config s reached (Assign unit guess) is ok = assign_logs (program img) s.plain unit guess
 logs_follow img given config s reached (Submit b) is ok =
     let p : Program State = program img in
@@ -163,7 +163,7 @@ commit_tasks_end {C} p good k (t ∷ ts) x ended here due done =
       tells = ap (λ o. what.Committed (record { 0 = k }) (unwrap_or o (end.Next 0))) over_is;
     }
 
-pub commit_tells_the_end : (img : Image) → Given img → (config : Config) (s : Standing) → IsReached img config s → (by : ℕ) → refused img config s (Commit by) ≡ None
+pub commit_tells_the_end : (img : Image) → Given img → (config : Config) (s : Standing) → IsReached img config s → (by : ℕ) → refusal_of img config s (Commit by) ≡ None
     → TellsTheEnd (program img) s.plain.commits (reply_to img s (Commit by)).what
 unfolding reply_to plain_reply
 commit_tells_the_end img given config s reached by ok =

@@ -16,10 +16,10 @@ use Rattle.svc_core_laws.specs.State.{State}
 use Rattle.svc_core_laws.specs.Local.{TurnOutcome, ends, goes_on, sets}
 use Rattle.svc_core_laws.specs.Local as out
 use Rattle.svc_core_laws.specs.Numbers.{load_bytes, store_bytes}
-use Rattle.svc_core_laws.specs.Turns.{data_words, data_start, word_address, access_trap, unless_read_only, store_trap, arrived_if, arrived, arrives, outputs, next}
+use Rattle.svc_core_laws.specs.Turns.{data_words, data_start, word_address, access_trap, unless_read_only, store_trap, entry_test_if, entry_test, arrives, outputs, next}
 use Rattle.svc_core_laws.specs.Program.{Want, Local, Load, Store, Narrow, Emit}
-use Rattle.svc_core_laws.specs.Words.{wanted, wants, wants_load, wants_store, wants_write}
-use Rattle.svc_core_laws.specs.Bursts.{Advance, Means, shown, is_nothing}
+use Rattle.svc_core_laws.specs.Words.{outcome_want, wants, wants_load, wants_store, wants_write}
+use Rattle.svc_core_laws.specs.Bursts.{Advance, Means, burst_outcome, is_nothing}
 use Rattle.svc_machine_laws.specs.MachineLaws.{IsWithin}
 use Rattle.svc_machine_laws.specs.Events.{want_of, asked_want}
 use Rattle.svc_machine_laws.specs.LineEvents.{word_of}
@@ -57,7 +57,7 @@ store_some store.Half = omega arith
 store_some store.Word = omega arith
 
 -- the wanted word is one of the data
-pub wanted_within : (img : Image) (s : State) (o : TurnOutcome) → IsWithin (data_words img) (wanted img s o)
+pub wanted_within : (img : Image) (s : State) (o : TurnOutcome) → IsWithin (data_words img) (outcome_want img s o)
 wanted_within img s (out.Local c) = tt
 wanted_within img s (out.Load kind rd addr) = by (access_trap (data_words img) (load_bytes kind) addr) refl
   where
@@ -84,16 +84,16 @@ LeavesCount n (Store a w c) = c.count ≡ n
 LeavesCount n (Narrow a f c) = c.count ≡ n
 LeavesCount n (Emit w c) = c.count ≡ n
 
-arrived_counts : (entry : Bool) (s : State) → (arrived entry s).count ≡ s.count
-unfolding arrived
+arrived_counts : (entry : Bool) (s : State) → (entry_test entry s).count ≡ s.count
+unfolding entry_test
 arrived_counts true s = by s.done
   where
-    by : (d : Option End) → (arrived_if true s d).count ≡ s.count
+    by : (d : Option End) → (entry_test_if true s d).count ≡ s.count
     by None = refl
     by (Some e) = refl
 arrived_counts false s = by s.done
   where
-    by : (d : Option End) → (arrived_if false s d).count ≡ s.count
+    by : (d : Option End) → (entry_test_if false s d).count ≡ s.count
     by None = refl
     by (Some e) = refl
 
@@ -136,11 +136,11 @@ pub asked_next : (img : Image) (b : Advance) → Means img b → (w : Want State
 unfolding wants
 asked_next img b m w h = by b.ask m.ask h
   where
-    by : (a : Ask) → (is_nothing a ≡ false → next img b.end ≡ shown b.end a) → want_of img b.end a ≡ Some w → wanted img b.end (next img b.end) ≡ w
+    by : (a : Ask) → (is_nothing a ≡ false → next img b.end ≡ burst_outcome b.end a) → want_of img b.end a ≡ Some w → outcome_want img b.end (next img b.end) ≡ w
     by ask.Nothing n h = absurd (none-some w h)
-    by (ask.Load kind rd addr) n h = ap (wanted img b.end) (n refl) ∙ same_Some _ w h
-    by (ask.Store kind addr v) n h = ap (wanted img b.end) (n refl) ∙ same_Some _ w h
-    by (ask.Emit e) n h = ap (wanted img b.end) (n refl) ∙ same_Some _ w h
+    by (ask.Load kind rd addr) n h = ap (outcome_want img b.end) (n refl) ∙ same_Some _ w h
+    by (ask.Store kind addr v) n h = ap (outcome_want img b.end) (n refl) ∙ same_Some _ w h
+    by (ask.Emit e) n h = ap (outcome_want img b.end) (n refl) ∙ same_Some _ w h
 
 -- the word that an ask wants is the asked word
 load_word : (img : Image) (s : State) (kind : LoadKind) (rd : Register) (addr : ℕ) (t : Option ℕ) → word_of (wants_load img s kind rd addr t) ≡ word_unless t addr

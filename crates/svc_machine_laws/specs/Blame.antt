@@ -100,9 +100,9 @@ tasks_cut None = 0
 tasks_cut (Some cut) = cut.tasks
 
 -- how many tasks an accepted event begins, and how many it commits
-abbrev pub begun : Event → ℕ
-begun (Assign unit guess) = 1
-begun (Submit b) = 0
-begun (Replace unit address) = 0
-begun (Cancel unit) = 0
-begun (Commit by) = 0
+abbrev pub tasks_begun : Event → ℕ
+tasks_begun (Assign unit guess) = 1
+tasks_begun (Submit b) = 0
+tasks_begun (Replace unit address) = 0
+tasks_begun (Cancel unit) = 0
+tasks_begun (Commit by) = 0

@@ -5,8 +5,8 @@ use Rattle.svc_core_laws.specs.declared.ask.Ask.{Ask}
 use Rattle.svc_core_laws.specs.declared.ask.Ask.TheVariants as ask
 use Rattle.svc_core_laws.specs.State.{State}
 use Rattle.svc_core_laws.specs.Program.{Want}
-use Rattle.svc_core_laws.specs.Words.{program, wanted}
-use Rattle.svc_core_laws.specs.Bursts.{Advance, Follows, shown}
+use Rattle.svc_core_laws.specs.Words.{program, outcome_want}
+use Rattle.svc_core_laws.specs.Bursts.{Advance, Follows, burst_outcome}
 use Rattle.svc_machine_laws.specs.PlainMachine.{Plain, unit_of}
 use Rattle.svc_machine_laws.specs.PlainMachine as plain
 use Rattle.svc_machine_laws.specs.WholeMachine.{Machine, seat_unit}
@@ -47,9 +47,9 @@ seat_place m unit = place_in (map seat_unit m.seats) unit
 -- what an asked turn at this core wants of the words
 abbrev pub want_of : Image → State → Ask → Option (Want State)
 want_of img c ask.Nothing = None
-want_of img c (ask.Load kind rd addr) = Some (wanted img c (shown c (ask.Load kind rd addr)))
-want_of img c (ask.Store kind addr v) = Some (wanted img c (shown c (ask.Store kind addr v)))
-want_of img c (ask.Emit w) = Some (wanted img c (shown c (ask.Emit w)))
+want_of img c (ask.Load kind rd addr) = Some (outcome_want img c (burst_outcome c (ask.Load kind rd addr)))
+want_of img c (ask.Store kind addr v) = Some (outcome_want img c (burst_outcome c (ask.Store kind addr v)))
+want_of img c (ask.Emit w) = Some (outcome_want img c (burst_outcome c (ask.Emit w)))
 
 -- what the asked turn of a burst wants, if there is one
 abbrev pub asked_want : Image → Advance → Option (Want State)

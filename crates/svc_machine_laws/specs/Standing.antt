@@ -49,18 +49,18 @@ abbrev pub whole_refuse : Image → Config → Whole → Event → Option Refusa
 whole_refuse img config w x = refuse img config w.machine w.lines x
 
 -- the same, of the plain machine
-unfoldable pub refused : Image → Config → Standing → Event → Option Refusal
-refused img config s x = whole_refuse img config (whole_of img s) x
+unfoldable pub refusal_of : Image → Config → Standing → Event → Option Refusal
+refusal_of img config s x = whole_refuse img config (whole_of img s) x
 
 -- an accepted event
-unfoldable pub stepped : Image → Standing → Event → Standing
-stepped img s x = record {
+unfoldable pub standing_after : Image → Standing → Event → Standing
+standing_after img s x = record {
   plain = plain_event img s.plain x;
   lines = line_event img (machine_of (program img) s.plain) s.lines x;
 }
 
-unfoldable pub whole_stepped : Image → Whole → Event → Whole
-whole_stepped img w x = record { machine = whole_event img w.machine x; lines = line_event img w.machine w.lines x }
+unfoldable pub whole_after : Image → Whole → Event → Whole
+whole_after img w x = record { machine = whole_event img w.machine x; lines = line_event img w.machine w.lines x }
 
 -- the answer to an accepted event
 unfoldable pub reply_to : Image → Standing → Event → Reply
@@ -68,10 +68,10 @@ reply_to img s x = plain_reply img s.plain s.lines x
 
 -- an event, accepted or not
 unfoldable pub after_event : Image → Config → Standing → Event → Standing
-after_event img config s x = unless (refused img config s x) s (stepped img s x)
+after_event img config s x = unless (refusal_of img config s x) s (standing_after img s x)
 
 unfoldable pub whole_after_event : Image → Config → Whole → Event → Whole
-whole_after_event img config w x = unless (whole_refuse img config w x) w (whole_stepped img w x)
+whole_after_event img config w x = unless (whole_refuse img config w x) w (whole_after img w x)
 
 -- after these events; refused ones are passed over
 unfoldable pub after_events : Image → Config → Standing → List Event → Standing

@@ -17,19 +17,21 @@ ghost use Rattle.svc_machine_laws.specs.LineEvents.{word_of};
 ghost use Rattle.svc_machine_laws.specs.MachineLaws.{IsWithin};
 ghost use Rattle.svc_machine_laws.specs.Refusals.{asked_word};
 ghost use Rattle.svc_machine_laws.specs.Replies.{whole_reply};
-ghost use Rattle.svc_machine_laws.specs.Standing.{Standing, refused, stepped, reply_to, after_event, is_commit};
+ghost use Rattle.svc_machine_laws.specs.Standing.{Standing, refusal_of, standing_after, reply_to, after_event};
+ghost use Rattle.svc_machine_laws.specs.Standing.{is_commit};
 ghost use Rattle.svc_machine_laws.specs.Reached.{IsReached};
-ghost use Rattle.svc_machine_laws.specs.Blame.{IsBlamed, tasks_cut, begun};
+ghost use Rattle.svc_machine_laws.specs.Blame.{IsBlamed, tasks_cut, tasks_begun};
 ghost use Rattle.svc_machine_laws.specs.Logs.{LogsFollow, TellsTheEnd};
 
 /// An accepted event of the whole machine is the plain machine's, and so is the reply to it, with all
 /// that it cuts.
 pub fn accepted_event()
     ensures machine { (img : Image) → IsImage img → (config : Config) → (s : Standing) → IsReached img config s
-        → (x : Event) → IsEvent x → refused img config s x ≡ None
-        → machine_of (program img) (stepped img s x).plain ≡ whole_event img (machine_of (program img) s.plain) x }
+        → (x : Event) → IsEvent x → refusal_of img config s x ≡ None
+        → machine_of (program img) (standing_after img s x).plain
+        ≡ whole_event img (machine_of (program img) s.plain) x }
     ensures reply { (img : Image) → IsImage img → (config : Config) → (s : Standing) → (x : Event) → IsEvent x
-        → refused img config s x ≡ None → whole_reply img (machine_of (program img) s.plain) s.lines x
+        → refusal_of img config s x ≡ None → whole_reply img (machine_of (program img) s.plain) s.lines x
         ≡ reply_to img s x }
 {}
 
@@ -57,7 +59,7 @@ pub fn event_keeps()
 /// Every cut of a reply has its blame.
 pub fn cut_is_blamed()
     ensures { (img : Image) → IsImage img → (config : Config) → (s : Standing) → IsReached img config s → (x : Event)
-        → IsEvent x → refused img config s x ≡ None → (cut : Cut) → (reply_to img s x).cut ≡ Some cut
+        → IsEvent x → refusal_of img config s x ≡ None → (cut : Cut) → (reply_to img s x).cut ≡ Some cut
         → IsBlamed img s.plain x cut }
 {}
 
@@ -65,9 +67,9 @@ pub fn cut_is_blamed()
 /// as cut, and the one that it commits are together the tasks before it and the one that it begins.
 pub fn tasks_are_counted()
     ensures { (img : Image) → IsImage img → (config : Config) → (s : Standing) → (x : Event) → IsEvent x
-        → refused img config s x ≡ None
-        → length (stepped img s x).plain.tasks + tasks_cut (reply_to img s x).cut + is_commit x
-        ≡ length s.plain.tasks + begun x }
+        → refusal_of img config s x ≡ None
+        → length (standing_after img s x).plain.tasks + tasks_cut (reply_to img s x).cut + is_commit x
+        ≡ length s.plain.tasks + tasks_begun x }
 {}
 
 /// Each accepted event adds what it answers to the log of its task. The log of a head that is committed is the
@@ -75,14 +77,14 @@ pub fn tasks_are_counted()
 /// answers it, in order.
 pub fn logs_follow()
     ensures { (img : Image) → IsImage img → (config : Config) → (s : Standing) → IsReached img config s → (x : Event)
-        → IsEvent x → refused img config s x ≡ None
-        → LogsFollow (program img) s.plain (stepped img s x).plain x (reply_to img s x).what }
+        → IsEvent x → refusal_of img config s x ≡ None
+        → LogsFollow (program img) s.plain (standing_after img s x).plain x (reply_to img s x).what }
 {}
 
 /// An accepted commit answers the number of the committed task, which is how many tasks were committed before it, and
 /// how that task ends in the sequential order.
 pub fn commit_tells_the_end()
     ensures { (img : Image) → IsImage img → (config : Config) → (s : Standing) → IsReached img config s → (by : ℕ)
-        → refused img config s (Commit by) ≡ None
+        → refusal_of img config s (Commit by) ≡ None
         → TellsTheEnd (program img) s.plain.commits (reply_to img s (Commit by)).what }
 {}

@@ -2,3 +2,4 @@ pub mod Bars
 pub mod Marks
 pub mod Rows
 pub mod Stores
+pub mod View

@@ -12,8 +12,8 @@ use Rattle.svc_marks.specs.declared.marks.Mark.{Mark}
 use Rattle.svc_marks.specs.declared.marks.MarkKind.{MarkKind}
 use Rattle.svc_marks.specs.declared.marks.MarkKind.TheVariants as mark
 use Rattle.svc_marks.specs.declared.marks.Spot.{Spot}
-use Rattle.svc_marks.specs.Bars.{bars_of, window_of}
-use Rattle.svc_marks.specs.Marks.{marks_of}
+use Rattle.svc_marks.specs.declared.view.View.{View}
+use Rattle.svc_marks.specs.View.{bars_shown, marks_shown}
 
 -- a task, its unit, where it began, its first entry and the one that decided its fate, if one did, and its fate
 unfoldable pub bar_fields : (task unit entry first : ℕ) → (last : Option ℕ) → (fate : List ℕ) → List ℕ
@@ -73,8 +73,6 @@ row_of_kind m mark.Squash =
 abbrev pub mark_row : Mark → List ℕ
 mark_row m = row_of_kind m m.kind
 
--- those of so many of a history's entries, from one on
-unfoldable pub rows_of : List Entry → (from count : ℕ) → List ℕ
-rows_of es from count =
-    flat_map bar_row (bars_of es (window_of es from count))
-    ++ flat_map mark_row (marks_of es (window_of es from count) (bars_of es (window_of es from count)))
+-- those that are shown of a history
+unfoldable pub rows_of : List Entry → View → List ℕ
+rows_of es v = flat_map bar_row (bars_shown es v) ++ flat_map mark_row (marks_shown es v)

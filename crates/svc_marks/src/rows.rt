@@ -7,8 +7,9 @@ ghost use Rattle.svc_report.specs.Faults.{IsMemoryFault};
 ghost use Rattle.svc_marks.specs.Rows.{arrow_fields, bar_fields, bar_row, mark_fields, mark_row, other_place};
 ghost use Rattle.svc_marks.specs.Rows.{row_of_kind, rows_of, shape_row, task_number, word_number};
 
-use crate::bars::{Bar, Window, bars_of};
-use crate::marks::{Mark, MarkKind, Spot, marks_of};
+use crate::bars::Bar;
+use crate::marks::{Mark, MarkKind, Spot};
+use crate::view::{View, things_of};
 use std::alloc::{AllocError, Global};
 use svc_base::WordAddr;
 use svc_history_laws::{Entry, ServedKind};
@@ -226,25 +227,18 @@ fn put_marks(text: &mut Vec<u8>, marks: &[Mark]) -> Result<(), AllocError>
     Ok(())
 }
 
-/// What a picture of `count` of a history's entries shows, from an index on: a row for each bar, and one for each mark.
+/// What a picture of a history shows: a row for each bar, and one for each mark.
 ///
 /// Errors: [`ReportError::Memory`].
 #[tactic(auto, unfolding(crate::specs::Rows::rows_of))]
-pub fn picture_rows(
-    alloc: Global,
-    entries: &[Entry],
-    from: u64,
-    count: u64,
-) -> Result<Vec<u8>, ReportError>
+pub fn picture_rows(alloc: Global, entries: &[Entry], view: &View) -> Result<Vec<u8>, ReportError>
     requires few { length entries.now ≤ MAX_EVENTS }
-    ensures ok { IfOk result (λ text. text.items ≡ rows_of entries.now from count) }
+    ensures ok { IfOk result (λ text. text.items ≡ rows_of entries.now view.now) }
     ensures err { IfErr result IsMemoryFault }
 {
-    let window = Window::of(entries, from, count);
-    let bars = bars_of(alloc, entries, &window)?;
-    let marks = marks_of(alloc, entries, &window, &bars)?;
+    let things = things_of(alloc, entries, view)?;
     let mut text = Vec::new(alloc);
-    put_bars(&mut text, &bars)?;
-    put_marks(&mut text, &marks)?;
+    put_bars(&mut text, &things.bars)?;
+    put_marks(&mut text, &things.marks)?;
     Ok(text)
 }

@@ -3,11 +3,11 @@ use Rattle.std.proofs.Common.{◌≡◌, ◌∙◌, ◌+◌, ◌≤◌, ◌<◌,
 use Rattle.std.proofs.lemmas.Option.{none-some}
 use Rattle.svc_base.specs.declared.ids.UnitId.{UnitId}
 use Rattle.svc_image.specs.declared.fetched.Fetched.{Fetched}
-use Rattle.svc_image.specs.Image.{Image, fetched}
+use Rattle.svc_image.specs.Image.{Image, fetch_answer}
 use Rattle.svc_core_laws.specs.declared.ask.Ask.{Ask}
 use Rattle.svc_core_laws.specs.declared.ask.Ask.TheVariants as ask
 use Rattle.svc_core_laws.specs.declared.end.End.{End}
-use Rattle.svc_core_laws.specs.Bursts.{Advance, AreOf, Follows, HasStopped, IsAdvance, IsAsked, IsLook, after, ask_turns, before, is_nothing, shown}
+use Rattle.svc_core_laws.specs.Bursts.{Advance, AreOf, Follows, HasStopped, IsAdvance, IsAsked, IsLook, after, ask_turns, before, is_nothing, burst_outcome}
 use Rattle.svc_core_laws.specs.Local.{TurnOutcome}
 use Rattle.svc_core_laws.specs.Local as out
 use Rattle.svc_core_laws.specs.State.{State}
@@ -47,11 +47,11 @@ runs_not (Some x) e h = none-some x (sym e)
 ended_not : (o : Option End) (x : End) → o ≡ Some x → o ≡ None → ⊥
 ended_not o x e h = none-some x (sym h ∙ e)
 
-look_is : (img : Image) (s : State) (o : Option Fetched) → ((look : Fetched) → o ≡ Some look → look ≡ fetched img look.pc) → IsLook s o
+look_is : (img : Image) (s : State) (o : Option Fetched) → ((look : Fetched) → o ≡ Some look → look ≡ fetch_answer img look.pc) → IsLook s o
     → (e : Option End) → s.done ≡ e → looked o ≡ look_at img s e
 look_is img s None own is None e = absurd (runs_not s.done e is)
 look_is img s None own is (Some x) e = refl
-look_is img s (Some look) own is None e = ap (λ (l : Fetched). l ∷ []) (own look refl ∙ ap (fetched img) is.0)
+look_is img s (Some look) own is None e = ap (λ (l : Fetched). l ∷ []) (own look refl ∙ ap (fetch_answer img) is.0)
 look_is img s (Some look) own is (Some x) e = absurd (ended_not s.done x e is.1)
 
 nothing_since : (a : Ask) → ask_turns a ≤ 0 → a ≡ ask.Nothing
@@ -115,15 +115,15 @@ module _ (img : Image) (b : Advance) (is : IsAdvance img 1 b) where
       by ask.Nothing e some = absurd (let no : true ≡ false = some in cc)
       by (ask.Load kind rd addr) e some =
           let h : is_nothing b.ask ≡ false = ap is_nothing e in
-          let n : next img b.start ≡ out.Load kind rd addr = wants h ∙ asked img b is.follows is.looks is.follows.ask h ∙ ap (shown b.end) e in
+          let n : next img b.start ≡ out.Load kind rd addr = wants h ∙ asked img b is.follows is.looks is.follows.ask h ∙ ap (burst_outcome b.end) e in
           same (ask.Load kind rd addr) e ∙ sym (ap (turn_to img b.unit b.epoch b.start) n)
       by (ask.Store kind addr v) e some =
           let h : is_nothing b.ask ≡ false = ap is_nothing e in
-          let n : next img b.start ≡ out.Store kind addr v = wants h ∙ asked img b is.follows is.looks is.follows.ask h ∙ ap (shown b.end) e in
+          let n : next img b.start ≡ out.Store kind addr v = wants h ∙ asked img b is.follows is.looks is.follows.ask h ∙ ap (burst_outcome b.end) e in
           same (ask.Store kind addr v) e ∙ sym (ap (turn_to img b.unit b.epoch b.start) n)
       by (ask.Emit w) e some =
           let h : is_nothing b.ask ≡ false = ap is_nothing e in
-          let n : next img b.start ≡ out.Emit w = wants h ∙ asked img b is.follows is.looks is.follows.ask h ∙ ap (shown b.end) e in
+          let n : next img b.start ≡ out.Emit w = wants h ∙ asked img b is.follows is.looks is.follows.ask h ∙ ap (burst_outcome b.end) e in
           same (ask.Emit w) e ∙ sym (ap (turn_to img b.unit b.epoch b.start) n)
 
   -- a local turn
@@ -136,10 +136,10 @@ module _ (img : Image) (b : Advance) (is : IsAdvance img 1 b) where
       let runs : b.start.done ≡ None = runs_first some in
       let second : looked (slice_get b.looks 1) ≡ look_at img d d.done =
       look_is img d (slice_get b.looks 1) (is.looks 1) (is.follows.looked 1 (omega (arith, one))) d.done refl in
-      let first : looked (slice_get b.looks 0) ≡ fetched img b.start.pc ∷ [] = first_look ∙ ap (look_at img b.start) runs in
-      let looks : b.looks ≡ fetched img b.start.pc ∷ look_at img d d.done =
+      let first : looked (slice_get b.looks 0) ≡ fetch_answer img b.start.pc ∷ [] = first_look ∙ ap (look_at img b.start) runs in
+      let looks : b.looks ≡ fetch_answer img b.start.pc ∷ look_at img d d.done =
       list_two b.looks (let few = is.follows.looks in omega (arith, few, one))
-      ∙ ap (λ (l : List Fetched). l ++ looked (slice_get b.looks 1)) first ∙ ap (λ (l : List Fetched). fetched img b.start.pc ∷ l) second in
+      ∙ ap (λ (l : List Fetched). l ++ looked (slice_get b.looks 1)) first ∙ ap (λ (l : List Fetched). fetch_answer img b.start.pc ∷ l) second in
       let idle : b.ask ≡ ask.Nothing = nothing_since b.ask (let few = few_turns in omega (arith, few, one)) in
       let end : b.end ≡ arrives img d = is.follows.end ∙ ap (λ (k : ℕ). after b.looks k b.start) one ∙ sym turn.arrives_is in
       same_bursts b (turn_to img b.unit b.epoch b.start (out.Local d)) refl refl refl looks one idle end

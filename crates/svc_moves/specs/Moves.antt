@@ -8,7 +8,7 @@ use Rattle.svc_core_laws.specs.Words.{program}
 use Rattle.svc_machine_laws.specs.Events.{Event, Assign, Submit, Replace, Cancel, Commit}
 use Rattle.svc_machine_laws.specs.Guess.{guess}
 use Rattle.svc_machine_laws.specs.Refusals.{seat_at}
-use Rattle.svc_machine_laws.specs.Standing.{Standing, refused}
+use Rattle.svc_machine_laws.specs.Standing.{Standing, refusal_of}
 use Rattle.svc_machine_laws.specs.WholeMachine.{machine_of}
 use Rattle.svc_report.specs.Fields.{optional}
 use Rattle.svc_held.specs.declared.named.Named.{Named}
@@ -17,7 +17,7 @@ use Rattle.svc_moves.specs.Turn.{turn_of}
 
 -- the row of a unit's event, with the refusal that the table of refusals has for it
 abbrev pub event_row : Image → Config → Standing → (unit : ℕ) → Event → List ℕ
-event_row img config s unit x = move_row unit (kind_of x) (arg_of x) (refused img config s x)
+event_row img config s unit x = move_row unit (kind_of x) (arg_of x) (refusal_of img config s x)
 
 -- the next task is begun at the guess, if there is one
 abbrev pub assign_row : Image → Config → Standing → (unit : ℕ) → List ℕ

@@ -2,7 +2,7 @@
 use Rattle.std.specs.Prelude.{ℕ, List, [], ◌∷◌, Option, None, Some}
 use Rattle.svc_base.specs.declared.ids.UnitId.{UnitId}
 use Rattle.svc_image.specs.declared.fetched.Fetched.{Fetched}
-use Rattle.svc_image.specs.Image.{Image, fetched}
+use Rattle.svc_image.specs.Image.{Image, fetch_answer}
 use Rattle.svc_core_laws.specs.declared.ask.Ask.TheVariants as ask
 use Rattle.svc_core_laws.specs.declared.end.End.{End}
 use Rattle.svc_core_laws.specs.Bursts.{Advance}
@@ -15,7 +15,7 @@ use Rattle.svc_machine_laws.specs.WholeMachine.{Seat}
 
 -- what is looked at where a task stands, if it runs
 abbrev pub look_at : Image → State → Option End → List Fetched
-look_at img c None = fetched img c.pc ∷ []
+look_at img c None = fetch_answer img c.pc ∷ []
 look_at img c (Some end) = []
 
 -- a burst that starts here, before its first turn
@@ -34,7 +34,7 @@ before_turn img unit epoch c = record {
 -- any other is asked for
 abbrev pub turn_to : Image → UnitId → (epoch : ℕ) → State → TurnOutcome → Advance
 turn_to img unit epoch c (out.Local d) = record (before_turn img unit epoch c) {
-  looks = fetched img c.pc ∷ look_at img d d.done;
+  looks = fetch_answer img c.pc ∷ look_at img d d.done;
   local = 1;
   end = arrives img d;
 }

@@ -7,7 +7,7 @@ ghost use Rattle.svc_bus.specs.Observed.{observed};
 ghost use Rattle.svc_machine.specs.Events.{event_of};
 ghost use Rattle.svc_machine.specs.Value.{StandsAt};
 ghost use Rattle.svc_machine_laws.specs.Events as law;
-ghost use Rattle.svc_machine_laws.specs.Standing.{Standing, refused};
+ghost use Rattle.svc_machine_laws.specs.Standing.{Standing, refusal_of};
 ghost use Rattle.svc_held.specs.Held.{HasHeld, HasItsLines};
 ghost use Rattle.svc_moves.specs.Moves.{assign_row, event_row, move_rows, named_row, replace_row, replace_rows};
 ghost use Rattle.svc_moves.specs.Moves.{submit_row, unit_moves};
@@ -30,7 +30,7 @@ fn put_event(
     rows: &mut Vec<u8>,
 ) -> Result<(), AllocError>
     ensures { let m = machine.now in (s : Standing) → StandsAt m s → OnOk result (rows.new.items
-        ≡ rows.old.items ++ move_row unit.0 kind.now arg (refused m.image m.config s (event_of event.entry))) }
+        ≡ rows.old.items ++ move_row unit.0 kind.now arg (refusal_of m.image m.config s (event_of event.entry))) }
 {
     put_move(unit, kind, arg, machine.refusal(event), rows)
 }

@@ -1,11 +1,12 @@
 -- Expressions, step by step.
-use Rattle.std.proofs.Common.{◌≡◌, ℕ, zero, suc, ◌-◌, ◌<◌, List, length, Option, Some, None, refl, sym, arith}
+use Rattle.std.proofs.Common.{◌≡◌, ℕ, zero, suc, ◌+◌, ◌-◌, ◌<◌, ◌∙◌, List, length, Option, Some, None, refl, sym, subst, inl, inr, arith}
+use Rattle.std.proofs.lemmas.Bool.{cases_Bool, eqb-true, eqb-false}
 use Rattle.svc_draft.specs.Options.{◌>>=◌}
 use Rattle.svc_draft.specs.Layouts.{Layout}
 use Rattle.svc_operands.specs.Characters.{found, past_spaces}
 use Rattle.svc_operands.specs.Operands.{Read}
-use Rattle.svc_operands.specs.Expressions.{operator_at, combined, chain_on, ranked, all_further, operand_from, operand_at, expression_at}
 use Rattle.svc_operands.specs.declared.expressions.TheConstants.{DEPTH}
+use Rattle.svc_operands.specs.Expressions.{operator_at, combined, chain_on, ranked, operand_from, operand_at, expression_at}
 use Rattle.std.proofs.Common.{◌==◌, if◌then◌else◌}
 
 pub operand_step : (names : Option Layout) (k : ℕ) (text : List ℕ) → 0 < k → operand_at names k text ≡ operand_from names (operand_at names (k - 1)) (past_spaces text)
@@ -18,15 +19,38 @@ unfolding operand_at
 operand_none names zero text h = refl
 operand_none names (suc k) text h = absurd (omega (arith, h))
 
-pub ranked_none : (operand : List ℕ → Read ℕ) (r : ℕ) (text : List ℕ) → r ≡ 0 → ranked operand r text ≡ operand text
+more_of : (operand : List ℕ → Read ℕ) (r n : ℕ) (text rest : List ℕ) → ranked operand r text ≡ Some (n, rest) → ranked operand (suc r) text ≡ chain_on (ranked operand r) r (length rest) n rest
 unfolding ranked
-ranked_none operand zero text h = refl
-ranked_none operand (suc r) text h = absurd (omega (arith, h))
+more_of operand r n text rest h = rw h refl
 
-pub ranked_step : (operand : List ℕ → Read ℕ) (r : ℕ) (text : List ℕ) → 0 < r → ranked operand r text ≡ ranked operand (r - 1) text >>= (λ n. chain_on (ranked operand (r - 1)) (r - 1) (length n.1) n.0 n.1)
+none_of : (operand : List ℕ → Read ℕ) (r : ℕ) (text : List ℕ) → ranked operand r text ≡ None → ranked operand (suc r) text ≡ None
 unfolding ranked
-ranked_step operand zero text h = absurd (omega (arith, h))
-ranked_step operand (suc r) text h = let e : suc r - 1 ≡ r = omega arith in rw e refl
+none_of operand r text h = rw h refl
+
+pub ranked_first : (operand : List ℕ → Read ℕ) (text : List ℕ) → ranked operand 0 text ≡ operand text
+unfolding ranked
+ranked_first operand text = refl
+
+-- a rank more
+pub ranked_more : (operand : List ℕ → Read ℕ) (r n : ℕ) (text rest : List ℕ) → ranked operand r text ≡ Some (n, rest) → ranked operand (r + 1) text ≡ chain_on (ranked operand r) r (length rest) n rest
+ranked_more operand r n text rest h =
+    let e : r + 1 ≡ suc r = omega arith in
+    subst (λ (k : ℕ). ranked operand k text ≡ chain_on (ranked operand r) r (length rest) n rest) (sym e) (more_of operand r n text rest h)
+
+ranked_stops : (operand : List ℕ → Read ℕ) (r ranks : ℕ) (text : List ℕ) → r < ranks → ranked operand (r + 1) text ≡ None → ranked operand ranks text ≡ None
+ranked_stops operand r zero text low h = absurd (omega (arith, low))
+ranked_stops operand r (suc k) text low h = elim (cases_Bool (r == k)) [
+  | inl same ↦ let e : r + 1 ≡ suc k = omega (arith, eqb-true r k same) in subst (λ (n : ℕ). ranked operand n text ≡ None) e h
+  | inr other ↦ none_of operand k text (ranked_stops operand r k text (omega (arith, low, eqb-false r k other)) h)
+]
+
+-- where an operand or a rank reads nothing, nothing is read
+pub no_operand : (operand : List ℕ → Read ℕ) (ranks : ℕ) (text : List ℕ) → operand text ≡ None → ranked operand ranks text ≡ None
+no_operand operand zero text h = ranked_first operand text ∙ h
+no_operand operand (suc k) text h = none_of operand k text (no_operand operand k text h)
+
+pub no_chain : (operand : List ℕ → Read ℕ) (r ranks n : ℕ) (text rest : List ℕ) → r < ranks → ranked operand r text ≡ Some (n, rest) → chain_on (ranked operand r) r (length rest) n rest ≡ None → ranked operand ranks text ≡ None
+no_chain operand r ranks n text rest low h none = ranked_stops operand r ranks text low (ranked_more operand r n text rest h ∙ none)
 
 pub chain_step : (item : List ℕ → Read ℕ) (rank k n : ℕ) (text : List ℕ) → 0 < k → chain_on item rank k n text ≡
     found (operator_at text) (λ o.
@@ -52,13 +76,3 @@ pub alone : (names : Option Layout) (text rest : List ℕ) (n : ℕ) → operand
 unfolding expression_at ranked
 alone names text rest n h k =
     rw (h, chain_over (ranked (operand_at names DEPTH) 0) 0 (length rest) n rest k, chain_over (ranked (operand_at names DEPTH) 1) 1 (length rest) n rest k, chain_over (ranked (operand_at names DEPTH) 2) 2 (length rest) n rest k) refl
-
--- without an operand there is no expression
-pub no_operand : (names : Option Layout) (text : List ℕ) → operand_at names DEPTH text ≡ None → expression_at names text ≡ None
-unfolding expression_at ranked
-no_operand names text h = rw h refl
-
--- an operand, and what the operators behind it make
-pub in_ranks : (names : Option Layout) (text rest : List ℕ) (n : ℕ) → operand_at names DEPTH text ≡ Some (n, rest) → expression_at names text ≡ all_further (operand_at names DEPTH) (n, rest)
-unfolding expression_at ranked
-in_ranks names text rest n h = rw h refl

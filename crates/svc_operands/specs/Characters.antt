@@ -1,5 +1,6 @@
 -- The characters of a program's text: spaces, names, marks and numbers.
-use Rattle.std.specs.Prelude.{ℕ, ◌+◌, ◌*◌, ◌-◌, ◌^◌, Bool, true, false, ◌&&◌, ◌||◌, ◌==◌, nat_le, nat_lt, List, [], ◌∷◌, Option, Some, None, if◌then◌else◌, option_map}
+use Rattle.std.specs.Prelude.{ℕ, ◌+◌, ◌*◌, ◌-◌, ◌^◌, Bool, true, false, ◌&&◌, ◌||◌, ◌==◌, nat_le, nat_lt, List, []}
+use Rattle.std.specs.Prelude.{◌∷◌, Option, Some, None, if◌then◌else◌, option_map}
 use Rattle.std.specs.List.{take_while}
 use Rattle.svc_draft.specs.Options.{◌>>=◌}
 use Rattle.svc_operands.specs.declared.characters.Blank.{Blank}

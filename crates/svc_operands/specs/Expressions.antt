@@ -1,6 +1,7 @@
 -- Expressions, as GNU's assembler reads them (its manual, "Integer Expressions"): numbers of 64 bits, which wrap, by
 -- operators of three ranks. Those of the first one bind closest.
-use Rattle.std.specs.Prelude.{ℕ, zero, suc, ◌+◌, ◌*◌, ◌-◌, ◌/◌, ◌%◌, ◌^◌, ◌==◌, nat_le, nat_lt, Bool, not, List, [], ◌∷◌, length, Option, Some, None, if◌then◌else◌, option_map, bit_and, bit_or, bit_xor}
+use Rattle.std.specs.Prelude.{ℕ, zero, suc, ◌+◌, ◌*◌, ◌-◌, ◌/◌, ◌%◌, ◌^◌, ◌==◌, nat_le, nat_lt, Bool, not, List, []}
+use Rattle.std.specs.Prelude.{◌∷◌, length, Option, Some, None, if◌then◌else◌, option_map, bit_and, bit_or, bit_xor}
 use Rattle.svc_draft.specs.Options.{◌>>=◌}
 use Rattle.svc_draft.specs.Layouts.{Layout}
 use Rattle.svc_operands.specs.declared.expressions.Operation.{Operation}
@@ -84,13 +85,6 @@ chain_on item rank (suc k) n text =
 unfoldable pub ranked : (List ℕ → Read ℕ) → (ranks : ℕ) → List ℕ → Read ℕ
 ranked operand zero text = operand text
 ranked operand (suc r) text = ranked operand r text >>= (λ n. chain_on (ranked operand r) r (length n.1) n.0 n.1)
-
--- what a number and the operators behind it make, rank by rank
-abbrev pub further : (List ℕ → Read ℕ) → (rank : ℕ) → ℕ × List ℕ → Read ℕ
-further operand r n = chain_on (ranked operand r) r (length n.1) n.0 n.1
-
-abbrev pub all_further : (List ℕ → Read ℕ) → ℕ × List ℕ → Read ℕ
-all_further operand n = further operand 0 n >>= further operand 1 >>= further operand 2
 
 -- a number, or what a name stands for, where names may stand
 abbrev pub named_by : Option Layout → List ℕ → Option ℕ

@@ -1,5 +1,6 @@
 -- The operands of instructions and directives.
-use Rattle.std.specs.Prelude.{◌≡◌, Option, Some, None, Result, Ok, Err, ℕ, ◌*◌, ◌-◌, ◌/◌, ◌%◌, true, false, ◌==◌, nat_le, nat_lt, List, if◌then◌else◌}
+use Rattle.std.specs.Prelude.{◌≡◌, Option, Some, None, Result, Ok, Err, ℕ, ◌*◌, ◌-◌, ◌/◌, ◌%◌, true, false, ◌==◌}
+use Rattle.std.specs.Prelude.{nat_le, nat_lt, List, if◌then◌else◌}
 use Rattle.svc_rv32i.specs.declared.instr.Register.{Register}
 use Rattle.svc_operands.specs.declared.operands.Signed.{Signed}
 use Rattle.svc_draft.specs.Options.{◌>>=◌}
@@ -41,7 +42,9 @@ number_at text = found (number_of (name_at text)) (λ n. Some (n, past_name text
 
 -- how far it is from one address to another
 abbrev pub distance : ℕ → ℕ → Signed
-distance from to = if nat_le from to then record { negative = false; magnitude = to - from } else record { negative = true; magnitude = from - to }
+distance from to =
+    if nat_le from to then record { negative = false; magnitude = to - from }
+    else record { negative = true; magnitude = from - to }
 
 -- a number of so many bits with its sign, half of whose range is below 0
 abbrev pub wrapped : ℕ → Signed → Option ℕ

@@ -1,7 +1,10 @@
 // The characters of a program's text: spaces, names, marks, numbers, and characters between single quotes.
 
 ghost use Rattle.std.specs.Prelude.{◌≡◌, ◌<◌, ◌≤◌, IfSome, option_map};
-ghost use Rattle.svc_operands.specs.Characters.{opens, blank_behind, past_spaces, is_over, is_name, past, name_at, past_name, mark_at, digit, base_of, push_digit, long_of, value_of, behind_zero, number_of, escaped, quoted_escape, closed_at, escape_in_quotes, in_quotes, character_at};
+ghost use Rattle.svc_operands.specs.Characters.{opens, blank_behind, past_spaces, is_over, is_name, past, name_at};
+ghost use Rattle.svc_operands.specs.Characters.{past_name, mark_at, digit, base_of, push_digit, long_of, value_of};
+ghost use Rattle.svc_operands.specs.Characters.{behind_zero, number_of, escaped, quoted_escape, closed_at};
+ghost use Rattle.svc_operands.specs.Characters.{escape_in_quotes, in_quotes, character_at};
 
 #[tactic(auto, unfolding(crate::specs::Characters::is_name))]
 fn is_name(c: u8) -> bool

@@ -2,7 +2,9 @@
 
 ghost use Rattle.std.specs.Prelude.{◌≡◌, ◌+◌, ◌*◌, ◌<◌, ◌≤◌, option_map, length};
 ghost use Rattle.svc_draft.specs.Layouts.{layout_of};
-ghost use Rattle.svc_operands.specs.Expressions.{is_below, below_zero, signed_by, magnitude, divisor, combined, operator_from, operator_at, chain_on, ranked, all_further, named_by, plain_at, operand_from, operand_at, expression_at, added_at};
+ghost use Rattle.svc_operands.specs.Expressions.{is_below, below_zero, signed_by, magnitude, divisor, combined};
+ghost use Rattle.svc_operands.specs.Expressions.{operator_from, operator_at, chain_on, ranked, named_by};
+ghost use Rattle.svc_operands.specs.Expressions.{plain_at, operand_from, operand_at, expression_at, added_at};
 ghost use Rattle.svc_operands.specs.Operands.{Gives};
 
 use crate::characters::{skip_spaces, split_name};
@@ -182,8 +184,8 @@ fn read_operand<'a>(names: Option<&Draft>, depth: u32, text: &'a [u8]) -> Read<'
     read_operand_from(names, depth - 1, skip_spaces(text))
 }
 
-// An expression by operators below a rank.
-#[tactic(auto, using(crate::proofs::Chains::ranked_step, crate::proofs::Chains::ranked_none))]
+// An expression by operators below a rank: an operand, and rank by rank what the operators behind it make.
+#[tactic(auto, using(crate::proofs::Chains::ranked_first, crate::proofs::Chains::ranked_more))]
 #[cycle(expression)]
 fn read_ranked<'a>(names: Option<&Draft>, depth: u32, ranks: u32, text: &'a [u8]) -> Read<'a, u64>
     requires depth { depth ≤ 32 }
@@ -191,11 +193,13 @@ fn read_ranked<'a>(names: Option<&Draft>, depth: u32, ranks: u32, text: &'a [u8]
     ensures { Gives (λ x. (x.0, x.1.now)) result
         (ranked (operand_at (option_map (λ d. layout_of d.now) names.entry) depth) ranks text.now) }
 {
-    if ranks == 0 {
-        return read_operand(names, depth, text);
+    let (mut number, mut rest) = read_operand(names, depth, text)?;
+    for rank in 0..ranks {
+        let (value, behind) = read_chain(names, depth, rank, number, rest)?;
+        number = value;
+        rest = behind;
     }
-    let (first, rest) = read_ranked(names, depth, ranks - 1, text)?;
-    read_chain(names, depth, ranks - 1, first, rest)
+    Ok((number, rest))
 }
 
 // What a number and the operators of a rank behind it make.
@@ -231,27 +235,13 @@ fn read_chain<'a>(
     Ok((number, rest))
 }
 
-// What a number and the operators behind it make.
-fn read_behind<'a>(names: Option<&Draft>, first: u64, text: &'a [u8]) -> Read<'a, u64>
-    ensures { Gives (λ x. (x.0, x.1.now)) result
-        (all_further (operand_at (option_map (λ d. layout_of d.now) names.entry) 32) (first, text.now)) }
-{
-    let (number, rest) = read_chain(names, DEPTH, 0, first, text)?;
-    let (number, rest) = read_chain(names, DEPTH, 1, number, rest)?;
-    read_chain(names, DEPTH, 2, number, rest)
-}
-
 /// An expression of 64 bits: one operand, or what operators make of several.
-#[tactic(auto, using(crate::proofs::Chains::alone, crate::proofs::Chains::in_ranks, crate::proofs::Chains::no_operand))]
+#[tactic(auto, unfolding(crate::specs::Expressions::expression_at))]
 pub fn read_expression<'a>(names: Option<&Draft>, text: &'a [u8]) -> Read<'a, u64>
     ensures { Gives (λ x. (x.0, x.1.now)) result
         (expression_at (option_map (λ d. layout_of d.now) names.entry) text.now) }
 {
-    let (first, rest) = read_operand(names, DEPTH, text)?;
-    match operator_at(rest) {
-        Some(_) => read_behind(names, first, rest),
-        None => Ok((first, rest)),
-    }
+    read_ranked(names, DEPTH, 3, text)
 }
 
 /// The numbers that are added behind something, or taken away.

@@ -2,7 +2,8 @@
 
 ghost use Rattle.std.specs.Prelude.{◌≡◌, ◌<◌, ◌≤◌, ◌*◌, ◌-◌, ◌/◌, IfSome};
 ghost use Rattle.svc_operands.specs.Characters.{mark_at};
-ghost use Rattle.svc_operands.specs.Operands.{Gives, register_at, first_register_at, base_at, number_at, distance, wrapped, halved, steps_of};
+ghost use Rattle.svc_operands.specs.Operands.{Gives, register_at, first_register_at, base_at, number_at, distance};
+ghost use Rattle.svc_operands.specs.Operands.{wrapped, halved, steps_of};
 
 use crate::characters::{number_of, skip_mark, split_character, split_name};
 use crate::names::register_named;

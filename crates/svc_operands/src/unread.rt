@@ -45,7 +45,7 @@ pub enum Wanted {
     High,
     #[error("lo(VALUE) or pcrel_lo(LABEL)")]
     Low,
-    #[error("the label of an auipc with %pcrel_hi above")]
+    #[error("the label of an auipc with %pcrel_hi")]
     Relative,
     #[error("iorw or some of these letters in this order")]
     Order,
@@ -61,8 +61,10 @@ pub enum Wanted {
     Half,
     #[error("a number from 0 to 16")]
     Power,
-    #[error("a number, a dot or a name that stands above")]
+    #[error("a number, a dot or a name of this text")]
     Symbol,
+    #[error("a name of the same section")]
+    SameSection,
     #[error("a size from 0 to 8")]
     Size,
 }

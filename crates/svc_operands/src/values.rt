@@ -2,7 +2,10 @@
 
 ghost use Rattle.std.specs.Prelude.{◌≡◌, ◌-◌, ◌≤◌};
 ghost use Rattle.svc_draft.specs.Layouts.{layout_of};
-ghost use Rattle.svc_operands.specs.Values.{bits_of, fitted, value_at, high_part, from_here, enclosed_at, relative_at, high_at, distance_named, completed_at, low_at, short_at, upper_at, reach, reach_at, offset_from, offset_at, target_at, jump_at, is_far, branch_at, behind_word, steps_behind, jump_behind_at};
+ghost use Rattle.svc_operands.specs.Values.{bits_of, fitted, value_at, high_part, from_here, enclosed_at};
+ghost use Rattle.svc_operands.specs.Values.{relative_at, high_at, distance_named, completed_at, low_at, short_at};
+ghost use Rattle.svc_operands.specs.Values.{upper_at, reach, reach_at, offset_from, offset_at, target_at, jump_at};
+ghost use Rattle.svc_operands.specs.Values.{is_far, branch_at, behind_word, steps_behind, jump_behind_at};
 ghost use Rattle.svc_operands.specs.Operands.{Gives};
 
 use crate::characters::{skip_mark, split_name};

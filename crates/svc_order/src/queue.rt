@@ -40,6 +40,14 @@ impl TaskQueue {
         }
     }
 
+    /// It becomes equal to another queue.
+    pub fn copy_from(&mut self, other: &TaskQueue)
+        ensures { self.new ≡ other.now }
+    {
+        self.units.clear();
+        let _fits = self.units.try_extend_from_slice(&other.units);
+    }
+
     /// How many tasks are active.
     pub fn len(&self) -> usize
         ensures count { result ≡ length self.now }

@@ -11,7 +11,7 @@ use Rattle.svc_explore.specs.declared.found.Seen.{Seen}
 use Rattle.svc_observations.specs.declared.sought.Sought.{Sought}
 use Rattle.svc_explore.specs.declared.walk.Exploration.{Exploration}
 use Rattle.svc_explore.specs.Found.{IsShown, are_seen}
-use Rattle.svc_explore.specs.Witnesses.{IsWitness}
+use Rattle.svc_explore.specs.Witnesses.{IsFirstMatch, IsWitness}
 use Rattle.svc_observations.specs.Sought.{Matches}
 use Rattle.svc_explore.proofs.NoMatch.{no_match}
 use Rattle.svc_explore.proofs.Permuting.{all_get}
@@ -32,7 +32,7 @@ shown_if img explored found all (Some s) there = all_get (IsShown img explored.c
 
 -- what was found, or that nothing is to be found
 pub answer_of : (img : Image) (explored : Explored) (sought : Sought) (x : Exploration) (saves : List Entry → Type 0) → IsExplorationOf img explored.config explored.burst explored.states x
-    → (seen : Option (Bor Seen)) → (seen ≡ None → IsTrue x.whole) → IfSome seen (λ s. IsIn s.now x.found.items) → IfSome seen (λ s. Matches sought s.now.what)
+    → (seen : Option (Bor Seen)) → (seen ≡ None → IsTrue x.whole) → IfSome seen (λ s. IsFirstMatch sought s.now x.found.items) → IfSome seen (λ s. Matches sought s.now.what)
     → (IsNone seen → (o : Observation) → IsIn o (are_seen x.found.items) → Matches sought o → ⊥)
     → IfSome seen (λ s. HasWitness img explored s.now.what saves) → IsAnswerTo img explored sought x saves seen
 answer_of img explored sought x saves is None whole there matches none witness = no_match img explored.config explored.burst (are_seen x.found.items) sought (is.whole (whole refl)) (none refl)

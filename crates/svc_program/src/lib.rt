@@ -12,11 +12,13 @@ mod sequential;
 
 pub use dispatch::{perform, perform_alone};
 pub use svc_export::Format;
-pub use svc_held::Span;
+pub use svc_marks::{Choice, View};
 pub use svc_observations::Sought;
 pub use svc_report::TableRow;
 pub use svc_request::{
     Assembly, Compared, Depended, Explored, Exported, Fault, FileFault, Files, NeedsTable, Order,
     Picture, Request, Run, Schedule, Scripted, Shown, Source, Table, Tasks, Traced, VERSION, tell,
 };
+pub use svc_sheet::{Style, Values};
 pub use svc_show::Extras;
+pub use svc_span::Span;

@@ -18,8 +18,9 @@ use svc_base::limits::MAX_BURST_TURNS;
 use svc_command::execute;
 use svc_library_calls::attempt::{Attempt, Refused, ready};
 use svc_program::{
-    Assembly, Compared, Depended, Explored, Exported, Extras, Format, NeedsTable, Order, Picture,
-    Request, Run, Schedule, Scripted, Shown, Source, Span, Table, TableRow, Traced, perform, tell,
+    Assembly, Choice, Compared, Depended, Explored, Exported, Extras, Format, NeedsTable, Order,
+    Picture, Request, Run, Schedule, Scripted, Shown, Source, Span, Style, Table, TableRow, Traced,
+    Values, View, perform, tell,
 };
 
 /// Makes the call of this name, if it is one of these.
@@ -335,8 +336,19 @@ fn show<R: Threads + Wait + Sync + AllocGlobal>(
 fn draw<R: Threads + Wait + Sync + AllocGlobal>(rt: &R) -> Attempt {
     let picture = Picture {
         file: "saved",
-        from: 0,
-        count: 400,
+        view: View {
+            from: 0,
+            count: None,
+            choice: Choice {
+                units: None,
+                tasks: None,
+                words: None,
+            },
+        },
+        style: Style {
+            values: Values::WithRoom,
+            is_compact: false,
+        },
         rows: false,
     };
     asked(rt, Request::Draw(ten_entries()?, picture), "")

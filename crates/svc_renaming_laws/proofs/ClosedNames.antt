@@ -3,7 +3,7 @@ use Rattle.std.proofs.Common.{ℕ, ◌≡◌, ◌⊎◌, List, [], ◌∷◌, in
 use Rattle.svc_base.specs.declared.config.Config.{Config}
 use Rattle.svc_image.specs.Image.{Image, IsImage}
 use Rattle.svc_machine_laws.specs.Events.{Event, IsEvent}
-use Rattle.svc_machine_laws.specs.Standing.{Standing, stepped, opened_at, reply_to}
+use Rattle.svc_machine_laws.specs.Standing.{Standing, standing_after, opened_at, reply_to}
 use Rattle.svc_machine_laws.specs.Reached.{IsReached}
 use Rattle.svc_machine_laws.proofs.Given.{given}
 use Rattle.svc_machine_laws.proofs.Standings.{step_reached}
@@ -65,12 +65,12 @@ module _ (img : Image) (is_image : IsImage img) (config : Config) (most : ℕ) {
           reached = turn_reached img is_image config r is most s reached t e turn;
           names = r;
           rename = is;
-          other = stepped img u y;
+          other = standing_after img u y;
           also = step_reached img (given img is_image) config u also y iy move.moves.accepted;
           key = move.key;
           has_key = move.has_key;
           listed = move.listed;
-          same = subst (λ z. HaveOneFuture img z (stepped img u y)) (sym there.leads) both.1;
+          same = subst (λ z. HaveOneFuture img z (standing_after img u y)) (sym there.leads) both.1;
         },
       )
 

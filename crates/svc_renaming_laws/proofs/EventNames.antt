@@ -17,7 +17,7 @@ use Rattle.svc_machine_laws.specs.WholeMachine as whole
 use Rattle.svc_machine_laws.specs.Events.{Event, Assign, Submit, Replace, Cancel, Commit, IsEvent, seat_place, asked_want, plain_event}
 use Rattle.svc_machine_laws.specs.LineEvents.{line_turn, line_ask, line_check, line_submit, line_cancel, line_settle, line_commit, line_event}
 use Rattle.svc_machine_laws.specs.MachineLaws.{IsWithin}
-use Rattle.svc_machine_laws.specs.Standing.{Standing, refused, stepped}
+use Rattle.svc_machine_laws.specs.Standing.{Standing, refusal_of, standing_after}
 use Rattle.svc_machine_laws.specs.Reached.{IsReached}
 use Rattle.svc_machine_laws.proofs.Accepted.{can_submit, CanSubmit, seat_places}
 use Rattle.svc_machine_laws.proofs.Given.{Given}
@@ -113,7 +113,7 @@ module _ (img : Image) (given : Given img) (config : Config) (r : Renaming) (s :
       (λ i. line_check (misled_after r p m can.place b.end (asked_want img b) i) (renamed_ask r s.lines lines reached.lines.sound (asked_want img b) can.place inside known i) can.place)
       ∙ renamed_check r (line_ask (asked_want img b) s.lines can.place) after (whole.is_misled p (whole.submit m can.place b.end (asked_want img b)).seats can.place) can.place
 
-  pub event_lines : (x : Event) → IsEvent x → refused img config s x ≡ None → line_event img n (renamed_lines r s.lines) (renamed_event r x) ≡ renamed_lines r (line_event img m s.lines x)
+  pub event_lines : (x : Event) → IsEvent x → refusal_of img config s x ≡ None → line_event img n (renamed_lines r s.lines) (renamed_event r x) ≡ renamed_lines r (line_event img m s.lines x)
   unfolding line_event
   event_lines (Assign unit guess) ev h = renamed_begin r s.lines lines unit
   event_lines (Submit b) ev h =
@@ -130,8 +130,8 @@ module _ (img : Image) (given : Given img) (config : Config) (r : Renaming) (s :
       of (Some q) = renamed_squash r s.lines lines q
   event_lines (Commit by) ev h = renamed_end r s.lines lines reached.lines.sound p m.seats seats_count
 
-  pub renamed_step : (x : Event) → IsEvent x → refused img config s x ≡ None → stepped img (renamed_standing r s) (renamed_event r x) ≡ renamed_standing r (stepped img s x)
-  unfolding stepped
+  pub renamed_step : (x : Event) → IsEvent x → refusal_of img config s x ≡ None → standing_after img (renamed_standing r s) (renamed_event r x) ≡ renamed_standing r (standing_after img s x)
+  unfolding standing_after
   renamed_step x ev h =
       let lines_are : line_event img (machine_of p (renamed_plain r s.plain)) (renamed_lines r s.lines) (renamed_event r x) ≡ renamed_lines r (line_event img m s.lines x) =
       ap (λ (k : Machine State). line_event img k (renamed_lines r s.lines) (renamed_event r x)) (machine_renamed r p s.plain) ∙ event_lines x ev h in

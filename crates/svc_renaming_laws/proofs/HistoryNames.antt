@@ -5,7 +5,7 @@ use Rattle.svc_base.specs.declared.config.Config.{Config}
 use Rattle.svc_base.specs.declared.refusal.Refusal.{Refusal}
 use Rattle.svc_image.specs.Image.{Image}
 use Rattle.svc_machine_laws.specs.Events.{Event, IsEvent}
-use Rattle.svc_machine_laws.specs.Standing.{Standing, opened_at, unless, refused, stepped, reply_to, after_event, after_events}
+use Rattle.svc_machine_laws.specs.Standing.{Standing, opened_at, unless, refusal_of, standing_after, reply_to, after_event, after_events}
 use Rattle.svc_machine_laws.specs.Reached.{IsReached}
 use Rattle.svc_machine_laws.proofs.Given.{Given}
 use Rattle.svc_machine_laws.proofs.Folds.{opened_reached}
@@ -28,10 +28,10 @@ module _ (img : Image) (is_given : Given img) (config : Config) (r : Renaming) (
   after_renamed : (s : Standing) → IsReached img config s → (x : Event) → IsEvent x → after_event img config (renamed_standing r s) (renamed_event r x) ≡ renamed_standing r (after_event img config s x)
   unfolding after_event
   after_renamed s reached x ev =
-      ap (λ o. unless o (renamed_standing r s) (stepped img (renamed_standing r s) (renamed_event r x))) (renamed_refused img config r s is reached x)
-      ∙ of (refused img config s x) refl
+      ap (λ o. unless o (renamed_standing r s) (standing_after img (renamed_standing r s) (renamed_event r x))) (renamed_refused img config r s is reached x)
+      ∙ of (refusal_of img config s x) refl
     where
-      of : (o : Option Refusal) → refused img config s x ≡ o → unless o (renamed_standing r s) (stepped img (renamed_standing r s) (renamed_event r x)) ≡ renamed_standing r (unless o s (stepped img s x))
+      of : (o : Option Refusal) → refusal_of img config s x ≡ o → unless o (renamed_standing r s) (standing_after img (renamed_standing r s) (renamed_event r x)) ≡ renamed_standing r (unless o s (standing_after img s x))
       of None e = renamed_step img is_given config r s is reached x ev e
       of (Some why) e = refl
 
@@ -56,7 +56,7 @@ module _ (img : Image) (is_given : Given img) (config : Config) (r : Renaming) (
       let y : Event = renamed_event r x in
       let there : Standing = renamed_standing r s in
       let ev : IsEvent y = renamed_is r x has.is in
-      let accepted : refused img config there y ≡ None = renamed_refused img config r s is reached x ∙ has.accepted in
+      let accepted : refusal_of img config there y ≡ None = renamed_refused img config r s is reached x ∙ has.accepted in
       let same : entry_of y (reply_to img there y) ≡ renamed_entry r e =
       ap (entry_of y) (reply_renamed r img config s is reached x) ∙ entry_renamed r x (reply_to img s x) ∙ ap (renamed_entry r) (sym has.entry) in
       record {

@@ -7,7 +7,7 @@ use Rattle.svc_bus_laws.specs.Versioned.{Versioned, view}
 use Rattle.svc_bus_laws.specs.Versioned as versions
 use Rattle.svc_bus_laws.specs.LineTable.{Line, LineTable, is_active, version_in, exposed_in, is_reusable, unit_at, line_at, versioned_map}
 use Rattle.svc_bus_laws.specs.Steps.{with_at, with_line, line_after_purging, line_after_marking, line_after_commit, line_after_reuse, is_overtaken, filled_line, fill, reuse, read, survivors, written_line, squash, store, write, replace, commit, begin}
-use Rattle.svc_bus_laws.specs.BusState.{unnumbered}
+use Rattle.svc_bus_laws.specs.BusState.{without_number}
 use Rattle.svc_bus_laws.specs.BusLine.{is_active_line}
 use Rattle.svc_bus_laws.specs.Refusals.{table_cache, is_head, is_pinned, set_full, is_not_resident}
 use Rattle.svc_bus_laws.specs.Sound.{IsSound}
@@ -53,7 +53,7 @@ module _ (r : Renaming) (t : LineTable) (is : IsRenaming t.caches r) where
 
   -- ---- the refusals
   pub same_cache : (u : ℕ) → table_cache s (r.there u) ≡ table_cache t u
-  same_cache u = λ i. record { sets = t.sets; ways = t.ways; words = t.words; lines = λ a. unnumbered (t.lines (is.returns u i) a) }
+  same_cache u = λ i. record { sets = t.sets; ways = t.ways; words = t.words; lines = λ a. without_number (t.lines (is.returns u i) a) }
 
   pub same_full : (u a : ℕ) → set_full (table_cache s (r.there u)) a ≡ set_full (table_cache t u) a
   same_full u a = ap (λ c. set_full c a) (same_cache u)

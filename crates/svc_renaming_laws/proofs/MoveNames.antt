@@ -18,7 +18,7 @@ use Rattle.svc_machine_laws.specs.WholeMachine.{Seat, Machine, machine_of}
 use Rattle.svc_machine_laws.specs.Guess.{guess, guess_after, successor_at, last_end, youngest}
 use Rattle.svc_machine_laws.specs.Refusals.{seat_at}
 use Rattle.svc_machine_laws.specs.Events.{Event, Submit, IsEvent, seat_place}
-use Rattle.svc_machine_laws.specs.Standing.{Standing, refused, reply_to}
+use Rattle.svc_machine_laws.specs.Standing.{Standing, refusal_of, reply_to}
 use Rattle.svc_machine_laws.specs.Reached.{IsReached}
 use Rattle.svc_machine_laws.proofs.Given.{given}
 use Rattle.svc_machine_laws.proofs.Standings.{step_reached}
@@ -152,7 +152,7 @@ module _ (img : Image) (is_image : IsImage img) (config : Config) (r : Renaming)
       renamed_burst r h.0,
       burst_at unit seat h.0 h.1,
       subst (λ why. SubmitsOrReplaces (r.there unit) (renamed_burst r h.0) why (renamed_event r x)) (sym (renamed_refused img config r s is reached (Submit h.0)))
-          (submits unit h.0 (refused img config s (Submit h.0)) x h.2),
+          (submits unit h.0 (refusal_of img config s (Submit h.0)) x h.2),
     )
     asks_with unit seat (Some end) x h = (
       ap (λ (m : Machine State). seat_place m (r.there unit)) (machine_renamed r p s.plain) ∙ same_seat_place r config.units is (machine_of p s.plain) unit ∙ h.0,

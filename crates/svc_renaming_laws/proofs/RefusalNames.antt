@@ -12,7 +12,7 @@ use Rattle.svc_bus_laws.specs.LineTable.{LineTable}
 use Rattle.svc_machine_laws.specs.WholeMachine.{Seat, Machine, machine_of}
 use Rattle.svc_machine_laws.specs.Events.{Event, Assign, Submit, Replace, Cancel, Commit, seat_place}
 use Rattle.svc_machine_laws.specs.Refusals.{seat_at, is_current, has_ended, asked_word, full_set, no_unit, history_full, cases_of, first_case, refuse}
-use Rattle.svc_machine_laws.specs.Standing.{Standing, refused}
+use Rattle.svc_machine_laws.specs.Standing.{Standing, refusal_of}
 use Rattle.svc_machine_laws.specs.Reached.{IsReached}
 use Rattle.svc_renaming_laws.specs.Renamings.{Renaming, IsRenaming}
 use Rattle.svc_renaming_laws.specs.RenamedLines.{renamed_lines}
@@ -111,12 +111,12 @@ module _ (img : Image) (config : Config) (r : Renaming) (m : Machine State) (t :
       ∷ (history_full config m, refusal.HistoryFull)
       ∷ [])
 
-spelled : (img : Image) (config : Config) (u : Standing) (x : Event) → refused img config u x ≡ first_case (cases_of img config (machine_of (program img) u.plain) u.lines x)
-unfolding refused refuse
+spelled : (img : Image) (config : Config) (u : Standing) (x : Event) → refusal_of img config u x ≡ first_case (cases_of img config (machine_of (program img) u.plain) u.lines x)
+unfolding refusal_of refuse
 spelled img config u x = refl
 
 pub renamed_refused : (img : Image) (config : Config) (r : Renaming) (s : Standing) → IsRenaming config.units r → IsReached img config s → (x : Event)
-    → refused img config (renamed_standing r s) (renamed_event r x) ≡ refused img config s x
+    → refusal_of img config (renamed_standing r s) (renamed_event r x) ≡ refusal_of img config s x
 renamed_refused img config r s is reached x =
     let lines : IsRenaming s.lines.caches r = subst (λ n. IsRenaming n r) (sym reached.lines.caches) is in
     spelled img config (renamed_standing r s) (renamed_event r x)

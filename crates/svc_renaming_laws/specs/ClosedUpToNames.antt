@@ -3,7 +3,7 @@ use Rattle.std.specs.Prelude.{◌≡◌, ◌⊎◌, ℕ, ◌<◌, List}
 use Rattle.svc_base.specs.declared.config.Config.{Config}
 use Rattle.svc_image.specs.Image.{Image, IsImage}
 use Rattle.svc_machine_laws.specs.Events.{Event}
-use Rattle.svc_machine_laws.specs.Standing.{Standing, opened_at, stepped}
+use Rattle.svc_machine_laws.specs.Standing.{Standing, opened_at, standing_after}
 use Rattle.svc_machine_laws.specs.Reached.{IsReached}
 use Rattle.svc_explore_laws.specs.declared.observation.Observation.{Observation}
 use Rattle.svc_explore_laws.specs.Moves.{HasRoom, Moves}
@@ -59,7 +59,7 @@ pub record IsFollowedUpToNames (img : Image) (config : Config) (most : ℕ) {K :
   pub moves : Moves img config most s unit event
   pub found_is : IsFound img s event found
   pub key : K
-  pub has_key : has (stepped img s event) key
+  pub has_key : has (standing_after img s event) key
   pub listed : IsIn key keys
 
 -- a standing with this key that has room, where the move of each unit that has one was followed

@@ -4,7 +4,7 @@ use Rattle.svc_base.specs.declared.config.Config.{Config}
 use Rattle.svc_image.specs.Image.{Image, IsImage}
 use Rattle.svc_machine_laws.specs.declared.reply.Reply.{Reply}
 use Rattle.svc_machine_laws.specs.Events.{Event, IsEvent}
-use Rattle.svc_machine_laws.specs.Standing.{Standing, refused, stepped, reply_to}
+use Rattle.svc_machine_laws.specs.Standing.{Standing, refusal_of, standing_after, reply_to}
 use Rattle.svc_machine_laws.specs.Reached.{IsReached}
 use Rattle.svc_history_laws.specs.Entries.{entry_of}
 use Rattle.svc_renaming_laws.specs.Renamings.{Renaming, IsRenaming}
@@ -24,12 +24,12 @@ RenamedReached = OfStandings (λ img config r s. IsReached img config (renamed_s
 abbrev pub RenamedRefusals : Type 0
 RenamedRefusals =
     OfStandings (λ img config r s. (x : Event)
-    → refused img config (renamed_standing r s) (renamed_event r x) ≡ refused img config s x)
+    → refusal_of img config (renamed_standing r s) (renamed_event r x) ≡ refusal_of img config s x)
 
 -- an accepted event leads to the renamed standing
 abbrev pub RenamedSteps : Type 0
-RenamedSteps = OfStandings (λ img config r s. (x : Event) → IsEvent x → refused img config s x ≡ None
-    → stepped img (renamed_standing r s) (renamed_event r x) ≡ renamed_standing r (stepped img s x))
+RenamedSteps = OfStandings (λ img config r s. (x : Event) → IsEvent x → refusal_of img config s x ≡ None
+    → standing_after img (renamed_standing r s) (renamed_event r x) ≡ renamed_standing r (standing_after img s x))
 
 -- with the renamed answer
 abbrev pub RenamedReplies : Type 0

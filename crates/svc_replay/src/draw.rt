@@ -1,9 +1,10 @@
 //! `draw`: a picture of a trace.
 
-ghost use Rattle.std.specs.Prelude.{◌≡◌, ◌≤◌, ◌+◌, ◌⊎◌, Some, IfOk, IfErr, length};
+ghost use Rattle.std.specs.Prelude.{◌≡◌, ◌≤◌, ◌⊎◌, IfOk, IfErr, length};
 ghost use Rattle.svc_base.specs.declared.config.TheConstants.{MAX_EVENTS};
 ghost use Rattle.svc_request.specs.declared.faults.Fault.TheVariants.{File};
 ghost use Rattle.svc_request.specs.declared.request.Request.TheVariants as request;
+ghost use Rattle.svc_marks.specs.View.{end_shown};
 ghost use Rattle.svc_answer.specs.Drawings.{IsDrawn, drawing_of, shown_as};
 ghost use Rattle.svc_report.specs.Faults.{IsMemoryFault};
 ghost use Rattle.svc_answer.specs.Fronts.{front};
@@ -39,7 +40,7 @@ pub fn draw<F: Files, O: Write>(
     Ok(0)
 }
 
-// Replays the entries up to the last that the picture shows, and draws it.
+// Replays the entries up to the last that the picture may show, and draws it.
 //
 // Errors: the first fault of these entries; [`Fault::File`] if the trace has fewer entries than precede the picture's
 // first; lack of memory.
@@ -50,40 +51,36 @@ fn draw_entries(
     entries: &[Entry],
     picture: Picture<'_>,
 ) -> Result<Vec<u8>, Fault>
-    ensures drawn { IfOk result (λ _. IsDrawn image config entries.now picture.entry.from picture.entry.count) }
-    ensures text { IfOk result (λ text.
-        text.items ≡ drawing_of picture.entry.rows config.units entries.now picture.entry.from picture.entry.count) }
-    ensures fault { let last = picture.entry.from + picture.entry.count in
+    ensures drawn { IfOk result (λ _. IsDrawn image config entries.now picture.entry.view) }
+    ensures text { IfOk result (λ text. text.items ≡ drawing_of picture.entry config.units entries.now) }
+    ensures fault { let view = picture.entry.view in
         IfErr result (λ fault. (fault ≡ File) ⊎ IsReportFault fault
-        ⊎ TellsOfTrace image config (front (Some last) entries.now) fault) }
+        ⊎ TellsOfTrace image config (front (end_shown view.from view.count) entries.now) fault) }
 {
-    let from = u64::from(picture.from);
-    let count = u64::from(picture.count);
-    let drawn = first(entries, Some(from + count));
+    let drawn = first(entries, picture.view.end());
     replay(alloc, image, config, drawn)?;
-    if from > entries.len() as u64 {
+    if u64::from(picture.view.from) > entries.len() as u64 {
         return Err(Fault::File);
     }
-    let text = text_of(alloc, drawn, config, picture.rows, from, count)?;
+    let text = text_of(alloc, drawn, config, picture)?;
     Ok(text)
 }
 
-// What is shown of these entries, as rows or as a picture.
+// What the picture shows of these entries, as rows or drawn.
 fn text_of(
     alloc: Global,
     entries: &[Entry],
     config: Config,
-    rows: bool,
-    from: u64,
-    count: u64,
+    picture: Picture<'_>,
 ) -> Result<Vec<u8>, ReportError>
     requires few { length entries.now ≤ MAX_EVENTS }
-    ensures ok { IfOk result (λ text. text.items ≡ shown_as rows config.units entries.now from count) }
+    ensures ok { let p = picture.entry in IfOk result (λ text.
+        text.items ≡ shown_as p.rows config.units entries.now p.view p.style) }
     ensures err { IfErr result IsMemoryFault }
 {
-    if rows {
-        svc_marks::picture_rows(alloc, entries, from, count)
+    if picture.rows {
+        svc_marks::picture_rows(alloc, entries, &picture.view)
     } else {
-        svc_draw::draw(alloc, entries, config.units, from, count)
+        svc_draw::draw(alloc, entries, config.units, &picture.view, picture.style)
     }
 }

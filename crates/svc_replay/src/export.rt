@@ -14,11 +14,11 @@ use std::io::Write;
 use svc_answer::load::load_traced;
 use svc_base::Config;
 use svc_export::export_text;
-use svc_held::{Span, is_asked};
 use svc_history::Entry;
 use svc_image::Image;
 use svc_report::ReportError;
 use svc_request::{Exported, Fault, Files, Traced};
+use svc_span::{Span, is_asked};
 
 /// Replays a trace, and saves it for another viewer. Nothing is printed.
 pub fn export<F: Files, O: Write>(

@@ -7,10 +7,12 @@ use svc_base::Config;
 use svc_core::MAX_BURST_TURNS;
 use svc_depend::MAX_TASKS;
 use svc_export::Format;
-use svc_held::Span;
+use svc_marks::View;
 use svc_observations::Sought;
 use svc_report::TableRow;
+use svc_sheet::Style;
 use svc_show::Extras;
+use svc_span::Span;
 
 /// The program's version.
 pub const VERSION: &str = "0.1.0";
@@ -210,10 +212,10 @@ pub enum Compared {
 pub struct Picture<'a> {
     /// The file in which it is saved.
     pub file: &'a str,
-    /// The first entry that it shows, counted from 0.
-    pub from: u32,
-    /// How many entries it shows at most.
-    pub count: u32,
+    /// What of the trace it shows.
+    pub view: View,
+    /// How it is drawn.
+    pub style: Style,
     /// Whether what it shows is saved as rows.
     pub rows: bool,
 }

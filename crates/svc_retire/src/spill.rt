@@ -45,7 +45,7 @@ impl SpillPlace {
     }
 
     // The place after its word was stored again.
-    fn emptied(&self) -> SpillPlace
+    fn without_version(&self) -> SpillPlace
         ensures listed { is_listed result ≡ is_listed self.now }
         ensures empty { spilled_version result ≡ None }
     {
@@ -116,6 +116,16 @@ impl Spill {
         })
     }
 
+    /// It becomes equal to another table, for a memory of as many words. It takes no memory.
+    pub fn copy_from(&mut self, other: &Spill)
+        requires { length self.old ≡ length other.now }
+        ensures { self.new ≡ other.now }
+    {
+        self.places.copy_from_slice(&other.places);
+        self.words.copy_from_slice(&other.words);
+        self.count = other.count;
+    }
+
     /// How many words the memory has.
     pub fn len(&self) -> usize
         ensures { result ≡ length self.now }
@@ -150,7 +160,7 @@ impl Spill {
         ensures { self.new ≡ set self.old word.0 None }
     {
         let place = word.0 as usize;
-        self.places[place] = self.places[place].emptied();
+        self.places[place] = self.places[place].without_version();
     }
 
     /// The head is committed: the spilled versions go to the backing memory, and the table is empty.

@@ -21,7 +21,7 @@ use Rattle.svc_machine_laws.specs.WholeMachine.{Seat, Machine, machine_of}
 use Rattle.svc_machine_laws.specs.Events.{Event, Assign, Submit, Replace, Commit}
 use Rattle.svc_machine_laws.specs.Refusals.{seat_at, asked_word}
 use Rattle.svc_machine_laws.specs.Guess.{guess, IsGuess}
-use Rattle.svc_machine_laws.specs.Standing.{Standing, refused}
+use Rattle.svc_machine_laws.specs.Standing.{Standing, refusal_of}
 use Rattle.svc_machine_laws.proofs.Given.{given}
 use Rattle.svc_machine_laws.proofs.Guessing.{is_guess}
 use Rattle.svc_machine.specs.Reads.{lease_of, lease_from, runs_head, is_full}
@@ -114,12 +114,12 @@ module _ (r : Recorded) (legal : IsLegal r) (is : IsImage r.machine.image) where
       both_ways false refl (sym (ap is_some there) ∙ there_guess.going (going h).stopped)
 
   assigned : has_ended r.machine ≡ false → (unit : ℕ) → unit < config.units → lease_of r.machine unit ≡ None → (e : ℕ) → guess (program img) img.entries r.machine.plain ≡ Some e
-      → refused img config s (Assign unit e) ≡ None
+      → refusal_of img config s (Assign unit e) ≡ None
   assigned h unit known idle e guess_is =
       assign_passes img config s (going h) unit known e (idle_seat unit idle) (there_guess.entry e (ap (guess (program img) img.entries) (sym same) ∙ guess_is)) epochs_left
 
   committed : has_ended r.machine ≡ false → (unit : ℕ) → unit < config.units → (lease : Lease) → lease_of r.machine unit ≡ Some lease → is_none lease.core.done ≡ false → runs_head r.machine unit ≡ true
-      → refused img config s (Commit unit) ≡ None
+      → refusal_of img config s (Commit unit) ≡ None
   committed h unit known lease at ended head =
       let seat = seat_of unit lease at in
       commit_passes img config s (going h) unit known seat.0 seat.1 (head_there unit head) (done_some seat.0.core.done (ap (λ (l : Lease). is_none l.core.done) seat.2 ∙ ended))
@@ -143,8 +143,8 @@ module _ (r : Recorded) (legal : IsLegal r) (is : IsImage r.machine.image) where
 
   -- its submit is refused for a full set alone, and the head's unit may replace the line that is named
   submitted : (h : has_ended r.machine ≡ false) (unit : ℕ) (known : unit < config.units) (lease : Lease) → lease_of r.machine unit ≡ Some lease → is_none lease.core.done ≡ true
-      → (most : ℕ) → 0 < most → (b : Advance) → IsBurstOf img most lease b → (why : Refusal) → refused img config s (Submit b) ≡ Some why
-      → (a : ℕ) × (why ≡ refusal.SetFull (record { 0 = a })) × (runs_head r.machine unit ≡ true → refused img config s (Replace unit a) ≡ None)
+      → (most : ℕ) → 0 < most → (b : Advance) → IsBurstOf img most lease b → (why : Refusal) → refusal_of img config s (Submit b) ≡ Some why
+      → (a : ℕ) × (why ≡ refusal.SetFull (record { 0 = a })) × (runs_head r.machine unit ≡ true → refusal_of img config s (Replace unit a) ≡ None)
   submitted h unit known lease at running most some b made why says =
       let names = submit_passes img config s (going h) unit known b why (own_burst h unit known lease at running most some b made) says in
       (names.addr, names.why_is, λ head. replace_passes img config s (going h) unit known on.reached.lines.units (asked_word img b.ask) names.addr names.full (head_there unit head))
@@ -178,15 +178,15 @@ module _ (r : Recorded) (legal : IsLegal r) (is : IsImage r.machine.image) where
 
   -- a move that asks for nothing, or for an event that is refused
   abbrev Stuck : (most unit : ℕ) → NextMove → Type 0
-  Stuck most unit mv = ((mv ≡ move.Wait) ⊎ (mv ≡ move.Ended)) ⊎ ((x : Event) × Asks img config s most unit mv x × (is_some (refused img config s x) ≡ true))
+  Stuck most unit mv = ((mv ≡ move.Wait) ⊎ (mv ≡ move.Ended)) ⊎ ((x : Event) × Asks img config s most unit mv x × (is_some (refusal_of img config s x) ≡ true))
 
   stuck : (most unit : ℕ) → unit < config.units → IsPassed most r (record { 0 = unit }) → Stuck most unit (move_of r.machine unit)
   stuck most unit known (inl (inl beyond)) = absurd (omega (arith, known, beyond))
   stuck most unit known (inl (inr none)) = inl none
   stuck most unit known (inr not) = inr (not.event, not.move_is.asks, not.refused_is)
 
-  accepted : (x y : Event) → x ≡ y → refused img config s y ≡ None → is_some (refused img config s x) ≡ true → ⊥
-  accepted x y e passes h = both_ways (is_some (refused img config s x)) (ap (λ z. is_some (refused img config s z)) e ∙ ap is_some passes) h
+  accepted : (x y : Event) → x ≡ y → refusal_of img config s y ≡ None → is_some (refusal_of img config s x) ≡ true → ⊥
+  accepted x y e passes h = both_ways (is_some (refusal_of img config s x)) (ap (λ z. is_some (refusal_of img config s z)) e ∙ ap is_some passes) h
 
   module _ (h : has_ended r.machine ≡ false) (most : ℕ) (some : 0 < most) (unit : ℕ) (known : unit < config.units) where
     in_run_is : move_of r.machine unit ≡ in_run (lease_of r.machine unit) (runs_head r.machine unit) (guess (program img) img.entries r.machine.plain)
@@ -200,9 +200,9 @@ module _ (r : Recorded) (legal : IsLegal r) (is : IsImage r.machine.image) where
     runs_on : (lease : Lease) → lease_of r.machine unit ≡ Some lease → is_none lease.core.done ≡ true → runs_head r.machine unit ≡ true → Stuck most unit (move.RunOn lease) → ⊥
     runs_on lease at running head (inl (inl e)) = cc (e)
     runs_on lease at running head (inl (inr e)) = cc (e)
-    runs_on lease at running head (inr (x, (b, made, inl (asks, room)), not)) = of (refused img config s (Submit b)) refl
+    runs_on lease at running head (inr (x, (b, made, inl (asks, room)), not)) = of (refusal_of img config s (Submit b)) refl
       where
-        of : (o : Option Refusal) → refused img config s (Submit b) ≡ o → ⊥
+        of : (o : Option Refusal) → refusal_of img config s (Submit b) ≡ o → ⊥
         of None e = accepted x (Submit b) asks e not
         of (Some why) e = let names = submitted h unit known lease at running most some b made why e in room (record { 0 = names.0 }) (e ∙ ap Some names.1)
     runs_on lease at running head (inr (x, (b, made, inr (addr, full, asks)), not)) =

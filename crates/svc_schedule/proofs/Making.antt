@@ -14,7 +14,7 @@ use Rattle.svc_image.specs.Image.{Image}
 use Rattle.svc_core_laws.specs.Bursts.{Advance, IsAdvance}
 use Rattle.svc_core.specs.declared.burst.Lease.{Lease}
 use Rattle.svc_machine_laws.specs.Events.{Event, Submit, Replace}
-use Rattle.svc_machine_laws.specs.Standing.{refused}
+use Rattle.svc_machine_laws.specs.Standing.{refusal_of}
 use Rattle.svc_history_laws.specs.declared.entry.Entry.{Entry}
 use Rattle.svc_history_laws.specs.declared.entry.Slip.{Slip}
 use Rattle.svc_history.specs.Applying.{IsApplied, refused_at}
@@ -60,7 +60,7 @@ module _ (most : ℕ) (old new : Recorded) (unit : UnitId) (known : unit.0 < old
   Wants mv x = Asks old.machine.image old.machine.config (standing_of old) most unit.0 mv x
 
   abbrev why_not : Event → Option Refusal
-  why_not x = refused old.machine.image old.machine.config (standing_of old) x
+  why_not x = refusal_of old.machine.image old.machine.config (standing_of old) x
 
   -- the event of its move is accepted
   pub made : (mv : NextMove) (x : Event) → move_of old.machine unit.0 ≡ mv → Wants mv x → Records old new x → IsMade most old new unit

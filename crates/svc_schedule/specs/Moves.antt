@@ -9,7 +9,7 @@ use Rattle.svc_image.specs.Image.{Image}
 use Rattle.svc_core_laws.specs.Bursts.{Advance, IsAdvance}
 use Rattle.svc_core.specs.declared.burst.Lease.{Lease}
 use Rattle.svc_machine_laws.specs.Events.{Event, Assign, Submit, Replace, Commit}
-use Rattle.svc_machine_laws.specs.Standing.{Standing, refused, reply_to}
+use Rattle.svc_machine_laws.specs.Standing.{Standing, refusal_of, reply_to}
 use Rattle.svc_history_laws.specs.Entries.{entry_of}
 use Rattle.svc_history.specs.Moves.{NextMove, move_of}
 use Rattle.svc_history.specs.Moves as move
@@ -38,7 +38,7 @@ SubmitsOrReplaces unit b why x =
 abbrev pub Asks : Image → Config → Standing → (most unit : ℕ) → NextMove → Event → Type 0
 Asks img config s most unit (move.Begin entry) x = x ≡ Assign unit entry
 Asks img config s most unit (move.RunOn lease) x =
-    (b : Advance) × IsBurstOf img most lease b × SubmitsOrReplaces unit b (refused img config s (Submit b)) x
+    (b : Advance) × IsBurstOf img most lease b × SubmitsOrReplaces unit b (refusal_of img config s (Submit b)) x
 Asks img config s most unit move.Commit x = x ≡ Commit unit
 Asks img config s most unit move.Wait x = ⊥
 Asks img config s most unit move.Ended x = ⊥
@@ -50,7 +50,7 @@ pub record IsMove (most : ℕ) (r : Recorded) (unit : ℕ) (x : Event) : Type 0 
 
 -- the event is accepted, and the history has its entry
 pub record Records (old new : Recorded) (x : Event) : Type 0 where
-  pub accepted : refused old.machine.image old.machine.config (standing_of old) x ≡ None
+  pub accepted : refusal_of old.machine.image old.machine.config (standing_of old) x ≡ None
   pub entries : new.entries ≡ old.entries ++ entry_of x (reply_to old.machine.image (standing_of old) x) ∷ []
   pub image : new.machine.image ≡ old.machine.image
   pub config : new.machine.config ≡ old.machine.config
@@ -70,7 +70,7 @@ HasNoMove r unit =
 pub record IsRefused (most : ℕ) (r : Recorded) (unit : ℕ) : Type 0 where
   pub event : Event
   pub move_is : IsMove most r unit event
-  pub refused_is : is_some (refused r.machine.image r.machine.config (standing_of r) event) ≡ true
+  pub refused_is : is_some (refusal_of r.machine.image r.machine.config (standing_of r) event) ≡ true
 
 -- a step passes the unit over
 abbrev pub IsPassed : (most : ℕ) → Recorded → UnitId → Type 0

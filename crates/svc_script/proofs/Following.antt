@@ -15,7 +15,7 @@ use Rattle.svc_machine_laws.specs.WholeMachine.{Machine, Seat, machine_of}
 use Rattle.svc_machine_laws.specs.Refusals.{seat_at}
 use Rattle.svc_machine_laws.specs.Events.{Event}
 use Rattle.svc_machine_laws.specs.Events as event
-use Rattle.svc_machine_laws.specs.Standing.{Standing, opened_at, refused, reply_to}
+use Rattle.svc_machine_laws.specs.Standing.{Standing, opened_at, refusal_of, reply_to}
 use Rattle.svc_machine_laws.proofs.Given.{given}
 use Rattle.svc_machine.specs.Reads.{lease_from, lease_of}
 use Rattle.svc_history_laws.specs.declared.entry.Entry.{Entry}
@@ -129,7 +129,7 @@ found_by r e found next kept after legal is does = of (did e.kind r e (answer.Ac
 other_answer : (r : Recorded) (e : Entry) (a : Answer) (next : Recorded) → ((f : Entry) → a ≡ answer.Accepted f → ⊥) → Did r e e.kind a next → IsWrongElsewhere r e fault.Refused
 other_answer r e (answer.Accepted f) next not tried = absurd (not f refl)
 other_answer r e (answer.Refused why) next not (inl tried) = λ x replay.
-    ap is_some (ap (refused r.machine.image r.machine.config (standing_of r)) (one_replay r.machine.image (standing_of r).plain e x tried.event e.kind replay tried.replay) ∙ tried.tries.0)
+    ap is_some (ap (refusal_of r.machine.image r.machine.config (standing_of r)) (one_replay r.machine.image (standing_of r).plain e x tried.event e.kind replay tried.replay) ∙ tried.tries.0)
 other_answer r e (answer.Taken local ask) next not (inl tried) = absurd tried.tries
 other_answer r e answer.Nothing next not (inl tried) = absurd tried.tries
 other_answer r e a next not (inr (is, none)) = λ x replay. absurd (none x replay)
@@ -209,7 +209,7 @@ module _ (img : Image) (config : Config) where
   not_refused s f e is alike legal refuses =
       let has : HasEvent img config s f = has_event img (given img is) config s f legal in
       let there : ReplaysAs e.kind img s.plain (supplied_as e f) has.event = subst (λ (x : Entry). ReplaysAs x.kind img s.plain x has.event) alike has.replay in
-      both_ways (is_some (refused img config s has.event)) (ap is_some has.accepted) (refuses has.event (same_replay e.kind img s.plain e f has.event there))
+      both_ways (is_some (refusal_of img config s has.event)) (ap is_some has.accepted) (refuses has.event (same_replay e.kind img s.plain e f has.event there))
 
   -- nor where the event has another entry
   not_other : (s : Standing) (f e : Entry) → AreAlike f e → LegalEntry img config s f → DiffersElsewhere img config s e → ⊥

@@ -16,7 +16,7 @@ use Rattle.svc_machine_laws.specs.WholeMachine.{Machine, Seat, machine_of, seat_
 use Rattle.svc_machine_laws.specs.Refusals.{seat_at}
 use Rattle.svc_machine_laws.specs.Events.{Event, seat_place}
 use Rattle.svc_machine_laws.specs.Events as event
-use Rattle.svc_machine_laws.specs.Standing.{Standing, opened_at, refused, reply_to}
+use Rattle.svc_machine_laws.specs.Standing.{Standing, opened_at, refusal_of, reply_to}
 use Rattle.svc_machine_laws.proofs.Given.{given}
 use Rattle.svc_machine_laws.proofs.Places.{found}
 use Rattle.svc_machine.specs.Reads.{lease_from, lease_of}
@@ -59,7 +59,7 @@ pub record Gave (r : Recorded) (e : Entry) (a : Answer) (next : Recorded) : Type
   pub accepts : Accepts r event e next
 
 -- an event that isn't refused is accepted when it is tried
-gave : (r : Recorded) (x : Event) (e : Entry) (a : Answer) (next : Recorded) → refused r.machine.image r.machine.config (standing_of r) x ≡ None
+gave : (r : Recorded) (x : Event) (e : Entry) (a : Answer) (next : Recorded) → refusal_of r.machine.image r.machine.config (standing_of r) x ≡ None
     → e ≡ entry_of x (reply_to r.machine.image (standing_of r) x) → Tries r x a next → Gave r e a next
 gave r x e (answer.Accepted f) next free entry tries =
     let same : f ≡ e = tries.entry ∙ sym entry in
@@ -72,12 +72,12 @@ gave r x e answer.Nothing next free entry tries = absurd tries
 pub record Named (r : Recorded) (e : Entry) (k : Kind) (x : Event) : Type 0 where
   pub legal : IsLegal r
   pub replay : ReplaysAs k r.machine.image (standing_of r).plain e x
-  pub free : refused r.machine.image r.machine.config (standing_of r) x ≡ None
+  pub free : refusal_of r.machine.image r.machine.config (standing_of r) x ≡ None
   pub entry : e ≡ entry_of x (reply_to r.machine.image (standing_of r) x)
 
 gave_as : (r : Recorded) (x y : Event) (e : Entry) (a : Answer) (next : Recorded) (k : Kind) → Named r e k x → x ≡ y → Tries r y a next → Gave r e a next
 gave_as r x y e a next k named same tries =
-    gave r y e a next (subst (λ (z : Event). refused r.machine.image r.machine.config (standing_of r) z ≡ None) same named.free)
+    gave r y e a next (subst (λ (z : Event). refusal_of r.machine.image r.machine.config (standing_of r) z ≡ None) same named.free)
     (subst (λ (z : Event). e ≡ entry_of z (reply_to r.machine.image (standing_of r) z)) same named.entry) tries
 
 -- the seat of a unit's task is that unit's

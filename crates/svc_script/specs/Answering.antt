@@ -5,7 +5,7 @@ use Rattle.svc_base.specs.declared.refusal.Refusal.{Refusal}
 use Rattle.svc_base.specs.declared.refusal.Refusal.TheVariants as refusal
 use Rattle.svc_image.specs.Image.{Image}
 use Rattle.svc_machine_laws.specs.Events.{Event}
-use Rattle.svc_machine_laws.specs.Standing.{refused, reply_to}
+use Rattle.svc_machine_laws.specs.Standing.{refusal_of, reply_to}
 use Rattle.svc_history_laws.specs.declared.entry.Entry.{Entry}
 use Rattle.svc_history_laws.specs.Entries.{entry_of}
 use Rattle.svc_history_laws.specs.Legal.{LegalHistory, led_to}
@@ -18,7 +18,7 @@ use Rattle.svc_script.specs.declared.playing.Answer.TheVariants as answer
 pub record IsSoundRow (img : Image) (config : Config) (es : List Entry) (e found : Entry) : Type 0 where
   pub event : Event
   pub replay : IsReplay img (led_to img config es).plain e event
-  pub accepted : refused img config (led_to img config es) event ≡ None
+  pub accepted : refusal_of img config (led_to img config es) event ≡ None
   pub entry : found ≡ entry_of event (reply_to img (led_to img config es) event)
   pub sound : LegalHistory img config (es ++ found ∷ [])
 
@@ -26,7 +26,7 @@ pub record IsSoundRow (img : Image) (config : Config) (es : List Entry) (e found
 pub record RefusesEvent (img : Image) (config : Config) (es : List Entry) (e : Entry) (why : Refusal) : Type 0 where
   pub event : Event
   pub replay : IsReplay img (led_to img config es).plain e event
-  pub why_is : refused img config (led_to img config es) event ≡ Some why
+  pub why_is : refusal_of img config (led_to img config es) event ≡ Some why
 
 -- the entry names no event, since its unit has no task, or there is no such unit
 pub record HasNoTask (img : Image) (config : Config) (es : List Entry) (e : Entry) (why : Refusal) : Type 0 where

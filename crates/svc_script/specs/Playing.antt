@@ -11,7 +11,7 @@ use Rattle.svc_core_laws.specs.Bursts.{Advance, IsAdvance, is_nothing}
 use Rattle.svc_core.specs.declared.burst.Lease.{Lease}
 use Rattle.svc_machine_laws.specs.Events.{Event}
 use Rattle.svc_machine_laws.specs.Events as event
-use Rattle.svc_machine_laws.specs.Standing.{refused, reply_to}
+use Rattle.svc_machine_laws.specs.Standing.{refusal_of, reply_to}
 use Rattle.svc_machine.specs.Reads.{lease_of}
 use Rattle.svc_history_laws.specs.declared.entry.Entry.{Entry}
 use Rattle.svc_history_laws.specs.Entries.{entry_of}
@@ -41,7 +41,7 @@ kept_for kept unit = unwrap_or (slice_get kept unit.0) None
 
 -- an event is accepted with this entry, which is appended, and the same machine goes on where the history leads
 pub record Accepts (r : Recorded) (x : Event) (e : Entry) (next : Recorded) : Type 0 where
-  pub admitted : refused r.machine.image r.machine.config (standing_of r) x ≡ None
+  pub admitted : refusal_of r.machine.image r.machine.config (standing_of r) x ≡ None
   pub entry : e ≡ entry_of x (reply_to r.machine.image (standing_of r) x)
   pub entries : next.entries ≡ r.entries ++ e ∷ []
   pub image : next.machine.image ≡ r.machine.image
@@ -52,7 +52,7 @@ pub record Accepts (r : Recorded) (x : Event) (e : Entry) (next : Recorded) : Ty
 abbrev pub Tries : Recorded → Event → Answer → Recorded → Type 0
 Tries r x (answer.Accepted e) next = Accepts r x e next
 Tries r x (answer.Refused why) next =
-    (refused r.machine.image r.machine.config (standing_of r) x ≡ Some why) × (next ≡ r)
+    (refusal_of r.machine.image r.machine.config (standing_of r) x ≡ Some why) × (next ≡ r)
 Tries r x (answer.Taken local ask) next = ⊥
 Tries r x answer.Nothing next = ⊥
 

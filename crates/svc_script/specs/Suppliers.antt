@@ -4,7 +4,7 @@ use Rattle.std.specs.Prelude.{take}
 use Rattle.svc_base.specs.declared.config.Config.{Config}
 use Rattle.svc_image.specs.Image.{Image}
 use Rattle.svc_machine_laws.specs.Events.{Event}
-use Rattle.svc_machine_laws.specs.Standing.{Standing, refused, reply_to}
+use Rattle.svc_machine_laws.specs.Standing.{Standing, refusal_of, reply_to}
 use Rattle.svc_history_laws.specs.declared.entry.Entry.{Entry}
 use Rattle.svc_history_laws.specs.declared.entry.Kind.{Kind}
 use Rattle.svc_history_laws.specs.declared.entry.Kind.TheVariants.{Assign, Submit, Replace, Cancel, Commit}
@@ -55,7 +55,7 @@ pub record IsSoundWith (img : Image) (config : Config) (es found : List Entry) :
 pub record DiffersElsewhere (img : Image) (config : Config) (s : Standing) (e : Entry) : Type 0 where
   pub event : Event
   pub replay : IsReplay img s.plain e event
-  pub accepted : refused img config s event ≡ None
+  pub accepted : refusal_of img config s event ≡ None
   pub entry : AreAlike (entry_of event (reply_to img s event)) e → ⊥
 
 -- the entries before the index are sound with some suppliers, and with no suppliers those up to the entry there, of

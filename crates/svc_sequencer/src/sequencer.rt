@@ -155,6 +155,19 @@ impl Sequencer {
         })
     }
 
+    /// It becomes equal to another sequencer of the same entries. It takes no memory.
+    pub fn copy_from(&mut self, other: &Sequencer)
+        requires { self.old.entries ≡ other.now.entries }
+        ensures { self.new ≡ other.now }
+    {
+        self.successors.copy_from_slice(&other.successors);
+        self.due = other.due;
+        self.active.clear();
+        let _active_fit = self.active.try_extend_from_slice(&other.active);
+        self.indices.clear();
+        let _indices_fit = self.indices.try_extend_from_slice(&other.indices);
+    }
+
     /// The byte address of the entry of the next task to commit, while the run goes on.
     pub fn due(&self) -> Option<u32>
         ensures { result ≡ self.now.due }

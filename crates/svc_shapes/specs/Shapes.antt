@@ -2,7 +2,7 @@
 -- escape.
 use Rattle.std.specs.Prelude.{ℕ, ◌+◌, ◌*◌, ◌/◌, List, [], ◌∷◌, ◌++◌, codes, decimal}
 use Rattle.std.specs.List.{concat}
-use Rattle.svc_shapes.specs.declared.sheet.TheConstants.{BOTTOM, TOP}
+use Rattle.svc_shapes.specs.declared.sheet.TheConstants.{TOP}
 
 -- ---- marks: each kind is made once, about the place where it is used
 
@@ -56,10 +56,10 @@ mark_at x y name letter =
     concat (codes "<use href='#" ∷ name ∷ letter ∷ codes "' x='" ∷ decimal x ∷ codes "' y='" ∷ decimal y ∷ codes "'>"
     ∷ [])
 
--- a broken line across all lanes: a commit
-unfoldable pub commit_line : (x : ℕ) → List ℕ
-commit_line x =
-    concat (codes "<path d='M" ∷ decimal x ∷ codes " " ∷ decimal TOP ∷ codes "V" ∷ decimal BOTTOM
+-- a broken line across all lanes, down to where they end: a commit
+unfoldable pub commit_line : (x bottom : ℕ) → List ℕ
+commit_line x bottom =
+    concat (codes "<path d='M" ∷ decimal x ∷ codes " " ∷ decimal TOP ∷ codes "V" ∷ decimal bottom
     ∷ codes "' fill='none' stroke='#2e7d32' stroke-width='2' stroke-dasharray='6 4'>" ∷ [])
 
 -- an arrow from one place to another: thin where a version goes to its reader, bold where a store squashes one
@@ -143,10 +143,12 @@ joined_title count name first last =
     concat (codes "<title>" ∷ decimal count ∷ codes " " ∷ name ∷ codes ", entries " ∷ decimal first ∷ codes " to "
     ∷ decimal last ∷ codes "</title>" ∷ [])
 
--- the words below a picture that has such things
-unfoldable pub joined_words : List ℕ
-joined_words =
-    codes "<text x='835' y='884' text-anchor='middle'>a mark stands for all of its kind near it; point at it for how many</text>\n"
+-- the words below the lanes of a picture that has such things
+unfoldable pub joined_words : (bottom : ℕ) → List ℕ
+joined_words bottom =
+    concat (codes "<text x='835' y='" ∷ decimal (bottom + 46)
+    ∷ codes
+    "' text-anchor='middle'>a mark stands for all of its kind near it; point at it for how many</text>\n" ∷ [])
 
 -- ---- the legend
 
@@ -197,21 +199,22 @@ lane number top height fill middle =
     ∷ fill
     ∷ codes "'/><text x='20' y='" ∷ decimal middle ∷ codes "'>unit " ∷ decimal number ∷ codes "</text>\n" ∷ [])
 
--- an entry's number, below its place
-unfoldable pub tick : (x place : ℕ) → List ℕ
-tick x place =
-    concat (codes "<path d='M" ∷ decimal x ∷ codes " 838V845' stroke='#111'/><text x='" ∷ decimal x
-    ∷ codes "' y='860' text-anchor='middle'>" ∷ decimal place ∷ codes "</text>\n" ∷ [])
+-- an entry's number, below its place, where the lanes end
+unfoldable pub tick : (x bottom place : ℕ) → List ℕ
+tick x bottom place =
+    concat (codes "<path d='M" ∷ decimal x ∷ codes " " ∷ decimal bottom ∷ codes "V" ∷ decimal (bottom + 7)
+    ∷ codes "' stroke='#111'/><text x='" ∷ decimal x ∷ codes "' y='" ∷ decimal (bottom + 22)
+    ∷ codes "' text-anchor='middle'>" ∷ decimal place ∷ codes "</text>\n" ∷ [])
 
 -- ---- what every picture has
 
--- its size
-unfoldable pub opening : List ℕ
-opening =
-    concat (codes
-    "<?xml version='1.0' encoding='UTF-8'?>\n<svg xmlns='http://www.w3.org/2000/svg' width='1600' height='900' "
-    ∷ codes "viewBox='0 0 1600 900' font-family='Helvetica, Arial, sans-serif' font-size='14' fill='#111'>\n<defs>\n"
-    ∷ [])
+-- its size, by where its lanes end
+unfoldable pub opening : (bottom : ℕ) → List ℕ
+opening bottom =
+    concat
+    (codes "<?xml version='1.0' encoding='UTF-8'?>\n<svg xmlns='http://www.w3.org/2000/svg' width='1600' height='"
+    ∷ decimal (bottom + 62) ∷ codes "' viewBox='0 0 1600 " ∷ decimal (bottom + 62)
+    ∷ codes "' font-family='Helvetica, Arial, sans-serif' font-size='14' fill='#111'>\n<defs>\n" ∷ [])
 
 -- a hatching of 8 by 8
 unfoldable pub hatching : (name turn paper lines : List ℕ) → List ℕ
@@ -220,8 +223,9 @@ hatching name turn paper lines =
     ∷ codes "><rect width='8' height='8' fill='" ∷ paper ∷ codes "'/>" ∷ lines ∷ codes "</pattern>\n" ∷ [])
 
 -- the paper, after the hatchings
-unfoldable pub paper_text : List ℕ
-paper_text = codes "</defs>\n<rect width='1600' height='900' fill='#fff'/>\n"
+unfoldable pub paper_text : (bottom : ℕ) → List ℕ
+paper_text bottom =
+    concat (codes "</defs>\n<rect width='1600' height='" ∷ decimal (bottom + 62) ∷ codes "' fill='#fff'/>\n" ∷ [])
 
 -- samples of the lines that marks have
 unfoldable pub commit_sample : List ℕ
@@ -237,12 +241,19 @@ bold_sample = codes "<path d='M1090 90H1160' stroke='#b01010' stroke-width='4' m
 unfoldable pub closing : List ℕ
 closing = codes "</svg>\n"
 
--- the rim of the lanes
-unfoldable pub border : List ℕ
-border = codes "<rect x='90' y='118' width='1490' height='720' fill='none' stroke='#888'/>\n"
+-- the rim of the lanes, as high as they are together
+unfoldable pub border : (height : ℕ) → List ℕ
+border height =
+    concat (codes "<rect x='90' y='118' width='1490' height='" ∷ decimal height
+    ∷ codes "' fill='none' stroke='#888'/>\n" ∷ [])
 
--- the words below the axis
-unfoldable pub axis_words : List ℕ
-axis_words =
-    concat (codes "<text x='90' y='884'>in a bar: the number of its task @ the address where that began</text>\n"
-    ∷ codes "<text x='1580' y='884' text-anchor='end'>entry of the trace, counted from 0</text>\n" ∷ [])
+-- the words below the axis: what a bar's words are, and what the numbers are
+unfoldable pub bar_words : (bottom : ℕ) → List ℕ
+bar_words bottom =
+    concat (codes "<text x='90' y='" ∷ decimal (bottom + 46)
+    ∷ codes "'>in a bar: the number of its task @ the address where that began</text>\n" ∷ [])
+
+unfoldable pub axis_words : (bottom : ℕ) → List ℕ
+axis_words bottom =
+    concat (codes "<text x='1580' y='" ∷ decimal (bottom + 46)
+    ∷ codes "' text-anchor='end'>entry of the trace, counted from 0</text>\n" ∷ [])

@@ -3,7 +3,7 @@
 ghost use Rattle.std.specs.Prelude.{◌≡◌, ◌++◌, OnOk};
 ghost use Rattle.svc_shapes.specs.Shapes.{headline, fate_sample, mark_sample, arrow_heads, parts_open, parts_close};
 ghost use Rattle.svc_shapes.specs.Shapes.{lane, tick, opening, hatching, paper_text, commit_sample, thin_sample};
-ghost use Rattle.svc_shapes.specs.Shapes.{bold_sample, closing, border, axis_words};
+ghost use Rattle.svc_shapes.specs.Shapes.{bold_sample, closing, border, axis_words, bar_words};
 
 use crate::sheet::Point;
 use std::alloc::AllocError;
@@ -167,38 +167,49 @@ pub fn lane(
     )
 }
 
-/// An entry's number, below its place.
+/// An entry's number, below its place, where the lanes end.
 #[tactic(auto, unfolding(crate::specs::Shapes::tick))]
-pub fn tick(text: &mut Vec<u8>, x: u64, place: u64) -> Result<(), AllocError>
-    ensures { OnOk result (text.new.items ≡ text.old.items ++ tick x place) }
+pub fn tick(text: &mut Vec<u8>, x: u64, bottom: u32, place: u64) -> Result<(), AllocError>
+    ensures { OnOk result (text.new.items ≡ text.old.items ++ tick x bottom place) }
 {
+    let bottom = bottom as u64;
     put_parts(
         text,
         &[
             Part::Text("<path d='M"),
             Part::Number(x),
-            Part::Text(" 838V845' stroke='#111'/><text x='"),
+            Part::Text(" "),
+            Part::Number(bottom),
+            Part::Text("V"),
+            Part::Number(bottom + 7),
+            Part::Text("' stroke='#111'/><text x='"),
             Part::Number(x),
-            Part::Text("' y='860' text-anchor='middle'>"),
+            Part::Text("' y='"),
+            Part::Number(bottom + 22),
+            Part::Text("' text-anchor='middle'>"),
             Part::Number(place),
             Part::Text("</text>\n"),
         ],
     )
 }
 
-/// The size of every picture.
+/// The size of a picture, by where its lanes end.
 #[tactic(auto, unfolding(crate::specs::Shapes::opening))]
-pub fn opening(text: &mut Vec<u8>) -> Result<(), AllocError>
-    ensures { OnOk result (text.new.items ≡ text.old.items ++ opening) }
+pub fn opening(text: &mut Vec<u8>, bottom: u32) -> Result<(), AllocError>
+    ensures { OnOk result (text.new.items ≡ text.old.items ++ opening bottom) }
 {
+    let height = bottom as u64 + 62;
     put_parts(
         text,
         &[
             Part::Text(
-                "<?xml version='1.0' encoding='UTF-8'?>\n<svg xmlns='http://www.w3.org/2000/svg' width='1600' height='900' ",
+                "<?xml version='1.0' encoding='UTF-8'?>\n<svg xmlns='http://www.w3.org/2000/svg' width='1600' height='",
             ),
+            Part::Number(height),
+            Part::Text("' viewBox='0 0 1600 "),
+            Part::Number(height),
             Part::Text(
-                "viewBox='0 0 1600 900' font-family='Helvetica, Arial, sans-serif' font-size='14' fill='#111'>\n<defs>\n",
+                "' font-family='Helvetica, Arial, sans-serif' font-size='14' fill='#111'>\n<defs>\n",
             ),
         ],
     )
@@ -233,12 +244,16 @@ pub fn hatching<'a>(
 
 /// The paper, after the hatchings.
 #[tactic(auto, unfolding(crate::specs::Shapes::paper_text))]
-pub fn paper_text(text: &mut Vec<u8>) -> Result<(), AllocError>
-    ensures { OnOk result (text.new.items ≡ text.old.items ++ paper_text) }
+pub fn paper_text(text: &mut Vec<u8>, bottom: u32) -> Result<(), AllocError>
+    ensures { OnOk result (text.new.items ≡ text.old.items ++ paper_text bottom) }
 {
     put_parts(
         text,
-        &[Part::Text("</defs>\n<rect width='1600' height='900' fill='#fff'/>\n")],
+        &[
+            Part::Text("</defs>\n<rect width='1600' height='"),
+            Part::Number(bottom as u64 + 62),
+            Part::Text("' fill='#fff'/>\n"),
+        ],
     )
 }
 
@@ -289,33 +304,49 @@ pub fn closing(text: &mut Vec<u8>) -> Result<(), AllocError>
     put_parts(text, &[Part::Text("</svg>\n")])
 }
 
-/// The rim of the lanes.
+/// The rim of the lanes, as high as they are together.
 #[tactic(auto, unfolding(crate::specs::Shapes::border))]
-pub fn border(text: &mut Vec<u8>) -> Result<(), AllocError>
-    ensures { OnOk result (text.new.items ≡ text.old.items ++ border) }
-{
-    put_parts(
-        text,
-        &[Part::Text(
-            "<rect x='90' y='118' width='1490' height='720' fill='none' stroke='#888'/>\n",
-        )],
-    )
-}
-
-/// The words below the axis.
-#[tactic(auto, unfolding(crate::specs::Shapes::axis_words))]
-pub fn axis_words(text: &mut Vec<u8>) -> Result<(), AllocError>
-    ensures { OnOk result (text.new.items ≡ text.old.items ++ axis_words) }
+pub fn border(text: &mut Vec<u8>, height: u64) -> Result<(), AllocError>
+    ensures { OnOk result (text.new.items ≡ text.old.items ++ border height) }
 {
     put_parts(
         text,
         &[
+            Part::Text("<rect x='90' y='118' width='1490' height='"),
+            Part::Number(height),
+            Part::Text("' fill='none' stroke='#888'/>\n"),
+        ],
+    )
+}
+
+/// The words below the axis: what a bar's words are.
+#[tactic(auto, unfolding(crate::specs::Shapes::bar_words))]
+pub fn bar_words(text: &mut Vec<u8>, bottom: u32) -> Result<(), AllocError>
+    ensures { OnOk result (text.new.items ≡ text.old.items ++ bar_words bottom) }
+{
+    put_parts(
+        text,
+        &[
+            Part::Text("<text x='90' y='"),
+            Part::Number(bottom as u64 + 46),
             Part::Text(
-                "<text x='90' y='884'>in a bar: the number of its task @ the address where that began</text>\n",
+                "'>in a bar: the number of its task @ the address where that began</text>\n",
             ),
-            Part::Text(
-                "<text x='1580' y='884' text-anchor='end'>entry of the trace, counted from 0</text>\n",
-            ),
+        ],
+    )
+}
+
+/// And what the numbers are.
+#[tactic(auto, unfolding(crate::specs::Shapes::axis_words))]
+pub fn axis_words(text: &mut Vec<u8>, bottom: u32) -> Result<(), AllocError>
+    ensures { OnOk result (text.new.items ≡ text.old.items ++ axis_words bottom) }
+{
+    put_parts(
+        text,
+        &[
+            Part::Text("<text x='1580' y='"),
+            Part::Number(bottom as u64 + 46),
+            Part::Text("' text-anchor='end'>entry of the trace, counted from 0</text>\n"),
         ],
     )
 }

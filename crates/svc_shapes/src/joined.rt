@@ -101,15 +101,19 @@ pub fn joined_title(
     )
 }
 
-/// The words below a picture that has such things.
+/// The words below the lanes of a picture that has such things.
 #[tactic(auto, unfolding(crate::specs::Shapes::joined_words))]
-pub fn joined_words(text: &mut Vec<u8>) -> Result<(), AllocError>
-    ensures { OnOk result (text.new.items ≡ text.old.items ++ joined_words) }
+pub fn joined_words(text: &mut Vec<u8>, bottom: u32) -> Result<(), AllocError>
+    ensures { OnOk result (text.new.items ≡ text.old.items ++ joined_words bottom) }
 {
     put_parts(
         text,
-        &[Part::Text(
-            "<text x='835' y='884' text-anchor='middle'>a mark stands for all of its kind near it; point at it for how many</text>\n",
-        )],
+        &[
+            Part::Text("<text x='835' y='"),
+            Part::Number(bottom as u64 + 46),
+            Part::Text(
+                "' text-anchor='middle'>a mark stands for all of its kind near it; point at it for how many</text>\n",
+            ),
+        ],
     )
 }

@@ -8,8 +8,9 @@ mod shapes;
 pub mod sheet;
 
 pub use around::{
-    arrow_heads, axis_words, bold_sample, border, closing, commit_sample, fate_sample, hatching,
-    headline, lane, mark_sample, opening, paper_text, parts_close, parts_open, thin_sample, tick,
+    arrow_heads, axis_words, bar_words, bold_sample, border, closing, commit_sample, fate_sample,
+    hatching, headline, lane, mark_sample, opening, paper_text, parts_close, parts_open,
+    thin_sample, tick,
 };
 pub use joined::{group_close, group_open, joined_title, joined_words, plain_box, plain_line};
 pub use kinds::{cross, diamond, kind_close, kind_open, letter_above, letter_within, ring, square};

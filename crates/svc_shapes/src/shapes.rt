@@ -5,7 +5,7 @@ ghost use Rattle.svc_text.specs.Parts.{part_text};
 ghost use Rattle.svc_shapes.specs.Shapes.{label, mark_at, rim_open, rim_close, commit_line, thin_arrow, bold_arrow};
 ghost use Rattle.svc_shapes.specs.Shapes.{close, title_open, bar_box, box_title, label_open, label_close};
 
-use crate::sheet::{BOTTOM, Point, TOP};
+use crate::sheet::{Point, TOP};
 use std::alloc::AllocError;
 use svc_text::{Part, put_parts};
 
@@ -34,10 +34,10 @@ pub fn mark_at<'a>(
     )
 }
 
-/// A broken line across all lanes: a commit.
+/// A broken line across all lanes, down to where they end: a commit.
 #[tactic(auto, unfolding(crate::specs::Shapes::commit_line))]
-pub fn commit_line(text: &mut Vec<u8>, x: u64) -> Result<(), AllocError>
-    ensures { OnOk result (text.new.items ≡ text.old.items ++ commit_line x) }
+pub fn commit_line(text: &mut Vec<u8>, x: u64, bottom: u64) -> Result<(), AllocError>
+    ensures { OnOk result (text.new.items ≡ text.old.items ++ commit_line x bottom) }
 {
     put_parts(
         text,
@@ -47,7 +47,7 @@ pub fn commit_line(text: &mut Vec<u8>, x: u64) -> Result<(), AllocError>
             Part::Text(" "),
             Part::Number(TOP),
             Part::Text("V"),
-            Part::Number(BOTTOM),
+            Part::Number(bottom),
             Part::Text("' fill='none' stroke='#2e7d32' stroke-width='2' stroke-dasharray='6 4'>"),
         ],
     )

@@ -12,10 +12,10 @@ use Rattle.svc_machine_laws.specs.PlainMachine.{Plain}
 use Rattle.svc_report.specs.Fields.{optional}
 use Rattle.svc_held.specs.declared.named.Named.{Named}
 use Rattle.svc_held.specs.declared.named.Namers.TheVariants.{Nobody}
-use Rattle.svc_held.specs.declared.span.Span.{Span}
+use Rattle.svc_span.specs.declared.span.Span.{Span}
 use Rattle.svc_held.specs.Held.{IsHeldBy, is_cached, is_named_line}
 use Rattle.svc_held.specs.Named.{are_some}
-use Rattle.svc_held.specs.Span.{is_asked}
+use Rattle.svc_span.specs.Span.{is_asked}
 use Rattle.svc_held.proofs.Listed.{all_held, line_held, no_line_held, not_cached}
 use Rattle.svc_held.proofs.Ranges.{same_any, same_rows}
 use Rattle.svc_show.specs.Named.{named_line, named_lines, named_memory, named_spill}

@@ -7,7 +7,7 @@ use Rattle.svc_core_laws.specs.Bytes.{word_at}
 use Rattle.svc_core_laws.specs.Sequence.{plain_seq}
 use Rattle.svc_bus.specs.Observed.{observed}
 use Rattle.svc_bus_laws.specs.BusLine.{is_committed_dirty_line, value_of_line}
-use Rattle.svc_bus_laws.specs.BusState.{unnumbered}
+use Rattle.svc_bus_laws.specs.BusState.{without_number}
 use Rattle.svc_bus_laws.specs.LineTable.{Line, LineTable, committed_value, is_committed_dirty, is_newest, newest, task_in, value_in, value_of}
 use Rattle.svc_bus_laws.specs.Versioned.{Versioned}
 use Rattle.svc_bus_laws.proofs.Searches.{all_from, least_found, least_none}
@@ -17,11 +17,11 @@ use Rattle.svc_machine_laws.specs.Standing.{Standing}
 use Rattle.svc_machine_laws.proofs.Given.{given}
 use Rattle.svc_machine.specs.Value.{MachineValue, StandsAt}
 
-dirty : (o : Option Line) → is_committed_dirty_line (unnumbered o) ≡ is_committed_dirty o
+dirty : (o : Option Line) → is_committed_dirty_line (without_number o) ≡ is_committed_dirty o
 dirty None = refl
 dirty (Some l) = refl
 
-value : (o : Option Line) → value_of_line (unnumbered o) ≡ value_in o
+value : (o : Option Line) → value_of_line (without_number o) ≡ value_in o
 value None = refl
 value (Some l) = refl
 

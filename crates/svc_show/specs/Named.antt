@@ -10,9 +10,9 @@ use Rattle.svc_bus_laws.specs.BusState.{BusState}
 use Rattle.svc_machine_laws.specs.PlainMachine.{Plain}
 use Rattle.svc_report.specs.Fields.{optional}
 use Rattle.svc_held.specs.declared.named.Named.{Named}
-use Rattle.svc_held.specs.declared.span.Span.{Span}
+use Rattle.svc_span.specs.declared.span.Span.{Span}
 use Rattle.svc_held.specs.Held.{is_named_line, line_named}
-use Rattle.svc_held.specs.Span.{is_asked}
+use Rattle.svc_span.specs.Span.{is_asked}
 use Rattle.svc_show.specs.declared.cached.Cached.{Cached}
 use Rattle.svc_show.specs.declared.cached.Versions.{Versions}
 use Rattle.svc_show.specs.declared.cached.Versions.TheVariants.{Absent, One, Several}

@@ -18,9 +18,9 @@ use Rattle.svc_history_laws.specs.declared.entry.Entry.{Entry}
 use Rattle.svc_history_laws.specs.Legal.{led_to}
 use Rattle.svc_report.specs.Fields.{optional}
 use Rattle.svc_report.specs.Summary.{ending_row, number_row}
-use Rattle.svc_held.specs.declared.span.Span.{Span}
+use Rattle.svc_span.specs.declared.span.Span.{Span}
 use Rattle.svc_held.specs.Held.{is_cached}
-use Rattle.svc_held.specs.Span.{is_asked}
+use Rattle.svc_span.specs.Span.{is_asked}
 use Rattle.svc_held.specs.Tasks.{each_task}
 use Rattle.svc_version_order.specs.Order.{order_rows}
 use Rattle.svc_moves.specs.Moves.{move_rows}

@@ -1,6 +1,6 @@
 // What a show may tell beside its own rows.
 
-use svc_held::Span;
+use svc_span::Span;
 
 /// What a show tells beside the rows of every show.
 #[derive(Clone, Copy)]

@@ -12,8 +12,9 @@ ghost use Rattle.svc_show.specs.Rows.{memory_row, spill_row};
 use crate::cached::{Cached, committed_of};
 use std::alloc::AllocError;
 use svc_base::WordAddr;
-use svc_held::{Named, Span, backing_of, has_spill, is_asked, spill_of};
+use svc_held::{Named, backing_of, has_spill, spill_of};
 use svc_machine::Machine;
+use svc_span::{Span, is_asked};
 use svc_text::put_row;
 
 // Writes the row of a spilled word.

@@ -17,11 +17,12 @@ use crate::progress::write_progress;
 use crate::tasks::write_tasks;
 use crate::told::write_number;
 use std::alloc::{AllocError, Global};
-use svc_held::{Named, Span, held_words};
+use svc_held::{Named, held_words};
 use svc_history::Recorder;
 use svc_machine::Machine;
 use svc_moves::put_moves;
 use svc_report::ReportError;
+use svc_span::Span;
 use svc_version_order::put_orders;
 
 // Writes a row for each valid line.

@@ -33,20 +33,20 @@ committed_shown (Some line) e = elim (cases_Bool line.bits.valid) [
 ]
 
 module _ (b : BusState) (a : ℕ) (lines : UnitLines) (same : (u : ℕ) → b.lines u a ≡ bus_line_of (lines u)) where
-  -- an entry that shows a unit's active line
-  entry_of : (unit : ℕ) (entry : Option HeldLine) (line : Option SeenLine) → lines unit ≡ line → option_map seen_held_line entry ≡ active_line unit line → IsSlotOf b a unit entry
-  entry_of unit None None is shows = ap is_active_line (same unit ∙ ap bus_line_of is)
-  entry_of unit (Some version) None is shows = cc
-  entry_of unit entry (Some line) is shows = elim (cases_Bool (is_active line.bits)) [
-    | inr idle ↦ lacking entry (shows ∙ rw idle refl) (ap is_active_line (same unit ∙ ap bus_line_of is) ∙ inactive_shown line idle)
-    | inl active ↦ holding entry (shows ∙ rw active refl) active
+  -- a slot that shows a unit's active line
+  slot_of : (unit : ℕ) (slot : Option HeldLine) (line : Option SeenLine) → lines unit ≡ line → option_map seen_held_line slot ≡ active_line unit line → IsSlotOf b a unit slot
+  slot_of unit None None is shows = ap is_active_line (same unit ∙ ap bus_line_of is)
+  slot_of unit (Some version) None is shows = cc
+  slot_of unit slot (Some line) is shows = elim (cases_Bool (is_active line.bits)) [
+    | inr idle ↦ lacking slot (shows ∙ rw idle refl) (ap is_active_line (same unit ∙ ap bus_line_of is) ∙ inactive_shown line idle)
+    | inl active ↦ holding slot (shows ∙ rw active refl) active
   ]
     where
-      lacking : (entry : Option HeldLine) → option_map seen_held_line entry ≡ None → is_active_line (b.lines unit a) ≡ false → IsSlotOf b a unit entry
+      lacking : (slot : Option HeldLine) → option_map seen_held_line slot ≡ None → is_active_line (b.lines unit a) ≡ false → IsSlotOf b a unit slot
       lacking None none idle = idle
       lacking (Some version) none idle = cc
 
-      holding : (entry : Option HeldLine) → option_map seen_held_line entry ≡ Some (record { unit = unit; line = line }) → is_active line.bits ≡ true → IsSlotOf b a unit entry
+      holding : (slot : Option HeldLine) → option_map seen_held_line slot ≡ Some (record { unit = unit; line = line }) → is_active line.bits ≡ true → IsSlotOf b a unit slot
       holding None some active = cc
       holding (Some version) some active =
           let held : seen_held_line version ≡ record { unit = unit; line = line } = some_version some in
@@ -66,7 +66,7 @@ module _ (b : BusState) (a : ℕ) (lines : UnitLines) (same : (u : ℕ) → b.li
       → ((u v : ℕ) → cache.is_committed_line (lines u) ≡ true → cache.is_committed_line (lines v) ≡ true → is_older_line b.caches lines u v ≡ false → b.is_older a u v ≡ false) → Describes b a list
   described list are shows order = record {
     places = sizes;
-    active = λ p below. entry_of (get_or b.units p 0) (slot_at list.active p) (lines (get_or b.units p 0)) refl (at_place p below);
+    active = λ p below. slot_of (get_or b.units p 0) (slot_at list.active p) (lines (get_or b.units p 0)) refl (at_place p below);
     only = λ i here.
         let only = are.only i here in
         let version = held_at list.committed i in
@@ -88,5 +88,5 @@ module _ (b : BusState) (a : ℕ) (lines : UnitLines) (same : (u : ℕ) → b.li
       at_place : (p : ℕ) → p < length b.units → option_map seen_held_line (slot_at list.active p) ≡ active_line (get_or b.units p 0) (lines (get_or b.units p 0))
       at_place p below =
           sym (get_or-map (option_map seen_held_line) list.active p None None (omega (arith, below, sizes)))
-          ∙ ap (λ (entries : List (Option SeenHeldLine)). get_or entries p None) shows
+          ∙ ap (λ (slots : List (Option SeenHeldLine)). get_or slots p None) shows
           ∙ get_or-map (λ u. active_line u (lines u)) b.units p 0 None below

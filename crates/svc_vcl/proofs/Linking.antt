@@ -32,22 +32,22 @@ not_here active place k fail = go (ltb place k) (is_version (slot_at active k)) 
     go true y e = e
     go false y e = refl
 
--- ---- the units of entries
+-- ---- the units of slots
 
 least_same : (n : ℕ) (p q : ℕ → Bool) → ((k : ℕ) → k < n → p k ≡ q k) → least n p ≡ least n q
 least_same zero p q same = refl
 least_same (suc n) p q same = rw (least_same n p q (λ k h. same k (omega (arith, h))), same n (omega arith))
 
--- an entry that is a version is there
-there : (entry : Option HeldLine) → is_version entry ≡ true → (v : HeldLine) × (entry ≡ Some v)
+-- a slot that is a version is there
+there : (slot : Option HeldLine) → is_version slot ≡ true → (v : HeldLine) × (slot ≡ Some v)
 there None e = absurd (true≢false (sym e))
 there (Some v) e = (v, refl)
 
 module _ (b : BusState) (t : LineTable) (a : ℕ) (list : ListValue) (unit place : ℕ) (request : IsRequest b t a list unit place) where
-  entry_unit : (q : ℕ) → q < length b.units → is_version (slot_at list.active q) ≡ true → unit_in (slot_at list.active q) ≡ Some (get_or b.units q 0)
-  entry_unit q within version = let found = there (slot_at list.active q) version in go (slot_at list.active q) found.0 found.1 (request.described.active q within)
+  slot_unit : (q : ℕ) → q < length b.units → is_version (slot_at list.active q) ≡ true → unit_in (slot_at list.active q) ≡ Some (get_or b.units q 0)
+  slot_unit q within version = let found = there (slot_at list.active q) version in go (slot_at list.active q) found.0 found.1 (request.described.active q within)
     where
-      go : (entry : Option HeldLine) (v : HeldLine) → entry ≡ Some v → IsSlotOf b a (get_or b.units q 0) entry → unit_in entry ≡ Some (get_or b.units q 0)
+      go : (slot : Option HeldLine) (v : HeldLine) → slot ≡ Some v → IsSlotOf b a (get_or b.units q 0) slot → unit_in slot ≡ Some (get_or b.units q 0)
       go None v is held = cc
       go (Some w) v is held = ap Some held.unit_is
 
@@ -57,7 +57,7 @@ module _ (b : BusState) (t : LineTable) (a : ℕ) (list : ListValue) (unit place
     | inr (q, is, found) ↦
         let parts = and_parts (ltb place q) _ found.passes in
         ap (λ o. unit_in (option_and_then (slot_at list.active) o)) is
-        ∙ entry_unit q (let low = found.within in omega (arith, low, few)) parts.1
+        ∙ slot_unit q (let low = found.within in omega (arith, low, few)) parts.1
         ∙ ap (unit_of b.units) (sym is ∙ same)
   ]
     where
@@ -69,7 +69,7 @@ module _ (b : BusState) (t : LineTable) (a : ℕ) (list : ListValue) (unit place
     | inl (none, never) ↦ ap (λ o. unit_in (option_and_then (slot_at list.active) o)) none ∙ ap (unit_of b.units) (sym none ∙ nearest_is b t a list unit place request)
     | inr (q, is, within, pass, after) ↦
         ap (λ o. unit_in (option_and_then (slot_at list.active) o)) is
-        ∙ entry_unit q (let low = request.within in omega (arith, within, low)) pass
+        ∙ slot_unit q (let low = request.within in omega (arith, within, low)) pass
         ∙ ap (unit_of b.units) (sym is ∙ nearest_is b t a list unit place request)
   ]
 
@@ -91,7 +91,7 @@ module _ (b : BusState) (t : LineTable) (a : ℕ) (list : ListValue) (unit place
           first true e = refl
           first false e = e
 
-      go : (entry : Option HeldLine) (w : ℕ) → IsSlotOf b a w entry → is_named (relinked_in entry) other ≡ true → l.stale ≡ true
+      go : (slot : Option HeldLine) (w : ℕ) → IsSlotOf b a w slot → is_named (relinked_in slot) other ≡ true → l.stale ≡ true
       go None w is e = absurd (true≢false (sym e))
       go (Some v) w is e =
           let k = lone (bits_of v.line.bits).stale v e in
@@ -150,7 +150,7 @@ previous_named list writer place other within named = changed_named list writer 
     lone : (v : HeldLine) → v.unit.0 ≡ other → is_named (v ∷ []) other ≡ true
     lone v e = ap (λ x. x || false) (eq-eqb v.unit.0 other e)
 
-    go : (q : ℕ) → q < place → (entry : Option HeldLine) → slot_at list.active q ≡ entry → unit_in entry ≡ Some other → ((is_copy_of list.committed (length list.committed) writer other || is_passed_in list.active place other) || is_named (relinked_in entry) other) ≡ true
+    go : (q : ℕ) → q < place → (slot : Option HeldLine) → slot_at list.active q ≡ slot → unit_in slot ≡ Some other → ((is_copy_of list.committed (length list.committed) writer other || is_passed_in list.active place other) || is_named (relinked_in slot) other) ≡ true
     go q low None is e = nothing e
     go q low (Some v) is e = elim (cases_Bool (bits_of v.line.bits).stale) [
       | inl stale ↦ right (is_copy_of list.committed (length list.committed) writer other || is_passed_in list.active place other) (is_named (relinked_in (Some v)) other) (ap (λ x. is_named (cond x (v ∷ []) []) other) stale ∙ lone v (some_is e))

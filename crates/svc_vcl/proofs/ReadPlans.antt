@@ -16,7 +16,7 @@ use Rattle.svc_vol.specs.declared.held_line.HeldLine.{HeldLine}
 use Rattle.svc_vol.specs.Value.{ListValue, held_at, unit_at}
 use Rattle.svc_vcl.specs.Listed.{slot_at, is_version, nearest_in, nearest_version_in, newest_in, newest_version_in, reusable_in, reusable_copy_in}
 use Rattle.svc_vcl.specs.Described.{IsActiveIn, IsSlotOf, IsReadRequest, line_with, line_shown}
-use Rattle.svc_vcl.proofs.Slots.{active_bits, are_active, are_settled, nearest_is, own_entry, reusable_bits}
+use Rattle.svc_vcl.proofs.Slots.{active_bits, are_active, are_settled, nearest_is, own_slot, reusable_bits}
 use Rattle.svc_vcl.proofs.Newest.{newest_found, newest_lacks}
 
 -- a committed copy that may be reused is committed
@@ -46,14 +46,14 @@ module _ (b : BusState) (t : LineTable) (a : ℕ) (list : ListValue) (unit place
         | inr (m, found, here, _, _) ↦ let same : m ≡ q = some_is m q (sym found ∙ is) in omega (arith, here, same)
       ]
 
-      entry : (q : ℕ) → nearest_in list.active place ≡ Some q → slot_at list.active q ≡ Some version → IsActiveIn b a (get_or b.units q 0) version
-      entry q is held = subst (IsSlotOf b a (get_or b.units q 0)) held (read.request.described.active q (let low = at_place q is in let within = read.request.within in omega arith))
+      slot : (q : ℕ) → nearest_in list.active place ≡ Some q → slot_at list.active q ≡ Some version → IsActiveIn b a (get_or b.units q 0) version
+      slot q is held = subst (IsSlotOf b a (get_or b.units q 0)) held (read.request.described.active q (let low = at_place q is in let within = read.request.within in omega arith))
 
       go : (o : Option ℕ) → nearest_in list.active place ≡ o → option_and_then (slot_at list.active) o ≡ Some version
           → (FromVersion version.unit.0 ≡ bus_by_version b a (greatest place tested)) × (bus_supplied b place a (FromVersion version.unit.0) ≡ Some version.line.value)
       go None is held = cc
       go (Some q) is held =
-          let here = entry q is held in
+          let here = slot q is held in
           (ap FromVersion here.unit_is ∙ sym (ap (bus_by_version b a) (sym nearest_same ∙ is)), ap (λ line. Some (value_of_line line)) (ap (λ u. b.lines u a) here.unit_is ∙ here.held))
 
   no_held_line : nearest_version_in list.active place ≡ None → greatest place tested ≡ None
@@ -116,9 +116,9 @@ module _ (b : BusState) (t : LineTable) (a : ℕ) (list : ListValue) (unit place
   unit_same = eq-eqb unit (get_or b.units place 0) (sym read.request.at_work)
 
   -- an active line hits
-  module _ (own : HeldLine) (entry : slot_at list.active place ≡ Some own) where
+  module _ (own : HeldLine) (slot : slot_at list.active place ≡ Some own) where
     hit_here : IsActiveIn b a unit own
-    hit_here = subst (IsSlotOf b a unit) entry (own_entry b t a list unit place read.request)
+    hit_here = subst (IsSlotOf b a unit) slot (own_slot b t a list unit place read.request)
 
     hit_active : is_active_line (bus_line_at b place a) ≡ true
     hit_active = ap is_active_line (own_line ∙ hit_here.held) ∙ active_bits (bits_of own.line.bits) own.line.value hit_here.active
@@ -136,9 +136,9 @@ module _ (b : BusState) (t : LineTable) (a : ℕ) (list : ListValue) (unit place
     hit_valid = (are_active (bits_of own.line.bits) hit_here.active).valid
 
   -- otherwise a copy that no later store has passed is reused
-  module _ (entry : slot_at list.active place ≡ None) where
+  module _ (slot : slot_at list.active place ≡ None) where
     inactive : is_active_line (bus_line_at b place a) ≡ false
-    inactive = ap is_active_line own_line ∙ subst (IsSlotOf b a unit) entry (own_entry b t a list unit place read.request)
+    inactive = ap is_active_line own_line ∙ subst (IsSlotOf b a unit) slot (own_slot b t a list unit place read.request)
 
     module _ (copy : HeldLine) (found : reusable_copy_in list.committed unit ≡ Some copy) where
       record IsCopy : Type 0 where

@@ -1,4 +1,4 @@
--- The entries of a version list are the lines of the tasks.
+-- The slots of a version list are the lines of the tasks.
 use Rattle.std.proofs.Common.{◌≡◌, ◌∙◌, refl, sym, ap, subst, ℕ, zero, suc, ◌+◌, ◌-◌, ◌<◌, ◌≤◌, Bool, true, false, cond, not, ◌&&◌, ltb, Option, Some, None, length, get_or, arith, true≢false, is_some}
 use Rattle.svc_line.specs.Bits.{Bits, bits_of, is_active, is_committed, is_dirty, is_exposed, is_reusable}
 use Rattle.svc_bus_laws.specs.Search.{greatest}
@@ -65,7 +65,7 @@ reusable_bits bits value committed = let are = are_settled bits committed in rw 
 pub active_bits : (bits : Bits) (value : ℕ) → is_active bits ≡ true → is_active_line (Some (line_with value bits)) ≡ true
 active_bits bits value active = let are = are_active bits active in rw are.commit refl
 
--- ---- one entry
+-- ---- one slot
 
 no_version_here : (line : Option BusLine) → is_active_line line ≡ false → false ≡ is_some (version_of_line line)
 no_version_here None e = refl
@@ -75,11 +75,11 @@ not_exposed_here : (line : Option BusLine) → is_active_line line ≡ false →
 not_exposed_here None e = refl
 not_exposed_here (Some l) e = rw e refl
 
-pub version_is : (b : BusState) (a unit : ℕ) (entry : Option HeldLine) → IsSlotOf b a unit entry → is_version entry ≡ is_some (version_of_line (b.lines unit a))
+pub version_is : (b : BusState) (a unit : ℕ) (slot : Option HeldLine) → IsSlotOf b a unit slot → is_version slot ≡ is_some (version_of_line (b.lines unit a))
 version_is b a unit None is = no_version_here (b.lines unit a) is
 version_is b a unit (Some version) is = version_bits (bits_of version.line.bits) version.line.value is.active ∙ ap (λ line. is_some (version_of_line line)) (sym is.held)
 
-pub exposed_is : (b : BusState) (a unit : ℕ) (entry : Option HeldLine) → IsSlotOf b a unit entry → is_exposure entry ≡ is_exposed_line (b.lines unit a)
+pub exposed_is : (b : BusState) (a unit : ℕ) (slot : Option HeldLine) → IsSlotOf b a unit slot → is_exposure slot ≡ is_exposed_line (b.lines unit a)
 exposed_is b a unit None is = not_exposed_here (b.lines unit a) is
 exposed_is b a unit (Some version) is = exposed_bits (bits_of version.line.bits) version.line.value is.active ∙ ap is_exposed_line (sym is.held)
 
@@ -113,6 +113,6 @@ module _ (b : BusState) (t : LineTable) (a : ℕ) (list : ListValue) (unit place
       ∙ walk_same _ _ _ _ (suc place) (length b.units - suc place) (λ k below. let low : k < length b.units = (let within = request.within in omega (arith, below)) in (exposed_here k low, version_here k low))
       ∙ walk_seen b place a
 
-  -- the unit's own entry
-  pub own_entry : IsSlotOf b a unit (slot_at list.active place)
-  own_entry = subst (λ u. IsSlotOf b a u (slot_at list.active place)) request.at_work (request.described.active place request.within)
+  -- the unit's own slot
+  pub own_slot : IsSlotOf b a unit (slot_at list.active place)
+  own_slot = subst (λ u. IsSlotOf b a u (slot_at list.active place)) request.at_work (request.described.active place request.within)

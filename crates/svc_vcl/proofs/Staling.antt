@@ -94,7 +94,7 @@ passed_named active place unit within = named_kept unmarked_line None active uni
     picked true version = refl
     picked false version = refl
 
-    shown : (entry : Option HeldLine) → is_of (unmarked_line entry) unit ≡ is_unmarked_in entry unit
+    shown : (slot : Option HeldLine) → is_of (unmarked_line slot) unit ≡ is_unmarked_in slot unit
     shown None = refl
     shown (Some version) = picked (bits_of version.line.bits).stale version
 

@@ -17,7 +17,7 @@ use Rattle.svc_vol.specs.Value.{ListValue, held_at, unit_at}
 use Rattle.svc_vcl.specs.Listed.{slot_at, is_exposure, is_overtaken_in, is_version, victim_in}
 use Rattle.svc_vcl.specs.Described.{IsSlotOf, IsRequest, line_with, line_shown}
 use Rattle.svc_vcl.specs.Planned.{becomes_stale, is_copy_of, is_marked_anew, is_passed_in, is_unmarked_in, marked_where, own_bits}
-use Rattle.svc_vcl.proofs.Slots.{are_active, are_settled, exposed_is, overtaken_is, own_entry, victim_is}
+use Rattle.svc_vcl.proofs.Slots.{are_active, are_settled, exposed_is, overtaken_is, own_slot, victim_is}
 
 -- ---- how many tasks are left
 
@@ -79,9 +79,9 @@ module _ (b : BusState) (t : LineTable) (a : ℕ) (list : ListValue) (unit place
   own_line = ap (λ u. b.lines u a) request.at_work
 
   exposed_own : is_exposed (own_bits (slot_at list.active place)) ≡ is_exposed_line (bus_line_at b place a)
-  exposed_own = go (slot_at list.active place) ∙ exposed_is b a unit (slot_at list.active place) (own_entry b t a list unit place request) ∙ ap is_exposed_line (sym own_line)
+  exposed_own = go (slot_at list.active place) ∙ exposed_is b a unit (slot_at list.active place) (own_slot b t a list unit place request) ∙ ap is_exposed_line (sym own_line)
     where
-      go : (entry : Option HeldLine) → is_exposed (own_bits entry) ≡ is_exposure entry
+      go : (slot : Option HeldLine) → is_exposed (own_bits slot) ≡ is_exposure slot
       go None = refl
       go (Some version) = refl
 
@@ -138,7 +138,7 @@ module _ (b : BusState) (t : LineTable) (a : ℕ) (list : ListValue) (unit place
         let found = any_witness place _ e in
         go found.0 found.1 (slot_at list.active found.0) (request.described.active found.0 (let low = found.1 in let within = request.within in omega arith)) found.2
       where
-        go : (q : ℕ) → q < place → (entry : Option HeldLine) → IsSlotOf b a (get_or b.units q 0) entry → is_unmarked_in entry other ≡ true → becomes_stale b place a other ≡ true
+        go : (q : ℕ) → q < place → (slot : Option HeldLine) → IsSlotOf b a (get_or b.units q 0) slot → is_unmarked_in slot other ≡ true → becomes_stale b place a other ≡ true
         go q low None is test = absurd (true≢false (sym test))
         go q low (Some version) is test =
             let bits = bits_of version.line.bits in
@@ -181,7 +181,7 @@ module _ (b : BusState) (t : LineTable) (a : ℕ) (list : ListValue) (unit place
           some_line : {x y : BusLine} → ◌≡◌ {A = Option BusLine} (Some x) (Some y) → x ≡ y
           some_line e = cc
 
-          go : (entry : Option HeldLine) → IsSlotOf b a other entry → is_unmarked_in entry other ≡ true
+          go : (slot : Option HeldLine) → IsSlotOf b a other slot → is_unmarked_in slot other ≡ true
           go None is = absurd (true≢false (sym (ap is_active_line held ∙ ap not active) ∙ is))
           go (Some version) is =
               let same : line_shown version ≡ l = some_line (sym is.held ∙ held) in

@@ -5,7 +5,7 @@ use Rattle.svc_core_laws.specs.State.{State}
 use Rattle.svc_bus_laws.specs.BusState.{BusState}
 use Rattle.svc_machine_laws.specs.PlainMachine.{Running}
 use Rattle.svc_held.specs.declared.named.Named.{Named}
-use Rattle.svc_held.specs.declared.span.Span.{Span}
+use Rattle.svc_span.specs.declared.span.Span.{Span}
 use Rattle.svc_held.specs.Held.{IsHeldBy}
 use Rattle.svc_held.proofs.Listed.{all_held, not_cached}
 use Rattle.svc_version_order.specs.Order.{named_row, order_row, order_rows, word_fields}

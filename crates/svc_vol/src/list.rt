@@ -75,7 +75,7 @@ fn find(
     }
 }
 
-// The word's line in a cache, which is searched unless the line is known.
+// The word's line in a cache. The cache is searched only if the line isn't known.
 fn line_beside(
     cache: &Cache,
     word: WordAddr,

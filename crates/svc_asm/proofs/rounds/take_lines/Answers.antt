@@ -22,5 +22,5 @@ returns-in_err-_said-clause-err c =
     let some = some_left c.loop-rest.rest.now (sym c.is_empty.ensures ∙ c.loop-rest-test.true) in
     rw (p.1, p.2) (elim c.in_err-_said.ensures.err [
       | inl memory ↦ inl memory
-      | inr none ↦ inr (λ ss made h. let t = c.loop-rest.invariant.left ss made h in refuted t.0 c.loop-rest.rest.now (layout_of c.loop-rest.draft) made some none t.1)
+      | inr none ↦ inr (λ made h. let t = c.loop-rest.invariant.left h.0 made h.1 in refuted t.0 c.loop-rest.rest.now (layout_of c.loop-rest.draft) made some none t.1)
     ])

@@ -29,4 +29,4 @@ returns-clause-lines c = λ u a.
     let changed = c.args.store.now.changed.now in
     let put = c.in_ok-put_line.ensures.lines in
     c.squash_lines.ensures.lines u a
-    ∙ ap (left_line c.args.queue.now c.args.store.now.left u) (c.mark_lines.ensures.lines u a ∙ ap (overtaken_where (option_map (λ (unit : UnitId). unit.0) c.args.store.now.previous) c.args.store.now.unit.0 u ((a == word) && is_named changed u)) (put u a))
+    ∙ ap (left_line c.args.queue.now c.args.store.now.tasks_left u) (c.mark_lines.ensures.lines u a ∙ ap (overtaken_where (option_map (λ (unit : UnitId). unit.0) c.args.store.now.previous) c.args.store.now.unit.0 u ((a == word) && is_named changed u)) (put u a))

@@ -1,8 +1,7 @@
 use Rattle.std.proofs.Common.{◌≡◌, ◌∙◌, ◌+◌, ◌-◌, ◌++◌, ℕ, List, suc, ap, append_assoc, append-nil, arith, sym}
 use Rattle.std.specs.Prelude.{flat_map}
 use Rattle.std.specs.List.{range_with_len}
-use Rattle.svc_draw.specs.Legend.{axis, number_at}
-use Rattle.svc_shapes.specs.Shapes.{axis_words}
+use Rattle.svc_draw.specs.Legend.{axis, number_at, words_below}
 use Rattle.svc_draw.proofs.Texts.{numbers_more}
 use Rattle.svc_draw.proofs.legend.write_axis.Goals as goal
 
@@ -30,6 +29,6 @@ returns c =
     let from : ℕ = s.window.from in
     let all : at - from ≡ s.window.to - from = omega arith in
     let shown : List ℕ = flat_map (number_at s) (range_with_len from (s.window.to - from)) in
-    c.in_ok-axis_words.ensures
-    ∙ ap (λ (t : List ℕ). t ++ axis_words) (c.loop-place.invariant ∙ ap (λ (n : ℕ). old ++ flat_map (number_at s) (range_with_len from n)) all)
-    ∙ append_assoc old shown axis_words
+    c.in_ok-write_words_below.ensures
+    ∙ ap (λ (t : List ℕ). t ++ words_below s) (c.loop-place.invariant ∙ ap (λ (n : ℕ). old ++ flat_map (number_at s) (range_with_len from n)) all)
+    ∙ append_assoc old shown (words_below s)

@@ -2,12 +2,12 @@ use Rattle.std.proofs.Common.{◌≡◌, ◌∙◌, sym, ap, refl, ℕ, List, No
 use Rattle.std.proofs.lemmas.Result.{err_from_is_err_and}
 use Rattle.svc_image.specs.declared.header.Header.{Header}
 use Rattle.svc_image.specs.Format.{header_checks, entry_checks, each_of, start_checks, end_checks, first_of}
-use Rattle.svc_image.specs.Reading.{checked, header_in}
+use Rattle.svc_image.specs.Reading.{unless_fault, header_in}
 use Rattle.svc_image.proofs.Checks.{EntriesPass, entries_run, limits_run, checked-Err, checked-Ok, fault-header, fault-entries, fault-start, fault-limits, fault-end}
 use Rattle.svc_image.proofs.check.check.Goals as goal
 
 -- the header of a file whose header has no fault
-of_header : (bytes : List ℕ) (header : Header) → Ok header ≡ checked (first_of (header_checks bytes)) (header_in bytes)
+of_header : (bytes : List ℕ) (header : Header) → Ok header ≡ unless_fault (first_of (header_checks bytes)) (header_in bytes)
     → (first_of (header_checks bytes) ≡ None) × (header ≡ header_in bytes)
 of_header bytes header same = checked-Ok (first_of (header_checks bytes)) (header_in bytes) header same
 
@@ -17,7 +17,7 @@ entries_of : (bytes : List ℕ) (header : Header) → header ≡ header_in bytes
 entries_of bytes header same = ap (λ (h : Header). first_of (each_of (entry_checks bytes) h.entries)) same
 
 -- header and entries pass
-passed : (bytes : List ℕ) (header : Header) → Ok header ≡ checked (first_of (header_checks bytes)) (header_in bytes)
+passed : (bytes : List ℕ) (header : Header) → Ok header ≡ unless_fault (first_of (header_checks bytes)) (header_in bytes)
     → first_of (each_of (entry_checks bytes) header.entries) ≡ None → EntriesPass bytes
 passed bytes header here after =
     let head = of_header bytes header here in

@@ -25,7 +25,7 @@ pub returns-in_err-check_limit-clause-value : goal.returns-in_err-check_limit-cl
 returns-in_err-check_limit-clause-value c =
     let p = err_from_is_err_and c.from_residual.result c.from_residual.ensures.1 in
     let here = checked-Err (first_of (limit_checks c.args.bytes.now c.loop-index.index)) tt _ c.in_err-check_limit.ensures.value in
-    let low : c.loop-index.index < listed_in c.args.bytes.now = omega (arith, c.loop-index-test.true, c.listed-index-end.ensures.value, listed_is c.args.bytes.now c.args.header c.requires.header) in
+    let low : c.loop-index.index < listed_in c.args.bytes.now = omega (arith, c.loop-index-test.true, c.limit_count-index-end.ensures.value, listed_is c.args.bytes.now c.args.header c.requires.header) in
     let all = each-first (limit_checks c.args.bytes.now) (listed_in c.args.bytes.now) c.loop-index.index _ low c.loop-index.invariant.sound here in
     rw (p.1, p.2, all) refl
 

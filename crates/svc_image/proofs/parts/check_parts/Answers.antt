@@ -2,7 +2,7 @@ use Rattle.std.proofs.Common.{◌≡◌, ◌∙◌, sym, ap, refl, length, Optio
 use Rattle.std.proofs.lemmas.Result.{err_from_is_err_and}
 use Rattle.svc_image.specs.declared.error.ImageError.{ImageError}
 use Rattle.svc_image.specs.Format.{first_of, each_of}
-use Rattle.svc_image.specs.Reading.{checked}
+use Rattle.svc_image.specs.Reading.{unless_fault}
 use Rattle.svc_image.specs.Parts.{size_checks, place_checks, start_checks, limit_checks}
 use Rattle.svc_image.proofs.Checks.{checked-Err, checked-Ok}
 use Rattle.svc_image.proofs.Made.{fault-sizes, fault-places, fault-start, fault-listed}
@@ -53,4 +53,4 @@ returns-clause-value c =
     let at = ap (λ (es : List ℕ). first_of (start_checks es parts.start)) entries in
     let start = checked-Ok (first_of (start_checks c.as_slice-entries.result.now parts.start)) tt _ c.in_ok-check_start.ensures in
     let all = fault-listed parts sizes.0 (sym same ∙ places.0) (sym at ∙ start.0) in
-    c.check_limits.ensures ∙ ap (λ (limits : List ℕ). checked (first_of (limit_checks limits)) tt) c.listed.ensures ∙ ap (λ (o : Option ImageError). checked o tt) (sym all)
+    c.check_limits.ensures ∙ ap (λ (limits : List ℕ). unless_fault (first_of (limit_checks limits)) tt) c.limit_list.ensures ∙ ap (λ (o : Option ImageError). unless_fault o tt) (sym all)

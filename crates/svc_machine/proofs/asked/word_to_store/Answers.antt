@@ -7,8 +7,8 @@ pub returns-in_ok-old-in_default-clause-prepared : goal.returns-in_ok-old-in_def
 returns-in_ok-old-in_default-clause-prepared c t p runs =
     let ens = c.in_ok-old-in_default.ensures {u = tt} in
     let served = served_by_one c.in_ok-old-in_default.served _ (ens.served t p runs) in
-    prepared (observed c.args.bus.now) c.args.unit.0 t p c.args.access.word c.args.access.lane c.args.value (observed c.read.new.self) c.stored.result c.in_ok-old-in_default.old c.in_ok-old-in_default.served c.args.kind c.in_default.not-Word runs
-    (record { value_is = ens.value t p runs; served_is = served; table = ens.table t p runs }) c.stored.ensures
+    prepared (observed c.args.bus.now) c.args.unit.0 t p c.args.access.word c.args.access.lane c.args.value (observed c.read.new.self) c.stored_word.result c.in_ok-old-in_default.old c.in_ok-old-in_default.served c.args.kind c.in_default.not-Word runs
+    (record { value_is = ens.value t p runs; served_is = served; table = ens.table t p runs }) c.stored_word.ensures
 
 pub returns-in_ok-old-in_default-clause-room : goal.returns-in_ok-old-in_default-clause-room
 returns-in_ok-old-in_default-clause-room c =

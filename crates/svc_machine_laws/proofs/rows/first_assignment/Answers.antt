@@ -3,7 +3,7 @@ use Rattle.std.specs.Prelude.{nat_le}
 use Rattle.std.proofs.lemmas.Bool.{lt-leb, ne_eqb}
 use Rattle.svc_base.specs.declared.refusal.Refusal.TheVariants as refusal
 use Rattle.svc_machine_laws.specs.Refusals.{refuse}
-use Rattle.svc_machine_laws.specs.Standing.{refused}
+use Rattle.svc_machine_laws.specs.Standing.{refusal_of}
 use Rattle.svc_machine_laws.proofs.rows.first_assignment.Goals as goal
 
 -- a list of cases none of which holds
@@ -15,7 +15,7 @@ three_off unit events epoch u e p =
     ∙ ap (λ b. cond b (Some refusal.EpochsSpent) None) p
 
 pub returns : goal.returns
-unfolding refused refuse
+unfolding refusal_of refuse
 returns c = record {
   opening = λ img first. refl;
   accepted = λ img config first choice ne.

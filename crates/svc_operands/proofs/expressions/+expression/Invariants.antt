@@ -1,4 +1,4 @@
-use Rattle.std.proofs.Common.{◌≡◌, ◌+◌, ◌*◌, ◌-◌, length}
+use Rattle.std.proofs.Common.{◌≡◌, ◌+◌, ◌*◌, ◌-◌, Some, length}
 use Rattle.std.specs.Prelude.{option_map}
 use Rattle.svc_draft.specs.Layouts.{layout_of}
 use Rattle.svc_operands.specs.Expressions.{chain_on, ranked, operand_at}
@@ -16,6 +16,11 @@ decreases-read_ranked l = 9 * l.depth + 1 + 2 * l.ranks
 
 abbrev pub decreases-read_chain : goal.decreases-read_chain
 decreases-read_chain l = 9 * l.depth + 2 + 2 * l.rank
+
+-- the number so far is what the ranks so far make
+abbrev pub invariant-read_ranked-loop-rank : goal.invariant-read_ranked-loop-rank
+invariant-read_ranked-loop-rank l =
+    ranked (operand_at (option_map (λ d. layout_of d.now) l.names) l.depth) l.rank l.text ≡ Some (l.number, l.rest)
 
 -- what the rest makes of the number so far, the whole makes of the first one
 abbrev pub invariant-read_chain-loop-step : goal.invariant-read_chain-loop-step

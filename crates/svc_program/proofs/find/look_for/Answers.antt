@@ -7,6 +7,7 @@ use Rattle.svc_explore_laws.specs.Closed.{IsIn}
 use Rattle.svc_explore.specs.declared.found.Seen.{Seen}
 use Rattle.svc_explore.specs.declared.walk.Exploration.{Exploration}
 use Rattle.svc_explore.specs.Found.{are_seen}
+use Rattle.svc_explore.specs.Witnesses.{IsFirstMatch}
 use Rattle.svc_observations.specs.Sought.{Matches}
 use Rattle.svc_answer.specs.Requests.{SavesAnyTrace}
 use Rattle.svc_program.proofs.Finding.{answer_of, shown_if}
@@ -31,7 +32,7 @@ returns-clause-found g c =
       is = is;
       seen = seen;
       answer = answer_of c.args.image.now c.args.explored c.args.sought x (SavesAnyTrace (g.F.Files.held c.save_witness.new.files) c.args.trace) is seen c.in_ok-status.ensures.whole
-          (subst (λ l. IfSome seen (λ s. IsIn s.now l)) c.as_slice.ensures.value c.find-seen.ensures.found)
+          (subst (λ l. IfSome seen (λ s. IsFirstMatch c.args.sought s.now l)) c.as_slice.ensures.value c.find-seen.ensures.first)
           c.find-seen.ensures.matches
           (λ none o there. c.find-seen.ensures.none none o (subst (λ l. IsIn o (are_seen l)) (Rattle.std.proofs.Common.sym c.as_slice.ensures.value) there))
           c.in_ok-save_witness.ensures.saved;

@@ -22,8 +22,8 @@ pub returns : goal.returns
 returns g c =
     let p = c.args.picture in
     let units : ℕ = c.args.traced.config.units in
-    let text : c.deref-2.result.now ≡ drawing_of p.rows units c.in_ok-image.entries.items p.from p.count =
-    c.deref-2.ensures.value ∙ c.in_ok-text.ensures.text ∙ ap (λ (es : List Entry). drawing_of p.rows units es p.from p.count) c.deref.ensures.value in
+    let text : c.deref-2.result.now ≡ drawing_of p units c.in_ok-image.entries.items =
+    c.deref-2.ensures.value ∙ c.in_ok-text.ensures.text ∙ ap (λ (es : List Entry). drawing_of p units es) c.deref.ensures.value in
     record {
       done = (
         (
@@ -32,7 +32,7 @@ returns g c =
           c.in_ok-image.entries.items,
           c.in_ok-image.ensures.trace,
           (
-            subst (λ (es : List Entry). IsDrawn c.in_ok-image.image c.args.traced.config es p.from p.count) c.deref.ensures.value c.in_ok-text.ensures.drawn,
+            subst (λ (es : List Entry). IsDrawn c.in_ok-image.image c.args.traced.config es p.view) c.deref.ensures.value c.in_ok-text.ensures.drawn,
             subst (λ (t : List ℕ). IfSome (g.F.Files.held c.save.new.self p.file.now) (λ known. known ≡ t)) text c.in_ok-save.ensures.saved,
           ),
         ),

@@ -12,10 +12,10 @@ pub returns-in-Some-clause-value : goal.returns-in-Some-clause-value
 returns-in-Some-clause-value c = λ b t a read.
     let list = c.args.list.now in
     let own = c.in-Some.own in
-    let entry : slot_at list.active c.args.place ≡ Some own = ap (λ active. slot_at active c.args.place) (sym c.active.ensures.lines) ∙ c.in-Some.is in
+    let slot : slot_at list.active c.args.place ≡ Some own = ap (λ active. slot_at active c.args.place) (sym c.active.ensures.lines) ∙ c.in-Some.is in
     view_is b t a list c.args.unit.0 c.args.place c.args.spill c.args.backing read Hit own.line.value
-    (hit_supplier b t a list c.args.unit.0 c.args.place c.args.spill c.args.backing read own entry)
-    (hit_value b t a list c.args.unit.0 c.args.place c.args.spill c.args.backing read own entry)
+    (hit_supplier b t a list c.args.unit.0 c.args.place c.args.spill c.args.backing read own slot)
+    (hit_value b t a list c.args.unit.0 c.args.place c.args.spill c.args.backing read own slot)
 
 -- the task has no active line, and its unit has a copy of the word
 unowned : (c : goal.After-on_reuse) → slot_at c.args.list.now.active c.args.place ≡ None

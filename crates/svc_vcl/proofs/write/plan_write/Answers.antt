@@ -19,7 +19,7 @@ pub is_overtaken-overtaken-requires : goal.is_overtaken-overtaken-requires
 is_overtaken-overtaken-requires c =
     let active = c.active-active.result.now in
     let left : c.unwrap_or-left.result ≡ unwrap_or (victim_in active c.args.place) (length active) = c.unwrap_or-left.ensures ∙ ap (λ victim. unwrap_or victim (length active)) c.victim-victim.ensures in
-    let few = few_left active c.args.place (subst (λ (entries : List (Option HeldLine)). c.args.place < length entries) (sym c.active-active.ensures.lines) c.requires) in
+    let few = few_left active c.args.place (subst (λ (slots : List (Option HeldLine)). c.args.place < length slots) (sym c.active-active.ensures.lines) c.requires) in
     omega arith
 
 pub returns-clause-victim : goal.returns-clause-victim
@@ -43,7 +43,7 @@ pub next_version-requires-clause-few : goal.next_version-requires-clause-few
 next_version-requires-clause-few c =
     let active = c.active-active.result.now in
     let left : c.unwrap_or-left.result ≡ unwrap_or (victim_in active c.args.place) (length active) = c.unwrap_or-left.ensures ∙ ap (λ victim. unwrap_or victim (length active)) c.victim-victim.ensures in
-    let few = few_left active c.args.place (subst (λ (entries : List (Option HeldLine)). c.args.place < length entries) (sym c.active-active.ensures.lines) c.requires) in
+    let few = few_left active c.args.place (subst (λ (slots : List (Option HeldLine)). c.args.place < length slots) (sym c.active-active.ensures.lines) c.requires) in
     omega arith
 
 -- how many tasks are left

@@ -9,9 +9,10 @@ returns c =
       c.new-3.ensures.items,
       c.new-4.ensures.items,
       c.new-5.ensures.items,
-      c.new-6.ensures.items,
-      c.new-7.ensures.empty,
+      c.new-6.ensures.empty,
+      c.new-7.ensures.items,
       c.new-8.ensures.empty,
       c.new-9.ensures.empty,
+      c.new-10.ensures.empty,
     )
     refl

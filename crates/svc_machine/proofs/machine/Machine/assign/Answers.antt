@@ -15,8 +15,8 @@ use Rattle.svc_machine.proofs.Assigning.{known, idle, room_active, room_seats, b
 use Rattle.svc_machine.proofs.Seats.{count}
 use Rattle.svc_machine.proofs.machine.Machine.assign.Goals as goal
 
-pub assign-entry-requires : goal.assign-entry-requires
-assign-entry-requires c =
+pub assign-task_entry-requires : goal.assign-task_entry-requires
+assign-task_entry-requires c =
     let x : Event = Assign c.args.unit.0 c.args.guess in
     let ok : IsAccepted (parts_of c.self.inside) x = subst (λ (v : MachineValue). Accepts v x) (sym c.self.view_is) c.requires in
     record { room = room_active (parts_of c.self.inside) c.self.invariant c.args.unit.0 c.args.guess ok c.self.inside.config.few_units }
@@ -35,7 +35,7 @@ pub start-requires : goal.start-requires
 start-requires c =
     let x : Event = Assign c.args.unit.0 c.args.guess in
     let ok : IsAccepted (parts_of c.self.inside) x = subst (λ (v : MachineValue). Accepts v x) (sym c.self.view_is) c.requires in
-    rw c.assign-entry.ensures.entry (begins (parts_of c.self.inside) c.self.invariant c.args.unit.0 c.args.guess ok)
+    rw c.assign-task_entry.ensures.entry (begins (parts_of c.self.inside) c.self.invariant c.args.unit.0 c.args.guess ok)
 
 pub overflow_add-self : goal.overflow_add-self
 overflow_add-self c =
@@ -55,10 +55,10 @@ module _ (c : goal.After-self-2-1) where
   ok = let x : Event = Assign c.args.unit.0 c.args.guess in subst (λ (v : MachineValue). Accepts v x) (sym c.self.view_is) c.requires
 
   abbrev seat : Seat
-  seat = record { lease = c.new.result; entry = c.assign-entry.result; waiting = c.new-2.result }
+  seat = record { lease = c.new.result; task_entry = c.assign-task_entry.result; waiting = c.new-2.result }
 
   abbrev after : Parts
-  after = parts_of (record c.self.inside { bus = c.begin.new.self; sequencer = c.assign-entry.new.self; seats = c.push-room.new.self; accepted = c.self.inside.accepted + 1; epoch = c.self.inside.epoch + 1 })
+  after = parts_of (record c.self.inside { bus = c.begin.new.self; sequencer = c.assign-task_entry.new.self; seats = c.push-room.new.self; accepted = c.self.inside.accepted + 1; epoch = c.self.inside.epoch + 1 })
 
   room : is_ok c.push-room.result ≡ true
   room =
@@ -73,12 +73,12 @@ module _ (c : goal.After-self-2-1) where
 
   moved : Moved m after x
   moved =
-      let e = c.assign-entry.result in
-      assigned (parts_of c.self.inside) c.self.invariant c.args.unit.0 c.args.guess ok c.self.inside.seats.items refl seat e c.assign-entry.ensures.entry
+      let e = c.assign-task_entry.result in
+      assigned (parts_of c.self.inside) c.self.invariant c.args.unit.0 c.args.guess ok c.self.inside.seats.items refl seat e c.assign-task_entry.ensures.entry
       (ap₂ {C = whole.Seat State} (λ (l : Lease) (w : List ℕ). record { unit = l.unit.0; epoch = l.epoch; entry = e; core = l.core; waiting = w }) c.new.ensures c.new-2.ensures
       ∙ ap {B = whole.Seat State} (λ (core : State). record { unit = c.args.unit.0; epoch = c.self.inside.epoch; entry = e; core = core; waiting = [] }) c.start.ensures)
       c.push-room.new.self.items pushed
-      c.assign-entry.new.self c.assign-entry.ensures.state
+      c.assign-task_entry.new.self c.assign-task_entry.ensures.state
       c.begin.new.self c.begin.ensures.table
       (vec_capacity c.push-room.new.self) c.push-room.ensures.capacity
 
@@ -87,9 +87,9 @@ invariant_of-self c = kept_after (m c) c.self.invariant (x c) tt (ok c) (after c
 
 pub returns : goal.returns
 returns c =
-    let r : Reply = record { what = what.Assigned (record { 0 = c.self.inside.commits + c.len.result }) c.assign-entry.result c.self.inside.epoch; cut = None } in
+    let r : Reply = record { what = what.Assigned (record { 0 = c.self.inside.commits + c.len.result }) c.assign-task_entry.result c.self.inside.epoch; cut = None } in
     let seats = c.self.inside.seats in
     let n = c.len.ensures in
     let k = seats.ok.0 in
     taken_as (m c) (after c) c.self.invariant _ c.self.view_is (x c) tt (ok c) (moved c) r
-    (λ t agrees. assign_reply (m c) c.self.invariant c.args.unit.0 c.args.guess (ok c) seats.items refl (c.self.inside.commits + c.len.result) c.assign-entry.result (omega (arith, n, k)) c.assign-entry.ensures.entry t)
+    (λ t agrees. assign_reply (m c) c.self.invariant c.args.unit.0 c.args.guess (ok c) seats.items refl (c.self.inside.commits + c.len.result) c.assign-task_entry.result (omega (arith, n, k)) c.assign-task_entry.ensures.entry t)

@@ -3,7 +3,7 @@ use Rattle.std.proofs.lemmas.Result.{err_from_is_err_and}
 use Rattle.svc_base.specs.declared.refusal.Refusal.{Refusal}
 use Rattle.svc_machine_laws.specs.declared.reply.Reply.{Reply}
 use Rattle.svc_machine_laws.specs.Events.{Event}
-use Rattle.svc_machine_laws.specs.Standing.{refused}
+use Rattle.svc_machine_laws.specs.Standing.{refusal_of}
 use Rattle.svc_machine.specs.Admitted.{IsFound, event_in, refusal_by, refused_yet}
 use Rattle.svc_machine.specs.Events.{event_of}
 use Rattle.svc_machine.specs.Steps.{Accepts, IsStep, IsTaken}
@@ -35,7 +35,7 @@ pub submit-requires-clause-admitted : goal.submit-requires-clause-admitted
 submit-requires-clause-admitted c =
     let v = c.args.self.now in
     let same = sym (c.in_ok-admitted.ensures {u = tt}).event ∙ ap event_in c.in-Submit.is in
-    λ s at. ap (refused v.image v.config s) (sym same) ∙ sym (c.admit.ensures.refused s at) ∙ ap (refusal_by v.image s.lines) c.in_ok-admitted.was ∙ ap (refused_yet v.image s.lines) c.in-Submit.is
+    λ s at. ap (refusal_of v.image v.config s) (sym same) ∙ sym (c.admit.ensures.refused s at) ∙ ap (refusal_by v.image s.lines) c.in_ok-admitted.was ∙ ap (refused_yet v.image s.lines) c.in-Submit.is
 
 pub submit-requires-clause-found : goal.submit-requires-clause-found
 submit-requires-clause-found c = subst (IsFound c.args.self.now) c.in-Submit.is (c.in_ok-admitted.ensures {u = tt}).found

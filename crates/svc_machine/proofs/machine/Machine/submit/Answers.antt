@@ -12,7 +12,7 @@ use Rattle.svc_bus.specs.Value.{BusValue}
 use Rattle.svc_machine_laws.specs.declared.reply.Cut.{Cut}
 use Rattle.svc_machine_laws.specs.declared.reply.Reply.{Reply}
 use Rattle.svc_machine_laws.specs.WholeMachine.{machine_of, at_core, seat_of}
-use Rattle.svc_machine_laws.specs.Standing.{Standing, refused}
+use Rattle.svc_machine_laws.specs.Standing.{Standing, refusal_of}
 use Rattle.svc_machine_laws.specs.Events.{Event, Submit, asked_want, seat_place}
 use Rattle.svc_machine_laws.specs.Blame.{tasks_cut}
 use Rattle.svc_machine_laws.specs.Guide.{guide_cut}
@@ -20,7 +20,7 @@ use Rattle.svc_machine_laws.proofs.Followed.{map_count}
 use Rattle.svc_machine.specs.declared.seat.Seat.{Seat}
 use Rattle.svc_machine.specs.declared.machine.Machine.TheInside.{Inside}
 use Rattle.svc_machine.specs.Asked.{IsDone}
-use Rattle.svc_machine.specs.Kept.{Parts, Kept, shown, whole_seat}
+use Rattle.svc_machine.specs.Kept.{Parts, Kept, machine_value, whole_seat}
 use Rattle.svc_machine.specs.Seats.{is_misled, plain_of}
 use Rattle.svc_machine.specs.Steps.{Accepts, IsStep}
 use Rattle.svc_machine.specs.Value.{MachineValue, StandsAt}
@@ -165,7 +165,7 @@ invariant_of-self-2 c = kept_after (m c) c.self.invariant (Submit c.args.burst.n
 pub returns : goal.returns
 returns c =
     let r : Reply = record { what = c.in_ok-reply.reply.what; cut = c.or.result } in
-    accepted_step c.args.self.now (shown (after c)) (Submit (b c)) r (admits c)
+    accepted_step c.args.self.now (machine_value (after c)) (Submit (b c)) r (admits c)
     (taken_as (m c) (after c) c.self.invariant _ c.self.view_is (Submit c.args.burst.now) c.end.ensures.follows (ok c) (moved c) r
     (λ t agrees.
     ap {B = Reply} (λ (o : Option Cut). record { what = c.in_ok-reply.reply.what; cut = o }) c.or.ensures
@@ -191,7 +191,7 @@ module _ (c : goal.After-from_residual) where
   same_bus = (c.in_err-reply.ensures {u = tt}).unchanged.1
 
   -- the table of refusals has the bus's refusal
-  why : (s : Standing) → StandsAt (shown (parts_of c.self.inside)) s → Some c.in_err-reply.field-0.0 ≡ refused c.self.inside.image c.self.inside.config s (Submit c.args.burst.now)
+  why : (s : Standing) → StandsAt (machine_value (parts_of c.self.inside)) s → Some c.in_err-reply.field-0.0 ≡ refusal_of c.self.inside.image c.self.inside.config s (Submit c.args.burst.now)
   why s at =
       let m : Parts = parts_of c.self.inside in
       let b = c.args.burst.now in
@@ -209,9 +209,9 @@ returns-in_err-reply c =
     let x : Event = Submit c.args.burst.now in
     let e = c.in_err-reply.field-0.0 in
     let p = err_from_is_err_and c.from_residual.result c.from_residual.ensures.1 in
-    let old : MachineValue = shown (parts_of c.self.inside) in
-    let new : MachineValue = shown (with_seats c.self.inside (slice_set c.self.inside.seats.items c.args.place c.do_asked.new.seat) c.do_asked.new.bus) in
-    let same : old ≡ new = ap₂ {C = MachineValue} (λ (items : List Seat) (bus : BusValue). shown (with_seats c.self.inside items bus)) (sym (back c)) (sym (same_bus c)) in
+    let old : MachineValue = machine_value (parts_of c.self.inside) in
+    let new : MachineValue = machine_value (with_seats c.self.inside (slice_set c.self.inside.seats.items c.args.place c.do_asked.new.seat) c.do_asked.new.bus) in
+    let same : old ≡ new = ap₂ {C = MachineValue} (λ (items : List Seat) (bus : BusValue). machine_value (with_seats c.self.inside items bus)) (sym (back c)) (sym (same_bus c)) in
     subst (λ (v : MachineValue). IsStep v new x c.from_residual.result) c.self.view_is
     (subst (λ (r : Result Reply Refusal). IsStep old new x r) (sym (p.1 ∙ ap (λ (e : Refusal). Err e) p.2))
     (subst (λ (w : MachineValue). IsStep old w x (Err e)) same (refused_step old x e (why c))))

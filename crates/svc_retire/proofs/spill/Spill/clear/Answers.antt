@@ -7,4 +7,4 @@ use Rattle.svc_retire.proofs.spill.Spill.clear.Goals as goal
 pub returns : goal.returns
 returns c =
     let places = c.self.inside.places.items in
-    map-set spilled_version places c.args.word.0 c.emptied.result ∙ ap (λ (v : Option ℕ). set (map spilled_version places) c.args.word.0 v) c.emptied.ensures.empty ∙ ap (λ (table : List (Option ℕ)). set table c.args.word.0 None) c.self.view_is
+    map-set spilled_version places c.args.word.0 c.without_version.result ∙ ap (λ (v : Option ℕ). set (map spilled_version places) c.args.word.0 v) c.without_version.ensures.empty ∙ ap (λ (table : List (Option ℕ)). set table c.args.word.0 None) c.self.view_is

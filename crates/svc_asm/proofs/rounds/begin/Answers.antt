@@ -1,0 +1,16 @@
+use Rattle.std.proofs.Common.{◌≡◌, ◌∙◌, inl, inr, sym, subst}
+use Rattle.std.proofs.lemmas.Result.{err_from_is_err_and}
+use Rattle.svc_draft.specs.Layouts.{Layout, layout_of}
+use Rattle.svc_asm.specs.Programs.{IsPass}
+use Rattle.svc_asm.proofs.Program.{not_measured}
+use Rattle.svc_asm.proofs.rounds.begin.Goals as goal
+
+pub returns-in_err-take_lines-clause-err : goal.returns-in_err-take_lines-clause-err
+returns-in_err-take_lines-clause-err c =
+    let p = err_from_is_err_and c.from_residual.result c.from_residual.ensures.1 in
+    let first = layout_of c.args.first in
+    rw (p.1, p.2) (elim c.in_err-take_lines.ensures.err [
+      | inl memory ↦ inl memory
+      | inr none ↦ inr (λ made. not_measured first.has_distances c.args.text.now first made (sym c.has_distances.ensures ∙ c.if-not-has_distances.false)
+          (subst (λ (b : Layout). (d : Layout) → IsPass c.args.text.now b d → ⊥) c.to_measure-measuring.ensures none))
+    ])

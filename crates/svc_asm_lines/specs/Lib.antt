@@ -1,0 +1,5 @@
+pub mod Statements
+pub mod Lists
+pub mod Strings
+pub mod Symbols
+pub mod DataLines

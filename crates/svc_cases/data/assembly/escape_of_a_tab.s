@@ -1,0 +1,4 @@
+.svc_entry
+    ecall
+.data
+    .ascii "\	n"

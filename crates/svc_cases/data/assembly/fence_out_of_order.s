@@ -1,0 +1,2 @@
+.svc_entry
+    fence wr, rw

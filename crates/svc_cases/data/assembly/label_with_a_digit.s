@@ -1,0 +1,2 @@
+.svc_entry
+1x: nop

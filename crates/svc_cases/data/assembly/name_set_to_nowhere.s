@@ -1,0 +1,3 @@
+.svc_entry
+    ecall
+.set here, nowhere

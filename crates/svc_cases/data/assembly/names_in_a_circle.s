@@ -1,0 +1,4 @@
+.set one, two
+.set two, one
+.svc_entry
+    ecall

@@ -1,0 +1,2 @@
+.svc_entry
+    lw x1, 0(x2

@@ -1,0 +1,2 @@
+.svc_entry
+    lui x1, 1048576

@@ -1,7 +1,0 @@
-use Rattle.std.proofs.Common.{◌≡◌, ◌++◌, take}
-use Rattle.std.specs.Prelude.{flat_map}
-use Rattle.svc_draw.specs.Drawing.{bar_name}
-use Rattle.svc_draw.proofs.drawing.write_names.Given as goal
-
-abbrev pub invariant-loop-bar : goal.invariant-loop-bar
-invariant-loop-bar l = l.text.items ≡ l.fn.text.items ++ flat_map (bar_name l.frame.sheet) (take l.bar-index l.bars)

@@ -1,7 +1,0 @@
-use Rattle.std.proofs.Common.{◌≡◌, ◌++◌, take}
-use Rattle.std.specs.Prelude.{flat_map}
-use Rattle.svc_draw.specs.Row.{after_comma}
-use Rattle.svc_draw.proofs.row.put_line.Given as goal
-
-abbrev pub invariant-loop-field : goal.invariant-loop-field
-invariant-loop-field l = l.text.items ≡ l.fn.text.items ++ (l.first ++ flat_map after_comma (take l.field-index l.others))
