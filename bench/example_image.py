@@ -2,11 +2,12 @@
 """Makes the image of a program's text by GNU's assembler and linker, and its listing by GNU's disassembler: what `svcsim
 assemble` and `list` are held against; and the table of its names, by GNU's nm, where a file is named for it.
 
-    bench/example_image.py TEXT IMAGE LISTING [NAMES]
+    bench/example_image.py TEXT[,TEXT..] IMAGE LISTING [NAMES]
 
-Knows images of version 1, and of this project's directives .svc_entry, .svc_limit and .svc_register. Sections become four: text,
-read-only data, data, and zeros, of which the last three are the image's data; what `.comm` names stands in the zeros where the
-line does. Passes over what this version of GNU's doesn't know. Needs Debian's binutils-riscv64-unknown-elf.
+Several texts are assembled each by itself, and linked in their order. Knows images of version 1, and of this project's
+directives .svc_entry, .svc_limit and .svc_register. Sections become four: text, read-only data, data, and zeros, of which the
+last three are the image's data; what `.comm` names stands in the zeros where the line does, as a name of its text alone. Passes
+over what this version of GNU's doesn't know. Needs Debian's binutils-riscv64-unknown-elf.
 """
 import re
 import struct
@@ -20,7 +21,10 @@ SECTIONS = ((".text", ".text"), (".init.text", ".text"), (".rodata", ".section .
             (".sdata", ".data"), (".init_array", ".data"), (".bss", ".bss"), (".sbss", ".bss"))
 PLACES = """SECTIONS {
     .text 0 : { *(.text) }
-    .data 0x100000 : { *(.rodata) . = ALIGN(4); *(.data) . = ALIGN(4); *(.bss) . = ALIGN(4); }
+    . = 0x100000;
+    .rodata : { *(.rodata) }
+    .data : ALIGN(4) { *(.data) }
+    .bss : ALIGN(4) { *(.bss) }
 }
 """
 
@@ -37,16 +41,16 @@ def names_of(symbols):
     return "name,address\n" + "".join(f"{name},{address}\n" for address, name in sorted(named))
 
 
-def image_of(text):
-    """The image of the program in a file, and nm's rows."""
-    plain, entries, limit, registers = [], 0, 65536, {}
+def plain_of(text, entries, limits, registers):
+    """The lines of a text for GNU's assembler, with a label for each entry; and what our own directives say of the image."""
+    plain = []
     for line in open(text):
         words = line.split("#")[0].replace(",", " ").split()
         if words[:1] == [".svc_entry"]:
-            plain.append(f"svc_entry_{entries}:\n")
-            entries += 1
+            plain.append(f"svc_entry_{len(entries)}:\n")
+            entries.append(f"svc_entry_{len(entries)}")
         elif words[:1] == [".svc_limit"]:
-            limit = int(words[1], 0)
+            limits.append(int(words[1], 0))
         elif words[:1] == [".svc_register"]:
             registers[ABI.index(words[1])] = words[2]
         elif words[:1] in ([".comm"], [".lcomm"]):
@@ -58,29 +62,38 @@ def image_of(text):
             plain.append(section(words) + "\n")
         else:
             plain.append(line)
+    return plain
+
+
+def image_of(texts):
+    """The image of the program in these files, and nm's rows."""
+    entries, limits, registers = [], [65536], {}
     with tempfile.TemporaryDirectory() as room:
-        with open(f"{room}/a.s", "w") as it:
-            it.writelines([".option norelax\n", *plain])
+        objects = []
+        for number, text in enumerate(texts):
+            with open(f"{room}/{number}.s", "w") as it:
+                it.writelines([".option norelax\n", *plain_of(text, entries, limits, registers)])
+            objects.append(f"{room}/{number}.o")
+            tool("as", "-march=rv32i", "-mabi=ilp32", "-o", objects[-1], f"{room}/{number}.s")
         with open(f"{room}/places", "w") as it:
             it.write(PLACES)
-        tool("as", "-march=rv32i", "-mabi=ilp32", "-o", f"{room}/a.o", f"{room}/a.s")
-        tool("ld", "-m", "elf32lriscv", "-N", "-e", "0", "-T", f"{room}/places", "-o", f"{room}/a", f"{room}/a.o")
+        tool("ld", "-m", "elf32lriscv", "-N", "-e", "0", "-T", f"{room}/places", "-o", f"{room}/a", *objects)
         rows = [it for it in map(str.split, tool("nm", f"{room}/a").splitlines()) if len(it) == 3]
         symbols = {it[2]: int(it[0], 16) for it in rows}
         parts = []
-        for name in (".text", ".data"):
-            tool("objcopy", "-O", "binary", "-j", name, f"{room}/a", f"{room}/part")
+        for names in ("-j .text", "-j .rodata -j .data -j .bss --set-section-flags .bss=alloc,load,contents"):
+            tool("objcopy", "-O", "binary", *names.split(), f"{room}/a", f"{room}/part")
             part = open(f"{room}/part", "rb").read()
             parts.append(part + bytes(-len(part) % 4))
-    starts = [symbols[f"svc_entry_{n}"] for n in range(entries)]
+    starts = [symbols[it] for it in entries]
     values = [symbols[it] if re.match(r"[A-Za-z_]", it) else int(it, 0) for it in (registers.get(n, "0") for n in range(1, 32))]
-    counts = (len(starts), len(parts[0]) // 4, len(parts[1]) // 4, limit, starts[0])
+    counts = (len(starts), len(parts[0]) // 4, len(parts[1]) // 4, limits[-1], starts[0])
     made = b"SVCI" + struct.pack("<HHIIII", 1, *counts) + struct.pack("<31I", *values)
     return made + struct.pack(f"<{len(starts)}I", *starts) + parts[0] + parts[1], rows
 
 
-def main(text, image, listing, names=None):
-    made, rows = image_of(text)
+def main(texts, image, listing, names=None):
+    made, rows = image_of(texts.split(","))
     with open(image, "wb") as it:
         it.write(made)
     with open(listing, "w") as it:

@@ -48,12 +48,18 @@ def address_of(form, fields):
     return DATA + 4 * number if is_word else number
 
 
-def main():
+def names_in(path):
+    """The first name of each address."""
     names = {}
-    with open(sys.argv[1]) as table:
+    with open(path) as table:
         for row in table.read().splitlines()[1:]:
             name, address = row.split(",")
             names.setdefault(int(address), name)
+    return names
+
+
+def main():
+    names = names_in(sys.argv[1])
     form = sys.argv[2]
     for number, row in enumerate(sys.stdin.read().splitlines()):
         if form == "graph":
@@ -75,4 +81,5 @@ def main():
         print(row + "," + (name_of(names, address) if address is not None else ""))
 
 
-main()
+if __name__ == "__main__":
+    main()

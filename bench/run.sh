@@ -19,10 +19,11 @@ if [ -z "$svcsim" ]; then
     (cd "$root/crates/svcsim" && rt run > /dev/null)
 fi
 svcsim=$(realpath "$svcsim")
-for name in images plain_twin threads_twin schedule_twin; do
+for name in images plain_twin threads_twin schedule_twin explore_twin; do
     rustc -O -C codegen-units=1 --edition 2024 -o "$folder/$name" "$root/bench/$name.rs"
 done
 cd "$folder"
+cp "$root/images/p.svci" .
 ./images short short.svci
 for name in loop local apart memory small large spin; do
     ./images "$name" "$name.svci"
@@ -97,6 +98,17 @@ race_schedule() {
     note "rotate-$burst-$units" twin "$(events_printed)"
 }
 
+# All schedules of a sample on six units, which both print the same of.
+race_explore() {
+    timed "$svcsim" explore p.svci --units 6 --burst 1
+    cp printed proved.printed
+    grep -q '^states,123611$' printed || fail "svcsim does not tell 123,611 standings apart"
+    note explore proved 1
+    timed ./explore_twin p.svci 6 16 2 100000 1 1000000 - -
+    cmp printed proved.printed
+    note explore twin 1
+}
+
 # A history of 100,000 entries by one unit, written and checked. One unit leaves no choice, so the traces are the same.
 race_trace() {
     timed "$svcsim" run memory.svci --units 1 --events 100000 --turns 10000000 --trace proved.csv
@@ -146,6 +158,7 @@ for ((round = 0; round < rounds; round++)); do
         race_schedule "$units" 63
         race_schedule "$units" 1
     done
+    race_explore
     race_trace
     race_run small 1 commit-100 150000
     race_run large 1 commit-65536 150000
@@ -216,6 +229,7 @@ awk -v rounds="$rounds" '
             row("rotate-63-" i, "run --schedule rotate, bursts of 63, units: " i ", million events a second", -1, "%7.3f")
             row("rotate-1-" i, "run --schedule rotate, bursts of 1, units: " i ", million events a second", -1, "%7.3f")
         }
+        row("explore", "explore, six units by bursts of 1, seconds for 123,611 standings", 1, "%7.3f")
         row("trace", "run --trace, seconds for 100,000 entries", 100000, "%7.3f")
         row("check", "check, seconds for 100,000 entries", 100000, "%7.3f")
         row("profile", "profile, seconds for 100,000 entries, beside check", 100000, "%7.3f")

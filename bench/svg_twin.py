@@ -1,12 +1,13 @@
 #!/usr/bin/env python3
 """The picture that `draw` saves: a twin of svc_draw's text, from a trace alone.
 
-svg_twin.py TRACE UNITS [FROM] [COUNT] [unit=A-B] [task=A-B] [word=A-B] [values=auto|all|none] [compact=yes]
+svg_twin.py TRACE UNITS [FROM] [COUNT] [unit=A-B] [task=A-B] [word=A-B] [values=auto|all|none] [compact=yes] [names=TABLE]
 """
 import csv
 import sys
 
 from draw_twin import Choice, asked, number, tasks_of
+from names_twin import DATA, name_of, names_in
 
 LEFT, WIDTH, RIGHT, TOP = 90, 1490, 1580, 118
 FILLS = {
@@ -28,6 +29,16 @@ JOINED = {
     "version": ("versions read", " stroke='#14508c' stroke-width='2' marker-end='url(#thin)'"),
     "violation": ("reads too early", " stroke='#b01010' stroke-width='4' marker-end='url(#bold)'"),
     "load": ("loads", ""), "store": ("stores", ""), "output": ("words put out", ""), "replace": ("lines replaced", ""),
+}
+# What became of a task, by which entry; and what a read was given.
+CAUSES = {
+    "committed": "committed it", "violation": "squashed it: an earlier task stored to a word that had been read too early",
+    "guess": "squashed it: a task before it went on elsewhere than guessed, or ended the program",
+    "cancel": "squashed it: it, or a task before it, was cancelled",
+}
+SUPPLIES = {
+    "hit": "its own line", "reuse": "its own committed line", "version": "the version", "spill": "the spilled version",
+    "committed": "the committed version", "memory": "memory",
 }
 ROWS = ["load", "store", "output", "replace"]
 RIM = "<g paint-order='stroke' stroke='#fff' stroke-width='4' stroke-linejoin='round'>\n"
@@ -73,6 +84,7 @@ class Picture:
     def __init__(self, lines, options, units, begin=0, count=1000000):
         self.choice, self.values = Choice(options), options.get("values", "auto")
         self.compact = options.get("compact") == "yes"
+        self.names = names_in(options["names"]) if "names" in options else {}
         self.height = 240 if self.compact else 720
         self.bottom = TOP + self.height
         # Later entries aren't looked at.
@@ -174,18 +186,25 @@ class Picture:
 
     # ---- bars and marks
 
+    def word_name(self, word):
+        return name_of(self.names, DATA + 4 * int(word)) if word else ""
+
     def bar(self, t):
         lane = int(t.unit)
+        name = name_of(self.names, int(t.entry))
+        entry = f"{t.entry} {name}" if name else t.entry
         text = f"<rect x='{self.bar_left(t)}' y='{self.bar_top(lane)}' width='{self.bar_width(t)}' height='{self.bar_height}' rx='3' "
-        text += f"fill='{FILLS[t.fate]}' stroke='#333'><title>task {t.number} at address {t.entry}, begun by entry {t.first}: "
-        return text + f"{NAMES[t.fate]}; turns: {t.turns}</title></rect>\n"
+        text += f"fill='{FILLS[t.fate]}' stroke='#333'><title>task {t.number} at address {entry}, begun by entry {t.first}: "
+        became = "nothing has decided yet what becomes of it" if t.last is None else f"entry {t.last} {CAUSES[t.fate]}"
+        return text + f"{NAMES[t.fate]}; turns: {t.turns}\n{became}</title></rect>\n"
 
     def bar_name(self, t):
         letters = max(self.bar_width(t) - 8, 0) // 7
-        number, both = len(str(t.number)), len(str(t.number)) + len(t.entry)
+        entry = name_of(self.names, int(t.entry)) or t.entry
+        number, both = len(str(t.number)), len(str(t.number)) + len(entry)
         if letters < number:
             return ""
-        words = f"task {t.number} @ {t.entry}" if both + 8 <= letters else f"{t.number}@{t.entry}" if both + 1 <= letters else str(t.number)
+        words = f"task {t.number} @ {entry}" if both + 8 <= letters else f"{t.number}@{entry}" if both + 1 <= letters else str(t.number)
         return label(self.bar_left(t) + 4, self.bar_top(int(t.unit)) + 12, "font-size='12'", words)
 
     def chosen_bars(self):
@@ -244,7 +263,35 @@ class Picture:
             "version": (f"<path d='M{right} {down}L{x} {y}' fill='none' stroke='#14508c' stroke-width='2' marker-end='url(#thin)'>", "path"),
             "violation": (f"<path d='M{x} {y}L{right} {down}' fill='none' stroke='#b01010' stroke-width='4' marker-end='url(#bold)'>", "path"),
         }.get(kind, (f"<use href='#{used}' x='{x}' y='{y}'>", "use"))
-        return f"{shape}<title>entry {at}: {self.lines[at + 1]}</title></{element}>\n"
+        name = self.word_name(row["addr"])
+        called = f"word {row['addr']} is {name}\n" if name else ""
+        return f"{shape}<title>entry {at}: {self.lines[at + 1]}{self.sentence(mark)}\n{called}</title></{element}>\n"
+
+    def sentence(self, mark):
+        """What a mark means."""
+        kind, at, other = mark
+        row = self.rows[at]
+        task = next((t for t in self.bars if t.unit == row["unit"] and t.first <= at and (t.last is None or at <= t.last)), None)
+        actor = f"task {task.number} on unit {row['unit']}" if task else f"unit {row['unit']}"
+        supply = SUPPLIES.get(row["served"], "")
+        if supply.endswith("version") and row["from"]:
+            supply += f" of unit {row['from']}"
+        word = f"word {row['addr']}"
+        if kind == "commit":
+            return f"task {row['word']} is committed, as unit {row['unit']} asked"
+        if kind == "replace":
+            return f"unit {row['unit']} lets a line go, of {word}"
+        if kind == "output":
+            return f"{actor} puts out {row['word']}"
+        if kind == "version":
+            stored = f", stored by entry {other[1]}" if other[1] is not None else ""
+            return f"{actor} reads {word} in the version of unit {other[0]}{stored}"
+        if kind == "violation":
+            read = f" in entry {other[1]}" if other[1] is not None else ""
+            return f"{actor} stores {word}, which task {row['first']} read too early{read}; tasks squashed: {row['squashed']}"
+        done = f"{word} as {row['word']}" if row["addr"] else row["word"]
+        before = {"load": "from", "store": "its other bytes from"}[kind]
+        return f"{actor} {kind}s {done}" + (f", {before} {supply}" if supply else "")
 
     def all_words(self, marks):
         """The words of marks, which have room up to the mark before theirs on the lane."""
@@ -264,7 +311,7 @@ class Picture:
         if kind in ("load", "store", "output"):
             end = x - self.radius - 6
             letters = max(end - edge, 0) // 8
-            both = f"word {row['addr']} = {value}" if row["addr"] else value
+            both = f"{self.word_name(row['addr']) or 'word ' + row['addr']} = {value}" if row["addr"] else value
             words = both if len(both) <= letters else value
             said = {"auto": len(value) <= letters, "all": True, "none": False}[self.values]
             return label(end, y + 5, ended, words) if said else ""

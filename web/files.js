@@ -47,16 +47,13 @@ const order_of = (it) => (Object.keys(TEXTS.orders).includes(it) ? it : 'younges
 const schedule_of = (it) =>
   ({ order: order_of(it?.order), seed: number_of(it?.seed, 0), burst: number_of(it?.burst, 63) });
 
-const MOST_DRAWN = 400;
-
 // The files that can be saved: the end of the name, the kind, and what is in it.
 const SAVED = {
   program: ['.s', 'text/plain', (session) => bytes_of(session.text)],
   image: ['.svci', 'application/octet-stream', (session) => session.requests.file('image')],
   script: ['.events.csv', 'text/csv', (session) => bytes_of([HEADER, ...session.steps, ''].join('\n'))],
   trace: ['.trace.csv', 'text/csv', (session) => session.requests.file('trace')],
-  picture: ['.svg', 'image/svg+xml',
-    (session) => session.requests.picture(0, Math.min(MOST_DRAWN, Math.max(1, session.entries.length)))],
+  picture: ['.svg', 'image/svg+xml', (session) => session.requests.picture()],
   chrome: ['.trace.json', 'application/json', (session) => session.requests.exported('chrome', 0)],
   vcd: ['.vcd', 'text/plain', (session) => session.requests.exported('vcd', session.shown_words())],
 };

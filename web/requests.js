@@ -136,10 +136,9 @@ export class Requests {
     return drawn_of(text_of(this.library.files.get(FILES.rows)));
   }
 
-  // The same as a picture.
-  async picture(from, count) {
-    const columns = ['--from', from, '--count', count];
-    await this.get(['draw', FILES.image, FILES.trace, FILES.picture, ...columns, ...this.machine()]);
+  // All of them as a picture, which joins what would overlap.
+  async picture() {
+    await this.get(['draw', FILES.image, FILES.trace, FILES.picture, '--names', FILES.names, ...this.machine()]);
     return this.library.files.get(FILES.picture);
   }
 

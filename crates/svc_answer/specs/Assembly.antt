@@ -1,15 +1,33 @@
--- What it means to assemble a file, and to list an image.
-use Rattle.std.specs.Prelude.{◌≡◌, ℕ, List, Option, IfSome}
+-- What it means to assemble files, and to list an image.
+use Rattle.std.specs.Prelude.{◌≡◌, ℕ, List, [], ◌∷◌, Option, None, Some, IfSome, option_map}
 use denote.Ref.{Bor}
 use Rattle.std.specs.Io.KnownBytes.{Appends}
 use Rattle.svc_image.specs.Image.{Image, IsImage}
 use Rattle.svc_image.specs.Format.{file_of}
 use Rattle.svc_asm.specs.Programs.{HasLabels, IsProgramOf}
+use Rattle.svc_asm.specs.Texts.{joined}
 use Rattle.svc_list.specs.Listings.{listing_of}
 use Rattle.svc_names.specs.declared.name.Name.{Name}
 use Rattle.svc_names.specs.declared.names.Names.{Names}
 use Rattle.svc_names.specs.Given.{listed}
 use Rattle.svc_names.specs.Made.{IsTableOf, table_text}
+use Rattle.svc_request.specs.Held.{Held}
+use Rattle.svc_request.specs.Names.{texts_of}
+use Rattle.svc_request.specs.declared.request.Assembly.{Assembly}
+
+-- a text before others, if all are known
+abbrev pub with_first : Option (List ℕ) → Option (List (List ℕ)) → Option (List (List ℕ))
+with_first None texts = None
+with_first (Some text) texts = option_map (λ others. text ∷ others) texts
+
+-- what the files of these names hold, if all of that is known
+abbrev pub all_held : Held → List (Bor (List ℕ)) → Option (List (List ℕ))
+all_held held [] = Some []
+all_held held (name ∷ names) = with_first (held name.now) (all_held held names)
+
+-- the text that the files of an assembly make, joined, if it is known
+abbrev pub text_held : Held → Assembly → Option (List ℕ)
+text_held held assembly = option_map joined (all_held held (texts_of assembly))
 
 -- the text, if it is known, makes an image
 abbrev pub MakesImage : Option (List ℕ) → Type 0

@@ -1,9 +1,11 @@
 -- What it means to draw a trace.
-use Rattle.std.specs.Prelude.{◌≡◌, ◌≤◌, ℕ, Bool, true, false, List, IfSome, length}
+use Rattle.std.specs.Prelude.{◌≡◌, ◌≤◌, ℕ, Bool, true, false, List, Option, IfSome, length}
+use denote.Ref.{Bor}
 use Rattle.svc_base.specs.declared.config.Config.{Config}
 use Rattle.svc_image.specs.Image.{Image}
 use Rattle.svc_history_laws.specs.declared.entry.Entry.{Entry}
 use Rattle.svc_history_laws.specs.Legal.{LegalHistory}
+use Rattle.svc_names.specs.declared.names.Names.{Names}
 use Rattle.svc_sheet.specs.declared.sheet.Style.{Style}
 use Rattle.svc_draw.specs.Picture.{picture_of}
 use Rattle.svc_marks.specs.declared.view.View.{View}
@@ -18,16 +20,16 @@ pub record IsDrawn (img : Image) (config : Config) (es : List Entry) (view : Vie
   pub legal : LegalHistory img config (front (end_shown view.from view.count) es)
   pub inside : view.from ≤ length es
 
--- what a picture shows of entries, as rows or drawn
-abbrev pub shown_as : (rows : Bool) → (units : ℕ) → List Entry → View → Style → List ℕ
-shown_as true units es view style = rows_of es view
-shown_as false units es view style = picture_of es units view style
+-- what a picture shows of entries, as rows, or drawn with the names that are given
+abbrev pub shown_as : (rows : Bool) → (units : ℕ) → List Entry → View → Style → Option (Bor Names) → List ℕ
+shown_as true units es view style names = rows_of es view
+shown_as false units es view style names = picture_of es units view style names
 
 -- of those up to the last that it may show
-abbrev pub drawing_of : Picture → (units : ℕ) → List Entry → List ℕ
-drawing_of p units es =
-    shown_as p.rows units (front (end_shown p.view.from p.view.count) es) p.view p.style
+abbrev pub drawing_of : Picture → (units : ℕ) → List Entry → Option (Bor Names) → List ℕ
+drawing_of p units es names =
+    shown_as p.rows units (front (end_shown p.view.from p.view.count) es) p.view p.style names
 
 -- that text is saved, as far as the file is known
-abbrev pub SavesDrawing : Held → Picture → (units : ℕ) → List Entry → Type 0
-SavesDrawing held p units es = IfSome (held p.file.now) (λ text. text ≡ drawing_of p units es)
+abbrev pub SavesDrawing : Held → Picture → (units : ℕ) → List Entry → Option (Bor Names) → Type 0
+SavesDrawing held p units es names = IfSome (held p.file.now) (λ text. text ≡ drawing_of p units es names)

@@ -29,7 +29,7 @@ use Rattle.svc_request.specs.declared.request.Request.TheVariants as request
 use Rattle.svc_request.specs.declared.request.TheConstants.{VERSION}
 use Rattle.svc_request.specs.declared.faults.Fault.{Fault}
 use Rattle.svc_request.specs.declared.faults.Fault.TheVariants as fault
-use Rattle.svc_answer.specs.Assembly.{Assembles, Lists, MakesImage, SavesNames}
+use Rattle.svc_answer.specs.Assembly.{Assembles, Lists, MakesImage, SavesNames, text_held}
 use Rattle.svc_answer.specs.Costs.{TellsCost}
 use Rattle.svc_answer.specs.Drawings.{IsDrawn, SavesDrawing}
 use Rattle.svc_answer.specs.Explored.{FindsSight, TellsSchedules}
@@ -154,12 +154,13 @@ Does (request.Show traced shown) held saved old new exit =
     (λ names. TellsMachine shown.at shown.extras names img traced.config es old new exit))
 Does (request.Draw traced picture) held saved old new exit =
     IsTracedIn held traced (λ img es. IsDrawn img traced.config es picture.view
-    × SavesDrawing saved picture traced.config.units es) × (new ≡ old) × (exit ≡ 0)
+    × IsNamedIn held picture.names (λ names. SavesDrawing saved picture traced.config.units es names))
+    × (new ≡ old) × (exit ≡ 0)
 Does (request.Export traced exported) held saved old new exit =
     IsTracedIn held traced (λ img es. Exports saved exported img traced.config es) × (new ≡ old) × (exit ≡ 0)
 Does (request.Assemble assembly) held saved old new exit =
-    Assembles (held assembly.text.now) (saved assembly.image.now) exit
-    × IfSome assembly.names (λ name. SavesNames (held assembly.text.now) (saved name.now)) × (new ≡ old)
+    Assembles (text_held held assembly) (saved assembly.image.now) exit
+    × IfSome assembly.names (λ name. SavesNames (text_held held assembly) (saved name.now)) × (new ≡ old)
 Does (request.List image named) held saved old new exit =
     (img : Image) × IsOfSource held image img × IsNamedIn held named (λ names. Lists names img old new exit)
 
@@ -181,9 +182,9 @@ KeepsFiles asked held saved = KeepsAllButBoth (written_by asked) (also_written_b
 abbrev pub IsLate : Fault → Type 0
 IsLate f = (f ≡ fault.File) ⊎ IsReportFault f
 
--- what is to be written can be: the text makes an image, or the image that is asked for exists
+-- what is to be written can be: the texts make an image, or the image that is asked for exists
 abbrev pub IsReady : Request → Held → Type 0
-IsReady (request.Assemble assembly) held = MakesImage (held assembly.text.now)
+IsReady (request.Assemble assembly) held = MakesImage (text_held held assembly)
 IsReady asked held = HasImage asked held
 
 -- a request that fails has changed no file, unless what is to be written can be and the fault may come that late

@@ -43,7 +43,7 @@ grammar =
     ∷ option "memory" ∷ option "names" ∷ machine)
     ∷ subcommand "draw" (demand "IMAGE" ∷ demand "TRACE" ∷ demand "FILE.svg" ∷ setting "from" "0"
     ∷ option "count" ∷ option "unit" ∷ option "task" ∷ option "word" ∷ option "values" ∷ option "compact"
-    ∷ option "rows" ∷ machine)
+    ∷ option "rows" ∷ option "names" ∷ machine)
     ∷ subcommand "export" (demand "IMAGE" ∷ demand "TRACE" ∷ demand "FILE" ∷ demand "format" ∷ option "words"
     ∷ machine)
     ∷ subcommand "assemble" (demand "FILE" ∷ demand "IMAGE" ∷ option "names" ∷ [])

@@ -5,6 +5,8 @@
 pub(crate) enum Takes {
     /// A file, by its place among the words. It has to be named.
     File,
+    /// One file or more, in the same way.
+    Files,
     /// Any word.
     Word,
     /// One of these names.

@@ -45,13 +45,15 @@ pub(crate) const TRACE_FILE: Argument = Argument {
 
 pub(crate) const TEXT: Argument = Argument {
     name: "FILE",
-    help: "The text's file",
+    help: "The first text's file",
     ..FILE
 };
 
+// Other texts, and the image last.
 pub(crate) const MADE_IMAGE: Argument = Argument {
     name: "IMAGE",
-    help: "The file that the image is saved in",
+    takes: Takes::Files,
+    help: "The files of the other texts, if there are any, and last the file that the image is saved in",
     ..FILE
 };
 
@@ -129,7 +131,7 @@ pub(crate) const NAMES_OF_LISTING: Argument = Argument {
 
 // The names of a text.
 pub(crate) const NAMES_OF_TEXT: Argument = Argument {
-    help: "Saves the table of the text's labels in this file: a CSV text with the header name,address",
+    help: "Saves the table of the texts' labels in this file: a CSV text with the header name,address",
     ..NAMES
 };
 

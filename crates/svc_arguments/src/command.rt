@@ -15,7 +15,9 @@ use crate::arguments::{
     SCRIPT_FILE, SEED, SETS, STATES, TASKS, TASKS_FOLLOWED, TEXT, TO, TRACE, TRACE_FILE,
     TRACE_OF_FINDING, TURNS, UNITS, WAYS, WORDS,
 };
-use crate::drawing::{COMPACT, COUNT, FROM, PICTURE, ROWS, TASK, UNIT, VALUES, WORD};
+use crate::drawing::{
+    COMPACT, COUNT, FROM, NAMES_OF_PICTURE, PICTURE, ROWS, TASK, UNIT, VALUES, WORD,
+};
 use crate::helps::{
     ABOUT, ASSEMBLE, CHECK, DEPEND, DRAW, EXPLORE, EXPORT, FAULTS, LIST, PROFILE, RUN, SCRIPT, SEQ,
     SHOW, STATUSES, STATUSES_OF_ASSEMBLE, STATUSES_OF_EXPLORE, STATUSES_OF_LIST,
@@ -34,6 +36,8 @@ struct Subcommand {
     help: &'static str,
     // The end of its help: the statuses.
     statuses: &'static str,
+    // How a line of it is written, where the parser would say that otherwise.
+    usage: Option<&'static str>,
     arguments: &'static [Argument],
 }
 
@@ -43,6 +47,7 @@ const SUBCOMMANDS: [Subcommand; 12] = [
         about: "Runs an image on the simulated machine, and prints the summary",
         help: RUN,
         statuses: STATUSES,
+        usage: None,
         arguments: &[
             IMAGE, TRACE, ROW, HEADER, SCHEDULE, SEED, BURST, AFTER, UNITS, SETS, WAYS, EVENTS,
             TURNS,
@@ -53,6 +58,7 @@ const SUBCOMMANDS: [Subcommand; 12] = [
         about: "Runs an image's tasks one after another on plain memory, and prints the summary",
         help: SEQ,
         statuses: STATUSES,
+        usage: None,
         arguments: &[IMAGE, TASKS],
     },
     Subcommand {
@@ -60,6 +66,7 @@ const SUBCOMMANDS: [Subcommand; 12] = [
         about: "Runs an image's tasks one after another, and prints what they need of one another",
         help: DEPEND,
         statuses: STATUSES,
+        usage: None,
         arguments: &[IMAGE, TASKS_FOLLOWED, BY_OF_NEEDS, DOT, NAMES],
     },
     Subcommand {
@@ -67,6 +74,7 @@ const SUBCOMMANDS: [Subcommand; 12] = [
         about: "Follows every schedule of a small image, and prints what can be seen in any of them",
         help: EXPLORE,
         statuses: STATUSES_OF_EXPLORE,
+        usage: None,
         arguments: &[
             IMAGE,
             BURST_OF_MOVES,
@@ -87,6 +95,7 @@ const SUBCOMMANDS: [Subcommand; 12] = [
         about: "Applies the events of a script, and prints a line for each, and the summary",
         help: SCRIPT,
         statuses: STATUSES,
+        usage: None,
         arguments: &[
             IMAGE,
             EVENTS_FILE,
@@ -103,6 +112,7 @@ const SUBCOMMANDS: [Subcommand; 12] = [
         about: "Replays a trace, and says whether it is sound",
         help: CHECK,
         statuses: STATUSES,
+        usage: None,
         arguments: &[
             IMAGE,
             TRACE_FILE,
@@ -120,6 +130,7 @@ const SUBCOMMANDS: [Subcommand; 12] = [
         about: "Replays a trace, and counts what its speculation cost",
         help: PROFILE,
         statuses: STATUSES,
+        usage: None,
         arguments: &[
             IMAGE,
             TRACE_FILE,
@@ -140,6 +151,7 @@ const SUBCOMMANDS: [Subcommand; 12] = [
         about: "Replays a trace, and shows the machine to which it leads",
         help: SHOW,
         statuses: STATUSES,
+        usage: None,
         arguments: &[
             IMAGE, TRACE_FILE, AT, DETAIL, MOVES, MEMORY, NAMES, UNITS, SETS, WAYS, EVENTS,
             IDLE_TURNS,
@@ -150,9 +162,25 @@ const SUBCOMMANDS: [Subcommand; 12] = [
         about: "Replays a trace, and saves a picture of it",
         help: DRAW,
         statuses: STATUSES,
+        usage: None,
         arguments: &[
-            IMAGE, TRACE_FILE, PICTURE, FROM, COUNT, UNIT, TASK, WORD, VALUES, COMPACT, ROWS,
-            UNITS, SETS, WAYS, EVENTS, IDLE_TURNS,
+            IMAGE,
+            TRACE_FILE,
+            PICTURE,
+            FROM,
+            COUNT,
+            UNIT,
+            TASK,
+            WORD,
+            VALUES,
+            COMPACT,
+            ROWS,
+            NAMES_OF_PICTURE,
+            UNITS,
+            SETS,
+            WAYS,
+            EVENTS,
+            IDLE_TURNS,
         ],
     },
     Subcommand {
@@ -160,15 +188,17 @@ const SUBCOMMANDS: [Subcommand; 12] = [
         about: "Replays a trace, and saves it for another viewer",
         help: EXPORT,
         statuses: STATUSES,
+        usage: None,
         arguments: &[
             IMAGE, TRACE_FILE, EXPORTED, FORMAT, WORDS, UNITS, SETS, WAYS, EVENTS, IDLE_TURNS,
         ],
     },
     Subcommand {
         name: "assemble",
-        about: "Assembles a text, and saves the image",
+        about: "Assembles texts, and saves the image",
         help: ASSEMBLE,
         statuses: STATUSES_OF_ASSEMBLE,
+        usage: Some("svcsim assemble [OPTIONS] <FILE>... <IMAGE>"),
         arguments: &[TEXT, MADE_IMAGE, NAMES_OF_TEXT],
     },
     Subcommand {
@@ -176,6 +206,7 @@ const SUBCOMMANDS: [Subcommand; 12] = [
         about: "Prints an image as assembly",
         help: LIST,
         statuses: STATUSES_OF_LIST,
+        usage: None,
         arguments: &[IMAGE, NAMES_OF_LISTING],
     },
 ];
@@ -218,8 +249,20 @@ fn described<'a>(alloc: Global, subcommand: &Subcommand) -> Result<Command<'a>, 
         .about(subcommand.about)
         .long_about(subcommand.help)
         .after_help(subcommand.statuses);
+    let command = with_usage(command, subcommand.usage);
     let command = with_arguments(alloc, command, subcommand.arguments)?;
     command.arg(given(alloc, &EXPLAIN)?)
+}
+
+// The subcommand, whose lines are written so.
+fn with_usage<'a>(command: Command<'a>, usage: Option<&'a str>) -> Command<'a>
+    ensures local { (fields_of result).has_globals ≡ (fields_of command.entry).has_globals }
+    ensures shape { shape_of result ≡ shape_of command.entry }
+{
+    match usage {
+        Some(line) => command.override_usage(line),
+        None => command,
+    }
 }
 
 // The subcommand with each of these arguments.
@@ -275,6 +318,9 @@ fn taking<'a>(alloc: Global, argument: &Argument) -> Arg<'a>
 {
     match argument.takes {
         Takes::File => plain(alloc, argument).action(ArgAction::Set),
+        Takes::Files => plain(alloc, argument)
+            .num_args(1..)
+            .action(ArgAction::Append),
         Takes::Nothing => plain(alloc, argument)
             .long(argument.name)
             .action(ArgAction::SetTrue),

@@ -1,7 +1,7 @@
 //! The arguments of `draw`, by their names.
 
 use crate::argument::{Argument, Takes};
-use crate::arguments::{FILE, OPTION};
+use crate::arguments::{FILE, NAMES, OPTION};
 
 pub(crate) const PICTURE: Argument = Argument {
     name: "FILE.svg",
@@ -28,6 +28,13 @@ pub(crate) const ROWS: Argument = Argument {
     takes: Takes::Nothing,
     help: "Saves what the picture shows as rows instead",
     ..OPTION
+};
+
+// The names of a picture.
+pub(crate) const NAMES_OF_PICTURE: Argument = Argument {
+    excludes: &["rows"],
+    help: "Tells addresses and words by the names of this table, too",
+    ..NAMES
 };
 
 pub(crate) const UNIT: Argument = Argument {

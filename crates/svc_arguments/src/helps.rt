@@ -283,17 +283,20 @@ assignment to its commit or squash; its filling says which. Marks are loads, sto
 cross is a replacement. The letter at a word that was read says who supplied it: H hit, R reuse, V version,
 S spill, C committed, M memory. A thin arrow goes from the store of a version to a read that received it, a bold
 one from a store to the read that came too early, for which it squashed a task. Point at a mark to see its row
-of the trace. All entries from --from on are shown, or as many as --count says; those after the last one shown
-may be faulty. For an earlier fault it reports the first one, as check does, and saves nothing. Give the options
-that the trace was made with.
+of the trace and what that means, and at a bar to see which entry decided its fate, and why. All entries from
+--from on are shown, or as many as --count says; those after the last one shown may be faulty. For an earlier
+fault it reports the first one, as check does, and saves nothing. Give the options that the trace was made with.
 
 --unit, --task and --word choose what is shown: the bars and marks of these units and tasks, and of loads, stores,
 replacements and arrows those of these words. A value stands beside its mark where it has room; --values says that
 all do, or none. With --compact lanes are a third as high, and nothing has words, for an overview.
 
+With --names bars and values have the name of their address or word in place of its number, and the text at the
+pointer has both, by a table: a CSV text with the header name,address, in order of address and then name.
+
 From 1000 entries on, marks of a kind that stand near one another are drawn as one, and so are short bars of one
-fate; point at it to see how many they are. So a file stays below 500 kB, whatever the trace; such marks have no
-values. Nothing is printed.
+fate; point at it to see how many they are. So a file without names stays below 550 kB, whatever the trace; such
+marks have no values. Nothing is printed.
 
 With --rows it saves what the picture shows as rows instead: bar,TASK,UNIT,ADDRESS,FIRST,LAST,FATE for each bar,
 mark,ENTRY,UNIT,TASK,KIND,WORD,VALUE,BY for each mark, and arrow,FROM,TO,KIND,WORD for each arrow.
@@ -316,9 +319,9 @@ with.
 Example: svcsim export sum.svci sum.csv sum.json --format chrome";
 
 /// The help of `assemble`.
-pub(crate) const ASSEMBLE: &str = "Assembles a text of RV32I instructions, and saves the image.
+pub(crate) const ASSEMBLE: &str = "Assembles texts of RV32I instructions, and saves the image.
 
-The text is written as for GNU's assembler: labels, instructions and pseudo-instructions, and sections of
+A text is written as for GNU's assembler: labels, instructions and pseudo-instructions, and sections of
 data made of numbers, strings and zeros. These directives say what else an image has:
 
   .svc_entry          the next instruction begins a task (.svc_entry N: of at most N turns)
@@ -328,10 +331,15 @@ data made of numbers, strings and zeros. These directives say what else an image
   .svc_readonly       the data so far is read-only
   .svc_version N      the version of the image's format: 1, or 2 where a directive needs it
 
-It reports the first fault as FILE:LINE:COLUMN, with what it found there and what it expected, and writes no
-file. With --names it also saves the table of the text's labels, which other subcommands take by --names.
+Several texts are read one behind another and make one image, as if they were linked. A text's names are its
+own, unless .globl, .weak or .comm shares them; a name that a text doesn't have is looked for among the shared
+ones.
 
-Example: svcsim assemble sum.s sum.svci --names sum.names.csv";
+It reports the first fault as FILE:LINE:COLUMN, with what it found there and what it expected, and writes no
+file. With --names it also saves the table of the texts' labels, which other subcommands take by --names.
+
+Example: svcsim assemble sum.s sum.svci --names sum.names.csv
+Example: svcsim assemble start.s tasks.s tasks.svci";
 
 /// The help of `list`.
 pub(crate) const LIST: &str =

@@ -3,7 +3,7 @@ use Rattle.std.proofs.Common.{◌≡◌, ℕ, zero, suc, ◌-◌, ◌<◌, ◌==
 use Rattle.std.proofs.lemmas.Bool.{eqb-true}
 use Rattle.svc_image.specs.Image.{Image}
 use Rattle.svc_draft.specs.declared.statement.Statement.{Statement}
-use Rattle.svc_draft.specs.Layouts.{Layout, after, first_pass, once_more, next_round, last_round, second_pass, measuring_pass, laying_pass, IsMadeOf}
+use Rattle.svc_draft.specs.Layouts.{Layout, after, first_pass, once_more, next_round, last_round, second_pass, measuring_pass, laying_pass, lacks, with_source, IsMadeOf}
 use Rattle.svc_operands.specs.Characters.{name_at}
 use Rattle.svc_asm_lines.specs.DataLines.{next_at}
 use Rattle.svc_asm.specs.declared.rounds.TheConstants.{MOST_PASSES, MOST_ROUNDS}
@@ -61,14 +61,14 @@ makes_of (s ∷ ss) text d made labels h = (h.0, h.1, h.3, makes_of ss h.0 h.1 m
 
 -- a pass from one beginning ends in one way
 pub one_pass : (text : List ℕ) (begun a b : Layout) → IsPass text begun a → IsPass text begun b → a ≡ b
-one_pass text begun a b h k = one_made h.0 k.0 text begun a b h.1 k.1
+one_pass text begun a b h k = h.3 ∙ ap (λ (d : Layout). with_source d) (one_made h.0 k.0 text begun h.1 k.1 h.2 k.2) ∙ sym k.3
 
 not_both : (a b : Bool) → a ≡ b → a ≡ true → b ≡ false → ⊥
 not_both a b same one other = let wrong : true ≡ false = sym one ∙ same ∙ other in cc
 
 -- the names that a text needs are found in one way
-lacks_not : (text : List ℕ) (begun a b : Layout) → Lacks text begun a → IsPass text begun b → b.lacks_names ≡ false → ⊥
-lacks_not text begun a b h k whole = not_both a.lacks_names b.lacks_names (ap (λ (x : Layout). x.lacks_names) (one_pass text begun a b h.is k)) h.lacks whole
+lacks_not : (text : List ℕ) (begun a b : Layout) → Lacks text begun a → IsPass text begun b → lacks b ≡ false → ⊥
+lacks_not text begun a b h k whole = not_both (lacks a) (lacks b) (ap (λ (x : Layout). lacks x) (one_pass text begun a b h.is k)) h.lacks whole
 
 pub one_found : (n : ℕ) (text : List ℕ) (begun a b : Layout) → Finds n text begun a → Finds n text begun b → a ≡ b
 one_found zero text begun a b h k = one_pass text begun a b h k
@@ -87,6 +87,11 @@ one_begun true text first a b h k =
 
 one_begun_at : (text : List ℕ) (first other a b : Layout) → first ≡ other → Begins first.has_distances text first a → Begins other.has_distances text other b → a ≡ b
 one_begun_at text first other a b same h k = one_begun other.has_distances text other a b (subst (λ (d : Layout). Begins d.has_distances text d a) same h) k
+
+-- where there are distances, they are measured first
+pub measured_first : (has : Bool) (text : List ℕ) (first measured laid : Layout) → has ≡ true → IsPass text (measuring_pass first) measured → laid ≡ laying_pass measured → Begins has text first laid
+measured_first false text first measured laid is pass same = cc
+measured_first true text first measured laid is pass same = (measured, pass, same)
 
 -- where distances aren't measured, no pass begins that lays the text
 pub not_measured : (has : Bool) (text : List ℕ) (first made : Layout) → has ≡ true → ((d : Layout) → IsPass text (measuring_pass first) d → ⊥) → Begins has text first made → ⊥
@@ -143,11 +148,11 @@ one_less : (n : ℕ) → suc n - 1 ≡ n
 one_less n = omega arith
 
 -- the first of some passes finds the names, and where it lacks some, those behind it have to
-pub first_finds : (n : ℕ) (text : List ℕ) (begun made : Layout) → IsPass text begun made → (n ≡ 0 → ⊥) → made.lacks_names ≡ false → Finds n text begun made
+pub first_finds : (n : ℕ) (text : List ℕ) (begun made : Layout) → IsPass text begun made → (n ≡ 0 → ⊥) → lacks made ≡ false → Finds n text begun made
 first_finds zero text begun made is some whole = is
 first_finds (suc n) text begun made is some whole = inl (is, whole)
 
-pub next_finds : (n : ℕ) (text : List ℕ) (begun pass made : Layout) → (n ≡ 0 → ⊥) → IsPass text begun pass → pass.lacks_names ≡ true → Finds (n - 1) text (once_more pass) made → Finds n text begun made
+pub next_finds : (n : ℕ) (text : List ℕ) (begun pass made : Layout) → (n ≡ 0 → ⊥) → IsPass text begun pass → lacks pass ≡ true → Finds (n - 1) text (once_more pass) made → Finds n text begun made
 next_finds zero text begun pass made some is lacks h = absurd (some refl)
 next_finds (suc n) text begun pass made some is lacks h = inr (pass, record { is = is; lacks = lacks }, subst (λ (k : ℕ). Finds k text (once_more pass) made) (one_less n) h)
 
@@ -157,7 +162,7 @@ no_pass zero text begun made none h = none made h
 no_pass (suc n) text begun made none (inl h) = none made h.0
 no_pass (suc n) text begun made none (inr h) = none h.0 h.1.is
 
-pub none_finds : (n : ℕ) (text : List ℕ) (begun pass made : Layout) → (n ≡ 0 → ⊥) → IsPass text begun pass → pass.lacks_names ≡ true
+pub none_finds : (n : ℕ) (text : List ℕ) (begun pass made : Layout) → (n ≡ 0 → ⊥) → IsPass text begun pass → lacks pass ≡ true
     → ((d : Layout) → Finds (n - 1) text (once_more pass) d → ⊥) → Finds n text begun made → ⊥
 none_finds zero text begun pass made some is lacks none h = absurd (some refl)
 none_finds (suc n) text begun pass made some is lacks none (inl h) = lacks_not text begun pass made (record { is = is; lacks = lacks }) h.0 h.1

@@ -4,7 +4,7 @@ use Rattle.std.specs.Prelude.{true, false, not, codes}
 use Rattle.std.specs.List.{starts_with}
 use Rattle.svc_draft.specs.declared.statement.Statement.{Statement}
 use Rattle.svc_draft.specs.declared.statement.Statement.TheVariants as say
-use Rattle.svc_draft.specs.Layouts.{Layout, address_of}
+use Rattle.svc_draft.specs.Layouts.{Layout, own_address}
 use Rattle.svc_operands.specs.Characters.{name_at}
 use Rattle.svc_asm.specs.Passes.{Takes}
 use Rattle.svc_asm.specs.declared.labels.Label.{Label}
@@ -17,6 +17,7 @@ is_hidden name = starts_with nat_eq name (codes ".L")
 abbrev pub names_place : Statement → Bool
 names_place say.Label = true
 names_place (say.Common count step) = true
+names_place (say.LocalCommon count step) = true
 names_place _ = false
 
 -- a name, with the address that it stands for
@@ -24,9 +25,10 @@ abbrev pub told_by : List ℕ → Option ℕ → List (List ℕ × ℕ)
 told_by name None = []
 told_by name (Some address) = (name, address) ∷ []
 
--- the label that a line gives, if any: its name, with the address that the name stands for behind the line
+-- the label that a line gives, if any: its name, with the address that the name stands for behind the line; none where
+-- the name stands for another text's
 abbrev pub label_in : Layout → (name : List ℕ) → Statement → List (List ℕ × ℕ)
-label_in d name s = if names_place s && not (is_hidden name) then told_by name (address_of d name) else []
+label_in d name s = if names_place s && not (is_hidden name) then told_by name (own_address d name) else []
 
 -- these lines are all of a text, change the layout so, and give these labels
 abbrev pub Gives : List Statement → List ℕ → Layout → Layout → (labels : List (List ℕ × ℕ)) → Type 0

@@ -1,3 +1,4 @@
 pub mod Passes
 pub mod Labels
 pub mod Programs
+pub mod Texts

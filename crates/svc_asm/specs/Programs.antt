@@ -3,26 +3,27 @@ use Rattle.std.specs.Prelude.{◌≡◌, ◌⊎◌, ℕ, zero, suc, Bool, true, 
 use Rattle.svc_image.specs.Image.{Image}
 use Rattle.svc_draft.specs.declared.statement.Statement.{Statement}
 use Rattle.svc_draft.specs.Layouts.{Layout, first_pass, once_more, next_round, last_round, second_pass}
-use Rattle.svc_draft.specs.Layouts.{measuring_pass, laying_pass, IsMadeOf}
+use Rattle.svc_draft.specs.Layouts.{measuring_pass, laying_pass, lacks, with_source, IsMadeOf}
 use Rattle.svc_asm.specs.declared.rounds.TheConstants.{MOST_PASSES, MOST_ROUNDS}
 use Rattle.svc_asm.specs.Passes.{Makes}
 use Rattle.svc_asm.specs.Labels.{Gives}
 
--- a pass over a text
+-- a pass over the texts of a program, of which the last one ends there
 abbrev pub IsPass : List ℕ → (begun ended : Layout) → Type 0
-IsPass text begun ended = (lines : List Statement) × Makes lines text begun ended
+IsPass text begun ended =
+    (lines : List Statement) × (read : Layout) × Makes lines text begun read × (ended ≡ with_source read)
 
--- a first pass sets a name to what isn't known yet
+-- a first pass sets a name, or begins a text, where isn't known yet
 pub record Lacks (text : List ℕ) (begun ended : Layout) : Type 0 where
   pub is : IsPass text begun ended
-  pub lacks : ended.lacks_names ≡ true
+  pub lacks : lacks ended ≡ true
 
--- a first pass finds the names; where it sets some to what isn't known yet, it is made once more with the names that it
--- found, so often at most
+-- a first pass finds the names; where it lacks some, or the place of a text, it is made once more with what it found, so
+-- often at most
 abbrev pub Finds : ℕ → List ℕ → (begun first : Layout) → Type 0
 Finds zero text begun first = IsPass text begun first
 Finds (suc n) text begun first =
-    (IsPass text begun first × (first.lacks_names ≡ false))
+    (IsPass text begun first × (lacks first ≡ false))
     ⊎ ((pass : Layout) × Lacks text begun pass × Finds n text (once_more pass) first)
 
 -- how the pass begins that lays the text: behind the first one, or, where there are distances, behind one that measures

@@ -18,7 +18,7 @@ use std::alloc::Global;
 use svc_asm_lines::read_next;
 use svc_draft::{Draft, Next, Refusal, Statement};
 use svc_image::Image;
-use svc_operands::{Unread, Wanted, skip_spaces, split_name, stopped_at};
+use svc_operands::{TEXT_END, Unread, Wanted, skip_spaces, split_name, stopped_at};
 use thiserror::Error;
 
 /// Why a text makes no image.
@@ -28,6 +28,8 @@ pub enum AssembleError {
     /// may not stand there, or the lines up to there make no image.
     #[error("{line}:{column}: found {found}, expected {expected}")]
     Fault {
+        /// Which text it stands in, counted from 0: how many FS stand above it.
+        text: usize,
         line: usize,
         column: usize,
         found: Found,
@@ -75,13 +77,16 @@ fn refused_at(next: Next, text: &[u8], refusal: Refusal) -> usize {
     }
 }
 
-// The name that what a line says is about: that of a label, or one that is set or weak. Nothing else depends on a name.
+// The name that what a line says is about: that of a label, or one that is set or bound. Nothing else depends on a name.
 fn name_for(said: Statement, text: &[u8]) -> &[u8]
     ensures { (d : Layout) → after result.now said d ≡ after (name_at text.now) said d }
 {
     match said {
-        Statement::Label | Statement::Symbol(_) | Statement::Common(_, _) | Statement::Weak(_) =>
-            split_name(text).0,
+        Statement::Label
+        | Statement::Symbol(_)
+        | Statement::Common(_, _)
+        | Statement::LocalCommon(_, _)
+        | Statement::Bound(_, _) => split_name(text).0,
         _ => b"",
     }
 }
@@ -115,19 +120,26 @@ pub(crate) fn take_line<'a>(
     }
 }
 
-// The line and the column, each counted from 1, of the place where so many bytes of the text are left.
-fn place(text: &[u8], left: usize) -> (usize, usize) {
-    let (mut line, mut column) = (1usize, 1usize);
+// Where so many bytes of the text are left: the number of the text among those that are joined, counted from 0, and its
+// line and column, counted from 1.
+fn place(text: &[u8], left: usize) -> (usize, usize, usize) {
+    let (mut number, mut line, mut column) = (0usize, 1usize, 1usize);
     let front = text.len().saturating_sub(left);
     for &byte in text.iter().take(front) {
-        if byte == b'\n' {
-            line = line.saturating_add(1);
-            column = 1;
-        } else {
-            column = column.saturating_add(1);
+        match byte {
+            // The line feed behind it begins the first line of the next text.
+            TEXT_END => {
+                number = number.saturating_add(1);
+                (line, column) = (0, 1);
+            }
+            b'\n' => {
+                line = line.saturating_add(1);
+                column = 1;
+            }
+            _ => column = column.saturating_add(1),
         }
     }
-    (line, column)
+    (number, line, column)
 }
 
 pub(crate) fn told(text: &[u8], stop: Stop) -> AssembleError
@@ -135,8 +147,9 @@ pub(crate) fn told(text: &[u8], stop: Stop) -> AssembleError
 {
     match stop {
         Stop::Fault(left, expected) => {
-            let (line, column) = place(text, left);
+            let (number, line, column) = place(text, left);
             AssembleError::Fault {
+                text: number,
                 line,
                 column,
                 found: found_in(text.split_at(text.len().saturating_sub(left)).1),

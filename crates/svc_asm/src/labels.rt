@@ -36,7 +36,10 @@ fn is_hidden(name: &[u8]) -> bool
 fn names_place(said: Statement) -> bool
     ensures { result ≡ names_place said }
 {
-    matches!(said, Statement::Label | Statement::Common(_, _))
+    matches!(
+        said,
+        Statement::Label | Statement::Common(_, _) | Statement::LocalCommon(_, _)
+    )
 }
 
 // Adds the label that a line gives, if it gives one.
@@ -52,7 +55,7 @@ fn add_label<'a>(
     if !names_place(said) || is_hidden(name) {
         return Ok(());
     }
-    if let Some(address) = draft.address_of(name) {
+    if let Some(address) = draft.own_address(name) {
         labels.push(Label { name, address })?;
     }
     Ok(())

@@ -20,7 +20,7 @@ pub const MOST_ROUNDS: usize = 16;
 /// How often a first pass is made once more at most: so many names, each set to the next one further down, are found.
 pub const MOST_PASSES: usize = 8;
 
-// Adds what every line says.
+// Adds what every line says, and ends the last text.
 fn take_lines<'a>(text: &'a [u8], draft: &mut Draft<'a>) -> Result<(), Stop>
     ensures ok { IfOk result (λ _. IsPass text.now (layout_of draft.old) (layout_of draft.new)) }
     ensures err { IfErr result (λ e. (e ≡ halt.Memory)
@@ -31,7 +31,10 @@ fn take_lines<'a>(text: &'a [u8], draft: &mut Draft<'a>) -> Result<(), Stop>
         let (_said, behind) = take_line(rest, draft)?;
         rest = behind;
     }
-    Ok(())
+    match draft.end_text() {
+        Ok(()) => Ok(()),
+        Err(_) => Err(Stop::Memory),
+    }
 }
 
 // A first pass that finds the names, which is made once more so often at most.
@@ -50,7 +53,7 @@ fn find<'a>(
     if passes == 0 {
         return Ok(pass);
     }
-    if !pass.lacks_names() {
+    if !pass.lacks() {
         return Ok(pass);
     }
     let more = pass.once_more(alloc);

@@ -11,7 +11,7 @@ use Rattle.svc_asm_lines.specs.declared.directives.TheConstants.{OPENED}
 use Rattle.svc_asm_lines.specs.Lists.{item_at, long_at}
 use Rattle.svc_asm_lines.specs.Statements.{said_by, said_at, line_at, passed_at}
 use Rattle.svc_asm_lines.specs.Strings.{character_at}
-use Rattle.svc_asm_lines.specs.Symbols.{common_at, equal_at, symbol_at, weak_at}
+use Rattle.svc_asm_lines.specs.Symbols.{bound_at, common_at, equal_at, local_common_at, symbol_at}
 
 -- a directive that begins what has parts, up to the first of them
 unfoldable pub opened_at : Layout → List ℕ → Read Statement
@@ -32,7 +32,8 @@ part_at go.Long d text = long_at d text
 part_at go.Symbol d text = symbol_at d 44 text
 part_at go.Passed d text = passed_at d text
 part_at go.Common d text = common_at text
-part_at go.Weak d text = weak_at text
+part_at go.LocalCommon d text = local_common_at text
+part_at (go.Bound b) d text = bound_at b text
 
 unfoldable pub next_at : Layout → List ℕ → Read Statement
 next_at d text = part_at d.next d text

@@ -6,6 +6,7 @@ use Rattle.std.specs.Str.{bytes_eq}
 use Rattle.svc_draft.specs.Options.{◌>>=◌}
 use Rattle.svc_operands.specs.Characters.{name_at, is_from_to, opens, past_spaces, past, found, past_name, behind}
 use Rattle.svc_operands.specs.Characters.{mark_at, value_of}
+use Rattle.svc_operands.specs.declared.characters.TheConstants.{TEXT_END}
 use Rattle.svc_operands.specs.Names.{padded}
 use Rattle.svc_asm_lines.specs.declared.directives.Says.{Says}
 use Rattle.svc_asm_lines.specs.declared.directives.Directive.{Directive}
@@ -95,24 +96,28 @@ is_inside c = not (c == 10)
 
 -- what the rest of a line that is passed over has stood before the next character: a line feed ends it, but not in a
 -- comment between a slash and a star and a star and a slash, and a semicolon outside of strings and comments
-abbrev pub rest_behind : Passed → ℕ → List ℕ → Option Passed
-rest_behind passed.Plain c rest =
+abbrev pub passed_behind : Passed → ℕ → List ℕ → Option Passed
+passed_behind passed.Plain c rest =
     if c == 10 || c == 59 then None else
     if c == 34 then Some passed.Quoted else
     if c == 35 then Some passed.Remark else
     if opens c rest then Some passed.Opening else
     Some passed.Plain
-rest_behind passed.Quoted c rest =
+passed_behind passed.Quoted c rest =
     if c == 10 then None else
     if c == 34 then Some passed.Plain else
     if c == 92 then Some passed.Escaped else
     Some passed.Quoted
-rest_behind passed.Escaped c rest = if c == 10 then None else Some passed.Quoted
-rest_behind passed.Remark c rest = if c == 10 then None else Some passed.Remark
-rest_behind passed.Opening c rest = Some passed.Inside
-rest_behind passed.Inside c rest = if c == 42 then Some passed.Star else Some passed.Inside
-rest_behind passed.Star c rest =
+passed_behind passed.Escaped c rest = if c == 10 then None else Some passed.Quoted
+passed_behind passed.Remark c rest = if c == 10 then None else Some passed.Remark
+passed_behind passed.Opening c rest = Some passed.Inside
+passed_behind passed.Inside c rest = if c == 42 then Some passed.Star else Some passed.Inside
+passed_behind passed.Star c rest =
     if c == 47 then Some passed.Plain else if c == 42 then Some passed.Star else Some passed.Inside
+
+-- and none of it is the next text's
+abbrev pub rest_behind : Passed → ℕ → List ℕ → Option Passed
+rest_behind p c rest = if c == TEXT_END then None else passed_behind p c rest
 
 unfoldable pub past_rest : Passed → List ℕ → List ℕ
 past_rest p [] = []
@@ -166,20 +171,29 @@ directive_at d name text =
     found (said_by DIRECTIVES name) (λ s. said_at d s text) (
     if starts_with nat_eq name (codes ".cfi_") then Some (say.Nothing, past_rest passed.Plain text) else None)
 
+-- what a line without a name says: that the next text begins, or nothing
+abbrev pub begins_text : List ℕ → Bool
+begins_text [] = false
+begins_text (c ∷ rest) = c == TEXT_END
+
+abbrev pub nameless : List ℕ → Statement × List ℕ
+nameless text = if begins_text text then (say.NextText, drop 1 text) else (say.Nothing, text)
+
 -- what a name and what follows it say: a directive's name begins with a dot
 abbrev pub named : Layout → List ℕ → List ℕ → Read Statement
-named d [] text = Some (say.Nothing, text)
+named d [] text = Some (nameless text)
 named d (c ∷ name) text = if c == 46 then directive_at d (c ∷ name) text else instruction_at d (c ∷ name) text
 
 unfoldable pub statement_at : Layout → List ℕ → Read Statement
 statement_at d text = named d (name_at text) (past_name text)
 
--- what follows the end of a line, which a comment may stand before, or a semicolon
+-- what follows the end of a line, which a comment may stand before, or a semicolon; a text ends with its last line
 abbrev pub behind_end : List ℕ → Option (List ℕ)
 behind_end [] = Some []
 behind_end (c ∷ rest) =
     if c == 10 || c == 59 then Some rest else
     if c == 35 then Some (drop 1 (past is_inside rest)) else
+    if c == TEXT_END then Some (c ∷ rest) else
     None
 
 unfoldable pub end_at : List ℕ → Option (List ℕ)
@@ -230,5 +244,5 @@ is_kept name = found (said_by DIRECTIVES name) (λ s. not (is_passed s)) false
 unfoldable pub passed_at : Layout → List ℕ → Read Statement
 passed_at d text =
     found (behind 58 (past_name text)) (λ rest. Some (say.Nothing, rest)) (
-    if is_kept (name_at text) then ended_at d text else
+    if is_kept (name_at text) || begins_text (past_name text) then ended_at d text else
     option_map (λ rest. (say.Nothing, rest)) (end_at (past_rest passed.Plain text)))

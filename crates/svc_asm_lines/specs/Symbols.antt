@@ -1,7 +1,8 @@
--- Names that are given a value, zeros or a weak place.
+-- Names that are given a value or zeros, or that texts share.
 use Rattle.std.specs.Prelude.{ℕ, ◌+◌, ◌-◌, ◌%◌, ◌^◌, Bool, true, false, not, ◌||◌, List, Option, Some, None}
 use Rattle.std.specs.Prelude.{if◌then◌else◌, codes, option_map}
 use Rattle.std.specs.Str.{bytes_eq}
+use Rattle.svc_draft.specs.declared.statement.Binding.{Binding}
 use Rattle.svc_draft.specs.declared.statement.Section.{Section}
 use Rattle.svc_draft.specs.declared.statement.Section.TheVariants as section
 use Rattle.svc_draft.specs.declared.statement.Spot.{Spot}
@@ -93,16 +94,24 @@ equal_at d text = if bytes_eq (name_at text) (codes ".") then None else symbol_a
 unfoldable pub step_at : List ℕ → Read ℕ
 step_at text = found (mark_at 44 text) (λ rest. number_below (2 ^ 32) rest) (Some (4, text))
 
-unfoldable pub common_at : List ℕ → Read Statement
-common_at text = do
+-- a name, a size and an alignment
+unfoldable pub room_at : List ℕ → Read (ℕ × ℕ)
+room_at text = do
   rest ← named_at 44 text
   n ← number_below (2 ^ 32) rest
   step ← step_at n.1
   tail ← end_at step.1
-  Some (say.Common n.0 step.0, tail)
+  Some ((n.0, step.0), tail)
 
--- a weak name, and perhaps more of them
-unfoldable pub weak_at : List ℕ → Read Statement
-weak_at text =
-    if is_label (name_at text) then option_map (λ n. (say.Weak n.0, n.1)) (going_at go.Weak (past_name text)) else
-    None
+abbrev pub common_at : List ℕ → Read Statement
+common_at text = option_map (λ r. (say.Common r.0.0 r.0.1, r.1)) (room_at text)
+
+abbrev pub local_common_at : List ℕ → Read Statement
+local_common_at text = option_map (λ r. (say.LocalCommon r.0.0 r.0.1, r.1)) (room_at text)
+
+-- a name that is bound so, and perhaps more of them
+unfoldable pub bound_at : Binding → List ℕ → Read Statement
+bound_at b text =
+    if is_label (name_at text)
+    then option_map (λ n. (say.Bound b n.0, n.1)) (going_at (go.Bound b) (past_name text))
+    else None

@@ -7,7 +7,7 @@ ghost use Rattle.svc_asm_lines.specs.Statements.{number_or, zeros_at, fill_at};
 ghost use Rattle.svc_operands.specs.Operands.{Gives};
 
 use svc_draft::Ending::{Bare, Zero};
-use svc_draft::{Next, Section, Statement, Width};
+use svc_draft::{Binding, Next, Section, Statement, Width};
 use svc_image::Version;
 use svc_operands::{
     Name, Read, Wanted, bits_of, padded, read_count, read_signed, skip_mark, split_name, stopped_at,
@@ -49,7 +49,7 @@ pub enum Says {
 pub struct Directive(pub Name, pub Says);
 
 /// The directives that are read as a whole.
-pub static DIRECTIVES: [Directive; 42] = [
+pub static DIRECTIVES: [Directive; 39] = [
     Directive(*b".word           ", Says::Word),
     Directive(*b".text           ", Says::Section(Section::Text)),
     Directive(*b".data           ", Says::Section(Section::Data)),
@@ -72,9 +72,6 @@ pub static DIRECTIVES: [Directive; 42] = [
     Directive(*b".svc_start      ", Says::Start),
     Directive(*b".svc_limit      ", Says::Number(Number::Limit)),
     Directive(*b".svc_register   ", Says::Register),
-    Directive(*b".globl          ", Says::Passed),
-    Directive(*b".global         ", Says::Passed),
-    Directive(*b".local          ", Says::Passed),
     Directive(*b".type           ", Says::Passed),
     Directive(*b".size           ", Says::Passed),
     Directive(*b".file           ", Says::Passed),
@@ -95,7 +92,7 @@ pub static DIRECTIVES: [Directive; 42] = [
 ];
 
 /// The directives that are read part by part.
-pub static OPENED: [Directive; 20] = [
+pub static OPENED: [Directive; 23] = [
     Directive(*b".word           ", Says::Open(Next::Value(Width::Word))),
     Directive(*b".4byte          ", Says::Open(Next::Value(Width::Word))),
     Directive(*b".long           ", Says::Open(Next::Value(Width::Word))),
@@ -114,8 +111,20 @@ pub static OPENED: [Directive; 20] = [
     Directive(*b".set            ", Says::Open(Next::Symbol)),
     Directive(*b".equ            ", Says::Open(Next::Symbol)),
     Directive(*b".comm           ", Says::Open(Next::Common)),
-    Directive(*b".lcomm          ", Says::Open(Next::Common)),
-    Directive(*b".weak           ", Says::Open(Next::Weak)),
+    Directive(*b".lcomm          ", Says::Open(Next::LocalCommon)),
+    Directive(
+        *b".globl          ",
+        Says::Open(Next::Bound(Binding::Global)),
+    ),
+    Directive(
+        *b".global         ",
+        Says::Open(Next::Bound(Binding::Global)),
+    ),
+    Directive(
+        *b".local          ",
+        Says::Open(Next::Bound(Binding::Local)),
+    ),
+    Directive(*b".weak           ", Says::Open(Next::Bound(Binding::Weak))),
 ];
 
 /// What becomes of a section of an object file.

@@ -5,7 +5,7 @@ ghost use Rattle.svc_asm_lines.specs.declared.line.Passed.TheVariants as passed;
 ghost use Rattle.svc_asm_lines.specs.Statements.{rest_behind, past_rest, past_quote, kept_as, section_at, some_left};
 ghost use Rattle.svc_asm_lines.specs.Statements.{behind_name, begun_at, said_at, directive_at, named, is_inside};
 ghost use Rattle.svc_asm_lines.specs.Statements.{end_at, ended_with, is_label, label_with, line_at, is_passed};
-ghost use Rattle.svc_asm_lines.specs.Statements.{is_kept, passed_at};
+ghost use Rattle.svc_asm_lines.specs.Statements.{begins_text, is_kept, nameless, passed_at};
 ghost use Rattle.svc_operands.specs.Characters.{past};
 ghost use Rattle.svc_draft.specs.Layouts.{layout_of};
 ghost use Rattle.svc_operands.specs.Operands.{Gives};
@@ -17,8 +17,8 @@ use memchr::memchr;
 use svc_draft::{Draft, Next, Statement, Width};
 use svc_instructions::read_instruction;
 use svc_operands::{
-    Radix, Read, Unread, Wanted, opens, read_first_register, read_mark, read_value, skip_mark,
-    skip_spaces, split_name, stopped_at, stopped_at_name, value_of,
+    Radix, Read, TEXT_END, Unread, Wanted, opens, read_first_register, read_mark, read_value,
+    skip_mark, skip_spaces, split_name, stopped_at, stopped_at_name, value_of,
 };
 
 /// Where in the rest of a line a character stands.
@@ -44,6 +44,7 @@ fn rest_behind(place: Passed, c: u8, rest: &[u8]) -> Option<Passed>
     ensures { result ≡ rest_behind place c rest.now }
 {
     match (place, c) {
+        (_, TEXT_END) => None,
         (Passed::Plain | Passed::Quoted | Passed::Escaped | Passed::Remark, b'\n') => None,
         (Passed::Plain, b';') => None,
         (Passed::Plain, b'"') => Some(Passed::Quoted),
@@ -117,7 +118,7 @@ fn wanted_by(next: Next) -> Wanted {
         Next::Line | Next::Passed => Wanted::Statement,
         Next::Value(_) | Next::Long => Wanted::Value,
         Next::Character(_) => Wanted::Quote,
-        Next::Symbol | Next::Common | Next::Weak => Wanted::Label,
+        Next::Symbol | Next::Common | Next::LocalCommon | Next::Bound(_) => Wanted::Label,
     }
 }
 
@@ -208,12 +209,22 @@ fn read_directive<'a>(draft: &Draft, name: &[u8], text: &'a [u8]) -> Read<'a, St
     Err(stopped_at_name(name, text, Wanted::Statement))
 }
 
+// What a line without a name says: that the next text begins, or nothing.
+fn read_nameless(text: &[u8]) -> (Statement, &[u8])
+    ensures { (result.0, result.1.now) ≡ nameless text.now }
+{
+    match text {
+        [TEXT_END, rest @ ..] => (Statement::NextText, rest),
+        _ => (Statement::Nothing, text),
+    }
+}
+
 // What a name and what follows it say.
 fn read_named<'a>(draft: &Draft, name: &[u8], text: &'a [u8]) -> Read<'a, Statement>
     ensures { Gives (λ x. (x.0, x.1.now)) result (named (layout_of draft.now) name.now text.now) }
 {
     match name {
-        [] => Ok((Statement::Nothing, text)),
+        [] => Ok(read_nameless(text)),
         [b'.', ..] => read_directive(draft, name, text),
         _ => read_instruction(draft, name, text),
     }
@@ -226,6 +237,7 @@ pub fn read_end(text: &[u8]) -> Result<&[u8], Unread>
     match skip_spaces(text) {
         [] => Ok(b""),
         [b'\n' | b';', rest @ ..] => Ok(rest),
+        rest @ [TEXT_END, ..] => Ok(rest),
         [b'#', comment @ ..] => match skip_inside(comment) {
             [] => Ok(b""),
             [_, rest @ ..] => Ok(rest),
@@ -294,6 +306,12 @@ fn is_kept(name: &[u8]) -> bool
     }
 }
 
+fn begins_text(text: &[u8]) -> bool
+    ensures { result ≡ begins_text text.now }
+{
+    matches!(text, [TEXT_END, ..])
+}
+
 /// A line of a section that is passed over: a label, a directive that is read, or what says nothing.
 #[tactic(auto, unfolding(crate::specs::Statements::passed_at, crate::specs::Statements::ended_at, crate::specs::Statements::statement_at))]
 pub fn read_passed<'a>(draft: &Draft, text: &'a [u8]) -> Read<'a, Statement>
@@ -303,7 +321,7 @@ pub fn read_passed<'a>(draft: &Draft, text: &'a [u8]) -> Read<'a, Statement>
     match rest {
         [b':', rest @ ..] => Ok((Statement::Nothing, rest)),
         _ => {
-            if is_kept(name) {
+            if is_kept(name) || begins_text(rest) {
                 return read_ended(draft, name, rest);
             }
             let rest = read_end(skip_rest(text))?;

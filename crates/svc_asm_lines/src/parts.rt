@@ -9,7 +9,7 @@ use crate::directives::opened_by;
 use crate::line::{read_line, read_passed, read_said};
 use crate::lists::{read_item, read_long};
 use crate::strings::read_character;
-use crate::symbols::{read_common, read_equal, read_symbol, read_weak};
+use crate::symbols::{read_bound, read_common, read_equal, read_local_common, read_symbol};
 use svc_draft::{Draft, Next, Statement};
 use svc_operands::{Read, Unread, Wanted, skip_mark, split_name, stopped_at_name};
 
@@ -60,7 +60,8 @@ pub fn read_next<'a>(draft: &Draft, text: &'a [u8]) -> Read<'a, Statement>
         Next::Long => read_long(draft, text),
         Next::Symbol => read_symbol(draft, b',', text),
         Next::Common => read_common(text),
-        Next::Weak => read_weak(text),
+        Next::LocalCommon => read_local_common(text),
+        Next::Bound(binding) => read_bound(binding, text),
         Next::Passed => read_passed(draft, text),
     }
 }

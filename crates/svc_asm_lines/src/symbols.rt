@@ -1,15 +1,15 @@
-// Names that are given a value, zeros or a weak place.
+// Names that are given a value or zeros, or that texts share.
 
 ghost use Rattle.std.specs.Prelude.{◌≡◌, option_map};
 ghost use Rattle.svc_operands.specs.Operands.{Gives};
 ghost use Rattle.svc_asm_lines.specs.Symbols.{spot_named, moved_by, moved_at, is_same, difference, taken_at, less_at};
 ghost use Rattle.svc_asm_lines.specs.Symbols.{behind_at, spot_at, named_at, symbol_at, equal_at, step_at, common_at};
-ghost use Rattle.svc_asm_lines.specs.Symbols.{weak_at};
+ghost use Rattle.svc_asm_lines.specs.Symbols.{bound_at, local_common_at, room_at};
 ghost use Rattle.svc_draft.specs.Layouts.{layout_of};
 
 use crate::line::{is_label, read_end};
 use crate::lists::{low, read_going};
-use svc_draft::{Draft, Next, Section, Spot, Statement};
+use svc_draft::{Binding, Draft, Next, Section, Spot, Statement};
 use svc_operands::{
     Read, Unread, Wanted, read_added, read_count, read_expression, read_mark, read_number,
     skip_mark, split_name, stopped_at,
@@ -179,25 +179,40 @@ fn read_step(text: &[u8]) -> Read<'_, u32>
     }
 }
 
-#[tactic(auto, unfolding(crate::specs::Symbols::common_at))]
-pub fn read_common(text: &[u8]) -> Read<'_, Statement>
-    ensures { Gives (λ x. (x.0, x.1.now)) result (common_at text.now) }
+// A name, a size and an alignment.
+#[tactic(auto, unfolding(crate::specs::Symbols::room_at))]
+fn read_room(text: &[u8]) -> Read<'_, (u32, u32)>
+    ensures { Gives (λ x. (x.0, x.1.now)) result (room_at text.now) }
 {
     let rest = read_named(b',', text)?;
     let (count, rest) = read_count(rest)?;
     let (step, rest) = read_step(rest)?;
     let rest = read_end(rest)?;
+    Ok(((count, step), rest))
+}
+
+pub fn read_common(text: &[u8]) -> Read<'_, Statement>
+    ensures { Gives (λ x. (x.0, x.1.now)) result (common_at text.now) }
+{
+    let ((count, step), rest) = read_room(text)?;
     Ok((Statement::Common(count, step), rest))
 }
 
-#[tactic(auto, unfolding(crate::specs::Symbols::weak_at))]
-pub fn read_weak(text: &[u8]) -> Read<'_, Statement>
-    ensures { Gives (λ x. (x.0, x.1.now)) result (weak_at text.now) }
+pub fn read_local_common(text: &[u8]) -> Read<'_, Statement>
+    ensures { Gives (λ x. (x.0, x.1.now)) result (local_common_at text.now) }
+{
+    let ((count, step), rest) = read_room(text)?;
+    Ok((Statement::LocalCommon(count, step), rest))
+}
+
+#[tactic(auto, unfolding(crate::specs::Symbols::bound_at))]
+pub fn read_bound(binding: Binding, text: &[u8]) -> Read<'_, Statement>
+    ensures { Gives (λ x. (x.0, x.1.now)) result (bound_at binding text.now) }
 {
     let (name, rest) = split_name(text);
     if !is_label(name) {
         return Err(stopped_at(text, Wanted::Label));
     }
-    let (next, rest) = read_going(Next::Weak, rest)?;
-    Ok((Statement::Weak(next), rest))
+    let (next, rest) = read_going(Next::Bound(binding), rest)?;
+    Ok((Statement::Bound(binding, next), rest))
 }

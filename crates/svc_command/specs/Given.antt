@@ -1,5 +1,5 @@
 -- What a request takes from the words of a line.
-use Rattle.std.specs.Prelude.{◌≡◌, ⊤, ℕ, true, List, Option, None, Some, IfSome, codes}
+use Rattle.std.specs.Prelude.{◌≡◌, ⊤, ℕ, true, List, Option, None, Some, IfSome, codes, map}
 use denote.Ref.{Bor}
 use Rattle.svc_base.specs.declared.config.Config.{Config}
 use Rattle.svc_export.specs.declared.export.Format.{Format}
@@ -14,6 +14,7 @@ use Rattle.svc_sheet.specs.declared.sheet.Values.{Values}
 use Rattle.svc_sheet.specs.declared.sheet.Values.TheVariants as values
 use Rattle.svc_show.specs.declared.extras.Extras.{Extras}
 use Rattle.svc_span.specs.declared.span.Span.{Span}
+use Rattle.svc_request.specs.Names.{texts_of}
 use Rattle.svc_request.specs.declared.request.Assembly.{Assembly}
 use Rattle.svc_request.specs.declared.request.Depended.{Depended}
 use Rattle.svc_request.specs.declared.request.Explored.{Explored}
@@ -36,7 +37,7 @@ use Rattle.svc_request.specs.declared.request.Table.TheVariants as table
 use Rattle.svc_request.specs.declared.request.Traced.{Traced}
 use Rattle.svc_request.specs.declared.request.Request.{Request}
 use Rattle.svc_request.specs.declared.request.Request.TheVariants as request
-use Rattle.svc_command.specs.Line.{HasWord, IsGivenNumber, IsNumberOf, IsValueOf, ReadsSpan, option_word}
+use Rattle.svc_command.specs.Line.{AreInOrder, HasWord, IsGivenNumber, IsNumberOf, IsValueOf, ReadsSpan, option_word}
 
 -- the image is the file of one of the words
 abbrev pub GivesImage : List (List ℕ) → Source → Type 0
@@ -175,12 +176,13 @@ pub record GivesStyle (words : List (List ℕ)) (style : Style) : Type 0 where
   pub values : GivesValues words style.values
   pub compact : style.is_compact ≡ true → HasWord (option_word (codes "compact")) words
 
--- a picture takes its file, what it shows, and how, from the line
+-- a picture takes its file, what it shows, how, and its names from the line
 pub record GivesPicture (words : List (List ℕ)) (picture : Picture) : Type 0 where
   pub file : HasWord picture.file.now words
   pub view : GivesView words picture.view
   pub style : GivesStyle words picture.style
   pub rows : picture.rows ≡ true → HasWord (option_word (codes "rows")) words
+  pub names : GivesNames words picture.names
 
 -- the viewer's format is the one that the line names
 abbrev pub GivesFormat : List (List ℕ) → Format → Type 0
@@ -193,9 +195,9 @@ pub record GivesExported (words : List (List ℕ)) (exported : Exported) : Type 
   pub format : GivesFormat words exported.format
   pub words_are : IfSome exported.words (GivesSpan words (codes "words"))
 
--- a text that is assembled, its image and the table of its names are files of the line
+-- the texts that are assembled are files of the line, in its order; so are their image and the table of their names
 pub record GivesAssembly (words : List (List ℕ)) (assembly : Assembly) : Type 0 where
-  pub text : HasWord assembly.text.now words
+  pub texts_are : AreInOrder (map (λ text. text.now) (texts_of assembly)) words
   pub image : HasWord assembly.image.now words
   pub names : GivesNames words assembly.names
 

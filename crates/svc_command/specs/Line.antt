@@ -1,5 +1,5 @@
 -- The words of a command line, and the values on it.
-use Rattle.std.specs.Prelude.{◌≡◌, ◌+◌, ◌++◌, ◌⊎◌, ℕ, List, Some, map, codes, slice_get, string_bytes}
+use Rattle.std.specs.Prelude.{◌≡◌, ◌+◌, ◌++◌, ◌⊎◌, ⊤, ℕ, List, [], ◌∷◌, Some, map, codes, drop, slice_get, string_bytes}
 use Rattle.std.specs.Str.Parse.{IsNumeral, digits_value, without_leading_plus}
 use Rattle.std.specs.declared.string.String.{String}
 use Rattle.svc_span.specs.declared.span.Span.{Span}
@@ -15,6 +15,12 @@ Has kind words = (k : ℕ) × (word : List ℕ) × (slice_get words k ≡ Some w
 -- this is one of the words
 abbrev pub HasWord : List ℕ → List (List ℕ) → Type 0
 HasWord text words = Has (λ word. word ≡ text) words
+
+-- these are words, in the order of the line
+abbrev pub AreInOrder : (given words : List (List ℕ)) → Type 0
+AreInOrder [] words = ⊤
+AreInOrder (text ∷ given) words =
+    (k : ℕ) × (slice_get words k ≡ Some text) × AreInOrder given (drop (k + 1) words)
 
 -- the first word after the program's name is this one
 abbrev pub IsNamed : List ℕ → List (List ℕ) → Type 0

@@ -1,8 +1,9 @@
 //! A line of words, and what its parser made of it.
 
-ghost use Rattle.std.specs.Prelude.{◌≡◌, ◌++◌, Ok, IfOk, IfSome, IsTrue, codes};
-ghost use Rattle.svc_command.specs.Line.{Has, HasWord, IsGivenNumber, IsJoined, IsNext, IsNumberOf, IsValueOf};
-ghost use Rattle.svc_command.specs.Line.{option_word, texts};
+ghost use Rattle.std.specs.Prelude.{◌≡◌, ◌+◌, ◌++◌, ◌∷◌, ℕ, Ok, Some, IfOk, IfSome, IsTrue, codes, drop, map};
+ghost use Rattle.std.specs.Prelude.{slice_get};
+ghost use Rattle.svc_command.specs.Line.{AreInOrder, Has, HasWord, IsGivenNumber, IsJoined, IsNext, IsNumberOf};
+ghost use Rattle.svc_command.specs.Line.{IsValueOf, option_word, texts};
 
 use clap::ArgMatches;
 use std::str::FromStr;
@@ -15,7 +16,7 @@ pub(crate) struct Line<'w, 'a> {
     pub(crate) given: &'w ArgMatches<'a>,
 }
 
-impl<'a> Line<'_, 'a> {
+impl<'w, 'a> Line<'w, 'a> {
     /// A file by its place on the line, which has to be named.
     pub(crate) fn file(self, name: &str) -> Result<&'a str, Fault>
         ensures { IfOk result (λ file. HasWord file.now (texts self.entry.words.now)) }
@@ -23,6 +24,30 @@ impl<'a> Line<'_, 'a> {
         match self.given.get_str(name) {
             Some(file) if has_word(self.words, file) => Ok(file),
             // The parser reads no line without it, and gives a word of the line.
+            _ => Err(Fault::File),
+        }
+    }
+
+    /// The last file by a place on the line that takes several, and those before it.
+    pub(crate) fn last_file(self, name: &str) -> Result<(&'a str, &'w [&'a str]), Fault>
+        ensures { IfOk result (λ files. HasWord files.0.now (texts self.entry.words.now)) }
+    {
+        // The parser reads no line without it, and gives words of the line.
+        let files = self.given.get_strs(name).ok_or(Fault::File)?;
+        match files.split_last() {
+            Some((last, others)) if has_word(self.words, last) => Ok((*last, others)),
+            _ => Err(Fault::File),
+        }
+    }
+
+    /// A file by its place on the line, with these others behind it.
+    pub(crate) fn file_before(self, name: &str, others: &[&str]) -> Result<&'a str, Fault>
+        ensures { IfOk result (λ file.
+            AreInOrder (file.now ∷ map (λ other. other.now) others.now) (texts self.entry.words.now)) }
+    {
+        match self.given.get_str(name) {
+            Some(file) if are_in_order(self.words, file, others) => Ok(file),
+            // The parser gives words of the line, in its order.
             _ => Err(Fault::File),
         }
     }
@@ -115,6 +140,43 @@ pub(crate) fn has_word(words: &[String], text: &str) -> bool
         }
     }
     false
+}
+
+// The words behind the first one that is this text.
+fn words_behind<'w>(words: &'w [String], text: &str) -> Option<&'w [String]>
+    ensures { IfSome result (λ rest. (k : ℕ) × (slice_get (texts words.now) k ≡ Some text.now)
+        × (texts rest.now ≡ drop (k + 1) (texts words.now))) }
+{
+    for index in 0..words.len() {
+        if words[index].as_str() == text {
+            return Some(&words[index + 1..]);
+        }
+    }
+    None
+}
+
+// These texts are words, in their order.
+fn follow(words: &[String], given: &[&str]) -> bool
+    ensures { IsTrue result → AreInOrder (map (λ text. text.now) given.now) (texts words.now) }
+{
+    let mut rest = words;
+    for text in given {
+        match words_behind(rest, text) {
+            Some(behind) => rest = behind,
+            None => return false,
+        }
+    }
+    true
+}
+
+// This text is one of the words, and the others follow it in their order.
+fn are_in_order(words: &[String], first: &str, others: &[&str]) -> bool
+    ensures { IsTrue result → AreInOrder (first.now ∷ map (λ text. text.now) others.now) (texts words.now) }
+{
+    match words_behind(words, first) {
+        Some(behind) => follow(behind, others),
+        None => false,
+    }
 }
 
 // The option of this name is one of the words.

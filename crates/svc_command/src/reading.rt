@@ -138,18 +138,18 @@ fn asked_by_files<'a>(alloc: Global, name: &str, line: Line<'_, 'a>) -> Result<R
         "show" => show(alloc, line),
         "draw" => draw(alloc, line),
         "export" => export(alloc, line),
-        _ => asked_by_text(name, line),
+        _ => asked_by_text(alloc, name, line),
     }
 }
 
 // What a subcommand asks for that makes an image or lists one.
-fn asked_by_text<'a>(name: &str, line: Line<'_, 'a>) -> Result<Request<'a>, Fault>
+fn asked_by_text<'a>(alloc: Global, name: &str, line: Line<'_, 'a>) -> Result<Request<'a>, Fault>
     ensures named { IsNamed name.now (texts line.entry.words.now)
         → IfOk result (Names (texts line.entry.words.now)) }
     ensures gives { IfOk result (Gives (texts line.entry.words.now)) }
 {
     match name {
-        "assemble" => assemble(line),
+        "assemble" => assemble(alloc, line),
         "list" => list(line),
         // The parser accepts no other subcommand.
         _ => Err(Fault::File),

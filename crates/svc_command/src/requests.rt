@@ -151,6 +151,7 @@ pub(crate) fn draw<'a>(alloc: Global, line: Line<'_, 'a>) -> Result<Request<'a>,
         view: view(alloc, line)?,
         style: style(line)?,
         rows: line.flag("rows"),
+        names: line.option("names")?,
     };
     Ok(Request::Draw(traced, picture))
 }
@@ -170,15 +171,18 @@ pub(crate) fn export<'a>(alloc: Global, line: Line<'_, 'a>) -> Result<Request<'a
     Ok(Request::Export(traced, exported))
 }
 
-/// The text that `assemble` asks for, and the files of the image and of its names.
-pub(crate) fn assemble<'a>(line: Line<'_, 'a>) -> Result<Request<'a>, Fault>
+/// The texts that `assemble` asks for, and the files of their image and of their names.
+pub(crate) fn assemble<'a>(alloc: Global, line: Line<'_, 'a>) -> Result<Request<'a>, Fault>
     ensures named { IsNamed (codes "assemble") (texts line.entry.words.now)
         → IfOk result (Names (texts line.entry.words.now)) }
     ensures gives { IfOk result (Gives (texts line.entry.words.now)) }
 {
+    // Behind the first text the parser takes the others and the image as one.
+    let (image, others) = line.last_file("IMAGE")?;
     Ok(Request::Assemble(Assembly {
-        text: line.file("FILE")?,
-        image: line.file("IMAGE")?,
+        text: line.file_before("FILE", others)?,
+        others: others.to_vec(alloc)?,
+        image,
         names: line.option("names")?,
     }))
 }

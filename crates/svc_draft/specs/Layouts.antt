@@ -10,7 +10,7 @@ use Rattle.svc_draft.specs.declared.statement.Local.{Local}
 use Rattle.std.specs.List.{list_any}
 use Rattle.std.specs.Str.{bytes_eq}
 use Rattle.std.specs.Map.{update}
-use Rattle.std.specs.HashMap.{get, get_by}
+use Rattle.std.specs.HashMap.{get}
 use Rattle.svc_rv32i.specs.declared.instr.Register.{Register}
 use Rattle.svc_image.specs.declared.parts.Own.{Own}
 use Rattle.svc_image.specs.declared.parts.Own.TheVariants as own
@@ -28,6 +28,12 @@ use Rattle.svc_draft.specs.declared.statement.Statement.TheVariants as say
 use Rattle.svc_draft.specs.declared.draft.Draft.{Draft}
 use Rattle.svc_draft.specs.Options.{◌>>=◌}
 use Rattle.svc_draft.specs.Areas.{padding, with_more, with_zeros, with_copies, sized, bytes_in, data_of}
+use Rattle.svc_draft.specs.declared.statement.Binding.{Binding}
+use Rattle.svc_draft.specs.declared.statement.Binding.TheVariants as binding
+use Rattle.svc_draft.specs.declared.sources.Steps.{Steps}
+use Rattle.svc_draft.specs.declared.sources.Strength.TheVariants as strength
+use Rattle.svc_draft.specs.Sources.{Source, source_of, no_source, bound, has_strength, first_spot, first_by}
+use Rattle.svc_draft.specs.Sources.{own_spot, shared_spot, common_room}
 
 -- another version is said than this one
 abbrev pub has_other : Version → Option Version → Bool
@@ -49,13 +55,6 @@ unfoldable pub first_local : ℕ → List Local → Option Spot
 first_local n [] = None
 first_local n (l ∷ ls) = if l.number == n then Some l.spot else first_local n ls
 
--- what names stand for: places in sections
-abbrev pub Names : Type 0
-Names = List ℕ → Option Spot
-
-abbrev pub no_names : Names
-no_names name = None
-
 -- how far it is from an instruction at a place to the value whose high part it has
 abbrev pub Distances : Type 0
 Distances = ℕ → Option ℕ
@@ -71,22 +70,21 @@ Branches = ℕ → Option (Unit {0})
 abbrev pub no_branches : Branches
 no_branches left = None
 
--- the names that are weak
-abbrev pub Weak : Type 0
-Weak = List ℕ → Option (Unit {0})
-
-abbrev pub no_weak : Weak
-no_weak name = None
+-- the text with this number: its names are known where all are, and else those that this pass has found so far
+abbrev pub source_seen : (known : Bool) → List Source → (number : ℕ) → Source → Source
+source_seen false all number so_far = so_far
+source_seen true all number so_far = unwrap_or (slice_get all number) so_far
 
 -- what an image is made of so far: the version where it is said; the limit of the entries that have none of their own;
 -- how many of the first data words are read-only; the start where it is said; the registers; the entries, and the limit
 -- that each has of its own; the words of the text, the bytes of each section of data, of which step .data and .bss
--- begin at a multiple, the section of what follows, and what is read next; the names, whether these are all the names
--- of the program, as they are in the second pass, and how far behind the data's beginning .data and .bss begin then;
--- the names that the pass before found, and whether one of this pass is set to what isn't known yet; the local labels,
--- which the second pass has from the first one, and how many of them it has passed; the distances of the instructions
--- with %pcrel_hi, whether there are any, and whether all are measured; the branches that are turned, whether all are,
--- and whether this pass found more; the weak names so far
+-- begin at a multiple, the section of what follows, and what is read next; the text that is read, by its number, with
+-- its names, and the texts that this pass has read; whether these are all the names of the program, as they are in the
+-- second pass, and how far behind the data's beginning .data and .bss begin then; the texts as the pass before found
+-- them, whether it found their places, and whether in this pass a name is set, or a text begins, where isn't known yet;
+-- how many local labels of its text the second pass has passed; the distances of the instructions with %pcrel_hi,
+-- whether there are any, and whether all are measured; the branches that are turned, whether all are, and whether this
+-- pass found more
 pub record Layout : Type 0 where
   pub version : Option Version
   pub limit : ℕ
@@ -103,13 +101,16 @@ pub record Layout : Type 0 where
   pub bss_step : ℕ
   pub section : Section
   pub next : Next
-  pub names : Names
+  pub number : ℕ
+  pub source : Source
+  pub found : List Source
   pub known : Bool
   pub data_from : ℕ
   pub bss_from : ℕ
-  pub before : Names
+  pub sources : List Source
+  pub placed : Bool
   pub lacks_names : Bool
-  pub locals : List Local
+  pub lacks_places : Bool
   pub passed : ℕ
   pub distances : Distances
   pub has_distances : Bool
@@ -117,7 +118,6 @@ pub record Layout : Type 0 where
   pub turned : Branches
   pub turns_all : Bool
   pub grew : Bool
-  pub weak : Weak
 
 abbrev pub layout_of : Draft → Layout
 layout_of d = record {
@@ -136,13 +136,16 @@ layout_of d = record {
   bss_step = d.bss_step;
   section = d.section;
   next = d.next;
-  names = λ name. get_by (λ key. bytes_eq name key.now) d.names;
+  number = d.number;
+  source = source_seen d.known (map source_of d.sources.items) d.number (source_of d.text_read);
+  found = map source_of d.found.items;
   known = d.known;
   data_from = d.data_from;
   bss_from = d.bss_from;
-  before = λ name. get_by (λ key. bytes_eq name key.now) d.before;
+  sources = map source_of d.sources.items;
+  placed = d.placed;
   lacks_names = d.lacks_names;
-  locals = d.locals.items;
+  lacks_places = d.lacks_places;
   passed = d.passed;
   distances = get nat_eq d.distances;
   has_distances = d.has_distances;
@@ -150,7 +153,6 @@ layout_of d = record {
   turned = get nat_eq d.turned;
   turns_all = d.turns_all;
   grew = d.grew;
-  weak = λ name. get_by (λ key. bytes_eq name key.now) d.weak;
 }
 
 abbrev pub zeros : List ℕ
@@ -158,10 +160,10 @@ zeros =
     0 ∷ 0 ∷ 0 ∷ 0 ∷ 0 ∷ 0 ∷ 0 ∷ 0 ∷ 0 ∷ 0 ∷ 0 ∷ 0 ∷ 0 ∷ 0 ∷ 0 ∷ 0 ∷
     0 ∷ 0 ∷ 0 ∷ 0 ∷ 0 ∷ 0 ∷ 0 ∷ 0 ∷ 0 ∷ 0 ∷ 0 ∷ 0 ∷ 0 ∷ 0 ∷ 0 ∷ []
 
--- the layout of a program without lines, in a pass with these names and sections; where all names are known, distances
--- are too
-abbrev pub empty : Names → Bool → (data_from bss_from : ℕ) → Layout
-empty names known data_from bss_from = record {
+-- the layout of a program without lines, in a pass behind one that found these texts; where all names are known,
+-- distances are too
+abbrev pub empty : List Source → Bool → (data_from bss_from : ℕ) → Layout
+empty sources known data_from bss_from = record {
   version = None;
   limit = 65536;
   read_only = 0;
@@ -177,13 +179,16 @@ empty names known data_from bss_from = record {
   bss_step = 4;
   section = section.Text;
   next = go.Line;
-  names = names;
+  number = 0;
+  source = source_seen known sources 0 no_source;
+  found = [];
   known = known;
   data_from = data_from;
   bss_from = bss_from;
-  before = no_names;
+  sources = sources;
+  placed = known;
   lacks_names = false;
-  locals = [];
+  lacks_places = false;
   passed = 0;
   distances = no_distances;
   has_distances = false;
@@ -191,7 +196,6 @@ empty names known data_from bss_from = record {
   turned = no_branches;
   turns_all = false;
   grew = false;
-  weak = no_weak;
 }
 
 -- a number of bytes and how far it is from there to a multiple of a step
@@ -211,7 +215,7 @@ data_size d = multiple 4 (bss_begin d + length d.bss_bytes)
 -- no lines yet, in the first pass of the first round, of the round behind one that ended so, and of one in which every
 -- branch is turned
 abbrev pub first_pass : Layout
-first_pass = empty no_names false 0 0
+first_pass = empty [] false 0 0
 
 abbrev pub next_round : Layout → Layout
 next_round d = record first_pass { turned = d.turned }
@@ -219,19 +223,22 @@ next_round d = record first_pass { turned = d.turned }
 abbrev pub last_round : Layout
 last_round = record first_pass { turns_all = true }
 
--- no lines yet, in a first pass once more, behind one that found these names
+-- no lines yet, in a first pass once more, behind one that found these texts, and where they stand unless it lacked
+-- the place of one
 abbrev pub once_more : Layout → Layout
-once_more d = record first_pass { before = d.names; turned = d.turned; turns_all = d.turns_all }
+once_more d = record (empty d.found false 0 0) {
+  placed = not d.lacks_places;
+  turned = d.turned;
+  turns_all = d.turns_all;
+}
 
 -- no lines yet, in the second pass of a round, behind such a first one
 abbrev pub second_pass : Layout → Layout
-second_pass d = record (empty d.names true (data_begin d) (bss_begin d)) {
+second_pass d = record (empty d.found true (data_begin d) (bss_begin d)) {
   data_step = d.data_step;
   bss_step = d.bss_step;
-  locals = d.locals;
   turned = d.turned;
   turns_all = d.turns_all;
-  weak = d.weak;
 }
 
 -- the same where a pass more comes first, which measures distances, and behind that one
@@ -239,22 +246,21 @@ abbrev pub measuring_pass : Layout → Layout
 measuring_pass d = record (second_pass d) { measured = false }
 
 abbrev pub laying_pass : Layout → Layout
-laying_pass d = record (empty d.names true d.data_from d.bss_from) {
+laying_pass d = record (empty d.sources true d.data_from d.bss_from) {
   data_step = d.data_step;
   bss_step = d.bss_step;
-  locals = d.locals;
   distances = d.distances;
   turned = d.turned;
   turns_all = d.turns_all;
-  weak = d.weak;
 }
+
+-- a pass lacks something that one more may find
+abbrev pub lacks : Layout → Bool
+lacks d = d.lacks_names || d.lacks_places
 
 -- whether a branch is turned
 abbrev pub is_turned : Layout → ℕ → Bool
 is_turned d left = d.turns_all || is_some (d.turned left)
-
-abbrev pub is_weak : Layout → List ℕ → Bool
-is_weak d name = is_some (d.weak name)
 
 -- how many bytes of the section of what follows there are so far
 abbrev pub size_in : Section → Layout → ℕ
@@ -283,30 +289,53 @@ spot_here d = record { section = d.section; offset = size d }
 abbrev pub here : Layout → ℕ
 here d = place d (spot_here d)
 
+-- what a name stands for, where all names are known: what its own text says, and else another one
+abbrev pub known_spot : Layout → List ℕ → Option Spot
+known_spot d name = first_spot (own_spot d.source name) (shared_spot d.sources name)
+
+-- a name that another text or a weak one stands for, as only the second pass knows
+abbrev pub is_foreign : Layout → List ℕ → Bool
+is_foreign d name =
+    d.known && (is_some (shared_spot d.sources name) && not (is_some (own_spot d.source name)))
+
 -- the address that a name stands for; in the first pass any name may yet come to stand for one
 abbrev pub address_of : Layout → List ℕ → Option ℕ
-address_of d name = if d.known then option_map (place d) (d.names name) else Some (here d)
+address_of d name = if d.known then option_map (place d) (known_spot d name) else Some (here d)
+
+-- the address that the text which is read gives a name, where the name stands for that
+abbrev pub if_same : Option ℕ → Option ℕ → Option ℕ
+if_same (Some a) (Some b) = if a == b then Some a else None
+if_same _ _ = None
+
+abbrev pub own_address : Layout → List ℕ → Option ℕ
+own_address d name = if_same (option_map (place d) (d.source.names name)) (address_of d name)
 
 -- the address of the last local label of a number before here, and of the next one behind here; in the first pass any
 -- may yet come
 abbrev pub address_back : Layout → ℕ → Option ℕ
-address_back d n = if d.known then option_map (place d) (last_local n None (take d.passed d.locals)) else Some (here d)
+address_back d n =
+    if d.known then option_map (place d) (last_local n None (take d.passed d.source.locals)) else Some (here d)
 
 abbrev pub address_ahead : Layout → ℕ → Option ℕ
-address_ahead d n = if d.known then option_map (place d) (first_local n (drop d.passed d.locals)) else Some (here d)
+address_ahead d n =
+    if d.known then option_map (place d) (first_local n (drop d.passed d.source.locals)) else Some (here d)
 
 -- how far it is to the value whose high part the instruction at a place has; until all are measured, any may yet come
 -- to stand there
 abbrev pub distance_from : Layout → ℕ → Option ℕ
 distance_from d place = if d.measured then d.distances place else Some 0
 
--- the place that a name stands for by a line above, or by the pass before
-abbrev pub first_spot : Option Spot → Option Spot → Option Spot
-first_spot (Some s) other = Some s
-first_spot None other = other
+-- the text as the pass before found it
+abbrev pub source_before : Layout → Source
+source_before d = unwrap_or (slice_get d.sources d.number) no_source
 
+-- the place that it found for a name, where it found the places
+abbrev pub spot_before : Layout → List ℕ → Option Spot
+spot_before d name = if d.placed then (source_before d).names name else None
+
+-- the place that a name stands for by a line above, or by the pass before
 abbrev pub spot_of : Layout → List ℕ → Option Spot
-spot_of d name = first_spot (d.names name) (d.before name)
+spot_of d name = first_spot (d.source.names name) (spot_before d name)
 
 -- a word more of the text, of which an image has at most 65,536
 unfoldable pub with_word : ℕ → Layout → Option Layout
@@ -335,14 +364,14 @@ with_fill count size value d =
     if count == 0 || size == 0 then Some d else
     in_section (with_copies count (sized size value)) d.section d >>= with_room
 
--- so many instructions that do nothing, addi x0, x0, 0 (0x13)
-unfoldable pub with_nops : ℕ → Layout → Option Layout
-with_nops count d =
-    if nat_le (length d.text + count) 65536 then Some (record d { text = d.text ++ replicate count 19 }) else None
+-- so many times the same word of the text
+unfoldable pub with_words : (word count : ℕ) → Layout → Option Layout
+with_words w count d =
+    if nat_le (length d.text + count) 65536 then Some (record d { text = d.text ++ replicate count w }) else None
 
--- so many bytes that say nothing: zeros, and in the text instructions that do nothing
+-- so many bytes that say nothing: zeros, and in the text instructions that do nothing, addi x0, x0, 0 (0x13)
 abbrev pub with_filling : Section → ℕ → Layout → Option Layout
-with_filling section.Text count d = if count % 4 == 0 then with_nops (count / 4) d else None
+with_filling section.Text count d = if count % 4 == 0 then with_words 19 (count / 4) d else None
 with_filling _ count d = with_blank count d
 
 -- the greatest of the steps, powers of two up to 2^16, that are asked for
@@ -355,9 +384,23 @@ with_step section.Data step d = record d { data_step = greater_step d.data_step 
 with_step section.Bss step d = record d { bss_step = greater_step d.bss_step step }
 with_step _ step d = d
 
+-- so does the part of it that the text has that is read, which a first pass finds
+abbrev pub raised : Section → ℕ → Steps → Steps
+raised section.Text step s = record s { text_step = greater_step s.text_step step }
+raised section.Rodata step s = record s { rodata_step = greater_step s.rodata_step step }
+raised section.Data step s = record s { data_step = greater_step s.data_step step }
+raised section.Bss step s = record s { bss_step = greater_step s.bss_step step }
+
+abbrev pub with_part_step : Section → ℕ → Layout → Layout
+with_part_step part step d =
+    if d.known then d else record d { source = record d.source { steps = raised part step d.source.steps } }
+
 -- nothing that is said up to the next multiple of a step
+unfoldable pub with_padding : ℕ → Layout → Option Layout
+with_padding step d = with_filling d.section (padding step (size d)) (with_step d.section step d) >>= with_room
+
 unfoldable pub with_align : ℕ → Layout → Option Layout
-with_align step d = with_filling d.section (padding step (size d)) (with_step d.section step d) >>= with_room
+with_align step d = with_padding step (with_part_step d.section step d)
 
 -- a number of so many bytes; the text takes words
 abbrev pub with_number : Section → Width → ℕ → Layout → Option Layout
@@ -450,20 +493,41 @@ abbrev pub is_place : ℕ → Option ℕ → Bool
 is_place place None = false
 is_place place (Some address) = address == place
 
--- a name: in the first pass no other is the same, and in the second it stands where the first found it
-unfoldable pub with_symbol : List ℕ → Spot → Layout → Option Layout
-with_symbol name s d =
-    if d.known then if is_place (place d s) (option_map (place d) (d.names name)) then Some d else None
-    else if is_some (d.names name) then None else Some (record d { names = update bytes_eq d.names name (Some s) })
+-- a global name of another text above, too
+abbrev pub is_shared_twice : Layout → List ℕ → Bool
+is_shared_twice d name =
+    has_strength strength.Strong (d.source.bindings name)
+    && is_some (first_by strength.Strong name (take d.number d.sources))
+
+-- a name that a first pass finds: no other of its text is the same
+unfoldable pub with_name : List ℕ → Spot → Layout → Option Layout
+with_name name s d =
+    if is_some (d.source.names name) then None else
+    Some (record d { source = record d.source { names = update bytes_eq d.source.names name (Some s) } })
+
+-- in the second pass it stands where the first found it, and no other text above has a global one
+unfoldable pub with_name_again : List ℕ → Spot → Layout → Option Layout
+with_name_again name s d =
+    if is_place (place d s) (option_map (place d) (d.source.names name)) && not (is_shared_twice d name) then Some d
+    else None
+
+abbrev pub with_symbol : List ℕ → Spot → Layout → Option Layout
+with_symbol name s d = if d.known then with_name_again name s d else with_name name s d
 
 -- a name and what it is set to, which a first pass may not know yet
 abbrev pub with_set : List ℕ → Option Spot → Layout → Option Layout
 with_set name (Some s) d = with_symbol name s d
 with_set name None d = if d.known then None else Some (record d { lacks_names = true })
 
--- a weak name more, or once more
-unfoldable pub with_weak : List ℕ → Layout → Option Layout
-with_weak name d = Some (record d { weak = update bytes_eq d.weak name (Some tt) })
+-- how other texts find a name, as a first pass notes it
+unfoldable pub with_binding : List ℕ → Binding → Layout → Option Layout
+with_binding name b d =
+    if d.known then Some d else
+    Some (record d {
+      source = record d.source {
+        bindings = update bytes_eq d.source.bindings name (Some (bound (d.source.bindings name) b));
+      };
+    })
 
 -- whether a local label that the first pass found has this number and stands here
 abbrev pub is_local : Layout → ℕ → Option Local → Bool
@@ -471,25 +535,97 @@ is_local d n None = false
 is_local d n (Some l) = l.number == n && place d l.spot == here d
 
 unfoldable pub with_passed : ℕ → Layout → Option Layout
-with_passed n d = if is_local d n (slice_get d.locals d.passed) then Some (record d { passed = d.passed + 1 }) else None
+with_passed n d =
+    if is_local d n (slice_get d.source.locals d.passed) then Some (record d { passed = d.passed + 1 }) else None
+
+-- a local label that a first pass finds
+abbrev pub local_here : ℕ → Layout → Local
+local_here n d = record { number = n; spot = spot_here d }
 
 -- a local label: in the first pass one more, of which a text has at most 4,096, and in the second it stands where the
 -- first found it
 unfoldable pub with_local : ℕ → Layout → Option Layout
 with_local n d =
     if d.known then with_passed n d
-    else if nat_lt (length d.locals) 4096
-    then Some (record d { locals = d.locals ++ (record { number = n; spot = spot_here d } ∷ []) })
+    else if nat_lt (length d.source.locals) 4096
+    then Some (record d { source = record d.source { locals = d.source.locals ++ (local_here n d ∷ []) } })
     else None
 
--- so many zeros in .bss, behind zeros up to a multiple of a step, which a name stands for; what follows stands where it
--- stood before
-unfoldable pub with_common : List ℕ → ℕ → ℕ → Layout → Option Layout
-with_common name count step d = do
-  aligned ← with_align step (record d { section = section.Bss })
-  named ← with_symbol name (spot_here aligned) aligned
-  put ← with_blank count named
+-- whether texts share zeros under a name, and whether another one has them: a strong one, or the first that yields
+abbrev pub is_common : Option Binding → Bool
+is_common (Some (binding.Common count step)) = true
+is_common _ = false
+
+abbrev pub has_other_room : Layout → List ℕ → Bool
+has_other_room d name =
+    is_some (first_by strength.Strong name d.sources)
+    || is_some (first_by strength.Yielding name (take d.number d.sources))
+
+-- so many zeros behind others up to a multiple of a step, which a name stands for
+unfoldable pub with_zeros_named : List ℕ → ℕ → Layout → Option Layout
+with_zeros_named name count d = do
+  named ← with_symbol name (spot_here d) d
+  with_blank count named
+
+-- the text's own zeros, and those that it shares, which are as large as the largest
+abbrev pub with_own_zeros : List ℕ → (count step : ℕ) → Layout → Option Layout
+with_own_zeros name count step d = with_align step d >>= with_zeros_named name count
+
+abbrev pub with_shared_zeros : List ℕ → (room : ℕ × ℕ) → Layout → Option Layout
+with_shared_zeros name room d =
+    if has_other_room d name then Some d else with_padding room.1 d >>= with_zeros_named name room.0
+
+unfoldable pub with_bound_zeros : List ℕ → (count step : ℕ) → Layout → Option Layout
+with_bound_zeros name count step d =
+    if is_common (d.source.bindings name)
+    then with_shared_zeros name (common_room name d.sources (count, step)) d
+    else with_own_zeros name count step d
+
+-- so many zeros in .bss, which a name stands for that is bound so; what follows stands where it stood before
+unfoldable pub with_common : List ℕ → Binding → (count step : ℕ) → Layout → Option Layout
+with_common name b count step d = do
+  bound ← with_binding name b (record d { section = section.Bss })
+  put ← with_bound_zeros name count step bound
   Some (record put { section = d.section; next = go.Line })
+
+-- a text is read, and the next one begins: first the texts that are found have it, too
+abbrev pub with_source : Layout → Layout
+with_source d = if d.known then d else record d { found = d.found ++ (d.source ∷ []); source = no_source }
+
+abbrev pub at_next : Layout → Layout
+at_next d = record d {
+  number = d.number + 1;
+  source = source_seen d.known d.sources (d.number + 1) no_source;
+  passed = 0;
+  section = section.Text;
+  next = go.Line;
+}
+
+-- each section goes on at a multiple of the text's step
+unfoldable pub with_part : Section → ℕ → Layout → Option Layout
+with_part part step d =
+    if padding step (size_in part d) == 0 then Some d else
+    in_section (with_zeros (padding step (size_in part d))) part d
+
+unfoldable pub with_parts : Steps → Layout → Option Layout
+with_parts s d = do
+  text ← with_words 0 (padding s.text_step (size_in section.Text d) / 4) d
+  rodata ← with_part section.Rodata s.rodata_step text
+  data_bytes ← with_part section.Data s.data_step rodata
+  bss ← with_part section.Bss s.bss_step data_bytes
+  with_room bss
+
+-- a text begins where its steps are known, by the pass before
+abbrev pub begun_by : Option Source → Layout → Option Layout
+begun_by (Some s) d = with_parts s.steps d
+begun_by None d = if d.known then None else Some (record d { lacks_places = true })
+
+abbrev pub begun : Layout → Option Layout
+begun d = begun_by (slice_get d.sources d.number) d
+
+-- a program has at most 256 texts
+unfoldable pub with_next_text : Layout → Option Layout
+with_next_text d = if nat_lt (d.number + 1) 256 then begun (at_next (with_source d)) else None
 
 -- the layout after a line, where the line may stand there; a label's line is what has this name and a colon
 abbrev pub after : List ℕ → Statement → Layout → Option Layout
@@ -509,10 +645,12 @@ after name (say.Open n) d = going_on n d
 after name (say.Value width n next) d = with_value width n d >>= going_on next
 after name (say.Long low high next) d = with_value wide.Word low d >>= with_value wide.Word high >>= going_on next
 after name (say.Symbol s) d = with_set name s d >>= going_on go.Line
-after name (say.Common count step) d = with_common name count step d
+after name (say.Common count step) d = with_common name (binding.Common count step) count step d
+after name (say.LocalCommon count step) d = with_common name binding.Local count step d
 after name (say.Pair v w) d = with_instruction v d >>= with_instruction w
 after name (say.Turned left) d = with_turned left d
-after name (say.Weak next) d = with_weak name d >>= going_on next
+after name (say.Bound b next) d = with_binding name b d >>= going_on next
+after name say.NextText d = with_next_text d
 after name (say.Local n) d = with_local n d
 after name (say.Relative w n) d = with_relative w n d
 

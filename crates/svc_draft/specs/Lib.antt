@@ -1,4 +1,5 @@
 pub mod Options
 pub mod Areas
 pub mod Refusals
+pub mod Sources
 pub mod Layouts

@@ -5,13 +5,14 @@ ghost use Rattle.svc_image.specs.declared.error.ImageError.TheVariants as image_
 ghost use Rattle.svc_image.specs.Format.{bytes_of_half, bytes_of_word};
 ghost use Rattle.svc_draft.specs.Areas.{padding, with_more, with_zeros, with_copies, filled, data_of, bytes_in};
 ghost use Rattle.svc_draft.specs.Layouts.{multiple, greater_step, data_begin, bss_begin, data_size, layout_of};
-ghost use Rattle.svc_draft.specs.Layouts.{in_section, with_room, with_bytes, with_blank, with_fill, with_nops};
-ghost use Rattle.svc_draft.specs.Layouts.{with_filling, with_step, with_align, with_value, with_common, with_word};
-ghost use Rattle.svc_draft.specs.Layouts.{with_instruction};
+ghost use Rattle.svc_draft.specs.Layouts.{in_section, with_room, with_bytes, with_blank, with_fill, with_words};
+ghost use Rattle.svc_draft.specs.Layouts.{raised, with_filling, with_step, with_part_step, with_padding, with_align};
+ghost use Rattle.svc_draft.specs.Layouts.{with_instruction, with_value, with_word};
 ghost use Rattle.svc_draft.specs.Refusals.{Changes};
 
 use crate::draft::Draft;
 use crate::refusal::Refusal;
+use crate::sources::Steps;
 use crate::statement::{Next, Section, Width};
 use byteorder::{ByteOrder, LittleEndian};
 use std::alloc::Global;
@@ -43,14 +44,26 @@ pub fn multiple(step: u32, size: u32) -> u32
 
 // The greatest of the steps, powers of two up to 2^16, that are asked for.
 fn greater_step(old: u32, step: u32) -> u32
-    requires { old ≤ 65536 }
     ensures step { result ≡ greater_step old step }
-    ensures few { result ≤ 65536 }
+    ensures few { old ≤ 65536 → result ≤ 65536 }
 {
     if step > old && 65536 % step == 0 {
         return step;
     }
     old
+}
+
+fn raised(section: Section, step: u32, steps: Steps) -> Steps
+    ensures { result ≡ raised section step steps }
+{
+    let mut raised = steps;
+    match section {
+        Section::Text => raised.text_step = greater_step(steps.text_step, step),
+        Section::Rodata => raised.rodata_step = greater_step(steps.rodata_step, step),
+        Section::Data => raised.data_step = greater_step(steps.data_step, step),
+        Section::Bss => raised.bss_step = greater_step(steps.bss_step, step),
+    }
+    raised
 }
 
 #[tactic(auto, unfolding(crate::specs::Areas::with_more))]
@@ -231,11 +244,10 @@ impl<'a> Draft<'a> {
         self.check_room()
     }
 
-    pub(crate) fn fill_section(&mut self, count: u32) -> Result<(), Refusal>
-        ensures { Changes result
-            (in_section (with_zeros count) (layout_of self.old).section (layout_of self.old)) (layout_of self.new) }
+    pub(crate) fn fill_section(&mut self, section: Section, count: u32) -> Result<(), Refusal>
+        ensures { Changes result (in_section (with_zeros count) section (layout_of self.old)) (layout_of self.new) }
     {
-        match self.section {
+        match section {
             Section::Text => Err(Refusal::InText),
             Section::Rodata => put_zeros(&mut self.rodata_bytes, count),
             Section::Data => put_zeros(&mut self.data_bytes, count),
@@ -250,7 +262,7 @@ impl<'a> Draft<'a> {
         if count == 0 {
             return Ok(());
         }
-        self.fill_section(count)?;
+        self.fill_section(self.section, count)?;
         self.check_room()
     }
 
@@ -279,15 +291,15 @@ impl<'a> Draft<'a> {
         self.check_room()
     }
 
-    #[tactic(auto, unfolding(crate::specs::Layouts::with_nops))]
-    pub(crate) fn push_nops(&mut self, count: u32) -> Result<(), Refusal>
-        ensures { Changes result (with_nops count (layout_of self.old)) (layout_of self.new) }
+    #[tactic(auto, unfolding(crate::specs::Layouts::with_words))]
+    pub(crate) fn push_words(&mut self, word: u32, count: u32) -> Result<(), Refusal>
+        ensures { Changes result (with_words word count (layout_of self.old)) (layout_of self.new) }
     {
         let words = self.text.len();
         if count as usize > MOST_WORDS as usize - words {
             return Err(Refusal::FullText);
         }
-        self.text.resize(words + count as usize, NOP)?;
+        self.text.resize(words + count as usize, word)?;
         Ok(())
     }
 
@@ -296,7 +308,7 @@ impl<'a> Draft<'a> {
             (with_filling (layout_of self.old).section count (layout_of self.old)) (layout_of self.new) }
     {
         match self.section {
-            Section::Text if count % 4 == 0 => self.push_nops(count / 4),
+            Section::Text if count % 4 == 0 => self.push_words(NOP, count / 4),
             Section::Text => Err(Refusal::InText),
             _ => self.push_blank(count),
         }
@@ -312,9 +324,26 @@ impl<'a> Draft<'a> {
         }
     }
 
+    // Notes in a first pass the step of the part that the text has of the section.
+    pub(crate) fn keep_part_step(&mut self, step: u32)
+        ensures { layout_of self.new ≡ with_part_step (layout_of self.old).section step (layout_of self.old) }
+    {
+        if !self.known {
+            self.text_read.steps = raised(self.section, step, self.text_read.steps);
+        }
+    }
+
     #[tactic(auto, unfolding(crate::specs::Layouts::with_align))]
     pub(crate) fn align(&mut self, step: u32) -> Result<(), Refusal>
         ensures { Changes result (with_align step (layout_of self.old)) (layout_of self.new) }
+    {
+        self.keep_part_step(step);
+        self.pad(step)
+    }
+
+    #[tactic(auto, unfolding(crate::specs::Layouts::with_padding))]
+    pub(crate) fn pad(&mut self, step: u32) -> Result<(), Refusal>
+        ensures { Changes result (with_padding step (layout_of self.old)) (layout_of self.new) }
     {
         let filling = padding(step, self.size());
         self.keep_step(step);
@@ -341,25 +370,6 @@ impl<'a> Draft<'a> {
             (Section::Text, _) => Err(Refusal::InText),
             _ => self.push_number(width, number),
         }
-    }
-
-    #[tactic(auto, unfolding(crate::specs::Layouts::with_common))]
-    pub(crate) fn push_common(
-        &mut self,
-        name: &'a [u8],
-        count: u32,
-        step: u32,
-    ) -> Result<(), Refusal>
-        ensures { Changes result (with_common name.now count step (layout_of self.old)) (layout_of self.new) }
-    {
-        let section = self.section;
-        self.section = Section::Bss;
-        self.align(step)?;
-        self.set_symbol(name, self.spot_here())?;
-        self.push_blank(count)?;
-        self.section = section;
-        self.next = Next::Line;
-        Ok(())
     }
 
     pub(crate) fn push_instruction(&mut self, word: u32) -> Result<(), Refusal>

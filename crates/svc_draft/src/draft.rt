@@ -1,12 +1,11 @@
 // An image in the making, and the names of its labels.
 
-ghost use Rattle.std.specs.Prelude.{◌≡◌, ◌≤◌, false, length, IfErr, OnOk};
-ghost use Rattle.std.specs.Str.{bytes_eq};
-ghost use Rattle.std.specs.HashMap.{get_by};
+ghost use Rattle.std.specs.Prelude.{◌≡◌, ◌<◌, ◌≤◌, false, length, map, IfErr, OnOk};
 
 use crate::making::Mark;
 use crate::refusal::Refusal;
-use crate::statement::{Local, Next, Section, Spot, Statement, Width};
+use crate::sources::{Text, shared_spot};
+use crate::statement::{Binding, Next, Section, Spot, Statement, Width};
 use std::alloc::Global;
 use std::collections::HashMap;
 use svc_image::{DATA_START, MOST_WORDS, Version};
@@ -14,6 +13,7 @@ use svc_image::{DATA_START, MOST_WORDS, Version};
 /// What the lines read so far make, as a `Layout` says it.
 #[derive(Drop)]
 pub struct Draft<'a> {
+    pub(crate) alloc: Global,
     pub(crate) version: Option<Version>,
     pub(crate) limit: u32,
     pub(crate) read_only: u32,
@@ -28,13 +28,16 @@ pub struct Draft<'a> {
     pub(crate) bss_step: u32,
     pub(crate) section: Section,
     pub(crate) next: Next,
-    pub(crate) names: HashMap<&'a [u8], Spot>,
+    pub(crate) number: usize,
+    pub(crate) text_read: Text<'a>,
+    pub(crate) found: Vec<Text<'a>>,
     pub(crate) known: bool,
     pub(crate) data_from: u32,
     pub(crate) bss_from: u32,
-    pub(crate) before: HashMap<&'a [u8], Spot>,
+    pub(crate) sources: Vec<Text<'a>>,
+    pub(crate) placed: bool,
     pub(crate) lacks_names: bool,
-    pub(crate) locals: Vec<Local>,
+    pub(crate) lacks_places: bool,
     pub(crate) passed: usize,
     pub(crate) distances: HashMap<u32, u32>,
     pub(crate) has_distances: bool,
@@ -42,7 +45,6 @@ pub struct Draft<'a> {
     pub(crate) turned: HashMap<usize, ()>,
     pub(crate) turns_all: bool,
     pub(crate) grew: bool,
-    pub(crate) weak: HashMap<&'a [u8], ()>,
     ghost text_few: { length text.items ≤ 65536 },
     ghost rodata_few: { length rodata_bytes.items ≤ 262144 },
     ghost data_few: { length data_bytes.items ≤ 262144 },
@@ -51,21 +53,23 @@ pub struct Draft<'a> {
     ghost bss_step_few: { bss_step ≤ 65536 },
     ghost data_near: { data_from ≤ 327680 },
     ghost bss_near: { bss_from ≤ 655360 },
-    ghost passed_few: { passed ≤ length locals.items },
+    ghost few_texts: { number < 256 },
 }
 
 impl<'a> Draft<'a> {
     ghost use Rattle.std.specs.Prelude.{Some};
     ghost use Rattle.svc_draft.specs.Refusals.{Refuses};
     ghost use Rattle.svc_draft.specs.Layouts.{layout_of, empty, first_pass, second_pass, measuring_pass, laying_pass};
-    ghost use Rattle.svc_draft.specs.Layouts.{once_more, next_round, last_round, is_turned, is_weak, size, base};
-    ghost use Rattle.svc_draft.specs.Layouts.{place, spot_here, here, after};
+    ghost use Rattle.svc_draft.specs.Layouts.{once_more, next_round, last_round, lacks, is_turned, is_foreign, size};
+    ghost use Rattle.svc_draft.specs.Layouts.{size_in};
+    ghost use Rattle.svc_draft.specs.Sources.{no_source, source_of};
+    ghost use Rattle.svc_draft.specs.Layouts.{base, place, spot_here, here, after};
 
     /// No lines yet, in the first pass of the first round, in which no branch is turned.
     pub fn new(alloc: Global) -> Draft<'a>
         ensures { layout_of result ≡ first_pass }
     {
-        Draft::with_names(HashMap::new(alloc), alloc)
+        Draft::behind(Vec::new(alloc), alloc)
     }
 
     /// No lines yet, in the first pass of the round behind one that ended so: what that found too far is turned.
@@ -86,12 +90,12 @@ impl<'a> Draft<'a> {
         last
     }
 
-    /// No lines yet, in a first pass once more, behind one that found these names.
+    /// No lines yet, in a first pass once more, behind one that ended so.
     pub fn once_more(self, alloc: Global) -> Draft<'a>
         ensures { layout_of result ≡ once_more (layout_of self.entry) }
     {
-        let mut more = Draft::new(alloc);
-        more.before = self.names;
+        let mut more = Draft::behind(self.found, alloc);
+        more.placed = !self.lacks_places;
         more.turned = self.turned;
         more.turns_all = self.turns_all;
         more
@@ -103,17 +107,16 @@ impl<'a> Draft<'a> {
     {
         let data_from = self.data_begin();
         let bss_from = self.bss_begin();
-        let mut again = Draft::with_names(self.names, alloc);
+        let mut again = Draft::behind(self.found, alloc);
         again.known = true;
+        again.placed = true;
         again.measured = true;
         again.data_from = data_from;
         again.bss_from = bss_from;
         again.data_step = self.data_step;
         again.bss_step = self.bss_step;
-        again.locals = self.locals;
         again.turned = self.turned;
         again.turns_all = self.turns_all;
-        again.weak = self.weak;
         again
     }
 
@@ -130,25 +133,27 @@ impl<'a> Draft<'a> {
     pub fn to_lay(self, alloc: Global) -> Draft<'a>
         ensures { layout_of result ≡ laying_pass (layout_of self.entry) }
     {
-        let mut laying = Draft::with_names(self.names, alloc);
+        let mut laying = Draft::behind(self.sources, alloc);
         laying.known = true;
+        laying.placed = true;
         laying.measured = true;
         laying.data_from = self.data_from;
         laying.bss_from = self.bss_from;
         laying.data_step = self.data_step;
         laying.bss_step = self.bss_step;
-        laying.locals = self.locals;
         laying.distances = self.distances;
         laying.turned = self.turned;
         laying.turns_all = self.turns_all;
-        laying.weak = self.weak;
         laying
     }
 
-    fn with_names(names: HashMap<&'a [u8], Spot>, alloc: Global) -> Draft<'a>
-        ensures { layout_of result ≡ empty (λ name. get_by (λ key. bytes_eq name key.now) names.entry) false 0 0 }
+    // No lines yet, in a first pass behind one that found these texts.
+    fn behind(sources: Vec<Text<'a>>, alloc: Global) -> Draft<'a>
+        ensures layout { layout_of result ≡ empty (map source_of sources.entry.items) false 0 0 }
+        ensures fresh { source_of result.text_read ≡ no_source }
     {
         Draft {
+            alloc,
             version: None,
             limit: MOST_WORDS,
             read_only: 0,
@@ -163,13 +168,16 @@ impl<'a> Draft<'a> {
             bss_step: 4,
             section: Section::Text,
             next: Next::Line,
-            names,
+            number: 0,
+            text_read: Text::new(alloc),
+            found: Vec::new(alloc),
             known: false,
             data_from: 0,
             bss_from: 0,
-            before: HashMap::new(alloc),
+            sources,
+            placed: false,
             lacks_names: false,
-            locals: Vec::new(alloc),
+            lacks_places: false,
             passed: 0,
             distances: HashMap::new(alloc),
             has_distances: false,
@@ -177,7 +185,6 @@ impl<'a> Draft<'a> {
             turned: HashMap::new(alloc),
             turns_all: false,
             grew: false,
-            weak: HashMap::new(alloc),
         }
     }
 
@@ -191,7 +198,13 @@ impl<'a> Draft<'a> {
     pub(crate) fn size(&self) -> u32
         ensures { result ≡ size (layout_of self.now) }
     {
-        match self.section {
+        self.size_in(self.section)
+    }
+
+    pub(crate) fn size_in(&self, section: Section) -> u32
+        ensures { result ≡ size_in section (layout_of self.now) }
+    {
+        match section {
             Section::Text => 4 * self.text.len() as u32,
             Section::Rodata => self.rodata_bytes.len() as u32,
             Section::Data => self.data_bytes.len() as u32,
@@ -240,11 +253,11 @@ impl<'a> Draft<'a> {
         self.grew
     }
 
-    /// Whether this pass has set a name to what isn't known yet.
-    pub fn lacks_names(&self) -> bool
-        ensures { result ≡ (layout_of self.now).lacks_names }
+    /// Whether this pass lacks what one more may find: it has set a name, or begun a text, where isn't known yet.
+    pub fn lacks(&self) -> bool
+        ensures { result ≡ lacks (layout_of self.now) }
     {
-        self.lacks_names
+        self.lacks_names || self.lacks_places
     }
 
     /// Whether this pass has met a `%pcrel_hi`, of which a `%pcrel_lo` further up may want the distance.
@@ -262,11 +275,24 @@ impl<'a> Draft<'a> {
         self.turns_all || self.turned.get(&left).is_some()
     }
 
-    /// Whether a name is weak, by a line before or, in the second pass, by any.
-    pub fn is_weak(&self, name: &[u8]) -> bool
-        ensures { result ≡ is_weak (layout_of self.now) name.now }
+    /// Whether a name stands for what another text has, or a weak one: then a branch to it is turned. Only the second
+    /// pass knows that.
+    pub fn is_foreign(&self, name: &[u8]) -> bool
+        ensures { result ≡ is_foreign (layout_of self.now) name.now }
     {
-        self.weak.get(name).is_some()
+        self.known
+            && shared_spot(&self.sources, name).is_some()
+            && self.source().own_spot(name).is_none()
+    }
+
+    // The text that is read: with all its names where all are known, and else with those so far.
+    pub(crate) fn source(&self) -> &Text<'a>
+        ensures { source_of result.now ≡ (layout_of self.now).source }
+    {
+        if !self.known {
+            return &self.text_read;
+        }
+        self.sources.get(self.number).unwrap_or(&self.text_read)
     }
 
     /// Whether all names of the program are known, as they are in the second pass.
@@ -313,16 +339,22 @@ impl<'a> Draft<'a> {
                 self.set_name(name, spot)?;
                 self.next = Next::Line;
             }
-            Statement::Common(count, step) => return self.push_common(name, count, step),
+            Statement::Common(count, step) => {
+                return self.push_common(name, Binding::Common(count, step), count, step);
+            }
+            Statement::LocalCommon(count, step) => {
+                return self.push_common(name, Binding::Local, count, step);
+            }
             Statement::Pair(first, second) => {
                 self.push_instruction(first)?;
                 self.push_instruction(second)?;
             }
             Statement::Turned(left) => return self.turn(left),
-            Statement::Weak(next) => {
-                self.set_weak(name)?;
+            Statement::Bound(binding, next) => {
+                self.bind(name, binding)?;
                 self.next = next;
             }
+            Statement::NextText => return self.begin_text(),
             Statement::Local(number) => return self.take_local(number),
             Statement::Relative(word, distance) => return self.push_relative(word, distance),
         }

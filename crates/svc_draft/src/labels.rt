@@ -1,26 +1,47 @@
 // Names and local labels: what stands for what.
 
-ghost use Rattle.std.specs.Prelude.{◌≡◌, IfErr, OnOk, Some, None};
+ghost use Rattle.std.specs.Prelude.{◌≡◌, IfErr, OnOk, Some, None, false, take, drop};
 ghost use Rattle.svc_draft.specs.Layouts.{last_local, first_local, layout_of, place, address_of, address_back};
-ghost use Rattle.svc_draft.specs.Layouts.{address_ahead, distance_from, spot_of, with_symbol, with_set, with_weak};
-ghost use Rattle.svc_draft.specs.Layouts.{with_passed, with_local};
+ghost use Rattle.svc_draft.specs.Layouts.{address_ahead, distance_from, is_shared_twice, known_spot, spot_before};
+ghost use Rattle.svc_draft.specs.Layouts.{own_address, spot_of, with_binding, with_local, with_name, with_name_again, with_passed};
+ghost use Rattle.svc_draft.specs.Layouts.{with_set, with_symbol};
 ghost use Rattle.svc_draft.specs.Refusals.{Refuses, Changes};
 
 use crate::draft::Draft;
 use crate::refusal::Refusal;
-use crate::statement::{Local, Spot};
+use crate::sources::{Strength, bound, first_by, has_strength, shared_spot};
+use crate::statement::{Binding, Local, Spot};
 
 /// The most local labels. Each is looked at for every name of one, so that few bound the time.
 const MOST_LOCALS: usize = 4096;
 
 impl<'a> Draft<'a> {
+    // The place that the pass before found for a name of this text, where it found the places.
+    fn spot_before(&self, name: &[u8]) -> Option<Spot>
+        ensures { result ≡ spot_before (layout_of self.now) name.now }
+    {
+        if !self.placed {
+            return None;
+        }
+        self.sources.get(self.number)?.spot_of(name)
+    }
+
     /// The place that a name stands for, where a line above has said it or the pass before found it.
     pub fn spot_of(&self, name: &[u8]) -> Option<Spot>
         ensures { result ≡ spot_of (layout_of self.now) name.now }
     {
-        match self.names.get(name).copied() {
+        match self.source().spot_of(name) {
             Some(spot) => Some(spot),
-            None => self.before.get(name).copied(),
+            None => self.spot_before(name),
+        }
+    }
+
+    fn known_spot(&self, name: &[u8]) -> Option<Spot>
+        ensures { result ≡ known_spot (layout_of self.now) name.now }
+    {
+        match self.source().own_spot(name) {
+            Some(spot) => Some(spot),
+            None => shared_spot(&self.sources, name),
         }
     }
 
@@ -31,7 +52,18 @@ impl<'a> Draft<'a> {
         if !self.known {
             return Some(self.here());
         }
-        Some(self.place(self.names.get(name).copied()?))
+        Some(self.place(self.known_spot(name)?))
+    }
+
+    /// The address that the text which is read gives this name, where the name stands for that, and for no other's.
+    pub fn own_address(&self, name: &[u8]) -> Option<u32>
+        ensures { result ≡ own_address (layout_of self.now) name.now }
+    {
+        let own = self.place(self.source().spot_of(name)?);
+        match self.address_of(name) {
+            Some(address) if address == own => Some(own),
+            _ => None,
+        }
     }
 
     /// The address of the last local label of this number before here. In the first pass any may yet come to stand.
@@ -41,7 +73,7 @@ impl<'a> Draft<'a> {
         if !self.known {
             return Some(self.here());
         }
-        Some(self.place(last_local(number, &self.locals[..self.passed])?))
+        Some(self.place(last_local(number, front_of(&self.source().locals, self.passed))?))
     }
 
     /// The address of the next local label of this number behind here. In the first pass any may yet come to stand.
@@ -51,7 +83,7 @@ impl<'a> Draft<'a> {
         if !self.known {
             return Some(self.here());
         }
-        Some(self.place(first_local(number, &self.locals[self.passed..])?))
+        Some(self.place(first_local(number, rest_of(&self.source().locals, self.passed))?))
     }
 
     /// How far it is from the instruction with `%pcrel_hi` at this address to its value. Until all are measured, any
@@ -66,24 +98,45 @@ impl<'a> Draft<'a> {
         self.distances.get(&place).copied()
     }
 
-    #[tactic(auto, unfolding(crate::specs::Layouts::with_symbol))]
-    pub(crate) fn set_symbol(&mut self, name: &'a [u8], spot: Spot) -> Result<(), Refusal>
-        ensures ok { OnOk result (with_symbol name.now spot (layout_of self.old) ≡ Some (layout_of self.new)) }
-        ensures err { IfErr result (λ e. Refuses e (with_symbol name.now spot (layout_of self.old))) }
+    fn is_shared_twice(&self, name: &[u8]) -> bool
+        ensures { result ≡ is_shared_twice (layout_of self.now) name.now }
+    {
+        if !has_strength(Strength::Strong, self.source().binding_of(name)) {
+            return false;
+        }
+        first_by(Strength::Strong, name, self.texts_above()).is_some()
+    }
+
+    #[tactic(auto, unfolding(crate::specs::Layouts::with_name_again))]
+    pub(crate) fn find_again(&self, name: &[u8], spot: Spot) -> Result<(), Refusal>
+        ensures { Changes result (with_name_again name.now spot (layout_of self.now)) (layout_of self.now) }
     {
         let place = self.place(spot);
-        let found = self.names.get(name).copied();
-        if self.known {
-            return match found {
-                Some(found) if self.place(found) == place => Ok(()),
-                _ => Err(Refusal::LabelTwice),
-            };
+        match self.source().spot_of(name) {
+            Some(found) if self.place(found) == place && !self.is_shared_twice(name) => Ok(()),
+            _ => Err(Refusal::LabelTwice),
         }
-        if found.is_some() {
+    }
+
+    #[tactic(auto, unfolding(crate::specs::Layouts::with_name))]
+    pub(crate) fn find_name(&mut self, name: &'a [u8], spot: Spot) -> Result<(), Refusal>
+        requires { self.old.known ≡ false }
+        ensures { Changes result (with_name name.now spot (layout_of self.old)) (layout_of self.new) }
+    {
+        if self.text_read.spot_of(name).is_some() {
             return Err(Refusal::LabelTwice);
         }
-        self.names.insert(name, spot)?;
+        self.text_read.names.insert(name, spot)?;
         Ok(())
+    }
+
+    pub(crate) fn set_symbol(&mut self, name: &'a [u8], spot: Spot) -> Result<(), Refusal>
+        ensures { Changes result (with_symbol name.now spot (layout_of self.old)) (layout_of self.new) }
+    {
+        if self.known {
+            return self.find_again(name, spot);
+        }
+        self.find_name(name, spot)
     }
 
     pub(crate) fn set_name(&mut self, name: &'a [u8], spot: Option<Spot>) -> Result<(), Refusal>
@@ -100,11 +153,15 @@ impl<'a> Draft<'a> {
         }
     }
 
-    #[tactic(auto, unfolding(crate::specs::Layouts::with_weak))]
-    pub(crate) fn set_weak(&mut self, name: &'a [u8]) -> Result<(), Refusal>
-        ensures { Changes result (with_weak name.now (layout_of self.old)) (layout_of self.new) }
+    #[tactic(auto, unfolding(crate::specs::Layouts::with_binding))]
+    pub(crate) fn bind(&mut self, name: &'a [u8], binding: Binding) -> Result<(), Refusal>
+        ensures { Changes result (with_binding name.now binding (layout_of self.old)) (layout_of self.new) }
     {
-        self.weak.insert(name, ())?;
+        if self.known {
+            return Ok(());
+        }
+        let binding = bound(self.text_read.binding_of(name), binding);
+        self.text_read.bindings.insert(name, binding)?;
         Ok(())
     }
 
@@ -113,7 +170,7 @@ impl<'a> Draft<'a> {
         ensures { Changes result (with_passed number (layout_of self.old)) (layout_of self.new) }
     {
         let here = self.here();
-        match self.locals.get(self.passed).copied() {
+        match self.source().locals.get(self.passed).copied() {
             Some(local) if local.number == number && self.place(local.spot) == here => {
                 self.passed += 1;
                 Ok(())
@@ -129,13 +186,25 @@ impl<'a> Draft<'a> {
         if self.known {
             return self.pass_local(number);
         }
-        if self.locals.len() >= MOST_LOCALS {
+        if self.text_read.locals.len() >= MOST_LOCALS {
             return Err(Refusal::FullLocals);
         }
         let spot = self.spot_here();
-        self.locals.push(Local { number, spot })?;
+        self.text_read.locals.push(Local { number, spot })?;
         Ok(())
     }
+}
+
+fn front_of(locals: &[Local], count: usize) -> &[Local]
+    ensures { result.now ≡ take count locals.now }
+{
+    locals.split_at(count.min(locals.len())).0
+}
+
+fn rest_of(locals: &[Local], count: usize) -> &[Local]
+    ensures { result.now ≡ drop count locals.now }
+{
+    locals.split_at(count.min(locals.len())).1
 }
 
 #[tactic(auto, unfolding(crate::specs::Layouts::last_local))]

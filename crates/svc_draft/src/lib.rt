@@ -8,9 +8,12 @@ mod making;
 mod notes;
 mod refusal;
 mod settings;
+mod sources;
 mod statement;
+mod texts;
 
 pub use draft::Draft;
 pub use making::Mark;
 pub use refusal::Refusal;
-pub use statement::{Ending, Local, Next, Section, Spot, Statement, Width};
+pub use sources::{Steps, Strength, Text};
+pub use statement::{Binding, Ending, Local, Next, Section, Spot, Statement, Width};

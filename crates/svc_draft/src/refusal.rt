@@ -17,6 +17,8 @@ pub enum Refusal {
     FullEntries,
     #[error("no more than 4096 local labels")]
     FullLocals,
+    #[error("no more than 256 texts")]
+    FullTexts,
     #[error("data, or .text above an instruction")]
     InData,
     #[error("instructions and words, or .data above other data")]

@@ -34,6 +34,19 @@ pub struct Spot {
     pub offset: u32,
 }
 
+/// How other texts of a program find a name of one.
+#[derive(Clone, Copy)]
+pub enum Binding {
+    /// `.globl NAME`: it is the name's only one.
+    Global,
+    /// `.weak NAME`: it yields to a global one.
+    Weak,
+    /// `.local NAME`: they don't, as where no line binds a name.
+    Local,
+    /// `.comm NAME, SIZE, ALIGNMENT`: zeros that all texts share which name them so.
+    Common(u32, u32),
+}
+
 /// How many bytes a number takes.
 #[derive(Clone, Copy)]
 pub enum Width {
@@ -68,10 +81,12 @@ pub enum Next {
     Character(Ending),
     /// A name, and what it is to stand for.
     Symbol,
-    /// A name, and the size and the alignment of the zeros that it is to name.
+    /// A name, and the size and the alignment of the zeros that it is to name, which texts share.
     Common,
-    /// A name of a list of weak ones.
-    Weak,
+    /// The same of a text's own zeros.
+    LocalCommon,
+    /// A name of a list of those that are bound so.
+    Bound(Binding),
     /// A line of a section that is passed over.
     Passed,
 }
@@ -115,13 +130,17 @@ pub enum Statement {
     /// A name, and the size and the alignment of the zeros in `.bss` that it names: the end of
     /// `.comm NAME, SIZE, ALIGNMENT`.
     Common(u32, u32),
+    /// The same of the text's own zeros: the end of `.lcomm NAME, SIZE, ALIGNMENT`.
+    LocalCommon(u32, u32),
     /// Two instructions that one name stands for, as `call`, by their words.
     Pair(u32, u32),
     /// A branch that doesn't reach its target, by how many bytes of the text are left from the target on: it is turned
     /// in the next round.
     Turned(usize),
-    /// A weak name, as of `.weak NAME`, and what is read next.
-    Weak(Next),
+    /// A name that is bound so, as by `.weak NAME`, and what is read next.
+    Bound(Binding, Next),
+    /// Another text of the program begins.
+    NextText,
     /// A number and a colon: the next local label of this number.
     Local(u32),
     /// `auipc` with `%pcrel_hi(VALUE)`, and how far it is to the value, whose low part `%pcrel_lo` names by its label.

@@ -1,10 +1,12 @@
 -- The picture of a history: its text, of the bars and marks that are shown.
-use Rattle.std.specs.Prelude.{ℕ, List, [], ◌++◌, cond, length, flat_map}
+use Rattle.std.specs.Prelude.{ℕ, List, [], ◌++◌, Option, cond, length, flat_map}
+use denote.Ref.{Bor}
 use Rattle.svc_history_laws.specs.declared.entry.Entry.{Entry}
 use Rattle.svc_marks.specs.declared.bars.Bar.{Bar}
 use Rattle.svc_marks.specs.declared.marks.Mark.{Mark}
 use Rattle.svc_marks.specs.declared.view.View.{View}
 use Rattle.svc_marks.specs.View.{bars_shown, marks_shown, window_shown}
+use Rattle.svc_names.specs.declared.names.Names.{Names}
 use Rattle.svc_sheet.specs.declared.sheet.Sheet.{Sheet}
 use Rattle.svc_sheet.specs.declared.sheet.Style.{Style}
 use Rattle.svc_sheet.specs.Drawing.{bar_name, bar_text, layer_text}
@@ -58,11 +60,12 @@ unfoldable pub picture_text : Sheet → (total : ℕ) → List Bar → List Mark
 picture_text s total bs ms =
     surroundings s total ++ things s bs ms ++ words s bs ms ++ joined_note s ++ axis s ++ closing
 
--- what is shown of a history, drawn so
-abbrev pub sheet_of : List Entry → (units : ℕ) → View → Style → Sheet
-sheet_of es units view style = record { window = window_shown es view; units = units; style = style }
+-- what is shown of a history, drawn so and told with these names, if any are given
+abbrev pub sheet_of : List Entry → (units : ℕ) → View → Style → Option (Bor Names) → Sheet
+sheet_of es units view style names =
+    record { window = window_shown es view; units = units; style = style; names = names }
 
 -- the picture of that
-unfoldable pub picture_of : List Entry → (units : ℕ) → View → Style → List ℕ
-picture_of es units view style =
-    picture_text (sheet_of es units view style) (length es) (bars_shown es view) (marks_shown es view)
+unfoldable pub picture_of : List Entry → (units : ℕ) → View → Style → Option (Bor Names) → List ℕ
+picture_of es units view style names =
+    picture_text (sheet_of es units view style names) (length es) (bars_shown es view) (marks_shown es view)

@@ -46,7 +46,12 @@ fn tasks_called(fate: Fate) -> &'static str
 
 // Writes the box of a cell's bars.
 #[tactic(auto, unfolding(crate::specs::Joined::stripe_box))]
-fn write_box(frame: &Frame, fate: Fate, tally: &Tally, text: &mut Vec<u8>) -> Result<(), AllocError>
+fn write_box(
+    frame: &Frame<'_>,
+    fate: Fate,
+    tally: &Tally,
+    text: &mut Vec<u8>,
+) -> Result<(), AllocError>
     ensures { OnOk result (text.new.items ≡ text.old.items ++ stripe_box frame.now.sheet fate tally.now) }
 {
     let x = frame.x(tally.first);
@@ -58,7 +63,7 @@ fn write_box(frame: &Frame, fate: Fate, tally: &Tally, text: &mut Vec<u8>) -> Re
 // Writes it with its title.
 #[tactic(auto, unfolding(crate::specs::Joined::stripe_text))]
 fn write_stripe(
-    frame: &Frame,
+    frame: &Frame<'_>,
     fate: Fate,
     tally: &Tally,
     text: &mut Vec<u8>,
@@ -74,7 +79,7 @@ fn write_stripe(
 
 // Writes it if there are any.
 fn write_stripe_of_some(
-    frame: &Frame,
+    frame: &Frame<'_>,
     fate: Fate,
     tally: &Tally,
     text: &mut Vec<u8>,
@@ -89,7 +94,7 @@ fn write_stripe_of_some(
 
 // Writes these of a fate.
 fn write_stripes_in(
-    frame: &Frame,
+    frame: &Frame<'_>,
     fate: Fate,
     tallies: &[Tally],
     text: &mut Vec<u8>,
@@ -106,7 +111,7 @@ fn write_stripes_in(
 // Writes the short bars of a fate.
 #[tactic(auto, unfolding(crate::specs::Joined::stripes))]
 fn write_stripes(
-    frame: &Frame,
+    frame: &Frame<'_>,
     fate: Fate,
     bars: &[Bar],
     text: &mut Vec<u8>,
@@ -121,7 +126,7 @@ fn write_stripes(
 }
 
 // Writes a bar, if it lies in more than one cell.
-fn write_long_bar(frame: &Frame, bar: &Bar, text: &mut Vec<u8>) -> Result<(), AllocError>
+fn write_long_bar(frame: &Frame<'_>, bar: &Bar, text: &mut Vec<u8>) -> Result<(), AllocError>
     ensures { OnOk result (text.new.items ≡ text.old.items ++ long_bar frame.now.sheet bar.now) }
 {
     if frame.is_short(bar) {
@@ -131,7 +136,7 @@ fn write_long_bar(frame: &Frame, bar: &Bar, text: &mut Vec<u8>) -> Result<(), Al
 }
 
 // Writes such bars.
-fn write_long_bars(frame: &Frame, bars: &[Bar], text: &mut Vec<u8>) -> Result<(), AllocError>
+fn write_long_bars(frame: &Frame<'_>, bars: &[Bar], text: &mut Vec<u8>) -> Result<(), AllocError>
     ensures { OnOk result (text.new.items ≡ text.old.items ++ flat_map (long_bar frame.now.sheet) bars.now) }
 {
     for bar in bars {
@@ -141,7 +146,7 @@ fn write_long_bars(frame: &Frame, bars: &[Bar], text: &mut Vec<u8>) -> Result<()
 }
 
 // Writes the words of such a bar.
-fn write_long_name(frame: &Frame, bar: &Bar, text: &mut Vec<u8>) -> Result<(), AllocError>
+fn write_long_name(frame: &Frame<'_>, bar: &Bar, text: &mut Vec<u8>) -> Result<(), AllocError>
     ensures { OnOk result (text.new.items ≡ text.old.items ++ long_name frame.now.sheet bar.now) }
 {
     if frame.is_short(bar) {
@@ -152,7 +157,7 @@ fn write_long_name(frame: &Frame, bar: &Bar, text: &mut Vec<u8>) -> Result<(), A
 
 /// Writes the words of the bars that lie in more than one cell.
 pub(crate) fn write_long_names(
-    frame: &Frame,
+    frame: &Frame<'_>,
     bars: &[Bar],
     text: &mut Vec<u8>,
 ) -> Result<(), AllocError>
@@ -167,7 +172,7 @@ pub(crate) fn write_long_names(
 /// Writes the bars: those that lie in more than one cell, and stripes of the others.
 #[tactic(auto, unfolding(crate::specs::Joined::joined_bars))]
 pub(crate) fn write_joined_bars(
-    frame: &Frame,
+    frame: &Frame<'_>,
     bars: &[Bar],
     text: &mut Vec<u8>,
 ) -> Result<(), AllocError>
@@ -209,7 +214,7 @@ fn marks_called(kind: MarkKind) -> &'static str
 }
 
 // The middle of these marks, in a row of their lane.
-fn middle(frame: &Frame, tally: &Tally, row: u8) -> Point
+fn middle(frame: &Frame<'_>, tally: &Tally, row: u8) -> Point
     ensures x { result.x ≡ column_x frame.now.sheet tally.now.first }
     ensures y { result.y ≡ row_y frame.now.sheet tally.now.lane row }
 {
@@ -220,7 +225,7 @@ fn middle(frame: &Frame, tally: &Tally, row: u8) -> Point
 }
 
 // The other end of the first one's arrow, in a row.
-fn other_end(frame: &Frame, tally: &Tally, row: u8) -> Point
+fn other_end(frame: &Frame<'_>, tally: &Tally, row: u8) -> Point
     ensures x { result.x ≡ other_x frame.now.sheet tally.now tally.now.other }
     ensures y { result.y ≡ other_y frame.now.sheet row tally.now tally.now.other }
 {
@@ -236,7 +241,7 @@ fn other_end(frame: &Frame, tally: &Tally, row: u8) -> Point
 // Writes a mark in a row of its lane.
 #[tactic(auto, unfolding(crate::specs::Joined::use_at))]
 fn write_use(
-    frame: &Frame,
+    frame: &Frame<'_>,
     tally: &Tally,
     row: u8,
     name: &str,
@@ -248,7 +253,7 @@ fn write_use(
 }
 
 // Writes the line of commits.
-fn write_line(frame: &Frame, tally: &Tally, text: &mut Vec<u8>) -> Result<(), AllocError>
+fn write_line(frame: &Frame<'_>, tally: &Tally, text: &mut Vec<u8>) -> Result<(), AllocError>
     ensures { OnOk result (text.new.items
         ≡ text.old.items ++ joined_shape frame.now.sheet tally.now mark.Commit) }
 {
@@ -263,7 +268,7 @@ fn write_line(frame: &Frame, tally: &Tally, text: &mut Vec<u8>) -> Result<(), Al
 
 // Writes the shape of a kind's marks.
 fn write_shape(
-    frame: &Frame,
+    frame: &Frame<'_>,
     kind: MarkKind,
     tally: &Tally,
     text: &mut Vec<u8>,
@@ -288,7 +293,7 @@ fn write_shape(
 // Writes it with its title.
 #[tactic(auto, unfolding(crate::specs::Joined::joined_text))]
 fn write_joined(
-    frame: &Frame,
+    frame: &Frame<'_>,
     kind: MarkKind,
     tally: &Tally,
     text: &mut Vec<u8>,
@@ -304,7 +309,7 @@ fn write_joined(
 
 // Writes it if there are any.
 fn write_joined_of_some(
-    frame: &Frame,
+    frame: &Frame<'_>,
     kind: MarkKind,
     tally: &Tally,
     text: &mut Vec<u8>,
@@ -319,7 +324,7 @@ fn write_joined_of_some(
 
 // Writes these of a kind.
 fn write_kind_in(
-    frame: &Frame,
+    frame: &Frame<'_>,
     kind: MarkKind,
     tallies: &[Tally],
     text: &mut Vec<u8>,
@@ -336,7 +341,7 @@ fn write_kind_in(
 // Writes the marks of a kind.
 #[tactic(auto, unfolding(crate::specs::Joined::joined_kind))]
 fn write_kind(
-    frame: &Frame,
+    frame: &Frame<'_>,
     kind: MarkKind,
     marks: &[Mark],
     text: &mut Vec<u8>,
@@ -353,7 +358,7 @@ fn write_kind(
 /// Writes the lines and arrows.
 #[tactic(auto, unfolding(crate::specs::Joined::joined_lines))]
 pub(crate) fn write_joined_lines(
-    frame: &Frame,
+    frame: &Frame<'_>,
     marks: &[Mark],
     text: &mut Vec<u8>,
 ) -> Result<(), AllocError>
@@ -368,7 +373,7 @@ pub(crate) fn write_joined_lines(
 /// Writes the shapes.
 #[tactic(auto, unfolding(crate::specs::Joined::joined_shapes))]
 pub(crate) fn write_joined_shapes(
-    frame: &Frame,
+    frame: &Frame<'_>,
     marks: &[Mark],
     text: &mut Vec<u8>,
 ) -> Result<(), AllocError>

@@ -44,7 +44,7 @@ fn write_hatchings(text: &mut Vec<u8>) -> Result<(), AllocError>
 
 /// Writes what each picture begins with.
 #[tactic(auto, unfolding(crate::specs::Legend::head))]
-pub(crate) fn write_head(frame: &Frame, text: &mut Vec<u8>) -> Result<(), AllocError>
+pub(crate) fn write_head(frame: &Frame<'_>, text: &mut Vec<u8>) -> Result<(), AllocError>
     ensures { OnOk result (text.new.items ≡ text.old.items ++ head frame.now.sheet) }
 {
     opening(text, frame.bottom())?;
@@ -143,7 +143,11 @@ fn write_suppliers(text: &mut Vec<u8>) -> Result<(), AllocError>
 
 /// Writes the legend.
 #[tactic(auto, unfolding(crate::specs::Legend::legend))]
-pub(crate) fn write_legend(frame: &Frame, total: u64, text: &mut Vec<u8>) -> Result<(), AllocError>
+pub(crate) fn write_legend(
+    frame: &Frame<'_>,
+    total: u64,
+    text: &mut Vec<u8>,
+) -> Result<(), AllocError>
     ensures { OnOk result (text.new.items ≡ text.old.items ++ legend frame.now.sheet total) }
 {
     let from = frame.sheet.window.from;
@@ -165,7 +169,7 @@ fn lane_fill(number: u8) -> &'static str
 
 // Writes a lane.
 #[tactic(auto, unfolding(crate::specs::Legend::lane_text))]
-fn write_lane(frame: &Frame, number: u8, text: &mut Vec<u8>) -> Result<(), AllocError>
+fn write_lane(frame: &Frame<'_>, number: u8, text: &mut Vec<u8>) -> Result<(), AllocError>
     requires few { number < 255 }
     ensures { OnOk result (text.new.items ≡ text.old.items ++ lane_text frame.now.sheet number) }
 {
@@ -178,7 +182,7 @@ fn write_lane(frame: &Frame, number: u8, text: &mut Vec<u8>) -> Result<(), Alloc
 
 /// Writes the lanes.
 #[tactic(auto, unfolding(crate::specs::Legend::lanes))]
-pub(crate) fn write_lanes(frame: &Frame, text: &mut Vec<u8>) -> Result<(), AllocError>
+pub(crate) fn write_lanes(frame: &Frame<'_>, text: &mut Vec<u8>) -> Result<(), AllocError>
     ensures { OnOk result (text.new.items ≡ text.old.items ++ lanes frame.now.sheet) }
 {
     for number in 0..frame.sheet.units {
@@ -225,7 +229,12 @@ fn step_for(shown: u64) -> u64
 
 // Writes an entry's number, if it is a multiple of the step.
 #[tactic(auto, unfolding(crate::specs::Legend::number_at))]
-fn write_number(frame: &Frame, step: u64, place: u64, text: &mut Vec<u8>) -> Result<(), AllocError>
+fn write_number(
+    frame: &Frame<'_>,
+    step: u64,
+    place: u64,
+    text: &mut Vec<u8>,
+) -> Result<(), AllocError>
     requires step { step ≡ step_for (shown frame.now.sheet) }
     requires some { 0 < step }
     ensures { OnOk result (text.new.items ≡ text.old.items ++ number_at frame.now.sheet place) }
@@ -238,7 +247,7 @@ fn write_number(frame: &Frame, step: u64, place: u64, text: &mut Vec<u8>) -> Res
 }
 
 // Writes what a bar's words are, if bars have words.
-fn write_names_told(frame: &Frame, text: &mut Vec<u8>) -> Result<(), AllocError>
+fn write_names_told(frame: &Frame<'_>, text: &mut Vec<u8>) -> Result<(), AllocError>
     ensures { OnOk result (text.new.items ≡ text.old.items ++ names_told frame.now.sheet) }
 {
     if frame.sheet.style.is_compact {
@@ -249,7 +258,7 @@ fn write_names_told(frame: &Frame, text: &mut Vec<u8>) -> Result<(), AllocError>
 
 // Writes it, and what the numbers are.
 #[tactic(auto, unfolding(crate::specs::Legend::words_below))]
-fn write_words_below(frame: &Frame, text: &mut Vec<u8>) -> Result<(), AllocError>
+fn write_words_below(frame: &Frame<'_>, text: &mut Vec<u8>) -> Result<(), AllocError>
     ensures { OnOk result (text.new.items ≡ text.old.items ++ words_below frame.now.sheet) }
 {
     write_names_told(frame, text)?;
@@ -259,7 +268,7 @@ fn write_words_below(frame: &Frame, text: &mut Vec<u8>) -> Result<(), AllocError
 
 /// Writes the axis.
 #[tactic(auto, unfolding(crate::specs::Legend::axis))]
-pub(crate) fn write_axis(frame: &Frame, text: &mut Vec<u8>) -> Result<(), AllocError>
+pub(crate) fn write_axis(frame: &Frame<'_>, text: &mut Vec<u8>) -> Result<(), AllocError>
     ensures { OnOk result (text.new.items ≡ text.old.items ++ axis frame.now.sheet) }
 {
     let step = step_for(frame.shown());

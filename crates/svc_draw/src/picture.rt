@@ -12,6 +12,7 @@ use crate::legend::{write_axis, write_head, write_lanes, write_legend};
 use std::alloc::{AllocError, Global};
 use svc_history_laws::Entry;
 use svc_marks::{Bar, Mark, View, things_of};
+use svc_names::Names;
 use svc_report::ReportError;
 use svc_shapes::{
     arrow_heads, closing, joined_words, parts_close, parts_open, rim_close, rim_open,
@@ -37,7 +38,7 @@ fn write_parts(size: u32, text: &mut Vec<u8>) -> Result<(), AllocError>
 
 // Writes what lies below: these, the legend and the lanes.
 #[tactic(auto, unfolding(crate::specs::Picture::surroundings))]
-fn write_surroundings(frame: &Frame, total: u64, text: &mut Vec<u8>) -> Result<(), AllocError>
+fn write_surroundings(frame: &Frame<'_>, total: u64, text: &mut Vec<u8>) -> Result<(), AllocError>
     ensures { OnOk result (text.new.items ≡ text.old.items ++ surroundings frame.now.sheet total) }
 {
     write_head(frame, text)?;
@@ -50,7 +51,7 @@ fn write_surroundings(frame: &Frame, total: u64, text: &mut Vec<u8>) -> Result<(
 // Writes the bars, and on them the marks, layer by layer.
 #[tactic(auto, unfolding(crate::specs::Picture::single_things))]
 fn write_single_things(
-    frame: &Frame,
+    frame: &Frame<'_>,
     bars: &[Bar],
     marks: &[Mark],
     text: &mut Vec<u8>,
@@ -67,7 +68,7 @@ fn write_single_things(
 // Writes them joined.
 #[tactic(auto, unfolding(crate::specs::Picture::joined_things))]
 fn write_joined_things(
-    frame: &Frame,
+    frame: &Frame<'_>,
     bars: &[Bar],
     marks: &[Mark],
     text: &mut Vec<u8>,
@@ -83,7 +84,7 @@ fn write_joined_things(
 // Writes them as the number of entries wants it.
 #[tactic(auto, unfolding(crate::specs::Picture::things))]
 fn write_things(
-    frame: &Frame,
+    frame: &Frame<'_>,
     bars: &[Bar],
     marks: &[Mark],
     text: &mut Vec<u8>,
@@ -100,7 +101,7 @@ fn write_things(
 // Writes the words on these.
 #[tactic(auto, unfolding(crate::specs::Picture::single_words))]
 fn write_single_words(
-    frame: &Frame,
+    frame: &Frame<'_>,
     bars: &[Bar],
     marks: &[Mark],
     text: &mut Vec<u8>,
@@ -116,7 +117,7 @@ fn write_single_words(
 
 // Writes those on things that are joined.
 #[tactic(auto, unfolding(crate::specs::Picture::joined_things_words))]
-fn write_joined_words(frame: &Frame, bars: &[Bar], text: &mut Vec<u8>) -> Result<(), AllocError>
+fn write_joined_words(frame: &Frame<'_>, bars: &[Bar], text: &mut Vec<u8>) -> Result<(), AllocError>
     ensures { OnOk result (text.new.items ≡ text.old.items ++ joined_things_words frame.now.sheet bars.now) }
 {
     rim_open(text)?;
@@ -127,7 +128,7 @@ fn write_joined_words(frame: &Frame, bars: &[Bar], text: &mut Vec<u8>) -> Result
 
 // Writes these words as the number of entries wants it.
 fn write_words_on(
-    frame: &Frame,
+    frame: &Frame<'_>,
     bars: &[Bar],
     marks: &[Mark],
     text: &mut Vec<u8>,
@@ -143,7 +144,7 @@ fn write_words_on(
 
 // Writes them, unless the picture is compact.
 fn write_words(
-    frame: &Frame,
+    frame: &Frame<'_>,
     bars: &[Bar],
     marks: &[Mark],
     text: &mut Vec<u8>,
@@ -157,7 +158,7 @@ fn write_words(
 }
 
 // Writes what is said of things that are joined.
-fn write_joined_note(frame: &Frame, text: &mut Vec<u8>) -> Result<(), AllocError>
+fn write_joined_note(frame: &Frame<'_>, text: &mut Vec<u8>) -> Result<(), AllocError>
     ensures { OnOk result (text.new.items ≡ text.old.items ++ joined_note frame.now.sheet) }
 {
     if frame.is_joined() {
@@ -170,7 +171,7 @@ fn write_joined_note(frame: &Frame, text: &mut Vec<u8>) -> Result<(), AllocError
 // Writes a picture of these bars and marks, of a history of so many entries.
 #[tactic(auto, unfolding(crate::specs::Picture::picture_text))]
 fn write_picture(
-    frame: &Frame,
+    frame: &Frame<'_>,
     total: u64,
     bars: &[Bar],
     marks: &[Mark],
@@ -191,7 +192,7 @@ fn write_picture(
 // The picture of these bars and marks.
 fn picture(
     alloc: Global,
-    frame: &Frame,
+    frame: &Frame<'_>,
     total: u64,
     bars: &[Bar],
     marks: &[Mark],
@@ -203,7 +204,8 @@ fn picture(
     Ok(text)
 }
 
-/// The picture of what a view shows of a history, drawn in a style: one SVG that needs no other file.
+/// The picture of what a view shows of a history, drawn in a style and told with these names, if any are given: one SVG
+/// that needs no other file.
 ///
 /// Errors: [`ReportError::Memory`].
 #[tactic(auto, unfolding(crate::specs::Picture::picture_of))]
@@ -213,11 +215,12 @@ pub fn draw(
     units: u32,
     view: &View,
     style: Style,
+    names: Option<&Names>,
 ) -> Result<Vec<u8>, ReportError>
     requires few { length entries.now ≤ MAX_EVENTS }
     requires some_units { 1 ≤ units }
     requires few_units { units ≤ MAX_UNITS }
-    ensures ok { IfOk result (λ text. text.items ≡ picture_of entries.now units view.now style) }
+    ensures ok { IfOk result (λ text. text.items ≡ picture_of entries.now units view.now style names.entry) }
     ensures err { IfErr result IsMemoryFault }
 {
     let things = things_of(alloc, entries, view)?;
@@ -226,6 +229,7 @@ pub fn draw(
             window: things.window,
             units: units as u8,
             style,
+            names,
         },
     };
     let total = entries.len() as u64;

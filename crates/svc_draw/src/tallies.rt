@@ -107,7 +107,7 @@ fn number_of(kind: MarkKind) -> u8
 
 // The cell of a mark.
 #[tactic(auto, unfolding(crate::specs::Tallies::mark_cell))]
-fn mark_cell(frame: &Frame, mark: &Mark) -> u64
+fn mark_cell(frame: &Frame<'_>, mark: &Mark) -> u64
     ensures value { result ≡ mark_cell frame.now.sheet mark.now }
     ensures few { result < 512 }
 {
@@ -119,7 +119,7 @@ fn mark_cell(frame: &Frame, mark: &Mark) -> u64
 }
 
 // Adds a mark to its cell, if it is of a kind.
-fn add_mark(frame: &Frame, kind: MarkKind, mark: &Mark, tallies: &mut [Tally; 512])
+fn add_mark(frame: &Frame<'_>, kind: MarkKind, mark: &Mark, tallies: &mut [Tally; 512])
     ensures { tallies.new ≡ with_mark frame.now.sheet kind mark.now tallies.old }
 {
     if number_of(mark.kind) == number_of(kind) {
@@ -128,7 +128,7 @@ fn add_mark(frame: &Frame, kind: MarkKind, mark: &Mark, tallies: &mut [Tally; 51
 }
 
 /// The marks of a kind in each cell.
-pub(crate) fn tally_marks(frame: &Frame, kind: MarkKind, marks: &[Mark]) -> [Tally; 512]
+pub(crate) fn tally_marks(frame: &Frame<'_>, kind: MarkKind, marks: &[Mark]) -> [Tally; 512]
     ensures { result ≡ marks_tallied frame.now.sheet kind marks.now }
 {
     let mut tallies = [none(); 512];
@@ -152,7 +152,7 @@ pub(crate) fn stripe_of(fate: Fate) -> u8
 }
 
 // Adds a bar to its cell, if it is short and of a fate.
-fn add_bar(frame: &Frame, fate: Fate, bar: &Bar, tallies: &mut [Tally; 512])
+fn add_bar(frame: &Frame<'_>, fate: Fate, bar: &Bar, tallies: &mut [Tally; 512])
     ensures { tallies.new ≡ with_bar frame.now.sheet fate bar.now tallies.old }
 {
     if frame.is_short(bar) && stripe_of(bar.task.fate) == stripe_of(fate) {
@@ -165,7 +165,7 @@ fn add_bar(frame: &Frame, fate: Fate, bar: &Bar, tallies: &mut [Tally; 512])
 }
 
 /// The short bars of a fate in each cell.
-pub(crate) fn tally_bars(frame: &Frame, fate: Fate, bars: &[Bar]) -> [Tally; 512]
+pub(crate) fn tally_bars(frame: &Frame<'_>, fate: Fate, bars: &[Bar]) -> [Tally; 512]
     ensures { result ≡ bars_tallied frame.now.sheet fate bars.now }
 {
     let mut tallies = [none(); 512];

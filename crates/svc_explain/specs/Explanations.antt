@@ -58,7 +58,7 @@ abbrev pub script_of : Option Schedule → Option (Bor (List ℕ))
 script_of None = None
 script_of (Some schedule) = schedule.after
 
--- the files that a request reads, in this order
+-- the files that a request reads, in this order; of texts the first
 abbrev pub read_by : Request → List (Option (Bor (List ℕ)))
 read_by (request.Run run) = name_of run.image ∷ script_of run.schedule ∷ None ∷ []
 read_by (request.Sequential tasks) = name_of tasks.image ∷ None ∷ None ∷ []
@@ -70,17 +70,27 @@ read_by (request.Script scripted) = name_of scripted.image ∷ Some scripted.eve
 read_by (request.Check traced compared script) = name_of traced.image ∷ Some traced.trace ∷ None ∷ []
 read_by (request.Profile traced to by named) = name_of traced.image ∷ Some traced.trace ∷ named ∷ []
 read_by (request.Show traced shown) = name_of traced.image ∷ Some traced.trace ∷ shown.names ∷ []
-read_by (request.Draw traced picture) = name_of traced.image ∷ Some traced.trace ∷ None ∷ []
+read_by (request.Draw traced picture) = name_of traced.image ∷ Some traced.trace ∷ picture.names ∷ []
 read_by (request.Export traced exported) = name_of traced.image ∷ Some traced.trace ∷ None ∷ []
 read_by (request.Assemble assembly) = Some assembly.text ∷ None ∷ None ∷ []
 read_by (request.List image named) = name_of image ∷ named ∷ None ∷ []
 read_by _ = None ∷ None ∷ None ∷ []
 
--- a file of these can't be read
-pub record TellsUnread (read : List (Option (Bor (List ℕ)))) (text : List ℕ) : Type 0 where
-  pub place : ℕ
+-- the texts that a request reads behind the first one
+abbrev pub others_read_by : Request → List (Bor (List ℕ))
+others_read_by (request.Assemble assembly) = assembly.others.items
+others_read_by _ = []
+
+-- the request reads the file of this name
+abbrev pub Reads : Request → Bor (List ℕ) → Type 0
+Reads asked name =
+    ((place : ℕ) × (slice_get (read_by asked) place ≡ Some (Some name)))
+    ⊎ ((place : ℕ) × (slice_get (others_read_by asked) place ≡ Some name))
+
+-- a file that the request reads can't be read
+pub record TellsUnread (asked : Request) (text : List ℕ) : Type 0 where
   pub name : Bor (List ℕ)
-  pub is_read : slice_get read place ≡ Some (Some name)
+  pub is_read : Reads asked name
   pub told : text ≡ sentence (name.now ++ codes " can't be read")
 
 -- the files to write, in words
@@ -102,7 +112,7 @@ TellsUnsaved (Some name) text =
 -- which of the files of a request can't be read or saved
 abbrev pub TellsFile : Request → List ℕ → Type 0
 TellsFile asked text =
-    TellsUnread (read_by asked) text ⊎ TellsUnsaved (files_written (written_by asked) (also_written_by asked)) text
+    TellsUnread asked text ⊎ TellsUnsaved (files_written (written_by asked) (also_written_by asked)) text
 
 -- ---- a fault
 

@@ -1,11 +1,12 @@
 //! Which of the files of a request can't be read or saved.
 
 ghost use Rattle.std.specs.Prelude.{◌≡◌, ◌++◌, IfOk, IfSome, OnOk, Some, option_map, slice_get, ℕ};
-ghost use Rattle.svc_explain.specs.Explanations.{TellsFile, TellsUnread, TellsUnsaved, files_written, or_also, read_by};
+ghost use Rattle.svc_explain.specs.Explanations.{Reads, TellsFile, TellsUnread, TellsUnsaved, files_written, or_also};
+ghost use Rattle.svc_explain.specs.Explanations.{others_read_by, read_by};
 ghost use Rattle.svc_explain.specs.Explanations.{sentence};
 ghost use Rattle.svc_request.specs.Names.{also_written_by, written_by};
 
-use crate::names::{also_written_by, read_by, written_by};
+use crate::names::{also_written_by, others_read_by, read_by, written_by};
 use std::alloc::{AllocError, Global};
 use svc_answer::front::front_of;
 use svc_image::MOST_BYTES;
@@ -79,6 +80,28 @@ fn first_unread<'a, F: Files>(
     None
 }
 
+// The first of these texts that can't be read.
+fn first_unread_text<'a, F: Files>(alloc: Global, names: &[&'a str], files: &F) -> Option<&'a str>
+    ensures { IfSome result (λ name. (place : ℕ) × (slice_get names.now place ≡ Some name)) }
+{
+    for name in names {
+        if !can_read(alloc, name, files) {
+            return Some(*name);
+        }
+    }
+    None
+}
+
+// The first of the files of a request that can't be read.
+fn unread_by<'a, F: Files>(alloc: Global, request: &Request<'a>, files: &F) -> Option<&'a str>
+    ensures { IfSome result (Reads request.now) }
+{
+    match first_unread(alloc, &read_by(request), files) {
+        Some(name) => Some(name),
+        None => first_unread_text(alloc, others_read_by(request), files),
+    }
+}
+
 /// Which of the files of a request can't be read, each tried in its order, or is read and would be written, or can't be
 /// saved.
 ///
@@ -90,7 +113,7 @@ pub(crate) fn explain_files<F: Files>(
 ) -> Result<Vec<u8>, AllocError>
     ensures { IfOk result (λ text. TellsFile request.now text.items) }
 {
-    match first_unread(alloc, &read_by(request), files) {
+    match unread_by(alloc, request, files) {
         Some(name) => line(alloc, name, " can't be read"),
         None => explain_saved(alloc, request, files),
     }

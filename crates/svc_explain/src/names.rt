@@ -2,7 +2,7 @@
 
 ghost use Rattle.std.specs.Prelude.{◌≡◌, option_map};
 ghost use Rattle.svc_request.specs.Names.{also_written_by, written_by};
-ghost use Rattle.svc_explain.specs.Explanations.{name_of, read_by, script_of};
+ghost use Rattle.svc_explain.specs.Explanations.{name_of, others_read_by, read_by, script_of};
 
 use svc_request::{Request, Schedule, Source};
 
@@ -26,7 +26,7 @@ fn script_of(schedule: Option<Schedule<'_>>) -> Option<&str>
     }
 }
 
-/// The files that a request reads, in this order.
+/// The files that a request reads, in this order; of texts the first.
 pub(crate) fn read_by<'a>(request: &Request<'a>) -> [Option<&'a str>; 3]
     ensures { result ≡ read_by request.now }
 {
@@ -38,16 +38,29 @@ pub(crate) fn read_by<'a>(request: &Request<'a>) -> [Option<&'a str>; 3]
             [name_of(explored.image), explored.names, None]
         }
         Request::Script(scripted) => [name_of(scripted.image), Some(scripted.events), None],
-        Request::Check(traced, _, _) | Request::Draw(traced, _) | Request::Export(traced, _) => {
+        Request::Check(traced, _, _) | Request::Export(traced, _) => {
             [name_of(traced.image), Some(traced.trace), None]
         }
         Request::Observe(traced, names) | Request::Profile(traced, _, _, names) => {
             [name_of(traced.image), Some(traced.trace), *names]
         }
         Request::Show(traced, shown) => [name_of(traced.image), Some(traced.trace), shown.names],
+        Request::Draw(traced, picture) => {
+            [name_of(traced.image), Some(traced.trace), picture.names]
+        }
         Request::Assemble(assembly) => [Some(assembly.text), None, None],
         Request::List(image, names) => [name_of(*image), *names, None],
         Request::Help(_) | Request::Version => [None, None, None],
+    }
+}
+
+/// The texts that a request reads behind the first one.
+pub(crate) fn others_read_by<'r, 'a>(request: &'r Request<'a>) -> &'r [&'a str]
+    ensures { result.now ≡ others_read_by request.now }
+{
+    match request {
+        Request::Assemble(assembly) => assembly.others.as_slice(),
+        _ => &[],
     }
 }
 

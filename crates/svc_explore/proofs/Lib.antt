@@ -1,6 +1,7 @@
 pub mod Moving
 pub mod OnePath
 pub mod KeyLists
+pub mod Unpacking
 pub mod KeyTells
 pub mod Leading
 pub mod Exploring

@@ -146,7 +146,7 @@ pub static ROWS: [Row; 39] = [
 ];
 
 /// FENCE, other names of instructions, and names with fewer operands.
-pub static ALIASES: [Row; 54] = [
+pub static ALIASES: [Row; 55] = [
     Row(*b"mv              ", 0x0000_0013, MOVE),
     Row(*b"move            ", 0x0000_0013, MOVE),
     Row(*b"not             ", 0xfff0_4013, MOVE),
@@ -171,6 +171,7 @@ pub static ALIASES: [Row; 54] = [
     Row(*b"jr              ", 0x0000_0067, SOURCE),
     Row(*b"ret             ", 0x0000_8067, NONE),
     Row(*b"nop             ", 0x0000_0013, NONE),
+    Row(*b"unimp           ", 0xc000_1073, NONE),
     Row(*b"jal             ", 0x0000_00ef, TARGET),
     Row(*b"jalr            ", 0x0000_00e7, SOURCE),
     Row(*b"fence           ", 0x0000_000f, FENCE),

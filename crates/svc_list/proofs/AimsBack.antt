@@ -2,7 +2,7 @@
 use Rattle.std.proofs.Common.{◌≡◌, ℕ, suc, ◌+◌, ◌*◌, ◌-◌, ◌%◌, ◌^◌, ◌<◌, ◌≤◌, Bool, true, false, if◌then◌else◌, nat_lt, nat_le, List, ◌∷◌, ◌++◌, Option, Some, None, inl, inr, refl, ap, sym, ◌∙◌, arith}
 use Rattle.std.proofs.lemmas.Bool.{le-leb, lt-leb, cases_lt, cases_Bool}
 use Rattle.svc_operands.specs.declared.operands.Signed.{Signed}
-use Rattle.svc_draft.specs.Layouts.{Layout, here, place, address_of}
+use Rattle.svc_draft.specs.Layouts.{Layout, here, place, address_of, known_spot}
 use Rattle.svc_operands.specs.Characters.{past_blanks, past, name_at, number_of, value_on, push_digit, digit, character_at}
 use Rattle.svc_operands.specs.Places.{reference_named, place_of}
 use Rattle.svc_operands.specs.Expressions.{plain_at, operand_at}
@@ -45,8 +45,8 @@ placed_small d (Some s) x e = let is = some_is (place d s) x e in omega (arith, 
 address_small : (d : Layout) (name : List ℕ) (x : ℕ) → address_of d name ≡ Some x → x < 2 ^ 32
 address_small d name x e =
     elim (cases_Bool d.known) [
-      | inl known ↦ placed_small d (d.names name) x (ap (λ (b : Bool). if b then option_map (place d) (d.names name) else Some (here d)) (sym known) ∙ e)
-      | inr first ↦ let is = some_is (here d) x (ap (λ (b : Bool). if b then option_map (place d) (d.names name) else Some (here d)) (sym first) ∙ e) in omega (arith, is)
+      | inl known ↦ placed_small d (known_spot d name) x (ap (λ (b : Bool). if b then option_map (place d) (known_spot d name) else Some (here d)) (sym known) ∙ e)
+      | inr first ↦ let is = some_is (here d) x (ap (λ (b : Bool). if b then option_map (place d) (known_spot d name) else Some (here d)) (sym first) ∙ e) in omega (arith, is)
     ]
 
 -- a label's address, behind which the line ends

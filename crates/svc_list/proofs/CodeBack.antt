@@ -11,7 +11,8 @@ use Rattle.svc_draft.specs.declared.statement.Width.TheVariants as wide
 use Rattle.svc_draft.specs.declared.statement.Next.TheVariants as go
 use Rattle.svc_draft.specs.declared.statement.Statement.TheVariants as say
 use Rattle.svc_draft.specs.Options.{◌>>=◌}
-use Rattle.svc_draft.specs.Layouts.{Layout, Names, place, here, address_of, spot_here, with_symbol, with_word, going_on, after}
+use Rattle.svc_draft.specs.Sources.{Names, no_bindings}
+use Rattle.svc_draft.specs.Layouts.{Layout, place, here, address_of, spot_here, with_symbol, with_word, going_on, after}
 use Rattle.svc_operands.specs.Characters.{name_at, found}
 use Rattle.svc_instructions.specs.declared.table.Part.{Part}
 use Rattle.svc_instructions.specs.declared.table.Row.{Row}
@@ -71,6 +72,10 @@ good_next false count labelled n names low few good = λ k above h.
       | inr none ↦ rw none (good k (omega (arith, above)) h)
     ]
 
+-- a layout with these names
+abbrev pub naming : Layout → Names → Layout
+naming d names = record d { source = record d.source { names = names } }
+
 -- a layout whose next word of the text is the n-th
 pub record IsAt (known : Bool) (n : ℕ) (d : Layout) : Type 0 where
   pub text : d.section ≡ section.Text
@@ -78,6 +83,7 @@ pub record IsAt (known : Bool) (n : ℕ) (d : Layout) : Type 0 where
   pub pass : d.known ≡ known
   pub line : d.next ≡ go.Line
   pub near : Near d
+  pub bare : d.source.bindings ≡ no_bindings
 
 -- a label's line
 label_part : (a : ℕ) (d e : Layout) → d.next ≡ go.Line → with_symbol (label_text a) (spot_here d) d ≡ Some e → Leads (label_text a ++ (58 ∷ [])) d e
@@ -94,27 +100,27 @@ label_leads a d e line next laid =
     subst (λ (text : List ℕ). Leads text d e) (append_assoc (label_text a) (58 ∷ []) (10 ∷ []))
     (leads_both (label_text a ++ (58 ∷ [])) (10 ∷ []) d e e (label_part a d e line laid) (empty_part e next))
 
-named_leads : (known : Bool) (a : ℕ) (d : Layout) → d.section ≡ section.Text → 4 * length d.text ≡ a → d.known ≡ known → d.next ≡ go.Line
-    → ((known ≡ true) × (d.names (label_text a) ≡ Some (text_spot a))) ⊎ ((known ≡ false) × (d.names (label_text a) ≡ None))
-    → Leads (line_of (Labels a)) d (record d { names = named_in known d.names a })
-named_leads known a d text same pass line (inl second) =
-    rw (second.0) (label_leads a d d line line (label_again d a (pass ∙ second.0) second.1 (spot_is d a text same)))
-named_leads known a d text same pass line (inr first) =
-    rw (first.0) (label_leads a d (record d { names = update bytes_eq d.names (label_text a) (Some (text_spot a)) }) line line (label_found d a (pass ∙ first.0) first.1 (spot_is d a text same)))
+named_leads : (known : Bool) (a : ℕ) (d : Layout) → d.section ≡ section.Text → 4 * length d.text ≡ a → d.known ≡ known → d.next ≡ go.Line → d.source.bindings ≡ no_bindings
+    → ((known ≡ true) × (d.source.names (label_text a) ≡ Some (text_spot a))) ⊎ ((known ≡ false) × (d.source.names (label_text a) ≡ None))
+    → Leads (line_of (Labels a)) d (naming d (named_in known d.source.names a))
+named_leads known a d text same pass line bare (inl second) =
+    rw (second.0) (label_leads a d d line line (label_again d a (pass ∙ second.0) bare second.1 (spot_is d a text same)))
+named_leads known a d text same pass line bare (inr first) =
+    rw (first.0) (label_leads a d (naming d (update bytes_eq d.source.names (label_text a) (Some (text_spot a)))) line line (label_found d a (pass ∙ first.0) first.1 (spot_is d a text same)))
 
 good_here : (known : Bool) (count : ℕ) (labelled : ℕ → Bool) (n : ℕ) (names : Names) → n < count → labelled n ≡ true → Good known count labelled n names
     → ((known ≡ true) × (names (label_text (4 * n)) ≡ Some (text_spot (4 * n)))) ⊎ ((known ≡ false) × (names (label_text (4 * n)) ≡ None))
 good_here true count labelled n names low holds good = inl (refl, good n low holds)
 good_here false count labelled n names low holds good = inr (refl, good n (omega arith) low)
 
-pub labels_lead : (known : Bool) (count : ℕ) (labelled : ℕ → Bool) (n : ℕ) (d : Layout) → n < count → IsAt known n d → Good known count labelled n d.names → Leads (text_of (labels labelled n)) d (record d { names = labelled_in known labelled n d.names })
+pub labels_lead : (known : Bool) (count : ℕ) (labelled : ℕ → Bool) (n : ℕ) (d : Layout) → n < count → IsAt known n d → Good known count labelled n d.source.names → Leads (text_of (labels labelled n)) d (naming d (labelled_in known labelled n d.source.names))
 unfolding labels text_of
 labels_lead known count labelled n d low at good =
     let four : 4 * length d.text ≡ 4 * n = ap (λ (x : ℕ). 4 * x) at.words in
     elim (two (labelled n)) [
       | inl holds ↦
-          let e = record d { names = named_in known d.names (4 * n) } in
-          rw holds (leads_both (line_of (Labels (4 * n))) [] d e e (named_leads known (4 * n) d at.text four at.pass at.line (good_here known count labelled n d.names low holds good)) (leads_none e))
+          let e = naming d (named_in known d.source.names (4 * n)) in
+          rw holds (leads_both (line_of (Labels (4 * n))) [] d e e (named_leads known (4 * n) d at.text four at.pass at.line at.bare (good_here known count labelled n d.source.names low holds good)) (leads_none e))
       | inr fails ↦ rw fails (leads_none d)
     ]
 
@@ -144,10 +150,10 @@ here_is d a text same low =
     let whole : (0 + a) % 2 ^ 32 ≡ a = omega (arith, low) in
     ap (place d) (spot_is d a text same) ∙ whole
 
-pub known_address : (d : Layout) (t : ℕ) → d.known ≡ true → t < 2 ^ 32 → d.names (label_text t) ≡ Some (text_spot t) → address_of d (label_text t) ≡ Some t
-known_address d t second low named =
+pub known_address : (d : Layout) (t : ℕ) → d.known ≡ true → d.source.bindings ≡ no_bindings → t < 2 ^ 32 → d.source.names (label_text t) ≡ Some (text_spot t) → address_of d (label_text t) ≡ Some t
+known_address d t second bare low named =
     let whole : (0 + t) % 2 ^ 32 ≡ t = omega (arith, low) in
-    rw (second, named) (ap Some whole)
+    rw (second, bare, named) (ap Some whole)
 
 pub unknown_address : (d : Layout) (t : ℕ) → d.known ≡ false → address_of d (label_text t) ≡ Some (here d)
 unknown_address d t first = rw first refl
@@ -179,11 +185,11 @@ instruction_laid d w text room =
     let in_text : after [] (say.Instruction w) d ≡ with_word w d = rw text refl in
     in_text ∙ one_word d w room
 
-aimable : (known : Bool) (count : ℕ) (labelled : ℕ → Bool) (n : ℕ) (d : Layout) (t : ℕ) → d.known ≡ known → count ≤ 65536 → t % 4 ≡ 0 → t < 4 * count → labelled (t / 4) ≡ true → Good known count labelled n d.names → Aimable known d t
-aimable true count labelled n d t pass few whole low marked good =
+aimable : (known : Bool) (count : ℕ) (labelled : ℕ → Bool) (n : ℕ) (d : Layout) (t : ℕ) → d.known ≡ known → d.source.bindings ≡ no_bindings → count ≤ 65536 → t % 4 ≡ 0 → t < 4 * count → labelled (t / 4) ≡ true → Good known count labelled n d.source.names → Aimable known d t
+aimable true count labelled n d t pass bare few whole low marked good =
     let four : 4 * (t / 4) ≡ t = omega (arith, whole) in
-    (pass, known_address d t pass (omega (arith, low, few)) (subst (λ (x : ℕ). d.names (label_text x) ≡ Some (text_spot x)) four (good (t / 4) (omega (arith, low)) marked)))
-aimable false count labelled n d t pass few whole low marked good = (pass, unknown_address d t pass)
+    (pass, known_address d t pass bare (omega (arith, low, few)) (subst (λ (x : ℕ). d.source.names (label_text x) ≡ Some (text_spot x)) four (good (t / 4) (omega (arith, low)) marked)))
+aimable false count labelled n d t pass bare few whole low marked good = (pass, unknown_address d t pass)
 
 reaches : (known : Bool) (count : ℕ) (d : Layout) (ps : List Part) (w address : ℕ) (to : Option ℕ) → placed count (led_along address w ps) ≡ to → here d ≡ address → ((t : ℕ) → to ≡ Some t → Aimable known d t) → Reaches known d to ps w
 reaches known count d ps w address None leads at aims = tt
@@ -194,7 +200,7 @@ reaches false count d ps w address (Some t) leads at aims = aims t refl
 
 -- the line of a word of the text
 coded_row : (given : Option (List Name)) → AreNamed given → (known : Bool) (count : ℕ) (labelled : ℕ → Bool) (n : ℕ) (d : Layout) (w : ℕ) (row : Option Row) (to : Option ℕ) → row_of w ≡ row → found row (λ r. target_by count (4 * n) w r) None ≡ to → w < 2 ^ 32 → n < count → count ≤ 65536
-    → IsAt known n d → Good known count labelled (suc n) d.names → ((t : ℕ) → to ≡ Some t → labelled (t / 4) ≡ true)
+    → IsAt known n d → Good known count labelled (suc n) d.source.names → ((t : ℕ) → to ≡ Some t → labelled (t / 4) ≡ true)
     → Leads (line_of (Codes w to (word_note given (4 * n) w))) d (worded d (laid_as row to known w))
 unfolding statement_text
 coded_row given are known count labelled n d w None to row leads fit low few at good marked =
@@ -205,7 +211,7 @@ coded_row given are known count labelled n d w None to row leads fit low few at 
 coded_row given are known count labelled n d w (Some r) to row leads fit low few at good marked =
     let four : 4 * length d.text ≡ 4 * n = ap (λ (x : ℕ). 4 * x) at.words in
     let place = here_is d (4 * n) at.text four (omega (arith, low, few)) in
-    let aims = λ (t : ℕ) (e : to ≡ Some t). let it = placed_is count (led_along (4 * n) w (parts_of r)) t (leads ∙ e) in aimable known count labelled (suc n) d t at.pass few it.1 it.2 (marked t e) good in
+    let aims = λ (t : ℕ) (e : to ≡ Some t). let it = placed_is count (led_along (4 * n) w (parts_of r)) t (leads ∙ e) in aimable known count labelled (suc n) d t at.pass at.bare few it.1 it.2 (marked t e) good in
     let reached = reaches known count d (parts_of r) w (4 * n) to leads place aims in
     let read = refilled known to (parts_of r) w r.1 in
     row_leads d (worded d read) to w read r (word_note given (4 * n) w) at.line row (word_ends given (4 * n) w are)
@@ -213,7 +219,7 @@ coded_row given are known count labelled n d w (Some r) to row leads fit low few
     (instruction_laid d read at.text (omega (arith, at.words, low, few)))
 
 coded_leads : (given : Option (List Name)) → AreNamed given → (known : Bool) (count : ℕ) (labelled : ℕ → Bool) (n : ℕ) (d : Layout) (w : ℕ) → w < 2 ^ 32 → n < count → count ≤ 65536
-    → IsAt known n d → Good known count labelled (suc n) d.names → ((t : ℕ) → target_of count (4 * n) w ≡ Some t → labelled (t / 4) ≡ true)
+    → IsAt known n d → Good known count labelled (suc n) d.source.names → ((t : ℕ) → target_of count (4 * n) w ≡ Some t → labelled (t / 4) ≡ true)
     → Leads (line_of (coded given count (4 * n) w)) d (worded d (laid_word known count (4 * n) w))
 coded_leads given are known count labelled n d w fit low few at good marked =
     coded_row given are known count labelled n d w (row_of w) (target_of count (4 * n) w) refl refl fit low few at good marked
@@ -226,28 +232,28 @@ HaveLabels count labelled n (w ∷ ws) = ((t : ℕ) → target_of count (4 * n) 
 -- the layout behind the text
 abbrev pub with_code : Bool → ℕ → (ℕ → Bool) → ℕ → List (ℕ × Option ℕ) → List ℕ → Layout → Layout
 with_code known count labelled n ms ws d =
-    record d { entries = d.entries ++ entries_of ms; limits = d.limits ++ limits_of ms; text = d.text ++ words_in known count n ws; names = names_in known labelled n ws d.names }
+    record d { entries = d.entries ++ entries_of ms; limits = d.limits ++ limits_of ms; text = d.text ++ words_in known count n ws; source = record d.source { names = names_in known labelled n ws d.source.names } }
 
 next_at_word : (known : Bool) (n : ℕ) (d : Layout) (w : ℕ) → IsAt known n d → IsAt known (suc n) (worded d w)
-next_at_word known n d w at = record { text = at.text; words = omega (arith, at.words, length-append d.text (w ∷ [])); pass = at.pass; line = at.line; near = at.near }
+next_at_word known n d w at = record { text = at.text; words = omega (arith, at.words, length-append d.text (w ∷ [])); pass = at.pass; line = at.line; near = at.near; bare = at.bare }
 
 -- a word, and what stands behind it
 word_and_more : (given : Option (List Name)) → AreNamed given → (known : Bool) (count : ℕ) (labelled : ℕ → Bool) (n : ℕ) (d : Layout) (w : ℕ) → n < count → count ≤ 65536 → w < 2 ^ 32 → IsAt known n d
-    → Good known count labelled (suc n) d.names → ((t : ℕ) → target_of count (4 * n) w ≡ Some t → labelled (t / 4) ≡ true)
+    → Good known count labelled (suc n) d.source.names → ((t : ℕ) → target_of count (4 * n) w ≡ Some t → labelled (t / 4) ≡ true)
     → (rest : List Line) (e : Layout) → Leads (text_of rest) (worded d (laid_word known count (4 * n) w)) e → Leads (line_of (coded given count (4 * n) w) ++ text_of rest) d e
 word_and_more given are known count labelled n d w low few fit at good marked rest e h =
     leads_both (line_of (coded given count (4 * n) w)) (text_of rest) d (worded d (laid_word known count (4 * n) w)) e
     (coded_leads given are known count labelled n d w fit low few at good marked) h
 
 -- a label, if there is one, and what stands behind it
-label_and_more : (known : Bool) (count : ℕ) (labelled : ℕ → Bool) (n : ℕ) (d : Layout) → n < count → IsAt known n d → Good known count labelled n d.names
-    → (rest : List Line) (e : Layout) → Leads (text_of rest) (record d { names = labelled_in known labelled n d.names }) e → Leads (text_of (labels labelled n ++ rest)) d e
+label_and_more : (known : Bool) (count : ℕ) (labelled : ℕ → Bool) (n : ℕ) (d : Layout) → n < count → IsAt known n d → Good known count labelled n d.source.names
+    → (rest : List Line) (e : Layout) → Leads (text_of rest) (naming d (labelled_in known labelled n d.source.names)) e → Leads (text_of (labels labelled n ++ rest)) d e
 label_and_more known count labelled n d low at good rest e h =
     subst (λ (text : List ℕ). Leads text d e) (sym (text_both (labels labelled n) rest))
-    (leads_both (text_of (labels labelled n)) (text_of rest) d (record d { names = labelled_in known labelled n d.names }) e (labels_lead known count labelled n d low at good) h)
+    (leads_both (text_of (labels labelled n)) (text_of rest) d (naming d (labelled_in known labelled n d.source.names)) e (labels_lead known count labelled n d low at good) h)
 
 pub code_leads : (given : Option (List Name)) → AreNamed given → (known : Bool) (count : ℕ) (labelled : ℕ → Bool) → count ≤ 65536 → (ms : List (ℕ × Option ℕ)) (ws : List ℕ) (n : ℕ) (d : Layout) → n + length ws ≡ count → AllByRecursion (λ w. w < 2 ^ 32) ws → AllByRecursion (λ (m : ℕ × Option ℕ). HasText (say.Entry m.1)) ms
-    → AreMarks d.version (4 * n) (4 * (n + length ws)) ms → IsAt known n d → length d.entries + length ms ≤ 1024 → Free n d.entries → Good known count labelled n d.names → HaveLabels count labelled n ws
+    → AreMarks d.version (4 * n) (4 * (n + length ws)) ms → IsAt known n d → length d.entries + length ms ≤ 1024 → Free n d.entries → Good known count labelled n d.source.names → HaveLabels count labelled n ws
     → Leads (text_of (code given count labelled n ms ws)) d (with_code known count labelled n ms ws d)
 unfolding text_of code
 code_leads given are known count labelled few [] [] n d all fit texts placed at room free good named =
@@ -255,9 +261,9 @@ code_leads given are known count labelled few [] [] n d all fit texts placed at 
 code_leads given are known count labelled few (m ∷ ms) [] n d all fit texts placed at room free good named = absurd (omega (arith, placed.0, placed.2))
 code_leads given are known count labelled few [] (w ∷ ws) n d all fit texts placed at room free good named =
     let low : n < count = omega (arith, all) in
-    let e₁ = record d { names = labelled_in known labelled n d.names } in
-    let at₁ : IsAt known n e₁ = record { text = at.text; words = at.words; pass = at.pass; line = at.line; near = at.near } in
-    let good₁ = good_next known count labelled n d.names low few good in
+    let e₁ = naming d (labelled_in known labelled n d.source.names) in
+    let at₁ : IsAt known n e₁ = record { text = at.text; words = at.words; pass = at.pass; line = at.line; near = at.near; bare = at.bare } in
+    let good₁ = good_next known count labelled n d.source.names low few good in
     let v = laid_word known count (4 * n) w in
     let e₂ = worded e₁ v in
     let rest = code given count labelled (suc n) [] ws in
@@ -269,16 +275,16 @@ code_leads given are known count labelled few [] (w ∷ ws) n d all fit texts pl
     (ap (λ (xs : List ℕ). record end { text = xs }) (append_assoc d.text (v ∷ []) (words_in known count (suc n) ws))) whole
 code_leads given are known count labelled few (m ∷ ms) (w ∷ ws) n d all fit texts placed at room free good named =
     let low : n < count = omega (arith, all) in
-    let e₁ = record d { names = labelled_in known labelled n d.names } in
-    let at₁ : IsAt known n e₁ = record { text = at.text; words = at.words; pass = at.pass; line = at.line; near = at.near } in
-    let good₁ = good_next known count labelled n d.names low few good in
+    let e₁ = naming d (labelled_in known labelled n d.source.names) in
+    let at₁ : IsAt known n e₁ = record { text = at.text; words = at.words; pass = at.pass; line = at.line; near = at.near; bare = at.bare } in
+    let good₁ = good_next known count labelled n d.source.names low few good in
     let v = laid_word known count (4 * n) w in
     let words = words_in known count (suc n) ws in
     elim (cases_eq m.0 (4 * n)) [
       | inl same ↦
           let here : (m.0 == 4 * n) ≡ true = eq-eqb m.0 (4 * n) same in
           let e₂ = marked e₁ m in
-          let at₂ : IsAt known n e₂ = record { text = at.text; words = at.words; pass = at.pass; line = at.line; near = at.near } in
+          let at₂ : IsAt known n e₂ = record { text = at.text; words = at.words; pass = at.pass; line = at.line; near = at.near; bare = at.bare } in
           let e₃ = worded e₂ v in
           let rest = code given count labelled (suc n) ms ws in
           let end = with_code known count labelled (suc n) ms ws e₃ in

@@ -1,5 +1,5 @@
 -- A label is read back from its text, and tells its address.
-use Rattle.std.proofs.Common.{◌≡◌, ℕ, suc, ◌+◌, ◌*◌, ◌-◌, ◌/◌, ◌%◌, ◌^◌, ◌<◌, Bool, true, false, nat_lt, List, [], ◌∷◌, ◌++◌, length, drop, slice_index, Option, Some, None, inl, inr, refl, ap, sym, ◌∙◌, arith, if◌then◌else◌, take_while, option_map}
+use Rattle.std.proofs.Common.{◌≡◌, ℕ, suc, ◌+◌, ◌*◌, ◌-◌, ◌/◌, ◌%◌, ◌^◌, ◌<◌, Bool, true, false, not, ◌&&◌, nat_lt, List, [], ◌∷◌, ◌++◌, length, drop, slice_index, Option, Some, None, inl, inr, refl, ap, sym, ◌∙◌, arith, if◌then◌else◌, take_while, option_map}
 use Rattle.std.specs.Str.{bytes_eq}
 use Rattle.std.specs.Map.{update}
 use Rattle.std.proofs.lemmas.Bool.{and_parts, and_from, le-leb, lt-leb, cases_lt, eq-eqb, agree_below_at, false_from_ne_true}
@@ -8,7 +8,8 @@ use Rattle.std.proofs.lemmas.Slice.Eq.{bytes_eq-Decides}
 use Rattle.svc_draft.specs.declared.statement.Section.TheVariants as section
 use Rattle.svc_draft.specs.declared.statement.Spot.{Spot}
 use Rattle.svc_draft.specs.declared.statement.Statement.TheVariants as say
-use Rattle.svc_draft.specs.Layouts.{Layout, place, spot_here, is_place, with_symbol}
+use Rattle.svc_draft.specs.Sources.{no_bindings}
+use Rattle.svc_draft.specs.Layouts.{Layout, place, spot_here, is_place, is_shared_twice, with_name, with_name_again, with_symbol}
 use Rattle.svc_operands.specs.Characters.{is_name, past_blanks, past, name_at, past_name, behind}
 use Rattle.svc_asm_lines.specs.Statements.{statement_at, line_at}
 use Rattle.svc_list.specs.Listings.{hex_digit, hex_text, label_text}
@@ -137,18 +138,23 @@ pub spot_is : (d : Layout) (a : ℕ) → d.section ≡ section.Text → 4 * leng
 spot_is d a text same = rw (text, same) refl
 
 -- the first pass finds the label, and the second one it again
-pub label_found : (d : Layout) (a : ℕ) → d.known ≡ false → d.names (label_text a) ≡ None → spot_here d ≡ text_spot a
-    → with_symbol (label_text a) (spot_here d) d ≡ Some (record d { names = update bytes_eq d.names (label_text a) (Some (text_spot a)) })
-unfolding with_symbol
+pub label_found : (d : Layout) (a : ℕ) → d.known ≡ false → d.source.names (label_text a) ≡ None → spot_here d ≡ text_spot a
+    → with_symbol (label_text a) (spot_here d) d ≡ Some (record d { source = record d.source { names = update bytes_eq d.source.names (label_text a) (Some (text_spot a)) } })
+unfolding with_name
 label_found d a first fresh spot = rw (spot, first, fresh) refl
 
 if_true : (b : Bool) (x y : Option Layout) → b ≡ true → (if b then x else y) ≡ x
 if_true true x y h = refl
 if_true false x y h = absurd (cc)
 
-pub label_again : (d : Layout) (a : ℕ) → d.known ≡ true → d.names (label_text a) ≡ Some (text_spot a) → spot_here d ≡ text_spot a → with_symbol (label_text a) (spot_here d) d ≡ Some d
-unfolding with_symbol
-label_again d a second known spot =
-    let same : is_place (place d (spot_here d)) (option_map (place d) (d.names (label_text a))) ≡ true =
+-- no other text has a name that is bound to nothing
+bound_to_none : (d : Layout) (name : List ℕ) → d.source.bindings ≡ no_bindings → not (is_shared_twice d name) ≡ true
+bound_to_none d name bare = rw bare refl
+
+pub label_again : (d : Layout) (a : ℕ) → d.known ≡ true → d.source.bindings ≡ no_bindings → d.source.names (label_text a) ≡ Some (text_spot a) → spot_here d ≡ text_spot a → with_symbol (label_text a) (spot_here d) d ≡ Some d
+unfolding with_name_again
+label_again d a second bare known spot =
+    let placed : is_place (place d (spot_here d)) (option_map (place d) (d.source.names (label_text a))) ≡ true =
     ap (λ (o : Option Spot). is_place (place d (spot_here d)) (option_map (place d) o)) known ∙ eq-eqb (place d (text_spot a)) (place d (spot_here d)) (ap (place d) (sym spot)) in
-    if_true d.known _ _ second ∙ if_true (is_place (place d (spot_here d)) (option_map (place d) (d.names (label_text a)))) (Some d) None same
+    let same : (is_place (place d (spot_here d)) (option_map (place d) (d.source.names (label_text a))) && not (is_shared_twice d (label_text a))) ≡ true = rw (placed, bound_to_none d (label_text a) bare) refl in
+    if_true d.known _ _ second ∙ if_true (is_place (place d (spot_here d)) (option_map (place d) (d.source.names (label_text a))) && not (is_shared_twice d (label_text a))) (Some d) None same

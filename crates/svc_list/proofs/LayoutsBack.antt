@@ -20,7 +20,8 @@ use Rattle.svc_draft.specs.declared.statement.Next.TheVariants as go
 use Rattle.svc_draft.specs.declared.statement.Statement.TheVariants as say
 use Rattle.svc_draft.specs.Options.{◌>>=◌}
 use Rattle.svc_draft.specs.Areas.{with_more}
-use Rattle.svc_draft.specs.Layouts.{is_limit, Layout, Names, no_names, no_distances, no_branches, no_weak, with_word, with_bytes, with_value, with_version, with_read_only, with_own, with_place, with_entry, with_limit, with_register, data_size, going_on, after, limits_in, data_in, image_laid}
+use Rattle.svc_draft.specs.Sources.{Names, Source, no_source}
+use Rattle.svc_draft.specs.Layouts.{is_limit, Layout, no_distances, no_branches, with_word, with_bytes, with_value, with_version, with_read_only, with_own, with_place, with_entry, with_limit, with_register, data_size, going_on, after, limits_in, data_in, image_laid}
 use Rattle.svc_names.specs.declared.name.Name.{Name}
 use Rattle.svc_list.specs.Listings.{Line, Says, Labels, Codes, Starts, bare, setting, settings, own_limit, marks, data_lines, all_data}
 
@@ -36,6 +37,14 @@ after_all (Starts a ∷ ls) d = None
 abbrev pub common_limit : Version → ℕ → ℕ
 common_limit version.One limit = limit
 common_limit version.Two limit = 65536
+
+-- a text whose names no other finds, and the texts that a pass knows before it begins
+abbrev pub plain : Names → Source
+plain names = record no_source { names = names }
+
+abbrev pub texts_for : Bool → Names → List Source
+texts_for false names = []
+texts_for true names = plain names ∷ []
 
 -- the layout of an image, in a pass with these names
 abbrev pub layout_for : Names → Bool → ℕ → Image → Layout
@@ -55,13 +64,16 @@ layout_for names known from img = record {
   bss_step = 4;
   section = section.Data;
   next = go.Line;
-  names = names;
+  number = 0;
+  source = plain names;
+  found = [];
   known = known;
   data_from = 0;
   bss_from = from;
-  before = no_names;
+  sources = texts_for known names;
+  placed = known;
   lacks_names = false;
-  locals = [];
+  lacks_places = false;
   passed = 0;
   distances = no_distances;
   has_distances = false;
@@ -69,7 +81,6 @@ layout_for names known from img = record {
   turned = no_branches;
   turns_all = false;
   grew = false;
-  weak = no_weak;
 }
 
 -- lines after lines

@@ -5,6 +5,7 @@ use Rattle.std.proofs.lemmas.Bool.{and_parts, and_from, not-true, le-leb, ne_eqb
 use Rattle.std.proofs.lemmas.Fmt.{decimal_by_steps}
 use Rattle.std.proofs.lemmas.List.{length-append}
 use Rattle.svc_draft.specs.Options.{◌>>=◌}
+use Rattle.svc_operands.specs.declared.characters.TheConstants.{TEXT_END}
 use Rattle.svc_operands.specs.Characters.{is_space, opens, is_name, past_blanks, past_spaces, begins_over, is_over, past, name_at, past_name, behind, digit, push_digit, value_on, behind_zero, number_of}
 use Rattle.svc_operands.specs.Expressions.{operator_at}
 use Rattle.svc_asm_lines.specs.Statements.{behind_end, end_at}
@@ -84,7 +85,11 @@ over_behind (c ∷ rest) tail h =
             | inr none ↦
                 elim (cases_Bool (c == 59)) [
                   | inl more ↦ rw (other, none, more) refl
-                  | inr last ↦ absurd (let gone : None ≡ Some tail = sym (rw (other, none, last) refl) ∙ h in cc)
+                  | inr less ↦
+                      elim (cases_Bool (c == TEXT_END)) [
+                        | inl next ↦ rw (other, none, less, next) refl
+                        | inr last ↦ absurd (let gone : None ≡ Some tail = sym (rw (other, none, less, last) refl) ∙ h in cc)
+                      ]
                 ]
           ]
     ]

@@ -19,7 +19,8 @@ use Rattle.svc_draft.specs.declared.statement.Section.TheVariants as section
 use Rattle.svc_draft.specs.declared.statement.Next.TheVariants as go
 use Rattle.svc_draft.specs.declared.statement.Statement.TheVariants as say
 use Rattle.svc_draft.specs.Areas.{filled, data_of, some_word}
-use Rattle.svc_draft.specs.Layouts.{Layout, Names, no_names, zeros, address_of, empty, multiple, with_version, IsMadeOf}
+use Rattle.svc_draft.specs.Layouts.{Layout, zeros, address_of, empty, multiple, with_source, with_version, IsMadeOf}
+use Rattle.svc_draft.specs.Sources.{Names, no_names, no_bindings, first_by, shared_spot}
 use Rattle.svc_image.proofs.Wordwise.{length-bytes_of_words}
 use Rattle.svc_operands.specs.Characters.{is_name, past_name, behind}
 use Rattle.svc_operands.specs.Values.{value_at}
@@ -32,7 +33,7 @@ use Rattle.svc_list.proofs.LinesBack.{IsRead, by_directive, directive_stops, unl
 use Rattle.svc_list.proofs.NotesBack.{AreNamed, bare_ends, datum_ends}
 use Rattle.svc_list.proofs.LabelsBack.{text_spot}
 use Rattle.svc_list.proofs.AimsBack.{label_value}
-use Rattle.svc_list.proofs.LayoutsBack.{Above, common_limit, layout_for, registers_in, settings_laid, are_zeros, marks_are, marks_few, limit_laid, marks_entries, marks_limits, limits_of, all_data_laid, image_back}
+use Rattle.svc_list.proofs.LayoutsBack.{Above, common_limit, layout_for, registers_in, settings_laid, are_zeros, marks_are, marks_few, limit_laid, marks_entries, marks_limits, limits_of, all_data_laid, image_back, plain, texts_for}
 use Rattle.svc_list.proofs.Leading.{Leads, given_by, one_leads, leads_none, leads_both, leads_at, leads_whole, line_leads, lines_lead}
 use Rattle.svc_list.proofs.CodeBack.{Good, HaveLabels, with_code, words_in, names_in, known_address, unknown_address, here_is, placed_is, code_leads, words_known, names_known, names_found}
 use Rattle.svc_list.proofs.Printing.{listing_parts}
@@ -170,32 +171,36 @@ abbrev Begins : Bool → Names → ℕ → Type 0
 Begins true names start = (start < 2 ^ 32) × (names (label_text start) ≡ Some (text_spot start))
 Begins false names start = Unit {0}
 
-start_at_label : (known : Bool) (d : Layout) (start : ℕ) → d.known ≡ known → d.section ≡ section.Text → d.text ≡ [] → Begins known d.names start → address_of d (label_text start) ≡ Some (begun known start)
-start_at_label true d start pass text none begins = known_address d start pass begins.0 begins.1
-start_at_label false d start pass text none begins =
+start_at_label : (known : Bool) (d : Layout) (start : ℕ) → d.known ≡ known → d.section ≡ section.Text → d.text ≡ [] → d.source.bindings ≡ no_bindings → Begins known d.source.names start → address_of d (label_text start) ≡ Some (begun known start)
+start_at_label true d start pass text none bare begins = known_address d start pass bare begins.0 begins.1
+start_at_label false d start pass text none bare begins =
     let first : 4 * length d.text ≡ 0 = ap (λ (xs : List ℕ). 4 * length xs) none in
     unknown_address d start pass ∙ ap Some (here_is d 0 text first (omega arith))
 
+-- a pass over the listing begins
+abbrev opening : Names → Bool → ℕ → Layout
+opening names known from = record (empty (texts_for known names) known 0 from) { source = plain names }
+
 -- the layout behind the lines before the registers
 abbrev headed : Names → Bool → ℕ → Version → (limit start : ℕ) → Layout
-headed names known from v limit start = record (empty names known 0 from) { version = Some v; limit = common_limit v limit; start = Some start }
+headed names known from v limit start = record (opening names known from) { version = Some v; limit = common_limit v limit; start = Some start }
 
 head_leads : (v : Version) (limit start : ℕ) (names : Names) (known : Bool) (from : ℕ) → IsLimit limit → Begins known names start
-    → Leads (text_of (head_lines v limit start)) (empty names known 0 from) (headed names known from v limit (begun known start))
+    → Leads (text_of (head_lines v limit start)) (opening names known from) (headed names known from v limit (begun known start))
 unfolding text_of with_version
 head_leads version.One limit start names known from fit begins =
-    let d₀ = empty names known 0 from in
+    let d₀ = opening names known from in
     let d₁ = record d₀ { version = Some version.One } in
     let d₂ = record d₁ { limit = limit } in
     let d₃ = record d₂ { start = Some (begun known start) } in
-    let last = leads_both (line_of (Starts start)) [] d₂ d₃ d₃ (start_leads d₂ start (begun known start) refl (start_at_label known d₂ start refl refl refl begins)) (leads_none d₃) in
+    let last = leads_both (line_of (Starts start)) [] d₂ d₃ d₃ (start_leads d₂ start (begun known start) refl (start_at_label known d₂ start refl refl refl refl begins)) (leads_none d₃) in
     let limits = leads_both (line_of (bare (say.Limit limit))) (line_of (Starts start) ++ []) d₁ d₂ d₃ (line_leads (say.Limit limit) [] d₁ d₂ refl (omega (arith, fit.1)) bare_ends (limit_laid limit d₁ fit)) last in
     leads_both (line_of (bare (say.Version version.One))) (line_of (bare (say.Limit limit)) ++ (line_of (Starts start) ++ [])) d₀ d₁ d₃ (line_leads (say.Version version.One) [] d₀ d₁ refl tt bare_ends refl) limits
 head_leads version.Two limit start names known from fit begins =
-    let d₀ = empty names known 0 from in
+    let d₀ = opening names known from in
     let d₁ = record d₀ { version = Some version.Two } in
     let d₃ = record d₁ { start = Some (begun known start) } in
-    let last = leads_both (line_of (Starts start)) [] d₁ d₃ d₃ (start_leads d₁ start (begun known start) refl (start_at_label known d₁ start refl refl refl begins)) (leads_none d₃) in
+    let last = leads_both (line_of (Starts start)) [] d₁ d₃ d₃ (start_leads d₁ start (begun known start) refl (start_at_label known d₁ start refl refl refl refl begins)) (leads_none d₃) in
     leads_both (line_of (bare (say.Version version.Two))) (line_of (Starts start) ++ []) d₀ d₁ d₃ (line_leads (say.Version version.Two) [] d₀ d₁ refl tt bare_ends refl) last
 
 -- each target has a label
@@ -224,17 +229,18 @@ unfolding is_labelled
 start_labelled img k same any =
     or_left (list_any (λ e. e == 4 * k) img.entries) (is_target (length img.text) (4 * k) 0 img.text) (subst (λ (s : ℕ). list_any (λ e. e == s) img.entries ≡ true) (sym same) any)
 
-none_far : (known : Bool) → (known && false) ≡ false
-none_far true = refl
-none_far false = refl
+none_shared : (known : Bool) (names : Names) (name : List ℕ) → shared_spot (texts_for known names) name ≡ None
+unfolding first_by
+none_shared true names name = refl
+none_shared false names name = refl
 
 -- the layout that a pass makes of an image
 abbrev passed : Names → Bool → ℕ → Image → Layout
 passed names known from img =
-    record (layout_for (names_in known (is_labelled img.entries img.text) 0 img.text names) known from img) { start = Some (begun known img.start); text = words_in known (length img.text) 0 img.text }
+    record (layout_for (names_in known (is_labelled img.entries img.text) 0 img.text names) known from img) { sources = texts_for known names; start = Some (begun known img.start); text = words_in known (length img.text) 0 img.text }
 
 pass_leads : (given : Option (List Name)) → AreNamed given → (names : Names) (known : Bool) (from : ℕ) (img : Image) → IsImage img → Begins known names img.start → Good known (length img.text) (is_labelled img.entries img.text) 0 names
-    → Leads (listing_of given img) (empty names known 0 from) (passed names known from img)
+    → Leads (listing_of given img) (opening names known from) (passed names known from img)
 pass_leads given are names known from img sound begins good =
     let v = img.version in
     let limit = slice_index img.limits 0 in
@@ -243,7 +249,7 @@ pass_leads given are names known from img sound begins good =
     let ms = marks v img.entries img.limits in
     let fits = λ (xs : List ℕ) (h : AreWords xs). recursion_from_All (λ w. w < 2 ^ 32) xs h in
     let limits = limits_small img.limits sound.limits_fit in
-    let d₀ = empty names known 0 from in
+    let d₀ = opening names known from in
     let d₁ = headed names known from v limit (begun known img.start) in
     let d₂ = registers_in d₁ img.registers in
     let d₃ = with_code known count labelled 0 ms img.text d₂ in
@@ -254,7 +260,7 @@ pass_leads given are names known from img sound begins good =
     let placed = marks_are v 0 (4 * (0 + count)) img.entries img.limits (recursion_from_All IsLimit img.limits sound.limits_fit) (subst (λ (t : ℕ). Above 0 t img.entries) top above) in
     let first = head_leads v limit img.start names known from (first_limit img.limits sound.limits_fit (omega (arith, sound.limits_each, sound.entries_some))) begins in
     let second = lines_lead (settings 1 img.registers) d₁ d₂ refl (settings_text 1 img.registers (fits img.registers sound.registers_fit)) (settings_laid d₁ [] img.registers zeros 1 refl (sym sound.registers_all) (are_zeros zeros refl) (omega (arith, sound.registers_all))) in
-    let third = code_leads given are known count labelled sound.text_few ms img.text 0 d₂ (omega arith) (fits img.text sound.text_fits) (marks_text v img.entries img.limits limits) placed (record { text = refl; words = refl; pass = refl; line = refl; near = λ text. none_far known }) (omega (arith, marks_few v img.entries img.limits, sound.entries_few)) (λ k above. refl) good (image_labels img) in
+    let third = code_leads given are known count labelled sound.text_few ms img.text 0 d₂ (omega arith) (fits img.text sound.text_fits) (marks_text v img.entries img.limits limits) placed (record { text = refl; words = refl; pass = refl; line = refl; near = (λ left. refl, λ name. none_shared known names name); bare = refl }) (omega (arith, marks_few v img.entries img.limits, sound.entries_few)) (λ k above. refl) good (image_labels img) in
     let fourth = line_leads (say.Section section.Data) [] d₃ d₄ refl tt bare_ends refl in
     let fifth = lines_lead (all_data given v img.read_only img.words) d₄ d₅ refl (all_data_text given are v img.read_only img.words (fits img.words sound.words_fit)) (all_data_laid given v img.read_only img.words d₄ refl refl refl (refl, refl, refl, refl) refl refl refl sound.read_only_few sound.words_few) in
     let body = text_of (all_data given v img.read_only img.words) in
@@ -288,20 +294,20 @@ start_found img sound =
 second_laid : (names : Names) (from : ℕ) (img : Image) → IsImage img → passed names true from img ≡ layout_for names true from img
 second_laid names from img sound =
     ap (λ (ws : List ℕ). record (passed names true from img) { text = ws }) (words_known (length img.text) 0 img.text (recursion_from_All (λ w. w < 2 ^ 32) img.text sound.text_fits))
-    ∙ ap (λ (found : Names). layout_for found true from img) (names_known (is_labelled img.entries img.text) 0 img.text names)
+    ∙ ap (λ (found : Names). record (layout_for found true from img) { sources = texts_for true names }) (names_known (is_labelled img.entries img.text) 0 img.text names)
 
 -- the listing of an image is a program of it
 pub listing_is_program : (given : Option (List Name)) → AreNamed given → (img : Image) → IsImage img → IsProgramOf (listing_of given img) img
 listing_is_program names_given are img sound =
     let names = found_names img in
     let from = bss_behind img in
-    let first = leads_whole (listing_of names_given img) (empty no_names false 0 0) (passed no_names false 0 img) (pass_leads names_given are no_names false 0 img sound tt (λ k above low. refl)) in
-    let second = leads_whole (listing_of names_given img) (empty names true 0 from) (layout_for names true from img)
-    (leads_at (listing_of names_given img) (empty names true 0 from) (passed names true from img) (layout_for names true from img) (second_laid names from img sound)
+    let first = leads_whole (listing_of names_given img) (opening no_names false 0) (passed no_names false 0 img) (pass_leads names_given are no_names false 0 img sound tt (λ k above low. refl)) in
+    let second = leads_whole (listing_of names_given img) (opening names true from) (layout_for names true from img)
+    (leads_at (listing_of names_given img) (opening names true from) (passed names true from img) (layout_for names true from img) (second_laid names from img sound)
     (pass_leads names_given are names true from img sound (start_found img sound) (found_all img sound))) in
-    let given = given_by second.0 (listing_of names_given img) (empty names true 0 from) (layout_for names true from img) second.1 in
+    let given = given_by second.0 (listing_of names_given img) (opening names true from) (layout_for names true from img) second.1 in
     record {
       layout = layout_for names true from img;
-      laid = record { labels = given.0; settles = inl (record { first = passed no_names false 0 img; finds = inl (first, refl); laid = empty names true 0 from; begins = refl; lines = second.0; gives = given.1 }, refl) };
+      laid = record { labels = given.0; settles = inl (record { first = with_source (passed no_names false 0 img); finds = inl ((first.0, passed no_names false 0 img, first.1, refl), refl); laid = opening names true from; begins = refl; lines = second.0; gives = given.1 }, refl) };
       image = made_image names true from img sound;
     }

@@ -1,5 +1,5 @@
 -- What is written of a word by its row is read back, by its numbers or by the label that it leads to.
-use Rattle.std.proofs.Common.{◌≡◌, ℕ, suc, ◌*◌, ◌%◌, ◌^◌, ◌<◌, ◌≤◌, ◌⊎◌, Bool, true, false, ◌&&◌, List, [], ◌∷◌, ◌++◌, Option, Some, None, refl, ap, sym, ◌∙◌, arith, inl, inr, subst, if◌then◌else◌, codes}
+use Rattle.std.proofs.Common.{◌≡◌, ℕ, suc, ◌*◌, ◌%◌, ◌^◌, ◌<◌, ◌≤◌, ◌⊎◌, Bool, true, false, ◌&&◌, List, [], ◌∷◌, ◌++◌, length, Option, Some, None, refl, ap, sym, ◌∙◌, arith, inl, inr, subst, if◌then◌else◌, codes}
 use Rattle.std.specs.Prelude.{option_map}
 use Rattle.std.specs.List.{AllByRecursion, find}
 use Rattle.std.specs.Str.{bytes_eq}
@@ -8,7 +8,8 @@ use Rattle.std.proofs.lemmas.List.{append_assoc, append-nil}
 use Rattle.svc_rv32i.specs.Meaning.{register}
 use Rattle.svc_draft.specs.declared.statement.Statement.TheVariants as say
 use Rattle.svc_draft.specs.Options.{◌>>=◌}
-use Rattle.svc_draft.specs.Layouts.{Layout, here, address_of}
+use Rattle.svc_draft.specs.Sources.{shared_spot}
+use Rattle.svc_draft.specs.Layouts.{Layout, here, address_of, is_turned}
 use Rattle.svc_operands.specs.Characters.{is_name, past_blanks, name_at, past_name, behind, found}
 use Rattle.svc_operands.specs.Names.{padded}
 use Rattle.svc_operands.specs.Operands.{first_register_at, base_at}
@@ -54,9 +55,16 @@ abbrev pub refilled : Bool → Option ℕ → List Part → ℕ → ℕ → ℕ
 refilled known to [] w word = word
 refilled known to (p ∷ more) w word = refilled known to more w (joined word p (seen known to p (taken p w)))
 
--- no branch is turned, and no name is weak
+-- no branch is turned, and no text shares a name
 abbrev pub Near : Layout → Type 0
-Near d = (text : List ℕ) → is_far d text ≡ false
+Near d = ((left : ℕ) → is_turned d left ≡ false) × ((name : List ℕ) → shared_spot d.sources name ≡ None)
+
+none_far : (known : Bool) → (known && false) ≡ false
+none_far true = refl
+none_far false = refl
+
+not_far : (d : Layout) → Near d → (text : List ℕ) → is_far d text ≡ false
+not_far d near text = rw (near.0 (length text), near.1 (name_at text)) (none_far d.known)
 
 -- where labels are known, a word leads to its own; where they aren't, each stands for here
 abbrev pub Reached : Bool → Layout → ℕ → List Part → ℕ → Type 0
@@ -234,7 +242,7 @@ branch_part : (known : Bool) (d : Layout) (near : Near d) (to : Option ℕ) (mor
     → part_at d part.Branch (part_text to part.Branch (taken part.Branch w) ++ (parts_text to more w ++ rest)) ≡ Some (passed known to (taken part.Branch w), parts_text to more w ++ rest)
 unfolding part_at part_text branch_at
 branch_part known d near to more w rest tail last ends reaches =
-    rw (last_text_none to more w last, near (reach_text to 2048 (taken part.Branch w % 2 ^ 12) ++ rest)) (branch_reads known d to more w rest tail last ends reaches)
+    rw (last_text_none to more w last, not_far d near (reach_text to 2048 (taken part.Branch w % 2 ^ 12) ++ rest)) (branch_reads known d to more w rest tail last ends reaches)
 
 jump_part : (known : Bool) (d : Layout) (to : Option ℕ) (more : List Part) (w : ℕ) (rest tail : List ℕ) → is_last more ≡ true → Ends rest tail → Reaches known d to (part.Jump ∷ more) w
     → part_at d part.Jump (part_text to part.Jump (taken part.Jump w) ++ (parts_text to more w ++ rest)) ≡ Some (passed known to (taken part.Jump w), parts_text to more w ++ rest)

@@ -7,6 +7,7 @@ use Rattle.svc_operands.specs.declared.characters.Blank.{Blank}
 use Rattle.svc_operands.specs.declared.characters.Blank.TheVariants as blank
 use Rattle.svc_operands.specs.declared.characters.Radix.{Radix}
 use Rattle.svc_operands.specs.declared.characters.Radix.TheVariants as radices
+use Rattle.svc_operands.specs.declared.characters.TheConstants.{TEXT_END}
 
 -- what is read by what is found, or else
 abbrev pub found : {A B : Type 0} → Option A → (A → B) → B → B
@@ -25,14 +26,16 @@ abbrev pub opens : ℕ → List ℕ → Bool
 opens c [] = false
 opens c (next ∷ rest) = c == 47 && next == 42
 
--- what stands before the next character, where a space or a comment does
+-- what stands before the next character, where a space or a comment does; no comment goes on in the next text
+abbrev pub inside_behind : Blank → ℕ → Blank
+inside_behind blank.Opening c = blank.Inside
+inside_behind blank.Star c = if c == 47 then blank.Outside else if c == 42 then blank.Star else blank.Inside
+inside_behind _ c = if c == 42 then blank.Star else blank.Inside
+
 abbrev pub blank_behind : Blank → ℕ → List ℕ → Option Blank
 blank_behind blank.Outside c rest =
     if is_space c then Some blank.Outside else if opens c rest then Some blank.Opening else None
-blank_behind blank.Opening c rest = Some blank.Inside
-blank_behind blank.Inside c rest = if c == 42 then Some blank.Star else Some blank.Inside
-blank_behind blank.Star c rest =
-    if c == 47 then Some blank.Outside else if c == 42 then Some blank.Star else Some blank.Inside
+blank_behind b c rest = if c == TEXT_END then None else Some (inside_behind b c)
 
 -- what is left behind spaces and comments; a comment that no star and slash end goes up to the end of the text
 unfoldable pub past_blanks : Blank → List ℕ → List ℕ
@@ -45,7 +48,7 @@ past_spaces text = past_blanks blank.Outside text
 -- the line ends here, maybe behind a comment, or another one follows a semicolon
 abbrev pub begins_over : List ℕ → Bool
 begins_over [] = true
-begins_over (c ∷ rest) = c == 10 || c == 35 || c == 59
+begins_over (c ∷ rest) = c == 10 || c == 35 || c == 59 || c == TEXT_END
 
 abbrev pub is_over : List ℕ → Bool
 is_over text = begins_over (past_spaces text)

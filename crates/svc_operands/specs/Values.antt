@@ -2,7 +2,7 @@
 use Rattle.std.specs.Prelude.{ℕ, ◌*◌, nat_le, nat_lt, length, Bool, List, Option, Some, None, if◌then◌else◌, codes}
 use Rattle.std.specs.Prelude.{option_map, ◌+◌, ◌-◌, ◌/◌, ◌%◌, ◌^◌, ◌||◌, ◌&&◌, true, false}
 use Rattle.std.specs.Str.{bytes_eq}
-use Rattle.svc_draft.specs.Layouts.{Layout, here, distance_from, is_turned, is_weak}
+use Rattle.svc_draft.specs.Layouts.{Layout, here, distance_from, is_foreign, is_turned}
 use Rattle.svc_operands.specs.Characters.{found, name_at, past_name, mark_at}
 use Rattle.svc_operands.specs.declared.operands.Signed.{Signed}
 use Rattle.svc_draft.specs.Options.{◌>>=◌}
@@ -116,10 +116,10 @@ target_at half d text = do
 abbrev pub jump_at : Layout → List ℕ → Read ℕ
 jump_at d text = target_at 524288 d text
 
--- whether a branch is two instructions, by the text from its target on: it is turned, or its target's name is weak,
--- which only the second pass knows
+-- whether a branch is two instructions, by the text from its target on: it is turned, or its target's name is weak or
+-- another text's
 abbrev pub is_far : Layout → List ℕ → Bool
-is_far d text = is_turned d (length text) || d.known && is_weak d (name_at text)
+is_far d text = is_turned d (length text) || is_foreign d (name_at text)
 
 -- how far a branch of one instruction goes: 2^12 bytes back, and nearly as far forward
 unfoldable pub branch_at : Layout → List ℕ → Read ℕ

@@ -13,6 +13,9 @@ fn is_name(c: u8) -> bool
     matches!(c, b'a'..=b'z' | b'0'..=b'9') || matches!(c, b'A'..=b'Z' | b'.' | b'_' | b'$')
 }
 
+/// The character that ends a text of a program of several, as the only one of its line: ASCII's file separator.
+pub const TEXT_END: u8 = 0x1c;
+
 // What stands before a character: no comment, its slash, something of it, or a star that may end it.
 #[derive(Clone, Copy)]
 enum Blank {
@@ -38,7 +41,7 @@ fn blank_behind(blank: Blank, c: u8, rest: &[u8]) -> Option<Blank>
     match (blank, c) {
         (Blank::Outside, b' ' | b'\t' | b'\r') | (Blank::Star, b'/') => Some(Blank::Outside),
         (Blank::Outside, _) if opens(c, rest) => Some(Blank::Opening),
-        (Blank::Outside, _) => None,
+        (Blank::Outside, _) | (_, TEXT_END) => None,
         (Blank::Opening, _) => Some(Blank::Inside),
         (Blank::Inside | Blank::Star, b'*') => Some(Blank::Star),
         (Blank::Inside | Blank::Star, _) => Some(Blank::Inside),
@@ -67,7 +70,7 @@ pub fn is_over(text: &[u8]) -> bool
     ensures { result ≡ is_over text.now }
 {
     match skip_spaces(text) {
-        [] | [b'\n' | b'#' | b';', ..] => true,
+        [] | [b'\n' | b'#' | b';' | TEXT_END, ..] => true,
         _ => false,
     }
 }

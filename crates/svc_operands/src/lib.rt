@@ -12,7 +12,8 @@ mod unread;
 mod values;
 
 pub use characters::{
-    Radix, digit, escaped, is_over, number_of, opens, skip_mark, skip_spaces, split_name, value_of,
+    Radix, TEXT_END, digit, escaped, is_over, number_of, opens, skip_mark, skip_spaces, split_name,
+    value_of,
 };
 pub use expressions::{Operation, Operator, combined, operator_at, read_added, read_expression};
 pub use names::{Name, Named, REGISTERS, is_word, number_named, padded, register};

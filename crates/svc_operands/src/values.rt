@@ -231,14 +231,14 @@ pub fn read_jump<'a>(draft: &Draft, text: &'a [u8]) -> Read<'a, u32>
     read_target(draft, 524_288, text)
 }
 
-// Whether a branch is two instructions: it is turned, or its target's name is weak.
+// Whether a branch is two instructions: it is turned, or its target's name is weak or another text's.
 fn is_far(draft: &Draft, text: &[u8]) -> bool
     ensures { result ≡ is_far (layout_of draft.now) text.now }
 {
     if draft.is_turned(text.len()) {
         return true;
     }
-    draft.is_known() && draft.is_weak(split_name(text).0)
+    draft.is_foreign(split_name(text).0)
 }
 
 /// How far a branch of one instruction goes, in steps of two bytes, as a number of 12 bits.

@@ -1,4 +1,5 @@
 pub mod Assembled
+pub mod Joined
 pub mod WholeScript
 pub mod Needed
 pub mod Continuing

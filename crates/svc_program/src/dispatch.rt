@@ -117,7 +117,7 @@ fn dispatch<F: Files, O: Write>(
         Request::Show(traced, shown) => show(alloc, traced, shown, files, out),
         Request::Draw(traced, picture) => draw(alloc, traced, picture, files, out),
         Request::Export(traced, exported) => export(alloc, traced, exported, files, out),
-        Request::Assemble(assembly) => assemble(alloc, assembly, files, out),
+        Request::Assemble(assembly) => assemble(alloc, &assembly, files, out),
         Request::List(image, names) => list(alloc, image, names, files, out),
     }
 }

@@ -350,6 +350,7 @@ fn draw<R: Threads + Wait + Sync + AllocGlobal>(rt: &R) -> Attempt {
             is_compact: false,
         },
         rows: false,
+        names: None,
     };
     asked(rt, Request::Draw(ten_entries()?, picture), "")
 }
@@ -368,6 +369,7 @@ fn export<R: Threads + Wait + Sync + AllocGlobal>(rt: &R, format: Format) -> Att
 fn assemble<R: Threads + Wait + Sync + AllocGlobal>(rt: &R, names: Option<&str>) -> Attempt {
     let assembly = Assembly {
         text: "text",
+        others: Vec::new(rt.alloc()),
         image: "saved",
         names,
     };

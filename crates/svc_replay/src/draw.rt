@@ -15,14 +15,16 @@ use crate::check::replay;
 use crate::fronts::first;
 use std::alloc::Global;
 use std::io::Write;
-use svc_answer::load::load_traced;
+use svc_answer::load::{load_names, load_traced};
 use svc_base::Config;
 use svc_history::Entry;
 use svc_image::Image;
+use svc_names::Names;
 use svc_report::ReportError;
 use svc_request::{Fault, Files, Picture, Traced};
 
-/// Replays a trace up to the last entry that is shown, and saves a picture of it. Nothing is printed.
+/// Replays a trace up to the last entry that is shown, and saves a picture of it, with the names of the table that is
+/// named. Nothing is printed.
 pub fn draw<F: Files, O: Write>(
     alloc: Global,
     traced: Traced<'_>,
@@ -35,7 +37,15 @@ pub fn draw<F: Files, O: Write>(
 {
     let _nothing_is_printed = out;
     let (image, entries) = load_traced(alloc, traced, files)?;
-    let text = draw_entries(alloc, image, traced.config, &entries, picture)?;
+    let names = load_names(alloc, picture.names, files)?;
+    let text = draw_entries(
+        alloc,
+        image,
+        traced.config,
+        &entries,
+        picture,
+        names.as_ref(),
+    )?;
     files.save(picture.file, &text)?;
     Ok(0)
 }
@@ -50,9 +60,11 @@ fn draw_entries(
     config: Config,
     entries: &[Entry],
     picture: Picture<'_>,
+    names: Option<&Names>,
 ) -> Result<Vec<u8>, Fault>
     ensures drawn { IfOk result (λ _. IsDrawn image config entries.now picture.entry.view) }
-    ensures text { IfOk result (λ text. text.items ≡ drawing_of picture.entry config.units entries.now) }
+    ensures text { IfOk result (λ text. text.items ≡ drawing_of picture.entry config.units entries.now
+        names.entry) }
     ensures fault { let view = picture.entry.view in
         IfErr result (λ fault. (fault ≡ File) ⊎ IsReportFault fault
         ⊎ TellsOfTrace image config (front (end_shown view.from view.count) entries.now) fault) }
@@ -62,7 +74,7 @@ fn draw_entries(
     if u64::from(picture.view.from) > entries.len() as u64 {
         return Err(Fault::File);
     }
-    let text = text_of(alloc, drawn, config, picture)?;
+    let text = text_of(alloc, drawn, config, picture, names)?;
     Ok(text)
 }
 
@@ -72,15 +84,23 @@ fn text_of(
     entries: &[Entry],
     config: Config,
     picture: Picture<'_>,
+    names: Option<&Names>,
 ) -> Result<Vec<u8>, ReportError>
     requires few { length entries.now ≤ MAX_EVENTS }
     ensures ok { let p = picture.entry in IfOk result (λ text.
-        text.items ≡ shown_as p.rows config.units entries.now p.view p.style) }
+        text.items ≡ shown_as p.rows config.units entries.now p.view p.style names.entry) }
     ensures err { IfErr result IsMemoryFault }
 {
     if picture.rows {
         svc_marks::picture_rows(alloc, entries, &picture.view)
     } else {
-        svc_draw::draw(alloc, entries, config.units, &picture.view, picture.style)
+        svc_draw::draw(
+            alloc,
+            entries,
+            config.units,
+            &picture.view,
+            picture.style,
+            names,
+        )
     }
 }

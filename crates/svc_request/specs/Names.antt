@@ -1,6 +1,8 @@
 -- The names of files in a request.
-use Rattle.std.specs.Prelude.{◌≡◌, ◌⊎◌, ℕ, List, Option, None, Some, IsSomeAnd, option_map}
+use Rattle.std.specs.Prelude.{◌≡◌, ◌⊎◌, ℕ, List, ◌∷◌, Option, None, Some, IsSomeAnd, option_map}
 use denote.Ref.{Bor}
+use Rattle.std.specs.List.{Any}
+use Rattle.svc_request.specs.declared.request.Assembly.{Assembly}
 use Rattle.svc_request.specs.declared.request.Schedule.{Schedule}
 use Rattle.svc_request.specs.declared.request.Source.{Source}
 use Rattle.svc_request.specs.declared.request.Source.TheVariants as source
@@ -19,6 +21,24 @@ IsScriptOf name schedule = IsSomeAnd schedule (λ s. IsSomeAnd s.after (λ scrip
 -- the table of names has this name
 abbrev pub IsTableOf : List ℕ → Option (Bor (List ℕ)) → Type 0
 IsTableOf name names = IsSomeAnd names (λ table. table.now ≡ name)
+
+-- this is one of the names
+abbrev pub IsAmong : List ℕ → List (Bor (List ℕ)) → Type 0
+IsAmong name names = Any (λ one. one.now ≡ name) names
+
+-- the names of the texts, in their order
+abbrev pub texts_of : Assembly → List (Bor (List ℕ))
+texts_of assembly = assembly.text ∷ assembly.others.items
+
+-- one of the texts has this name
+abbrev pub IsTextOf : List ℕ → Assembly → Type 0
+IsTextOf name assembly = (assembly.text.now ≡ name) ⊎ IsAmong name assembly.others.items
+
+-- the image or the table of names has the name of a text, or both have one name
+abbrev pub IsOverText : Assembly → Type 0
+IsOverText assembly =
+    IsTextOf assembly.image.now assembly ⊎ IsSomeAnd assembly.names (λ table. IsTextOf table.now assembly)
+    ⊎ IsTableOf assembly.image.now assembly.names
 
 -- the image that a request is about, if that is an existing one
 abbrev pub source_of : Request → Option Source
@@ -64,10 +84,9 @@ IsOverItself (request.Script scripted) =
 IsOverItself (request.Check traced compared script) =
     IsSomeAnd script (λ name. (traced.trace.now ≡ name.now) ⊎ IsNameOf name.now traced.image)
 IsOverItself (request.Draw traced picture) =
-    (traced.trace.now ≡ picture.file.now) ⊎ IsNameOf picture.file.now traced.image
+    (traced.trace.now ≡ picture.file.now) ⊎ IsTableOf picture.file.now picture.names
+    ⊎ IsNameOf picture.file.now traced.image
 IsOverItself (request.Export traced exported) =
     (traced.trace.now ≡ exported.file.now) ⊎ IsNameOf exported.file.now traced.image
-IsOverItself (request.Assemble assembly) =
-    (assembly.text.now ≡ assembly.image.now) ⊎ IsTableOf assembly.text.now assembly.names
-    ⊎ IsTableOf assembly.image.now assembly.names
+IsOverItself (request.Assemble assembly) = IsOverText assembly
 IsOverItself _ = ⊥

@@ -1,10 +1,11 @@
 // Files that would be written over files that are read.
 
 ghost use Rattle.std.specs.Prelude.{IsTrue};
-ghost use Rattle.svc_request.specs.Names.{IsNameOf, IsOverItself, IsScriptOf, IsTableOf};
+ghost use Rattle.svc_request.specs.Names.{IsAmong, IsNameOf, IsOverItself, IsOverText, IsScriptOf, IsTableOf};
+ghost use Rattle.svc_request.specs.Names.{IsTextOf};
 
 use crate::files::Files;
-use crate::request::{Request, Schedule, Source};
+use crate::request::{Assembly, Request, Schedule, Source};
 
 impl Request<'_> {
     /// Whether a file that would be written is one that is read, or would be written twice, as far as `files` can tell
@@ -40,20 +41,50 @@ impl Request<'_> {
             },
             Request::Draw(traced, picture) => {
                 files.is_same(traced.trace, picture.file)
+                    || is_table(picture.names, picture.file, files)
                     || is_source(traced.image, picture.file, files)
             }
             Request::Export(traced, exported) => {
                 files.is_same(traced.trace, exported.file)
                     || is_source(traced.image, exported.file, files)
             }
-            Request::Assemble(assembly) => {
-                files.is_same(assembly.text, assembly.image)
-                    || is_table(assembly.names, assembly.text, files)
-                    || is_table(assembly.names, assembly.image, files)
-            }
+            Request::Assemble(assembly) => is_over_text(assembly, files),
             _ => false,
         }
     }
+}
+
+// Whether the image or the table of names would be written over a text, or both into one file, as far as `files` can
+// tell.
+fn is_over_text<F: Files>(assembly: &Assembly<'_>, files: &F) -> bool
+    ensures { IsOverText assembly.now → IsTrue result }
+{
+    if is_text(assembly, assembly.image, files) {
+        return true;
+    }
+    match assembly.names {
+        Some(table) => files.is_same(table, assembly.image) || is_text(assembly, table, files),
+        None => false,
+    }
+}
+
+// Whether the file of this name is one of the texts, as far as `files` can tell.
+fn is_text<F: Files>(assembly: &Assembly<'_>, name: &str, files: &F) -> bool
+    ensures { IsTextOf name.now assembly.now → IsTrue result }
+{
+    files.is_same(assembly.text, name) || is_among(&assembly.others, name, files)
+}
+
+// Whether the file of this name is one of these, as far as `files` can tell.
+fn is_among<F: Files>(names: &[&str], name: &str, files: &F) -> bool
+    ensures { IsAmong name.now names.now → IsTrue result }
+{
+    for other in names {
+        if files.is_same(other, name) {
+            return true;
+        }
+    }
+    false
 }
 
 // Whether the file of this name is the image's, as far as `files` can tell.

@@ -218,6 +218,8 @@ pub struct Picture<'a> {
     pub style: Style,
     /// Whether what it shows is saved as rows.
     pub rows: bool,
+    /// The table of names by which addresses and words are told, too.
+    pub names: Option<&'a str>,
 }
 
 /// What is shown of the machine to which a trace leads.
@@ -242,11 +244,13 @@ pub struct Exported<'a> {
     pub words: Option<Span>,
 }
 
-/// A text that is assembled.
-#[derive(Clone, Copy)]
+/// Texts that are assembled, one behind another, to one image.
+#[derive(Drop)]
 pub struct Assembly<'a> {
-    /// The text's file.
+    /// The first text's file.
     pub text: &'a str,
+    /// The files of the others, in their order.
+    pub others: Vec<&'a str>,
     /// The file in which the image is saved.
     pub image: &'a str,
     /// The file in which the table of its names is saved, if one is.
@@ -287,7 +291,7 @@ pub enum Request<'a> {
     Draw(Traced<'a>, Picture<'a>),
     /// To replay a trace, and to save it for another viewer.
     Export(Traced<'a>, Exported<'a>),
-    /// To assemble a text, and to save its image, and its names if a file is named for them.
+    /// To assemble texts, and to save their image, and their names if a file is named for them.
     Assemble(Assembly<'a>),
     /// To print an image as a text that assembles to it, with the names of this table.
     List(Source<'a>, Option<&'a str>),

@@ -1,5 +1,5 @@
 -- The shapes of a picture, as elements of SVG. Numbers and fixed words are all that they hold, so nothing needs an
--- escape.
+-- escape; names that are put between them have none of the characters that do.
 use Rattle.std.specs.Prelude.{ℕ, ◌+◌, ◌*◌, ◌/◌, List, [], ◌∷◌, ◌++◌, codes, decimal}
 use Rattle.std.specs.List.{concat}
 use Rattle.svc_shapes.specs.declared.sheet.TheConstants.{TOP}
@@ -92,12 +92,15 @@ bar_box x y width height fill =
     ∷ codes "' height='" ∷ decimal height
     ∷ codes "' rx='3' fill='" ∷ fill ∷ codes "' stroke='#333'>" ∷ [])
 
--- the title of a bar, and its end
-unfoldable pub box_title : (number entry first : ℕ) → (fate : List ℕ) → (turns : ℕ) → List ℕ
-box_title number entry first fate turns =
-    concat (codes "<title>task " ∷ decimal number ∷ codes " at address " ∷ decimal entry ∷ codes ", begun by entry "
-    ∷ decimal first
-    ∷ codes ": " ∷ fate ∷ codes "; turns: " ∷ decimal turns ∷ codes "</title></rect>\n" ∷ [])
+-- the beginning of a bar's title: its task, and the address where that began
+unfoldable pub box_title : (number entry : ℕ) → List ℕ
+box_title number entry =
+    concat (codes "<title>task " ∷ decimal number ∷ codes " at address " ∷ decimal entry ∷ [])
+
+-- the rest of it: what became of the task
+unfoldable pub box_fate : (first : ℕ) → (fate : List ℕ) → (turns : ℕ) → List ℕ
+box_fate first fate turns =
+    concat (codes ", begun by entry " ∷ decimal first ∷ codes ": " ∷ fate ∷ codes "; turns: " ∷ decimal turns ∷ [])
 
 -- words
 unfoldable pub label_open : (x y : ℕ) → (style : List ℕ) → List ℕ

@@ -15,7 +15,7 @@ pub use around::{
 pub use joined::{group_close, group_open, joined_title, joined_words, plain_box, plain_line};
 pub use kinds::{cross, diamond, kind_close, kind_open, letter_above, letter_within, ring, square};
 pub use shapes::{
-    bar_box, bold_arrow, box_title, close, commit_line, label, mark_at, rim_close, rim_open,
-    thin_arrow, title_open,
+    bar_box, bold_arrow, box_fate, box_title, close, commit_line, label, label_close, label_open,
+    mark_at, rim_close, rim_open, thin_arrow, title_open,
 };
 pub use sheet::Point;

@@ -3,7 +3,7 @@
 ghost use Rattle.std.specs.Prelude.{◌≡◌, ◌++◌, OnOk, flat_map};
 ghost use Rattle.svc_text.specs.Parts.{part_text};
 ghost use Rattle.svc_shapes.specs.Shapes.{label, mark_at, rim_open, rim_close, commit_line, thin_arrow, bold_arrow};
-ghost use Rattle.svc_shapes.specs.Shapes.{close, title_open, bar_box, box_title, label_open, label_close};
+ghost use Rattle.svc_shapes.specs.Shapes.{bar_box, box_fate, box_title, close, label_close, label_open, title_open};
 
 use crate::sheet::{Point, TOP};
 use std::alloc::AllocError;
@@ -151,17 +151,10 @@ pub fn bar_box(
     )
 }
 
-/// The title of a bar, and its end.
+/// The beginning of a bar's title: its task, and the address where that began.
 #[tactic(auto, unfolding(crate::specs::Shapes::box_title))]
-pub fn box_title(
-    text: &mut Vec<u8>,
-    number: u64,
-    entry: u64,
-    first: u64,
-    fate: &str,
-    turns: u64,
-) -> Result<(), AllocError>
-    ensures { OnOk result (text.new.items ≡ text.old.items ++ box_title number entry first fate.now turns) }
+pub fn box_title(text: &mut Vec<u8>, number: u64, entry: u64) -> Result<(), AllocError>
+    ensures { OnOk result (text.new.items ≡ text.old.items ++ box_title number entry) }
 {
     put_parts(
         text,
@@ -170,13 +163,24 @@ pub fn box_title(
             Part::Number(number),
             Part::Text(" at address "),
             Part::Number(entry),
+        ],
+    )
+}
+
+/// The rest of it: what became of the task.
+#[tactic(auto, unfolding(crate::specs::Shapes::box_fate))]
+pub fn box_fate(text: &mut Vec<u8>, first: u64, fate: &str, turns: u64) -> Result<(), AllocError>
+    ensures { OnOk result (text.new.items ≡ text.old.items ++ box_fate first fate.now turns) }
+{
+    put_parts(
+        text,
+        &[
             Part::Text(", begun by entry "),
             Part::Number(first),
             Part::Text(": "),
             Part::Text(fate),
             Part::Text("; turns: "),
             Part::Number(turns),
-            Part::Text("</title></rect>\n"),
         ],
     )
 }

@@ -1,11 +1,13 @@
 -- The bars and marks of a picture, as they are drawn.
 use Rattle.std.specs.Prelude.{ℕ, ◌+◌, ◌-◌, ◌/◌, ◌==◌, nat_le, nat_lt, cond, List, [], ◌∷◌, ◌++◌, length, flat_map}
-use Rattle.std.specs.Prelude.{codes, decimal}
+use Rattle.std.specs.Prelude.{Option, codes, decimal}
 use Rattle.std.specs.List.{concat}
-use Rattle.svc_history_laws.specs.declared.entry.Entry.{Entry}
 use Rattle.svc_report.specs.Trace.{row_of}
+use Rattle.svc_names.specs.declared.name.Name.{Name}
+use Rattle.svc_names.specs.Given.{listed, noted_by}
 use Rattle.svc_task_runs.specs.declared.task_run.Fate.{Fate}
 use Rattle.svc_task_runs.specs.declared.task_run.Fate.TheVariants as fate
+use Rattle.svc_task_runs.specs.declared.task_run.TaskRun.{TaskRun}
 use Rattle.svc_marks.specs.declared.bars.Bar.{Bar}
 use Rattle.svc_marks.specs.declared.marks.Mark.{Mark}
 use Rattle.svc_marks.specs.declared.marks.MarkKind.{MarkKind}
@@ -13,8 +15,10 @@ use Rattle.svc_marks.specs.declared.marks.MarkKind.TheVariants as mark
 use Rattle.svc_sheet.specs.declared.sheet.Sheet.{Sheet}
 use Rattle.svc_sheet.specs.Frame.{bar_height, bar_left, bar_top, bar_width, bottom, end_x, end_y, mark_x, mark_y}
 use Rattle.svc_sheet.specs.Kinds.{letter_of}
-use Rattle.svc_shapes.specs.Shapes.{bar_box, bold_arrow, box_title, close, commit_line, label, mark_at, thin_arrow}
-use Rattle.svc_shapes.specs.Shapes.{title_open}
+use Rattle.svc_sheet.specs.Names.{address_label, word_called}
+use Rattle.svc_sheet.specs.Sentences.{fate_sentence, sentence_of_kind}
+use Rattle.svc_shapes.specs.Shapes.{bar_box, bold_arrow, box_fate, box_title, close, commit_line, label, mark_at}
+use Rattle.svc_shapes.specs.Shapes.{thin_arrow, title_open}
 
 -- ---- bars
 
@@ -34,19 +38,25 @@ name_of fate.Violation = codes "squashed: read too early"
 name_of fate.Guess = codes "squashed: wrong guess"
 name_of fate.Cancel = codes "squashed: cancelled"
 
+-- the title of a task's bar: which task it is, and what became of it
+unfoldable pub bar_title : Option (List Name) → TaskRun → List ℕ
+bar_title names t =
+    box_title t.number t.entry ++ noted_by names t.entry ++ box_fate t.first (name_of t.fate) t.turns
+    ++ codes "\n" ++ fate_sentence t t.last ++ codes "</title>"
+
 -- a bar, with its title
 unfoldable pub bar_text : Sheet → Bar → List ℕ
 bar_text s b =
     bar_box (bar_left s b) (bar_top s b.task.unit.0) (bar_width s b) (bar_height s) (fill_of b.task.fate)
-    ++ box_title b.task.number b.task.entry b.task.first (name_of b.task.fate) b.task.turns
+    ++ bar_title (listed s.names) b.task ++ close (codes "rect")
 
--- a task's number and entry, as far as there is room for so many letters
-abbrev pub name_words : (letters number entry : ℕ) → List ℕ
-name_words letters number entry =
-    cond (nat_le (length (decimal number) + length (decimal entry) + 8) letters)
-    (concat (codes "task " ∷ decimal number ∷ codes " @ " ∷ decimal entry ∷ []))
-    (cond (nat_le (length (decimal number) + length (decimal entry) + 1) letters)
-    (concat (decimal number ∷ codes "@" ∷ decimal entry ∷ []))
+-- a task's number and the address where it began, as far as there is room for so many letters
+unfoldable pub name_words : (letters number : ℕ) → (address : List ℕ) → List ℕ
+name_words letters number address =
+    cond (nat_le (length (decimal number) + length address + 8) letters)
+    (concat (codes "task " ∷ decimal number ∷ codes " @ " ∷ address ∷ []))
+    (cond (nat_le (length (decimal number) + length address + 1) letters)
+    (concat (decimal number ∷ codes "@" ∷ address ∷ []))
     (concat (decimal number ∷ [])))
 
 -- for how many letters a bar has room
@@ -58,7 +68,7 @@ unfoldable pub bar_name : Sheet → Bar → List ℕ
 bar_name s b =
     cond (nat_lt (letters_in s b) (length (decimal b.task.number))) []
     (label (bar_left s b + 4) (bar_top s b.task.unit.0 + 12) (codes "font-size='12'")
-    (name_words (letters_in s b) b.task.number b.task.entry))
+    (name_words (letters_in s b) b.task.number (address_label (listed s.names) b.task.entry)))
 
 -- ---- marks
 
@@ -79,13 +89,16 @@ element_of mark.Handed = codes "path"
 element_of mark.Squash = codes "path"
 element_of _ = codes "use"
 
--- the title of a mark: its entry's number, and that entry's row of the trace
-unfoldable pub title : (place : ℕ) → Entry → List ℕ
-title place e = title_open place ++ row_of e ++ codes "</title>"
+-- the title of a mark: its entry's number, that entry's row of the trace, what that means, and the name of its word
+unfoldable pub title : Option (List Name) → Mark → List ℕ
+title names m =
+    title_open m.place ++ row_of m.entry ++ sentence_of_kind m m.kind ++ codes "\n"
+    ++ word_called names m.entry.addr ++ codes "</title>"
 
 -- a mark, with its title
 unfoldable pub mark_text : Sheet → Mark → List ℕ
-mark_text s m = mark_shape s m m.kind ++ title m.place m.entry ++ close (element_of m.kind)
+mark_text s m =
+    mark_shape s m m.kind ++ title (listed s.names) m ++ close (element_of m.kind)
 
 -- which marks lie below which: lines of commits, then arrows, then shapes
 abbrev pub layer : MarkKind → ℕ

@@ -3,6 +3,8 @@ use Rattle.std.specs.Prelude.{ℕ, ◌+◌, ◌-◌, ◌/◌, Bool, true, false,
 use Rattle.std.specs.Prelude.{None, unwrap_or, length, codes, decimal, get_or, set, replicate}
 use Rattle.std.specs.List.{concat}
 use Rattle.svc_base.specs.declared.ids.WordAddr.{WordAddr}
+use Rattle.svc_names.specs.declared.name.Name.{Name}
+use Rattle.svc_names.specs.Given.{listed}
 use Rattle.svc_marks.specs.declared.marks.Mark.{Mark}
 use Rattle.svc_marks.specs.declared.marks.MarkKind.{MarkKind}
 use Rattle.svc_marks.specs.declared.marks.MarkKind.TheVariants as mark
@@ -11,6 +13,7 @@ use Rattle.svc_sheet.specs.declared.sheet.Values.{Values}
 use Rattle.svc_sheet.specs.declared.sheet.Values.TheVariants as values
 use Rattle.svc_shapes.specs.declared.sheet.TheConstants.{LEFT, TOP}
 use Rattle.svc_sheet.specs.Frame.{end_x, end_y, is_wide, mark_x, mark_y, radius}
+use Rattle.svc_sheet.specs.Names.{word_label}
 use Rattle.svc_shapes.specs.Shapes.{label}
 
 -- ---- values
@@ -20,12 +23,12 @@ abbrev pub letters_before : Sheet → (edge : ℕ) → Mark → ℕ
 letters_before s edge m = (mark_x s m - (radius s + 6) - edge) / 8
 
 -- a value, with its word if so many letters have room for both
-abbrev pub value_words : (letters : ℕ) → Option WordAddr → (value : ℕ) → List ℕ
-value_words letters None value = concat (decimal value ∷ [])
-value_words letters (Some word) value =
-    cond (nat_le (length (decimal word.0) + length (decimal value) + 8) letters)
-    (concat (codes "word " ∷ decimal word.0 ∷ codes " = " ∷ decimal value ∷ []))
-    (concat (decimal value ∷ []))
+abbrev pub value_words : Option (List Name) → (letters : ℕ) → Option WordAddr → (value : ℕ) → List ℕ
+value_words names letters None value = decimal value
+value_words names letters (Some word) value =
+    cond (nat_le (length (word_label names word.0) + length (decimal value) + 3) letters)
+    (concat (word_label names word.0 ∷ codes " = " ∷ decimal value ∷ []))
+    (decimal value)
 
 -- a value stands beside a mark that has room for so many letters
 abbrev pub stands : Values → (letters value : ℕ) → Bool
@@ -38,7 +41,7 @@ unfoldable pub value_text : Sheet → (edge : ℕ) → Mark → (value : ℕ) �
 value_text s edge m value =
     cond (stands s.style.values (letters_before s edge m) value)
     (label (mark_x s m - (radius s + 6)) (mark_y s m + 5) (codes "text-anchor='end'")
-    (value_words (letters_before s edge m) m.entry.addr value)) []
+    (value_words (listed s.names) (letters_before s edge m) m.entry.addr value)) []
 
 -- ---- what is said of the other marks, where there is much room
 

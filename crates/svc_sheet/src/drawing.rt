@@ -1,22 +1,27 @@
 // The bars and marks of a picture, as they are drawn.
 
 ghost use Rattle.std.specs.Prelude.{◌≡◌, ◌++◌, ◌≤◌, OnOk, codes, decimal, flat_map, length};
-ghost use Rattle.svc_sheet.specs.Drawing.{bar_name, bar_text, element_of, fill_of, layer, layer_text, mark_in};
-ghost use Rattle.svc_sheet.specs.Drawing.{mark_shape, mark_text, name_of, name_words, title};
+ghost use Rattle.svc_names.specs.Given.{listed};
+ghost use Rattle.svc_sheet.specs.Drawing.{bar_name, bar_text, bar_title, element_of, fill_of, layer, layer_text};
+ghost use Rattle.svc_sheet.specs.Drawing.{mark_in, mark_shape, mark_text, name_of, name_words, title};
+ghost use Rattle.svc_sheet.specs.Names.{label_text};
 ghost use Rattle.svc_shapes.specs.Shapes.{label};
 
 use crate::frame::Frame;
 use crate::kinds::letter_of;
+use crate::names::{Label, address_label, put_word_called};
 use crate::row::put_row;
+use crate::sentences::{put_fate, put_sentence};
 use itoa::Buffer;
 use std::alloc::AllocError;
-use svc_history_laws::Entry;
 use svc_marks::{Bar, Mark, MarkKind};
+use svc_names::{Names, put_note};
 use svc_shapes::{
-    bar_box, bold_arrow, box_title, close, commit_line, label, mark_at, thin_arrow, title_open,
+    bar_box, bold_arrow, box_fate, box_title, close, commit_line, label_close, label_open, mark_at,
+    thin_arrow, title_open,
 };
-use svc_task_runs::Fate;
-use svc_text::{Part, Piece};
+use svc_task_runs::{Fate, TaskRun};
+use svc_text::{Piece, put};
 
 /// How a fate's bars are filled.
 pub fn fill_of(fate: Fate) -> &'static str
@@ -44,9 +49,27 @@ pub fn name_of(fate: Fate) -> &'static str
     }
 }
 
+// Writes the title of a task's bar: which task it is, and what became of it.
+#[tactic(auto, unfolding(crate::specs::Drawing::bar_title))]
+fn write_bar_title(
+    names: Option<&Names>,
+    task: &TaskRun,
+    text: &mut Vec<u8>,
+) -> Result<(), AllocError>
+    ensures { OnOk result (text.new.items ≡ text.old.items ++ bar_title (listed names.entry) task.now) }
+{
+    box_title(text, task.number, u64::from(task.entry))?;
+    put_note(names, text, task.entry)?;
+    box_fate(text, task.first, name_of(task.fate), task.turns)?;
+    "\n".put(text)?;
+    put_fate(text, task)?;
+    "</title>".put(text)?;
+    Ok(())
+}
+
 /// Writes a bar, with its title.
 #[tactic(auto, unfolding(crate::specs::Drawing::bar_text))]
-pub fn write_bar(frame: &Frame, bar: &Bar, text: &mut Vec<u8>) -> Result<(), AllocError>
+pub fn write_bar(frame: &Frame<'_>, bar: &Bar, text: &mut Vec<u8>) -> Result<(), AllocError>
     ensures { OnOk result (text.new.items ≡ text.old.items ++ bar_text frame.now.sheet bar.now) }
 {
     let x = frame.bar_left(bar);
@@ -54,15 +77,13 @@ pub fn write_bar(frame: &Frame, bar: &Bar, text: &mut Vec<u8>) -> Result<(), All
     let width = frame.bar_width(bar);
     let height = frame.bar_height();
     bar_box(text, x, y, width, height, fill_of(bar.task.fate))?;
-    let task = &bar.task;
-    let entry = u64::from(task.entry);
-    let fate = name_of(task.fate);
-    box_title(text, task.number, entry, task.first, fate, task.turns)?;
+    write_bar_title(frame.sheet.names, &bar.task, text)?;
+    close(text, "rect")?;
     Ok(())
 }
 
 /// Writes the bars.
-pub fn write_bars(frame: &Frame, bars: &[Bar], text: &mut Vec<u8>) -> Result<(), AllocError>
+pub fn write_bars(frame: &Frame<'_>, bars: &[Bar], text: &mut Vec<u8>) -> Result<(), AllocError>
     ensures { OnOk result (text.new.items ≡ text.old.items ++ flat_map (bar_text frame.now.sheet) bars.now) }
 {
     for bar in bars {
@@ -80,39 +101,51 @@ pub(crate) fn digits(number: u64) -> u64
     digits.format(number).len() as u64
 }
 
-// Writes a task's number and entry at a place, as far as there is room for so many letters.
+// Adds a task's number and the address where it began, as far as there is room for so many letters.
+#[tactic(auto, unfolding(crate::specs::Drawing::name_words))]
+fn put_name_words(
+    text: &mut Vec<u8>,
+    letters: u64,
+    number: u64,
+    address: Label<'_>,
+) -> Result<(), AllocError>
+    ensures { OnOk result (text.new.items
+        ≡ text.old.items ++ name_words letters number (label_text address.entry)) }
+{
+    let others = digits(number);
+    if others + 8 <= letters && address.fits(letters - (others + 8)) {
+        put!(text; "task ", number, " @ ");
+        address.put(text)
+    } else if others < letters && address.fits(letters - (others + 1)) {
+        put!(text; number, "@");
+        address.put(text)
+    } else {
+        number.put(text)
+    }
+}
+
+// Writes these words at a place.
+#[tactic(auto, unfolding(svc_shapes::specs::Shapes::label))]
 fn write_name_at(
     text: &mut Vec<u8>,
     x: u64,
     y: u64,
     letters: u64,
     number: u64,
-    entry: u64,
+    address: Label<'_>,
 ) -> Result<(), AllocError>
-    ensures { OnOk result (text.new.items
-        ≡ text.old.items ++ label x y (codes "font-size='12'") (name_words letters number entry)) }
+    ensures { OnOk result (text.new.items ≡ text.old.items
+        ++ label x y (codes "font-size='12'") (name_words letters number (label_text address.entry))) }
 {
-    let style = "font-size='12'";
-    let both = digits(number) + digits(entry);
-    if both + 8 <= letters {
-        let words = [
-            Part::Text("task "),
-            Part::Number(number),
-            Part::Text(" @ "),
-            Part::Number(entry),
-        ];
-        label(text, x, y, style, &words)
-    } else if both + 1 <= letters {
-        let words = [Part::Number(number), Part::Text("@"), Part::Number(entry)];
-        label(text, x, y, style, &words)
-    } else {
-        label(text, x, y, style, &[Part::Number(number)])
-    }
+    label_open(text, x, y, "font-size='12'")?;
+    put_name_words(text, letters, number, address)?;
+    label_close(text)?;
+    Ok(())
 }
 
 /// Writes a bar's words, if there is room for any.
 #[tactic(auto, unfolding(crate::specs::Drawing::bar_name))]
-pub fn write_name(frame: &Frame, bar: &Bar, text: &mut Vec<u8>) -> Result<(), AllocError>
+pub fn write_name(frame: &Frame<'_>, bar: &Bar, text: &mut Vec<u8>) -> Result<(), AllocError>
     ensures { OnOk result (text.new.items ≡ text.old.items ++ bar_name frame.now.sheet bar.now) }
 {
     let letters = frame.bar_width(bar).saturating_sub(8) / 7;
@@ -122,11 +155,12 @@ pub fn write_name(frame: &Frame, bar: &Bar, text: &mut Vec<u8>) -> Result<(), Al
     }
     let x = frame.bar_left(bar) + 4;
     let y = frame.bar_top(bar.task.unit.0) + 12;
-    write_name_at(text, x, y, letters, number, u64::from(bar.task.entry))
+    let address = address_label(frame.sheet.names, u64::from(bar.task.entry));
+    write_name_at(text, x, y, letters, number, address)
 }
 
 /// Writes the words of the bars.
-pub fn write_names(frame: &Frame, bars: &[Bar], text: &mut Vec<u8>) -> Result<(), AllocError>
+pub fn write_names(frame: &Frame<'_>, bars: &[Bar], text: &mut Vec<u8>) -> Result<(), AllocError>
     ensures { OnOk result (text.new.items ≡ text.old.items ++ flat_map (bar_name frame.now.sheet) bars.now) }
 {
     for bar in bars {
@@ -135,13 +169,17 @@ pub fn write_names(frame: &Frame, bars: &[Bar], text: &mut Vec<u8>) -> Result<()
     Ok(())
 }
 
-// Writes the title of a mark: its entry's number, and that entry's row of the trace.
+// Writes the title of a mark: its entry's number, that entry's row of the trace, what that means, and the name of its
+// word.
 #[tactic(auto, unfolding(crate::specs::Drawing::title))]
-fn write_title(place: u64, entry: &Entry, text: &mut Vec<u8>) -> Result<(), AllocError>
-    ensures { OnOk result (text.new.items ≡ text.old.items ++ title place entry.now) }
+fn write_title(names: Option<&Names>, mark: &Mark, text: &mut Vec<u8>) -> Result<(), AllocError>
+    ensures { OnOk result (text.new.items ≡ text.old.items ++ title (listed names.entry) mark.now) }
 {
-    title_open(text, place)?;
-    put_row(text, entry)?;
+    title_open(text, mark.place)?;
+    put_row(text, &mark.entry)?;
+    put_sentence(text, mark)?;
+    "\n".put(text)?;
+    put_word_called(text, names, mark.entry.addr)?;
     "</title>".put(text)?;
     Ok(())
 }
@@ -157,7 +195,7 @@ pub fn element_of(kind: MarkKind) -> &'static str
 }
 
 // Writes the shape of a mark.
-fn write_shape(frame: &Frame, mark: &Mark, text: &mut Vec<u8>) -> Result<(), AllocError>
+fn write_shape(frame: &Frame<'_>, mark: &Mark, text: &mut Vec<u8>) -> Result<(), AllocError>
     ensures { OnOk result (text.new.items ≡ text.old.items ++ mark_shape frame.now.sheet mark.now mark.now.kind) }
 {
     let middle = frame.at(mark);
@@ -175,11 +213,11 @@ fn write_shape(frame: &Frame, mark: &Mark, text: &mut Vec<u8>) -> Result<(), All
 
 // Writes a mark, with its title.
 #[tactic(auto, unfolding(crate::specs::Drawing::mark_text))]
-fn write_mark(frame: &Frame, mark: &Mark, text: &mut Vec<u8>) -> Result<(), AllocError>
+fn write_mark(frame: &Frame<'_>, mark: &Mark, text: &mut Vec<u8>) -> Result<(), AllocError>
     ensures { OnOk result (text.new.items ≡ text.old.items ++ mark_text frame.now.sheet mark.now) }
 {
     write_shape(frame, mark, text)?;
-    write_title(mark.place, &mark.entry, text)?;
+    write_title(frame.sheet.names, mark, text)?;
     close(text, element_of(mark.kind))?;
     Ok(())
 }
@@ -197,7 +235,7 @@ fn layer(kind: MarkKind) -> u8
 
 // Writes a mark, if it is of a layer.
 fn write_mark_in(
-    frame: &Frame,
+    frame: &Frame<'_>,
     wanted: u8,
     mark: &Mark,
     text: &mut Vec<u8>,
@@ -214,7 +252,7 @@ fn write_mark_in(
 /// Writes the marks of a layer.
 #[tactic(auto, unfolding(crate::specs::Drawing::layer_text))]
 pub fn write_layer(
-    frame: &Frame,
+    frame: &Frame<'_>,
     wanted: u8,
     marks: &[Mark],
     text: &mut Vec<u8>,

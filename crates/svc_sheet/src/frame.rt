@@ -11,14 +11,14 @@ use svc_shapes::sheet::{BOTTOM, HEIGHT, LEFT, RIGHT, TOP, WIDTH};
 
 /// A sheet on which things can be placed.
 #[derive(Clone, Copy)]
-pub struct Frame {
-    pub sheet: Sheet,
+pub struct Frame<'a> {
+    pub sheet: Sheet<'a>,
     pub ghost ordered: { sheet.window.from ≤ sheet.window.to },
     pub ghost few: { sheet.window.to ≤ MAX_EVENTS },
     pub ghost some_units: { 0 < sheet.units },
 }
 
-impl Frame {
+impl Frame<'_> {
     ghost use Rattle.std.specs.Prelude.{◌≡◌};
     ghost use Rattle.svc_shapes.specs.declared.sheet.TheConstants.{BOTTOM, HEIGHT, LEFT, RIGHT, TOP};
     ghost use Rattle.svc_sheet.specs.Frame.{bar_height, bar_left, bar_right, bar_top, bar_width, bottom, end_x, end_y};

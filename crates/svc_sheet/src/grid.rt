@@ -4,7 +4,7 @@ use crate::frame::Frame;
 use svc_marks::Bar;
 use svc_shapes::sheet::{LEFT, WIDTH};
 
-impl Frame {
+impl Frame<'_> {
     ghost use Rattle.std.specs.Prelude.{◌≡◌, ◌≤◌, ◌<◌, ◌+◌, ◌^◌};
     ghost use Rattle.svc_shapes.specs.declared.sheet.TheConstants.{BOTTOM, HEIGHT, LEFT, RIGHT};
     ghost use Rattle.svc_sheet.specs.Grid.{cell, column, column_x, columns, is_joined, is_short, place_column_x, row_y};

@@ -5,7 +5,9 @@ mod drawing;
 pub mod frame;
 mod grid;
 mod kinds;
+mod names;
 mod row;
+mod sentences;
 pub mod sheet;
 mod values;
 

@@ -1,6 +1,7 @@
 // What a picture shows, and how.
 
 use svc_marks::Window;
+use svc_names::Names;
 
 /// Beside which marks of loads, stores and output words their values stand.
 #[derive(Clone, Copy)]
@@ -24,11 +25,13 @@ pub struct Style {
 
 /// What a picture shows: these entries, with a lane for each of these units.
 #[derive(Clone, Copy)]
-pub struct Sheet {
+pub struct Sheet<'a> {
     /// The entries.
     pub window: Window,
     /// How many units there are.
     pub units: u8,
     /// How they are drawn.
     pub style: Style,
+    /// The names by which addresses and words are told, too.
+    pub names: Option<&'a Names>,
 }

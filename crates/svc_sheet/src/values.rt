@@ -1,34 +1,62 @@
 // What stands beside the marks of a picture.
 
 ghost use Rattle.std.specs.Prelude.{◌≡◌, ◌++◌, ◌≤◌, OnOk, get_or, unwrap_or};
+ghost use Rattle.svc_names.specs.Given.{listed};
 ghost use Rattle.svc_sheet.specs.Values.{committed_text, edges_after, letters_before, saying, sentence, stands};
 ghost use Rattle.svc_sheet.specs.Values.{value_text, value_words, values_text, words_of};
 ghost use Rattle.svc_shapes.specs.Shapes.{label};
 
 use crate::drawing::digits;
 use crate::frame::Frame;
+use crate::names::word_label;
 use crate::sheet::Values;
 use std::alloc::AllocError;
 use svc_base::WordAddr;
 use svc_marks::{Mark, MarkKind};
-use svc_shapes::label;
+use svc_names::Names;
 use svc_shapes::sheet::{LEFT, TOP};
-use svc_text::Part;
+use svc_shapes::{label, label_close, label_open};
+use svc_text::{Part, Piece, put};
 
 // Words that end at a place.
 const ENDED: &str = "text-anchor='end'";
 
 // For how many letters there is room before a mark, where the one before it on its lane ends at an edge.
-fn letters_before(frame: &Frame, edge: u64, mark: &Mark) -> u64
+fn letters_before(frame: &Frame<'_>, edge: u64, mark: &Mark) -> u64
     ensures { result ≡ letters_before frame.now.sheet edge mark.now }
 {
     let end = frame.x(mark.place) - (frame.radius() as u64 + 6);
     end.saturating_sub(edge) / 8
 }
 
-// Writes a value that ends at a place, with its word if so many letters have room for both.
+// Adds a value, with its word if so many letters have room for both.
+fn put_value_words(
+    text: &mut Vec<u8>,
+    names: Option<&Names>,
+    letters: u64,
+    word: Option<WordAddr>,
+    value: u64,
+) -> Result<(), AllocError>
+    ensures { OnOk result (text.new.items
+        ≡ text.old.items ++ value_words (listed names.entry) letters word value) }
+{
+    let Some(word) = word else {
+        return value.put(text);
+    };
+    let word = word_label(names, word);
+    let others = digits(value) + 3;
+    if others <= letters && word.fits(letters - others) {
+        word.put(text)?;
+        put!(text; " = ");
+    }
+    value.put(text)
+}
+
+// Writes these words, which end at a place.
+#[tactic(auto, unfolding(svc_shapes::specs::Shapes::label))]
 fn write_value_at(
     text: &mut Vec<u8>,
+    names: Option<&Names>,
     x: u64,
     y: u64,
     letters: u64,
@@ -36,23 +64,12 @@ fn write_value_at(
     value: u64,
 ) -> Result<(), AllocError>
     ensures { OnOk result (text.new.items
-        ≡ text.old.items ++ label x y ENDED.now (value_words letters word value)) }
+        ≡ text.old.items ++ label x y ENDED.now (value_words (listed names.entry) letters word value)) }
 {
-    let Some(word) = word else {
-        return label(text, x, y, ENDED, &[Part::Number(value)]);
-    };
-    let number = u64::from(word.0);
-    if digits(number) + digits(value) + 8 <= letters {
-        let words = [
-            Part::Text("word "),
-            Part::Number(number),
-            Part::Text(" = "),
-            Part::Number(value),
-        ];
-        label(text, x, y, ENDED, &words)
-    } else {
-        label(text, x, y, ENDED, &[Part::Number(value)])
-    }
+    label_open(text, x, y, ENDED)?;
+    put_value_words(text, names, letters, word, value)?;
+    label_close(text)?;
+    Ok(())
 }
 
 // A value stands beside a mark that has room for so many letters.
@@ -69,7 +86,7 @@ fn stands(values: Values, letters: u64, value: u64) -> bool
 // Writes what was loaded, stored or output, before its mark, if it stands there.
 #[tactic(auto, unfolding(crate::specs::Values::value_text))]
 fn write_value(
-    frame: &Frame,
+    frame: &Frame<'_>,
     edge: u64,
     mark: &Mark,
     value: u32,
@@ -84,12 +101,20 @@ fn write_value(
     }
     let x = frame.x(mark.place) - (frame.radius() as u64 + 6);
     let y = frame.at(mark).y as u64 + 5;
-    write_value_at(text, x, y, letters, mark.entry.addr, value)
+    write_value_at(
+        text,
+        frame.sheet.names,
+        x,
+        y,
+        letters,
+        mark.entry.addr,
+        value,
+    )
 }
 
 // Writes the task that is committed, at the top of its line.
 #[tactic(auto, unfolding(crate::specs::Values::committed_text))]
-fn write_committed(frame: &Frame, mark: &Mark, text: &mut Vec<u8>) -> Result<(), AllocError>
+fn write_committed(frame: &Frame<'_>, mark: &Mark, text: &mut Vec<u8>) -> Result<(), AllocError>
     ensures { OnOk result (text.new.items ≡ text.old.items ++ committed_text frame.now.sheet mark.now) }
 {
     let number = u64::from(mark.entry.word.unwrap_or(0));
@@ -104,7 +129,7 @@ fn write_committed(frame: &Frame, mark: &Mark, text: &mut Vec<u8>) -> Result<(),
 // Writes what an arrow says, at its middle.
 #[tactic(auto, unfolding(crate::specs::Values::saying))]
 fn write_saying(
-    frame: &Frame,
+    frame: &Frame<'_>,
     mark: &Mark,
     words: &str,
     text: &mut Vec<u8>,
@@ -119,7 +144,7 @@ fn write_saying(
 }
 
 // Writes the words of a mark that isn't a value, if there is room for sentences.
-fn write_sentence(frame: &Frame, mark: &Mark, text: &mut Vec<u8>) -> Result<(), AllocError>
+fn write_sentence(frame: &Frame<'_>, mark: &Mark, text: &mut Vec<u8>) -> Result<(), AllocError>
     ensures { OnOk result (text.new.items ≡ text.old.items ++ sentence frame.now.sheet mark.now mark.now.kind) }
 {
     if !frame.is_wide() {
@@ -134,7 +159,12 @@ fn write_sentence(frame: &Frame, mark: &Mark, text: &mut Vec<u8>) -> Result<(), 
 }
 
 // Writes a mark's words, where the one before it on its lane ends at an edge.
-fn write_words(frame: &Frame, edge: u64, mark: &Mark, text: &mut Vec<u8>) -> Result<(), AllocError>
+fn write_words(
+    frame: &Frame<'_>,
+    edge: u64,
+    mark: &Mark,
+    text: &mut Vec<u8>,
+) -> Result<(), AllocError>
     ensures { OnOk result (text.new.items ≡ text.old.items ++ words_of frame.now.sheet edge mark.now mark.now.kind) }
 {
     match mark.kind {
@@ -149,7 +179,7 @@ fn write_words(frame: &Frame, edge: u64, mark: &Mark, text: &mut Vec<u8>) -> Res
 
 // Writes a mark's words, and notes where the mark ends on its lane.
 fn write_next(
-    frame: &Frame,
+    frame: &Frame<'_>,
     mark: &Mark,
     edges: &mut [u64; 256],
     text: &mut Vec<u8>,
@@ -165,7 +195,7 @@ fn write_next(
 }
 
 /// Writes the words of the marks.
-pub fn write_values(frame: &Frame, marks: &[Mark], text: &mut Vec<u8>) -> Result<(), AllocError>
+pub fn write_values(frame: &Frame<'_>, marks: &[Mark], text: &mut Vec<u8>) -> Result<(), AllocError>
     ensures { OnOk result (text.new.items ≡ text.old.items ++ values_text frame.now.sheet marks.now) }
 {
     let mut edges = [LEFT; 256];

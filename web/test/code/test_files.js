@@ -56,7 +56,7 @@ export async function each_file_is_saved_by_its_name() {
   deepEqual([trace.name, read(trace)], ['p.trace.csv', text('traces/ten_events.csv')]);
   equal((await saved_as(session, 'program')).name, 'p.s');
   deepEqual((await saved_as(session, 'image')).bytes, bytes('p.svci'));
-  equal(read(await saved_as(session, 'picture')), text('wanted/picture_of_a_load_too_early.svg'));
+  equal(read(await saved_as(session, 'picture')), text('wanted/picture_with_names.svg'));
   equal(read(await saved_as(session, 'chrome')), text('wanted/events_of_a_load_too_early.json'));
 }
 

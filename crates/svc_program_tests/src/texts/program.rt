@@ -336,6 +336,7 @@ fn a_program_text_over_a_reader_that_fails(rt: HostRuntime) {
     for left in 0..TEXT.len() + 1 {
         let assembly = Assembly {
             text: "text",
+            others: Vec::new(rt.alloc()),
             image: "saved",
             names: None,
         };

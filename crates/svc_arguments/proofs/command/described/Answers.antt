@@ -12,9 +12,9 @@ use Rattle.svc_arguments.proofs.command.described.Goals as goal
 pub returns-clause-local : goal.returns-clause-local
 returns-clause-local c =
     let here = λ (f : Command-F Command). f.has_globals in
-    let none : (fields_of c.after_help-command.result).has_globals ≡ false =
-    ap here c.after_help-command.ensures ∙ (ap here c.long_about.ensures
-    ∙ (ap here c.about.ensures ∙ c.new.ensures.local)) in
+    let none : (fields_of c.with_usage-command.result).has_globals ≡ false =
+    c.with_usage-command.ensures.local ∙ (ap here c.after_help-command.ensures ∙ (ap here c.long_about.ensures
+    ∙ (ap here c.about.ensures ∙ c.new.ensures.local))) in
     IfOk-weaker c.arg.result (AddsArg c.in_ok-command.command c.in_ok-given.field-0)
     (λ command. (fields_of command).has_globals ≡ false)
     (λ new added. (takes_one c.in_ok-command.command new c.in_ok-given.field-0 added c.in_ok-given.ensures.local).local
@@ -23,11 +23,12 @@ returns-clause-local c =
 
 pub returns-clause-told : goal.returns-clause-told
 returns-clause-told c =
-    let first = c.after_help-command.result in
+    let first = c.with_usage-command.result in
     let s = c.args.subcommand.now in
     let shape : shape_of first ≡ new_shape s.name.now =
-    ap shape_of_fields c.after_help-command.ensures ∙ (ap shape_of_fields c.long_about.ensures
-    ∙ (ap shape_of_fields c.about.ensures ∙ ap (λ (a : App). a.top) c.new.ensures.app)) in
+    c.with_usage-command.ensures.shape ∙ (ap shape_of_fields c.after_help-command.ensures
+    ∙ (ap shape_of_fields c.long_about.ensures
+    ∙ (ap shape_of_fields c.about.ensures ∙ ap (λ (a : App). a.top) c.new.ensures.app))) in
     let same : is_told (rule_of c.in_ok-given.field-0) ≡ explain = c.in_ok-given.ensures.told in
     IfOk-weaker c.arg.result (AddsArg c.in_ok-command.command c.in_ok-given.field-0)
     (λ command. told (shape_of command) ≡ described s)

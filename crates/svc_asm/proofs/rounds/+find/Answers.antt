@@ -13,10 +13,10 @@ returns-in_err-take_lines-clause-err t c =
       | inr none ↦ inr (λ made. no_pass c.args.passes c.args.text.now (layout_of c.args.begun) made none)
     ])
 
-pub returns-then-not-lacks_names-clause-ok : goal.returns-then-not-lacks_names-clause-ok
-returns-then-not-lacks_names-clause-ok t c =
+pub returns-then-not-lacks-clause-ok : goal.returns-then-not-lacks-clause-ok
+returns-then-not-lacks-clause-ok t c =
     first_finds c.args.passes c.args.text.now (layout_of c.args.begun) (layout_of c.take_lines.new.draft) c.in_ok-take_lines.ensures.ok
-    c.if-passes-eq0.false (sym c.lacks_names.ensures ∙ c.if-not-lacks_names.true)
+    c.if-passes-eq0.false (sym c.lacks.ensures ∙ c.if-not-lacks.true)
 
 pub returns-in_err-first-clause-err : goal.returns-in_err-first-clause-err
 returns-in_err-first-clause-err t c =
@@ -25,12 +25,12 @@ returns-in_err-first-clause-err t c =
       | inl memory ↦ inl memory
       | inr none ↦ inr (λ made.
           none_finds c.args.passes c.args.text.now (layout_of c.args.begun) (layout_of c.take_lines.new.draft) made
-          c.if-passes-eq0.false c.in_ok-take_lines.ensures.ok (sym c.lacks_names.ensures ∙ c.if-not-lacks_names.false)
+          c.if-passes-eq0.false c.in_ok-take_lines.ensures.ok (sym c.lacks.ensures ∙ c.if-not-lacks.false)
           (subst (λ (b : Layout). (d : Layout) → Finds (c.args.passes - 1) c.args.text.now b d → ⊥) c.once_more-more.ensures none))
     ])
 
 pub returns-clause-ok : goal.returns-clause-ok
 returns-clause-ok t c =
     next_finds c.args.passes c.args.text.now (layout_of c.args.begun) (layout_of c.take_lines.new.draft) (layout_of c.in_ok-first.first)
-    c.if-passes-eq0.false c.in_ok-take_lines.ensures.ok (sym c.lacks_names.ensures ∙ c.if-not-lacks_names.false)
+    c.if-passes-eq0.false c.in_ok-take_lines.ensures.ok (sym c.lacks.ensures ∙ c.if-not-lacks.false)
     (subst (λ (d : Layout). Finds (c.args.passes - 1) c.args.text.now d (layout_of c.in_ok-first.first)) c.once_more-more.ensures c.in_ok-first.ensures.ok)

@@ -12,9 +12,10 @@ loop-rest-preserved c =
       left = λ ss made h. let t = c.loop-rest.invariant.left ss made h in advance t.0 c.loop-rest.rest.now c.in_ok-_said.behind.now (layout_of c.loop-rest.draft) (layout_of c.take_line.new.draft) made c.in_ok-_said._said takes t.1;
     }
 
-pub returns-clause-ok : goal.returns-clause-ok
-returns-clause-ok c =
-    c.loop-rest.invariant.whole [] (layout_of c.loop-rest.draft) (empty_is c.loop-rest.rest.now (sym c.is_empty.ensures ∙ c.loop-rest-test.false), refl)
+pub returns-in-Ok-clause-ok : goal.returns-in-Ok-clause-ok
+returns-in-Ok-clause-ok c =
+    let made = c.loop-rest.invariant.whole [] (layout_of c.loop-rest.draft) (empty_is c.loop-rest.rest.now (sym c.is_empty.ensures ∙ c.loop-rest-test.false), refl) in
+    (made.0, layout_of c.loop-rest.draft, made.1, c.in-Ok.ensures)
 
 pub returns-in_err-_said-clause-err : goal.returns-in_err-_said-clause-err
 returns-in_err-_said-clause-err c =
@@ -22,5 +23,5 @@ returns-in_err-_said-clause-err c =
     let some = some_left c.loop-rest.rest.now (sym c.is_empty.ensures ∙ c.loop-rest-test.true) in
     rw (p.1, p.2) (elim c.in_err-_said.ensures.err [
       | inl memory ↦ inl memory
-      | inr none ↦ inr (λ made h. let t = c.loop-rest.invariant.left h.0 made h.1 in refuted t.0 c.loop-rest.rest.now (layout_of c.loop-rest.draft) made some none t.1)
+      | inr none ↦ inr (λ made h. let t = c.loop-rest.invariant.left h.0 h.1 h.2 in refuted t.0 c.loop-rest.rest.now (layout_of c.loop-rest.draft) h.1 some none t.1)
     ])

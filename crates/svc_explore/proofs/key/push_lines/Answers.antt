@@ -4,18 +4,18 @@ use Rattle.svc_bus_laws.specs.BusState.{BusState}
 use Rattle.svc_bus.specs.Observed.{observed}
 use Rattle.svc_observations.specs.Rosters.{unit_numbers}
 use Rattle.svc_renaming_laws.specs.Orders.{by_order}
-use Rattle.svc_explore.specs.KeyWords.{line_code, lines_words, listed, named_lines}
+use Rattle.svc_explore.specs.KeyWords.{line_code, lines_words, named_lines, slot_words}
 use Rattle.svc_explore.proofs.KeyLists.{added, more_named}
 use Rattle.svc_explore.proofs.key.push_lines.Goals as goal
 
-pub loop-unit-preserved : goal.loop-unit-preserved
-loop-unit-preserved c =
+pub loop-name-preserved : goal.loop-name-preserved
+loop-name-preserved c =
     let b : BusState = observed c.args.machine.now.bus in
     let us : List UnitId = c.args.order.now in
     let old : List ℕ = c.args.key.now.items in
-    let n : ℕ = c.loop-unit.unit-index in
+    let n : ℕ = c.loop-name.name in
     let words : ℕ = c.args.words in
     let inside : n < length us = omega arith in
-    added old c.loop-unit.key.items (lines_words n words (named_lines (by_order (unit_numbers us)) b)) (listed words (λ a. line_code (b.lines (get_or us n (record { 0 = 0 })).0 a)))
-    c.push_unit.new.key.items c.loop-unit.invariant c.in_ok-push_unit.ensures.ok
+    added old c.loop-name.key.items (lines_words n words (named_lines (by_order (unit_numbers us)) b)) (slot_words n words (λ a. line_code (b.lines (get_or us n (record { 0 = 0 })).0 a)))
+    c.push_unit.new.key.items c.loop-name.invariant c.in_ok-push_unit.ensures.ok
     ∙ ap (λ (ws : List ℕ). old ++ ws) (sym (more_named us n words b (record { 0 = 0 }) inside))

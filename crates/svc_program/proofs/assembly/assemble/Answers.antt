@@ -3,7 +3,7 @@ use Rattle.std.proofs.Common.{◌≡◌, ◌∙◌, ℕ, List, Option, Some, inl
 use denote.Ref.{Bor}
 use Rattle.svc_image.specs.Format.{file_of}
 use Rattle.svc_request.specs.declared.request.Request.TheVariants as request
-use Rattle.svc_answer.specs.Assembly.{IsTableOfText}
+use Rattle.svc_answer.specs.Assembly.{IsTableOfText, text_held}
 use Rattle.svc_answer.proofs.Answering.{all_kept, both_kept, failed_save}
 use Rattle.svc_program.proofs.Assembled.{both_saved, image_kept, names_saved, program_of}
 use Rattle.svc_program.proofs.assembly.assemble.Goals as goal
@@ -13,9 +13,9 @@ returns g c =
     let held = g.F.Files.held c.args.files.now in
     let between = g.F.Files.held c.save.new.self in
     let saved = g.F.Files.held c.save_table.new.files in
-    let known = held c.args.assembly.text.now in
-    let name = c.args.assembly.image.now in
-    let names = c.args.assembly.names in
+    let known = text_held held c.args.assembly.now in
+    let name = c.args.assembly.now.image.now in
+    let names = c.args.assembly.now.names in
     let bytes = c.in_ok-text.text.items in
     let table = c.in_ok-table.table.items in
     let image = c.in_ok-image.image in
@@ -44,17 +44,17 @@ pub returns-in_err-save : goal.returns-in_err-save
 returns-in_err-save g c =
     let held = g.F.Files.held c.args.files.now in
     let saved = g.F.Files.held c.save.new.self in
-    let known = held c.args.assembly.text.now in
+    let known = text_held held c.args.assembly.now in
     let image = c.in_ok-image.image in
-    let names = option_map (λ (n : Bor (List ℕ)). n.now) c.args.assembly.names in
+    let names = option_map (λ (n : Bor (List ℕ)). n.now) c.args.assembly.now.names in
     let program = program_of known c.in_ok-text.text.items image c.in_ok-text.ensures (rw c.deref.ensures.value at c.in_ok-image.ensures.program) in
     record {
       done = search rules;
       silent = search rules;
       order = search rules;
       machine = search rules;
-      kept = both_saved c.args.assembly.names held saved saved c.args.assembly.image.now c.save.ensures.others (all_kept names saved);
-      spared = failed_save (request.Assemble c.args.assembly) held saved c.from_residual-in_err-save.result (search rules) (image, c.in_ok-image.ensures.sound, program);
+      kept = both_saved c.args.assembly.now.names held saved saved c.args.assembly.now.image.now c.save.ensures.others (all_kept names saved);
+      spared = failed_save (request.Assemble c.args.assembly.now) held saved c.from_residual-in_err-save.result (search rules) (image, c.in_ok-image.ensures.sound, program);
     }
 
 pub returns-in_err-save_table : goal.returns-in_err-save_table
@@ -62,7 +62,7 @@ returns-in_err-save_table g c =
     let held = g.F.Files.held c.args.files.now in
     let between = g.F.Files.held c.save.new.self in
     let saved = g.F.Files.held c.save_table.new.files in
-    let known = held c.args.assembly.text.now in
+    let known = text_held held c.args.assembly.now in
     let image = c.in_ok-image.image in
     let program = program_of known c.in_ok-text.text.items image c.in_ok-text.ensures (rw c.deref.ensures.value at c.in_ok-image.ensures.program) in
     record {
@@ -70,6 +70,32 @@ returns-in_err-save_table g c =
       silent = search rules;
       order = search rules;
       machine = search rules;
-      kept = both_saved c.args.assembly.names held between saved c.args.assembly.image.now c.in_ok-save.ensures.others c.save_table.ensures.kept;
-      spared = failed_save (request.Assemble c.args.assembly) held saved c.from_residual-in_err-save_table.result (search rules) (image, c.in_ok-image.ensures.sound, program);
+      kept = both_saved c.args.assembly.now.names held between saved c.args.assembly.now.image.now c.in_ok-save.ensures.others c.save_table.ensures.kept;
+      spared = failed_save (request.Assemble c.args.assembly.now) held saved c.from_residual-in_err-save_table.result (search rules) (image, c.in_ok-image.ensures.sound, program);
+    }
+
+pub returns-in_err-file : goal.returns-in_err-file
+returns-in_err-file g c =
+    let held = g.F.Files.held c.args.files.now in
+    let names = option_map (λ (n : Bor (List ℕ)). n.now) c.args.assembly.now.names in
+    record {
+      done = search rules;
+      silent = search rules;
+      order = search rules;
+      machine = search rules;
+      kept = both_kept (Some c.args.assembly.now.image.now) names held;
+      spared = search rules;
+    }
+
+pub returns-in_err-table : goal.returns-in_err-table
+returns-in_err-table g c =
+    let held = g.F.Files.held c.args.files.now in
+    let names = option_map (λ (n : Bor (List ℕ)). n.now) c.args.assembly.now.names in
+    record {
+      done = search rules;
+      silent = search rules;
+      order = search rules;
+      machine = search rules;
+      kept = both_kept (Some c.args.assembly.now.image.now) names held;
+      spared = search rules;
     }

@@ -19,4 +19,4 @@ pub returns-clause-text : goal.returns-clause-text
 returns-clause-text c =
     let p = c.args.picture in
     let shown = c.first-drawn.ensures ∙ ap (λ most. front most c.args.entries.now) c.end.ensures in
-    c.in_ok-text.ensures.ok ∙ ap (λ (es : List Entry). shown_as p.rows c.args.config.units es p.view p.style) shown
+    c.in_ok-text.ensures.ok ∙ ap (λ (es : List Entry). shown_as p.rows c.args.config.units es p.view p.style c.args.names) shown

@@ -1,11 +1,12 @@
-use Rattle.std.proofs.Common.{◌≡◌, ◌∙◌, ap, true}
-use Rattle.svc_draft.specs.Layouts.{Layout, layout_of, empty}
+use Rattle.std.proofs.Common.{◌∙◌, true}
+use Rattle.svc_draft.specs.Sources.{Source}
+use Rattle.svc_draft.specs.Layouts.{Layout, layout_of, empty, source_seen}
 use Rattle.svc_draft.proofs.draft.Draft.again.Goals as goal
 
 pub returns : goal.returns
 returns c =
     let d = layout_of c.args.self in
-    let begun = λ (x : Layout). record x { known = true; measured = true; data_from = c.data_begin-data_from.result; bss_from = c.bss_begin-bss_from.result; data_step = d.data_step; bss_step = d.bss_step; locals = d.locals; turned = d.turned; turns_all = d.turns_all; weak = d.weak } in
+    let begun = λ (x : Layout) (s : Source). record x { known = true; placed = true; measured = true; source = source_seen true x.sources x.number s; data_from = c.data_begin-data_from.result; bss_from = c.bss_begin-bss_from.result; data_step = d.data_step; bss_step = d.bss_step; turned = d.turned; turns_all = d.turns_all } in
     let data_from = c.data_begin-data_from.ensures.value in
     let bss_from = c.bss_begin-bss_from.ensures.value in
-    ap begun c.with_names-again.ensures ∙ (λ i. record (empty d.names true (data_from i) (bss_from i)) { data_step = d.data_step; bss_step = d.bss_step; locals = d.locals; turned = d.turned; turns_all = d.turns_all; weak = d.weak })
+    (λ i. begun (c.behind-again.ensures.layout i) (c.behind-again.ensures.fresh i)) ∙ (λ i. record (empty d.found true (data_from i) (bss_from i)) { data_step = d.data_step; bss_step = d.bss_step; turned = d.turned; turns_all = d.turns_all })

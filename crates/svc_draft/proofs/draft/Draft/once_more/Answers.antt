@@ -1,6 +1,6 @@
-use Rattle.std.proofs.Common.{ap}
+use Rattle.std.proofs.Common.{ap, not}
 use Rattle.svc_draft.specs.Layouts.{Layout, layout_of}
 use Rattle.svc_draft.proofs.draft.Draft.once_more.Goals as goal
 
 pub returns : goal.returns
-returns c = let d = layout_of c.args.self in ap (λ (x : Layout). record x { before = d.names; turned = d.turned; turns_all = d.turns_all }) c.new-more.ensures
+returns c = let d = layout_of c.args.self in ap (λ (x : Layout). record x { placed = not d.lacks_places; turned = d.turned; turns_all = d.turns_all }) c.behind-more.ensures.layout

@@ -6,12 +6,12 @@ use Rattle.svc_draft.specs.Areas.{data_of}
 use Rattle.svc_draft.specs.Layouts.{layout_of, data_in}
 use Rattle.svc_draft.proofs.Made.{AreParts, has-limits, made-laid}
 use Rattle.svc_draft.proofs.draft.Draft.parts.Goals as goal
-use Rattle.svc_draft.proofs.draft.Draft.parts.Goals.{After-drop-self-11}
+use Rattle.svc_draft.proofs.draft.Draft.parts.Goals.{After-drop-self-12}
 
-abbrev parts : After-drop-self-11 → Parts
+abbrev parts : After-drop-self-12 → Parts
 parts c = record { own = c.in_ok-own.own; start = c.start_place-start.result; registers = c.args.self.registers; entries = c.in_ok-entries.entries; text = c.args.self.text; words = c.in_ok-words.words }
 
-are : (c : After-drop-self-11) → AreParts (parts c) (layout_of c.args.self)
+are : (c : After-drop-self-12) → AreParts (parts c) (layout_of c.args.self)
 are c =
     let rodata = c.deref.ensures.value in
     let middle = c.deref-2.ensures.value in

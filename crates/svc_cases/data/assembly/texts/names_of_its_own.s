@@ -1,0 +1,2 @@
+.svc_entry
+        j store

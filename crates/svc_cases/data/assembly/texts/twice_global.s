@@ -1,0 +1,4 @@
+.svc_entry
+        .globl task, other
+task:   nop
+other:  ecall
