@@ -5,7 +5,7 @@ use Rattle.std.specs.Io.KnownBytes.{Appends}
 use Rattle.svc_image.specs.Image.{Image, IsImage}
 use Rattle.svc_image.specs.Format.{file_of}
 use Rattle.svc_asm.specs.Programs.{HasLabels, IsProgramOf}
-use Rattle.svc_asm.specs.Texts.{joined}
+use Rattle.svc_asm.specs.Texts.{join}
 use Rattle.svc_list.specs.Listings.{listing_of}
 use Rattle.svc_names.specs.declared.name.Name.{Name}
 use Rattle.svc_names.specs.declared.names.Names.{Names}
@@ -27,7 +27,7 @@ all_held held (name ∷ names) = with_first (held name.now) (all_held held names
 
 -- the text that the files of an assembly make, joined, if it is known
 abbrev pub text_held : Held → Assembly → Option (List ℕ)
-text_held held assembly = option_map joined (all_held held (texts_of assembly))
+text_held held assembly = option_map join (all_held held (texts_of assembly))
 
 -- the text, if it is known, makes an image
 abbrev pub MakesImage : Option (List ℕ) → Type 0

@@ -2,8 +2,13 @@
 use Rattle.std.proofs.Common.{◌≡◌, ℕ, zero, suc, ◌-◌, ◌<◌, ◌==◌, Bool, true, false, inl, inr, refl, List, [], ◌∷◌, length, Option, Some, None, ap, sym, ◌∙◌, subst, arith}
 use Rattle.std.proofs.lemmas.Bool.{eqb-true}
 use Rattle.svc_image.specs.Image.{Image}
-use Rattle.svc_draft.specs.declared.statement.Statement.{Statement}
-use Rattle.svc_draft.specs.Layouts.{Layout, after, first_pass, once_more, next_round, last_round, second_pass, measuring_pass, laying_pass, lacks, with_source, IsMadeOf}
+use Rattle.svc_layout.specs.declared.statement.Statement.{Statement}
+use Rattle.svc_layout.specs.Layouts.{Layout}
+use Rattle.svc_layout.specs.Passes.{first_pass, once_more, next_round, last_round, second_pass, measuring_pass}
+use Rattle.svc_layout.specs.Passes.{laying_pass, lacks}
+use Rattle.svc_layout.specs.Texts.{with_source}
+use Rattle.svc_layout.specs.Lines.{after}
+use Rattle.svc_layout.specs.Images.{IsMadeOf}
 use Rattle.svc_operands.specs.Characters.{name_at}
 use Rattle.svc_asm_lines.specs.DataLines.{next_at}
 use Rattle.svc_asm.specs.declared.rounds.TheConstants.{MOST_PASSES, MOST_ROUNDS}

@@ -2,9 +2,10 @@
 use Rattle.std.specs.Prelude.{◌≡◌, ℕ, nat_eq, List, [], ◌∷◌, ◌++◌, Option, Some, None, if◌then◌else◌, ◌&&◌, Bool}
 use Rattle.std.specs.Prelude.{true, false, not, codes}
 use Rattle.std.specs.List.{starts_with}
-use Rattle.svc_draft.specs.declared.statement.Statement.{Statement}
-use Rattle.svc_draft.specs.declared.statement.Statement.TheVariants as say
-use Rattle.svc_draft.specs.Layouts.{Layout, own_address}
+use Rattle.svc_layout.specs.declared.statement.Statement.{Statement}
+use Rattle.svc_layout.specs.declared.statement.Statement.TheVariants as say
+use Rattle.svc_layout.specs.Layouts.{Layout}
+use Rattle.svc_layout.specs.Addresses.{own_address}
 use Rattle.svc_operands.specs.Characters.{name_at}
 use Rattle.svc_asm.specs.Passes.{Takes}
 use Rattle.svc_asm.specs.declared.labels.Label.{Label}

@@ -1,9 +1,12 @@
 -- What a whole text says, and the image that it makes.
 use Rattle.std.specs.Prelude.{◌≡◌, ◌⊎◌, ℕ, zero, suc, Bool, true, false, List}
 use Rattle.svc_image.specs.Image.{Image}
-use Rattle.svc_draft.specs.declared.statement.Statement.{Statement}
-use Rattle.svc_draft.specs.Layouts.{Layout, first_pass, once_more, next_round, last_round, second_pass}
-use Rattle.svc_draft.specs.Layouts.{measuring_pass, laying_pass, lacks, with_source, IsMadeOf}
+use Rattle.svc_layout.specs.declared.statement.Statement.{Statement}
+use Rattle.svc_layout.specs.Layouts.{Layout}
+use Rattle.svc_layout.specs.Passes.{first_pass, once_more, next_round, last_round, second_pass, measuring_pass}
+use Rattle.svc_layout.specs.Passes.{laying_pass, lacks}
+use Rattle.svc_layout.specs.Texts.{with_source}
+use Rattle.svc_layout.specs.Images.{IsMadeOf}
 use Rattle.svc_asm.specs.declared.rounds.TheConstants.{MOST_PASSES, MOST_ROUNDS}
 use Rattle.svc_asm.specs.Passes.{Makes}
 use Rattle.svc_asm.specs.Labels.{Gives}

@@ -12,6 +12,6 @@ behind_first [] = []
 behind_first (text ∷ texts) = next_text ++ (text ++ behind_first texts)
 
 -- the texts one behind another
-abbrev pub joined : List (List ℕ) → List ℕ
-joined [] = []
-joined (text ∷ texts) = text ++ behind_first texts
+abbrev pub join : List (List ℕ) → List ℕ
+join [] = []
+join (text ∷ texts) = text ++ behind_first texts

@@ -3,11 +3,13 @@
 ghost use Rattle.std.specs.Prelude.{◌≡◌, ℕ, ◌⊎◌, List, IfOk, IfErr, MatchResult};
 ghost use Rattle.svc_image.specs.Image.{IsImage};
 ghost use Rattle.svc_image.specs.Image as value;
-ghost use Rattle.svc_draft.specs.declared.statement.Statement.{Statement};
+ghost use Rattle.svc_layout.specs.declared.statement.Statement.{Statement};
 ghost use Rattle.svc_asm.specs.declared.assembling.Stop.TheVariants as halt;
 ghost use Rattle.svc_asm.specs.declared.assembling.AssembleError.TheVariants as error;
-ghost use Rattle.svc_draft.specs.declared.refusal.Refusal.TheVariants as lack;
-ghost use Rattle.svc_draft.specs.Layouts.{Layout, after, layout_of};
+ghost use Rattle.svc_layout.specs.declared.refusal.Refusal.TheVariants as lack;
+ghost use Rattle.svc_draft.specs.Drafts.{layout_of};
+ghost use Rattle.svc_layout.specs.Layouts.{Layout};
+ghost use Rattle.svc_layout.specs.Lines.{after};
 ghost use Rattle.svc_operands.specs.Characters.{name_at};
 ghost use Rattle.svc_asm.specs.Passes.{Takes};
 ghost use Rattle.svc_asm.specs.Programs.{IsProgramOf};
@@ -16,8 +18,9 @@ use crate::found::{Found, found_in};
 use crate::rounds::lay;
 use std::alloc::Global;
 use svc_asm_lines::read_next;
-use svc_draft::{Draft, Next, Refusal, Statement};
+use svc_draft::Draft;
 use svc_image::Image;
+use svc_layout::{Next, Refusal, Statement};
 use svc_operands::{TEXT_END, Unread, Wanted, skip_spaces, split_name, stopped_at};
 use thiserror::Error;
 
@@ -77,7 +80,7 @@ fn refused_at(next: Next, text: &[u8], refusal: Refusal) -> usize {
     }
 }
 
-// The name that what a line says is about: that of a label, or one that is set or bound. Nothing else depends on a name.
+// The name that a line is about: that of a label, or one that is set or bound. Nothing else depends on a name.
 fn name_for(said: Statement, text: &[u8]) -> &[u8]
     ensures { (d : Layout) → after result.now said d ≡ after (name_at text.now) said d }
 {
@@ -142,7 +145,7 @@ fn place(text: &[u8], left: usize) -> (usize, usize, usize) {
     (number, line, column)
 }
 
-pub(crate) fn told(text: &[u8], stop: Stop) -> AssembleError
+pub(crate) fn error_of(text: &[u8], stop: Stop) -> AssembleError
     ensures { (stop ≡ halt.Memory) → result ≡ error.Memory }
 {
     match stop {
@@ -183,10 +186,10 @@ pub fn assemble(alloc: Global, text: &[u8]) -> Result<Image, AssembleError>
     let mut labels = Vec::new(alloc);
     let (draft, start) = match lay(alloc, text, &mut labels) {
         Ok(laid) => laid,
-        Err(stop) => return Err(told(text, stop)),
+        Err(stop) => return Err(error_of(text, stop)),
     };
     match draft.finish(alloc) {
         Ok(image) => Ok(image),
-        Err(refusal) => Err(told(text, no_image(start, refusal))),
+        Err(refusal) => Err(error_of(text, no_image(start, refusal))),
     }
 }

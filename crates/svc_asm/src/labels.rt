@@ -1,8 +1,9 @@
 // The names that a text gives to addresses.
 
 ghost use Rattle.std.specs.Prelude.{◌≡◌, ◌++◌, ◌⊎◌, [], ℕ, List, IfErr, IfOk, OnOk, map};
-ghost use Rattle.svc_draft.specs.declared.statement.Statement.{Statement};
-ghost use Rattle.svc_draft.specs.Layouts.{Layout, layout_of};
+ghost use Rattle.svc_layout.specs.declared.statement.Statement.{Statement};
+ghost use Rattle.svc_draft.specs.Drafts.{layout_of};
+ghost use Rattle.svc_layout.specs.Layouts.{Layout};
 ghost use Rattle.svc_asm.specs.declared.assembling.AssembleError.TheVariants as error;
 ghost use Rattle.svc_asm.specs.declared.assembling.Stop.TheVariants as halt;
 ghost use Rattle.svc_asm.specs.Labels.{Gives, is_hidden, label_in, names_place, parts_of};
@@ -10,10 +11,11 @@ ghost use Rattle.svc_asm.specs.Passes.{Takes};
 ghost use Rattle.svc_asm.specs.Programs.{HasLabels, IsLaid};
 ghost use Rattle.svc_operands.specs.Characters.{name_at};
 
-use crate::assembling::{AssembleError, Stop, left_behind_name, take_line, told};
+use crate::assembling::{AssembleError, Stop, error_of, left_behind_name, take_line};
 use crate::rounds::lay;
 use std::alloc::{AllocError, Global};
-use svc_draft::{Draft, Statement};
+use svc_draft::Draft;
+use svc_layout::Statement;
 use svc_operands::split_name;
 
 /// A name that a program gives to an address: that of a label, or of zeros in `.bss`.
@@ -127,6 +129,6 @@ pub fn labels_of(alloc: Global, text: &[u8]) -> Result<Vec<Label<'_>>, AssembleE
     let mut labels = Vec::new(alloc);
     match lay(alloc, text, &mut labels) {
         Ok(_laid) => Ok(labels),
-        Err(stop) => Err(told(text, stop)),
+        Err(stop) => Err(error_of(text, stop)),
     }
 }

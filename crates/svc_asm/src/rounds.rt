@@ -1,8 +1,10 @@
 // Rounds: each reads a text twice or more, and turns the branches that the one before found too far from their targets.
 
 ghost use Rattle.std.specs.Prelude.{◌≡◌, ◌⊎◌, ℕ, List, IfErr, IfOk, map};
-ghost use Rattle.svc_draft.specs.declared.statement.Statement.{Statement};
-ghost use Rattle.svc_draft.specs.Layouts.{Layout, layout_of, first_pass};
+ghost use Rattle.svc_layout.specs.declared.statement.Statement.{Statement};
+ghost use Rattle.svc_draft.specs.Drafts.{layout_of};
+ghost use Rattle.svc_layout.specs.Layouts.{Layout};
+ghost use Rattle.svc_layout.specs.Passes.{first_pass};
 ghost use Rattle.svc_asm.specs.declared.assembling.Stop.TheVariants as halt;
 ghost use Rattle.svc_asm.specs.Labels.{parts_of};
 ghost use Rattle.svc_asm.specs.Passes.{Makes};

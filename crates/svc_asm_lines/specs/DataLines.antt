@@ -1,10 +1,10 @@
 -- What is read next: a line, or a part of a list, of a string, or of a name with its value.
 use Rattle.std.specs.Prelude.{ℕ, List, Some}
-use Rattle.svc_draft.specs.declared.statement.Next.{Next}
-use Rattle.svc_draft.specs.declared.statement.Next.TheVariants as go
-use Rattle.svc_draft.specs.declared.statement.Statement.{Statement}
-use Rattle.svc_draft.specs.Options.{◌>>=◌}
-use Rattle.svc_draft.specs.Layouts.{Layout}
+use Rattle.svc_layout.specs.declared.statement.Next.{Next}
+use Rattle.svc_layout.specs.declared.statement.Next.TheVariants as go
+use Rattle.svc_layout.specs.declared.statement.Statement.{Statement}
+use Rattle.svc_layout.specs.Options.{◌>>=◌}
+use Rattle.svc_layout.specs.Layouts.{Layout}
 use Rattle.svc_operands.specs.Characters.{found, name_at, past_name}
 use Rattle.svc_operands.specs.Operands.{Read}
 use Rattle.svc_asm_lines.specs.declared.directives.TheConstants.{OPENED}

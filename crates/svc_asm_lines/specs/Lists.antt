@@ -1,14 +1,14 @@
 -- Lists of numbers, which are read one by one.
 use Rattle.std.specs.Prelude.{ℕ, ◌*◌, ◌-◌, ◌/◌, ◌%◌, ◌^◌, Bool, true, not, ◌||◌, nat_le, nat_lt}
 use Rattle.std.specs.Prelude.{List, Option, Some, None, if◌then◌else◌, option_map}
-use Rattle.svc_draft.specs.declared.statement.Width.{Width}
-use Rattle.svc_draft.specs.declared.statement.Width.TheVariants as wide
-use Rattle.svc_draft.specs.declared.statement.Next.{Next}
-use Rattle.svc_draft.specs.declared.statement.Next.TheVariants as go
-use Rattle.svc_draft.specs.declared.statement.Statement.{Statement}
-use Rattle.svc_draft.specs.declared.statement.Statement.TheVariants as say
-use Rattle.svc_draft.specs.Options.{◌>>=◌}
-use Rattle.svc_draft.specs.Layouts.{Layout}
+use Rattle.svc_layout.specs.declared.section.Width.{Width}
+use Rattle.svc_layout.specs.declared.section.Width.TheVariants as wide
+use Rattle.svc_layout.specs.declared.statement.Next.{Next}
+use Rattle.svc_layout.specs.declared.statement.Next.TheVariants as go
+use Rattle.svc_layout.specs.declared.statement.Statement.{Statement}
+use Rattle.svc_layout.specs.declared.statement.Statement.TheVariants as say
+use Rattle.svc_layout.specs.Options.{◌>>=◌}
+use Rattle.svc_layout.specs.Layouts.{Layout}
 use Rattle.svc_operands.specs.Characters.{found, mark_at}
 use Rattle.svc_operands.specs.Operands.{Read}
 use Rattle.svc_operands.specs.Expressions.{expression_at}

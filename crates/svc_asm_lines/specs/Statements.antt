@@ -3,11 +3,11 @@ use Rattle.std.specs.Prelude.{ℕ, nat_eq, List, [], ◌∷◌, Option, Some, No
 use Rattle.std.specs.Prelude.{Bool, true, false, not, drop, codes, option_map}
 use Rattle.std.specs.List.{starts_with}
 use Rattle.std.specs.Str.{bytes_eq}
-use Rattle.svc_draft.specs.Options.{◌>>=◌}
+use Rattle.svc_layout.specs.Options.{◌>>=◌}
 use Rattle.svc_operands.specs.Characters.{name_at, is_from_to, opens, past_spaces, past, found, past_name, behind}
 use Rattle.svc_operands.specs.Characters.{mark_at, value_of}
 use Rattle.svc_operands.specs.declared.characters.TheConstants.{TEXT_END}
-use Rattle.svc_operands.specs.Names.{padded}
+use Rattle.svc_operands.specs.Names.{letters_of}
 use Rattle.svc_asm_lines.specs.declared.directives.Says.{Says}
 use Rattle.svc_asm_lines.specs.declared.directives.Directive.{Directive}
 use Rattle.svc_asm_lines.specs.declared.directives.Beginning.{Beginning}
@@ -15,17 +15,17 @@ use Rattle.svc_asm_lines.specs.declared.directives.Kept.{Kept}
 use Rattle.svc_asm_lines.specs.declared.directives.Kept.TheVariants as kept
 use Rattle.svc_asm_lines.specs.declared.directives.TheConstants.{SECTIONS, DIRECTIVES}
 use Rattle.svc_image.specs.declared.version.Version.TheVariants as version
-use Rattle.svc_draft.specs.declared.statement.Statement.{Statement}
-use Rattle.svc_draft.specs.declared.statement.Statement.TheVariants as say
+use Rattle.svc_layout.specs.declared.statement.Statement.{Statement}
+use Rattle.svc_layout.specs.declared.statement.Statement.TheVariants as say
 use Rattle.svc_operands.specs.Operands.{Read, first_register_at}
 use Rattle.svc_operands.specs.Numbers.{number_below, signed_at}
 use Rattle.svc_asm_lines.specs.declared.directives.Number.{Number}
 use Rattle.svc_asm_lines.specs.declared.directives.Number.TheVariants as number
-use Rattle.svc_draft.specs.declared.statement.Width.TheVariants as wide
-use Rattle.svc_draft.specs.declared.statement.Next.{Next}
-use Rattle.svc_draft.specs.declared.statement.Next.TheVariants as go
+use Rattle.svc_layout.specs.declared.section.Width.TheVariants as wide
+use Rattle.svc_layout.specs.declared.statement.Next.{Next}
+use Rattle.svc_layout.specs.declared.statement.Next.TheVariants as go
 use Rattle.svc_instructions.specs.Couples.{instruction_at}
-use Rattle.svc_draft.specs.Layouts.{Layout}
+use Rattle.svc_layout.specs.Layouts.{Layout}
 use Rattle.svc_asm_lines.specs.declared.line.Passed.{Passed}
 use Rattle.svc_asm_lines.specs.declared.line.Passed.TheVariants as passed
 use Rattle.svc_asm_lines.specs.declared.directives.Says.TheVariants as says
@@ -37,7 +37,7 @@ says_in [] name = None
 says_in (r ∷ more) name = if bytes_eq name r.0 then Some r.1 else says_in more name
 
 unfoldable pub said_by : List Directive → List ℕ → Option Says
-said_by rows name = padded name >>= (λ letters. says_in rows letters)
+said_by rows name = letters_of name >>= (λ letters. says_in rows letters)
 
 -- what a name's section is a part of, by how the name begins
 abbrev pub section_in : List Beginning → List ℕ → Option Kept
@@ -180,12 +180,12 @@ abbrev pub nameless : List ℕ → Statement × List ℕ
 nameless text = if begins_text text then (say.NextText, drop 1 text) else (say.Nothing, text)
 
 -- what a name and what follows it say: a directive's name begins with a dot
-abbrev pub named : Layout → List ℕ → List ℕ → Read Statement
-named d [] text = Some (nameless text)
-named d (c ∷ name) text = if c == 46 then directive_at d (c ∷ name) text else instruction_at d (c ∷ name) text
+abbrev pub line_named : Layout → List ℕ → List ℕ → Read Statement
+line_named d [] text = Some (nameless text)
+line_named d (c ∷ name) text = if c == 46 then directive_at d (c ∷ name) text else instruction_at d (c ∷ name) text
 
 unfoldable pub statement_at : Layout → List ℕ → Read Statement
-statement_at d text = named d (name_at text) (past_name text)
+statement_at d text = line_named d (name_at text) (past_name text)
 
 -- what follows the end of a line, which a comment may stand before, or a semicolon; a text ends with its last line
 abbrev pub behind_end : List ℕ → Option (List ℕ)
@@ -202,7 +202,7 @@ end_at text = behind_end (past_spaces text)
 -- what a name and what follows it say, and the end of its line
 abbrev pub ended_with : Layout → (name text : List ℕ) → Read Statement
 ended_with d name text = do
-  s ← named d name text
+  s ← line_named d name text
   rest ← end_at s.1
   Some (s.0, rest)
 

@@ -1,22 +1,22 @@
 -- Strings, which are read character by character.
 use Rattle.std.specs.Prelude.{ℕ, ◌+◌, ◌*◌, ◌-◌, ◌%◌, ◌==◌, List, [], ◌∷◌, Option, Some, None, if◌then◌else◌, option_map}
-use Rattle.svc_draft.specs.declared.statement.Width.TheVariants as wide
-use Rattle.svc_draft.specs.declared.statement.Ending.{Ending}
-use Rattle.svc_draft.specs.declared.statement.Ending.TheVariants as ending
-use Rattle.svc_draft.specs.declared.statement.Next.{Next}
-use Rattle.svc_draft.specs.declared.statement.Next.TheVariants as go
-use Rattle.svc_draft.specs.declared.statement.Statement.{Statement}
-use Rattle.svc_draft.specs.declared.statement.Statement.TheVariants as say
-use Rattle.svc_draft.specs.Options.{◌>>=◌}
-use Rattle.svc_operands.specs.Characters.{is_from_to, found, digit, escaped}
+use Rattle.svc_layout.specs.declared.section.Width.TheVariants as wide
+use Rattle.svc_layout.specs.declared.statement.Ending.{Ending}
+use Rattle.svc_layout.specs.declared.statement.Ending.TheVariants as ending
+use Rattle.svc_layout.specs.declared.statement.Next.{Next}
+use Rattle.svc_layout.specs.declared.statement.Next.TheVariants as go
+use Rattle.svc_layout.specs.declared.statement.Statement.{Statement}
+use Rattle.svc_layout.specs.declared.statement.Statement.TheVariants as say
+use Rattle.svc_layout.specs.Options.{◌>>=◌}
+use Rattle.svc_operands.specs.Characters.{is_from_to, found, digit, escape}
 use Rattle.svc_operands.specs.Operands.{Read}
 use Rattle.svc_asm_lines.specs.Lists.{going_at}
 use Rattle.svc_asm_lines.specs.Statements.{some_left}
 
 -- what the end of a string says
-abbrev pub closed : Ending → Next → Statement
-closed ending.Bare n = say.Open n
-closed ending.Zero n = say.Value wide.Byte 0 n
+abbrev pub string_end : Ending → Next → Statement
+string_end ending.Bare n = say.Open n
+string_end ending.Zero n = say.Value wide.Byte 0 n
 
 -- a character, behind which the string goes on
 unfoldable pub put_at : Ending → ℕ → List ℕ → Read Statement
@@ -54,13 +54,13 @@ hex_at e (c ∷ rest) = do
 unfoldable pub escape_at : Ending → List ℕ → Read Statement
 escape_at e [] = None
 escape_at e (c ∷ rest) =
-    if c == 120 then hex_at e rest else found (escaped c) (λ b. put_at e b rest) (octal_at e (c ∷ rest))
+    if c == 120 then hex_at e rest else found (escape c) (λ b. put_at e b rest) (octal_at e (c ∷ rest))
 
 -- a character of a string, or the quote behind its last one; a string ends on its line
 unfoldable pub character_at : Ending → List ℕ → Read Statement
 character_at e [] = None
 character_at e (c ∷ rest) =
-    if c == 34 then option_map (λ n. (closed e n.0, n.1)) (going_at (go.Character e) rest) else
+    if c == 34 then option_map (λ n. (string_end e n.0, n.1)) (going_at (go.Character e) rest) else
     if c == 92 then escape_at e rest else
     if c == 10 then None else
     put_at e c rest

@@ -2,15 +2,17 @@
 use Rattle.std.specs.Prelude.{ℕ, ◌+◌, ◌-◌, ◌%◌, ◌^◌, Bool, true, false, not, ◌||◌, List, Option, Some, None}
 use Rattle.std.specs.Prelude.{if◌then◌else◌, codes, option_map}
 use Rattle.std.specs.Str.{bytes_eq}
-use Rattle.svc_draft.specs.declared.statement.Binding.{Binding}
-use Rattle.svc_draft.specs.declared.statement.Section.{Section}
-use Rattle.svc_draft.specs.declared.statement.Section.TheVariants as section
-use Rattle.svc_draft.specs.declared.statement.Spot.{Spot}
-use Rattle.svc_draft.specs.declared.statement.Next.TheVariants as go
-use Rattle.svc_draft.specs.declared.statement.Statement.{Statement}
-use Rattle.svc_draft.specs.declared.statement.Statement.TheVariants as say
-use Rattle.svc_draft.specs.Options.{◌>>=◌}
-use Rattle.svc_draft.specs.Layouts.{Layout, spot_here, spot_of}
+use Rattle.svc_layout.specs.declared.source.Binding.{Binding}
+use Rattle.svc_layout.specs.declared.section.Section.{Section}
+use Rattle.svc_layout.specs.declared.section.Section.TheVariants as section
+use Rattle.svc_layout.specs.declared.section.Spot.{Spot}
+use Rattle.svc_layout.specs.declared.statement.Next.TheVariants as go
+use Rattle.svc_layout.specs.declared.statement.Statement.{Statement}
+use Rattle.svc_layout.specs.declared.statement.Statement.TheVariants as say
+use Rattle.svc_layout.specs.Options.{◌>>=◌}
+use Rattle.svc_layout.specs.Layouts.{Layout}
+use Rattle.svc_layout.specs.Places.{spot_here}
+use Rattle.svc_layout.specs.Addresses.{spot_of}
 use Rattle.svc_operands.specs.Characters.{found, name_at, past_name, mark_at}
 use Rattle.svc_operands.specs.Operands.{Read}
 use Rattle.svc_operands.specs.Numbers.{number_below}
@@ -29,11 +31,11 @@ spot_named d name =
     if bytes_eq name (codes ".") then Some (Some (spot_here d)) else spot_or_later d name (spot_of d name)
 
 -- a place, and what is added to it or taken away
-abbrev pub moved_by : ℕ → Spot → Spot
-moved_by n s = record { section = s.section; offset = (s.offset + n) % 2 ^ 32 }
+abbrev pub spot_plus : ℕ → Spot → Spot
+spot_plus n s = record { section = s.section; offset = (s.offset + n) % 2 ^ 32 }
 
-unfoldable pub moved_at : Option Spot → List ℕ → Read (Option Spot)
-moved_at s text = option_map (λ n. (option_map (moved_by n.0) s, n.1)) (added_at text)
+unfoldable pub sum_at : Option Spot → List ℕ → Read (Option Spot)
+sum_at s text = option_map (λ n. (option_map (spot_plus n.0) s, n.1)) (added_at text)
 
 -- how far a place is behind another of its section, as a plain number
 abbrev pub is_same : Section → Section → Bool
@@ -43,29 +45,29 @@ is_same section.Data section.Data = true
 is_same section.Bss section.Bss = true
 is_same _ _ = false
 
-abbrev pub between : Spot → Spot → Spot
-between s t = record { section = section.Text; offset = (s.offset + (2 ^ 32 - t.offset)) % 2 ^ 32 }
+abbrev pub spot_difference : Spot → Spot → Spot
+spot_difference s t = record { section = section.Text; offset = (s.offset + (2 ^ 32 - t.offset)) % 2 ^ 32 }
 
 abbrev pub difference : Option Spot → Option Spot → Option (Option Spot)
-difference (Some s) (Some t) = if is_same s.section t.section then Some (Some (between s t)) else None
+difference (Some s) (Some t) = if is_same s.section t.section then Some (Some (spot_difference s t)) else None
 difference _ _ = Some None
 
 -- a minus sign and a name
 abbrev pub with_label : List ℕ → Option (List ℕ)
 with_label text = if is_label (name_at text) then Some text else None
 
-unfoldable pub taken_at : List ℕ → Option (List ℕ)
-taken_at text = mark_at 45 text >>= with_label
+unfoldable pub minus_at : List ℕ → Option (List ℕ)
+minus_at text = mark_at 45 text >>= with_label
 
 -- what follows a place: a name that is taken away, and numbers
 unfoldable pub less_at : Layout → Option Spot → List ℕ → Read (Option Spot)
 less_at d s text = do
   t ← spot_named d (name_at text)
-  between ← difference s t
-  moved_at between (past_name text)
+  spot_difference ← difference s t
+  sum_at spot_difference (past_name text)
 
 unfoldable pub behind_at : Layout → Option Spot → List ℕ → Read (Option Spot)
-behind_at d s text = found (taken_at text) (λ name. less_at d s name) (moved_at s text)
+behind_at d s text = found (minus_at text) (λ name. less_at d s name) (sum_at s text)
 
 -- what a number stands for, and a dot or a name before with what follows it
 unfoldable pub spot_at : Layout → List ℕ → Read (Option Spot)

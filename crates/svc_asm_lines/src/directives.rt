@@ -6,11 +6,12 @@ ghost use Rattle.svc_asm_lines.specs.Statements.{says_in, said_by, section_in, s
 ghost use Rattle.svc_asm_lines.specs.Statements.{number_or, zeros_at, fill_at};
 ghost use Rattle.svc_operands.specs.Operands.{Gives};
 
-use svc_draft::Ending::{Bare, Zero};
-use svc_draft::{Binding, Next, Section, Statement, Width};
 use svc_image::Version;
+use svc_layout::Ending::{Bare, Zero};
+use svc_layout::{Binding, Next, Section, Statement, Width};
 use svc_operands::{
-    Name, Read, Wanted, bits_of, padded, read_count, read_signed, skip_mark, split_name, stopped_at,
+    Name, Read, Wanted, bits_of, letters_of, read_count, read_signed, skip_mark, split_name,
+    stopped_at,
 };
 
 /// What a directive says, and what it reads.
@@ -175,14 +176,14 @@ fn says_in(rows: &[Directive], name: Name) -> Option<Says>
 pub fn said_by(name: &[u8]) -> Option<Says>
     ensures { result ≡ said_by DIRECTIVES name.now }
 {
-    says_in(&DIRECTIVES, padded(name)?)
+    says_in(&DIRECTIVES, letters_of(name)?)
 }
 
 #[tactic(auto, unfolding(crate::specs::Statements::said_by))]
 pub fn opened_by(name: &[u8]) -> Option<Says>
     ensures { result ≡ said_by OPENED name.now }
 {
-    says_in(&OPENED, padded(name)?)
+    says_in(&OPENED, letters_of(name)?)
 }
 
 fn section_in(rows: &[Beginning], name: &[u8]) -> Option<Kept>

@@ -3,19 +3,20 @@
 ghost use Rattle.std.specs.Prelude.{◌≡◌, option_map};
 ghost use Rattle.svc_asm_lines.specs.declared.line.Passed.TheVariants as passed;
 ghost use Rattle.svc_asm_lines.specs.Statements.{rest_behind, past_rest, past_quote, kept_as, section_at, some_left};
-ghost use Rattle.svc_asm_lines.specs.Statements.{behind_name, begun_at, said_at, directive_at, named, is_inside};
+ghost use Rattle.svc_asm_lines.specs.Statements.{behind_name, begun_at, said_at, directive_at, line_named, is_inside};
 ghost use Rattle.svc_asm_lines.specs.Statements.{end_at, ended_with, is_label, label_with, line_at, is_passed};
 ghost use Rattle.svc_asm_lines.specs.Statements.{begins_text, is_kept, nameless, passed_at};
 ghost use Rattle.svc_operands.specs.Characters.{past};
-ghost use Rattle.svc_draft.specs.Layouts.{layout_of};
+ghost use Rattle.svc_draft.specs.Drafts.{layout_of};
 ghost use Rattle.svc_operands.specs.Operands.{Gives};
 
 use crate::directives::{
     Kept, Number, Says, read_fill, read_numbered, read_zeros, said_by, section_by,
 };
 use memchr::memchr;
-use svc_draft::{Draft, Next, Statement, Width};
+use svc_draft::Draft;
 use svc_instructions::read_instruction;
+use svc_layout::{Next, Statement, Width};
 use svc_operands::{
     Radix, Read, TEXT_END, Unread, Wanted, opens, read_first_register, read_mark, read_value,
     skip_mark, skip_spaces, split_name, stopped_at, stopped_at_name, value_of,
@@ -221,7 +222,7 @@ fn read_nameless(text: &[u8]) -> (Statement, &[u8])
 
 // What a name and what follows it say.
 fn read_named<'a>(draft: &Draft, name: &[u8], text: &'a [u8]) -> Read<'a, Statement>
-    ensures { Gives (λ x. (x.0, x.1.now)) result (named (layout_of draft.now) name.now text.now) }
+    ensures { Gives (λ x. (x.0, x.1.now)) result (line_named (layout_of draft.now) name.now text.now) }
 {
     match name {
         [] => Ok(read_nameless(text)),

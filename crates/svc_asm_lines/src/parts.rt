@@ -3,14 +3,15 @@
 ghost use Rattle.std.specs.Prelude.{◌≡◌};
 ghost use Rattle.svc_operands.specs.Operands.{Gives};
 ghost use Rattle.svc_asm_lines.specs.DataLines.{first_at, next_at, opened_at};
-ghost use Rattle.svc_draft.specs.Layouts.{layout_of};
+ghost use Rattle.svc_draft.specs.Drafts.{layout_of};
 
 use crate::directives::opened_by;
 use crate::line::{read_line, read_passed, read_said};
 use crate::lists::{read_item, read_long};
 use crate::strings::read_character;
 use crate::symbols::{read_bound, read_common, read_equal, read_local_common, read_symbol};
-use svc_draft::{Draft, Next, Statement};
+use svc_draft::Draft;
+use svc_layout::{Next, Statement};
 use svc_operands::{Read, Unread, Wanted, skip_mark, split_name, stopped_at_name};
 
 #[tactic(auto, unfolding(crate::specs::DataLines::opened_at))]

@@ -2,13 +2,13 @@
 
 ghost use Rattle.std.specs.Prelude.{◌≡◌, ◌+◌, ◌*◌, ◌<◌, IfSome, option_map};
 ghost use Rattle.svc_operands.specs.Operands.{Gives};
-ghost use Rattle.svc_asm_lines.specs.Strings.{closed, put_at, octal_digit, octal_on, octal_at, hex_on, hex_at};
+ghost use Rattle.svc_asm_lines.specs.Strings.{string_end, put_at, octal_digit, octal_on, octal_at, hex_on, hex_at};
 ghost use Rattle.svc_asm_lines.specs.Strings.{escape_at, character_at};
 
 use crate::line::read_left;
 use crate::lists::read_going;
-use svc_draft::{Ending, Next, Statement, Width};
-use svc_operands::{Read, Unread, Wanted, digit, escaped, stopped_at};
+use svc_layout::{Ending, Next, Statement, Width};
+use svc_operands::{Read, Unread, Wanted, digit, escape, stopped_at};
 
 // The fault of a backslash that this follows. A space is no blank there.
 fn stopped_behind_backslash(text: &[u8]) -> Unread {
@@ -18,8 +18,8 @@ fn stopped_behind_backslash(text: &[u8]) -> Unread {
     }
 }
 
-fn closed(ending: Ending, next: Next) -> Statement
-    ensures { result ≡ closed ending next }
+fn string_end(ending: Ending, next: Next) -> Statement
+    ensures { result ≡ string_end ending next }
 {
     match ending {
         Ending::Bare => Statement::Open(next),
@@ -117,7 +117,7 @@ fn read_escape(ending: Ending, text: &[u8]) -> Read<'_, Statement>
     match text {
         [] => Err(stopped_behind_backslash(text)),
         [b'x', rest @ ..] => read_hex(ending, rest),
-        [letter, rest @ ..] => match escaped(*letter) {
+        [letter, rest @ ..] => match escape(*letter) {
             Some(character) => read_on(ending, character, rest),
             None => read_octal(ending, text),
         },
@@ -132,7 +132,7 @@ pub fn read_character(ending: Ending, text: &[u8]) -> Read<'_, Statement>
         [] => Err(stopped_at(text, Wanted::Quote)),
         [b'"', rest @ ..] => {
             let (next, rest) = read_going(Next::Character(ending), rest)?;
-            Ok((closed(ending, next), rest))
+            Ok((string_end(ending, next), rest))
         }
         [b'\\', rest @ ..] => read_escape(ending, rest),
         [b'\n', ..] => Err(stopped_at(text, Wanted::Quote)),

@@ -2,14 +2,15 @@
 
 ghost use Rattle.std.specs.Prelude.{◌≡◌, option_map};
 ghost use Rattle.svc_operands.specs.Operands.{Gives};
-ghost use Rattle.svc_asm_lines.specs.Symbols.{spot_named, moved_by, moved_at, is_same, difference, taken_at, less_at};
+ghost use Rattle.svc_asm_lines.specs.Symbols.{spot_named, spot_plus, sum_at, is_same, difference, minus_at, less_at};
 ghost use Rattle.svc_asm_lines.specs.Symbols.{behind_at, spot_at, named_at, symbol_at, equal_at, step_at, common_at};
 ghost use Rattle.svc_asm_lines.specs.Symbols.{bound_at, local_common_at, room_at};
-ghost use Rattle.svc_draft.specs.Layouts.{layout_of};
+ghost use Rattle.svc_draft.specs.Drafts.{layout_of};
 
 use crate::line::{is_label, read_end};
 use crate::lists::{low, read_going};
-use svc_draft::{Binding, Draft, Next, Section, Spot, Statement};
+use svc_draft::Draft;
+use svc_layout::{Binding, Next, Section, Spot, Statement};
 use svc_operands::{
     Read, Unread, Wanted, read_added, read_count, read_expression, read_mark, read_number,
     skip_mark, split_name, stopped_at,
@@ -29,20 +30,20 @@ fn spot_named(draft: &Draft, name: &[u8]) -> Option<Option<Spot>>
     }
 }
 
-fn moved_by(number: u64, spot: Option<Spot>) -> Option<Spot>
-    ensures { result ≡ option_map (moved_by number) spot }
+fn spot_plus(number: u64, spot: Option<Spot>) -> Option<Spot>
+    ensures { result ≡ option_map (spot_plus number) spot }
 {
     let Spot { section, offset } = spot?;
     let offset = offset.wrapping_add(low(number));
     Some(Spot { section, offset })
 }
 
-#[tactic(auto, unfolding(crate::specs::Symbols::moved_at))]
+#[tactic(auto, unfolding(crate::specs::Symbols::sum_at))]
 fn read_moved(spot: Option<Spot>, text: &[u8]) -> Read<'_, Option<Spot>>
-    ensures { Gives (λ x. (x.0, x.1.now)) result (moved_at spot text.now) }
+    ensures { Gives (λ x. (x.0, x.1.now)) result (sum_at spot text.now) }
 {
     let (number, rest) = read_added(text)?;
-    Ok((moved_by(number, spot), rest))
+    Ok((spot_plus(number, spot), rest))
 }
 
 fn is_same(first: Section, second: Section) -> bool
@@ -72,9 +73,9 @@ fn difference(first: Option<Spot>, second: Option<Spot>) -> Option<Option<Spot>>
     Some(Some(Spot { section, offset }))
 }
 
-#[tactic(auto, unfolding(crate::specs::Symbols::taken_at))]
+#[tactic(auto, unfolding(crate::specs::Symbols::minus_at))]
 fn skip_minus(text: &[u8]) -> Option<&[u8]>
-    ensures { option_map (λ x. x.now) result ≡ taken_at text.now }
+    ensures { option_map (λ x. x.now) result ≡ minus_at text.now }
 {
     let rest = skip_mark(b'-', text)?;
     if !is_label(split_name(rest).0) {
@@ -93,7 +94,7 @@ fn read_less<'a>(draft: &Draft, spot: Option<Spot>, text: &'a [u8]) -> Read<'a, 
         return Err(stopped_at(text, Wanted::Symbol));
     };
     match difference(spot, taken) {
-        Some(between) => read_moved(between, rest),
+        Some(spot_difference) => read_moved(spot_difference, rest),
         None => Err(stopped_at(text, Wanted::SameSection)),
     }
 }

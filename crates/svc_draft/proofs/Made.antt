@@ -8,7 +8,8 @@ use Rattle.svc_image.specs.Version.{read_only_by, limits_by}
 use Rattle.svc_image.specs.Format.{words_in}
 use Rattle.svc_image.specs.Parts.{version_by, number_by, listed_by, image_made, HasLimits}
 use Rattle.svc_draft.specs.declared.making.Mark.{Mark}
-use Rattle.svc_draft.specs.Layouts.{version_in, Layout, start_in, limits_in, data_in, IsOwnOf, image_laid}
+use Rattle.svc_layout.specs.Layouts.{Layout}
+use Rattle.svc_layout.specs.Images.{version_in, start_in, limits_in, data_in, IsOwnOf, image_laid}
 
 -- the limits of marks
 pub own-limits : (limit : ℕ) (ms : List Mark) → map (λ m. unwrap_or m.limit limit) ms ≡ limits_in limit (map (λ m. m.limit) ms)

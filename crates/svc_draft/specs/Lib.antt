@@ -1,5 +1,1 @@
-pub mod Options
-pub mod Areas
-pub mod Refusals
-pub mod Sources
-pub mod Layouts
+pub mod Drafts

@@ -3,12 +3,11 @@
 ghost use Rattle.std.specs.Prelude.{◌≡◌, ◌<◌, ◌≤◌, false, length, map, IfErr, OnOk};
 
 use crate::making::Mark;
-use crate::refusal::Refusal;
-use crate::sources::{Text, shared_spot};
-use crate::statement::{Binding, Next, Section, Spot, Statement, Width};
+use crate::sources::{SourceTables, shared_spot};
 use std::alloc::Global;
 use std::collections::HashMap;
 use svc_image::{DATA_START, MOST_WORDS, Version};
+use svc_layout::{Area, Binding, Next, Refusal, Section, Spot, Statement, Width};
 
 /// What the lines read so far make, as a `Layout` says it.
 #[derive(Drop)]
@@ -21,34 +20,31 @@ pub struct Draft<'a> {
     pub(crate) registers: [u32; 31],
     pub(crate) entries: Vec<Mark>,
     pub(crate) text: Vec<u32>,
-    pub(crate) rodata_bytes: Vec<u8>,
-    pub(crate) data_bytes: Vec<u8>,
-    pub(crate) bss_bytes: Vec<u8>,
+    pub(crate) rodata: Area,
+    pub(crate) data: Area,
+    pub(crate) bss: Area,
     pub(crate) data_step: u32,
     pub(crate) bss_step: u32,
     pub(crate) section: Section,
     pub(crate) next: Next,
     pub(crate) number: usize,
-    pub(crate) text_read: Text<'a>,
-    pub(crate) found: Vec<Text<'a>>,
+    pub(crate) source_read: SourceTables<'a>,
+    pub(crate) found: Vec<SourceTables<'a>>,
     pub(crate) known: bool,
     pub(crate) data_from: u32,
     pub(crate) bss_from: u32,
-    pub(crate) sources: Vec<Text<'a>>,
-    pub(crate) placed: bool,
+    pub(crate) sources: Vec<SourceTables<'a>>,
+    pub(crate) places_known: bool,
     pub(crate) lacks_names: bool,
     pub(crate) lacks_places: bool,
     pub(crate) passed: usize,
     pub(crate) distances: HashMap<u32, u32>,
     pub(crate) has_distances: bool,
-    pub(crate) measured: bool,
+    pub(crate) distances_known: bool,
     pub(crate) turned: HashMap<usize, ()>,
     pub(crate) turns_all: bool,
     pub(crate) grew: bool,
     ghost text_few: { length text.items ≤ 65536 },
-    ghost rodata_few: { length rodata_bytes.items ≤ 262144 },
-    ghost data_few: { length data_bytes.items ≤ 262144 },
-    ghost bss_few: { length bss_bytes.items ≤ 262144 },
     ghost data_step_few: { data_step ≤ 65536 },
     ghost bss_step_few: { bss_step ≤ 65536 },
     ghost data_near: { data_from ≤ 327680 },
@@ -58,12 +54,15 @@ pub struct Draft<'a> {
 
 impl<'a> Draft<'a> {
     ghost use Rattle.std.specs.Prelude.{Some};
-    ghost use Rattle.svc_draft.specs.Refusals.{Refuses};
-    ghost use Rattle.svc_draft.specs.Layouts.{layout_of, empty, first_pass, second_pass, measuring_pass, laying_pass};
-    ghost use Rattle.svc_draft.specs.Layouts.{once_more, next_round, last_round, lacks, is_turned, is_foreign, size};
-    ghost use Rattle.svc_draft.specs.Layouts.{size_in};
-    ghost use Rattle.svc_draft.specs.Sources.{no_source, source_of};
-    ghost use Rattle.svc_draft.specs.Layouts.{base, place, spot_here, here, after};
+    ghost use Rattle.svc_draft.specs.Drafts.{layout_of, source_of};
+    ghost use Rattle.svc_layout.specs.Refusals.{Refuses};
+    ghost use Rattle.svc_layout.specs.Sources.{no_source};
+    ghost use Rattle.svc_layout.specs.Places.{size, size_in, base, place, spot_here, here};
+    ghost use Rattle.svc_layout.specs.Passes.{empty, first_pass, second_pass, measuring_pass, laying_pass, once_more};
+    ghost use Rattle.svc_layout.specs.Passes.{next_round, last_round, lacks};
+    ghost use Rattle.svc_layout.specs.Addresses.{is_foreign};
+    ghost use Rattle.svc_layout.specs.Notes.{is_turned};
+    ghost use Rattle.svc_layout.specs.Lines.{after};
 
     /// No lines yet, in the first pass of the first round, in which no branch is turned.
     pub fn new(alloc: Global) -> Draft<'a>
@@ -95,7 +94,7 @@ impl<'a> Draft<'a> {
         ensures { layout_of result ≡ once_more (layout_of self.entry) }
     {
         let mut more = Draft::behind(self.found, alloc);
-        more.placed = !self.lacks_places;
+        more.places_known = !self.lacks_places;
         more.turned = self.turned;
         more.turns_all = self.turns_all;
         more
@@ -109,8 +108,8 @@ impl<'a> Draft<'a> {
         let bss_from = self.bss_begin();
         let mut again = Draft::behind(self.found, alloc);
         again.known = true;
-        again.placed = true;
-        again.measured = true;
+        again.places_known = true;
+        again.distances_known = true;
         again.data_from = data_from;
         again.bss_from = bss_from;
         again.data_step = self.data_step;
@@ -125,7 +124,7 @@ impl<'a> Draft<'a> {
         ensures { layout_of result ≡ measuring_pass (layout_of self.entry) }
     {
         let mut measuring = self.again(alloc);
-        measuring.measured = false;
+        measuring.distances_known = false;
         measuring
     }
 
@@ -135,8 +134,8 @@ impl<'a> Draft<'a> {
     {
         let mut laying = Draft::behind(self.sources, alloc);
         laying.known = true;
-        laying.placed = true;
-        laying.measured = true;
+        laying.places_known = true;
+        laying.distances_known = true;
         laying.data_from = self.data_from;
         laying.bss_from = self.bss_from;
         laying.data_step = self.data_step;
@@ -148,9 +147,9 @@ impl<'a> Draft<'a> {
     }
 
     // No lines yet, in a first pass behind one that found these texts.
-    fn behind(sources: Vec<Text<'a>>, alloc: Global) -> Draft<'a>
+    fn behind(sources: Vec<SourceTables<'a>>, alloc: Global) -> Draft<'a>
         ensures layout { layout_of result ≡ empty (map source_of sources.entry.items) false 0 0 }
-        ensures fresh { source_of result.text_read ≡ no_source }
+        ensures fresh { source_of result.source_read ≡ no_source }
     {
         Draft {
             alloc,
@@ -161,27 +160,27 @@ impl<'a> Draft<'a> {
             registers: [0; 31],
             entries: Vec::new(alloc),
             text: Vec::new(alloc),
-            rodata_bytes: Vec::new(alloc),
-            data_bytes: Vec::new(alloc),
-            bss_bytes: Vec::new(alloc),
+            rodata: Area::new(alloc),
+            data: Area::new(alloc),
+            bss: Area::new(alloc),
             data_step: 4,
             bss_step: 4,
             section: Section::Text,
             next: Next::Line,
             number: 0,
-            text_read: Text::new(alloc),
+            source_read: SourceTables::new(alloc),
             found: Vec::new(alloc),
             known: false,
             data_from: 0,
             bss_from: 0,
             sources,
-            placed: false,
+            places_known: false,
             lacks_names: false,
             lacks_places: false,
             passed: 0,
             distances: HashMap::new(alloc),
             has_distances: false,
-            measured: false,
+            distances_known: false,
             turned: HashMap::new(alloc),
             turns_all: false,
             grew: false,
@@ -206,9 +205,9 @@ impl<'a> Draft<'a> {
     {
         match section {
             Section::Text => 4 * self.text.len() as u32,
-            Section::Rodata => self.rodata_bytes.len() as u32,
-            Section::Data => self.data_bytes.len() as u32,
-            Section::Bss => self.bss_bytes.len() as u32,
+            Section::Rodata => self.rodata.size(),
+            Section::Data => self.data.size(),
+            Section::Bss => self.bss.size(),
         }
     }
 
@@ -286,13 +285,13 @@ impl<'a> Draft<'a> {
     }
 
     // The text that is read: with all its names where all are known, and else with those so far.
-    pub(crate) fn source(&self) -> &Text<'a>
+    pub(crate) fn source(&self) -> &SourceTables<'a>
         ensures { source_of result.now ≡ (layout_of self.now).source }
     {
         if !self.known {
-            return &self.text_read;
+            return &self.source_read;
         }
-        self.sources.get(self.number).unwrap_or(&self.text_read)
+        self.sources.get(self.number).unwrap_or(&self.source_read)
     }
 
     /// Whether all names of the program are known, as they are in the second pass.

@@ -1,16 +1,17 @@
 // Names and local labels: what stands for what.
 
 ghost use Rattle.std.specs.Prelude.{◌≡◌, IfErr, OnOk, Some, None, false, take, drop};
-ghost use Rattle.svc_draft.specs.Layouts.{last_local, first_local, layout_of, place, address_of, address_back};
-ghost use Rattle.svc_draft.specs.Layouts.{address_ahead, distance_from, is_shared_twice, known_spot, spot_before};
-ghost use Rattle.svc_draft.specs.Layouts.{own_address, spot_of, with_binding, with_local, with_name, with_name_again, with_passed};
-ghost use Rattle.svc_draft.specs.Layouts.{with_set, with_symbol};
-ghost use Rattle.svc_draft.specs.Refusals.{Refuses, Changes};
+ghost use Rattle.svc_draft.specs.Drafts.{layout_of};
+ghost use Rattle.svc_layout.specs.Refusals.{Refuses, Changes};
+ghost use Rattle.svc_layout.specs.Places.{place};
+ghost use Rattle.svc_layout.specs.Addresses.{last_local, first_local, address_of, address_back, address_ahead};
+ghost use Rattle.svc_layout.specs.Addresses.{distance_from, known_spot, spot_before, own_address, spot_of};
+ghost use Rattle.svc_layout.specs.Labels.{is_shared_twice, with_binding, with_local, with_name, with_name_again};
+ghost use Rattle.svc_layout.specs.Labels.{with_passed, with_set, with_symbol};
 
 use crate::draft::Draft;
-use crate::refusal::Refusal;
-use crate::sources::{Strength, bound, first_by, has_strength, shared_spot};
-use crate::statement::{Binding, Local, Spot};
+use crate::sources::{binding_with, first_by, has_strength, shared_spot};
+use svc_layout::{Binding, Local, Refusal, Spot, Strength};
 
 /// The most local labels. Each is looked at for every name of one, so that few bound the time.
 const MOST_LOCALS: usize = 4096;
@@ -20,7 +21,7 @@ impl<'a> Draft<'a> {
     fn spot_before(&self, name: &[u8]) -> Option<Spot>
         ensures { result ≡ spot_before (layout_of self.now) name.now }
     {
-        if !self.placed {
+        if !self.places_known {
             return None;
         }
         self.sources.get(self.number)?.spot_of(name)
@@ -86,13 +87,12 @@ impl<'a> Draft<'a> {
         Some(self.place(first_local(number, rest_of(&self.source().locals, self.passed))?))
     }
 
-    /// How far it is from the instruction with `%pcrel_hi` at this address to its value. Until all are measured, any
-    /// may
-    /// yet come to stand there.
+    /// How far it is from the instruction with `%pcrel_hi` at this address to its value. Until all are
+    /// measured, any may yet come to stand there.
     pub fn distance_from(&self, place: u32) -> Option<u32>
         ensures { result ≡ distance_from (layout_of self.now) place }
     {
-        if !self.measured {
+        if !self.distances_known {
             return Some(0);
         }
         self.distances.get(&place).copied()
@@ -107,7 +107,7 @@ impl<'a> Draft<'a> {
         first_by(Strength::Strong, name, self.texts_above()).is_some()
     }
 
-    #[tactic(auto, unfolding(crate::specs::Layouts::with_name_again))]
+    #[tactic(auto, unfolding(svc_layout::specs::Labels::with_name_again))]
     pub(crate) fn find_again(&self, name: &[u8], spot: Spot) -> Result<(), Refusal>
         ensures { Changes result (with_name_again name.now spot (layout_of self.now)) (layout_of self.now) }
     {
@@ -118,15 +118,15 @@ impl<'a> Draft<'a> {
         }
     }
 
-    #[tactic(auto, unfolding(crate::specs::Layouts::with_name))]
+    #[tactic(auto, unfolding(svc_layout::specs::Labels::with_name))]
     pub(crate) fn find_name(&mut self, name: &'a [u8], spot: Spot) -> Result<(), Refusal>
         requires { self.old.known ≡ false }
         ensures { Changes result (with_name name.now spot (layout_of self.old)) (layout_of self.new) }
     {
-        if self.text_read.spot_of(name).is_some() {
+        if self.source_read.spot_of(name).is_some() {
             return Err(Refusal::LabelTwice);
         }
-        self.text_read.names.insert(name, spot)?;
+        self.source_read.names.insert(name, spot)?;
         Ok(())
     }
 
@@ -153,19 +153,19 @@ impl<'a> Draft<'a> {
         }
     }
 
-    #[tactic(auto, unfolding(crate::specs::Layouts::with_binding))]
+    #[tactic(auto, unfolding(svc_layout::specs::Labels::with_binding))]
     pub(crate) fn bind(&mut self, name: &'a [u8], binding: Binding) -> Result<(), Refusal>
         ensures { Changes result (with_binding name.now binding (layout_of self.old)) (layout_of self.new) }
     {
         if self.known {
             return Ok(());
         }
-        let binding = bound(self.text_read.binding_of(name), binding);
-        self.text_read.bindings.insert(name, binding)?;
+        let binding = binding_with(self.source_read.binding_of(name), binding);
+        self.source_read.bindings.insert(name, binding)?;
         Ok(())
     }
 
-    #[tactic(auto, unfolding(crate::specs::Layouts::with_passed))]
+    #[tactic(auto, unfolding(svc_layout::specs::Labels::with_passed))]
     pub(crate) fn pass_local(&mut self, number: u32) -> Result<(), Refusal>
         ensures { Changes result (with_passed number (layout_of self.old)) (layout_of self.new) }
     {
@@ -179,18 +179,18 @@ impl<'a> Draft<'a> {
         }
     }
 
-    #[tactic(auto, unfolding(crate::specs::Layouts::with_local))]
+    #[tactic(auto, unfolding(svc_layout::specs::Labels::with_local))]
     pub(crate) fn take_local(&mut self, number: u32) -> Result<(), Refusal>
         ensures { Changes result (with_local number (layout_of self.old)) (layout_of self.new) }
     {
         if self.known {
             return self.pass_local(number);
         }
-        if self.text_read.locals.len() >= MOST_LOCALS {
+        if self.source_read.locals.len() >= MOST_LOCALS {
             return Err(Refusal::FullLocals);
         }
         let spot = self.spot_here();
-        self.text_read.locals.push(Local { number, spot })?;
+        self.source_read.locals.push(Local { number, spot })?;
         Ok(())
     }
 }
@@ -207,7 +207,7 @@ fn rest_of(locals: &[Local], count: usize) -> &[Local]
     locals.split_at(count.min(locals.len())).1
 }
 
-#[tactic(auto, unfolding(crate::specs::Layouts::last_local))]
+#[tactic(auto, unfolding(svc_layout::specs::Addresses::last_local))]
 fn last_local(number: u32, locals: &[Local]) -> Option<Spot>
     ensures { result ≡ last_local number None locals.now }
 {
@@ -220,7 +220,7 @@ fn last_local(number: u32, locals: &[Local]) -> Option<Spot>
     found
 }
 
-#[tactic(auto, unfolding(crate::specs::Layouts::first_local))]
+#[tactic(auto, unfolding(svc_layout::specs::Addresses::first_local))]
 fn first_local(number: u32, locals: &[Local]) -> Option<Spot>
     ensures { result ≡ first_local number locals.now }
 {

@@ -4,16 +4,16 @@ ghost use Rattle.std.specs.Prelude.{◌≡◌, ◌==◌, map, unwrap_or, IfOk, �
 ghost use Rattle.std.specs.List.{list_any};
 ghost use Rattle.svc_image.specs.Image.{IsImage};
 ghost use Rattle.svc_image.specs.Parts.{HasLimits, image_made};
-ghost use Rattle.svc_draft.specs.Layouts.{layout_of, start_in, IsOwnOf, image_laid, IsMadeOf};
+ghost use Rattle.svc_draft.specs.Drafts.{layout_of};
+ghost use Rattle.svc_layout.specs.Images.{start_in, IsOwnOf, image_laid, IsMadeOf};
 ghost use Rattle.svc_image.specs.declared.error.ImageError.TheVariants as image_error;
-ghost use Rattle.svc_draft.specs.declared.refusal.Refusal.TheVariants as refusal;
+ghost use Rattle.svc_layout.specs.declared.refusal.Refusal.TheVariants as refusal;
 ghost use Rattle.svc_image.specs.Image as value;
 
-use crate::data::join;
 use crate::draft::Draft;
-use crate::refusal::Refusal;
 use std::alloc::{AllocError, Global};
 use svc_image::{Image, ImageError, Own, Parts, Version, read_words};
+use svc_layout::{Refusal, join};
 
 /// An entry.
 #[derive(Clone, Copy)]
@@ -91,9 +91,9 @@ impl Draft<'_> {
             alloc,
             self.data_step,
             self.bss_step,
-            &self.rodata_bytes,
-            &self.data_bytes,
-            &self.bss_bytes,
+            &self.rodata,
+            &self.data,
+            &self.bss,
         )?;
         let words = read_words(alloc, &data, data.len() / 4)?;
         let entries = places_of(alloc, &self.entries)?;

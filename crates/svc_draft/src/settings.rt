@@ -1,19 +1,19 @@
 // What directives of images say: the version, read-only data, limits, entries and registers.
 
 ghost use Rattle.std.specs.Prelude.{◌≡◌};
-ghost use Rattle.svc_draft.specs.Layouts.{has_other, layout_of, is_limit, with_version, data_up_to, with_read_only};
-ghost use Rattle.svc_draft.specs.Layouts.{with_own, with_place, with_entry, with_limit, with_register};
-ghost use Rattle.svc_draft.specs.Refusals.{Changes};
+ghost use Rattle.svc_draft.specs.Drafts.{layout_of};
+ghost use Rattle.svc_layout.specs.Refusals.{Changes};
+ghost use Rattle.svc_layout.specs.Directives.{has_other, is_limit, with_version, data_up_to, with_read_only, with_own};
+ghost use Rattle.svc_layout.specs.Directives.{with_place, with_entry, with_limit, with_register};
 
 use crate::draft::Draft;
 use crate::making::{Mark, has_place};
-use crate::refusal::Refusal;
-use crate::statement::Section;
 use svc_image::{MOST_ENTRIES, MOST_WORDS, Version};
+use svc_layout::{Refusal, Section};
 use svc_rv32i::Register;
 
 impl Draft<'_> {
-    #[tactic(auto, unfolding(crate::specs::Layouts::with_version))]
+    #[tactic(auto, unfolding(svc_layout::specs::Directives::with_version))]
     pub(crate) fn set_version(&mut self, version: Version) -> Result<(), Refusal>
         ensures { Changes result (with_version version (layout_of self.old)) (layout_of self.new) }
     {
@@ -28,13 +28,13 @@ impl Draft<'_> {
         ensures { result ≡ data_up_to (layout_of self.now).section (layout_of self.now) }
     {
         match self.section {
-            Section::Rodata => self.rodata_bytes.len() as u32,
-            Section::Text | Section::Data => self.data_from + self.data_bytes.len() as u32,
-            Section::Bss => self.bss_from + self.bss_bytes.len() as u32,
+            Section::Rodata => self.rodata.size(),
+            Section::Text | Section::Data => self.data_from + self.data.size(),
+            Section::Bss => self.bss_from + self.bss.size(),
         }
     }
 
-    #[tactic(auto, unfolding(crate::specs::Layouts::with_read_only))]
+    #[tactic(auto, unfolding(svc_layout::specs::Directives::with_read_only))]
     pub(crate) fn set_read_only(&mut self) -> Result<(), Refusal>
         ensures { Changes result (with_read_only (layout_of self.old)) (layout_of self.new) }
     {
@@ -51,7 +51,7 @@ impl Draft<'_> {
         }
     }
 
-    #[tactic(auto, unfolding(crate::specs::Layouts::with_limit))]
+    #[tactic(auto, unfolding(svc_layout::specs::Directives::with_limit))]
     pub(crate) fn set_limit(&mut self, limit: u32) -> Result<(), Refusal>
         ensures { Changes result (with_limit limit (layout_of self.old)) (layout_of self.new) }
     {
@@ -72,7 +72,7 @@ impl Draft<'_> {
         }
     }
 
-    #[tactic(auto, unfolding(crate::specs::Layouts::with_place))]
+    #[tactic(auto, unfolding(svc_layout::specs::Directives::with_place))]
     pub(crate) fn push_place(&mut self, limit: Option<u32>) -> Result<(), Refusal>
         ensures { Changes result (with_place limit (layout_of self.old)) (layout_of self.new) }
     {
@@ -91,7 +91,7 @@ impl Draft<'_> {
         Ok(())
     }
 
-    #[tactic(auto, unfolding(crate::specs::Layouts::with_entry))]
+    #[tactic(auto, unfolding(svc_layout::specs::Directives::with_entry))]
     pub(crate) fn push_entry(&mut self, limit: Option<u32>) -> Result<(), Refusal>
         ensures { Changes result (with_entry limit (layout_of self.old)) (layout_of self.new) }
     {
@@ -99,7 +99,7 @@ impl Draft<'_> {
         self.push_place(limit)
     }
 
-    #[tactic(auto, unfolding(crate::specs::Layouts::with_register))]
+    #[tactic(auto, unfolding(svc_layout::specs::Directives::with_register))]
     pub(crate) fn set_register(&mut self, register: Register, value: u32) -> Result<(), Refusal>
         ensures { Changes result (with_register register value (layout_of self.old)) (layout_of self.new) }
     {

@@ -1,46 +1,25 @@
 // The texts of a program, of which each has names of its own and shares some with the others.
 
 ghost use Rattle.std.specs.Prelude.{◌≡◌, ◌≤◌, map};
-ghost use Rattle.svc_draft.specs.Sources.{bound, bound_again, common_room, first_by, greater, greater_room};
-ghost use Rattle.svc_draft.specs.Sources.{has_strength, no_source, own_spot, shared_spot, source_of, spot_by};
+ghost use Rattle.svc_draft.specs.Drafts.{source_of};
+ghost use Rattle.svc_layout.specs.Sources.{binding_with, binding_again, common_room, first_by, greater, greater_room};
+ghost use Rattle.svc_layout.specs.Sources.{has_strength, no_source, own_spot, shared_spot, spot_by};
 
-use crate::statement::{Binding, Local, Spot};
 use std::alloc::Global;
 use std::collections::HashMap;
-
-/// Of which steps the part of each section that one text has begins at a multiple.
-#[derive(Clone, Copy)]
-pub struct Steps {
-    /// That of `.text`.
-    pub text_step: u32,
-    /// That of `.rodata`.
-    pub rodata_step: u32,
-    /// That of `.data`.
-    pub data_step: u32,
-    /// That of `.bss`.
-    pub bss_step: u32,
-}
-
-/// How strong a shared name is.
-#[derive(Clone, Copy)]
-pub enum Strength {
-    /// No other of the name may be strong.
-    Strong,
-    /// It yields to a strong one of the name.
-    Yielding,
-}
+use svc_layout::{Binding, Local, Spot, Steps, Strength};
 
 /// What one text of a program has found, or has from the pass before.
 #[derive(Drop)]
-pub struct Text<'a> {
+pub struct SourceTables<'a> {
     pub(crate) names: HashMap<&'a [u8], Spot>,
     pub(crate) bindings: HashMap<&'a [u8], Binding>,
     pub(crate) locals: Vec<Local>,
     pub(crate) steps: Steps,
 }
 
-fn bound_again(old: Binding, new: Binding) -> Binding
-    ensures { result ≡ bound_again old new }
+fn binding_again(old: Binding, new: Binding) -> Binding
+    ensures { result ≡ binding_again old new }
 {
     match (old, new) {
         (Binding::Weak, Binding::Global | Binding::Common(_, _))
@@ -50,12 +29,12 @@ fn bound_again(old: Binding, new: Binding) -> Binding
     }
 }
 
-pub(crate) fn bound(old: Option<Binding>, new: Binding) -> Binding
-    ensures { result ≡ bound old new }
+pub(crate) fn binding_with(old: Option<Binding>, new: Binding) -> Binding
+    ensures { result ≡ binding_with old new }
 {
     match old {
         None => new,
-        Some(old) => bound_again(old, new),
+        Some(old) => binding_again(old, new),
     }
 }
 
@@ -87,20 +66,15 @@ fn greater_room(binding: Option<Binding>, room: (u32, u32)) -> (u32, u32)
     }
 }
 
-impl<'a> Text<'a> {
-    pub(crate) fn new(alloc: Global) -> Text<'a>
+impl<'a> SourceTables<'a> {
+    pub(crate) fn new(alloc: Global) -> SourceTables<'a>
         ensures { source_of result ≡ no_source }
     {
-        Text {
+        SourceTables {
             names: HashMap::new(alloc),
             bindings: HashMap::new(alloc),
             locals: Vec::new(alloc),
-            steps: Steps {
-                text_step: 4,
-                rodata_step: 1,
-                data_step: 1,
-                bss_step: 1,
-            },
+            steps: Steps::new(),
         }
     }
 
@@ -137,8 +111,8 @@ impl<'a> Text<'a> {
 }
 
 // The place of a name in the first of the texts that share it so.
-#[tactic(auto, unfolding(crate::specs::Sources::first_by))]
-pub(crate) fn first_by(how: Strength, name: &[u8], texts: &[Text<'_>]) -> Option<Spot>
+#[tactic(auto, unfolding(svc_layout::specs::Sources::first_by))]
+pub(crate) fn first_by(how: Strength, name: &[u8], texts: &[SourceTables<'_>]) -> Option<Spot>
     ensures { result ≡ first_by how name.now (map source_of texts.now) }
 {
     for text in texts {
@@ -150,7 +124,7 @@ pub(crate) fn first_by(how: Strength, name: &[u8], texts: &[Text<'_>]) -> Option
 }
 
 // What a name stands for in other texts.
-pub(crate) fn shared_spot(texts: &[Text<'_>], name: &[u8]) -> Option<Spot>
+pub(crate) fn shared_spot(texts: &[SourceTables<'_>], name: &[u8]) -> Option<Spot>
     ensures { result ≡ shared_spot (map source_of texts.now) name.now }
 {
     match first_by(Strength::Strong, name, texts) {
@@ -160,8 +134,8 @@ pub(crate) fn shared_spot(texts: &[Text<'_>], name: &[u8]) -> Option<Spot>
 }
 
 // The size and the step of zeros that texts share under a name.
-#[tactic(auto, unfolding(crate::specs::Sources::common_room))]
-pub(crate) fn common_room(name: &[u8], texts: &[Text<'_>], room: (u32, u32)) -> (u32, u32)
+#[tactic(auto, unfolding(svc_layout::specs::Sources::common_room))]
+pub(crate) fn common_room(name: &[u8], texts: &[SourceTables<'_>], room: (u32, u32)) -> (u32, u32)
     ensures { result ≡ common_room name.now (map source_of texts.now) room }
 {
     let mut greatest = room;

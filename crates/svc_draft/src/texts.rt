@@ -1,19 +1,17 @@
 // Zeros that texts name in `.bss`, and where the next text of a program begins.
 
 ghost use Rattle.std.specs.Prelude.{◌≡◌, OnOk, map, option_map, slice_get, take};
-ghost use Rattle.svc_draft.specs.Sources.{source_of};
-ghost use Rattle.svc_draft.specs.Layouts.{begun, has_other_room, is_common, layout_of};
-ghost use Rattle.svc_draft.specs.Layouts.{with_bound_zeros, with_common, with_next_text, with_own_zeros, with_part};
-ghost use Rattle.svc_draft.specs.Layouts.{with_parts, with_shared_zeros, with_source, with_zeros_named};
-ghost use Rattle.svc_draft.specs.Refusals.{Changes};
+ghost use Rattle.svc_draft.specs.Drafts.{source_of, layout_of};
+ghost use Rattle.svc_layout.specs.Refusals.{Changes};
+ghost use Rattle.svc_layout.specs.Zeros.{has_other_room, is_common, with_bound_zeros, with_common, with_own_zeros};
+ghost use Rattle.svc_layout.specs.Zeros.{with_shared_zeros, with_zeros_named};
+ghost use Rattle.svc_layout.specs.Texts.{with_begin, with_next_text, with_part, with_parts, with_source};
 
-use crate::data::padding;
 use crate::draft::Draft;
-use crate::refusal::Refusal;
-use crate::sources::{Steps, Strength, Text, common_room, first_by};
-use crate::statement::{Binding, Next, Section};
+use crate::sources::{SourceTables, common_room, first_by};
 use std::alloc::AllocError;
 use std::mem;
+use svc_layout::{Binding, Next, Refusal, Section, Steps, Strength, padding};
 
 /// The most texts of a program. Each is looked at for every name that another one has, so that few bound the time.
 const MOST_TEXTS: usize = 256;
@@ -25,7 +23,7 @@ fn is_common(binding: Option<Binding>) -> bool
 }
 
 impl<'a> Draft<'a> {
-    pub(crate) fn texts_above(&self) -> &[Text<'a>]
+    pub(crate) fn texts_above(&self) -> &[SourceTables<'a>]
         ensures { map source_of result.now ≡ take (layout_of self.now).number (layout_of self.now).sources }
     {
         self.sources.split_at(self.number.min(self.sources.len())).0
@@ -40,7 +38,7 @@ impl<'a> Draft<'a> {
         first_by(Strength::Yielding, name, self.texts_above()).is_some()
     }
 
-    #[tactic(auto, unfolding(crate::specs::Layouts::with_zeros_named))]
+    #[tactic(auto, unfolding(svc_layout::specs::Zeros::with_zeros_named))]
     fn push_zeros_named(&mut self, name: &'a [u8], count: u32) -> Result<(), Refusal>
         ensures { Changes result (with_zeros_named name.now count (layout_of self.old)) (layout_of self.new) }
     {
@@ -65,7 +63,7 @@ impl<'a> Draft<'a> {
         self.push_zeros_named(name, room.0)
     }
 
-    #[tactic(auto, unfolding(crate::specs::Layouts::with_bound_zeros))]
+    #[tactic(auto, unfolding(svc_layout::specs::Zeros::with_bound_zeros))]
     fn push_bound_zeros(&mut self, name: &'a [u8], count: u32, step: u32) -> Result<(), Refusal>
         ensures { Changes result (with_bound_zeros name.now count step (layout_of self.old)) (layout_of self.new) }
     {
@@ -76,7 +74,7 @@ impl<'a> Draft<'a> {
         self.push_own_zeros(name, count, step)
     }
 
-    #[tactic(auto, unfolding(crate::specs::Layouts::with_common))]
+    #[tactic(auto, unfolding(svc_layout::specs::Zeros::with_common))]
     pub(crate) fn push_common(
         &mut self,
         name: &'a [u8],
@@ -103,12 +101,12 @@ impl<'a> Draft<'a> {
         if self.known {
             return Ok(());
         }
-        let text = mem::replace(&mut self.text_read, Text::new(self.alloc));
+        let text = mem::replace(&mut self.source_read, SourceTables::new(self.alloc));
         self.found.push(text)?;
         Ok(())
     }
 
-    #[tactic(auto, unfolding(crate::specs::Layouts::with_part))]
+    #[tactic(auto, unfolding(svc_layout::specs::Texts::with_part))]
     fn begin_part(&mut self, section: Section, step: u32) -> Result<(), Refusal>
         ensures { Changes result (with_part section step (layout_of self.old)) (layout_of self.new) }
     {
@@ -119,7 +117,7 @@ impl<'a> Draft<'a> {
         self.fill_section(section, count)
     }
 
-    #[tactic(auto, unfolding(crate::specs::Layouts::with_parts))]
+    #[tactic(auto, unfolding(svc_layout::specs::Texts::with_parts))]
     fn begin_parts(&mut self, steps: Steps) -> Result<(), Refusal>
         ensures { Changes result (with_parts steps (layout_of self.old)) (layout_of self.new) }
     {
@@ -139,7 +137,7 @@ impl<'a> Draft<'a> {
     }
 
     fn begin_known(&mut self) -> Result<(), Refusal>
-        ensures { Changes result (begun (layout_of self.old)) (layout_of self.new) }
+        ensures { Changes result (with_begin (layout_of self.old)) (layout_of self.new) }
     {
         match self.steps_known() {
             Some(steps) => self.begin_parts(steps),
@@ -151,7 +149,7 @@ impl<'a> Draft<'a> {
         }
     }
 
-    #[tactic(auto, unfolding(crate::specs::Layouts::with_next_text))]
+    #[tactic(auto, unfolding(svc_layout::specs::Texts::with_next_text))]
     pub(crate) fn begin_text(&mut self) -> Result<(), Refusal>
         ensures { Changes result (with_next_text (layout_of self.old)) (layout_of self.new) }
     {

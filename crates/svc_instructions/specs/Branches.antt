@@ -3,10 +3,11 @@ use Rattle.std.specs.Prelude.{ℕ, ◌+◌, ◌-◌, ◌/◌, ◌%◌, ◌^◌, 
 use Rattle.std.specs.Prelude.{Option, Some, None, if◌then◌else◌, codes}
 use Rattle.std.specs.List.{find}
 use Rattle.std.specs.Str.{bytes_eq}
-use Rattle.svc_draft.specs.declared.statement.Statement.{Statement}
-use Rattle.svc_draft.specs.declared.statement.Statement.TheVariants as say
-use Rattle.svc_draft.specs.Options.{◌>>=◌}
-use Rattle.svc_draft.specs.Layouts.{Layout, is_turned}
+use Rattle.svc_layout.specs.declared.statement.Statement.{Statement}
+use Rattle.svc_layout.specs.declared.statement.Statement.TheVariants as say
+use Rattle.svc_layout.specs.Options.{◌>>=◌}
+use Rattle.svc_layout.specs.Layouts.{Layout}
+use Rattle.svc_layout.specs.Notes.{is_turned}
 use Rattle.svc_operands.specs.Characters.{name_at, found}
 use Rattle.svc_operands.specs.Operands.{Read}
 use Rattle.svc_operands.specs.Values.{jump_behind_at}
@@ -14,7 +15,7 @@ use Rattle.svc_instructions.specs.declared.table.Part.{Part}
 use Rattle.svc_instructions.specs.declared.table.Part.TheVariants as part
 use Rattle.svc_instructions.specs.declared.table.Row.{Row}
 use Rattle.svc_instructions.specs.declared.table.TheConstants.{ROWS, ALIASES}
-use Rattle.svc_instructions.specs.Instructions.{joined, part_at, parts_of}
+use Rattle.svc_instructions.specs.Instructions.{with_part, part_at, parts_of}
 
 -- the branch that is taken where this one isn't: the lowest bit of its funct3 is the other one
 abbrev pub opposite : ℕ → ℕ
@@ -22,7 +23,7 @@ opposite w = if w / 2 ^ 12 % 2 == 0 then w + 2 ^ 12 else w - 2 ^ 12
 
 -- the opposite branch, which goes past the next word, and a jump there: jal (0x6f) with x0
 abbrev pub over_jump : (word n : ℕ) → Statement
-over_jump word n = say.Pair (joined (opposite word) part.Branch 4) (joined 111 part.Jump n)
+over_jump word n = say.Pair (with_part (opposite word) part.Branch 4) (with_part 111 part.Jump n)
 
 -- whether it is two instructions already: . tells in both passes how far it is
 abbrev pub is_two : Layout → List ℕ → Bool
@@ -43,7 +44,7 @@ abbrev pub far_parts_at : Layout → List Part → List ℕ → ℕ → Read Sta
 far_parts_at d [] text word = None
 far_parts_at d (p ∷ more) text word =
     if is_branch p then far_target_at d word text else
-    part_at d p text >>= (λ n. far_parts_at d more n.1 (joined word p n.0))
+    part_at d p text >>= (λ n. far_parts_at d more n.1 (with_part word p n.0))
 
 abbrev pub is_named : List ℕ → Row → Bool
 is_named name r = bytes_eq name r.0

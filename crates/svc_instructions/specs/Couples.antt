@@ -2,20 +2,20 @@
 use Rattle.std.specs.Prelude.{ℕ, ◌^◌, ◌%◌, Bool, false, ◌||◌, ◌==◌, nat_le, nat_lt, List, [], ◌∷◌, Some, None}
 use Rattle.std.specs.Prelude.{is_none, if◌then◌else◌, codes}
 use Rattle.std.specs.Str.{bytes_eq}
-use Rattle.svc_draft.specs.declared.statement.Statement.{Statement}
-use Rattle.svc_draft.specs.declared.statement.Statement.TheVariants as say
-use Rattle.svc_draft.specs.Options.{◌>>=◌}
-use Rattle.svc_draft.specs.Layouts.{Layout}
+use Rattle.svc_layout.specs.declared.statement.Statement.{Statement}
+use Rattle.svc_layout.specs.declared.statement.Statement.TheVariants as say
+use Rattle.svc_layout.specs.Options.{◌>>=◌}
+use Rattle.svc_layout.specs.Layouts.{Layout}
 use Rattle.svc_operands.specs.Characters.{name_at, past_name, mark_at, number_of, found, is_over}
 use Rattle.svc_operands.specs.Operands.{Read, register_at, first_register_at}
 use Rattle.svc_operands.specs.Numbers.{signed_at}
-use Rattle.svc_operands.specs.Values.{value_at, fitted, high_part, from_here, relative_at}
+use Rattle.svc_operands.specs.Values.{value_at, bits_within, high_part, from_here, relative_at}
 use Rattle.svc_instructions.specs.declared.table.Couple.{Couple}
 use Rattle.svc_instructions.specs.declared.table.Part.TheVariants as part
-use Rattle.svc_instructions.specs.Instructions.{joined, alone_at}
+use Rattle.svc_instructions.specs.Instructions.{with_part, alone_at}
 use Rattle.svc_instructions.specs.Branches.{far_at}
 use Rattle.std.specs.List.{find}
-use Rattle.svc_operands.specs.Names.{padded, number_named}
+use Rattle.svc_operands.specs.Names.{letters_of, number_named}
 use Rattle.svc_instructions.specs.declared.table.Through.{Through}
 use Rattle.svc_instructions.specs.declared.table.Through.TheVariants as through
 use Rattle.svc_instructions.specs.declared.table.TheConstants.{COUPLES, LOADS, STORES}
@@ -25,10 +25,10 @@ has_name name c = bytes_eq name c.0
 
 -- a word with a register and the high part of a number, and one that also reads the register, with the low part
 abbrev pub with_high : ℕ → (rd number : ℕ) → ℕ
-with_high word rd number = joined (joined word part.Rd rd) part.Upper (high_part number)
+with_high word rd number = with_part (with_part word part.Rd rd) part.Upper (high_part number)
 
 abbrev pub with_low : ℕ → (rd number : ℕ) → ℕ
-with_low word rd number = joined (joined (joined word part.Rd rd) part.Rs1 rd) part.Immediate number
+with_low word rd number = with_part (with_part (with_part word part.Rd rd) part.Rs1 rd) part.Immediate number
 
 abbrev pub apart : (first second rd number : ℕ) → Statement
 apart first second rd number = say.Pair (with_high first rd number) (with_low second rd number)
@@ -46,7 +46,7 @@ pair_at d first second rd text = do
 
 -- a call that leaves in this register where it returns goes through t1: auipc (0x317) and jalr (0x30067)
 abbrev pub linked_at : Layout → ℕ → List ℕ → Read Statement
-linked_at d rd text = pair_at d 791 (joined 196711 part.Rd rd) 0 text
+linked_at d rd text = pair_at d 791 (with_part 196711 part.Rd rd) 0 text
 
 abbrev pub through_at : Layout → Couple → Through → List ℕ → Read Statement
 through_at d c through.Own text = pair_at d c.1 c.2 0 text
@@ -74,7 +74,8 @@ load_at d word text = do
   Some (apart 23 word rd.0.number (from_here d n.0), n.1)
 
 abbrev pub with_store : ℕ → (rs2 rs1 number : ℕ) → ℕ
-with_store word rs2 rs1 number = joined (joined (joined word part.Rs2 rs2) part.Rs1 rs1) part.StoreOffset number
+with_store word rs2 rs1 number =
+    with_part (with_part (with_part word part.Rs2 rs2) part.Rs1 rs1) part.StoreOffset number
 
 unfoldable pub store_at : Layout → ℕ → List ℕ → Read Statement
 store_at d word text = do
@@ -97,7 +98,8 @@ access_at d name text =
 -- a number of 32 bits into a register, by the fewest instructions of addi (0x13) and lui (0x37)
 abbrev pub set_to : (rd number : ℕ) → Statement
 set_to rd n =
-    if nat_lt n 2048 || nat_le 4294965248 n then say.Instruction (joined (joined 19 part.Rd rd) part.Immediate n) else
+    if nat_lt n 2048 || nat_le 4294965248 n
+    then say.Instruction (with_part (with_part 19 part.Rd rd) part.Immediate n) else
     if n % 4096 == 0 then say.Instruction (with_high 55 rd n) else
     apart 55 19 rd n
 
@@ -105,7 +107,7 @@ unfoldable pub set_at : List ℕ → Read Statement
 set_at text = do
   rd ← first_register_at text
   s ← signed_at rd.1
-  n ← fitted (2 ^ 31) s.0
+  n ← bits_within (2 ^ 31) s.0
   Some (set_to rd.0.number n, s.1)
 
 -- auipc (0x17) with %pcrel_hi(VALUE): how far it is to the value stays known by the place, for %pcrel_lo
@@ -143,4 +145,4 @@ lettered_at d name letters text =
 -- the instruction, or the two, that a name and its operands stand for
 unfoldable pub instruction_at : Layout → (name text : List ℕ) → Read Statement
 instruction_at d name text =
-    if bytes_eq name (codes "li") then set_at text else padded name >>= (λ letters. lettered_at d name letters text)
+    if bytes_eq name (codes "li") then set_at text else letters_of name >>= (λ letters. lettered_at d name letters text)

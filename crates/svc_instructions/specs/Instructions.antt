@@ -1,7 +1,7 @@
 -- What the rows of the table say, read from a text.
 use Rattle.std.specs.Prelude.{ℕ, ◌+◌, ◌*◌, List, [], ◌∷◌, Some, ◌/◌, ◌%◌, ◌^◌, ◌==◌, Bool, ◌&&◌, ◌||◌, Option, None}
 use Rattle.std.specs.Prelude.{if◌then◌else◌, option_map}
-use Rattle.svc_draft.specs.Options.{◌>>=◌}
+use Rattle.svc_layout.specs.Options.{◌>>=◌}
 use Rattle.svc_operands.specs.Characters.{name_at, past_name, mark_at, found, is_over}
 use Rattle.svc_operands.specs.Names.{number_named}
 use Rattle.svc_operands.specs.Operands.{Read, register_at, base_at}
@@ -9,9 +9,9 @@ use Rattle.svc_operands.specs.Numbers.{number_below}
 use Rattle.svc_instructions.specs.declared.reading.TheConstants.{ORDERS}
 use Rattle.std.specs.List.{find}
 use Rattle.std.specs.Str.{bytes_eq}
-use Rattle.svc_draft.specs.declared.statement.Statement.{Statement}
-use Rattle.svc_draft.specs.declared.statement.Statement.TheVariants as say
-use Rattle.svc_draft.specs.Layouts.{Layout}
+use Rattle.svc_layout.specs.declared.statement.Statement.{Statement}
+use Rattle.svc_layout.specs.declared.statement.Statement.TheVariants as say
+use Rattle.svc_layout.specs.Layouts.{Layout}
 use Rattle.svc_operands.specs.Values.{branch_at, jump_at, short_at, upper_at}
 use Rattle.svc_instructions.specs.declared.table.Part.{Part}
 use Rattle.svc_instructions.specs.declared.table.Part.TheVariants as part
@@ -41,38 +41,40 @@ unfoldable pub fence_at : List ℕ → Read ℕ
 fence_at text = fence_before (name_at text) text
 
 -- a number's bits at the places that an operand has in a word (RV32I, section 2.3 Immediate Encoding Variants)
-unfoldable pub placed : Part → ℕ → ℕ
-placed part.Rd n = n % 2 ^ 5 * 2 ^ 7
-placed part.Rs1 n = n % 2 ^ 5 * 2 ^ 15
-placed part.Base n = n % 2 ^ 5 * 2 ^ 15
-placed part.Rs2 n = n % 2 ^ 5 * 2 ^ 20
-placed part.Amount n = n % 2 ^ 5 * 2 ^ 20
-placed part.Immediate n = n % 2 ^ 12 * 2 ^ 20
-placed part.Order n = n % 2 ^ 12 * 2 ^ 20
-placed part.StoreOffset n = n % 2 ^ 5 * 2 ^ 7 + n / 2 ^ 5 % 2 ^ 7 * 2 ^ 25
-placed part.Branch n = n % 2 ^ 4 * 2 ^ 8 + n / 2 ^ 4 % 2 ^ 6 * 2 ^ 25 + n / 2 ^ 10 % 2 * 2 ^ 7 + n / 2 ^ 11 % 2 * 2 ^ 31
-placed part.Upper n = n % 2 ^ 20 * 2 ^ 12
-placed part.Jump n =
+unfoldable pub part_bits : Part → ℕ → ℕ
+part_bits part.Rd n = n % 2 ^ 5 * 2 ^ 7
+part_bits part.Rs1 n = n % 2 ^ 5 * 2 ^ 15
+part_bits part.Base n = n % 2 ^ 5 * 2 ^ 15
+part_bits part.Rs2 n = n % 2 ^ 5 * 2 ^ 20
+part_bits part.Amount n = n % 2 ^ 5 * 2 ^ 20
+part_bits part.Immediate n = n % 2 ^ 12 * 2 ^ 20
+part_bits part.Order n = n % 2 ^ 12 * 2 ^ 20
+part_bits part.StoreOffset n = n % 2 ^ 5 * 2 ^ 7 + n / 2 ^ 5 % 2 ^ 7 * 2 ^ 25
+part_bits part.Branch n =
+    n % 2 ^ 4 * 2 ^ 8 + n / 2 ^ 4 % 2 ^ 6 * 2 ^ 25 + n / 2 ^ 10 % 2 * 2 ^ 7 + n / 2 ^ 11 % 2 * 2 ^ 31
+part_bits part.Upper n = n % 2 ^ 20 * 2 ^ 12
+part_bits part.Jump n =
     n % 2 ^ 10 * 2 ^ 21 + n / 2 ^ 10 % 2 * 2 ^ 20 + n / 2 ^ 11 % 2 ^ 8 * 2 ^ 12 + n / 2 ^ 19 % 2 * 2 ^ 31
-placed part.Comma n = 0
-placed part.End n = 0
+part_bits part.Comma n = 0
+part_bits part.End n = 0
 
 -- the number whose bits stand there
-unfoldable pub taken : Part → ℕ → ℕ
-taken part.Rd w = w / 2 ^ 7 % 2 ^ 5
-taken part.Rs1 w = w / 2 ^ 15 % 2 ^ 5
-taken part.Base w = w / 2 ^ 15 % 2 ^ 5
-taken part.Rs2 w = w / 2 ^ 20 % 2 ^ 5
-taken part.Amount w = w / 2 ^ 20 % 2 ^ 5
-taken part.Immediate w = w / 2 ^ 20 % 2 ^ 12
-taken part.Order w = w / 2 ^ 20 % 2 ^ 12
-taken part.StoreOffset w = w / 2 ^ 7 % 2 ^ 5 + w / 2 ^ 25 % 2 ^ 7 * 2 ^ 5
-taken part.Branch w = w / 2 ^ 8 % 2 ^ 4 + w / 2 ^ 25 % 2 ^ 6 * 2 ^ 4 + w / 2 ^ 7 % 2 * 2 ^ 10 + w / 2 ^ 31 % 2 * 2 ^ 11
-taken part.Upper w = w / 2 ^ 12 % 2 ^ 20
-taken part.Jump w =
+unfoldable pub part_number : Part → ℕ → ℕ
+part_number part.Rd w = w / 2 ^ 7 % 2 ^ 5
+part_number part.Rs1 w = w / 2 ^ 15 % 2 ^ 5
+part_number part.Base w = w / 2 ^ 15 % 2 ^ 5
+part_number part.Rs2 w = w / 2 ^ 20 % 2 ^ 5
+part_number part.Amount w = w / 2 ^ 20 % 2 ^ 5
+part_number part.Immediate w = w / 2 ^ 20 % 2 ^ 12
+part_number part.Order w = w / 2 ^ 20 % 2 ^ 12
+part_number part.StoreOffset w = w / 2 ^ 7 % 2 ^ 5 + w / 2 ^ 25 % 2 ^ 7 * 2 ^ 5
+part_number part.Branch w =
+    w / 2 ^ 8 % 2 ^ 4 + w / 2 ^ 25 % 2 ^ 6 * 2 ^ 4 + w / 2 ^ 7 % 2 * 2 ^ 10 + w / 2 ^ 31 % 2 * 2 ^ 11
+part_number part.Upper w = w / 2 ^ 12 % 2 ^ 20
+part_number part.Jump w =
     w / 2 ^ 21 % 2 ^ 10 + w / 2 ^ 20 % 2 * 2 ^ 10 + w / 2 ^ 12 % 2 ^ 8 * 2 ^ 11 + w / 2 ^ 31 % 2 * 2 ^ 19
-taken part.Comma w = 0
-taken part.End w = 0
+part_number part.Comma w = 0
+part_number part.End w = 0
 
 -- how an operand is read
 unfoldable pub part_at : Layout → Part → List ℕ → Read ℕ
@@ -91,13 +93,13 @@ part_at d part.Branch text = branch_at d text
 part_at d part.Jump text = jump_at d text
 
 -- a word and an operand's number in it
-abbrev pub joined : ℕ → Part → ℕ → ℕ
-joined word p n = (word + placed p n) % 2 ^ 32
+abbrev pub with_part : ℕ → Part → ℕ → ℕ
+with_part word p n = (word + part_bits p n) % 2 ^ 32
 
 -- a word and the operands that a text has for it
 abbrev pub parts_at : Layout → List Part → List ℕ → ℕ → Read ℕ
 parts_at d [] text word = Some (word, text)
-parts_at d (p ∷ more) text word = part_at d p text >>= (λ n. parts_at d more n.1 (joined word p n.0))
+parts_at d (p ∷ more) text word = part_at d p text >>= (λ n. parts_at d more n.1 (with_part word p n.0))
 
 -- the parts of a row's operands
 abbrev pub parts_of : Row → List Part
@@ -140,12 +142,12 @@ fixed_by opcode w =
     if opcode == 115 then w else
     with_funct3 w
 
-abbrev pub fixed : ℕ → ℕ
-fixed w = fixed_by (w % 2 ^ 7) w
+abbrev pub fixed_bits : ℕ → ℕ
+fixed_bits w = fixed_by (w % 2 ^ 7) w
 
 -- the row that a word is of: the one whose fixed bits it has
 abbrev pub is_of : ℕ → Row → Bool
 is_of bits r = bits == r.1
 
 unfoldable pub row_of : ℕ → Option Row
-row_of w = find (is_of (fixed w)) ROWS
+row_of w = find (is_of (fixed_bits w)) ROWS

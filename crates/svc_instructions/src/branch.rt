@@ -2,15 +2,16 @@
 
 ghost use Rattle.std.specs.Prelude.{◌≡◌};
 ghost use Rattle.std.specs.List.{find};
-ghost use Rattle.svc_draft.specs.Layouts.{layout_of};
+ghost use Rattle.svc_draft.specs.Drafts.{layout_of};
 ghost use Rattle.svc_operands.specs.Operands.{Gives};
 ghost use Rattle.svc_instructions.specs.Instructions.{parts_of};
 ghost use Rattle.svc_instructions.specs.Branches.{opposite, over_jump, is_two, far_target_at, is_branch};
 ghost use Rattle.svc_instructions.specs.Branches.{far_parts_at, is_named, row_named, far_at};
 
-use crate::reading::{further, joined, read_part};
+use crate::reading::{further, read_part, with_part};
 use crate::table::{ALIASES, Part, ROWS, Row, parts_of};
-use svc_draft::{Draft, Statement};
+use svc_draft::Draft;
+use svc_layout::Statement;
 use svc_operands::{
     Name, Read, Unread, Wanted, is_over, is_word, read_jump_behind, split_name, stopped_at,
 };
@@ -36,8 +37,8 @@ fn over_jump(word: u32, steps: u32) -> Statement
     ensures { result ≡ over_jump word steps }
 {
     Statement::Pair(
-        joined(opposite(word), Part::Branch, 4),
-        joined(JAL, Part::Jump, steps),
+        with_part(opposite(word), Part::Branch, 4),
+        with_part(JAL, Part::Jump, steps),
     )
 }
 
@@ -75,7 +76,7 @@ fn read_far_parts<'a>(draft: &Draft, row: &Row, text: &'a [u8]) -> Read<'a, Stat
             return read_far_target(draft, word, rest);
         }
         let (number, behind) = read_part(draft, *part, rest)?;
-        word = joined(word, *part, number);
+        word = with_part(word, *part, number);
         rest = behind;
     }
     Err(stopped_at(rest, Wanted::LineEnd))

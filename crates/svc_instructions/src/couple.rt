@@ -2,22 +2,23 @@
 
 ghost use Rattle.std.specs.Prelude.{◌≡◌};
 ghost use Rattle.std.specs.List.{find};
-ghost use Rattle.svc_draft.specs.Layouts.{layout_of};
+ghost use Rattle.svc_draft.specs.Drafts.{layout_of};
 ghost use Rattle.svc_operands.specs.Operands.{Gives};
-ghost use Rattle.svc_instructions.specs.Instructions.{joined};
+ghost use Rattle.svc_instructions.specs.Instructions.{with_part};
 ghost use Rattle.svc_instructions.specs.Couples.{has_name, with_high, with_low, apart, past_plt, pair_at, linked_at};
 ghost use Rattle.svc_instructions.specs.Couples.{couple_at, begins_name, label_at, load_at, with_store, store_at};
 ghost use Rattle.svc_instructions.specs.Couples.{access_at, alone_on_line, longer_at, other_at, set_to, set_at};
 ghost use Rattle.svc_instructions.specs.Couples.{relative_upper_at, single_at, instruction_at};
 
 use crate::branch::read_far;
-use crate::reading::{further, joined, read_alone};
+use crate::reading::{further, read_alone, with_part};
 use crate::table::{COUPLES, Couple, LOADS, Part, STORES, Through};
-use svc_draft::{Draft, Statement};
+use svc_draft::Draft;
+use svc_layout::Statement;
 use svc_operands::{
-    Name, Read, Unread, Wanted, fitted, from_here, high_part, is_over, is_word, number_named,
-    number_of, padded, read_first_register, read_mark, read_register, read_relative, read_signed,
-    read_value, skip_mark, split_name, stopped_at, stopped_at_name,
+    Name, Read, Unread, Wanted, bits_within, from_here, high_part, is_over, is_word, letters_of,
+    number_named, number_of, read_first_register, read_mark, read_register, read_relative,
+    read_signed, read_value, skip_mark, split_name, stopped_at, stopped_at_name,
 };
 
 // The word of auipc where each operand is 0.
@@ -37,14 +38,18 @@ pub fn couple_named(couples: &[Couple], name: Name) -> Option<Couple>
 fn with_high(word: u32, rd: u32, number: u32) -> u32
     ensures { result ≡ with_high word rd number }
 {
-    joined(joined(word, Part::Rd, rd), Part::Upper, high_part(number))
+    with_part(
+        with_part(word, Part::Rd, rd),
+        Part::Upper,
+        high_part(number),
+    )
 }
 
 fn with_low(word: u32, rd: u32, number: u32) -> u32
     ensures { result ≡ with_low word rd number }
 {
-    joined(
-        joined(joined(word, Part::Rd, rd), Part::Rs1, rd),
+    with_part(
+        with_part(with_part(word, Part::Rd, rd), Part::Rs1, rd),
         Part::Immediate,
         number,
     )
@@ -88,7 +93,7 @@ fn read_pair<'a>(
 fn read_linked<'a>(draft: &Draft, rd: u32, text: &'a [u8]) -> Read<'a, Statement>
     ensures { Gives (λ x. (x.0, x.1.now)) result (linked_at (layout_of draft.now) rd text.now) }
 {
-    read_pair(draft, 0x0317, joined(0x0003_0067, Part::Rd, rd), 0, text)
+    read_pair(draft, 0x0317, with_part(0x0003_0067, Part::Rd, rd), 0, text)
 }
 
 #[tactic(auto, unfolding(crate::specs::Couples::couple_at))]
@@ -141,8 +146,8 @@ fn read_load<'a>(draft: &Draft, word: u32, text: &'a [u8]) -> Read<'a, Statement
 fn with_store(word: u32, rs2: u32, rs1: u32, number: u32) -> u32
     ensures { result ≡ with_store word rs2 rs1 number }
 {
-    joined(
-        joined(joined(word, Part::Rs2, rs2), Part::Rs1, rs1),
+    with_part(
+        with_part(with_part(word, Part::Rs2, rs2), Part::Rs1, rs1),
         Part::StoreOffset,
         number,
     )
@@ -180,7 +185,11 @@ fn set_to(rd: u32, number: u32) -> Statement
     ensures { result ≡ set_to rd number }
 {
     if number < 2048 || number >= 4_294_965_248 {
-        return Statement::Instruction(joined(joined(0x13, Part::Rd, rd), Part::Immediate, number));
+        return Statement::Instruction(with_part(
+            with_part(0x13, Part::Rd, rd),
+            Part::Immediate,
+            number,
+        ));
     }
     if number % 4096 == 0 {
         return Statement::Instruction(with_high(0x37, rd, number));
@@ -194,7 +203,7 @@ pub fn read_set(text: &[u8]) -> Read<'_, Statement>
 {
     let (rd, number_text) = read_first_register(text)?;
     let (signed, rest) = read_signed(number_text)?;
-    match fitted(0x8000_0000, signed) {
+    match bits_within(0x8000_0000, signed) {
         Some(number) => Ok((set_to(rd.number as u32, number), rest)),
         None => Err(stopped_at(number_text, Wanted::Number)),
     }
@@ -277,7 +286,7 @@ pub fn read_instruction<'a>(draft: &Draft, name: &[u8], text: &'a [u8]) -> Read<
     if is_word(name, "li") {
         return read_set(text);
     }
-    let letters = match padded(name) {
+    let letters = match letters_of(name) {
         Some(letters) => letters,
         None => return Err(stopped_at_name(name, text, Wanted::Statement)),
     };

@@ -7,7 +7,7 @@ mod reading;
 mod table;
 
 pub use couple::read_instruction;
-pub use reading::{ORDERS, row_of, taken};
+pub use reading::{ORDERS, part_number, row_of};
 pub use table::{
     ALIASES, COUPLES, Couple, LOADS, Operands, Part, ROWS, Row, STORES, Through, parts_of,
 };

@@ -3,14 +3,15 @@
 ghost use Rattle.std.specs.Prelude.{◌≡◌, ◌<◌, IfSome, IfOk};
 ghost use Rattle.svc_operands.specs.Names.{number_named};
 ghost use Rattle.svc_operands.specs.Operands.{Gives};
-ghost use Rattle.svc_instructions.specs.Instructions.{order_at, orders_at, fence_at, placed, part_at, joined};
+ghost use Rattle.svc_instructions.specs.Instructions.{order_at, orders_at, fence_at, part_bits, part_at, with_part};
 ghost use Rattle.svc_instructions.specs.Instructions.{parts_of, parts_at, row_at, rows_at, either_at, alone_at};
-ghost use Rattle.svc_instructions.specs.Instructions.{taken, with_funct3, with_funct7, fixed, is_of, row_of};
-ghost use Rattle.svc_draft.specs.Layouts.{layout_of};
+ghost use Rattle.svc_instructions.specs.Instructions.{part_number, with_funct3, with_funct7, fixed_bits, is_of, row_of};
+ghost use Rattle.svc_draft.specs.Drafts.{layout_of};
 ghost use Rattle.std.specs.List.{find};
 
 use crate::table::{ALIASES, Part, ROWS, Row, parts_of};
-use svc_draft::{Draft, Statement};
+use svc_draft::Draft;
+use svc_layout::Statement;
 use svc_operands::{
     Name, Named, Read, Unread, Wanted, is_over, number_named, read_base, read_below, read_branch,
     read_jump, read_mark, read_register, read_short, read_upper, split_name, stopped_at,
@@ -75,9 +76,9 @@ pub fn read_fence(text: &[u8]) -> Read<'_, u32>
     }
 }
 
-#[tactic(auto, unfolding(crate::specs::Instructions::placed))]
-pub fn placed(part: Part, n: u32) -> u32
-    ensures { result ≡ placed part n }
+#[tactic(auto, unfolding(crate::specs::Instructions::part_bits))]
+pub fn part_bits(part: Part, n: u32) -> u32
+    ensures { result ≡ part_bits part n }
 {
     match part {
         Part::End | Part::Comma => 0,
@@ -99,10 +100,10 @@ pub fn placed(part: Part, n: u32) -> u32
     }
 }
 
-pub fn joined(word: u32, part: Part, n: u32) -> u32
-    ensures { result ≡ joined word part n }
+pub fn with_part(word: u32, part: Part, n: u32) -> u32
+    ensures { result ≡ with_part word part n }
 {
-    word.wrapping_add(placed(part, n))
+    word.wrapping_add(part_bits(part, n))
 }
 
 #[tactic(auto, unfolding(crate::specs::Instructions::part_at))]
@@ -140,7 +141,7 @@ fn read_parts<'a>(draft: &Draft, row: &Row, text: &'a [u8]) -> Read<'a, u32>
     let mut rest = text;
     for part in parts_of(*row).iter() {
         let (number, behind) = read_part(draft, *part, rest)?;
-        word = joined(word, *part, number);
+        word = with_part(word, *part, number);
         rest = behind;
     }
     Ok((word, rest))
@@ -224,9 +225,9 @@ pub fn read_alone<'a>(
 }
 
 /// The number whose bits stand where an operand has its own in a word.
-#[tactic(auto, unfolding(crate::specs::Instructions::taken))]
-pub fn taken(part: Part, w: u32) -> u32
-    ensures { result ≡ taken part w }
+#[tactic(auto, unfolding(crate::specs::Instructions::part_number))]
+pub fn part_number(part: Part, w: u32) -> u32
+    ensures { result ≡ part_number part w }
 {
     match part {
         Part::End | Part::Comma => 0,
@@ -261,8 +262,8 @@ fn with_funct7(w: u32) -> u32
 }
 
 #[tactic(auto, unfolding(crate::specs::Instructions::fixed_by))]
-fn fixed(w: u32) -> u32
-    ensures { result ≡ fixed w }
+fn fixed_bits(w: u32) -> u32
+    ensures { result ≡ fixed_bits w }
 {
     let opcode = w % 128;
     if opcode == 0x37 || opcode == 0x17 || opcode == 0x6f {
@@ -293,5 +294,5 @@ fn find_row(rows: &[Row], bits: u32) -> Option<Row>
 pub fn row_of(word: u32) -> Option<Row>
     ensures { result ≡ row_of word }
 {
-    find_row(&ROWS, fixed(word))
+    find_row(&ROWS, fixed_bits(word))
 }

@@ -2,16 +2,18 @@
 use Rattle.std.proofs.Common.{◌≡◌, ℕ, suc, ◌+◌, ◌*◌, ◌-◌, ◌%◌, ◌^◌, ◌<◌, ◌≤◌, Bool, true, false, if◌then◌else◌, nat_lt, nat_le, List, ◌∷◌, ◌++◌, Option, Some, None, inl, inr, refl, ap, sym, ◌∙◌, arith}
 use Rattle.std.proofs.lemmas.Bool.{le-leb, lt-leb, cases_lt, cases_Bool}
 use Rattle.svc_operands.specs.declared.operands.Signed.{Signed}
-use Rattle.svc_draft.specs.Layouts.{Layout, here, place, address_of, known_spot}
+use Rattle.svc_layout.specs.Layouts.{Layout}
+use Rattle.svc_layout.specs.Places.{here, place}
+use Rattle.svc_layout.specs.Addresses.{address_of, known_spot}
 use Rattle.svc_operands.specs.Characters.{past_blanks, past, name_at, number_of, value_on, push_digit, digit, character_at}
 use Rattle.svc_operands.specs.Places.{reference_named, place_of}
 use Rattle.svc_operands.specs.Expressions.{plain_at, operand_at}
 use Rattle.svc_operands.specs.Values.{value_at, reach, reach_at, offset_at, target_at}
 use Rattle.svc_operands.proofs.Chains.{alone}
 use Rattle.std.specs.Prelude.{option_map}
-use Rattle.svc_draft.specs.declared.statement.Spot.{Spot}
+use Rattle.svc_layout.specs.declared.section.Spot.{Spot}
 use Rattle.svc_operands.specs.Operands.{number_at, distance, steps_of}
-use Rattle.svc_list.specs.Listings.{hex_text, label_text, led}
+use Rattle.svc_list.specs.Listings.{hex_text, label_text, step_target}
 use Rattle.svc_list.proofs.NamesBack.{stops, Ends, at_name, at_rest}
 use Rattle.svc_list.proofs.OperandsBack.{sign, halved_double, wrapped_low, wrapped_high}
 use Rattle.svc_list.proofs.LabelsBack.{label_dense}
@@ -83,12 +85,12 @@ distance_back from far some low =
     let back : from - (from - far) ≡ far = omega (arith, low) in
     rw (down, back) refl
 
-led_on : (half address steps target : ℕ) → steps < half → led half address steps ≡ Some target → target ≡ address + 2 * steps
+led_on : (half address steps target : ℕ) → steps < half → step_target half address steps ≡ Some target → target ≡ address + 2 * steps
 led_on half address steps target h e =
     let low : nat_lt steps half ≡ true = le-leb (suc steps) half (omega (arith, h)) in
     sym (some_is (address + 2 * steps) target (rw low at e))
 
-led_from : (half address steps target : ℕ) → half ≤ steps → led half address steps ≡ Some target → (2 * (2 * half - steps) ≤ address) × (target ≡ address - 2 * (2 * half - steps))
+led_from : (half address steps target : ℕ) → half ≤ steps → step_target half address steps ≡ Some target → (2 * (2 * half - steps) ≤ address) × (target ≡ address - 2 * (2 * half - steps))
 led_from half address steps target h e =
     let high : nat_lt steps half ≡ false = lt-leb (suc steps) half (omega (arith, h)) in
     let back = 2 * (2 * half - steps) in
@@ -101,7 +103,7 @@ led_from half address steps target h e =
           (above, sym (some_is (address - back) target (rw (high, some) at e)))
     ]
 
-pub aims : (half address target n : ℕ) → n < 2 * half → led half address n ≡ Some target → steps_of half (distance address target) ≡ Some n
+pub aims : (half address target n : ℕ) → n < 2 * half → step_target half address n ≡ Some target → steps_of half (distance address target) ≡ Some n
 unfolding steps_of
 aims half address target n k e =
     elim (cases_lt n half) [

@@ -6,20 +6,25 @@ use Rattle.std.specs.Map.{update}
 use Rattle.std.proofs.lemmas.Map.{update_same, update_other}
 use Rattle.std.proofs.lemmas.Bool.{eq-eqb, ne_eqb, eqb-true, leb-true, and_parts, cases_eq}
 use Rattle.std.proofs.lemmas.List.{length-append, append-nil, append_assoc}
-use Rattle.svc_draft.specs.declared.statement.Section.TheVariants as section
-use Rattle.svc_draft.specs.declared.statement.Width.TheVariants as wide
-use Rattle.svc_draft.specs.declared.statement.Next.TheVariants as go
-use Rattle.svc_draft.specs.declared.statement.Statement.TheVariants as say
-use Rattle.svc_draft.specs.Options.{◌>>=◌}
-use Rattle.svc_draft.specs.Sources.{Names, no_bindings}
-use Rattle.svc_draft.specs.Layouts.{Layout, place, here, address_of, spot_here, with_symbol, with_word, going_on, after}
+use Rattle.svc_layout.specs.declared.section.Section.TheVariants as section
+use Rattle.svc_layout.specs.declared.section.Width.TheVariants as wide
+use Rattle.svc_layout.specs.declared.statement.Next.TheVariants as go
+use Rattle.svc_layout.specs.declared.statement.Statement.TheVariants as say
+use Rattle.svc_layout.specs.Options.{◌>>=◌}
+use Rattle.svc_layout.specs.Sources.{Names, no_bindings}
+use Rattle.svc_layout.specs.Layouts.{Layout}
+use Rattle.svc_layout.specs.Places.{place, here, spot_here}
+use Rattle.svc_layout.specs.Addresses.{address_of}
+use Rattle.svc_layout.specs.Contents.{with_word}
+use Rattle.svc_layout.specs.Labels.{with_symbol}
+use Rattle.svc_layout.specs.Lines.{going_on, after}
 use Rattle.svc_operands.specs.Characters.{name_at, found}
 use Rattle.svc_instructions.specs.declared.table.Part.{Part}
 use Rattle.svc_instructions.specs.declared.table.Row.{Row}
 use Rattle.svc_instructions.specs.Instructions.{parts_of, row_of}
 use Rattle.svc_asm_lines.specs.Statements.{statement_at, line_at}
 use Rattle.svc_names.specs.declared.name.Name.{Name}
-use Rattle.svc_list.specs.Listings.{HasText, statement_text, label_text, row_text, code_text, word_note, Line, Says, Labels, Codes, bare, line_of, text_of, led_along, placed, target_by, target_of, coded, labels, code}
+use Rattle.svc_list.specs.Listings.{HasText, statement_text, label_text, row_text, code_text, word_note, Line, Says, Labels, Codes, bare, line_of, text_of, led_along, word_start, target_by, target_of, line_for, labels, code}
 use Rattle.svc_list.proofs.NamesBack.{Ends}
 use Rattle.svc_list.proofs.LinesBack.{Trails, three, unlabelled, next_back, ended_back}
 use Rattle.svc_list.proofs.NotesBack.{AreNamed, bare_ends, word_ends}
@@ -161,7 +166,7 @@ unknown_address d t first = rw first refl
 some_same : (a b : ℕ) → Some a ≡ Some b → a ≡ b
 some_same a b e = ap (λ (o : Option ℕ). elim o [ None ↦ a | Some x ↦ x ]) e
 
-pub placed_is : (count : ℕ) (o : Option ℕ) (t : ℕ) → placed count o ≡ Some t → (o ≡ Some t) × (t % 4 ≡ 0) × (t < 4 * count)
+pub placed_is : (count : ℕ) (o : Option ℕ) (t : ℕ) → word_start count o ≡ Some t → (o ≡ Some t) × (t % 4 ≡ 0) × (t < 4 * count)
 placed_is count None t e = absurd (cc)
 placed_is count (Some a) t e =
     elim (two (a % 4 == 0 && nat_lt a (4 * count))) [
@@ -191,7 +196,7 @@ aimable true count labelled n d t pass bare few whole low marked good =
     (pass, known_address d t pass bare (omega (arith, low, few)) (subst (λ (x : ℕ). d.source.names (label_text x) ≡ Some (text_spot x)) four (good (t / 4) (omega (arith, low)) marked)))
 aimable false count labelled n d t pass bare few whole low marked good = (pass, unknown_address d t pass)
 
-reaches : (known : Bool) (count : ℕ) (d : Layout) (ps : List Part) (w address : ℕ) (to : Option ℕ) → placed count (led_along address w ps) ≡ to → here d ≡ address → ((t : ℕ) → to ≡ Some t → Aimable known d t) → Reaches known d to ps w
+reaches : (known : Bool) (count : ℕ) (d : Layout) (ps : List Part) (w address : ℕ) (to : Option ℕ) → word_start count (led_along address w ps) ≡ to → here d ≡ address → ((t : ℕ) → to ≡ Some t → Aimable known d t) → Reaches known d to ps w
 reaches known count d ps w address None leads at aims = tt
 reaches true count d ps w address (Some t) leads at aims =
     let aim = aims t refl in
@@ -220,7 +225,7 @@ coded_row given are known count labelled n d w (Some r) to row leads fit low few
 
 coded_leads : (given : Option (List Name)) → AreNamed given → (known : Bool) (count : ℕ) (labelled : ℕ → Bool) (n : ℕ) (d : Layout) (w : ℕ) → w < 2 ^ 32 → n < count → count ≤ 65536
     → IsAt known n d → Good known count labelled (suc n) d.source.names → ((t : ℕ) → target_of count (4 * n) w ≡ Some t → labelled (t / 4) ≡ true)
-    → Leads (line_of (coded given count (4 * n) w)) d (worded d (laid_word known count (4 * n) w))
+    → Leads (line_of (line_for given count (4 * n) w)) d (worded d (laid_word known count (4 * n) w))
 coded_leads given are known count labelled n d w fit low few at good marked =
     coded_row given are known count labelled n d w (row_of w) (target_of count (4 * n) w) refl refl fit low few at good marked
 
@@ -240,9 +245,9 @@ next_at_word known n d w at = record { text = at.text; words = omega (arith, at.
 -- a word, and what stands behind it
 word_and_more : (given : Option (List Name)) → AreNamed given → (known : Bool) (count : ℕ) (labelled : ℕ → Bool) (n : ℕ) (d : Layout) (w : ℕ) → n < count → count ≤ 65536 → w < 2 ^ 32 → IsAt known n d
     → Good known count labelled (suc n) d.source.names → ((t : ℕ) → target_of count (4 * n) w ≡ Some t → labelled (t / 4) ≡ true)
-    → (rest : List Line) (e : Layout) → Leads (text_of rest) (worded d (laid_word known count (4 * n) w)) e → Leads (line_of (coded given count (4 * n) w) ++ text_of rest) d e
+    → (rest : List Line) (e : Layout) → Leads (text_of rest) (worded d (laid_word known count (4 * n) w)) e → Leads (line_of (line_for given count (4 * n) w) ++ text_of rest) d e
 word_and_more given are known count labelled n d w low few fit at good marked rest e h =
-    leads_both (line_of (coded given count (4 * n) w)) (text_of rest) d (worded d (laid_word known count (4 * n) w)) e
+    leads_both (line_of (line_for given count (4 * n) w)) (text_of rest) d (worded d (laid_word known count (4 * n) w)) e
     (coded_leads given are known count labelled n d w fit low few at good marked) h
 
 -- a label, if there is one, and what stands behind it
@@ -256,10 +261,10 @@ pub code_leads : (given : Option (List Name)) → AreNamed given → (known : Bo
     → AreMarks d.version (4 * n) (4 * (n + length ws)) ms → IsAt known n d → length d.entries + length ms ≤ 1024 → Free n d.entries → Good known count labelled n d.source.names → HaveLabels count labelled n ws
     → Leads (text_of (code given count labelled n ms ws)) d (with_code known count labelled n ms ws d)
 unfolding text_of code
-code_leads given are known count labelled few [] [] n d all fit texts placed at room free good named =
+code_leads given are known count labelled few [] [] n d all fit texts word_start at room free good named =
     rw (append-nil d.entries, append-nil d.limits, append-nil d.text) (leads_none d)
-code_leads given are known count labelled few (m ∷ ms) [] n d all fit texts placed at room free good named = absurd (omega (arith, placed.0, placed.2))
-code_leads given are known count labelled few [] (w ∷ ws) n d all fit texts placed at room free good named =
+code_leads given are known count labelled few (m ∷ ms) [] n d all fit texts word_start at room free good named = absurd (omega (arith, word_start.0, word_start.2))
+code_leads given are known count labelled few [] (w ∷ ws) n d all fit texts word_start at room free good named =
     let low : n < count = omega (arith, all) in
     let e₁ = naming d (labelled_in known labelled n d.source.names) in
     let at₁ : IsAt known n e₁ = record { text = at.text; words = at.words; pass = at.pass; line = at.line; near = at.near; bare = at.bare } in
@@ -270,10 +275,10 @@ code_leads given are known count labelled few [] (w ∷ ws) n d all fit texts pl
     let end = with_code known count labelled (suc n) [] ws e₂ in
     let more = code_leads given are known count labelled few [] ws (suc n) e₂ (omega (arith, all)) fit.1 tt tt (next_at_word known n e₁ v at₁) room (free_later n d.entries free) good₁ named.1 in
     let behind = word_and_more given are known count labelled n e₁ w low few fit.0 at₁ good₁ named.0 rest end more in
-    let whole = label_and_more known count labelled n d low at good (coded given count (4 * n) w ∷ rest) end behind in
+    let whole = label_and_more known count labelled n d low at good (line_for given count (4 * n) w ∷ rest) end behind in
     leads_at (text_of (code given count labelled n [] (w ∷ ws))) d end (with_code known count labelled n [] (w ∷ ws) d)
     (ap (λ (xs : List ℕ). record end { text = xs }) (append_assoc d.text (v ∷ []) (words_in known count (suc n) ws))) whole
-code_leads given are known count labelled few (m ∷ ms) (w ∷ ws) n d all fit texts placed at room free good named =
+code_leads given are known count labelled few (m ∷ ms) (w ∷ ws) n d all fit texts word_start at room free good named =
     let low : n < count = omega (arith, all) in
     let e₁ = naming d (labelled_in known labelled n d.source.names) in
     let at₁ : IsAt known n e₁ = record { text = at.text; words = at.words; pass = at.pass; line = at.line; near = at.near; bare = at.bare } in
@@ -288,27 +293,27 @@ code_leads given are known count labelled few (m ∷ ms) (w ∷ ws) n d all fit 
           let e₃ = worded e₂ v in
           let rest = code given count labelled (suc n) ms ws in
           let end = with_code known count labelled (suc n) ms ws e₃ in
-          let next = top_marks d.version (4 * suc n) n (length ws) ms (next_marks d.version n m.0 (4 * (n + suc (length ws))) ms same placed.4) in
+          let next = top_marks d.version (4 * suc n) n (length ws) ms (next_marks d.version n m.0 (4 * (n + suc (length ws))) ms same word_start.4) in
           let more = code_leads given are known count labelled few ms ws (suc n) e₃ (omega (arith, all)) fit.1 texts.1 next (next_at_word known n e₂ v at₂) (omega (arith, room, length-append d.entries (m.0 ∷ []))) (free_behind n m.0 d.entries same free) good₁ named.1 in
           let behind = word_and_more given are known count labelled n e₂ w low few fit.0 at₂ good₁ named.0 rest end more in
-          let entry = line_leads (say.Entry m.1) [] e₁ e₂ at.line texts.0 bare_ends (one_entry e₁ m (omega (arith, at.words, low, few)) (omega (arith, room)) (λ k above. free k (omega (arith, above, at.words))) (omega (arith, same, at.words)) placed.3) in
-          let both = leads_both (line_of (bare (say.Entry m.1))) (line_of (coded given count (4 * n) w) ++ text_of rest) e₁ e₂ end entry behind in
-          let whole = label_and_more known count labelled n d low at good (bare (say.Entry m.1) ∷ coded given count (4 * n) w ∷ rest) end both in
-          rw here (leads_at (text_of (labels labelled n ++ (bare (say.Entry m.1) ∷ coded given count (4 * n) w ∷ rest))) d end (with_code known count labelled n (m ∷ ms) (w ∷ ws) d)
+          let entry = line_leads (say.Entry m.1) [] e₁ e₂ at.line texts.0 bare_ends (one_entry e₁ m (omega (arith, at.words, low, few)) (omega (arith, room)) (λ k above. free k (omega (arith, above, at.words))) (omega (arith, same, at.words)) word_start.3) in
+          let both = leads_both (line_of (bare (say.Entry m.1))) (line_of (line_for given count (4 * n) w) ++ text_of rest) e₁ e₂ end entry behind in
+          let whole = label_and_more known count labelled n d low at good (bare (say.Entry m.1) ∷ line_for given count (4 * n) w ∷ rest) end both in
+          rw here (leads_at (text_of (labels labelled n ++ (bare (say.Entry m.1) ∷ line_for given count (4 * n) w ∷ rest))) d end (with_code known count labelled n (m ∷ ms) (w ∷ ws) d)
           (ap (λ (xs : List ℕ). record end { text = xs }) (append_assoc d.text (v ∷ []) words)
           ∙ ap (λ (xs : List ℕ). record end { text = d.text ++ (v ∷ words); entries = xs }) (append_assoc d.entries (m.0 ∷ []) (entries_of ms))
           ∙ ap (λ (xs : List (Option ℕ)). record end { text = d.text ++ (v ∷ words); entries = d.entries ++ (m.0 ∷ entries_of ms); limits = xs }) (append_assoc d.limits (m.1 ∷ []) (limits_of ms))) whole)
       | inr other ↦
           let here : (m.0 == 4 * n) ≡ false = ne_eqb m.0 (4 * n) other in
-          let above : 4 * suc n ≤ m.0 = omega (arith, placed.0, placed.1, other) in
+          let above : 4 * suc n ≤ m.0 = omega (arith, word_start.0, word_start.1, other) in
           let e₂ = worded e₁ v in
           let rest = code given count labelled (suc n) (m ∷ ms) ws in
           let end = with_code known count labelled (suc n) (m ∷ ms) ws e₂ in
-          let next = top_marks d.version (4 * suc n) n (length ws) (m ∷ ms) (above, placed.1, placed.2, placed.3, placed.4) in
+          let next = top_marks d.version (4 * suc n) n (length ws) (m ∷ ms) (above, word_start.1, word_start.2, word_start.3, word_start.4) in
           let more = code_leads given are known count labelled few (m ∷ ms) ws (suc n) e₂ (omega (arith, all)) fit.1 texts next (next_at_word known n e₁ v at₁) room (free_later n d.entries free) good₁ named.1 in
           let behind = word_and_more given are known count labelled n e₁ w low few fit.0 at₁ good₁ named.0 rest end more in
-          let whole = label_and_more known count labelled n d low at good (coded given count (4 * n) w ∷ rest) end behind in
-          rw here (leads_at (text_of (labels labelled n ++ (coded given count (4 * n) w ∷ rest))) d end (with_code known count labelled n (m ∷ ms) (w ∷ ws) d)
+          let whole = label_and_more known count labelled n d low at good (line_for given count (4 * n) w ∷ rest) end behind in
+          rw here (leads_at (text_of (labels labelled n ++ (line_for given count (4 * n) w ∷ rest))) d end (with_code known count labelled n (m ∷ ms) (w ∷ ws) d)
           (ap (λ (xs : List ℕ). record end { text = xs }) (append_assoc d.text (v ∷ []) words)) whole)
     ]
 

@@ -2,10 +2,10 @@
 use Rattle.std.proofs.Common.{◌≡◌, ℕ, suc, ◌+◌, ◌-◌, ◌%◌, ◌^◌, ◌<◌, true, false, ◌==◌, nat_lt, List, [], ◌∷◌, ◌++◌, length, Option, Some, None, refl, ap, ◌∙◌, subst, inl, inr, arith, decimal}
 use Rattle.std.proofs.lemmas.Bool.{cases_eq, ne_eqb, le-leb, lt-leb}
 use Rattle.std.specs.Prelude.{option_map}
-use Rattle.svc_draft.specs.Layouts.{Layout}
+use Rattle.svc_layout.specs.Layouts.{Layout}
 use Rattle.svc_operands.specs.Characters.{past_blanks, past_spaces}
 use Rattle.svc_operands.specs.Operands.{Read}
-use Rattle.svc_operands.specs.Expressions.{operator_at, combined, added_at, chain_on, ranked, plain_at, operand_from, operand_at, expression_at, below_zero}
+use Rattle.svc_operands.specs.Expressions.{operator_at, result_of, added_at, chain_on, ranks_at, plain_at, operand_from, operand_at, expression_at, below_zero}
 use Rattle.svc_operands.specs.Numbers.{number_below, signed_of, signed_at}
 use Rattle.svc_operands.proofs.Chains.{alone, chain_over}
 use Rattle.svc_list.proofs.NamesBack.{stops, no_slash, no_space, is_digit, all_digits, first_digit, digits_dense, digit_no_minus, numerals}
@@ -82,21 +82,21 @@ minus_back n rest some h s q =
     rw (alone None (32 ∷ 45 ∷ (decimal n ++ rest)) rest (below_zero n) (minus_operand None 30 n rest h s) q, signed_high n some h) refl
 
 -- a number that is added to 0, or taken away
-two_ranks : (operand : List ℕ → Read ℕ) (text rest : List ℕ) (n : ℕ) → operand text ≡ Some (n, rest) → operator_at rest ≡ None → ranked operand 2 text ≡ Some (n, rest)
-unfolding ranked
+two_ranks : (operand : List ℕ → Read ℕ) (text rest : List ℕ) (n : ℕ) → operand text ≡ Some (n, rest) → operator_at rest ≡ None → ranks_at operand 2 text ≡ Some (n, rest)
+unfolding ranks_at
 two_ranks operand text rest n h k =
-    rw (h, chain_over (ranked operand 0) 0 (length rest) n rest k, chain_over (ranked operand 1) 1 (length rest) n rest k) refl
+    rw (h, chain_over (ranks_at operand 0) 0 (length rest) n rest k, chain_over (ranks_at operand 1) 1 (length rest) n rest k) refl
 
 pub plus_back : (n : ℕ) (rest : List ℕ) → n < 2 ^ 32 → stops rest ≡ true → operator_at rest ≡ None → added_at (32 ∷ 43 ∷ 32 ∷ (decimal n ++ rest)) ≡ Some (n, rest)
-unfolding added_at chain_on operator_at combined past_blanks
+unfolding added_at chain_on operator_at result_of past_blanks
 plus_back n rest h s q =
     let read = two_ranks (operand_at None 32) (32 ∷ (decimal n ++ rest)) rest n (spaced_operand_back None 31 n rest h s) q in
     let is : (0 + n) % 2 ^ 64 ≡ n = omega (arith, h) in
-    rw (read, is, chain_over (ranked (operand_at None 32) 2) 2 (suc (suc (length (decimal n ++ rest)))) n rest q) refl
+    rw (read, is, chain_over (ranks_at (operand_at None 32) 2) 2 (suc (suc (length (decimal n ++ rest)))) n rest q) refl
 
 pub less_back : (n : ℕ) (rest : List ℕ) → n < 2 ^ 32 → stops rest ≡ true → operator_at rest ≡ None → added_at (32 ∷ 45 ∷ 32 ∷ (decimal n ++ rest)) ≡ Some (below_zero n, rest)
-unfolding added_at chain_on operator_at combined past_blanks
+unfolding added_at chain_on operator_at result_of past_blanks
 less_back n rest h s q =
     let read = two_ranks (operand_at None 32) (32 ∷ (decimal n ++ rest)) rest n (spaced_operand_back None 31 n rest h s) q in
     let is : (0 + below_zero n) % 2 ^ 64 ≡ below_zero n = omega arith in
-    rw (read, is, chain_over (ranked (operand_at None 32) 2) 2 (suc (suc (length (decimal n ++ rest)))) (below_zero n) rest q) refl
+    rw (read, is, chain_over (ranks_at (operand_at None 32) 2) 2 (suc (suc (length (decimal n ++ rest)))) (below_zero n) rest q) refl

@@ -3,12 +3,16 @@ use Rattle.std.proofs.Common.{◌≡◌, ℕ, ◌*◌, ◌-◌, ◌%◌, Bool, t
 use Rattle.svc_rv32i.specs.declared.instr.Register.{Register}
 use Rattle.svc_image.specs.declared.version.Version.{Version}
 use Rattle.svc_image.specs.declared.version.Version.TheVariants as version
-use Rattle.svc_draft.specs.declared.statement.Next.{Next}
-use Rattle.svc_draft.specs.declared.statement.Next.TheVariants as go
-use Rattle.svc_draft.specs.declared.statement.Statement.{Statement}
-use Rattle.svc_draft.specs.declared.statement.Statement.TheVariants as say
-use Rattle.svc_draft.specs.Options.{◌>>=◌}
-use Rattle.svc_draft.specs.Layouts.{has_other, is_limit, Layout, with_value, going_on, with_version, data_up_to, read_only_up_to, with_read_only, with_own, takes_entry, with_place, with_entry, with_limit, with_register, after}
+use Rattle.svc_layout.specs.declared.statement.Next.{Next}
+use Rattle.svc_layout.specs.declared.statement.Next.TheVariants as go
+use Rattle.svc_layout.specs.declared.statement.Statement.{Statement}
+use Rattle.svc_layout.specs.declared.statement.Statement.TheVariants as say
+use Rattle.svc_layout.specs.Options.{◌>>=◌}
+use Rattle.svc_layout.specs.Layouts.{Layout}
+use Rattle.svc_layout.specs.Contents.{with_value}
+use Rattle.svc_layout.specs.Directives.{has_other, is_limit, with_version, data_up_to, read_only_up_to, with_read_only}
+use Rattle.svc_layout.specs.Directives.{with_own, takes_entry, with_place, with_entry, with_limit, with_register}
+use Rattle.svc_layout.specs.Lines.{going_on, after}
 use Rattle.svc_list.specs.Listings.{HasText}
 
 -- where there is a layout, this is read next

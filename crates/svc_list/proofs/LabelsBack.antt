@@ -5,11 +5,13 @@ use Rattle.std.specs.Map.{update}
 use Rattle.std.proofs.lemmas.Bool.{and_parts, and_from, le-leb, lt-leb, cases_lt, eq-eqb, agree_below_at, false_from_ne_true}
 use Rattle.std.proofs.lemmas.List.Sums.{take_while-cons}
 use Rattle.std.proofs.lemmas.Slice.Eq.{bytes_eq-Decides}
-use Rattle.svc_draft.specs.declared.statement.Section.TheVariants as section
-use Rattle.svc_draft.specs.declared.statement.Spot.{Spot}
-use Rattle.svc_draft.specs.declared.statement.Statement.TheVariants as say
-use Rattle.svc_draft.specs.Sources.{no_bindings}
-use Rattle.svc_draft.specs.Layouts.{Layout, place, spot_here, is_place, is_shared_twice, with_name, with_name_again, with_symbol}
+use Rattle.svc_layout.specs.declared.section.Section.TheVariants as section
+use Rattle.svc_layout.specs.declared.section.Spot.{Spot}
+use Rattle.svc_layout.specs.declared.statement.Statement.TheVariants as say
+use Rattle.svc_layout.specs.Sources.{no_bindings}
+use Rattle.svc_layout.specs.Layouts.{Layout}
+use Rattle.svc_layout.specs.Places.{place, spot_here}
+use Rattle.svc_layout.specs.Labels.{is_place, is_shared_twice, with_name, with_name_again, with_symbol}
 use Rattle.svc_operands.specs.Characters.{is_name, past_blanks, past, name_at, past_name, behind}
 use Rattle.svc_asm_lines.specs.Statements.{statement_at, line_at}
 use Rattle.svc_list.specs.Listings.{hex_digit, hex_text, label_text}

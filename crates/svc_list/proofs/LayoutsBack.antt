@@ -13,15 +13,22 @@ use Rattle.svc_image.specs.Version.{read_only_by, limits_by}
 use Rattle.svc_image.specs.Image.{Image, IsImage, IsLimit, AreWords}
 use Rattle.svc_image.specs.Format.{bytes_of_word, bytes_of_words, words_in}
 use Rattle.svc_image.proofs.Wordwise.{length-bytes_of_words, words_in-bytes_of_words}
-use Rattle.svc_draft.specs.declared.statement.Section.TheVariants as section
-use Rattle.svc_draft.specs.declared.statement.Width.TheVariants as wide
-use Rattle.svc_draft.specs.declared.statement.Next.{Next}
-use Rattle.svc_draft.specs.declared.statement.Next.TheVariants as go
-use Rattle.svc_draft.specs.declared.statement.Statement.TheVariants as say
-use Rattle.svc_draft.specs.Options.{◌>>=◌}
-use Rattle.svc_draft.specs.Areas.{with_more}
-use Rattle.svc_draft.specs.Sources.{Names, Source, no_source}
-use Rattle.svc_draft.specs.Layouts.{is_limit, Layout, no_distances, no_branches, with_word, with_bytes, with_value, with_version, with_read_only, with_own, with_place, with_entry, with_limit, with_register, data_size, going_on, after, limits_in, data_in, image_laid}
+use Rattle.svc_layout.specs.declared.section.Section.TheVariants as section
+use Rattle.svc_layout.specs.declared.section.Width.TheVariants as wide
+use Rattle.svc_layout.specs.declared.statement.Next.{Next}
+use Rattle.svc_layout.specs.declared.statement.Next.TheVariants as go
+use Rattle.svc_layout.specs.declared.statement.Statement.TheVariants as say
+use Rattle.svc_layout.specs.Options.{◌>>=◌}
+use Rattle.svc_layout.specs.Areas.{with_more}
+use Rattle.svc_layout.specs.Sources.{Names, Source, no_source}
+use Rattle.svc_layout.specs.Layouts.{Layout}
+use Rattle.svc_layout.specs.Places.{data_size}
+use Rattle.svc_layout.specs.Passes.{no_distances, no_branches}
+use Rattle.svc_layout.specs.Contents.{with_word, with_bytes, with_value}
+use Rattle.svc_layout.specs.Directives.{is_limit, with_version, with_read_only, with_own, with_place, with_entry}
+use Rattle.svc_layout.specs.Directives.{with_limit, with_register}
+use Rattle.svc_layout.specs.Lines.{going_on, after}
+use Rattle.svc_layout.specs.Images.{limits_in, data_in, image_laid}
 use Rattle.svc_names.specs.declared.name.Name.{Name}
 use Rattle.svc_list.specs.Listings.{Line, Says, Labels, Codes, Starts, bare, setting, settings, own_limit, marks, data_lines, all_data}
 
@@ -71,13 +78,13 @@ layout_for names known from img = record {
   data_from = 0;
   bss_from = from;
   sources = texts_for known names;
-  placed = known;
+  places_known = known;
   lacks_names = false;
   lacks_places = false;
   passed = 0;
   distances = no_distances;
   has_distances = false;
-  measured = known;
+  distances_known = known;
   turned = no_branches;
   turns_all = false;
   grew = false;
@@ -286,7 +293,7 @@ pub line_goes_on : (d : Layout) → d.next ≡ go.Line → going_on go.Line d �
 line_goes_on d line = ap (λ (n : Next). Some (record d { next = n })) (sym line)
 
 word_in_data : (d : Layout) (w : ℕ) → d.section ≡ section.Data → with_value wide.Word w d ≡ with_bytes (bytes_of_word w) d
-unfolding with_value
+unfolding with_value bytes_of_word
 word_in_data d w h = rw h refl
 
 datum_laid : (d : Layout) (bytes : List ℕ) (w : ℕ) → d.section ≡ section.Data → d.next ≡ go.Line → IsAlone d → length bytes + 4 ≤ 262144

@@ -6,17 +6,17 @@ use Rattle.svc_rv32i.specs.declared.instr.Register.{Register}
 use Rattle.svc_image.specs.declared.version.Version.{Version}
 use Rattle.svc_image.specs.declared.version.Version.TheVariants as version
 use Rattle.svc_image.specs.Version.{version_number}
-use Rattle.svc_draft.specs.declared.statement.Section.TheVariants as section
-use Rattle.svc_draft.specs.declared.statement.Width.TheVariants as wide
-use Rattle.svc_draft.specs.declared.statement.Next.{Next}
-use Rattle.svc_draft.specs.declared.statement.Next.TheVariants as go
-use Rattle.svc_draft.specs.declared.statement.Statement.{Statement}
-use Rattle.svc_draft.specs.declared.statement.Statement.TheVariants as say
+use Rattle.svc_layout.specs.declared.section.Section.TheVariants as section
+use Rattle.svc_layout.specs.declared.section.Width.TheVariants as wide
+use Rattle.svc_layout.specs.declared.statement.Next.{Next}
+use Rattle.svc_layout.specs.declared.statement.Next.TheVariants as go
+use Rattle.svc_layout.specs.declared.statement.Statement.{Statement}
+use Rattle.svc_layout.specs.declared.statement.Statement.TheVariants as say
 use Rattle.svc_operands.specs.Characters.{is_name, past, past_name, behind}
-use Rattle.svc_draft.specs.Layouts.{Layout}
+use Rattle.svc_layout.specs.Layouts.{Layout}
 use Rattle.svc_instructions.specs.Couples.{instruction_at}
 use Rattle.svc_operands.specs.Expressions.{operator_at}
-use Rattle.svc_operands.specs.Names.{padded}
+use Rattle.svc_operands.specs.Names.{letters_of}
 use Rattle.svc_asm_lines.specs.Statements.{said_by, numbered_at, said_at, entry_before, directive_at, statement_at, ended_at, line_at}
 use Rattle.svc_asm_lines.specs.declared.directives.Number.TheVariants as number
 use Rattle.svc_asm_lines.specs.declared.directives.Says.TheVariants as says
@@ -95,7 +95,7 @@ setting_back d r n rest tail h e =
     ∙ rw (first_back r (32 ∷ (decimal n ++ rest)), spaced_value_back d n rest tail h e) refl
 
 pub statement_back : (d : Layout) (s : Statement) (rest tail : List ℕ) → HasText s → Ends rest tail → statement_at d (statement_text s ++ rest) ≡ Some (s, rest)
-unfolding statement_text is_name directive_at said_by padded said_at
+unfolding statement_text is_name directive_at said_by letters_of said_at
 statement_back d (say.Value w n next) rest tail h e =
     by_directive d (codes "word") (32 ∷ (decimal n ++ rest)) refl refl ∙ word_back d n rest tail h.2 e
     ∙ (λ i. Some (say.Value (sym h.0 i) n (sym h.1 i), rest))

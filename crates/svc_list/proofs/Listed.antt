@@ -23,7 +23,7 @@ use Rattle.svc_rv32i.specs.declared.instr.Instr.TheVariants as i
 use Rattle.svc_rv32i.specs.Words.{r_type, i_type, s_type, b_type, u_type, j_type, word_of}
 use Rattle.svc_instructions.specs.declared.table.Row.{Row}
 use Rattle.svc_instructions.specs.declared.table.TheConstants.{ROWS}
-use Rattle.svc_instructions.specs.Instructions.{with_funct3, fixed_by, fixed, is_of, row_of}
+use Rattle.svc_instructions.specs.Instructions.{with_funct3, fixed_by, fixed_bits, is_of, row_of}
 use Rattle.svc_list.specs.Listings.{IsShown}
 
 -- what passes a test isn't missed
@@ -38,15 +38,15 @@ not_missed test (x ∷ more) (suc k) r at holds none =
       | inr fails ↦ not_missed test more k r at holds (sym (rw fails refl) ∙ none)
     ]
 
-listed : (w k : ℕ) (r : Row) → slice_get ROWS k ≡ Some r → fixed w ≡ r.1 → row_of w ≡ None → ⊥
+listed : (w k : ℕ) (r : Row) → slice_get ROWS k ≡ Some r → fixed_bits w ≡ r.1 → row_of w ≡ None → ⊥
 unfolding row_of
-listed w k r at same none = not_missed (is_of (fixed w)) ROWS k r at (eq-eqb (fixed w) r.1 same) none
+listed w k r at same none = not_missed (is_of (fixed_bits w)) ROWS k r at (eq-eqb (fixed_bits w) r.1 same) none
 
 -- what is fixed of a word with an opcode
-by_opcode : (w opcode bits : ℕ) → w % 2 ^ 7 ≡ opcode → fixed_by opcode w ≡ bits → fixed w ≡ bits
+by_opcode : (w opcode bits : ℕ) → w % 2 ^ 7 ≡ opcode → fixed_by opcode w ≡ bits → fixed_bits w ≡ bits
 by_opcode w opcode bits h e = ap (λ o. fixed_by o w) h ∙ e
 
-register_bits : (f3 f7 : ℕ) (rd rs1 rs2 : Register) → f3 < 8 → f7 < 128 → fixed (r_type 51 rd.number f3 rs1.number rs2.number f7) ≡ 51 + f3 * 2 ^ 12 + f7 * 2 ^ 25
+register_bits : (f3 f7 : ℕ) (rd rs1 rs2 : Register) → f3 < 8 → f7 < 128 → fixed_bits (r_type 51 rd.number f3 rs1.number rs2.number f7) ≡ 51 + f3 * 2 ^ 12 + f7 * 2 ^ 25
 unfolding fixed_by r_type
 register_bits f3 f7 rd rs1 rs2 h k =
     let a : rd.number < 2 ^ 5 = rd.in_range in
@@ -56,7 +56,7 @@ register_bits f3 f7 rd rs1 rs2 h k =
     by_opcode w 51 (51 + f3 * 2 ^ 12 + f7 * 2 ^ 25) (omega arith) (omega arith)
 
 -- format I, of an opcode that has funct3 beside it
-funct3_bits : (a f3 : ℕ) (rd rs1 : Register) (imm : Short) → a < 128 → f3 < 8 → ((w : ℕ) → fixed_by a w ≡ with_funct3 w) → fixed (i_type a rd.number f3 rs1.number imm.bits) ≡ a + f3 * 2 ^ 12
+funct3_bits : (a f3 : ℕ) (rd rs1 : Register) (imm : Short) → a < 128 → f3 < 8 → ((w : ℕ) → fixed_by a w ≡ with_funct3 w) → fixed_bits (i_type a rd.number f3 rs1.number imm.bits) ≡ a + f3 * 2 ^ 12
 unfolding i_type
 funct3_bits a f3 rd rs1 imm h k is =
     let x : rd.number < 2 ^ 5 = rd.in_range in
@@ -73,7 +73,7 @@ jalr_is : (w : ℕ) → fixed_by 103 w ≡ with_funct3 w
 unfolding fixed_by
 jalr_is w = refl
 
-immediate_bits : (f3 : ℕ) (rd rs1 : Register) (imm : Short) → f3 < 8 → (f3 % 4 == 1) ≡ false → fixed (i_type 19 rd.number f3 rs1.number imm.bits) ≡ 19 + f3 * 2 ^ 12
+immediate_bits : (f3 : ℕ) (rd rs1 : Register) (imm : Short) → f3 < 8 → (f3 % 4 == 1) ≡ false → fixed_bits (i_type 19 rd.number f3 rs1.number imm.bits) ≡ 19 + f3 * 2 ^ 12
 unfolding fixed_by i_type
 immediate_bits f3 rd rs1 imm k other =
     let x : rd.number < 2 ^ 5 = rd.in_range in
@@ -84,7 +84,7 @@ immediate_bits f3 rd rs1 imm k other =
     let no : (w / 2 ^ 12 % 2 ^ 2 == 1) ≡ false = ap (λ n. n == 1) field ∙ other in
     by_opcode w 19 (19 + f3 * 2 ^ 12) (omega arith) (rw no (omega arith))
 
-shift_bits : (f3 f7 : ℕ) (rd rs1 : Register) (a : ShiftAmount) → f3 < 8 → f7 < 128 → (f3 % 4 == 1) ≡ true → fixed (r_type 19 rd.number f3 rs1.number a.bits f7) ≡ 19 + f3 * 2 ^ 12 + f7 * 2 ^ 25
+shift_bits : (f3 f7 : ℕ) (rd rs1 : Register) (a : ShiftAmount) → f3 < 8 → f7 < 128 → (f3 % 4 == 1) ≡ true → fixed_bits (r_type 19 rd.number f3 rs1.number a.bits f7) ≡ 19 + f3 * 2 ^ 12 + f7 * 2 ^ 25
 unfolding fixed_by r_type
 shift_bits f3 f7 rd rs1 a h k one =
     let x : rd.number < 2 ^ 5 = rd.in_range in
@@ -95,7 +95,7 @@ shift_bits f3 f7 rd rs1 a h k one =
     let yes : (w / 2 ^ 12 % 2 ^ 2 == 1) ≡ true = ap (λ n. n == 1) field ∙ one in
     by_opcode w 19 (19 + f3 * 2 ^ 12 + f7 * 2 ^ 25) (omega arith) (rw yes (omega arith))
 
-store_bits : (f3 : ℕ) (rs1 rs2 : Register) (imm : Short) → f3 < 8 → fixed (s_type 35 f3 rs1.number rs2.number imm.bits) ≡ 35 + f3 * 2 ^ 12
+store_bits : (f3 : ℕ) (rs1 rs2 : Register) (imm : Short) → f3 < 8 → fixed_bits (s_type 35 f3 rs1.number rs2.number imm.bits) ≡ 35 + f3 * 2 ^ 12
 unfolding fixed_by s_type
 store_bits f3 rs1 rs2 imm k =
     let x : rs1.number < 2 ^ 5 = rs1.in_range in
@@ -103,7 +103,7 @@ store_bits f3 rs1 rs2 imm k =
     let z : imm.bits < 2 ^ 12 = imm.in_range in
     by_opcode (s_type 35 f3 rs1.number rs2.number imm.bits) 35 (35 + f3 * 2 ^ 12) (omega arith) (omega arith)
 
-branch_bits : (f3 : ℕ) (rs1 rs2 : Register) (imm : Short) → f3 < 8 → fixed (b_type 99 f3 rs1.number rs2.number imm.bits) ≡ 99 + f3 * 2 ^ 12
+branch_bits : (f3 : ℕ) (rs1 rs2 : Register) (imm : Short) → f3 < 8 → fixed_bits (b_type 99 f3 rs1.number rs2.number imm.bits) ≡ 99 + f3 * 2 ^ 12
 unfolding fixed_by b_type
 branch_bits f3 rs1 rs2 imm k =
     let x : rs1.number < 2 ^ 5 = rs1.in_range in
@@ -111,7 +111,7 @@ branch_bits f3 rs1 rs2 imm k =
     let z : imm.bits < 2 ^ 12 = imm.in_range in
     by_opcode (b_type 99 f3 rs1.number rs2.number imm.bits) 99 (99 + f3 * 2 ^ 12) (omega arith) (omega arith)
 
-upper_bits : (a : ℕ) (rd : Register) (imm : Long) → a < 128 → ((w : ℕ) → fixed_by a w ≡ w % 2 ^ 7) → fixed (u_type a rd.number imm.bits) ≡ a
+upper_bits : (a : ℕ) (rd : Register) (imm : Long) → a < 128 → ((w : ℕ) → fixed_by a w ≡ w % 2 ^ 7) → fixed_bits (u_type a rd.number imm.bits) ≡ a
 unfolding u_type
 upper_bits a rd imm h is =
     let x : rd.number < 2 ^ 5 = rd.in_range in
@@ -127,7 +127,7 @@ auipc_is : (w : ℕ) → fixed_by 23 w ≡ w % 2 ^ 7
 unfolding fixed_by
 auipc_is w = refl
 
-jump_bits : (rd : Register) (imm : Long) → fixed (j_type 111 rd.number imm.bits) ≡ 111
+jump_bits : (rd : Register) (imm : Long) → fixed_bits (j_type 111 rd.number imm.bits) ≡ 111
 unfolding fixed_by j_type
 jump_bits rd imm =
     let x : rd.number < 2 ^ 5 = rd.in_range in

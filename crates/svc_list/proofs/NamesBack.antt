@@ -4,7 +4,7 @@ use Rattle.std.proofs.lemmas.List.Sums.{take_while-cons}
 use Rattle.std.proofs.lemmas.Bool.{and_parts, and_from, not-true, le-leb, ne_eqb, agree_below_at, cases_Bool}
 use Rattle.std.proofs.lemmas.Fmt.{decimal_by_steps}
 use Rattle.std.proofs.lemmas.List.{length-append}
-use Rattle.svc_draft.specs.Options.{◌>>=◌}
+use Rattle.svc_layout.specs.Options.{◌>>=◌}
 use Rattle.svc_operands.specs.declared.characters.TheConstants.{TEXT_END}
 use Rattle.svc_operands.specs.Characters.{is_space, opens, is_name, past_blanks, past_spaces, begins_over, is_over, past, name_at, past_name, behind, digit, push_digit, value_on, behind_zero, number_of}
 use Rattle.svc_operands.specs.Expressions.{operator_at}

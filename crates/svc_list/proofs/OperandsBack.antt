@@ -6,9 +6,9 @@ use Rattle.svc_rv32i.specs.declared.instr.Register.{Register}
 use Rattle.svc_rv32i.specs.Meaning.{register}
 use Rattle.svc_operands.specs.declared.operands.Signed.{Signed}
 use Rattle.svc_operands.specs.Characters.{is_name, past_blanks, past, behind, mark_at, value_on, long_of, value_of}
-use Rattle.svc_draft.specs.Layouts.{Layout}
-use Rattle.svc_operands.specs.Names.{numbered, register_named}
-use Rattle.svc_operands.specs.Operands.{register_at, first_register_at, wrapped, halved, steps_of}
+use Rattle.svc_layout.specs.Layouts.{Layout}
+use Rattle.svc_operands.specs.Names.{x_number, register_named}
+use Rattle.svc_operands.specs.Operands.{register_at, first_register_at, signed_bits, half_of, steps_of}
 use Rattle.svc_operands.specs.Expressions.{operator_at}
 use Rattle.svc_operands.specs.Numbers.{number_short_at, number_below}
 use Rattle.svc_operands.specs.Values.{offset_from, offset_at, target_at, value_at, short_at, upper_at}
@@ -40,7 +40,7 @@ unfolding register
 register_is r = same_register (register r.number) r (omega (arith, r.in_range))
 
 named_back : (r : Register) → register_named (120 ∷ decimal r.number) ≡ Some r
-unfolding register_named numbered
+unfolding register_named x_number
 named_back r =
     let facts = numerals r.number (omega (arith, r.in_range)) (omega (arith, r.in_range)) in
     let small : nat_lt r.number 32 ≡ true = le-leb (suc r.number) 32 (omega (arith, r.in_range)) in
@@ -68,10 +68,10 @@ first_back r rest =
 abbrev pub sign : Bool → ℕ → Signed
 sign negative n = record { negative = negative; magnitude = n }
 
-pub wrapped_low : (half n : ℕ) → n < half → wrapped half (sign false n) ≡ Some n
+pub wrapped_low : (half n : ℕ) → n < half → signed_bits half (sign false n) ≡ Some n
 wrapped_low half n h = let low : nat_lt n half ≡ true = le-leb (suc n) half (omega (arith, h)) in rw low refl
 
-pub wrapped_high : (half n : ℕ) → half ≤ n → n < 2 * half → wrapped half (sign true (2 * half - n)) ≡ Some n
+pub wrapped_high : (half n : ℕ) → half ≤ n → n < 2 * half → signed_bits half (sign true (2 * half - n)) ≡ Some n
 wrapped_high half n h k =
     let most : nat_le (2 * half - n) half ≡ true = le-leb (2 * half - n) half (omega (arith, h, k)) in
     let back : 2 * half - (2 * half - n) ≡ n = omega (arith, h, k) in
@@ -136,7 +136,7 @@ offset_high d half n rest s q small h k =
     let high : nat_lt n half ≡ false = lt-leb (suc n) half (omega (arith, h)) in
     rw (high, less_back (2 * (2 * half - n)) rest (omega (arith, h, k, small)) s q, signed_high (2 * (2 * half - n)) (omega (arith, k)) (omega (arith, h, k, small))) refl
 
-pub halved_double : (negative : Bool) (n : ℕ) → halved (sign negative (2 * n)) ≡ Some (sign negative n)
+pub halved_double : (negative : Bool) (n : ℕ) → half_of (sign negative (2 * n)) ≡ Some (sign negative n)
 halved_double negative n =
     let even : 2 * n % 2 ≡ 0 = omega arith in
     let half : 2 * n / 2 ≡ n = omega arith in

@@ -6,10 +6,10 @@ use Rattle.svc_rv32i.specs.Meaning.{register}
 use Rattle.svc_image.specs.declared.version.Version.{Version}
 use Rattle.svc_image.specs.declared.version.Version.TheVariants as version
 use Rattle.svc_image.specs.Image.{Image}
-use Rattle.svc_draft.specs.declared.statement.Section.TheVariants as section
-use Rattle.svc_draft.specs.declared.statement.Statement.TheVariants as say
+use Rattle.svc_layout.specs.declared.section.Section.TheVariants as section
+use Rattle.svc_layout.specs.declared.statement.Statement.TheVariants as say
 use Rattle.svc_names.specs.declared.name.Name.{Name}
-use Rattle.svc_list.specs.Listings.{Labels, Line, bare, line_of, text_of, coded, Starts, labels, is_labelled, datum, setting, settings, own_limit, marks, code, data_lines, all_data, head_lines, lines_of, listing_of}
+use Rattle.svc_list.specs.Listings.{Labels, Line, bare, line_of, text_of, line_for, Starts, labels, is_labelled, datum, setting, settings, own_limit, marks, code, data_lines, all_data, head_lines, lines_of, listing_of}
 
 -- what is put, and what is left to put, is the whole
 pub goes_on : (out new line part rest whole : List ℕ) → new ≡ out ++ line → part ≡ line ++ rest → out ++ part ≡ whole → new ++ rest ≡ whole
@@ -47,26 +47,26 @@ settings_none values i n h = rw (none_left values i h) refl
 
 -- a word at which an entry stands, and one at which none stands
 pub entry_step : (given : Option (List Name)) (count : ℕ) (is : ℕ → Bool) (n : ℕ) (m : ℕ × Option ℕ) (w : ℕ) (ms : List (ℕ × Option ℕ)) (ws : List ℕ) → m.0 ≡ 4 * n
-    → text_of (code given count is n (m ∷ ms) (w ∷ ws)) ≡ text_of (labels is n) ++ (line_of (bare (say.Entry m.1)) ++ (line_of (coded given count (4 * n) w) ++ text_of (code given count is (suc n) ms ws)))
+    → text_of (code given count is n (m ∷ ms) (w ∷ ws)) ≡ text_of (labels is n) ++ (line_of (bare (say.Entry m.1)) ++ (line_of (line_for given count (4 * n) w) ++ text_of (code given count is (suc n) ms ws)))
 unfolding text_of code
 entry_step given count is n m w ms ws same =
     let here : (m.0 == 4 * n) ≡ true = eq-eqb m.0 (4 * n) same in
-    rw here (text_both (labels is n) (bare (say.Entry m.1) ∷ coded given count (4 * n) w ∷ code given count is (suc n) ms ws))
+    rw here (text_both (labels is n) (bare (say.Entry m.1) ∷ line_for given count (4 * n) w ∷ code given count is (suc n) ms ws))
 
 other_step : (given : Option (List Name)) (count : ℕ) (is : ℕ → Bool) (n : ℕ) (m : ℕ × Option ℕ) (w : ℕ) (ms : List (ℕ × Option ℕ)) (ws : List ℕ) → (m.0 ≡ 4 * n → ⊥)
-    → text_of (code given count is n (m ∷ ms) (w ∷ ws)) ≡ text_of (labels is n) ++ (line_of (coded given count (4 * n) w) ++ text_of (code given count is (suc n) (m ∷ ms) ws))
+    → text_of (code given count is n (m ∷ ms) (w ∷ ws)) ≡ text_of (labels is n) ++ (line_of (line_for given count (4 * n) w) ++ text_of (code given count is (suc n) (m ∷ ms) ws))
 unfolding text_of code
 other_step given count is n m w ms ws other =
     let here : (m.0 == 4 * n) ≡ false = ne_eqb m.0 (4 * n) other in
-    rw here (text_both (labels is n) (coded given count (4 * n) w ∷ code given count is (suc n) (m ∷ ms) ws))
+    rw here (text_both (labels is n) (line_for given count (4 * n) w ∷ code given count is (suc n) (m ∷ ms) ws))
 
-last_step : (given : Option (List Name)) (count : ℕ) (is : ℕ → Bool) (n w : ℕ) (ws : List ℕ) → text_of (code given count is n [] (w ∷ ws)) ≡ text_of (labels is n) ++ (line_of (coded given count (4 * n) w) ++ text_of (code given count is (suc n) [] ws))
+last_step : (given : Option (List Name)) (count : ℕ) (is : ℕ → Bool) (n w : ℕ) (ws : List ℕ) → text_of (code given count is n [] (w ∷ ws)) ≡ text_of (labels is n) ++ (line_of (line_for given count (4 * n) w) ++ text_of (code given count is (suc n) [] ws))
 unfolding text_of code
-last_step given count is n w ws = text_both (labels is n) (coded given count (4 * n) w ∷ code given count is (suc n) [] ws)
+last_step given count is n w ws = text_both (labels is n) (line_for given count (4 * n) w ∷ code given count is (suc n) [] ws)
 
 -- no entry stands at the word
 pub none_step : (given : Option (List Name)) (count : ℕ) (is : ℕ → Bool) (v : Version) (es ls : List ℕ) (n w : ℕ) (ws : List ℕ) → ((e l : ℕ) (fs ks : List ℕ) → es ≡ e ∷ fs → ls ≡ l ∷ ks → e ≡ 4 * n → ⊥)
-    → text_of (code given count is n (marks v es ls) (w ∷ ws)) ≡ text_of (labels is n) ++ (line_of (coded given count (4 * n) w) ++ text_of (code given count is (suc n) (marks v es ls) ws))
+    → text_of (code given count is n (marks v es ls) (w ∷ ws)) ≡ text_of (labels is n) ++ (line_of (line_for given count (4 * n) w) ++ text_of (code given count is (suc n) (marks v es ls) ws))
 none_step given count is v [] ls n w ws other = last_step given count is n w ws
 none_step given count is v (e ∷ es) [] n w ws other = last_step given count is n w ws
 none_step given count is v (e ∷ es) (l ∷ ls) n w ws other = other_step given count is n (e, own_limit v l) w (marks v es ls) ws (λ same. other e l es ls refl refl same)
@@ -171,13 +171,13 @@ behind_label before o l part rest p e k = k ∙ ap (λ (xs : List ℕ). xs ++ pa
 
 -- a word behind the mark of its entry, and one where no entry stands
 pub mark_put : (given : Option (List Name)) (count : ℕ) (is : ℕ → Bool) (v : Version) (n pc word limit : ℕ) (entries limits es ls words before o o₁ o₂ : List ℕ) → pc ≡ 4 * n → entries ≡ pc ∷ es → limits ≡ limit ∷ ls → o ≡ before ++ text_of (labels is n)
-    → o₁ ≡ o ++ line_of (bare (say.Entry (own_limit v limit))) → o₂ ≡ o₁ ++ line_of (coded given count pc word)
+    → o₁ ≡ o ++ line_of (bare (say.Entry (own_limit v limit))) → o₂ ≡ o₁ ++ line_of (line_for given count pc word)
     → o₂ ++ text_of (code given count is (suc n) (marks v es ls) words) ≡ before ++ text_of (code given count is n (marks v entries limits) (word ∷ words))
 mark_put given count is v n pc word limit entries limits es ls words before o o₁ o₂ same f g put e₁ e₂ =
-    let at : line_of (coded given count pc word) ≡ line_of (coded given count (4 * n) word) = ap (λ (address : ℕ). line_of (coded given count address word)) same in
+    let at : line_of (line_for given count pc word) ≡ line_of (line_for given count (4 * n) word) = ap (λ (address : ℕ). line_of (line_for given count address word)) same in
     let rest = text_of (code given count is (suc n) (marks v es ls) words) in
     let entry = line_of (bare (say.Entry (own_limit v limit))) in
-    let line = line_of (coded given count (4 * n) word) in
+    let line = line_of (line_for given count (4 * n) word) in
     let whole : text_of (code given count is n (marks v entries limits) (word ∷ words)) ≡ text_of (labels is n) ++ (entry ++ (line ++ rest)) =
     ap (λ (xs : List ℕ). text_of (code given count is n (marks v xs limits) (word ∷ words))) f ∙ ap (λ (xs : List ℕ). text_of (code given count is n (marks v (pc ∷ es) xs) (word ∷ words))) g
     ∙ entry_step given count is n (pc, own_limit v limit) word (marks v es ls) words same in
@@ -185,12 +185,12 @@ mark_put given count is v n pc word limit entries limits es ls words before o o�
     ∙ ap (λ (xs : List ℕ). before ++ xs) (sym whole)
 
 pub word_put : (given : Option (List Name)) (count : ℕ) (is : ℕ → Bool) (v : Version) (n pc word : ℕ) (entries limits words before o o₁ : List ℕ) → pc ≡ 4 * n → ((e l : ℕ) (es ls : List ℕ) → entries ≡ e ∷ es → limits ≡ l ∷ ls → e ≡ pc → ⊥) → o ≡ before ++ text_of (labels is n)
-    → o₁ ≡ o ++ line_of (coded given count pc word)
+    → o₁ ≡ o ++ line_of (line_for given count pc word)
     → o₁ ++ text_of (code given count is (suc n) (marks v entries limits) words) ≡ before ++ text_of (code given count is n (marks v entries limits) (word ∷ words))
 word_put given count is v n pc word entries limits words before o o₁ same other put e₁ =
-    let at : line_of (coded given count pc word) ≡ line_of (coded given count (4 * n) word) = ap (λ (address : ℕ). line_of (coded given count address word)) same in
+    let at : line_of (line_for given count pc word) ≡ line_of (line_for given count (4 * n) word) = ap (λ (address : ℕ). line_of (line_for given count address word)) same in
     let rest = text_of (code given count is (suc n) (marks v entries limits) words) in
-    let line = line_of (coded given count (4 * n) word) in
+    let line = line_of (line_for given count (4 * n) word) in
     let whole = none_step given count is v entries limits n word words (λ e l es ls f g here. other e l es ls f g (here ∙ sym same)) in
     behind_label before o (text_of (labels is n)) (line ++ rest) rest o₁ put (one_put o o₁ line (line ++ rest) rest (e₁ ∙ ap (λ (xs : List ℕ). o ++ xs) at) refl)
     ∙ ap (λ (xs : List ℕ). before ++ xs) (sym whole)

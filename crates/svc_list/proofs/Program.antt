@@ -15,16 +15,22 @@ use Rattle.svc_image.specs.declared.version.Version.TheVariants as version
 use Rattle.svc_image.specs.Version.{read_only_by}
 use Rattle.svc_image.specs.Image.{Image, IsImage, IsLimit, AreWords, StartsWord, is_entry}
 use Rattle.svc_image.specs.Format.{bytes_of_words}
-use Rattle.svc_draft.specs.declared.statement.Section.TheVariants as section
-use Rattle.svc_draft.specs.declared.statement.Next.TheVariants as go
-use Rattle.svc_draft.specs.declared.statement.Statement.TheVariants as say
-use Rattle.svc_draft.specs.Areas.{filled, data_of, some_word}
-use Rattle.svc_draft.specs.Layouts.{Layout, zeros, address_of, empty, multiple, with_source, with_version, IsMadeOf}
-use Rattle.svc_draft.specs.Sources.{Names, no_names, no_bindings, first_by, shared_spot}
+use Rattle.svc_layout.specs.declared.section.Section.TheVariants as section
+use Rattle.svc_layout.specs.declared.statement.Next.TheVariants as go
+use Rattle.svc_layout.specs.declared.statement.Statement.TheVariants as say
+use Rattle.svc_layout.specs.Steps.{multiple}
+use Rattle.svc_layout.specs.Areas.{fill_up, data_of, some_word}
+use Rattle.svc_layout.specs.Sources.{Names, no_names, no_bindings, first_by, shared_spot}
+use Rattle.svc_layout.specs.Layouts.{Layout}
+use Rattle.svc_layout.specs.Passes.{zeros, empty}
+use Rattle.svc_layout.specs.Addresses.{address_of}
+use Rattle.svc_layout.specs.Directives.{with_version}
+use Rattle.svc_layout.specs.Texts.{with_source}
+use Rattle.svc_layout.specs.Images.{IsMadeOf}
 use Rattle.svc_image.proofs.Wordwise.{length-bytes_of_words}
 use Rattle.svc_operands.specs.Characters.{is_name, past_name, behind}
 use Rattle.svc_operands.specs.Values.{value_at}
-use Rattle.svc_operands.specs.Names.{padded}
+use Rattle.svc_operands.specs.Names.{letters_of}
 use Rattle.svc_asm_lines.specs.Statements.{said_by, said_at, directive_at, statement_at, line_at}
 use Rattle.svc_asm.specs.Programs.{IsProgramOf}
 use Rattle.svc_names.specs.declared.name.Name.{Name}
@@ -115,16 +121,16 @@ start_placed n s (e ∷ es) placed any =
 no_zeros : (words : List ℕ) → (4 - length (bytes_of_words words) % 4) % 4 ≡ 0
 no_zeros words = omega (arith, length-bytes_of_words words)
 
-filled_words : (words : List ℕ) → filled 4 (bytes_of_words words) ≡ bytes_of_words words
-unfolding filled
+filled_words : (words : List ℕ) → fill_up 4 (bytes_of_words words) ≡ bytes_of_words words
+unfolding fill_up
 filled_words words = ap (λ (n : ℕ). bytes_of_words words ++ replicate n 0) (no_zeros words) ∙ append-nil (bytes_of_words words)
 
 some_is : (bytes : List ℕ) → 1 ≤ length bytes → some_word bytes ≡ bytes
 some_is [] some = absurd (omega (arith, some))
 some_is (b ∷ bytes) some = refl
 
-none_filled : filled 4 [] ≡ []
-unfolding filled
+none_filled : fill_up 4 [] ≡ []
+unfolding fill_up
 none_filled = refl
 
 words_are_data : (words : List ℕ) → 1 ≤ length words → data_of 4 4 [] (bytes_of_words words) [] ≡ bytes_of_words words
@@ -146,7 +152,7 @@ start_value : (d : Layout) (a x : ℕ) (tail : List ℕ) → address_of d (label
 start_value d a x tail e = label_value d a x (10 ∷ tail) tail (bare_ends tail) e
 
 start_said : (d : Layout) (a x : ℕ) (tail : List ℕ) → address_of d (label_text a) ≡ Some x → statement_at d (codes ".svc_start " ++ (label_text a ++ (10 ∷ tail))) ≡ Some (say.Start x, 10 ∷ tail)
-unfolding is_name directive_at said_by padded said_at
+unfolding is_name directive_at said_by letters_of said_at
 start_said d a x tail e = by_directive d (codes "svc_start") (32 ∷ (label_text a ++ (10 ∷ tail))) refl refl ∙ rw (start_value d a x tail e) refl
 
 start_stops : (a : ℕ) (tail : List ℕ) → behind 58 (past_name (codes ".svc_start " ++ (label_text a ++ (10 ∷ tail)))) ≡ None

@@ -6,12 +6,15 @@ use Rattle.std.specs.Str.{bytes_eq}
 use Rattle.std.proofs.lemmas.Bool.{and_parts, eqb-true, cases_lt, cases_Bool, le-leb, lt-leb}
 use Rattle.std.proofs.lemmas.List.{append_assoc, append-nil}
 use Rattle.svc_rv32i.specs.Meaning.{register}
-use Rattle.svc_draft.specs.declared.statement.Statement.TheVariants as say
-use Rattle.svc_draft.specs.Options.{◌>>=◌}
-use Rattle.svc_draft.specs.Sources.{shared_spot}
-use Rattle.svc_draft.specs.Layouts.{Layout, here, address_of, is_turned}
+use Rattle.svc_layout.specs.declared.statement.Statement.TheVariants as say
+use Rattle.svc_layout.specs.Options.{◌>>=◌}
+use Rattle.svc_layout.specs.Sources.{shared_spot}
+use Rattle.svc_layout.specs.Layouts.{Layout}
+use Rattle.svc_layout.specs.Places.{here}
+use Rattle.svc_layout.specs.Addresses.{address_of}
+use Rattle.svc_layout.specs.Notes.{is_turned}
 use Rattle.svc_operands.specs.Characters.{is_name, past_blanks, name_at, past_name, behind, found}
-use Rattle.svc_operands.specs.Names.{padded}
+use Rattle.svc_operands.specs.Names.{letters_of}
 use Rattle.svc_operands.specs.Operands.{first_register_at, base_at}
 use Rattle.svc_operands.specs.Expressions.{operator_at}
 use Rattle.svc_operands.specs.Values.{reach, target_at, is_far, branch_at}
@@ -19,10 +22,10 @@ use Rattle.svc_instructions.specs.declared.table.Part.{Part}
 use Rattle.svc_instructions.specs.declared.table.Part.TheVariants as part
 use Rattle.svc_instructions.specs.declared.table.Row.{Row}
 use Rattle.svc_instructions.specs.declared.table.TheConstants.{ROWS, ALIASES, COUPLES}
-use Rattle.svc_instructions.specs.Instructions.{parts_of, taken, part_at, joined, parts_at, over, row_at, rows_at, alone_at, fixed, is_of, row_of}
+use Rattle.svc_instructions.specs.Instructions.{parts_of, part_number, part_at, with_part, parts_at, over, row_at, rows_at, alone_at, fixed_bits, is_of, row_of}
 use Rattle.svc_instructions.specs.Couples.{has_name, couple_at, set_at, relative_upper_at, relative_named, single_at, longer_at, other_at, lettered_at, instruction_at}
 use Rattle.svc_asm_lines.specs.Statements.{statement_at}
-use Rattle.svc_list.specs.Listings.{register_text, last_text, upper_text, label_text, reach_text, part_text, parts_text, row_text, led, led_by, led_along}
+use Rattle.svc_list.specs.Listings.{register_text, last_text, upper_text, label_text, reach_text, part_text, parts_text, row_text, step_target, led_by, led_along}
 use Rattle.svc_list.proofs.NamesBack.{stops, Ends, ends_over, no_slash}
 use Rattle.svc_list.proofs.OperandsBack.{register_back, spaced_register_back, short_back, target_back, upper_back, upper_no_mark, amount_back}
 use Rattle.svc_list.proofs.LinesBack.{names, by_name, names_stop}
@@ -53,7 +56,7 @@ seen known to part.Order n = n
 -- the word that it makes of a row's operands
 abbrev pub refilled : Bool → Option ℕ → List Part → ℕ → ℕ → ℕ
 refilled known to [] w word = word
-refilled known to (p ∷ more) w word = refilled known to more w (joined word p (seen known to p (taken p w)))
+refilled known to (p ∷ more) w word = refilled known to more w (with_part word p (seen known to p (part_number p w)))
 
 -- no branch is turned, and no text shares a name
 abbrev pub Near : Layout → Type 0
@@ -145,14 +148,14 @@ last_led (Some x) t e = e
 
 -- where labels are known, so many steps lead to the label
 abbrev pub AimsAt : Bool → Layout → (t half n : ℕ) → Type 0
-AimsAt true d t half n = (d.known ≡ true) × (address_of d (label_text t) ≡ Some t) × (led half (here d) n ≡ Some t)
+AimsAt true d t half n = (d.known ≡ true) × (address_of d (label_text t) ≡ Some t) × (step_target half (here d) n ≡ Some t)
 AimsAt false d t half n = (d.known ≡ false) × (address_of d (label_text t) ≡ Some (here d))
 
 abbrev pub Aims : Bool → Layout → Option ℕ → (half n : ℕ) → Type 0
 Aims known d None half n = Unit {0}
 Aims known d (Some t) half n = AimsAt known d t half n
 
-its_aims : (known : Bool) (d : Layout) (to : Option ℕ) (p : Part) (more : List Part) (w half n : ℕ) → is_last more ≡ true → led_by (here d) w p ≡ led half (here d) n → Reaches known d to (p ∷ more) w → Aims known d to half n
+its_aims : (known : Bool) (d : Layout) (to : Option ℕ) (p : Part) (more : List Part) (w half n : ℕ) → is_last more ≡ true → led_by (here d) w p ≡ step_target half (here d) n → Reaches known d to (p ∷ more) w → Aims known d to half n
 its_aims known d None p more w half n last e reaches = tt
 its_aims true d (Some t) p more w half n last e reaches =
     (reaches.0, reaches.1, sym e ∙ last_led (led_by (here d) w p) t (ap (λ o. found (led_by (here d) w p) (λ target. Some target) o) (sym (last_leads_none (here d) w more last)) ∙ reaches.2))
@@ -168,16 +171,16 @@ target_reads false d (Some t) half n rest tail small some fits ends aim =
     target_by d half (32 ∷ (label_text t ++ rest)) rest (reach d (here d)) 0 (label_offset d t (here d) rest tail ends aim.1) (unknown_aims d half (here d) some aim.0)
 
 branch_reads : (known : Bool) (d : Layout) (to : Option ℕ) (more : List Part) (w : ℕ) (rest tail : List ℕ) → is_last more ≡ true → Ends rest tail → Reaches known d to (part.Branch ∷ more) w
-    → target_at 2048 d (reach_text to 2048 (taken part.Branch w % 2 ^ 12) ++ rest) ≡ Some (passed known to (taken part.Branch w), rest)
+    → target_at 2048 d (reach_text to 2048 (part_number part.Branch w % 2 ^ 12) ++ rest) ≡ Some (passed known to (part_number part.Branch w), rest)
 branch_reads known d to more w rest tail last ends reaches =
-    let n = taken part.Branch w in
+    let n = part_number part.Branch w in
     ap (λ k. target_at 2048 d (reach_text to 2048 k ++ rest)) (small12 n (branch_fits w))
     ∙ target_reads known d to 2048 n rest tail (omega arith) (omega arith) (branch_fits w) ends (its_aims known d to part.Branch more w 2048 n last refl reaches)
 
 jump_reads : (known : Bool) (d : Layout) (to : Option ℕ) (more : List Part) (w : ℕ) (rest tail : List ℕ) → is_last more ≡ true → Ends rest tail → Reaches known d to (part.Jump ∷ more) w
-    → target_at 524288 d (reach_text to 524288 (taken part.Jump w % 2 ^ 20) ++ rest) ≡ Some (passed known to (taken part.Jump w), rest)
+    → target_at 524288 d (reach_text to 524288 (part_number part.Jump w % 2 ^ 20) ++ rest) ≡ Some (passed known to (part_number part.Jump w), rest)
 jump_reads known d to more w rest tail last ends reaches =
-    let n = taken part.Jump w in
+    let n = part_number part.Jump w in
     ap (λ k. target_at 524288 d (reach_text to 524288 k ++ rest)) (small20 n (jump_fits w))
     ∙ target_reads known d to 524288 n rest tail (omega arith) (omega arith) (jump_fits w) ends (its_aims known d to part.Jump more w 524288 n last refl reaches)
 
@@ -226,26 +229,26 @@ part_stops to _ n rest s = refl
 parts_stop : (to : Option ℕ) (ps : List Part) (w : ℕ) (rest : List ℕ) → stops rest ≡ true → stops (parts_text to ps w ++ rest) ≡ true
 parts_stop to [] w rest s = s
 parts_stop to (p ∷ more) w rest s =
-    ap stops (append_assoc (part_text to p (taken p w)) (parts_text to more w) rest) ∙ part_stops to p (taken p w) (parts_text to more w ++ rest) (parts_stop to more w rest s)
+    ap stops (append_assoc (part_text to p (part_number p w)) (parts_text to more w) rest) ∙ part_stops to p (part_number p w) (parts_text to more w ++ rest) (parts_stop to more w rest s)
 
 -- an operand, and what is read behind it
 step : (known : Bool) (d : Layout) (to : Option ℕ) (p : Part) (more : List Part) (w word : ℕ) (rest : List ℕ)
-    → part_at d p (part_text to p (taken p w) ++ (parts_text to more w ++ rest)) ≡ Some (seen known to p (taken p w), parts_text to more w ++ rest)
-    → parts_at d more (parts_text to more w ++ rest) (joined word p (seen known to p (taken p w))) ≡ Some (refilled known to (p ∷ more) w word, rest)
+    → part_at d p (part_text to p (part_number p w) ++ (parts_text to more w ++ rest)) ≡ Some (seen known to p (part_number p w), parts_text to more w ++ rest)
+    → parts_at d more (parts_text to more w ++ rest) (with_part word p (seen known to p (part_number p w))) ≡ Some (refilled known to (p ∷ more) w word, rest)
     → parts_at d (p ∷ more) (parts_text to (p ∷ more) w ++ rest) word ≡ Some (refilled known to (p ∷ more) w word, rest)
 step known d to p more w word rest read next =
-    ap (λ text. part_at d p text >>= (λ n. parts_at d more n.1 (joined word p n.0))) (append_assoc (part_text to p (taken p w)) (parts_text to more w) rest)
-    ∙ ap (λ o. o >>= (λ n. parts_at d more n.1 (joined word p n.0))) read ∙ next
+    ap (λ text. part_at d p text >>= (λ n. parts_at d more n.1 (with_part word p n.0))) (append_assoc (part_text to p (part_number p w)) (parts_text to more w) rest)
+    ∙ ap (λ o. o >>= (λ n. parts_at d more n.1 (with_part word p n.0))) read ∙ next
 
 -- a target, behind which the line ends
 branch_part : (known : Bool) (d : Layout) (near : Near d) (to : Option ℕ) (more : List Part) (w : ℕ) (rest tail : List ℕ) → is_last more ≡ true → Ends rest tail → Reaches known d to (part.Branch ∷ more) w
-    → part_at d part.Branch (part_text to part.Branch (taken part.Branch w) ++ (parts_text to more w ++ rest)) ≡ Some (passed known to (taken part.Branch w), parts_text to more w ++ rest)
+    → part_at d part.Branch (part_text to part.Branch (part_number part.Branch w) ++ (parts_text to more w ++ rest)) ≡ Some (passed known to (part_number part.Branch w), parts_text to more w ++ rest)
 unfolding part_at part_text branch_at
 branch_part known d near to more w rest tail last ends reaches =
-    rw (last_text_none to more w last, not_far d near (reach_text to 2048 (taken part.Branch w % 2 ^ 12) ++ rest)) (branch_reads known d to more w rest tail last ends reaches)
+    rw (last_text_none to more w last, not_far d near (reach_text to 2048 (part_number part.Branch w % 2 ^ 12) ++ rest)) (branch_reads known d to more w rest tail last ends reaches)
 
 jump_part : (known : Bool) (d : Layout) (to : Option ℕ) (more : List Part) (w : ℕ) (rest tail : List ℕ) → is_last more ≡ true → Ends rest tail → Reaches known d to (part.Jump ∷ more) w
-    → part_at d part.Jump (part_text to part.Jump (taken part.Jump w) ++ (parts_text to more w ++ rest)) ≡ Some (passed known to (taken part.Jump w), parts_text to more w ++ rest)
+    → part_at d part.Jump (part_text to part.Jump (part_number part.Jump w) ++ (parts_text to more w ++ rest)) ≡ Some (passed known to (part_number part.Jump w), parts_text to more w ++ rest)
 unfolding part_at part_text
 jump_part known d to more w rest tail last ends reaches = rw (last_text_none to more w last) (jump_reads known d to more w rest tail last ends reaches)
 
@@ -253,8 +256,8 @@ jump_part known d to more w rest tail last ends reaches = rw (last_text_none to 
 none_reached : (known : Bool) (d : Layout) (to : Option ℕ) (ps : List Part) (w : ℕ) → is_last ps ≡ true → (word : ℕ) (rest tail : List ℕ) → Ends rest tail → parts_at d ps (parts_text to ps w ++ rest) word ≡ Some (refilled known to ps w word, rest)
 none_reached known d to [] w h word rest tail ends = refl
 none_reached known d to (part.End ∷ more) w h word rest tail ends =
-    step known d to part.End more w word rest (part_back d to part.End (taken part.End w) (parts_text to more w ++ rest) refl (taken_fits part.End w) (parts_stop to more w rest ends.stop) (λ no. absurd (cc)))
-    (none_reached known d to more w h (joined word part.End (taken part.End w)) rest tail ends)
+    step known d to part.End more w word rest (part_back d to part.End (part_number part.End w) (parts_text to more w ++ rest) refl (taken_fits part.End w) (parts_stop to more w rest ends.stop) (λ no. absurd (cc)))
+    (none_reached known d to more w h (with_part word part.End (part_number part.End w)) rest tail ends)
 none_reached known d to (p ∷ more) w h word rest tail ends = absurd (cc)
 
 same_reach : (known : Bool) (d : Layout) (to : Option ℕ) (ps qs : List Part) (w : ℕ) → led_along (here d) w ps ≡ led_along (here d) w qs → Reaches known d to ps w → Reaches known d to qs w
@@ -267,40 +270,40 @@ parts_back : (known : Bool) (d : Layout) (near : Near d) (to : Option ℕ) (ps :
     → parts_at d ps (parts_text to ps w ++ rest) word ≡ Some (refilled known to ps w word, rest)
 parts_back known d near to [] w word rest tail k ends reaches = refl
 parts_back known d near to (part.Branch ∷ more) w word rest tail k ends reaches =
-    step known d to part.Branch more w word rest (branch_part known d near to more w rest tail k ends reaches) (none_reached known d to more w k (joined word part.Branch (passed known to (taken part.Branch w))) rest tail ends)
+    step known d to part.Branch more w word rest (branch_part known d near to more w rest tail k ends reaches) (none_reached known d to more w k (with_part word part.Branch (passed known to (part_number part.Branch w))) rest tail ends)
 parts_back known d near to (part.Jump ∷ more) w word rest tail k ends reaches =
-    step known d to part.Jump more w word rest (jump_part known d to more w rest tail k ends reaches) (none_reached known d to more w k (joined word part.Jump (passed known to (taken part.Jump w))) rest tail ends)
+    step known d to part.Jump more w word rest (jump_part known d to more w rest tail k ends reaches) (none_reached known d to more w k (with_part word part.Jump (passed known to (part_number part.Jump w))) rest tail ends)
 parts_back known d near to (part.Order ∷ more) w word rest tail k ends reaches = absurd (cc)
 parts_back known d near to (part.End ∷ more) w word rest tail k ends reaches =
-    step known d to part.End more w word rest (part_back d to part.End (taken part.End w) (parts_text to more w ++ rest) refl (taken_fits part.End w) (parts_stop to more w rest ends.stop) (λ no. absurd (cc)))
-    (parts_back known d near to more w (joined word part.End (taken part.End w)) rest tail k ends (same_reach known d to (part.End ∷ more) more w refl reaches))
+    step known d to part.End more w word rest (part_back d to part.End (part_number part.End w) (parts_text to more w ++ rest) refl (taken_fits part.End w) (parts_stop to more w rest ends.stop) (λ no. absurd (cc)))
+    (parts_back known d near to more w (with_part word part.End (part_number part.End w)) rest tail k ends (same_reach known d to (part.End ∷ more) more w refl reaches))
 parts_back known d near to (part.Comma ∷ more) w word rest tail k ends reaches =
-    step known d to part.Comma more w word rest (part_back d to part.Comma (taken part.Comma w) (parts_text to more w ++ rest) refl (taken_fits part.Comma w) (parts_stop to more w rest ends.stop) (λ no. absurd (cc)))
-    (parts_back known d near to more w (joined word part.Comma (taken part.Comma w)) rest tail k ends (same_reach known d to (part.Comma ∷ more) more w refl reaches))
+    step known d to part.Comma more w word rest (part_back d to part.Comma (part_number part.Comma w) (parts_text to more w ++ rest) refl (taken_fits part.Comma w) (parts_stop to more w rest ends.stop) (λ no. absurd (cc)))
+    (parts_back known d near to more w (with_part word part.Comma (part_number part.Comma w)) rest tail k ends (same_reach known d to (part.Comma ∷ more) more w refl reaches))
 parts_back known d near to (part.Rd ∷ more) w word rest tail k ends reaches =
-    step known d to part.Rd more w word rest (part_back d to part.Rd (taken part.Rd w) (parts_text to more w ++ rest) refl (taken_fits part.Rd w) (parts_stop to more w rest ends.stop) (λ no. absurd (cc)))
-    (parts_back known d near to more w (joined word part.Rd (taken part.Rd w)) rest tail k ends (same_reach known d to (part.Rd ∷ more) more w refl reaches))
+    step known d to part.Rd more w word rest (part_back d to part.Rd (part_number part.Rd w) (parts_text to more w ++ rest) refl (taken_fits part.Rd w) (parts_stop to more w rest ends.stop) (λ no. absurd (cc)))
+    (parts_back known d near to more w (with_part word part.Rd (part_number part.Rd w)) rest tail k ends (same_reach known d to (part.Rd ∷ more) more w refl reaches))
 parts_back known d near to (part.Rs1 ∷ more) w word rest tail k ends reaches =
-    step known d to part.Rs1 more w word rest (part_back d to part.Rs1 (taken part.Rs1 w) (parts_text to more w ++ rest) refl (taken_fits part.Rs1 w) (parts_stop to more w rest ends.stop) (λ no. absurd (cc)))
-    (parts_back known d near to more w (joined word part.Rs1 (taken part.Rs1 w)) rest tail k ends (same_reach known d to (part.Rs1 ∷ more) more w refl reaches))
+    step known d to part.Rs1 more w word rest (part_back d to part.Rs1 (part_number part.Rs1 w) (parts_text to more w ++ rest) refl (taken_fits part.Rs1 w) (parts_stop to more w rest ends.stop) (λ no. absurd (cc)))
+    (parts_back known d near to more w (with_part word part.Rs1 (part_number part.Rs1 w)) rest tail k ends (same_reach known d to (part.Rs1 ∷ more) more w refl reaches))
 parts_back known d near to (part.Rs2 ∷ more) w word rest tail k ends reaches =
-    step known d to part.Rs2 more w word rest (part_back d to part.Rs2 (taken part.Rs2 w) (parts_text to more w ++ rest) refl (taken_fits part.Rs2 w) (parts_stop to more w rest ends.stop) (λ no. absurd (cc)))
-    (parts_back known d near to more w (joined word part.Rs2 (taken part.Rs2 w)) rest tail k ends (same_reach known d to (part.Rs2 ∷ more) more w refl reaches))
+    step known d to part.Rs2 more w word rest (part_back d to part.Rs2 (part_number part.Rs2 w) (parts_text to more w ++ rest) refl (taken_fits part.Rs2 w) (parts_stop to more w rest ends.stop) (λ no. absurd (cc)))
+    (parts_back known d near to more w (with_part word part.Rs2 (part_number part.Rs2 w)) rest tail k ends (same_reach known d to (part.Rs2 ∷ more) more w refl reaches))
 parts_back known d near to (part.Base ∷ more) w word rest tail k ends reaches =
-    step known d to part.Base more w word rest (part_back d to part.Base (taken part.Base w) (parts_text to more w ++ rest) refl (taken_fits part.Base w) (parts_stop to more w rest ends.stop) (λ no. absurd (cc)))
-    (parts_back known d near to more w (joined word part.Base (taken part.Base w)) rest tail k ends (same_reach known d to (part.Base ∷ more) more w refl reaches))
+    step known d to part.Base more w word rest (part_back d to part.Base (part_number part.Base w) (parts_text to more w ++ rest) refl (taken_fits part.Base w) (parts_stop to more w rest ends.stop) (λ no. absurd (cc)))
+    (parts_back known d near to more w (with_part word part.Base (part_number part.Base w)) rest tail k ends (same_reach known d to (part.Base ∷ more) more w refl reaches))
 parts_back known d near to (part.Immediate ∷ more) w word rest tail k ends reaches =
-    step known d to part.Immediate more w word rest (part_back d to part.Immediate (taken part.Immediate w) (parts_text to more w ++ rest) refl (taken_fits part.Immediate w) (parts_stop to more w rest ends.stop) (λ _. quiet_text to more w rest tail (and_parts (is_quiet more) (is_shown more) k).0 ends))
-    (parts_back known d near to more w (joined word part.Immediate (taken part.Immediate w)) rest tail (and_parts (is_quiet more) (is_shown more) k).1 ends (same_reach known d to (part.Immediate ∷ more) more w refl reaches))
+    step known d to part.Immediate more w word rest (part_back d to part.Immediate (part_number part.Immediate w) (parts_text to more w ++ rest) refl (taken_fits part.Immediate w) (parts_stop to more w rest ends.stop) (λ _. quiet_text to more w rest tail (and_parts (is_quiet more) (is_shown more) k).0 ends))
+    (parts_back known d near to more w (with_part word part.Immediate (part_number part.Immediate w)) rest tail (and_parts (is_quiet more) (is_shown more) k).1 ends (same_reach known d to (part.Immediate ∷ more) more w refl reaches))
 parts_back known d near to (part.StoreOffset ∷ more) w word rest tail k ends reaches =
-    step known d to part.StoreOffset more w word rest (part_back d to part.StoreOffset (taken part.StoreOffset w) (parts_text to more w ++ rest) refl (taken_fits part.StoreOffset w) (parts_stop to more w rest ends.stop) (λ _. quiet_text to more w rest tail (and_parts (is_quiet more) (is_shown more) k).0 ends))
-    (parts_back known d near to more w (joined word part.StoreOffset (taken part.StoreOffset w)) rest tail (and_parts (is_quiet more) (is_shown more) k).1 ends (same_reach known d to (part.StoreOffset ∷ more) more w refl reaches))
+    step known d to part.StoreOffset more w word rest (part_back d to part.StoreOffset (part_number part.StoreOffset w) (parts_text to more w ++ rest) refl (taken_fits part.StoreOffset w) (parts_stop to more w rest ends.stop) (λ _. quiet_text to more w rest tail (and_parts (is_quiet more) (is_shown more) k).0 ends))
+    (parts_back known d near to more w (with_part word part.StoreOffset (part_number part.StoreOffset w)) rest tail (and_parts (is_quiet more) (is_shown more) k).1 ends (same_reach known d to (part.StoreOffset ∷ more) more w refl reaches))
 parts_back known d near to (part.Amount ∷ more) w word rest tail k ends reaches =
-    step known d to part.Amount more w word rest (part_back d to part.Amount (taken part.Amount w) (parts_text to more w ++ rest) refl (taken_fits part.Amount w) (parts_stop to more w rest ends.stop) (λ _. quiet_text to more w rest tail (and_parts (is_quiet more) (is_shown more) k).0 ends))
-    (parts_back known d near to more w (joined word part.Amount (taken part.Amount w)) rest tail (and_parts (is_quiet more) (is_shown more) k).1 ends (same_reach known d to (part.Amount ∷ more) more w refl reaches))
+    step known d to part.Amount more w word rest (part_back d to part.Amount (part_number part.Amount w) (parts_text to more w ++ rest) refl (taken_fits part.Amount w) (parts_stop to more w rest ends.stop) (λ _. quiet_text to more w rest tail (and_parts (is_quiet more) (is_shown more) k).0 ends))
+    (parts_back known d near to more w (with_part word part.Amount (part_number part.Amount w)) rest tail (and_parts (is_quiet more) (is_shown more) k).1 ends (same_reach known d to (part.Amount ∷ more) more w refl reaches))
 parts_back known d near to (part.Upper ∷ more) w word rest tail k ends reaches =
-    step known d to part.Upper more w word rest (part_back d to part.Upper (taken part.Upper w) (parts_text to more w ++ rest) refl (taken_fits part.Upper w) (parts_stop to more w rest ends.stop) (λ _. quiet_text to more w rest tail (and_parts (is_quiet more) (is_shown more) k).0 ends))
-    (parts_back known d near to more w (joined word part.Upper (taken part.Upper w)) rest tail (and_parts (is_quiet more) (is_shown more) k).1 ends (same_reach known d to (part.Upper ∷ more) more w refl reaches))
+    step known d to part.Upper more w word rest (part_back d to part.Upper (part_number part.Upper w) (parts_text to more w ++ rest) refl (taken_fits part.Upper w) (parts_stop to more w rest ends.stop) (λ _. quiet_text to more w rest tail (and_parts (is_quiet more) (is_shown more) k).0 ends))
+    (parts_back known d near to more w (with_part word part.Upper (part_number part.Upper w)) rest tail (and_parts (is_quiet more) (is_shown more) k).1 ends (same_reach known d to (part.Upper ∷ more) more w refl reaches))
 
 -- the first row of a name
 abbrev pub named : List ℕ → List Row → Option Row
@@ -312,16 +315,16 @@ IsApart r = (bytes_eq (name_at r.0) (codes "auipc") ≡ false) ⊎ ((parts_of r)
 
 -- a word that has the bits of a row is its word with operands
 abbrev pub Fills : Row → Type 0
-Fills r = (w : ℕ) → w < 2 ^ 32 → fixed w ≡ r.1 → filled (parts_of r) w r.1 ≡ w
+Fills r = (w : ℕ) → w < 2 ^ 32 → fixed_bits w ≡ r.1 → filled (parts_of r) w r.1 ≡ w
 
 -- what is to hold of each row: its name can be read, finds it, and stands for no other thing; and its operands can be read
 abbrev pub Good : Row → Type 0
 Good r =
-    (names (name_at r.0) ≡ true) × (padded (name_at r.0) ≡ Some r.0) × (bytes_eq (name_at r.0) (codes "li") ≡ false) × (find (has_name r.0) COUPLES ≡ None)
+    (names (name_at r.0) ≡ true) × (letters_of (name_at r.0) ≡ Some r.0) × (bytes_eq (name_at r.0) (codes "li") ≡ false) × (find (has_name r.0) COUPLES ≡ None)
     × (named r.0 ROWS ≡ Some r) × (is_shown (parts_of r) ≡ true) × IsApart r × Fills r
 
 each_good : AllByRecursion Good ROWS
-unfolding is_name past_blanks padded
+unfolding is_name past_blanks letters_of
 each_good = ((refl, refl, refl, refl, refl, refl, inl refl, λ w fit e. upper_fills 55 _ w fit refl (lui_fixed w) e), ((refl, refl, refl, refl, refl, refl, inr refl, λ w fit e. upper_fills 23 _ w fit refl (auipc_fixed w) e), ((refl, refl, refl, refl, refl, refl, inl refl, λ w fit e. jump_fills _ w fit refl e), ((refl, refl, refl, refl, refl, refl, inl refl, λ w fit e. load_fills 103 _ w fit refl (jalr_fixed w) e), ((refl, refl, refl, refl, refl, refl, inl refl, λ w fit e. branch_fills _ w fit refl e), ((refl, refl, refl, refl, refl, refl, inl refl, λ w fit e. branch_fills _ w fit refl e), ((refl, refl, refl, refl, refl, refl, inl refl, λ w fit e. branch_fills _ w fit refl e), ((refl, refl, refl, refl, refl, refl, inl refl, λ w fit e. branch_fills _ w fit refl e), ((refl, refl, refl, refl, refl, refl, inl refl, λ w fit e. branch_fills _ w fit refl e), ((refl, refl, refl, refl, refl, refl, inl refl, λ w fit e. branch_fills _ w fit refl e), ((refl, refl, refl, refl, refl, refl, inl refl, λ w fit e. load_fills 3 _ w fit refl (load_fixed w) e), ((refl, refl, refl, refl, refl, refl, inl refl, λ w fit e. load_fills 3 _ w fit refl (load_fixed w) e), ((refl, refl, refl, refl, refl, refl, inl refl, λ w fit e. load_fills 3 _ w fit refl (load_fixed w) e), ((refl, refl, refl, refl, refl, refl, inl refl, λ w fit e. load_fills 3 _ w fit refl (load_fixed w) e), ((refl, refl, refl, refl, refl, refl, inl refl, λ w fit e. load_fills 3 _ w fit refl (load_fixed w) e), ((refl, refl, refl, refl, refl, refl, inl refl, λ w fit e. store_fills _ w fit refl e), ((refl, refl, refl, refl, refl, refl, inl refl, λ w fit e. store_fills _ w fit refl e), ((refl, refl, refl, refl, refl, refl, inl refl, λ w fit e. store_fills _ w fit refl e), ((refl, refl, refl, refl, refl, refl, inl refl, λ w fit e. immediate_fills _ w fit refl refl e), ((refl, refl, refl, refl, refl, refl, inl refl, λ w fit e. immediate_fills _ w fit refl refl e), ((refl, refl, refl, refl, refl, refl, inl refl, λ w fit e. immediate_fills _ w fit refl refl e), ((refl, refl, refl, refl, refl, refl, inl refl, λ w fit e. immediate_fills _ w fit refl refl e), ((refl, refl, refl, refl, refl, refl, inl refl, λ w fit e. immediate_fills _ w fit refl refl e), ((refl, refl, refl, refl, refl, refl, inl refl, λ w fit e. immediate_fills _ w fit refl refl e), ((refl, refl, refl, refl, refl, refl, inl refl, λ w fit e. shift_fills _ w fit refl refl e), ((refl, refl, refl, refl, refl, refl, inl refl, λ w fit e. shift_fills _ w fit refl refl e), ((refl, refl, refl, refl, refl, refl, inl refl, λ w fit e. shift_fills _ w fit refl refl e), ((refl, refl, refl, refl, refl, refl, inl refl, λ w fit e. register_fills _ w fit refl e), ((refl, refl, refl, refl, refl, refl, inl refl, λ w fit e. register_fills _ w fit refl e), ((refl, refl, refl, refl, refl, refl, inl refl, λ w fit e. register_fills _ w fit refl e), ((refl, refl, refl, refl, refl, refl, inl refl, λ w fit e. register_fills _ w fit refl e), ((refl, refl, refl, refl, refl, refl, inl refl, λ w fit e. register_fills _ w fit refl e), ((refl, refl, refl, refl, refl, refl, inl refl, λ w fit e. register_fills _ w fit refl e), ((refl, refl, refl, refl, refl, refl, inl refl, λ w fit e. register_fills _ w fit refl e), ((refl, refl, refl, refl, refl, refl, inl refl, λ w fit e. register_fills _ w fit refl e), ((refl, refl, refl, refl, refl, refl, inl refl, λ w fit e. register_fills _ w fit refl e), ((refl, refl, refl, refl, refl, refl, inl refl, λ w fit e. register_fills _ w fit refl e), ((refl, refl, refl, refl, refl, refl, inl refl, λ w fit e. system_fills _ w fit refl e), ((refl, refl, refl, refl, refl, refl, inl refl, λ w fit e. system_fills _ w fit refl e), tt)))))))))))))))))))))))))))))))))))))))
 
 found_good : (P : Row → Type 0) (test : Row → Bool) (rows : List Row) (r : Row) → AllByRecursion P rows → find test rows ≡ Some r → P r × (test r ≡ true)
@@ -351,12 +354,12 @@ named_reads d name text (y ∷ more) r x e h =
 upper_plain : (d : Layout) (to : Option ℕ) (ps : List Part) (w : ℕ) (rest : List ℕ) → ps ≡ part.Rd ∷ part.Comma ∷ part.Upper ∷ part.End ∷ part.End ∷ [] → relative_upper_at d (parts_text to ps w ++ rest) ≡ None
 unfolding relative_upper_at first_register_at part_text past_blanks is_name
 upper_plain d to ps w rest e =
-    let r = register (taken part.Rd w % 2 ^ 5) in
-    let fits : taken part.Upper w % 2 ^ 20 < 2 ^ 20 = omega arith in
-    let u = upper_text (taken part.Upper w % 2 ^ 20) in
+    let r = register (part_number part.Rd w % 2 ^ 5) in
+    let fits : part_number part.Upper w % 2 ^ 20 < 2 ^ 20 = omega arith in
+    let u = upper_text (part_number part.Upper w % 2 ^ 20) in
     let text : parts_text to ps w ++ rest ≡ last_text r ++ (44 ∷ (u ++ rest)) =
     ap (λ qs. parts_text to qs w ++ rest) e ∙ append_assoc (last_text r) (44 ∷ (u ++ [])) rest ∙ ap (λ x. last_text r ++ (44 ∷ (x ++ rest))) (append-nil u) in
-    ap (relative_upper_at d) text ∙ rw (spaced_register_back r (44 ∷ (u ++ rest)) refl, no_slash 44 (u ++ rest) refl, upper_no_mark (taken part.Upper w % 2 ^ 20) rest fits) refl
+    ap (relative_upper_at d) text ∙ rw (spaced_register_back r (44 ∷ (u ++ rest)) refl, no_slash 44 (u ++ rest) refl, upper_no_mark (part_number part.Upper w % 2 ^ 20) rest fits) refl
 
 plain : (d : Layout) (to : Option ℕ) (r : Row) (w : ℕ) (rest : List ℕ) → IsApart r → relative_named d (name_at r.0) (parts_text to (parts_of r) w ++ rest) ≡ None
 plain d to r w rest (inl other) = rw other refl
@@ -371,7 +374,7 @@ pub row_back : (known : Bool) (d : Layout) (near : Near d) (to : Option ℕ) (w 
     → statement_at d (row_text to r w ++ rest) ≡ Some (say.Instruction (refilled known to (parts_of r) w r.1), rest)
 unfolding row_of row_at alone_at single_at other_at instruction_at
 row_back known d near to w r rest tail e ends reaches =
-    let good = (found_good Good (is_of (fixed w)) ROWS r each_good e).0 in
+    let good = (found_good Good (is_of (fixed_bits w)) ROWS r each_good e).0 in
     let operands = parts_text to (parts_of r) w ++ rest in
     let name = name_at r.0 in
     let word = refilled known to (parts_of r) w r.1 in
@@ -381,7 +384,7 @@ row_back known d near to w r rest tail e ends reaches =
     ap (λ o. option_map (λ x. (say.Instruction x.0, x.1)) (found o (λ x. Some x) (rows_at d ALIASES r.0 operands))) rows in
     let single : single_at d name r.0 operands ≡ Some (say.Instruction word, rest) = ap (λ o. found o (λ x. Some x) (alone_at d r.0 operands)) (plain d to r w rest good.6) ∙ alone in
     let whole : instruction_at d name operands ≡ Some (say.Instruction word, rest) =
-    ap (λ (b : Bool). if b then set_at operands else padded name >>= (λ letters. lettered_at d name letters operands)) good.2
+    ap (λ (b : Bool). if b then set_at operands else letters_of name >>= (λ letters. lettered_at d name letters operands)) good.2
     ∙ ap (λ o. o >>= (λ letters. lettered_at d name letters operands)) good.1
     ∙ ap (λ o. found o (λ c. couple_at d c operands) (other_at d name r.0 operands)) good.3
     ∙ ap (λ o. found o (λ x. Some x) (longer_at d name r.0 operands)) single in
@@ -389,7 +392,7 @@ row_back known d near to w r rest tail e ends reaches =
 
 pub row_stops : (to : Option ℕ) (w : ℕ) (r : Row) (rest : List ℕ) → row_of w ≡ Some r → stops rest ≡ true → behind 58 (past_name (row_text to r w ++ rest)) ≡ None
 unfolding row_of
-row_stops to w r rest e s = names_stop (name_at r.0) (parts_text to (parts_of r) w) rest (found_good Good (is_of (fixed w)) ROWS r each_good e).0.0 (parts_stop to (parts_of r) w rest s)
+row_stops to w r rest e s = names_stop (name_at r.0) (parts_text to (parts_of r) w) rest (found_good Good (is_of (fixed_bits w)) ROWS r each_good e).0.0 (parts_stop to (parts_of r) w rest s)
 
 -- where labels are known, or none is meant, that is the word itself
 seen_none : (known : Bool) (p : Part) (n : ℕ) → seen known None p n ≡ n
@@ -426,11 +429,11 @@ seen_true to part.Order n = refl
 
 refilled_known : (to : Option ℕ) (ps : List Part) (w word : ℕ) → refilled true to ps w word ≡ filled ps w word
 refilled_known to [] w word = refl
-refilled_known to (p ∷ more) w word = ap (λ n. refilled true to more w (joined word p n)) (seen_true to p (taken p w)) ∙ refilled_known to more w (joined word p (taken p w))
+refilled_known to (p ∷ more) w word = ap (λ n. refilled true to more w (with_part word p n)) (seen_true to p (part_number p w)) ∙ refilled_known to more w (with_part word p (part_number p w))
 
 row_fills : (w : ℕ) (r : Row) → w < 2 ^ 32 → row_of w ≡ Some r → filled (parts_of r) w r.1 ≡ w
 unfolding row_of
-row_fills w r fit e = let it = found_good Good (is_of (fixed w)) ROWS r each_good e in it.0.7 w fit (eqb-true (fixed w) r.1 it.1)
+row_fills w r fit e = let it = found_good Good (is_of (fixed_bits w)) ROWS r each_good e in it.0.7 w fit (eqb-true (fixed_bits w) r.1 it.1)
 
 pub known_same : (to : Option ℕ) (w : ℕ) (r : Row) → w < 2 ^ 32 → row_of w ≡ Some r → refilled true to (parts_of r) w r.1 ≡ w
 known_same to w r fit e = refilled_known to (parts_of r) w r.1 ∙ row_fills w r fit e

@@ -2,8 +2,8 @@
 use Rattle.std.proofs.Common.{length, ◌≡◌, ℕ, List, [], ◌++◌, Option, ap, sym, ◌∙◌, slice_index}
 use Rattle.svc_image.specs.declared.version.Version.{Version}
 use Rattle.svc_image.specs.Image.{Image}
-use Rattle.svc_draft.specs.declared.statement.Section.TheVariants as section
-use Rattle.svc_draft.specs.declared.statement.Statement.TheVariants as say
+use Rattle.svc_layout.specs.declared.section.Section.TheVariants as section
+use Rattle.svc_layout.specs.declared.statement.Statement.TheVariants as say
 use Rattle.svc_names.specs.declared.name.Name.{Name}
 use Rattle.svc_list.specs.Listings.{is_labelled, bare, line_of, text_of, settings, marks, code, all_data, head_lines, listing_of}
 use Rattle.svc_list.proofs.Printing.{five, listing_parts}

@@ -12,17 +12,17 @@ use Rattle.svc_image.specs.declared.version.Version.TheVariants as version
 use Rattle.svc_image.specs.declared.layout.TheConstants.{DATA_START}
 use Rattle.svc_image.specs.Version.{version_number}
 use Rattle.svc_image.specs.Image.{Image}
-use Rattle.svc_draft.specs.declared.statement.Section.{Section}
-use Rattle.svc_draft.specs.declared.statement.Section.TheVariants as section
-use Rattle.svc_draft.specs.declared.statement.Width.TheVariants as wide
-use Rattle.svc_draft.specs.declared.statement.Next.TheVariants as go
-use Rattle.svc_draft.specs.declared.statement.Statement.{Statement}
-use Rattle.svc_draft.specs.declared.statement.Statement.TheVariants as say
+use Rattle.svc_layout.specs.declared.section.Section.{Section}
+use Rattle.svc_layout.specs.declared.section.Section.TheVariants as section
+use Rattle.svc_layout.specs.declared.section.Width.TheVariants as wide
+use Rattle.svc_layout.specs.declared.statement.Next.TheVariants as go
+use Rattle.svc_layout.specs.declared.statement.Statement.{Statement}
+use Rattle.svc_layout.specs.declared.statement.Statement.TheVariants as say
 use Rattle.svc_operands.specs.Characters.{found, name_at}
 use Rattle.svc_instructions.specs.declared.table.Part.{Part}
 use Rattle.svc_instructions.specs.declared.table.Part.TheVariants as part
 use Rattle.svc_instructions.specs.declared.table.Row.{Row}
-use Rattle.svc_instructions.specs.Instructions.{taken, parts_of, row_of}
+use Rattle.svc_instructions.specs.Instructions.{part_number, parts_of, row_of}
 use Rattle.svc_names.specs.declared.name.Name.{Name}
 use Rattle.svc_names.specs.Given.{noted_by}
 
@@ -89,7 +89,7 @@ part_text to part.Jump n = reach_text to 524288 (n % 2 ^ 20)
 -- the operands of a word, and its instruction: the name of its row and its operands
 abbrev pub parts_text : Option ℕ → List Part → ℕ → List ℕ
 parts_text to [] w = []
-parts_text to (p ∷ more) w = part_text to p (taken p w) ++ parts_text to more w
+parts_text to (p ∷ more) w = part_text to p (part_number p w) ++ parts_text to more w
 
 abbrev pub row_text : Option ℕ → Row → ℕ → List ℕ
 row_text to r w = name_at r.0 ++ parts_text to (parts_of r) w
@@ -173,20 +173,20 @@ unfoldable pub text_of : List Line → List ℕ
 text_of ls = flat_map line_of ls
 
 -- the address that so many steps of two bytes lead to, of which `half` of the numbers are forward: none below 0
-abbrev pub led : (half address steps : ℕ) → Option ℕ
-led half address steps =
+abbrev pub step_target : (half address steps : ℕ) → Option ℕ
+step_target half address steps =
     if nat_lt steps half then Some (address + 2 * steps) else
     if nat_le (2 * (2 * half - steps)) address then Some (address - 2 * (2 * half - steps)) else None
 
 -- an address at which a word of the text begins, which has so many
-abbrev pub placed : ℕ → Option ℕ → Option ℕ
-placed count None = None
-placed count (Some address) = if address % 4 == 0 && nat_lt address (4 * count) then Some address else None
+abbrev pub word_start : ℕ → Option ℕ → Option ℕ
+word_start count None = None
+word_start count (Some address) = if address % 4 == 0 && nat_lt address (4 * count) then Some address else None
 
 -- where an operand of the word at an address leads, and the first of its operands that leads anywhere
 abbrev pub led_by : (address w : ℕ) → Part → Option ℕ
-led_by address w part.Branch = led 2048 address (taken part.Branch w)
-led_by address w part.Jump = led 524288 address (taken part.Jump w)
+led_by address w part.Branch = step_target 2048 address (part_number part.Branch w)
+led_by address w part.Jump = step_target 524288 address (part_number part.Jump w)
 led_by address w _ = None
 
 abbrev pub led_along : (address w : ℕ) → List Part → Option ℕ
@@ -195,7 +195,7 @@ led_along address w (p ∷ more) = found (led_by address w p) (λ target. Some t
 
 -- where in the text the word at an address leads
 abbrev pub target_by : (count address w : ℕ) → Row → Option ℕ
-target_by count address w r = placed count (led_along address w (parts_of r))
+target_by count address w r = word_start count (led_along address w (parts_of r))
 
 abbrev pub target_of : (count address w : ℕ) → Option ℕ
 target_of count address w = found (row_of w) (λ r. target_by count address w r) None
@@ -232,8 +232,8 @@ marks v [] ls = []
 marks v (e ∷ es) [] = []
 
 -- the line of a word of a text of so many words, and that of a word of the data, at this address
-abbrev pub coded : Option (List Name) → (count address word : ℕ) → Line
-coded names count address word = Codes word (target_of count address word) (word_note names address word)
+abbrev pub line_for : Option (List Name) → (count address word : ℕ) → Line
+line_for names count address word = Codes word (target_of count address word) (word_note names address word)
 
 abbrev pub datum : Option (List Name) → (address word : ℕ) → Line
 datum names address word = Says (say.Value wide.Word word go.Line) (datum_note names address)
@@ -246,12 +246,12 @@ labels labelled n = if labelled n then Labels (4 * n) ∷ [] else []
 unfoldable pub code : Option (List Name) → ℕ → (ℕ → Bool) → ℕ → List (ℕ × Option ℕ) → List ℕ → List Line
 code names count labelled n ms [] = []
 code names count labelled n [] (w ∷ ws) =
-    labels labelled n ++ (coded names count (4 * n) w ∷ code names count labelled (suc n) [] ws)
+    labels labelled n ++ (line_for names count (4 * n) w ∷ code names count labelled (suc n) [] ws)
 code names count labelled n (m ∷ ms) (w ∷ ws) =
     labels labelled n
     ++ (if m.0 == 4 * n then
-    bare (say.Entry m.1) ∷ coded names count (4 * n) w ∷ code names count labelled (suc n) ms ws else
-    coded names count (4 * n) w ∷ code names count labelled (suc n) (m ∷ ms) ws)
+    bare (say.Entry m.1) ∷ line_for names count (4 * n) w ∷ code names count labelled (suc n) ms ws else
+    line_for names count (4 * n) w ∷ code names count labelled (suc n) (m ∷ ms) ws)
 
 -- the lines of data words from an address on
 abbrev pub data_lines : Option (List Name) → ℕ → List ℕ → List Line

@@ -4,20 +4,21 @@ ghost use Rattle.std.specs.Prelude.{◌≡◌, ℕ, ◌+◌, ◌*◌, ◌-◌, �
 ghost use Rattle.std.specs.Prelude.{All, IfOk, IfSome, None};
 ghost use Rattle.std.specs.List.{list_any};
 ghost use Rattle.svc_image.specs.Image.{StartsWord};
-ghost use Rattle.svc_list.specs.Listings.{led, placed, led_by, led_along, target_by, target_of, is_at, is_target};
+ghost use Rattle.svc_list.specs.Listings.{step_target, word_start, led_by, led_along, target_by, target_of, is_at};
+ghost use Rattle.svc_list.specs.Listings.{is_target};
 ghost use Rattle.svc_list.specs.Listings.{is_labelled, IsShown};
 ghost use Rattle.svc_rv32i.specs.declared.instr.Instr.{Instr};
 ghost use Rattle.svc_rv32i.specs.Words.{word_of};
 ghost use Rattle.svc_instructions.specs.Instructions.{parts_of, row_of};
 
 use std::alloc::{AllocError, Global};
-use svc_instructions::{Part, Row, parts_of, row_of, taken};
+use svc_instructions::{Part, Row, part_number, parts_of, row_of};
 
-fn led(half: u32, address: u32, steps: u32) -> Option<u32>
+fn step_target(half: u32, address: u32, steps: u32) -> Option<u32>
     requires half { half ≤ 524288 }
     requires address { address < 262144 }
     requires steps { steps < 2 * half }
-    ensures { result ≡ led half address steps }
+    ensures { result ≡ step_target half address steps }
 {
     if steps < half {
         return Some(address + 2 * steps);
@@ -29,9 +30,9 @@ fn led(half: u32, address: u32, steps: u32) -> Option<u32>
     None
 }
 
-fn placed(count: u32, target: Option<u32>) -> Option<u32>
+fn word_start(count: u32, target: Option<u32>) -> Option<u32>
     requires { count ≤ 65536 }
-    ensures value { result ≡ placed count target }
+    ensures value { result ≡ word_start count target }
     ensures place { IfSome result (λ t. (t % 4 ≡ 0) × (t < 4 * count)) }
 {
     match target {
@@ -46,8 +47,8 @@ fn led_by(part: Part, address: u32, word: u32) -> Option<u32>
     ensures { result ≡ led_by address word part }
 {
     match part {
-        Part::Branch => led(2048, address, taken(Part::Branch, word)),
-        Part::Jump => led(524288, address, taken(Part::Jump, word)),
+        Part::Branch => step_target(2048, address, part_number(Part::Branch, word)),
+        Part::Jump => step_target(524288, address, part_number(Part::Jump, word)),
         _ => None,
     }
 }
@@ -70,7 +71,7 @@ pub fn target_by(count: u32, address: u32, word: u32, row: Row) -> Option<u32>
     ensures value { result ≡ target_by count address word row }
     ensures place { IfSome result (λ t. (t % 4 ≡ 0) × (t < 4 * count)) }
 {
-    placed(count, led_along(row, address, word))
+    word_start(count, led_along(row, address, word))
 }
 
 fn target_of(count: u32, address: u32, word: u32) -> Option<u32>

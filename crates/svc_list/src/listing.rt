@@ -6,15 +6,15 @@ ghost use Rattle.svc_asm.specs.Programs.{IsProgramOf};
 ghost use Rattle.svc_names.specs.declared.name.Name.{Name};
 ghost use Rattle.svc_names.specs.Given.{listed, noted_by};
 ghost use Rattle.svc_list.specs.Listings.{first_text, own_text, section_text, statement_text, word_note, Labels};
-ghost use Rattle.svc_list.specs.Listings.{Starts, bare, line_of, text_of, coded, datum, labels, setting, settings};
+ghost use Rattle.svc_list.specs.Listings.{Starts, bare, line_of, text_of, line_for, datum, labels, setting, settings};
 ghost use Rattle.svc_list.specs.Listings.{own_limit, marks, code, data_lines, all_data, head_lines, listing_of};
 
 use crate::labels::{labels_of, target_by};
 use crate::text::{Hex, put_register, put_row};
 use std::alloc::{AllocError, Global};
-use svc_draft::{Next, Section, Statement, Width};
 use svc_image::{DATA_START, Image, Version};
 use svc_instructions::row_of;
+use svc_layout::{Next, Section, Statement, Width};
 use svc_names::{Names, put_note};
 use svc_operands::register;
 use svc_rv32i::Register;
@@ -117,7 +117,8 @@ fn put_coded(
 ) -> Result<(), AllocError>
     requires count { count ≤ 65536 }
     requires address { address < 262144 }
-    ensures { OnOk result (out.new.items ≡ out.old.items ++ line_of (coded (listed names.entry) count address word)) }
+    ensures { OnOk result
+        (out.new.items ≡ out.old.items ++ line_of (line_for (listed names.entry) count address word)) }
 {
     match row_of(word) {
         Some(row) => put_row(out, target_by(count, address, word, row), row, word)?,
@@ -221,7 +222,7 @@ fn put_mark<'a>(
     ensures { IfOk result (λ left. (given : Option (List Name)) (count n word : ℕ) (is : ℕ → Bool)
         (words before : List ℕ) → pc ≡ 4 * n
         → out.old.items ≡ before ++ text_of (labels is n)
-        → (out.new.items ++ line_of (coded given count pc word))
+        → (out.new.items ++ line_of (line_for given count pc word))
         ++ text_of (code given count is (suc n) (marks version left.0.now left.1.now) words)
         ≡ before ++ text_of (code given count is n (marks version entries.now limits.now) (word ∷ words))) }
 {

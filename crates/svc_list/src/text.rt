@@ -6,7 +6,7 @@ ghost use Rattle.svc_list.specs.Listings.{part_text, parts_text, row_text};
 ghost use Rattle.svc_instructions.specs.Instructions.{parts_of};
 
 use std::alloc::AllocError;
-use svc_instructions::{Part, Row, parts_of, taken};
+use svc_instructions::{Part, Row, part_number, parts_of};
 use svc_operands::{register, split_name};
 use svc_rv32i::Register;
 use svc_text::{Piece, put};
@@ -130,7 +130,7 @@ fn put_parts(out: &mut Vec<u8>, to: Option<u32>, row: Row, word: u32) -> Result<
     ensures { OnOk result (out.new.items ≡ out.old.items ++ parts_text to (parts_of row) word) }
 {
     for part in parts_of(row).iter() {
-        put_part(out, to, *part, taken(*part, word))?;
+        put_part(out, to, *part, part_number(*part, word))?;
     }
     Ok(())
 }

@@ -4,10 +4,10 @@ use Rattle.std.specs.Prelude.{IfSome}
 use Rattle.std.specs.List.{AllByRecursion}
 use Rattle.std.specs.Str.{bytes_eq}
 use Rattle.std.proofs.lemmas.Bool.{cond_both}
-use Rattle.svc_draft.specs.Options.{◌>>=◌}
+use Rattle.svc_layout.specs.Options.{◌>>=◌}
 use Rattle.svc_operands.specs.declared.names.Named.{Named}
 use Rattle.svc_operands.specs.declared.names.TheConstants.{REGISTERS}
-use Rattle.svc_operands.specs.Names.{padded, named_in, number_named}
+use Rattle.svc_operands.specs.Names.{letters_of, named_in, number_named}
 
 each_small : AllByRecursion (λ r. r.1 < 32) REGISTERS
 each_small = (lit< tt, (lit< tt, (lit< tt, (lit< tt, (lit< tt, (lit< tt, (lit< tt, (lit< tt, (lit< tt, (lit< tt, (lit< tt, (lit< tt, (lit< tt, (lit< tt, (lit< tt, (lit< tt, (lit< tt, (lit< tt, (lit< tt, (lit< tt, (lit< tt, (lit< tt, (lit< tt, (lit< tt, (lit< tt, (lit< tt, (lit< tt, (lit< tt, (lit< tt, (lit< tt, (lit< tt, (lit< tt, (lit< tt, tt)))))))))))))))))))))))))))))))))
@@ -20,7 +20,7 @@ found_small limit (r ∷ more) name h =
 
 pub number_small : (limit : ℕ) (rows : List Named) (name : List ℕ) → AllByRecursion (λ r. r.1 < limit) rows → IfSome (number_named rows name) (λ n. n < limit)
 unfolding number_named
-number_small limit rows name h = elim (padded name) as (λ o. IfSome (o >>= (λ letters. named_in rows letters)) (λ n. n < limit)) [ None ↦ tt | Some letters ↦ found_small limit rows letters h ]
+number_small limit rows name h = elim (letters_of name) as (λ o. IfSome (o >>= (λ letters. named_in rows letters)) (λ n. n < limit)) [ None ↦ tt | Some letters ↦ found_small limit rows letters h ]
 
 pub register_small : (name : List ℕ) → IfSome (number_named REGISTERS name) (λ n. n < 32)
 register_small name = number_small 32 REGISTERS name each_small

@@ -2,7 +2,7 @@
 use Rattle.std.specs.Prelude.{ℕ, ◌+◌, ◌*◌, ◌-◌, ◌^◌, Bool, true, false, ◌&&◌, ◌||◌, ◌==◌, nat_le, nat_lt, List, []}
 use Rattle.std.specs.Prelude.{◌∷◌, Option, Some, None, if◌then◌else◌, option_map}
 use Rattle.std.specs.List.{take_while}
-use Rattle.svc_draft.specs.Options.{◌>>=◌}
+use Rattle.svc_layout.specs.Options.{◌>>=◌}
 use Rattle.svc_operands.specs.declared.characters.Blank.{Blank}
 use Rattle.svc_operands.specs.declared.characters.Blank.TheVariants as blank
 use Rattle.svc_operands.specs.declared.characters.Radix.{Radix}
@@ -133,8 +133,8 @@ number_of [] = None
 number_of (c ∷ digits) = if c == 48 then behind_zero digits else long_of 10 (c ∷ digits)
 
 -- what a letter behind a backslash stands for
-unfoldable pub escaped : ℕ → Option ℕ
-escaped c =
+unfoldable pub escape : ℕ → Option ℕ
+escape c =
     if c == 110 then Some 10 else
     if c == 116 then Some 9 else
     if c == 34 then Some 34 else
@@ -150,7 +150,7 @@ closed_at c text = option_map (λ (rest : List ℕ). (c, rest)) (behind 39 text)
 
 -- what follows a backslash between quotes
 abbrev pub quoted_escape : ℕ → Option ℕ
-quoted_escape c = if c == 39 then Some 39 else escaped c
+quoted_escape c = if c == 39 then Some 39 else escape c
 
 unfoldable pub escape_in_quotes : List ℕ → Option (ℕ × List ℕ)
 escape_in_quotes [] = None

@@ -2,8 +2,8 @@
 -- operators of three ranks. Those of the first one bind closest.
 use Rattle.std.specs.Prelude.{ℕ, zero, suc, ◌+◌, ◌*◌, ◌-◌, ◌/◌, ◌%◌, ◌^◌, ◌==◌, nat_le, nat_lt, Bool, not, List, []}
 use Rattle.std.specs.Prelude.{◌∷◌, length, Option, Some, None, if◌then◌else◌, option_map, bit_and, bit_or, bit_xor}
-use Rattle.svc_draft.specs.Options.{◌>>=◌}
-use Rattle.svc_draft.specs.Layouts.{Layout}
+use Rattle.svc_layout.specs.Options.{◌>>=◌}
+use Rattle.svc_layout.specs.Layouts.{Layout}
 use Rattle.svc_operands.specs.declared.expressions.Operation.{Operation}
 use Rattle.svc_operands.specs.declared.expressions.Operation.TheVariants as does
 use Rattle.svc_operands.specs.declared.expressions.Operator.{Operator}
@@ -34,17 +34,17 @@ differ a b = if a then not b else b
 
 -- what an operator makes of two numbers: a quotient is rounded to 0, a remainder has the sign of what is divided, a
 -- shift to the right takes no account of the sign, and one by 64 or more leaves 0
-unfoldable pub combined : Operation → ℕ → ℕ → ℕ
-combined does.Multiply n m = n * m % 2 ^ 64
-combined does.Divide n m = signed_by (differ (is_below n) (is_below m)) (magnitude n / divisor m)
-combined does.Remainder n m = signed_by (is_below n) (magnitude n % divisor m)
-combined does.ShiftLeft n m = if nat_lt m 64 then n * 2 ^ m % 2 ^ 64 else 0
-combined does.ShiftRight n m = if nat_lt m 64 then n / 2 ^ m else 0
-combined does.Or n m = bit_or n m
-combined does.And n m = bit_and n m
-combined does.ExclusiveOr n m = bit_xor n m
-combined does.Add n m = (n + m) % 2 ^ 64
-combined does.Subtract n m = (n + below_zero m) % 2 ^ 64
+unfoldable pub result_of : Operation → ℕ → ℕ → ℕ
+result_of does.Multiply n m = n * m % 2 ^ 64
+result_of does.Divide n m = signed_by (differ (is_below n) (is_below m)) (magnitude n / divisor m)
+result_of does.Remainder n m = signed_by (is_below n) (magnitude n % divisor m)
+result_of does.ShiftLeft n m = if nat_lt m 64 then n * 2 ^ m % 2 ^ 64 else 0
+result_of does.ShiftRight n m = if nat_lt m 64 then n / 2 ^ m else 0
+result_of does.Or n m = bit_or n m
+result_of does.And n m = bit_and n m
+result_of does.ExclusiveOr n m = bit_xor n m
+result_of does.Add n m = (n + m) % 2 ^ 64
+result_of does.Subtract n m = (n + below_zero m) % 2 ^ 64
 
 -- an operator and what follows it
 abbrev pub by : ℕ → Operation → List ℕ → Option (Operator × List ℕ)
@@ -78,13 +78,13 @@ unfoldable pub chain_on : (List ℕ → Read ℕ) → (rank most : ℕ) → ℕ 
 chain_on item rank zero n text = Some (n, text)
 chain_on item rank (suc k) n text =
     found (operator_at text) (λ o.
-    if o.0.rank == rank then item o.1 >>= (λ m. chain_on item rank k (combined o.0.does n m.0) m.1)
+    if o.0.rank == rank then item o.1 >>= (λ m. chain_on item rank k (result_of o.0.does n m.0) m.1)
     else Some (n, text)) (Some (n, text))
 
 -- an expression by operators below a rank, of which each is a character at least
-unfoldable pub ranked : (List ℕ → Read ℕ) → (ranks : ℕ) → List ℕ → Read ℕ
-ranked operand zero text = operand text
-ranked operand (suc r) text = ranked operand r text >>= (λ n. chain_on (ranked operand r) r (length n.1) n.0 n.1)
+unfoldable pub ranks_at : (List ℕ → Read ℕ) → (ranks : ℕ) → List ℕ → Read ℕ
+ranks_at operand zero text = operand text
+ranks_at operand (suc r) text = ranks_at operand r text >>= (λ n. chain_on (ranks_at operand r) r (length n.1) n.0 n.1)
 
 -- a number, or what a name stands for, where names may stand
 abbrev pub named_by : Option Layout → List ℕ → Option ℕ
@@ -105,7 +105,7 @@ operand_from names inner (c ∷ rest) =
     if c == 45 then option_map (λ n. (below_zero n.0, n.1)) (inner rest) else
     if c == 126 then option_map (λ n. (2 ^ 64 - 1 - n.0, n.1)) (inner rest) else
     if c == 43 then inner rest else
-    if c == 40 then ranked inner 3 rest >>= closed_by else
+    if c == 40 then ranks_at inner 3 rest >>= closed_by else
     plain_at names (c ∷ rest)
 
 -- signs and parentheses stand in one another up to a depth
@@ -114,8 +114,8 @@ operand_at names zero text = None
 operand_at names (suc k) text = operand_from names (operand_at names k) (past_spaces text)
 
 unfoldable pub expression_at : Option Layout → List ℕ → Read ℕ
-expression_at names text = ranked (operand_at names DEPTH) 3 text
+expression_at names text = ranks_at (operand_at names DEPTH) 3 text
 
 -- numbers that are added behind something, or taken away
 unfoldable pub added_at : List ℕ → Read ℕ
-added_at text = chain_on (ranked (operand_at None DEPTH) 2) 2 (length text) 0 text
+added_at text = chain_on (ranks_at (operand_at None DEPTH) 2) 2 (length text) 0 text

@@ -1,8 +1,8 @@
 -- Numbers of operands and of directives: expressions without names, within bounds.
 use Rattle.std.specs.Prelude.{ℕ, ◌-◌, ◌^◌, nat_lt, true, false, List, Option, Some, None, if◌then◌else◌}
-use Rattle.svc_draft.specs.Options.{◌>>=◌}
+use Rattle.svc_layout.specs.Options.{◌>>=◌}
 use Rattle.svc_operands.specs.declared.operands.Signed.{Signed}
-use Rattle.svc_operands.specs.Operands.{Read, wrapped}
+use Rattle.svc_operands.specs.Operands.{Read, signed_bits}
 use Rattle.svc_operands.specs.Expressions.{expression_at}
 
 -- a number below a bound
@@ -29,5 +29,5 @@ signed_at text = do
 unfoldable pub number_short_at : List ℕ → Read ℕ
 number_short_at text = do
   s ← signed_at text
-  n ← wrapped 2048 s.0
+  n ← signed_bits 2048 s.0
   Some (n, s.1)

@@ -3,7 +3,7 @@ use Rattle.std.specs.Prelude.{◌≡◌, Option, Some, None, Result, Ok, Err, �
 use Rattle.std.specs.Prelude.{nat_le, nat_lt, List, if◌then◌else◌}
 use Rattle.svc_rv32i.specs.declared.instr.Register.{Register}
 use Rattle.svc_operands.specs.declared.operands.Signed.{Signed}
-use Rattle.svc_draft.specs.Options.{◌>>=◌}
+use Rattle.svc_layout.specs.Options.{◌>>=◌}
 use Rattle.svc_operands.specs.Characters.{found, name_at, past_name, mark_at, number_of, character_at}
 use Rattle.svc_operands.specs.Names.{register_named}
 
@@ -47,17 +47,17 @@ distance from to =
     else record { negative = true; magnitude = from - to }
 
 -- a number of so many bits with its sign, half of whose range is below 0
-abbrev pub wrapped : ℕ → Signed → Option ℕ
-wrapped half s =
+abbrev pub signed_bits : ℕ → Signed → Option ℕ
+signed_bits half s =
     if s.negative then if nat_le s.magnitude half then Some (2 * half - s.magnitude) else None
     else if nat_lt s.magnitude half then Some s.magnitude else None
 
 -- half of an offset, which is even
-abbrev pub halved : Signed → Option Signed
-halved s = if s.magnitude % 2 == 0 then Some (record { negative = s.negative; magnitude = s.magnitude / 2 }) else None
+abbrev pub half_of : Signed → Option Signed
+half_of s = if s.magnitude % 2 == 0 then Some (record { negative = s.negative; magnitude = s.magnitude / 2 }) else None
 
 -- how many steps of two bytes an offset has, as such a number
 unfoldable pub steps_of : (half : ℕ) → Signed → Option ℕ
 steps_of half s = do
-  h ← halved s
-  wrapped half h
+  h ← half_of s
+  signed_bits half h

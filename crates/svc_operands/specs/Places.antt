@@ -2,7 +2,9 @@
 use Rattle.std.specs.Prelude.{ℕ, Bool, List, Option, Some, None, if◌then◌else◌, codes, option_map}
 use Rattle.std.specs.Str.{bytes_eq}
 use Rattle.std.specs.List.{take_while}
-use Rattle.svc_draft.specs.Layouts.{Layout, address_back, address_ahead, here, address_of}
+use Rattle.svc_layout.specs.Layouts.{Layout}
+use Rattle.svc_layout.specs.Places.{here}
+use Rattle.svc_layout.specs.Addresses.{address_back, address_ahead, address_of}
 use Rattle.svc_operands.specs.declared.places.Reference.{Reference}
 use Rattle.svc_operands.specs.declared.places.Reference.TheVariants as label
 use Rattle.svc_operands.specs.Characters.{is_from_to, past, value_of, found}
@@ -19,12 +21,12 @@ reference_named name =
     (value_of 10 (take_while is_decimal name)) else
     None
 
-abbrev pub referred : Layout → Reference → Option ℕ
-referred d (label.Back n) = address_back d n
-referred d (label.Ahead n) = address_ahead d n
+abbrev pub reference_address : Layout → Reference → Option ℕ
+reference_address d (label.Back n) = address_back d n
+reference_address d (label.Ahead n) = address_ahead d n
 
 -- what a name stands for: a dot for the address of what comes next, and a label for its own
 unfoldable pub place_of : Layout → List ℕ → Option ℕ
 place_of d name =
-    if bytes_eq name (codes ".") then Some (here d) else found (reference_named name) (λ r. referred d r)
+    if bytes_eq name (codes ".") then Some (here d) else found (reference_named name) (λ r. reference_address d r)
     (address_of d name)

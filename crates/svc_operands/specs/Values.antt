@@ -2,11 +2,14 @@
 use Rattle.std.specs.Prelude.{ℕ, ◌*◌, nat_le, nat_lt, length, Bool, List, Option, Some, None, if◌then◌else◌, codes}
 use Rattle.std.specs.Prelude.{option_map, ◌+◌, ◌-◌, ◌/◌, ◌%◌, ◌^◌, ◌||◌, ◌&&◌, true, false}
 use Rattle.std.specs.Str.{bytes_eq}
-use Rattle.svc_draft.specs.Layouts.{Layout, here, distance_from, is_foreign, is_turned}
+use Rattle.svc_layout.specs.Layouts.{Layout}
+use Rattle.svc_layout.specs.Places.{here}
+use Rattle.svc_layout.specs.Addresses.{distance_from, is_foreign}
+use Rattle.svc_layout.specs.Notes.{is_turned}
 use Rattle.svc_operands.specs.Characters.{found, name_at, past_name, mark_at}
 use Rattle.svc_operands.specs.declared.operands.Signed.{Signed}
-use Rattle.svc_draft.specs.Options.{◌>>=◌}
-use Rattle.svc_operands.specs.Operands.{Read, distance, halved, wrapped, steps_of}
+use Rattle.svc_layout.specs.Options.{◌>>=◌}
+use Rattle.svc_operands.specs.Operands.{Read, distance, half_of, signed_bits, steps_of}
 use Rattle.svc_operands.specs.Places.{place_of}
 use Rattle.svc_operands.specs.Expressions.{expression_at, added_at}
 use Rattle.svc_operands.specs.Numbers.{number_below, signed_of, number_short_at}
@@ -16,8 +19,8 @@ abbrev pub bits_of : Signed → ℕ
 bits_of s = if s.negative then (2 ^ 32 - s.magnitude) % 2 ^ 32 else s.magnitude
 
 -- the 32 bits of a number of so many that has room, of which half may be below 0
-unfoldable pub fitted : (half : ℕ) → Signed → Option ℕ
-fitted half s =
+unfoldable pub bits_within : (half : ℕ) → Signed → Option ℕ
+bits_within half s =
     if s.negative then if nat_le s.magnitude half then Some (bits_of s) else None
     else if nat_lt s.magnitude (2 * half) then Some s.magnitude else None
 
@@ -131,8 +134,8 @@ behind_word s = if s.negative then record { negative = true; magnitude = s.magni
 
 unfoldable pub steps_behind : Signed → Option ℕ
 steps_behind s = do
-  h ← halved s
-  wrapped 524288 (behind_word h)
+  h ← half_of s
+  signed_bits 524288 (behind_word h)
 
 -- how far a jump goes that stands a word behind here
 unfoldable pub jump_behind_at : Layout → List ℕ → Read ℕ

@@ -3,7 +3,7 @@
 ghost use Rattle.std.specs.Prelude.{◌≡◌, ◌<◌, ◌≤◌, IfSome, option_map};
 ghost use Rattle.svc_operands.specs.Characters.{opens, blank_behind, past_spaces, is_over, is_name, past, name_at};
 ghost use Rattle.svc_operands.specs.Characters.{past_name, mark_at, digit, base_of, push_digit, long_of, value_of};
-ghost use Rattle.svc_operands.specs.Characters.{behind_zero, number_of, escaped, quoted_escape, closed_at};
+ghost use Rattle.svc_operands.specs.Characters.{behind_zero, number_of, escape, quoted_escape, closed_at};
 ghost use Rattle.svc_operands.specs.Characters.{escape_in_quotes, in_quotes, character_at};
 
 #[tactic(auto, unfolding(crate::specs::Characters::is_name))]
@@ -210,9 +210,9 @@ pub fn number_of(name: &[u8]) -> Option<u64>
 }
 
 /// What a letter behind a backslash stands for.
-#[tactic(auto, unfolding(crate::specs::Characters::escaped))]
-pub fn escaped(letter: u8) -> Option<u8>
-    ensures { result ≡ escaped letter }
+#[tactic(auto, unfolding(crate::specs::Characters::escape))]
+pub fn escape(letter: u8) -> Option<u8>
+    ensures { result ≡ escape letter }
 {
     match letter {
         b'n' => Some(10),
@@ -231,7 +231,7 @@ fn quoted_escape(letter: u8) -> Option<u8>
 {
     match letter {
         b'\'' => Some(39),
-        _ => escaped(letter),
+        _ => escape(letter),
     }
 }
 

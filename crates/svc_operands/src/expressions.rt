@@ -1,9 +1,9 @@
 // Expressions: what operators make of numbers, and of the addresses of labels where names may stand.
 
 ghost use Rattle.std.specs.Prelude.{◌≡◌, ◌+◌, ◌*◌, ◌<◌, ◌≤◌, option_map, length};
-ghost use Rattle.svc_draft.specs.Layouts.{layout_of};
-ghost use Rattle.svc_operands.specs.Expressions.{is_below, below_zero, signed_by, magnitude, divisor, combined};
-ghost use Rattle.svc_operands.specs.Expressions.{operator_from, operator_at, chain_on, ranked, named_by};
+ghost use Rattle.svc_draft.specs.Drafts.{layout_of};
+ghost use Rattle.svc_operands.specs.Expressions.{is_below, below_zero, signed_by, magnitude, divisor, result_of};
+ghost use Rattle.svc_operands.specs.Expressions.{operator_from, operator_at, chain_on, ranks_at, named_by};
 ghost use Rattle.svc_operands.specs.Expressions.{plain_at, operand_from, operand_at, expression_at, added_at};
 ghost use Rattle.svc_operands.specs.Operands.{Gives};
 
@@ -69,9 +69,9 @@ fn divisor(number: u64) -> u64
     if number == 0 { 1 } else { magnitude(number) }
 }
 
-#[tactic(auto, unfolding(crate::specs::Expressions::combined))]
-pub fn combined(operation: Operation, left: u64, right: u64) -> u64
-    ensures { result ≡ combined operation left right }
+#[tactic(auto, unfolding(crate::specs::Expressions::result_of))]
+pub fn result_of(operation: Operation, left: u64, right: u64) -> u64
+    ensures { result ≡ result_of operation left right }
 {
     match operation {
         Operation::Multiply => left.wrapping_mul(right),
@@ -191,7 +191,7 @@ fn read_ranked<'a>(names: Option<&Draft>, depth: u32, ranks: u32, text: &'a [u8]
     requires depth { depth ≤ 32 }
     requires ranks { ranks ≤ 3 }
     ensures { Gives (λ x. (x.0, x.1.now)) result
-        (ranked (operand_at (option_map (λ d. layout_of d.now) names.entry) depth) ranks text.now) }
+        (ranks_at (operand_at (option_map (λ d. layout_of d.now) names.entry) depth) ranks text.now) }
 {
     let (mut number, mut rest) = read_operand(names, depth, text)?;
     for rank in 0..ranks {
@@ -215,7 +215,7 @@ fn read_chain<'a>(
     requires depth { depth ≤ 32 }
     requires rank { rank ≤ 2 }
     ensures { Gives (λ x. (x.0, x.1.now)) result
-        (chain_on (ranked (operand_at (option_map (λ d. layout_of d.now) names.entry) depth) rank) rank
+        (chain_on (ranks_at (operand_at (option_map (λ d. layout_of d.now) names.entry) depth) rank) rank
         (length text.now) first text.now) }
 {
     let mut number = first;
@@ -229,7 +229,7 @@ fn read_chain<'a>(
             return Ok((number, rest));
         }
         let (other, after) = read_ranked(names, depth, rank, behind)?;
-        number = combined(operator.does, number, other);
+        number = result_of(operator.does, number, other);
         rest = after;
     }
     Ok((number, rest))

@@ -3,7 +3,7 @@
 ghost use Rattle.std.specs.Prelude.{◌≡◌, ◌<◌, IfSome};
 ghost use Rattle.std.specs.Str.{bytes_eq};
 ghost use Rattle.svc_rv32i.specs.Meaning.{register};
-ghost use Rattle.svc_operands.specs.Names.{padded, number_named, numbered, register_named};
+ghost use Rattle.svc_operands.specs.Names.{letters_of, number_named, x_number, register_named};
 
 use crate::characters::{Radix, value_of};
 use svc_rv32i::Register;
@@ -60,9 +60,9 @@ pub fn is_word(name: &[u8], word: &str) -> bool
 }
 
 /// A name with spaces behind it, where it isn't longer than a table's.
-#[tactic(auto, unfolding(crate::specs::Names::padded))]
-pub fn padded(name: &[u8]) -> Option<Name>
-    ensures { result ≡ padded name.now }
+#[tactic(auto, unfolding(crate::specs::Names::letters_of))]
+pub fn letters_of(name: &[u8]) -> Option<Name>
+    ensures { result ≡ letters_of name.now }
 {
     if name.len() > 16 {
         return None;
@@ -77,7 +77,7 @@ pub fn padded(name: &[u8]) -> Option<Name>
 pub fn number_named(rows: &[Named], name: &[u8]) -> Option<u32>
     ensures { result ≡ number_named rows.now name.now }
 {
-    let letters = padded(name)?;
+    let letters = letters_of(name)?;
     for row in rows {
         if letters == row.0 {
             return Some(row.1);
@@ -93,9 +93,9 @@ fn abi_named(name: &[u8]) -> Option<u32>
     number_named(&REGISTERS, name)
 }
 
-#[tactic(auto, unfolding(crate::specs::Names::numbered))]
-fn numbered(name: &[u8]) -> Option<u32>
-    ensures value { result ≡ numbered name.now }
+#[tactic(auto, unfolding(crate::specs::Names::x_number))]
+fn x_number(name: &[u8]) -> Option<u32>
+    ensures value { result ≡ x_number name.now }
     ensures small { IfSome result (λ n. n < 32) }
 {
     match name {
@@ -121,7 +121,7 @@ pub fn register(number: u32) -> Register
 pub fn register_named(name: &[u8]) -> Option<Register>
     ensures { result ≡ register_named name.now }
 {
-    if let Some(number) = numbered(name) {
+    if let Some(number) = x_number(name) {
         return Some(register(number));
     }
     let number = abi_named(name)?;

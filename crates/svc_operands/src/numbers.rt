@@ -5,7 +5,7 @@ ghost use Rattle.svc_operands.specs.Numbers.{number_below, signed_of, signed_at,
 ghost use Rattle.svc_operands.specs.Operands.{Gives};
 
 use crate::expressions::read_expression;
-use crate::operands::{Signed, wrapped};
+use crate::operands::{Signed, signed_bits};
 use crate::unread::{Read, Wanted, stopped_at};
 
 /// A number below a bound.
@@ -69,7 +69,7 @@ pub fn read_number_short(text: &[u8]) -> Read<'_, u32>
     ensures { Gives (λ x. (x.0, x.1.now)) result (number_short_at text.now) }
 {
     let (number, rest) = read_signed(text)?;
-    match wrapped(2048, number) {
+    match signed_bits(2048, number) {
         Some(bits) => Ok((bits, rest)),
         None => Err(stopped_at(text, Wanted::Immediate)),
     }

@@ -3,7 +3,7 @@
 ghost use Rattle.std.specs.Prelude.{◌≡◌, ◌<◌, ◌≤◌, ◌*◌, ◌-◌, ◌/◌, IfSome};
 ghost use Rattle.svc_operands.specs.Characters.{mark_at};
 ghost use Rattle.svc_operands.specs.Operands.{Gives, register_at, first_register_at, base_at, number_at, distance};
-ghost use Rattle.svc_operands.specs.Operands.{wrapped, halved, steps_of};
+ghost use Rattle.svc_operands.specs.Operands.{signed_bits, half_of, steps_of};
 
 use crate::characters::{number_of, skip_mark, split_character, split_name};
 use crate::names::register_named;
@@ -92,9 +92,9 @@ pub fn distance(from: u32, to: u32) -> Signed
     }
 }
 
-pub fn wrapped(half: u32, number: Signed) -> Option<u32>
+pub fn signed_bits(half: u32, number: Signed) -> Option<u32>
     requires { half ≤ 524288 }
-    ensures { result ≡ wrapped half number }
+    ensures { result ≡ signed_bits half number }
 {
     let Signed {
         negative,
@@ -113,8 +113,8 @@ pub fn wrapped(half: u32, number: Signed) -> Option<u32>
     }
 }
 
-pub fn halved(number: Signed) -> Option<Signed>
-    ensures value { result ≡ halved number }
+pub fn half_of(number: Signed) -> Option<Signed>
+    ensures value { result ≡ half_of number }
     ensures small { IfSome result (λ half. half.magnitude ≤ 2147483648) }
 {
     if number.magnitude % 2 == 0 {
@@ -132,5 +132,5 @@ pub fn steps_of(half: u32, offset: Signed) -> Option<u32>
     requires { half ≤ 524288 }
     ensures { result ≡ steps_of half offset }
 {
-    wrapped(half, halved(offset)?)
+    signed_bits(half, half_of(offset)?)
 }

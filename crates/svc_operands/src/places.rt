@@ -2,9 +2,9 @@
 
 ghost use Rattle.std.specs.Prelude.{◌≡◌, ◌-◌, ◌≤◌};
 ghost use Rattle.std.specs.List.{take_while};
-ghost use Rattle.svc_draft.specs.Layouts.{layout_of};
+ghost use Rattle.svc_draft.specs.Drafts.{layout_of};
 ghost use Rattle.svc_operands.specs.Characters.{past};
-ghost use Rattle.svc_operands.specs.Places.{is_decimal, reference_named, referred, place_of};
+ghost use Rattle.svc_operands.specs.Places.{is_decimal, reference_named, reference_address, place_of};
 
 use crate::characters::{Radix, value_of};
 use crate::names::is_word;
@@ -58,8 +58,8 @@ pub fn reference_named(name: &[u8]) -> Option<Reference>
     None
 }
 
-pub fn referred(draft: &Draft, reference: Reference) -> Option<u32>
-    ensures { result ≡ referred (layout_of draft.now) reference }
+pub fn reference_address(draft: &Draft, reference: Reference) -> Option<u32>
+    ensures { result ≡ reference_address (layout_of draft.now) reference }
 {
     match reference {
         Reference::Back(number) => draft.address_back(number),
@@ -75,7 +75,7 @@ pub fn place_of(draft: &Draft, name: &[u8]) -> Option<u32>
         return Some(draft.here());
     }
     if let Some(reference) = reference_named(name) {
-        return referred(draft, reference);
+        return reference_address(draft, reference);
     }
     draft.address_of(name)
 }

@@ -1,8 +1,8 @@
 // Values, which may name labels, the immediates that are made of them, and how far branches and jumps go.
 
 ghost use Rattle.std.specs.Prelude.{◌≡◌, ◌-◌, ◌≤◌};
-ghost use Rattle.svc_draft.specs.Layouts.{layout_of};
-ghost use Rattle.svc_operands.specs.Values.{bits_of, fitted, value_at, high_part, from_here, enclosed_at};
+ghost use Rattle.svc_draft.specs.Drafts.{layout_of};
+ghost use Rattle.svc_operands.specs.Values.{bits_of, bits_within, value_at, high_part, from_here, enclosed_at};
 ghost use Rattle.svc_operands.specs.Values.{relative_at, high_at, distance_named, completed_at, low_at, short_at};
 ghost use Rattle.svc_operands.specs.Values.{upper_at, reach, reach_at, offset_from, offset_at, target_at, jump_at};
 ghost use Rattle.svc_operands.specs.Values.{is_far, branch_at, behind_word, steps_behind, jump_behind_at};
@@ -12,7 +12,7 @@ use crate::characters::{skip_mark, split_name};
 use crate::expressions::{read_added, read_expression};
 use crate::names::is_word;
 use crate::numbers::{read_below, read_number_short, signed_of};
-use crate::operands::{Signed, distance, halved, read_mark, steps_of, wrapped};
+use crate::operands::{Signed, distance, half_of, read_mark, signed_bits, steps_of};
 use crate::places::place_of;
 use crate::unread::{Read, Wanted, stopped_at};
 use svc_draft::Draft;
@@ -29,9 +29,9 @@ pub fn bits_of(number: Signed) -> u32
 }
 
 /// The 32 bits of a number of so many that has room, of which half may be below 0.
-#[tactic(auto, unfolding(crate::specs::Values::fitted))]
-pub fn fitted(half: u32, number: Signed) -> Option<u32>
-    ensures { result ≡ fitted half number }
+#[tactic(auto, unfolding(crate::specs::Values::bits_within))]
+pub fn bits_within(half: u32, number: Signed) -> Option<u32>
+    ensures { result ≡ bits_within half number }
 {
     if number.negative {
         if number.magnitude <= half {
@@ -271,7 +271,7 @@ fn behind_word(steps: Signed) -> Signed
 fn steps_behind(offset: Signed) -> Option<u32>
     ensures { result ≡ steps_behind offset }
 {
-    wrapped(524_288, behind_word(halved(offset)?))
+    signed_bits(524_288, behind_word(half_of(offset)?))
 }
 
 /// How far a jump goes that stands a word behind here, in steps of two bytes, as a number of 20 bits.

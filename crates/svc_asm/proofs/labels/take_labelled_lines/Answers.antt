@@ -1,7 +1,7 @@
 use Rattle.std.proofs.Common.{◌≡◌, ◌∙◌, ◌++◌, ◌∷◌, [], ℕ, List, map, refl, sym, ap, subst, inl, inr, append_assoc}
 use Rattle.std.proofs.lemmas.List.{append-nil}
 use Rattle.std.proofs.lemmas.Result.{err_from_is_err_and}
-use Rattle.svc_draft.specs.Layouts.{layout_of}
+use Rattle.svc_draft.specs.Drafts.{layout_of}
 use Rattle.svc_operands.specs.Characters.{name_at}
 use Rattle.svc_asm.specs.Labels.{Gives, label_in, parts_of}
 use Rattle.svc_asm.proofs.Program.{advance, makes_of, refuted, empty_is, some_left}

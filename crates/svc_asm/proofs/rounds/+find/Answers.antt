@@ -1,6 +1,8 @@
 use Rattle.std.proofs.Common.{◌≡◌, ◌∙◌, true, false, inl, inr, sym, subst, ℕ, ◌-◌}
 use Rattle.std.proofs.lemmas.Result.{err_from_is_err_and}
-use Rattle.svc_draft.specs.Layouts.{Layout, layout_of, once_more}
+use Rattle.svc_draft.specs.Drafts.{layout_of}
+use Rattle.svc_layout.specs.Layouts.{Layout}
+use Rattle.svc_layout.specs.Passes.{once_more}
 use Rattle.svc_asm.specs.Programs.{Finds}
 use Rattle.svc_asm.proofs.Program.{first_finds, next_finds, no_pass, none_finds}
 use Rattle.svc_asm.proofs.rounds.+find.Goals as goal

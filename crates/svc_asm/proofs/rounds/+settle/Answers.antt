@@ -1,6 +1,8 @@
 use Rattle.std.proofs.Common.{◌≡◌, ◌∙◌, true, false, inl, inr, map, sym, subst, List, ℕ, ◌-◌}
 use Rattle.std.proofs.lemmas.Result.{err_from_is_err_and}
-use Rattle.svc_draft.specs.Layouts.{Layout, layout_of, next_round}
+use Rattle.svc_draft.specs.Drafts.{layout_of}
+use Rattle.svc_layout.specs.Layouts.{Layout}
+use Rattle.svc_layout.specs.Passes.{next_round}
 use Rattle.svc_asm.specs.Labels.{parts_of}
 use Rattle.svc_asm.specs.Programs.{Settles}
 use Rattle.svc_asm.proofs.Program.{first_settles, next_settle, no_round, none_settles}

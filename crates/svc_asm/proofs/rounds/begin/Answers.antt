@@ -1,6 +1,7 @@
 use Rattle.std.proofs.Common.{◌≡◌, ◌∙◌, inl, inr, sym, subst}
 use Rattle.std.proofs.lemmas.Result.{err_from_is_err_and}
-use Rattle.svc_draft.specs.Layouts.{Layout, layout_of}
+use Rattle.svc_draft.specs.Drafts.{layout_of}
+use Rattle.svc_layout.specs.Layouts.{Layout}
 use Rattle.svc_asm.specs.Programs.{IsPass}
 use Rattle.svc_asm.proofs.Program.{measured_first, not_measured}
 use Rattle.svc_asm.proofs.rounds.begin.Goals as goal

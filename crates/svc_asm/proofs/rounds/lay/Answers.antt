@@ -1,6 +1,6 @@
 use Rattle.std.proofs.Common.{◌≡◌, ◌⊎◌, List, ℕ, subst}
 use Rattle.std.specs.Prelude.{IfErr}
-use Rattle.svc_draft.specs.Layouts.{Layout}
+use Rattle.svc_layout.specs.Layouts.{Layout}
 use Rattle.svc_asm.specs.declared.assembling.Stop.TheVariants as halt
 use Rattle.svc_asm.specs.declared.rounds.TheConstants.{MOST_ROUNDS}
 use Rattle.svc_asm.specs.Programs.{Settles}

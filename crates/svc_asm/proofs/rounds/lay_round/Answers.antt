@@ -1,6 +1,6 @@
 use Rattle.std.proofs.Common.{inl, inr, map}
 use Rattle.std.proofs.lemmas.Result.{err_from_is_err_and}
-use Rattle.svc_draft.specs.Layouts.{layout_of}
+use Rattle.svc_draft.specs.Drafts.{layout_of}
 use Rattle.svc_asm.specs.Labels.{parts_of}
 use Rattle.svc_asm.proofs.Program.{round_by, not_found, not_begun, not_laid}
 use Rattle.svc_asm.proofs.rounds.lay_round.Goals as goal

@@ -1,6 +1,6 @@
 use Rattle.std.proofs.Common.{◌∙◌, [], ◌∷◌, refl, sym, inl, inr}
 use Rattle.std.proofs.lemmas.Result.{err_from_is_err_and}
-use Rattle.svc_draft.specs.Layouts.{layout_of}
+use Rattle.svc_draft.specs.Drafts.{layout_of}
 use Rattle.svc_asm.proofs.Program.{advance, refuted, empty_is, some_left}
 use Rattle.svc_asm.proofs.rounds.take_lines.Goals as goal
 

@@ -1,6 +1,7 @@
 use Rattle.std.proofs.Common.{List, length}
-use Rattle.svc_draft.specs.declared.statement.Statement.{Statement}
-use Rattle.svc_draft.specs.Layouts.{Layout, layout_of}
+use Rattle.svc_layout.specs.declared.statement.Statement.{Statement}
+use Rattle.svc_draft.specs.Drafts.{layout_of}
+use Rattle.svc_layout.specs.Layouts.{Layout}
 use Rattle.svc_asm.specs.Passes.{Makes}
 use Rattle.svc_asm.proofs.rounds.take_lines.Given as goal
 

@@ -1,5 +1,5 @@
 use Rattle.std.proofs.Common.{◌≡◌, drop}
-use Rattle.svc_draft.specs.Layouts.{first_local}
+use Rattle.svc_layout.specs.Addresses.{first_local}
 use Rattle.svc_draft.proofs.labels.first_local.Given as goal
 
 abbrev pub invariant-loop-local : goal.invariant-loop-local

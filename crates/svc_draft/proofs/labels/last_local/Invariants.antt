@@ -1,5 +1,5 @@
 use Rattle.std.proofs.Common.{◌≡◌, drop, None}
-use Rattle.svc_draft.specs.Layouts.{last_local}
+use Rattle.svc_layout.specs.Addresses.{last_local}
 use Rattle.svc_draft.proofs.labels.last_local.Given as goal
 
 abbrev pub invariant-loop-local : goal.invariant-loop-local

@@ -1,5 +1,6 @@
 use Rattle.std.proofs.Common.{◌≡◌, drop, map}
-use Rattle.svc_draft.specs.Sources.{common_room, source_of}
+use Rattle.svc_draft.specs.Drafts.{source_of}
+use Rattle.svc_layout.specs.Sources.{common_room}
 use Rattle.svc_draft.proofs.sources.common_room.Given as goal
 
 abbrev pub invariant-loop-text : goal.invariant-loop-text

@@ -1,5 +1,5 @@
 use Rattle.std.proofs.Common.{◌≡◌, drop}
-use Rattle.svc_draft.specs.Layouts.{layout_of}
+use Rattle.svc_draft.specs.Drafts.{layout_of}
 use Rattle.svc_instructions.specs.Instructions.{parts_of}
 use Rattle.svc_instructions.specs.Branches.{far_parts_at}
 use Rattle.svc_instructions.proofs.branch.read_far_parts.Given as goal

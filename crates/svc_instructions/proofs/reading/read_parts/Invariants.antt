@@ -1,5 +1,5 @@
 use Rattle.std.proofs.Common.{◌≡◌, drop}
-use Rattle.svc_draft.specs.Layouts.{layout_of}
+use Rattle.svc_draft.specs.Drafts.{layout_of}
 use Rattle.svc_instructions.specs.Instructions.{parts_of, parts_at}
 use Rattle.svc_instructions.proofs.reading.read_parts.Given as goal
 

@@ -1,7 +1,7 @@
 use Rattle.std.proofs.Common.{◌≡◌, ◌*◌, ◌/◌, ◌++◌, ◌∙◌, ℕ, List, suc, false, length, slice_index, sym, ap, arith}
 use Rattle.std.specs.Prelude.{slice_index_or}
 use Rattle.svc_names.specs.Given.{listed}
-use Rattle.svc_list.specs.Listings.{code, coded, line_of, marks, text_of}
+use Rattle.svc_list.specs.Listings.{code, line_for, line_of, marks, text_of}
 use Rattle.svc_list.proofs.Printing.{ends, code_none, code_step}
 use Rattle.svc_list.proofs.listing.put_code.Goals as goal
 
@@ -15,8 +15,8 @@ loop-word-preserved c =
     let given = listed c.args.names in
     let count = length c.args.text.now in
     let word = slice_index c.args.text.now i in
-    let line : c.put_coded.new.out.items ≡ c.put_mark.new.out.items ++ line_of (coded given count c.loop-word.pc word) =
-    c.in_ok-put_coded.ensures ∙ ap (λ (n : ℕ). c.put_mark.new.out.items ++ line_of (coded given n c.loop-word.pc word)) c.loop-word.invariant.count in
+    let line : c.put_coded.new.out.items ≡ c.put_mark.new.out.items ++ line_of (line_for given count c.loop-word.pc word) =
+    c.in_ok-put_coded.ensures ∙ ap (λ (n : ℕ). c.put_mark.new.out.items ++ line_of (line_for given n c.loop-word.pc word)) c.loop-word.invariant.count in
     record {
       address = omega (arith, at);
       count = c.loop-word.invariant.count;

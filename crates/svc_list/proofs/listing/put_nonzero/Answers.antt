@@ -1,6 +1,6 @@
 use Rattle.std.proofs.Common.{◌++◌, ◌∙◌, ap}
 use Rattle.svc_rv32i.specs.declared.instr.Register.{Register}
-use Rattle.svc_draft.specs.declared.statement.Statement.TheVariants as say
+use Rattle.svc_layout.specs.declared.statement.Statement.TheVariants as say
 use Rattle.svc_list.specs.Listings.{bare, line_of}
 use Rattle.svc_list.proofs.Printing.{setting_zero, setting_some}
 use Rattle.svc_list.proofs.listing.put_nonzero.Goals as goal

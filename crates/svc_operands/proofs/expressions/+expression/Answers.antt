@@ -1,6 +1,6 @@
 use Rattle.std.proofs.Common.{option_map}
 use Rattle.std.proofs.lemmas.Result.{err_from_is_err_and}
-use Rattle.svc_draft.specs.Layouts.{layout_of}
+use Rattle.svc_draft.specs.Drafts.{layout_of}
 use Rattle.svc_operands.specs.Expressions.{operand_at}
 use Rattle.svc_operands.proofs.Chains.{no_operand, no_chain}
 use Rattle.svc_operands.proofs.expressions.+expression.Goals as goal

@@ -6,9 +6,9 @@ returns-clause-layout c =
     rw (
       c.new.ensures.items,
       c.new-2.ensures.items,
-      c.new-3.ensures.items,
-      c.new-4.ensures.items,
-      c.new-5.ensures.items,
+      c.new-3.ensures,
+      c.new-4.ensures,
+      c.new-5.ensures,
       c.new-6.ensures,
       c.new-7.ensures.items,
       c.new-8.ensures.empty,

@@ -4,8 +4,9 @@ use Rattle.std.specs.Map.{update}
 use Rattle.std.specs.HashMap.{get_by}
 use Rattle.std.proofs.lemmas.Map.Text.{hash_map_updates_str}
 use Rattle.std.proofs.Math.Path.{fun_ext}
-use Rattle.svc_draft.specs.Sources.{Names, source_of}
-use Rattle.svc_draft.specs.Layouts.{layout_of, with_name}
+use Rattle.svc_draft.specs.Drafts.{source_of, layout_of}
+use Rattle.svc_layout.specs.Sources.{Names}
+use Rattle.svc_layout.specs.Labels.{with_name}
 use Rattle.svc_draft.proofs.draft.Draft.find_name.Goals as goal
 
 pub returns : goal.returns
@@ -13,10 +14,10 @@ unfolding with_name
 returns c =
     let name = c.args.name.now in
     let d = layout_of c.args.self.now in
-    let so_far = source_of c.args.self.now.text_read in
+    let so_far = source_of c.args.self.now.source_read in
     let none : is_some (so_far.names name) ≡ false = ap is_some (sym c.spot_of.ensures) ∙ sym c.is_some.ensures ∙ c.if-is_some.false in
     let found : (q : List ℕ) → get_by (λ key. bytes_eq q key.now) c.insert.new.self ≡ update bytes_eq so_far.names name (Some c.args.spot) q =
-    hash_map_updates_str name c.args.self.now.text_read.names c.insert.new.self (Some c.args.spot) c.in_ok-insert.ensures.updates in
+    hash_map_updates_str name c.args.self.now.source_read.names c.insert.new.self (Some c.args.spot) c.in_ok-insert.ensures.updates in
     let names : (λ (q : List ℕ). get_by (λ key. bytes_eq q key.now) c.insert.new.self) ≡ update bytes_eq so_far.names name (Some c.args.spot) =
     fun_ext found in
-    rw (c.requires, none) (ap (λ (ns : Names). Some (record d { known = false; placed = d.placed; source = record so_far { names = ns } })) (sym names))
+    rw (c.requires, none) (ap (λ (ns : Names). Some (record d { known = false; places_known = d.places_known; source = record so_far { names = ns } })) (sym names))

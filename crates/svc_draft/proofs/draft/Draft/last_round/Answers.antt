@@ -1,5 +1,5 @@
 use Rattle.std.proofs.Common.{ap, true}
-use Rattle.svc_draft.specs.Layouts.{Layout}
+use Rattle.svc_layout.specs.Layouts.{Layout}
 use Rattle.svc_draft.proofs.draft.Draft.last_round.Goals as goal
 
 pub returns : goal.returns

@@ -1,5 +1,6 @@
 use Rattle.std.proofs.Common.{ap}
-use Rattle.svc_draft.specs.Layouts.{Layout, layout_of}
+use Rattle.svc_draft.specs.Drafts.{layout_of}
+use Rattle.svc_layout.specs.Layouts.{Layout}
 use Rattle.svc_draft.proofs.draft.Draft.next_round.Goals as goal
 
 pub returns : goal.returns

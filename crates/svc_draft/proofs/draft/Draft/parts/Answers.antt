@@ -2,8 +2,8 @@ use Rattle.std.proofs.Common.{◌≡◌, ◌/◌, ◌∙◌, ap, sym, length, ma
 use Rattle.std.proofs.lemmas.List.{length-map}
 use Rattle.svc_image.specs.declared.parts.Parts.{Parts}
 use Rattle.svc_image.specs.Format.{words_in}
-use Rattle.svc_draft.specs.Areas.{data_of}
-use Rattle.svc_draft.specs.Layouts.{layout_of, data_in}
+use Rattle.svc_draft.specs.Drafts.{layout_of}
+use Rattle.svc_layout.specs.Images.{data_in}
 use Rattle.svc_draft.proofs.Made.{AreParts, has-limits, made-laid}
 use Rattle.svc_draft.proofs.draft.Draft.parts.Goals as goal
 use Rattle.svc_draft.proofs.draft.Draft.parts.Goals.{After-drop-self-12}
@@ -13,17 +13,14 @@ parts c = record { own = c.in_ok-own.own; start = c.start_place-start.result; re
 
 are : (c : After-drop-self-12) → AreParts (parts c) (layout_of c.args.self)
 are c =
-    let rodata = c.deref.ensures.value in
-    let middle = c.deref-2.ensures.value in
-    let bss = c.deref-3.ensures.value in
-    let whole : c.in_ok-data.data.items ≡ data_in (layout_of c.args.self) = c.in_ok-data.ensures.ok ∙ (λ i. data_of c.args.self.data_step c.args.self.bss_step (rodata i) (middle i) (bss i)) in
+    let whole : c.in_ok-data.data.items ≡ data_in (layout_of c.args.self) = c.in_ok-data.ensures.ok in
     let count : c.len.result ≡ length c.in_ok-data.data.items = c.len.ensures ∙ c.in_ok-data.data.ok.0 in
-    let place = c.deref-4.ensures.value in
+    let place = c.deref.ensures.value in
     record {
       same_own = c.in_ok-own.ensures;
       same_start = c.start_place-start.ensures;
       same_registers = λ i. c.args.self.registers;
-      same_entries = c.in_ok-entries.ensures ∙ ap (map (λ m. m.place)) c.deref-5.ensures.value;
+      same_entries = c.in_ok-entries.ensures ∙ ap (map (λ m. m.place)) c.deref-2.ensures.value;
       same_text = λ i. c.args.self.text.items;
       same_words = c.in_ok-words.ensures ∙ (λ i. words_in (count i / 4) (place i)) ∙ (λ i. words_in (length (whole i) / 4) (whole i));
     }

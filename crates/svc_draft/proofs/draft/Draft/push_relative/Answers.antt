@@ -2,8 +2,12 @@ use Rattle.std.proofs.Common.{◌≡◌, ◌∙◌, ap, true, nat_eq, ℕ, Some,
 use Rattle.std.specs.Map.{update}
 use Rattle.std.specs.HashMap.{get}
 use Rattle.std.proofs.Math.Path.{fun_ext}
-use Rattle.svc_draft.specs.Refusals.{Changes}
-use Rattle.svc_draft.specs.Layouts.{Distances, layout_of, here, with_instruction, with_relative}
+use Rattle.svc_draft.specs.Drafts.{layout_of}
+use Rattle.svc_layout.specs.Refusals.{Changes}
+use Rattle.svc_layout.specs.Layouts.{Distances}
+use Rattle.svc_layout.specs.Places.{here}
+use Rattle.svc_layout.specs.Contents.{with_instruction}
+use Rattle.svc_layout.specs.Notes.{with_relative}
 use Rattle.svc_draft.proofs.draft.Draft.push_relative.Goals as goal
 
 pub returns : goal.returns

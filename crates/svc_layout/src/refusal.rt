@@ -1,7 +1,7 @@
 // Why a line may not stand where it stands, or why the lines make no image.
 
 ghost use Rattle.std.specs.Prelude.{◌≡◌};
-ghost use Rattle.svc_draft.specs.declared.refusal.Refusal.TheVariants as refusal;
+ghost use Rattle.svc_layout.specs.declared.refusal.Refusal.TheVariants as refusal;
 
 use std::alloc::{AllocError, AllocFailed};
 use thiserror::Error;

@@ -1,7 +1,7 @@
 -- When a line may be refused.
-use Rattle.std.specs.Prelude.{◌≡◌, Option, Some, None, Result, Ok, Err}
-use Rattle.svc_draft.specs.declared.refusal.Refusal.{Refusal}
-use Rattle.svc_draft.specs.declared.refusal.Refusal.TheVariants as refusal
+use Rattle.std.specs.Prelude.{Option, Some, None, ◌≡◌, Result, Ok, Err}
+use Rattle.svc_layout.specs.declared.refusal.Refusal.{Refusal}
+use Rattle.svc_layout.specs.declared.refusal.Refusal.TheVariants as refusal
 
 -- a refusal is right where nothing comes of the line, or memory ran out
 abbrev pub Refuses : {X : Type 0} → Refusal → Option X → Type 0

@@ -1,16 +1,14 @@
 -- The texts of a program: each has names of its own, and shares some of them with the others.
-use Rattle.std.specs.Prelude.{ℕ, Bool, true, false, nat_lt, List, [], ◌∷◌, Option, Some, None}
-use Rattle.std.specs.Prelude.{if◌then◌else◌}
-use Rattle.std.specs.Str.{bytes_eq}
-use Rattle.std.specs.HashMap.{get_by}
-use Rattle.svc_draft.specs.declared.statement.Binding.{Binding}
-use Rattle.svc_draft.specs.declared.statement.Binding.TheVariants as binding
-use Rattle.svc_draft.specs.declared.statement.Local.{Local}
-use Rattle.svc_draft.specs.declared.statement.Spot.{Spot}
-use Rattle.svc_draft.specs.declared.sources.Text.{Text}
-use Rattle.svc_draft.specs.declared.sources.Steps.{Steps}
-use Rattle.svc_draft.specs.declared.sources.Strength.{Strength}
-use Rattle.svc_draft.specs.declared.sources.Strength.TheVariants as strength
+use Rattle.std.specs.Prelude.{Option, Some, None, ℕ, List, [], ◌∷◌, if◌then◌else◌, Bool, true, false, nat_lt, unwrap_or}
+use Rattle.std.specs.Prelude.{slice_get}
+use Rattle.svc_layout.specs.declared.section.Spot.{Spot}
+use Rattle.svc_layout.specs.declared.source.Binding.{Binding}
+use Rattle.svc_layout.specs.declared.source.Local.{Local}
+use Rattle.svc_layout.specs.declared.source.Strength.{Strength}
+use Rattle.svc_layout.specs.declared.steps.Steps.{Steps}
+use Rattle.svc_layout.specs.Steps.{no_steps}
+use Rattle.svc_layout.specs.declared.source.Binding.TheVariants as binding
+use Rattle.svc_layout.specs.declared.source.Strength.TheVariants as strength
 
 -- what names stand for: places in sections
 abbrev pub Names : Type 0
@@ -26,10 +24,6 @@ Bindings = List ℕ → Option Binding
 abbrev pub no_bindings : Bindings
 no_bindings name = None
 
--- each part of a section is in whole words of the text, and where nothing is asked for, in bytes of data
-abbrev pub no_steps : Steps
-no_steps = record { text_step = 4; rodata_step = 1; data_step = 1; bss_step = 1 }
-
 -- what one text of a program gives the others: its names, how these find them, its local labels, and of which steps its
 -- part of each section begins at a multiple
 pub record Source : Type 0 where
@@ -38,28 +32,25 @@ pub record Source : Type 0 where
   pub locals : List Local
   pub steps : Steps
 
-abbrev pub source_of : Text → Source
-source_of t = record {
-  names = λ name. get_by (λ key. bytes_eq name key.now) t.names;
-  bindings = λ name. get_by (λ key. bytes_eq name key.now) t.bindings;
-  locals = t.locals.items;
-  steps = t.steps;
-}
-
 abbrev pub no_source : Source
 no_source = record { names = no_names; bindings = no_bindings; locals = []; steps = no_steps }
 
--- how a name is found that is bound again: a weak or common one stays so, and one of its text's own isn't common
-abbrev pub bound_again : (old new : Binding) → Binding
-bound_again binding.Weak binding.Global = binding.Weak
-bound_again (binding.Common count step) binding.Global = binding.Common count step
-bound_again binding.Local (binding.Common count step) = binding.Local
-bound_again binding.Weak (binding.Common count step) = binding.Weak
-bound_again old new = new
+-- the text with this number: its names are known where all are, and else those that this pass has found so far
+abbrev pub source_seen : (known : Bool) → List Source → (number : ℕ) → Source → Source
+source_seen false all number so_far = so_far
+source_seen true all number so_far = unwrap_or (slice_get all number) so_far
 
-abbrev pub bound : Option Binding → Binding → Binding
-bound None new = new
-bound (Some old) new = bound_again old new
+-- how a name is found that is bound again: a weak or common one stays so, and one of its text's own isn't common
+abbrev pub binding_again : (old new : Binding) → Binding
+binding_again binding.Weak binding.Global = binding.Weak
+binding_again (binding.Common count step) binding.Global = binding.Common count step
+binding_again binding.Local (binding.Common count step) = binding.Local
+binding_again binding.Weak (binding.Common count step) = binding.Weak
+binding_again old new = new
+
+abbrev pub binding_with : Option Binding → Binding → Binding
+binding_with None new = new
+binding_with (Some old) new = binding_again old new
 
 -- a global name is strong; a weak or common one yields to it
 abbrev pub has_strength : Strength → Option Binding → Bool

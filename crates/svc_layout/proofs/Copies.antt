@@ -1,9 +1,9 @@
 -- Copies of bytes, one behind the other.
 use Rattle.std.proofs.Common.{◌≡◌, ℕ, zero, suc, ◌-◌, ◌<◌, List, Option, Some, None, refl, sym, ◌∙◌, arith}
-use Rattle.svc_draft.specs.declared.refusal.Refusal.{Refusal}
-use Rattle.svc_draft.specs.declared.refusal.Refusal.TheVariants as refusal
-use Rattle.svc_draft.specs.Areas.{with_more, with_copies}
-use Rattle.svc_draft.specs.Refusals.{Refuses}
+use Rattle.svc_layout.specs.declared.refusal.Refusal.{Refusal}
+use Rattle.svc_layout.specs.declared.refusal.Refusal.TheVariants as refusal
+use Rattle.svc_layout.specs.Areas.{with_more, with_copies}
+use Rattle.svc_layout.specs.Refusals.{Refuses}
 
 -- one copy more
 pub copies_on : (n : ℕ) (unit old new : List ℕ) → 0 < n → with_more unit old ≡ Some new → with_copies n unit old ≡ with_copies (n - 1) unit new

@@ -1,62 +1,9 @@
-// What a line says, the sections of a program, and places in them.
+// What a line says, and what is read next.
 
+use crate::section::{Section, Spot, Width};
+use crate::source::Binding;
 use svc_image::Version;
 use svc_rv32i::Register;
-
-/// A section of a program. Those of data stand one behind the other in the image, in this order.
-#[derive(Clone, Copy)]
-pub enum Section {
-    /// Instructions, from the address 0 on.
-    Text,
-    /// `.rodata`: the first of the data.
-    Rodata,
-    /// `.data`.
-    Data,
-    /// `.bss`: the last of the data.
-    Bss,
-}
-
-/// A local label, which other ones may have the number of.
-#[derive(Clone, Copy)]
-pub struct Local {
-    /// Its number.
-    pub number: u32,
-    /// Where it stands.
-    pub spot: Spot,
-}
-
-/// What a name stands for: a number of bytes from the beginning of a section. A plain number counts from the text's.
-#[derive(Clone, Copy)]
-pub struct Spot {
-    /// The section.
-    pub section: Section,
-    /// How many bytes behind its beginning.
-    pub offset: u32,
-}
-
-/// How other texts of a program find a name of one.
-#[derive(Clone, Copy)]
-pub enum Binding {
-    /// `.globl NAME`: it is the name's only one.
-    Global,
-    /// `.weak NAME`: it yields to a global one.
-    Weak,
-    /// `.local NAME`: they don't, as where no line binds a name.
-    Local,
-    /// `.comm NAME, SIZE, ALIGNMENT`: zeros that all texts share which name them so.
-    Common(u32, u32),
-}
-
-/// How many bytes a number takes.
-#[derive(Clone, Copy)]
-pub enum Width {
-    /// One.
-    Byte,
-    /// Two, the lowest first.
-    Half,
-    /// Four, the lowest first.
-    Word,
-}
 
 /// How the bytes of a string end.
 #[derive(Clone, Copy)]

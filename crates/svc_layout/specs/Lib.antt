@@ -1,0 +1,17 @@
+pub mod Options
+pub mod Refusals
+pub mod Steps
+pub mod Areas
+pub mod Sources
+pub mod Layouts
+pub mod Places
+pub mod Passes
+pub mod Addresses
+pub mod Contents
+pub mod Notes
+pub mod Directives
+pub mod Labels
+pub mod Zeros
+pub mod Texts
+pub mod Lines
+pub mod Images

@@ -1,0 +1,140 @@
+// The bytes of one section of data, and those of all of them.
+
+ghost use Rattle.std.specs.Prelude.{◌≡◌, ◌+◌, ◌%◌, ◌≤◌, List, ℕ, [], length, OnOk, IfOk, IfErr};
+ghost use Rattle.svc_image.specs.declared.error.ImageError.TheVariants as image_error;
+ghost use Rattle.svc_layout.specs.Areas.{with_more, with_zeros, with_copies, fill_up, data_of};
+ghost use Rattle.svc_layout.specs.Refusals.{Changes};
+
+use crate::refusal::Refusal;
+use crate::steps::padding;
+use std::alloc::Global;
+use std::marker::Model;
+use svc_image::{ImageError, MOST_WORDS};
+
+// The most bytes of an area.
+const MOST_BYTES: usize = 4 * MOST_WORDS as usize;
+
+/// The bytes of one section of data, at most 262,144.
+#[derive(Drop)]
+pub struct Area {
+    bytes: Vec<u8>,
+}
+
+impl Model for Area {
+    ghost Value = { List ℕ };
+
+    ghost view = { λ a. a.bytes.items };
+
+    ghost invariant = { λ a. length a.bytes.items ≤ 262144 };
+}
+
+impl Area {
+    /// No bytes yet.
+    pub fn new(alloc: Global) -> Area
+        ensures { result ≡ [] }
+    {
+        Area {
+            bytes: Vec::new(alloc),
+        }
+    }
+
+    /// How many bytes there are.
+    pub fn size(&self) -> u32
+        ensures size { result ≡ length self.now }
+        ensures few { result ≤ 262144 }
+    {
+        self.bytes.len() as u32
+    }
+
+    /// Puts bytes behind the others.
+    ///
+    /// Errors: [`Refusal::FullData`] where there is no room for all, and [`Refusal::Memory`].
+    #[tactic(auto, unfolding(crate::specs::Areas::with_more))]
+    pub fn push(&mut self, more: &[u8]) -> Result<(), Refusal>
+        ensures { Changes result (with_more more.now self.old) self.new }
+    {
+        if more.len() > MOST_BYTES - self.bytes.len() {
+            return Err(Refusal::FullData);
+        }
+        self.bytes.extend_from_slice(more)?;
+        Ok(())
+    }
+
+    /// Puts so many zeros behind the bytes.
+    ///
+    /// Errors: as [`Area::push`].
+    #[tactic(auto, unfolding(crate::specs::Areas::with_zeros))]
+    pub fn push_zeros(&mut self, count: u32) -> Result<(), Refusal>
+        ensures { Changes result (with_zeros count self.old) self.new }
+    {
+        let size = self.bytes.len();
+        if count as usize > MOST_BYTES - size {
+            return Err(Refusal::FullData);
+        }
+        self.bytes.resize(size + count as usize, 0)?;
+        Ok(())
+    }
+
+    /// Puts so many copies of bytes behind the others. Where it errs, some of them may stand there.
+    ///
+    /// Errors: as [`Area::push`].
+    #[tactic(auto, using(crate::proofs::Copies::copies_on, crate::proofs::Copies::copies_refused, crate::proofs::Copies::copies_done))]
+    pub fn push_copies(&mut self, count: u32, unit: &[u8]) -> Result<(), Refusal>
+        ensures { Changes result (with_copies count unit.now self.old) self.new }
+    {
+        let mut left = count;
+        while left > 0 {
+            self.push(unit)?;
+            left -= 1;
+        }
+        Ok(())
+    }
+}
+
+// Puts zeros behind bytes up to a multiple of a step.
+#[tactic(auto, unfolding(crate::specs::Areas::fill_up))]
+fn fill_up(all: &mut Vec<u8>, step: u32) -> Result<(), ImageError>
+    requires step { step ≤ 65536 }
+    requires all { length all.old.items ≤ 1048576 }
+    ensures ok { OnOk result (all.new.items ≡ fill_up step all.old.items) }
+    ensures few { length all.new.items ≤ length all.old.items + 65536 }
+    ensures whole { OnOk result (step ≡ 4 → length all.new.items % 4 ≡ 0) }
+    ensures err { IfErr result (λ e. e ≡ image_error.Memory) }
+{
+    let size = all.len();
+    let zeros = padding(step, size as u32);
+    all.resize(size + zeros as usize, 0)?;
+    Ok(())
+}
+
+/// The data of an image: the sections one behind the other, the last two each from a multiple of a step on, in whole
+/// words, and at least one word.
+///
+/// Errors: [`ImageError::Memory`].
+#[tactic(auto, unfolding(crate::specs::Areas::data_of))]
+pub fn join(
+    alloc: Global,
+    data_step: u32,
+    bss_step: u32,
+    rodata: &Area,
+    middle: &Area,
+    bss: &Area,
+) -> Result<Vec<u8>, ImageError>
+    requires data_step { data_step ≤ 65536 }
+    requires bss_step { bss_step ≤ 65536 }
+    ensures ok { IfOk result (λ all. all.items ≡ data_of data_step bss_step rodata.now middle.now bss.now) }
+    ensures whole { IfOk result (λ all. length all.items % 4 ≡ 0) }
+    ensures err { IfErr result (λ e. e ≡ image_error.Memory) }
+{
+    let mut all = Vec::new(alloc);
+    all.extend_from_slice(&rodata.bytes)?;
+    fill_up(&mut all, data_step)?;
+    all.extend_from_slice(&middle.bytes)?;
+    fill_up(&mut all, bss_step)?;
+    all.extend_from_slice(&bss.bytes)?;
+    fill_up(&mut all, 4)?;
+    if all.is_empty() {
+        all.extend_from_slice(&[0, 0, 0, 0])?;
+    }
+    Ok(all)
+}

@@ -1,0 +1,16 @@
+//! What the lines of a program say, and where that stands in the image that they make.
+#![tactic(auto)]
+
+mod area;
+mod refusal;
+mod section;
+mod source;
+mod statement;
+mod steps;
+
+pub use area::{Area, join};
+pub use refusal::Refusal;
+pub use section::{Section, Spot, Width, eight_bytes};
+pub use source::{Binding, Local, Strength};
+pub use statement::{Ending, Next, Statement};
+pub use steps::{Steps, greater_step, multiple, padding};
