@@ -21,8 +21,8 @@ pub record Lacks (text : List ℕ) (begun ended : Layout) : Type 0 where
   pub is : IsPass text begun ended
   pub lacks : lacks ended ≡ true
 
--- a first pass finds the names; where it lacks some, or the place of a text, it is made once more with what it found, so
--- often at most
+-- a first pass finds the names; where it lacks some, or the place of a text, it is made once more with what it found,
+-- so often at most
 abbrev pub Finds : ℕ → List ℕ → (begun first : Layout) → Type 0
 Finds zero text begun first = IsPass text begun first
 Finds (suc n) text begun first =

@@ -37,7 +37,7 @@ pub enum Refusal {
     /// The burst doesn't start where the unit's task is: its epoch or its start core is a different
     /// one.
     Stale,
-    /// The burst looked at text that isn't the machine's image's.
+    /// The burst looked at another text than that of the machine's image.
     ForeignText,
     /// A task is active, and the guess is not an entry.
     NotEntry,

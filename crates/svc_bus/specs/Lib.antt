@@ -1,6 +1,6 @@
 pub mod Lines
 pub mod Value
-pub mod Observed
+pub mod State
 pub mod Calls
 pub mod Reads
 pub mod Opened

@@ -7,7 +7,7 @@ ghost use Rattle.svc_vol.specs.declared.list.TheConstants.{CAPACITY};
 ghost use Rattle.svc_bus_laws.specs.LineTable.{opening_table};
 ghost use Rattle.svc_bus_laws.specs.Steps.{read, write};
 ghost use Rattle.svc_bus_laws.specs.BusState.{Agrees};
-ghost use Rattle.svc_bus.specs.Observed.{observed};
+ghost use Rattle.svc_bus.specs.State.{bus_state};
 ghost use Rattle.svc_bus.specs.Opened.{AreEmpty};
 
 use arrayvec::ArrayVec;
@@ -22,7 +22,7 @@ use svc_vol::{HeldLine, VersionList};
 
 /// The bus: it serves one call at a time, and each is one step.
 ///
-/// What callers may know of it is `observed`: the lines with their bits, each word's order of dirty
+/// What callers may know of it is `bus_state`: the lines with their bits, each word's order of dirty
 /// lines, spilled values, backing memory and active tasks. The clauses of a step are stated for
 /// every line table that agrees with that.
 #[derive(Drop)]
@@ -91,7 +91,7 @@ impl Bus {
     /// allocates all that it will ever need; no other call takes memory.
     ///
     /// Errors: [`OpenError::Memory`].
-    #[tactic(auto, unfolding(crate::specs::Observed::observed))]
+    #[tactic(auto, unfolding(crate::specs::State::bus_state))]
     pub fn open(
         alloc: Global,
         units: u32,
@@ -106,8 +106,8 @@ impl Bus {
         requires some_ways { 1 ≤ ways }
         requires few_ways { ways ≤ MAX_WAYS }
         requires few_words { length memory.items < 2 ^ 32 }
-        ensures table { IfOk result (λ bus. Agrees (observed bus) (opening_table units sets ways memory.items)) }
-        ensures probes { IfOk result (λ bus. (observed bus).probes ≡ 0) }
+        ensures table { IfOk result (λ bus. Agrees (bus_state bus) (opening_table units sets ways memory.items)) }
+        ensures probes { IfOk result (λ bus. (bus_state bus).probes ≡ 0) }
     {
         let caches = open_caches(alloc, units, sets, ways)?;
         let spill = Spill::open(alloc, memory.len())?;

@@ -2,7 +2,7 @@
 
 ghost use Rattle.std.specs.Prelude.{◌≡◌, ◌<◌, ℕ, length};
 ghost use Rattle.svc_retire.specs.Caches.{cache_at};
-ghost use Rattle.svc_bus.specs.Observed.{observed};
+ghost use Rattle.svc_bus.specs.State.{bus_state};
 ghost use Rattle.svc_bus.specs.Sizes.{AreOfOneSize};
 
 use crate::Bus;
@@ -22,9 +22,9 @@ fn copy_caches(caches: &mut [Cache], others: &[Cache])
 
 impl Bus {
     /// It becomes equal to another bus of its size. It takes no memory.
-    #[tactic(auto, unfolding(crate::specs::Observed::observed))]
+    #[tactic(auto, unfolding(crate::specs::State::bus_state))]
     pub fn copy_from(&mut self, other: &Bus)
-        requires { AreOfOneSize (observed self.old) (observed other.now) }
+        requires { AreOfOneSize (bus_state self.old) (bus_state other.now) }
         ensures { self.new ≡ other.now }
     {
         copy_caches(&mut self.caches, &other.caches);

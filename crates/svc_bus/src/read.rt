@@ -10,7 +10,7 @@ ghost use Rattle.svc_cache.specs.Lines.{EndsBelow};
 ghost use Rattle.svc_vol.specs.Lines.{lines_in};
 ghost use Rattle.svc_retire.specs.Caches.{cache_at, held_line, SameSizes};
 ghost use Rattle.svc_retire.specs.Purges.{committed_in, HasRoomFor};
-ghost use Rattle.svc_bus.specs.Observed.{observed};
+ghost use Rattle.svc_bus.specs.State.{bus_state};
 ghost use Rattle.svc_bus.specs.Requests.{IsBusRequest};
 ghost use Rattle.svc_bus.specs.Room.{full_in};
 ghost use Rattle.svc_bus.specs.Carried.{is_hit, lines_after, memory_after};
@@ -69,16 +69,16 @@ impl Bus {
     ///
     /// Errors: [`Refusal::SetFull`] if the unit's cache has no line of the word and no room for
     /// one. Then nothing changes.
-    #[tactic(auto, unfolding(crate::specs::Observed::observed))]
+    #[tactic(auto, unfolding(crate::specs::State::bus_state))]
     pub fn read(&mut self, unit: UnitId, word: WordAddr) -> Result<(u32, Served), Refusal>
-        requires at_work { IsAtWork (observed self.old) unit.0 }
-        requires in_memory { word.0 < (observed self.old).words }
-        ensures refused { IsRefusedIfFull (observed self.old) unit.0 word.0 result }
+        requires at_work { IsAtWork (bus_state self.old) unit.0 }
+        requires in_memory { word.0 < (bus_state self.old).words }
+        ensures refused { IsRefusedIfFull (bus_state self.old) unit.0 word.0 result }
         ensures unchanged { OnErr result (self.new ≡ self.old) }
-        ensures value { GivesView (observed self.old) unit.0 word.0 result }
-        ensures served { NamesSupplier (observed self.old) unit.0 word.0 result }
-        ensures table { AgreesAfterRead (observed self.old) (observed self.new) unit.0 word.0 result }
-        ensures probes { IfOk result (λ r. LookUps r.1 (observed self.new).probes (observed self.old).caches) }
+        ensures value { GivesView (bus_state self.old) unit.0 word.0 result }
+        ensures served { NamesSupplier (bus_state self.old) unit.0 word.0 result }
+        ensures table { AgreesAfterRead (bus_state self.old) (bus_state self.new) unit.0 word.0 result }
+        ensures probes { IfOk result (λ r. LookUps r.1 (bus_state self.new).probes (bus_state self.old).caches) }
     {
         let mut look = Probes::new();
         match self.own_line(unit, word, &mut look) {
@@ -91,9 +91,9 @@ impl Bus {
     }
 
     // The unit's line of the word.
-    #[tactic(auto, unfolding(crate::specs::Observed::observed))]
+    #[tactic(auto, unfolding(crate::specs::State::bus_state))]
     fn own_line(&self, unit: UnitId, word: WordAddr, probes: &mut Probes) -> Option<Line>
-        requires known { unit.0 < (observed self.now).caches }
+        requires known { unit.0 < (bus_state self.now).caches }
         requires none { (probes.old.searches ≡ 0) × (probes.old.places ≡ 0) }
         ensures line { lines_in self.now.caches word.0 unit.0 ≡ option_map seen_line result }
         ensures valid { IfSome result (λ line. (bits_of line.bits).valid ≡ true) }
@@ -103,7 +103,7 @@ impl Bus {
     }
 
     // Reads the word once the unit's own line is known to be no hit. It searches the other caches.
-    #[tactic(auto, unfolding(crate::specs::Observed::observed))]
+    #[tactic(auto, unfolding(crate::specs::State::bus_state))]
     fn read_beside(
         &mut self,
         unit: UnitId,
@@ -111,17 +111,17 @@ impl Bus {
         line: Option<Line>,
         mut probes: Probes,
     ) -> Result<(u32, Served), Refusal>
-        requires at_work { IsAtWork (observed self.old) unit.0 }
-        requires in_memory { word.0 < (observed self.old).words }
+        requires at_work { IsAtWork (bus_state self.old) unit.0 }
+        requires in_memory { word.0 < (bus_state self.old).words }
         requires line { lines_in self.old.caches word.0 unit.0 ≡ option_map seen_line line }
         requires idle { ForSome line (λ own. is_active (bits_of own.bits) ≡ false) }
         requires one { IsOne probes }
-        ensures refused { IsRefusedIfFull (observed self.old) unit.0 word.0 result }
+        ensures refused { IsRefusedIfFull (bus_state self.old) unit.0 word.0 result }
         ensures unchanged { OnErr result (self.new ≡ self.old) }
-        ensures value { GivesView (observed self.old) unit.0 word.0 result }
-        ensures served { NamesSupplier (observed self.old) unit.0 word.0 result }
-        ensures table { AgreesAfterRead (observed self.old) (observed self.new) unit.0 word.0 result }
-        ensures probes { IfOk result (λ r. LookUps r.1 (observed self.new).probes (observed self.old).caches) }
+        ensures value { GivesView (bus_state self.old) unit.0 word.0 result }
+        ensures served { NamesSupplier (bus_state self.old) unit.0 word.0 result }
+        ensures table { AgreesAfterRead (bus_state self.old) (bus_state self.new) unit.0 word.0 result }
+        ensures probes { IfOk result (λ r. LookUps r.1 (bus_state self.new).probes (bus_state self.old).caches) }
     {
         let place = place_of(&self.queue, unit);
         self.list

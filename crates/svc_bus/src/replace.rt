@@ -10,7 +10,7 @@ ghost use Rattle.svc_bus_laws.specs.Steps.{replace, with_at};
 ghost use Rattle.svc_bus_laws.specs.BusLine.{version_of_line};
 ghost use Rattle.svc_bus_laws.specs.BusState.{Agrees};
 ghost use Rattle.svc_vcl.specs.Described.{bus_line_of};
-ghost use Rattle.svc_bus.specs.Observed.{observed};
+ghost use Rattle.svc_bus.specs.State.{bus_state};
 ghost use Rattle.svc_bus.specs.Calls.{replace_refusal};
 
 use crate::Bus;
@@ -49,15 +49,15 @@ impl Bus {
     /// Errors: [`Refusal::NotResident`] if the unit has no valid line of the word;
     /// [`Refusal::Pinned`] if the line is active and the unit doesn't run the head. Then nothing
     /// changes.
-    #[tactic(auto, unfolding(crate::specs::Observed::observed))]
+    #[tactic(auto, unfolding(crate::specs::State::bus_state))]
     pub fn replace(&mut self, unit: UnitId, word: WordAddr) -> Result<(), Refusal>
-        requires known { unit.0 < (observed self.old).caches }
-        ensures refused { MatchResult result (λ _. replace_refusal (observed self.old) unit.0 word.0 ≡ None)
-            (λ e. replace_refusal (observed self.old) unit.0 word.0 ≡ Some e) }
+        requires known { unit.0 < (bus_state self.old).caches }
+        ensures refused { MatchResult result (λ _. replace_refusal (bus_state self.old) unit.0 word.0 ≡ None)
+            (λ e. replace_refusal (bus_state self.old) unit.0 word.0 ≡ Some e) }
         ensures unchanged { OnErr result (self.new ≡ self.old) }
-        ensures table { (t : LineTable) → Agrees (observed self.old) t
-            → OnOk result (Agrees (observed self.new) (replace t unit.0 word.0)) }
-        ensures probes { (observed self.new).probes ≡ (observed self.old).probes }
+        ensures table { (t : LineTable) → Agrees (bus_state self.old) t
+            → OnOk result (Agrees (bus_state self.new) (replace t unit.0 word.0)) }
+        ensures probes { (bus_state self.new).probes ≡ (bus_state self.old).probes }
     {
         let mut probes = Probes::new();
         let Some(line) = self.caches[unit.0 as usize].lookup(word, &mut probes) else {

@@ -1,7 +1,7 @@
 //! The committed versions of a word, in their order.
 
 ghost use Rattle.std.specs.Prelude.{◌≡◌, ◌<◌, ◌≤◌, length};
-ghost use Rattle.svc_bus.specs.Observed.{observed};
+ghost use Rattle.svc_bus.specs.State.{bus_state};
 ghost use Rattle.svc_bus.specs.Versions.{AreItsVersions, version_units};
 
 use crate::Bus;
@@ -30,10 +30,10 @@ fn units_of(committed: &[HeldLine]) -> UnitList
 impl Bus {
     /// The units that have a committed version of the word, a committed line that was stored to. The unit of the oldest
     /// version is the first.
-    #[tactic(auto, unfolding(crate::specs::Observed::observed))]
+    #[tactic(auto, unfolding(crate::specs::State::bus_state))]
     pub fn committed_versions(&self, word: WordAddr) -> UnitList
-        requires in_memory { word.0 < (observed self.now).words }
-        ensures order { AreItsVersions (observed self.now) word.0 result.items }
+        requires in_memory { word.0 < (bus_state self.now).words }
+        ensures order { AreItsVersions (bus_state self.now) word.0 result.items }
     {
         let list = VersionList::of(&self.caches, &self.queue, word, &mut Probes::new());
         units_of(list.committed())

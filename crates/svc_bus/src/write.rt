@@ -7,7 +7,7 @@ ghost use Rattle.svc_bus_laws.specs.Versioned.{victim_answer};
 ghost use Rattle.svc_bus_laws.specs.LineTable.{LineTable, versioned_map};
 ghost use Rattle.svc_bus_laws.specs.Steps.{write};
 ghost use Rattle.svc_bus_laws.specs.BusState.{Agrees};
-ghost use Rattle.svc_bus.specs.Observed.{observed};
+ghost use Rattle.svc_bus.specs.State.{bus_state};
 ghost use Rattle.svc_bus.specs.Calls.{IsAtWork, RunsAt, victim_shown};
 ghost use Rattle.svc_bus.specs.Looking.{LookUpsFrom};
 ghost use Rattle.svc_bus.specs.Reads.{IsRefusedIfFull};
@@ -49,16 +49,16 @@ impl Bus {
         word: WordAddr,
         value: u32,
     ) -> Result<Option<Victim>, Refusal>
-        requires at_work { IsAtWork (observed self.old) unit.0 }
-        requires in_memory { word.0 < (observed self.old).words }
-        ensures refused { IsRefusedIfFull (observed self.old) unit.0 word.0 result }
+        requires at_work { IsAtWork (bus_state self.old) unit.0 }
+        requires in_memory { word.0 < (bus_state self.old).words }
+        ensures refused { IsRefusedIfFull (bus_state self.old) unit.0 word.0 result }
         ensures unchanged { OnErr result (self.new ≡ self.old) }
-        ensures victim { (t : LineTable) → (place : ℕ) → RunsAt (observed self.old) unit.0 t place
+        ensures victim { (t : LineTable) → (place : ℕ) → RunsAt (bus_state self.old) unit.0 t place
             → IfOk result (λ v. option_map victim_shown v ≡ victim_answer (versioned_map t) place word.0) }
-        ensures table { (t : LineTable) → (place : ℕ) → RunsAt (observed self.old) unit.0 t place
-            → OnOk result (Agrees (observed self.new) (write t place word.0 value)) }
-        ensures probes { OnOk result (LookUpsFrom (observed self.old).caches (observed self.new).probes
-            (observed self.old).caches) }
+        ensures table { (t : LineTable) → (place : ℕ) → RunsAt (bus_state self.old) unit.0 t place
+            → OnOk result (Agrees (bus_state self.new) (write t place word.0 value)) }
+        ensures probes { OnOk result (LookUpsFrom (bus_state self.old).caches (bus_state self.new).probes
+            (bus_state self.old).caches) }
     {
         let place = place_of(&self.queue, unit);
         let mut probes = Probes::new();

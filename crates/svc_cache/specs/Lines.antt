@@ -45,7 +45,7 @@ is_in_set sets lines word other = (other % sets == word % sets) && is_some (line
 abbrev pub is_committed_in_set : (sets : ℕ) → LineMap → (word other : ℕ) → Bool
 is_committed_in_set sets lines word other = is_in_set sets lines word other && is_committed_line (lines other)
 
--- the word has no line, and below the bound as many words of its set have one as there are ways
+-- the word has no line, and as many words of its set, below the bound, have lines as there are ways
 abbrev pub is_set_full : (sets ways bound : ℕ) → LineMap → ℕ → Bool
 is_set_full sets ways bound lines word =
     is_none (lines word) && nat_le ways (how_many bound (is_in_set sets lines word))

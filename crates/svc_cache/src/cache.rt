@@ -79,7 +79,7 @@ impl Cache {
         self.places.copy_from_slice(&other.places);
     }
 
-    // Where the places of the word's set begin. The sets are a power of two, so a mask is the remainder.
+    // Where the places of the word's set begin. The sets are a power of two, so a mask gives the remainder.
     #[tactic(auto, using(crate::proofs::Powers::mask_of_power, crate::proofs::Powers::power_positive))]
     fn row_start(&self, word: WordAddr) -> usize
         ensures start { result ≡ (word.0 % self.now.sets) * self.now.ways }

@@ -54,7 +54,7 @@ impl CachePlace {
         self.is_held() && self.word.0 == word.0
     }
 
-    /// Of two places that hold lines, this one's leaves first when a line has to: a committed line
+    /// This place's line leaves before the other's when one of them has to: a committed line
     /// before an active one, otherwise the lower word.
     pub fn precedes(&self, other: &CachePlace) -> bool
         ensures { result ≡ precedes self.now other.now }

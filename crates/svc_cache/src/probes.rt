@@ -2,7 +2,7 @@
 
 ghost use Rattle.std.specs.Prelude.{◌≡◌};
 
-/// The work that look-ups have done, counted for the caller that passes it in.
+/// Counts the work of look-ups: a caller passes it to each of them.
 #[derive(Clone, Copy, Debug, Default, PartialEq, Eq)]
 pub struct Probes {
     /// How many times a cache's set was searched.

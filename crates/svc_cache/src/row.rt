@@ -38,7 +38,7 @@ pub(crate) fn find(row: &[CachePlace], word: WordAddr, probes: &mut Probes) -> O
     None
 }
 
-/// What the first places of a row show of the room in it.
+/// What a survey of a row's first places has found.
 #[derive(Clone, Copy)]
 struct Survey {
     /// An empty place among them.

@@ -4,7 +4,7 @@ use Rattle.svc_image.specs.Image.{Image}
 use Rattle.svc_core_laws.specs.Bytes.{IsMemory, word_at}
 use Rattle.svc_core_laws.specs.State.{State}
 use Rattle.svc_core_laws.specs.Turns.{Turn, data_words}
-use Rattle.svc_core_laws.specs.Program.{Memory, Run, part, exposed, wrote, output}
+use Rattle.svc_core_laws.specs.Program.{Memory, Run, part, exposed_words, wrote, output}
 use Rattle.svc_core_laws.specs.Words.{program}
 use Rattle.svc_core_laws.specs.Sequence.{plain_part, IsSame, IsSamePart}
 use Rattle.svc_core_laws.proofs.Central.{part_agrees}
@@ -23,7 +23,7 @@ left_same img m other t u r s first second e = record {
 }
 
 pub same_plain : (img : Image) (entry turns : ℕ) (m other : List ℕ) → IsMemory (data_words img) m → IsMemory (data_words img) other
-    → ((a : ℕ) → exposed (part (program img) entry turns (word_at m)).log a ≡ true → word_at m a ≡ word_at other a)
+    → ((a : ℕ) → exposed_words (part (program img) entry turns (word_at m)).log a ≡ true → word_at m a ≡ word_at other a)
     → IsSamePart (wrote (part (program img) entry turns (word_at m)).log) (plain_part img entry turns m) (plain_part img entry turns other)
 same_plain img entry turns m other is other_is agree =
     left_same img (word_at m) (word_at other) (plain_part img entry turns m) (plain_part img entry turns other)

@@ -8,7 +8,8 @@ ghost use Rattle.svc_core_laws.specs.State.{State};
 ghost use Rattle.svc_core_laws.specs.Bytes.{IsMemory, number_at, word_at, with_bytes, bytes_from, word_with_bytes};
 ghost use Rattle.svc_core_laws.specs.Bytes.{bytes_of};
 ghost use Rattle.svc_core_laws.specs.Turns.{data_words, plain, then_plain};
-ghost use Rattle.svc_core_laws.specs.Program.{Program, IsProgram, Memory, part, turn, seq, exposed, wrote, act, output};
+ghost use Rattle.svc_core_laws.specs.Program.{Program, IsProgram, Memory, part, turn, seq, exposed_words, wrote, act};
+ghost use Rattle.svc_core_laws.specs.Program.{output};
 ghost use Rattle.svc_core_laws.specs.Program as want;
 ghost use Rattle.svc_core_laws.specs.Words.{program, wants};
 ghost use Rattle.svc_core_laws.specs.Sequence.{plain_part, plain_task, plain_seq, IsSame, IsSamePart, IsSameSeq};
@@ -18,7 +19,7 @@ ghost use Rattle.svc_core_laws.specs.Bursts.{Advance, IsAdvance};
 /// actions, so the same output, exposed words, and written words with their values.
 pub fn same_part<C>()
     ensures { (p : Program C) → (entry turns : ℕ) → (m other : Memory)
-        → ((a : ℕ) → exposed (part p entry turns m).log a ≡ true → m a ≡ other a)
+        → ((a : ℕ) → exposed_words (part p entry turns m).log a ≡ true → m a ≡ other a)
         → part p entry turns m ≡ part p entry turns other }
 {}
 
@@ -27,7 +28,8 @@ pub fn same_part<C>()
 pub fn same_plain_part()
     ensures { (img : Image) → (entry turns : ℕ) → (m other : List ℕ)
         → IsMemory (data_words img) m → IsMemory (data_words img) other
-        → ((a : ℕ) → exposed (part (program img) entry turns (word_at m)).log a ≡ true → word_at m a ≡ word_at other a)
+        → ((a : ℕ) → exposed_words (part (program img) entry turns (word_at m)).log a ≡ true
+        → word_at m a ≡ word_at other a)
         → IsSamePart (wrote (part (program img) entry turns (word_at m)).log)
         (plain_part img entry turns m) (plain_part img entry turns other) }
 {}

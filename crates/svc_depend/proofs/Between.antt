@@ -1,7 +1,7 @@
 -- A tracker before the first task, and between two.
 use Rattle.std.proofs.Common.{ℕ, zero, suc, ◌≡◌, ◌+◌, ◌<◌, ◌≤◌, false, List, length, get_or, None, refl, sym, ◌∙◌, subst, arith}
 use Rattle.std.proofs.lemmas.Bool.{ne_eqb}
-use Rattle.svc_core_laws.specs.Program.{Program, exposed, no_reads, no_words, said, wrote}
+use Rattle.svc_core_laws.specs.Program.{Program, exposed_words, no_reads, no_words, task_log, wrote}
 use Rattle.svc_depend_laws.specs.Chain.{Times}
 use Rattle.svc_depend_laws.specs.Counts.{is_written, readers, writers}
 use Rattle.svc_depend_laws.specs.Over.{count_over, least_over}
@@ -44,7 +44,7 @@ fresh p t task needs memory stores nearest now words = record {
 }
 
 -- a word once the task that runs has ended
-next_word : {C : Type 0} (p : Program C) (task word time : ℕ) (x : Word) → IsWord p task word (exposed (said p task) word) (is_written (wrote (said p task)) word) time x → IsWord p (suc task) word false false time x
+next_word : {C : Type 0} (p : Program C) (task word time : ℕ) (x : Word) → IsWord p task word (exposed_words (task_log p task) word) (is_written (wrote (task_log p task)) word) time x → IsWord p (suc task) word false false time x
 next_word p task word time x h =
     let low : x.reader ≤ task + 1 = h.no_later in
     record {
@@ -57,7 +57,7 @@ next_word p task word time x h =
       nearest = h.nearest;
     }
 
-pub next : {C : Type 0} (p : Program C) (times : Times) (now : ℕ) (s t : Tracker) → IsTracked p (exposed (said p s.task)) (wrote (said p s.task)) times now s
+pub next : {C : Type 0} (p : Program C) (times : Times) (now : ℕ) (s t : Tracker) → IsTracked p (exposed_words (task_log p s.task)) (wrote (task_log p s.task)) times now s
     → t.task ≡ s.task + 1 → t.words.items ≡ s.words.items → t.needs ≡ 0 → t.memory ≡ 0 → t.stores ≡ 0 → t.nearest ≡ None → t.time ≡ 0 → IsTracked p no_reads no_words times 0 t
 next p times now s t h task words needs memory stores nearest now_is =
     let one : suc s.task ≡ t.task = omega (arith, task) in

@@ -2,7 +2,7 @@
 use Rattle.std.proofs.Common.{ℕ, suc, ◌≡◌, ◌+◌, ◌<◌, Bool, true, false, cond, max, ◌&&◌, ◌||◌, List, length, get_or, Option, Some, None, refl, sym, ap, ap₂, ◌∙◌, subst, arith, is_some, is_none, inl, inr, get_or-set_same, get_or-set_other, add-one}
 use Rattle.std.specs.Prelude.{slice_set, IfSome}
 use Rattle.std.proofs.lemmas.Bool.{cases_eq, eq-eqb, ne_eqb}
-use Rattle.svc_core_laws.specs.Program.{Memory, Want, Local, Load, Store, Narrow, Emit, Program, Action, Words, with_word, with_read, wrote, exposed, act}
+use Rattle.svc_core_laws.specs.Program.{Memory, Want, Local, Load, Store, Narrow, Emit, Program, Action, Words, with_word, with_read, wrote, exposed_words, act}
 use Rattle.svc_depend_laws.specs.Needs.{comes_from}
 use Rattle.svc_depend_laws.specs.Over.{lesser, count_over, least_over}
 use Rattle.svc_depend_laws.specs.Counts.{back_to, distance_in, is_from_memory, is_written}
@@ -205,8 +205,8 @@ value_of (Emit v c) m = 0
 
 -- what the actions are after it
 turn_done : {C D : Type 0} (p : Program D) (w : Want C) (m : Memory) (log : List Action) (times : Times) (time : ℕ) (t : Tracker)
-    → IsTracked p (read_if (word_read w) (wrote log) (exposed log)) (written_if (word_written w) (value_of w m) (wrote log)) times time t
-    → IsTracked p (exposed (act w m log).log) (wrote (act w m log).log) times time t
+    → IsTracked p (read_if (word_read w) (wrote log) (exposed_words log)) (written_if (word_written w) (value_of w m) (wrote log)) times time t
+    → IsTracked p (exposed_words (act w m log).log) (wrote (act w m log).log) times time t
 unfolding value_of
 turn_done p (Local c) m log times time t h = h
 turn_done p (Load a value go) m log times time t h = h
@@ -221,13 +221,13 @@ read_size (Some word) s t u at has ticks = sym has.same.size ∙ ap (λ (x : Tra
 pub after_turn : {C D : Type 0} (p : Program D) (w : Want C) (m : Memory) (log : List Action) (clock : Clock) (reads writes : Option ℕ) (s t u v : Tracker) (at : ℕ)
     → IfSome reads (λ a. a < length s.words.items) → IfSome writes (λ a. a < length s.words.items) → reads ≡ word_read w → writes ≡ word_written w
     → HasReadIf reads s t at → u ≡ ticked at t → HasWrittenIf writes u v
-    → IsTracked p (exposed log) (wrote log) clock.stores clock.now s
-    → IsTracked p (exposed (act w m log).log) (wrote (act w m log).log) (tick w log clock).stores (tick w log clock).now v
+    → IsTracked p (exposed_words log) (wrote log) clock.stores clock.now s
+    → IsTracked p (exposed_words (act w m log).log) (wrote (act w m log).log) (tick w log clock).stores (tick w log clock).now v
 after_turn p w m log clock reads writes s t u v at in_reads in_writes is_read is_written_ has_read has_ticked has_written h =
     let o : Option ℕ = word_read w in
-    let first = after_read_if p (exposed log) (wrote log) clock.stores clock.now o s t at (subst (λ (x : Option ℕ). IfSome x (λ a. a < length s.words.items)) is_read in_reads) h (subst (λ (x : Option ℕ). HasReadIf x s t at) is_read has_read) in
-    let now : ℕ = suc (max clock.now (ready (exposed log) (wrote log) clock.stores o)) in
-    let shown : ℕ → Bool = read_if o (wrote log) (exposed log) in
+    let first = after_read_if p (exposed_words log) (wrote log) clock.stores clock.now o s t at (subst (λ (x : Option ℕ). IfSome x (λ a. a < length s.words.items)) is_read in_reads) h (subst (λ (x : Option ℕ). HasReadIf x s t at) is_read has_read) in
+    let now : ℕ = suc (max clock.now (ready (exposed_words log) (wrote log) clock.stores o)) in
+    let shown : ℕ → Bool = read_if o (wrote log) (exposed_words log) in
     let second : IsTracked p shown (wrote log) clock.stores now u =
     subst (IsTracked p shown (wrote log) clock.stores now) (sym has_ticked)
     (subst (λ (n : ℕ). IsTracked p shown (wrote log) clock.stores (suc (max clock.now n)) (ticked at t)) first.1 (after_tick p shown (wrote log) clock.stores clock.now at t first.0)) in

@@ -9,7 +9,7 @@ use Rattle.std.proofs.lemmas.Cmp.{nat_cmp_total, on_total, then_total}
 use Rattle.std.proofs.lemmas.Bool.{cases_eq, cases_order, eq-eqb, ne_eqb, lt-ltb, le-ltb}
 use Rattle.std.proofs.lemmas.List.Sums.{sum_by-cons}
 use Rattle.std.proofs.lemmas.List.Sorted.{ranks_by, sorted_far, sum_by-IsPermutation}
-use Rattle.svc_core_laws.specs.Program.{Program, exposed, said}
+use Rattle.svc_core_laws.specs.Program.{Program, exposed_words, task_log}
 use Rattle.svc_depend_laws.specs.Needs.{comes_from}
 use Rattle.svc_depend_laws.specs.Pairs.{is_from, is_needed_of, words_of}
 use Rattle.svc_depend_laws.proofs.Nearests.{origin_is}
@@ -82,15 +82,15 @@ both_hold true b h = (refl, h)
 both_hold false b h = absurd (cc)
 
 -- links in order have the words that the task needs, if those are of the data
-pub words_are : {C : Type 0} (p : Program C) (words task on : ℕ) (links : List Link) → ((word : ℕ) → exposed (said p task) word ≡ true → word < words) → IsOrdered links
-    → AreLinks p task (exposed (said p task)) links → words_on links on ≡ words_of p words task on
+pub words_are : {C : Type 0} (p : Program C) (words task on : ℕ) (links : List Link) → ((word : ℕ) → exposed_words (task_log p task) word ≡ true → word < words) → IsOrdered links
+    → AreLinks p task (exposed_words (task_log p task)) links → words_on links on ≡ words_of p words task on
 words_are p words task on links inside order are =
-    once (is_needed_of p task (exposed (said p task)) on) 0 words (words_on links on)
+    once (is_needed_of p task (exposed_words (task_log p task)) on) 0 words (words_on links on)
     (record {
       rises = words_rise on links order;
       below = λ v less. absurd (omega (arith, less));
       from = λ v le. words_counted on v links ∙ are on v;
-      ends = λ v needed. (let low = inside v (both_hold (exposed (said p task) v) (is_from on (comes_from p task v)) needed).0 in omega (arith, low));
+      ends = λ v needed. (let low = inside v (both_hold (exposed_words (task_log p task) v) (is_from on (comes_from p task v)) needed).0 in omega (arith, low));
     })
 
 -- ---- the tasks that are needed

@@ -7,7 +7,7 @@ use Rattle.std.proofs.lemmas.List.Sums.{sum_by-append}
 use Rattle.svc_image.specs.Image.{Image}
 use Rattle.svc_core_laws.specs.State.{State, limit_of}
 use Rattle.svc_core_laws.specs.declared.end.End.{End}
-use Rattle.svc_core_laws.specs.Program.{Memory, Program, Run, Want, Local, Load, Store, Narrow, Emit, Action, Words, act, exposed, no_reads, no_words, over, part, with_read, wrote}
+use Rattle.svc_core_laws.specs.Program.{Memory, Program, Run, Want, Local, Load, Store, Narrow, Emit, Action, Words, act, exposed_words, no_reads, no_words, over, part, with_read, wrote}
 use Rattle.svc_core_laws.specs.Words.{program, wants}
 use Rattle.svc_core_laws.proofs.Ends.{is_program}
 use Rattle.svc_machine_laws.proofs.Parts.{part_stays}
@@ -112,14 +112,14 @@ read_links_if p exposes writes times time (Some word) s links inside h are = rea
 abbrev pub AreLinked : (img : Image) (entry n : ℕ) (before : List ℕ) (begun : Tracker) → List Link → Type 0
 AreLinked img entry n before begun links =
     (times : Times) → IsTracked (program img) no_reads no_words times 0 begun
-    → AreLinks (program img) begun.task (exposed (part (program img) entry n (slice_index before)).log) links
+    → AreLinks (program img) begun.task (exposed_words (part (program img) entry n (slice_index before)).log) links
 
 pub none_linked : (img : Image) (entry : ℕ) (before : List ℕ) (begun : Tracker) (links : List Link) → links ≡ [] → AreLinked img entry 0 before begun links
 none_linked img entry before begun links none = λ times h on word. ap (count_to on word) none
 
 -- what is exposed after a turn
-turn_exposes : {C D : Type 0} (p : Program D) (task : ℕ) (w : Want C) (m : Memory) (log : List Action) (links : List Link) → AreLinks p task (read_if (word_read w) (wrote log) (exposed log)) links
-    → AreLinks p task (exposed (act w m log).log) links
+turn_exposes : {C D : Type 0} (p : Program D) (task : ℕ) (w : Want C) (m : Memory) (log : List Action) (links : List Link) → AreLinks p task (read_if (word_read w) (wrote log) (exposed_words log)) links
+    → AreLinks p task (exposed_words (act w m log).log) links
 turn_exposes p task (Local c) m log links h = h
 turn_exposes p task (Load a value go) m log links h = h
 turn_exposes p task (Store a v c) m log links h = h
@@ -136,15 +136,15 @@ more_linked img entry n before begun core memory s reads links then h is_read in
     let r : Run State = part p entry n base in
     let wanted : reads ≡ word_read (p.want r.core) = is_read ∙ ap (λ (x : State). word_read (p.want x)) h.core_is in
     let same : s.task ≡ begun.task = h.task in
-    let old : AreLinks p s.task (exposed r.log) links = subst (λ (k : ℕ). AreLinks p k (exposed r.log) links) (sym same) (are times first) in
-    let read : AreLinks p s.task (read_if reads (wrote r.log) (exposed r.log)) (links ++ links_read s reads) =
-    read_links_if p (exposed r.log) (wrote r.log) _ _ reads s links inside (h.tracked times first) old in
-    let turned : AreLinks p s.task (exposed (part p entry (suc n) base).log) then =
+    let old : AreLinks p s.task (exposed_words r.log) links = subst (λ (k : ℕ). AreLinks p k (exposed_words r.log) links) (sym same) (are times first) in
+    let read : AreLinks p s.task (read_if reads (wrote r.log) (exposed_words r.log)) (links ++ links_read s reads) =
+    read_links_if p (exposed_words r.log) (wrote r.log) _ _ reads s links inside (h.tracked times first) old in
+    let turned : AreLinks p s.task (exposed_words (part p entry (suc n) base).log) then =
     turn_exposes p s.task (p.want r.core) (over (wrote r.log) base) r.log then
-    (subst (λ (o : Option ℕ). AreLinks p s.task (read_if o (wrote r.log) (exposed r.log)) then) wanted
-    (subst (AreLinks p s.task (read_if reads (wrote r.log) (exposed r.log))) (sym is_then) read)) in
-    subst (λ (j : ℕ). AreLinks p begun.task (exposed (part p entry j base).log) then) (sym (add-one n))
-    (subst (λ (k : ℕ). AreLinks p k (exposed (part p entry (suc n) base).log) then) same turned)
+    (subst (λ (o : Option ℕ). AreLinks p s.task (read_if o (wrote r.log) (exposed_words r.log)) then) wanted
+    (subst (AreLinks p s.task (read_if reads (wrote r.log) (exposed_words r.log))) (sym is_then) read)) in
+    subst (λ (j : ℕ). AreLinks p begun.task (exposed_words (part p entry j base).log) then) (sym (add-one n))
+    (subst (λ (k : ℕ). AreLinks p k (exposed_words (part p entry (suc n) base).log) then) same turned)
 
 -- the links of a task that has ended are those of the whole task
 pub whole_linked : (img : Image) (entry n : ℕ) (before : List ℕ) (begun : Tracker) (core : State) (memory : List ℕ) (t : Tracker) (links : List Link) (end : End)
@@ -157,4 +157,4 @@ whole_linked img entry n before begun core memory t links end few done h are =
     let back : k + n ≡ suc (limit_of img entry) = omega (arith, few) in
     let ended : p.done (part p entry n base).core ≡ Some end = sym (ap (λ (x : State). x.done) h.core_is) ∙ done in
     let same : part p entry n base ≡ part p entry (suc (limit_of img entry)) base = sym (part_stays p (is_program img) entry n k base end ended) ∙ ap (λ (j : ℕ). part p entry j base) back in
-    λ times first. subst (λ (r : Run State). AreLinks p begun.task (exposed r.log) links) same (are times first)
+    λ times first. subst (λ (r : Run State). AreLinks p begun.task (exposed_words r.log) links) same (are times first)

@@ -10,7 +10,7 @@ use Rattle.std.proofs.KnownBytes.{Appends-trans, Keeps-refl, append_known-grown}
 use Rattle.svc_image.specs.Image.{Image, IsImage}
 use Rattle.svc_core_laws.specs.declared.end.End.{End}
 use Rattle.svc_core_laws.specs.State.{State, limit_of}
-use Rattle.svc_core_laws.specs.Program.{exposed, said}
+use Rattle.svc_core_laws.specs.Program.{exposed_words, task_log}
 use Rattle.svc_core_laws.specs.Turns.{data_words}
 use Rattle.svc_core_laws.specs.Words.{program}
 use Rattle.svc_depend_laws.specs.Pairs.{words_of}
@@ -29,7 +29,7 @@ use Rattle.svc_depend.proofs.Linked.{AreLinked}
 use Rattle.svc_depend.proofs.Told.{links_are}
 use Rattle.svc_depend.proofs.Texts.{text_same}
 
-pub told_pairs : (form : PairForm) (img : Image) (task : ℕ) (links : List Link) → IsOrdered links → AreLinks (program img) task (exposed (said (program img) task)) links → links_text form task links ≡ pairs_of form img task
+pub told_pairs : (form : PairForm) (img : Image) (task : ℕ) (links : List Link) → IsOrdered links → AreLinks (program img) task (exposed_words (task_log (program img) task)) links → links_text form task links ≡ pairs_of form img task
 told_pairs form img task links order are =
     text_same (λ on. pair_told form task on (words_on links on)) (λ on. pair_told form task on (words_of (program img) (data_words img) task on)) task
     (λ on below. ap (pair_told form task on) (words_are (program img) (data_words img) task on links (λ word e. (words_of_data img task word).0 e) order are))
@@ -64,10 +64,10 @@ module _ (img : Image) (sound : IsImage img) (j : ℕ) (m : List ℕ) (entry : �
       shown ∙ ap (λ (rest : List Link). take len (ordered ++ rest)) (drop_all (length ordered) found (omega (arith, same, long))) ∙ ap (take len) (append-nil ordered)
       ∙ take_all len ordered (omega (arith, same, long, size))
 
-  are : AreLinks (program img) j (exposed (said (program img) j)) ordered
+  are : AreLinks (program img) j (exposed_words (task_log (program img) j)) ordered
   are =
-      same_links (program img) j (exposed (said (program img) j)) lent ordered moved
-      (subst (AreLinks (program img) j (exposed (said (program img) j))) (sym lends) (links_are img sound j m entry last s rows all h core after u walked found linked))
+      same_links (program img) j (exposed_words (task_log (program img) j)) lent ordered moved
+      (subst (AreLinks (program img) j (exposed_words (task_log (program img) j))) (sym lends) (links_are img sound j m entry last s rows all h core after u walked found linked))
 
   pub now_rises : IsNonDecreasingBy (λ l. l.on) now
   now_rises = subst (IsNonDecreasingBy (λ (l : Link). l.on)) (sym now_is) order.by_task
@@ -75,7 +75,7 @@ module _ (img : Image) (sound : IsImage img) (j : ℕ) (m : List ℕ) (entry : �
   pub now_before : All (λ l. l.on < u.task) now
   now_before =
       subst (λ (k : ℕ). All (λ (l : Link). l.on < k) now) (sym task_is)
-      (subst (All (λ (l : Link). l.on < j)) (sym now_is) (All-from_recursion (λ (l : Link). l.on < j) ordered (all_before (program img) j (exposed (said (program img) j)) ordered are)))
+      (subst (All (λ (l : Link). l.on < j)) (sym now_is) (All-from_recursion (λ (l : Link). l.on < j) ordered (all_before (program img) j (exposed_words (task_log (program img) j)) ordered are)))
 
   pub now_told : (form : PairForm) → links_text form u.task now ≡ pairs_of form img j
   now_told form = ap₂ (links_text form) task_is now_is ∙ told_pairs form img j ordered order are

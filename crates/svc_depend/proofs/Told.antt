@@ -5,7 +5,7 @@ use Rattle.svc_image.specs.Image.{Image, IsImage}
 use Rattle.svc_core_laws.specs.declared.end.End.{End}
 use Rattle.svc_core_laws.specs.State.{State, limit_of}
 use Rattle.svc_core_laws.specs.Turns.{data_words}
-use Rattle.svc_core_laws.specs.Program.{Memory, Program, Run, Action, Seq, due_after, stopped_after, exposed, no_reads, no_words, output, said, seq, task, wrote}
+use Rattle.svc_core_laws.specs.Program.{Memory, Program, Run, Action, Seq, due_after, stopped_after, exposed_words, no_reads, no_words, output, task_log, seq, task, wrote}
 use Rattle.svc_core_laws.specs.Words.{program}
 use Rattle.svc_core_laws.specs.Sequence.{ending_of, plain_seq}
 use Rattle.svc_plain.specs.Tasks.{IsRun, tasks_run}
@@ -67,7 +67,7 @@ module _ (img : Image) (sound : IsImage img) (j : ℕ) (m : List ℕ) (entry : �
   due : Some entry ≡ sj.due
   due = h.run.due
 
-  log_is : said p j ≡ run_.log
+  log_is : task_log p j ≡ run_.log
   log_is = said_is p j entry (sym due) ∙ ap (λ (x : Memory). (task p entry x).log) (sym here)
 
   clock_is : clock ≡ clock_due p sj.memory (times_before p j) sj.due
@@ -82,14 +82,14 @@ module _ (img : Image) (sound : IsImage img) (j : ℕ) (m : List ℕ) (entry : �
   size_is : length u.words.items ≡ data_words img
   size_is = walked.size ∙ h.size ∙ h.run.size
 
-  pub followed : IsTracked p (exposed (said p j)) (wrote (said p j)) clock.stores clock.now u
-  followed = subst (λ (l : List Action). IsTracked p (exposed l) (wrote l) clock.stores clock.now u) (sym log_is) (walked.tracked (times_before p j) h.tracked)
+  pub followed : IsTracked p (exposed_words (task_log p j)) (wrote (task_log p j)) clock.stores clock.now u
+  followed = subst (λ (l : List Action). IsTracked p (exposed_words l) (wrote l) clock.stores clock.now u) (sym log_is) (walked.tracked (times_before p j) h.tracked)
 
   -- what the task was linked to is what its number's is
-  pub links_are : (links : List Link) → AreLinked img entry (suc (limit_of img entry)) m s links → AreLinks p j (exposed (said p j)) links
+  pub links_are : (links : List Link) → AreLinked img entry (suc (limit_of img entry)) m s links → AreLinks p j (exposed_words (task_log p j)) links
   links_are links linked =
-      subst (λ (l : List Action). AreLinks p j (exposed l) links) (sym log_is)
-      (subst (λ (k : ℕ). AreLinks p k (exposed run_.log) links) h.task (linked (times_before p j) h.tracked))
+      subst (λ (l : List Action). AreLinks p j (exposed_words l) links) (sym log_is)
+      (subst (λ (k : ℕ). AreLinks p k (exposed_words run_.log) links) h.task (linked (times_before p j) h.tracked))
 
   pub row_is : told_of entry s.turns u ≡ task_needs img j
   row_is =
@@ -97,10 +97,10 @@ module _ (img : Image) (sound : IsImage img) (j : ℕ) (m : List ℕ) (entry : �
       let count : u.turns ≡ s.turns + turns_taken p entry (suc (limit_of img entry)) base = walked.turns in
       let same : u.turns - s.turns ≡ turns p j = omega (arith, count, turns_are) in
       let e1 : entry ≡ unwrap_or sj.due 0 = ap (λ o. unwrap_or o 0) due in
-      let e3 : u.needs ≡ needs p (data_words img) j = t.needs ∙ ap (count_over (exposed (said p j))) size_is in
-      let e4 : u.memory ≡ memory_needs p (data_words img) j = t.memory ∙ ap₂ (λ k n. count_over (is_from_memory p k (exposed (said p j))) n) task_is size_is in
-      let e5 : u.nearest ≡ nearest p (data_words img) j = t.nearest ∙ ap₂ (λ k n. least_over (distance_in p k (exposed (said p j))) n) task_is size_is in
-      let e6 : u.stores ≡ stores p (data_words img) j = t.stores ∙ ap (count_over (is_written (wrote (said p j)))) size_is in
+      let e3 : u.needs ≡ needs p (data_words img) j = t.needs ∙ ap (count_over (exposed_words (task_log p j))) size_is in
+      let e4 : u.memory ≡ memory_needs p (data_words img) j = t.memory ∙ ap₂ (λ k n. count_over (is_from_memory p k (exposed_words (task_log p j))) n) task_is size_is in
+      let e5 : u.nearest ≡ nearest p (data_words img) j = t.nearest ∙ ap₂ (λ k n. least_over (distance_in p k (exposed_words (task_log p j))) n) task_is size_is in
+      let e6 : u.stores ≡ stores p (data_words img) j = t.stores ∙ ap (count_over (is_written (wrote (task_log p j)))) size_is in
       let e7 : u.time ≡ chain p j = t.time_is ∙ ap (λ (c : Clock). c.now) clock_is in
       λ i. record { task = task_is i; entry = e1 i; turns = same i; needs = e3 i; memory = e4 i; nearest = e5 i; stores = e6 i; chain = e7 i }
 
@@ -120,7 +120,7 @@ module _ (img : Image) (sound : IsImage img) (j : ℕ) (m : List ℕ) (entry : �
 
   pub one_more : (end : End) (next : Option ℕ) (stop : Option End) (t : Tracker) (then : List ℕ) (row : TaskNeeds) (more : List TaskNeeds) (sum : Totals) → core.done ≡ Some end → next ≡ due_after (Some end) → stop ≡ stopped_after (Some end)
       → then ≡ after → length after ≡ length m → u.turns ≤ s.turns + 65537 → t.task ≡ u.task + 1 → t.turns ≡ u.turns → length t.words.items ≡ length u.words.items → IsBelow (3 * t.turns) t
-      → ((p : Program State) → (times : Times) → (now : ℕ) → IsTracked p (exposed (said p u.task)) (wrote (said p u.task)) times now u → IsTracked p no_reads no_words times 0 t)
+      → ((p : Program State) → (times : Times) → (now : ℕ) → IsTracked p (exposed_words (task_log p u.task)) (wrote (task_log p u.task)) times now u → IsTracked p no_reads no_words times 0 t)
       → row ≡ told_of entry s.turns u → IsFew row → more ≡ rows ++ row ∷ [] → sum ≡ added row all
       → IsFollowed img (j + 1) then next stop t more sum
   one_more end next stop t then row more sum done next_is stop_is then_is length_is few task_next turns_next size_next below tracks row_told row_low rows_are sum_is =
@@ -133,8 +133,8 @@ module _ (img : Image) (sound : IsImage img) (j : ℕ) (m : List ℕ) (entry : �
       subst (λ (x : List ℕ). IsRun img (j + 1) (j + 1) x (seq p (j + 1)).output next stop) (sym then_is)
       (subst (λ (o : Option ℕ). IsRun img (j + 1) (j + 1) after (seq p (j + 1)).output o stop) (sym next_is)
       (subst (λ (o : Option End). IsRun img (j + 1) (j + 1) after (seq p (j + 1)).output (due_after (Some end)) o) (sym stop_is) put)) in
-      let again : IsTracked p (exposed (said p u.task)) (wrote (said p u.task)) clock.stores clock.now u =
-      subst (λ (k : ℕ). IsTracked p (exposed (said p k)) (wrote (said p k)) clock.stores clock.now u) (sym task_is) followed in
+      let again : IsTracked p (exposed_words (task_log p u.task)) (wrote (task_log p u.task)) clock.stores clock.now u =
+      subst (λ (k : ℕ). IsTracked p (exposed_words (task_log p k)) (wrote (task_log p k)) clock.stores clock.now u) (sym task_is) followed in
       let old : s.turns ≤ 65537 * j = h.few in
       record {
         run = then_run;
@@ -156,7 +156,7 @@ pub one_more_task : (img : Image) (sound : IsImage img) (j : ℕ) (m : List ℕ)
     → (core : State) (after : List ℕ) (u : Tracker) → IsWalked img entry (suc (limit_of img entry)) m s core after u → j < 1000000
     → (end : End) (next : Option ℕ) (stop : Option End) (t : Tracker) (then : List ℕ) → core.done ≡ Some end → next ≡ due_after (Some end) → stop ≡ stopped_after (Some end)
     → then ≡ after → length after ≡ length m → u.turns ≤ s.turns + 65537 → t.task ≡ u.task + 1 → t.turns ≡ u.turns → length t.words.items ≡ length u.words.items → IsBelow (3 * t.turns) t
-    → ((p : Program State) → (times : Times) → (now : ℕ) → IsTracked p (exposed (said p u.task)) (wrote (said p u.task)) times now u → IsTracked p no_reads no_words times 0 t)
+    → ((p : Program State) → (times : Times) → (now : ℕ) → IsTracked p (exposed_words (task_log p u.task)) (wrote (task_log p u.task)) times now u → IsTracked p no_reads no_words times 0 t)
     → IsFollowed img (j + 1) then next stop t (listed (task_needs img) (j + 1)) (totals img (j + 1))
 one_more_task img sound j m entry last s h core after u walked early end next stop t then done next_is stop_is then_is length_is few task_next turns_next size_next below tracks =
     let rows : List TaskNeeds = listed (task_needs img) j in

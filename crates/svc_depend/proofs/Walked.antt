@@ -4,7 +4,7 @@ use Rattle.std.specs.Prelude.{slice_index}
 use Rattle.svc_image.specs.Image.{Image}
 use Rattle.svc_core_laws.specs.declared.end.End.{End}
 use Rattle.svc_core_laws.specs.State.{State, limit_of}
-use Rattle.svc_core_laws.specs.Program.{Memory, Program, IsProgram, Run, Want, Action, act, exposed, over, output, part, task, wrote}
+use Rattle.svc_core_laws.specs.Program.{Memory, Program, IsProgram, Run, Want, Action, act, exposed_words, over, output, part, task, wrote}
 use Rattle.svc_core_laws.specs.Words.{program, wants}
 use Rattle.svc_core_laws.specs.Steps.{step_of, HasRun}
 use Rattle.svc_core_laws.proofs.Going.{has_stepped}
@@ -37,8 +37,8 @@ pub goes_on : (img : Image) (entry n : ℕ) (before : List ℕ) (begun : Tracker
     → touch.reads ≡ word_read (wants img core) → touch.writes ≡ word_written (wants img core)
     → HasFollowed s t → IsBelow (3 * t.turns) t
     → ((p : Program State) → (w : Want State) → (m : Memory) → (log : List Action) → (clock : Clock) → touch.reads ≡ word_read w → touch.writes ≡ word_written w
-    → IsTracked p (exposed log) (wrote log) clock.stores clock.now s
-    → IsTracked p (exposed (act w m log).log) (wrote (act w m log).log) (tick w log clock).stores (tick w log clock).now t)
+    → IsTracked p (exposed_words log) (wrote log) clock.stores clock.now s
+    → IsTracked p (exposed_words (act w m log).log) (wrote (act w m log).log) (tick w log clock).stores (tick w log clock).now t)
     → IsWalked img entry (n + 1) before begun then after t
 goes_on img entry n before begun core then memory after s t touch h running core_is memory_is reads writes followed below tracks =
     let p : Program State = program img in
@@ -62,7 +62,7 @@ goes_on img entry n before begun core then memory after s t touch h running core
       turns = (let x = h.turns in omega (arith, x, taken, count));
       few = (let x = h.few in omega (arith, x, count));
       tracked = λ times first.
-          subst (λ (k : Clock). IsTracked p (exposed (part p entry (suc n) base).log) (wrote (part p entry (suc n) base).log) k.stores k.now t) (sym (ticks times))
+          subst (λ (k : Clock). IsTracked p (exposed_words (part p entry (suc n) base).log) (wrote (part p entry (suc n) base).log) k.stores k.now t) (sym (ticks times))
           (tracks p (p.want r.core) (over (wrote r.log) base) r.log (clock_of p entry n base times) (reads ∙ ap word_read here) (writes ∙ ap word_written here) (h.tracked times first));
     })
 
@@ -110,8 +110,8 @@ whole img entry n before begun core memory t end few done h =
       turns = h.turns ∙ ap (λ (x : ℕ). begun.turns + x) taken;
       few = (let x = h.few in omega (arith, x, few));
       tracked = λ times first.
-          subst (λ (c : Clock). IsTracked p (exposed (part p entry (suc (limit_of img entry)) base).log) (wrote (part p entry (suc (limit_of img entry)) base).log) c.stores c.now t) (clock times)
-          (subst (λ (r : Run State). IsTracked p (exposed r.log) (wrote r.log) (clock_of p entry n base times).stores (clock_of p entry n base times).now t) same (h.tracked times first));
+          subst (λ (c : Clock). IsTracked p (exposed_words (part p entry (suc (limit_of img entry)) base).log) (wrote (part p entry (suc (limit_of img entry)) base).log) c.stores c.now t) (clock times)
+          (subst (λ (r : Run State). IsTracked p (exposed_words r.log) (wrote r.log) (clock_of p entry n base times).stores (clock_of p entry n base times).now t) same (h.tracked times first));
     }
 
 -- ---- whether the task runs

@@ -3,7 +3,7 @@ use Rattle.std.specs.Prelude.{◌≡◌, ℕ, ◌+◌, ◌*◌, ◌≤◌, List,
 use Rattle.svc_image.specs.Image.{Image}
 use Rattle.svc_core_laws.specs.State.{State}
 use Rattle.svc_core_laws.specs.declared.end.End.{End}
-use Rattle.svc_core_laws.specs.Program.{exposed, no_reads, no_words, over, part, seq, wrote}
+use Rattle.svc_core_laws.specs.Program.{exposed_words, no_reads, no_words, over, part, seq, wrote}
 use Rattle.svc_core_laws.specs.Words.{program}
 use Rattle.svc_plain.specs.Tasks.{IsRun}
 use Rattle.svc_depend_laws.specs.Chain.{Times, clock_of, times_before}
@@ -27,7 +27,7 @@ pub record IsWalked (img : Image) (entry n : ℕ) (before : List ℕ) (begun : T
   pub turns : t.turns ≡ begun.turns + turns_taken (program img) entry n (slice_index before)
   pub few : t.turns ≤ begun.turns + n
   pub tracked : (times : Times) → IsTracked (program img) no_reads no_words times 0 begun
-      → IsTracked (program img) (exposed (part (program img) entry n (slice_index before)).log)
+      → IsTracked (program img) (exposed_words (part (program img) entry n (slice_index before)).log)
       (wrote (part (program img) entry n (slice_index before)).log)
       (clock_of (program img) entry n (slice_index before) times).stores
       (clock_of (program img) entry n (slice_index before) times).now t

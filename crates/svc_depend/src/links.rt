@@ -4,7 +4,7 @@ ghost use Rattle.std.specs.Prelude.{◌≡◌, ◌≤◌, ◌<◌, ◌^◌, ◌+
 ghost use Rattle.std.specs.Prelude.{length, slice_index};
 ghost use Rattle.svc_image.specs.declared.layout.TheConstants.{MOST_WORDS};
 ghost use Rattle.svc_image.specs.Image.{is_entry};
-ghost use Rattle.svc_core_laws.specs.Program.{exposed, no_reads, no_words, task};
+ghost use Rattle.svc_core_laws.specs.Program.{exposed_words, no_reads, no_words, task};
 ghost use Rattle.svc_core_laws.specs.State.{State, limit_of};
 ghost use Rattle.svc_core_laws.specs.Words.{program};
 ghost use Rattle.svc_depend_laws.specs.Chain.{Times};
@@ -67,7 +67,7 @@ pub(crate) fn link_task(
         memory.new tracker.new)) }
     ensures linked { OnOk result ((times : Times) → IsTracked (program image.now) no_reads no_words times 0 tracker.old
         → AreLinks (program image.now) tracker.old.task
-        (exposed (task (program image.now) entry (slice_index memory.old)).log) links.new.items) }
+        (exposed_words (task (program image.now) entry (slice_index memory.old)).log) links.new.items) }
 {
     let mut core = Core::start(image, entry);
     for _turn in 0..core.limit() + 1 {

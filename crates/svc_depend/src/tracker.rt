@@ -2,7 +2,8 @@
 
 ghost use Rattle.std.specs.Prelude.{◌≡◌, ◌≤◌, ◌<◌, ◌^◌, ◌+◌, ◌*◌, ◌-◌, ℕ, List, IfOk, IfSome, length};
 ghost use Rattle.svc_core_laws.specs.State.{State};
-ghost use Rattle.svc_core_laws.specs.Program.{Action, Memory, Program, Want, act, exposed, no_reads, no_words, said};
+ghost use Rattle.svc_core_laws.specs.Program.{Action, Memory, Program, Want, act, exposed_words, no_reads, no_words};
+ghost use Rattle.svc_core_laws.specs.Program.{task_log};
 ghost use Rattle.svc_core_laws.specs.Program.{wrote};
 ghost use Rattle.svc_depend_laws.specs.Chain.{Clock, Times, tick, times_before, word_read, word_written};
 ghost use Rattle.svc_depend.specs.Tracking.{HasFollowed, HasRead, HasReadIf, HasWritten, HasWrittenIf, IsBelow};
@@ -83,7 +84,8 @@ impl Tracker {
         ensures size { length self.new.words.items ≡ length self.old.words.items }
         ensures below { IsBelow (3 * self.new.turns) self.new }
         ensures tracked { (p : Program State) → (times : Times) → (now : ℕ)
-            → IsTracked p (exposed (said p self.old.task)) (wrote (said p self.old.task)) times now self.old
+            → IsTracked p (exposed_words (task_log p self.old.task)) (wrote (task_log p self.old.task)) times now
+            self.old
             → IsTracked p no_reads no_words times 0 self.new }
     {
         self.task += 1;
@@ -183,8 +185,8 @@ impl Tracker {
         ensures below { IsBelow (3 * self.new.turns) self.new }
         ensures tracked { (p : Program State) → (w : Want State) → (m : Memory) → (log : List Action) → (clock : Clock)
             → touch.reads ≡ word_read w → touch.writes ≡ word_written w
-            → IsTracked p (exposed log) (wrote log) clock.stores clock.now self.old
-            → IsTracked p (exposed (act w m log).log) (wrote (act w m log).log) (tick w log clock).stores
+            → IsTracked p (exposed_words log) (wrote log) clock.stores clock.now self.old
+            → IsTracked p (exposed_words (act w m log).log) (wrote (act w m log).log) (tick w log clock).stores
             (tick w log clock).now self.new }
     {
         let ready = self.read_if(touch.reads);

@@ -5,7 +5,7 @@ use Rattle.std.proofs.lemmas.Bool.{cases_eq, cases_lt}
 use Rattle.svc_image.specs.Image.{Image}
 use Rattle.svc_core_laws.specs.State.{State}
 use Rattle.svc_core_laws.specs.Turns.{data_words}
-use Rattle.svc_core_laws.specs.Program.{Program, exposed, said}
+use Rattle.svc_core_laws.specs.Program.{Program, exposed_words, task_log}
 use Rattle.svc_core_laws.specs.Words.{program}
 use Rattle.svc_depend_laws.specs.Needs.{comes_from, HasNeed, IsNearestOf}
 use Rattle.svc_depend_laws.specs.Over.{least_over, lesser}
@@ -81,8 +81,8 @@ least_low f (suc n) i d e below h k = elim (cases_eq i n) [
 -- ---- needs
 
 -- the need that a distance tells
-told : (p : Program State) (task word d : ℕ) (b : Bool) (c : Option ℕ) → exposed (said p task) word ≡ b → comes_from p task word ≡ c → cond b (back_to task c) None ≡ Some d
-    → (exposed (said p task) word ≡ true) × ((from : ℕ) × (comes_from p task word ≡ Some from) × (task ≡ from + d))
+told : (p : Program State) (task word d : ℕ) (b : Bool) (c : Option ℕ) → exposed_words (task_log p task) word ≡ b → comes_from p task word ≡ c → cond b (back_to task c) None ≡ Some d
+    → (exposed_words (task_log p task) word ≡ true) × ((from : ℕ) × (comes_from p task word ≡ Some from) × (task ≡ from + d))
 told p task word d false c eb ec h = absurd (none-some d h)
 told p task word d true None eb ec h = absurd (none-some d h)
 told p task word d true (Some from) eb ec h =
@@ -99,7 +99,7 @@ module _ (img : Image) (k : ℕ) where
 
   is_need : (task word d : ℕ) → task < k → distance p task word ≡ Some d → HasNeed p k d
   is_need task word d early h =
-      let t = told p task word d (exposed (said p task) word) (comes_from p task word) refl refl h in
+      let t = told p task word d (exposed_words (task_log p task) word) (comes_from p task word) refl refl h in
       record { task = task; early = early; word = word; exposes = t.0; from = t.1.0; comes = t.1.1; apart = t.1.2 }
 
   distance_of : (d : ℕ) (h : HasNeed p k d) → distance p h.task h.word ≡ Some d

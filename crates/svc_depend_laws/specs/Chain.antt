@@ -1,7 +1,7 @@
 -- The longest chain of turns, each of which needs the one before.
 use Rattle.std.specs.Prelude.{ℕ, zero, suc, ◌==◌, max, Bool, cond, ◌||◌, List, Option, Some, None, is_some}
 use Rattle.svc_core_laws.specs.Program.{Memory, Words, Want, Local, Load, Store, Narrow, Emit, Program, Run, Action}
-use Rattle.svc_core_laws.specs.Program.{wrote, exposed, part, seq}
+use Rattle.svc_core_laws.specs.Program.{wrote, exposed_words, part, seq}
 
 -- the word that a turn reads, if any: a store of less than a word reads its word too
 abbrev pub word_read : {C : Type 0} → Want C → Option ℕ
@@ -42,7 +42,7 @@ ready exposes words stores (Some word) = cond (exposes word || is_some (words wo
 -- needs
 abbrev pub tick : {C : Type 0} → Want C → List Action → Clock → Clock
 tick want log clock =
-    let now = suc (max clock.now (ready (exposed log) (wrote log) clock.stores (word_read want))) in
+    let now = suc (max clock.now (ready (exposed_words log) (wrote log) clock.stores (word_read want))) in
     record { now = now; stores = stored_at (word_written want) now clock.stores }
 
 -- a task that has ended takes no turn

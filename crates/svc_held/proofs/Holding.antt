@@ -3,7 +3,7 @@ use Rattle.std.proofs.Common.{◌∙◌, List, Option, ap, get_or}
 use Rattle.std.specs.Prelude.{Result, Ok, Err, IfOk}
 use Rattle.svc_image.specs.Image.{IsImage}
 use Rattle.svc_core_laws.specs.Turns.{data_words}
-use Rattle.svc_bus.specs.Observed.{observed}
+use Rattle.svc_bus.specs.State.{bus_state}
 use Rattle.svc_bus_laws.specs.BusState.{without_number}
 use Rattle.svc_machine_laws.proofs.Given.{given}
 use Rattle.svc_history.specs.Recorded.{IsLegal, Recorded}
@@ -16,7 +16,7 @@ use Rattle.svc_held.proofs.Listed.{nobody_has}
 use Rattle.svc_held.proofs.LinesNamed.{no_line, no_spill}
 
 pub held : (r : Recorded) → IsLegal r → IsImage r.machine.image → (asked : Option Span) (named : List Named)
-    → AreNamed r.entries (data_words r.machine.image) asked named → IsHeldBy (observed r.machine.bus) (data_words r.machine.image) asked named
+    → AreNamed r.entries (data_words r.machine.image) asked named → IsHeldBy (bus_state r.machine.bus) (data_words r.machine.image) asked named
 held r legal is asked named are =
     let img = r.machine.image in
     let config = r.machine.config in

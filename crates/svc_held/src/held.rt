@@ -2,7 +2,7 @@
 
 ghost use Rattle.std.specs.Prelude.{IfOk};
 ghost use Rattle.svc_core_laws.specs.Turns.{data_words};
-ghost use Rattle.svc_bus.specs.Observed.{observed};
+ghost use Rattle.svc_bus.specs.State.{bus_state};
 ghost use Rattle.svc_held.specs.Held.{IsHeldBy};
 
 use crate::holds::words_of;
@@ -21,7 +21,7 @@ pub fn held_words(
     asked: Option<Span>,
 ) -> Result<Vec<Named>, AllocError>
     ensures { let m = recorder.now.machine in
-        IfOk result (λ named. IsHeldBy (observed m.bus) (data_words m.image) asked named.items) }
+        IfOk result (λ named. IsHeldBy (bus_state m.bus) (data_words m.image) asked named.items) }
 {
     let machine = recorder.machine();
     // its image is sound, so its history names each word that is held

@@ -6,7 +6,7 @@ use Rattle.svc_image.specs.Image.{Image, IsImage}
 use Rattle.svc_core_laws.specs.Words.{program}
 use Rattle.svc_bus_laws.specs.BusState.{AreAlike}
 use Rattle.svc_bus_laws.proofs.Alike.{alike_maps}
-use Rattle.svc_bus.specs.Observed.{observed}
+use Rattle.svc_bus.specs.State.{bus_state}
 use Rattle.svc_machine_laws.specs.Blame.{tasks_begun, tasks_cut}
 use Rattle.svc_machine_laws.specs.declared.reply.Cut.{Cut}
 use Rattle.svc_machine_laws.specs.declared.reply.Reply.{Reply}
@@ -65,7 +65,7 @@ sequential r kept =
       tasks = count;
       whole = λ s at.
           let same : s.plain ≡ (standing_of r).plain = sym at.plain ∙ here.plain in
-          let reached : IsReached img r.machine.config s = reached_alike img r.machine.config (standing_of r) s kept.reached same (record { bus = observed r.machine.bus; first = here.lines; second = at.lines }) in
+          let reached : IsReached img r.machine.config s = reached_alike img r.machine.config (standing_of r) s kept.reached same (record { bus = bus_state r.machine.bus; first = here.lines; second = at.lines }) in
           let is = reached_is img (given img kept.image) r.machine.config s reached in
           subst (λ (k : ℕ). IsSequential img k (whole_of img s)) (ap (λ (q : Plain). q.commits) (sym at.plain) ∙ count) is;
     }

@@ -11,7 +11,7 @@ use Rattle.svc_base.specs.declared.ids.WordAddr.{WordAddr}
 use Rattle.svc_base.specs.declared.served.Served.{Served}
 use Rattle.svc_image.specs.Image.{Image}
 use Rattle.svc_core_laws.specs.State.{State}
-use Rattle.svc_core_laws.specs.Program.{Action, Loaded, Stored, Replaced, Emitted, Memory, Program, Want, Local, Load, Store, Narrow, Emit, wrote, exposed}
+use Rattle.svc_core_laws.specs.Program.{Action, Loaded, Stored, Replaced, Emitted, Memory, Program, Want, Local, Load, Store, Narrow, Emit, wrote, exposed_words}
 use Rattle.svc_core_laws.specs.Words.{program}
 use Rattle.svc_core_laws.specs.Bursts.{Advance}
 use Rattle.svc_core_laws.proofs.Looks.{get-append_left}
@@ -106,7 +106,7 @@ module _ (img : Image) (config : Config) (es : List Entry) where
     supplier : read.served ≡ kind.Version → (number : ℕ) × IsFrom (led_to img config (take read.at es)).plain read.entry number × (number < s.commits + q) × HasVersion img s number a
 
   Readers : ℕ → Plain → Type 0
-  Readers i s = (q : ℕ) (t : TaskLog) → slice_get (logs_of (program img) s) q ≡ Some t → q ≢ 0 → (a : ℕ) → exposed t.log a ≡ true → Reader i s q t.unit a
+  Readers i s = (q : ℕ) (t : TaskLog) → slice_get (logs_of (program img) s) q ≡ Some t → q ≢ 0 → (a : ℕ) → exposed_words t.log a ≡ true → Reader i s q t.unit a
 
   -- one entry later
   later : (i unit a : ℕ) (e : Entry) → slice_get es i ≡ Some e → (e.unit.0 ≡ unit → e.kind ≡ does.Assign → ⊥) → IsRead es i unit a → IsRead es (suc i) unit a
@@ -198,27 +198,27 @@ right_of : (x y : Bool) → x ≡ false → (x || y) ≡ true → y ≡ true
 right_of true y e h = cc
 right_of false y e h = h
 
-new_word : (a b : ℕ) (log : List Action) → exposed log a ≡ false → (exposed log a || ((b == a) && is_none (wrote log a))) ≡ true → (b ≡ a) × (wrote log a ≡ None)
+new_word : (a b : ℕ) (log : List Action) → exposed_words log a ≡ false → (exposed_words log a || ((b == a) && is_none (wrote log a))) ≡ true → (b ≡ a) × (wrote log a ≡ None)
 new_word a b log fresh h =
-    let both = and_parts (b == a) (is_none (wrote log a)) (right_of (exposed log a) ((b == a) && is_none (wrote log a)) fresh h) in
+    let both = and_parts (b == a) (is_none (wrote log a)) (right_of (exposed_words log a) ((b == a) && is_none (wrote log a)) fresh h) in
     (eqb-true b a both.0, none_is (wrote log a) both.1)
 
-new_read : (t : LineTable) (place : ℕ) (w : What) (log : List Action) (a : ℕ) → IsServed t place w → exposed log a ≡ false → exposed (plus (action_of w) log) a ≡ true → NewRead t place w log a
+new_read : (t : LineTable) (place : ℕ) (w : What) (log : List Action) (a : ℕ) → IsServed t place w → exposed_words log a ≡ false → exposed_words (plus (action_of w) log) a ≡ true → NewRead t place w log a
 unfolding IsServed
-new_read t place (what.Assigned task entry epoch) log a served fresh h = absurd (both_ways (exposed log a) fresh h)
-new_read t place what.Ran log a served fresh h = absurd (both_ways (exposed log a) fresh h)
+new_read t place (what.Assigned task entry epoch) log a served fresh h = absurd (both_ways (exposed_words log a) fresh h)
+new_read t place what.Ran log a served fresh h = absurd (both_ways (exposed_words log a) fresh h)
 new_read t place (what.Loaded addr value from) log a served fresh h =
     let n = new_word a addr.0 log fresh h in
     record { from = from; address = ap (λ (x : ℕ). let y : WordAddr = record { 0 = x } in Some y) n.0; served = refl; from_is = served ∙ ap (serves_at t place) n.0; unwritten = n.1 }
-new_read t place (what.Stored addr word None) log a served fresh h = absurd (both_ways (exposed log a) fresh h)
+new_read t place (what.Stored addr word None) log a served fresh h = absurd (both_ways (exposed_words log a) fresh h)
 new_read t place (what.Stored addr word (Some from)) log a served fresh h =
     let n = new_word a addr.0 log fresh h in
     record { from = from; address = ap (λ (x : ℕ). let y : WordAddr = record { 0 = x } in Some y) n.0; served = refl; from_is = served ∙ ap (serves_at t place) n.0; unwritten = n.1 }
-new_read t place (what.Emitted word) log a served fresh h = absurd (both_ways (exposed log a) fresh h)
-new_read t place (what.Trapped number) log a served fresh h = absurd (both_ways (exposed log a) fresh h)
-new_read t place (what.Replaced addr) log a served fresh h = absurd (both_ways (exposed log a) fresh h)
-new_read t place what.Cancelled log a served fresh h = absurd (both_ways (exposed log a) fresh h)
-new_read t place (what.Committed task end) log a served fresh h = absurd (both_ways (exposed log a) fresh h)
+new_read t place (what.Emitted word) log a served fresh h = absurd (both_ways (exposed_words log a) fresh h)
+new_read t place (what.Trapped number) log a served fresh h = absurd (both_ways (exposed_words log a) fresh h)
+new_read t place (what.Replaced addr) log a served fresh h = absurd (both_ways (exposed_words log a) fresh h)
+new_read t place what.Cancelled log a served fresh h = absurd (both_ways (exposed_words log a) fresh h)
+new_read t place (what.Committed task end) log a served fresh h = absurd (both_ways (exposed_words log a) fresh h)
 
 -- the place of an active unit is found
 place_is : (img : Image) (config : Config) (s : Standing) → IsReached img config s → (q u : ℕ) → slice_get (map unit_of s.plain.tasks) q ≡ Some u → task_place s.plain u ≡ Some q
@@ -268,7 +268,7 @@ module _ (img : Image) (given : Given img) (config : Config) (es : List Entry) (
           | inr new ↦ record { log = adds (action_of done) u; at = ap (λ l. slice_get l (number - s.plain.commits)) logs ∙ new; some = wrote_grows (action_of done) u.log a some }
         ])
 
-    fresh : (q a : ℕ) (t : TaskLog) → slice_get (logs_of p n) q ≡ Some t → q ≢ 0 → (was : IsEdited (adds (action_of done)) (logs_of p s.plain) place q t) → exposed was.old.log a ≡ false → exposed (plus (action_of done) was.old.log) a ≡ true → Reader img config es (suc i) n q t.unit a
+    fresh : (q a : ℕ) (t : TaskLog) → slice_get (logs_of p n) q ≡ Some t → q ≢ 0 → (was : IsEdited (adds (action_of done)) (logs_of p s.plain) place q t) → exposed_words was.old.log a ≡ false → exposed_words (plus (action_of done) was.old.log) a ≡ true → Reader img config es (suc i) n q t.unit a
     unfolding entry_of
     fresh q a t h not_head was unread reads =
         let r : NewRead s.lines place done was.old.log a = new_read s.lines place done was.old.log a (served_reply img given config s b is ok place place_at) unread reads in
@@ -321,12 +321,12 @@ module _ (img : Image) (given : Given img) (config : Config) (es : List Entry) (
       | inl was ↦
           (let log_is : t.log ≡ plus (action_of done) was.old.log = ap (λ (y : TaskLog). y.log) (sym was.new) in
           let unit_is : was.old.unit ≡ t.unit = ap (λ (y : TaskLog). y.unit) was.new in
-          elim (cases_Bool (exposed was.old.log a)) [
+          elim (cases_Bool (exposed_words was.old.log a)) [
             | inl before ↦
                 (let there : slice_get (logs_of p s.plain) q ≡ Some was.old = ap (slice_get (logs_of p s.plain)) was.here ∙ was.there in
                 subst (λ u. Reader img config es (suc i) n q u a) unit_is
                 (carried img config es i s.plain n q q was.old.unit a e at (no_assign was.old.unit) (omega (arith, commits_same)) (kept q a t h) (readers q was.old there not_head a before)))
-            | inr unread ↦ fresh q a t h not_head was unread (ap (λ g. exposed g a) (sym log_is) ∙ ex)
+            | inr unread ↦ fresh q a t h not_head was unread (ap (λ g. exposed_words g a) (sym log_is) ∙ ex)
           ])
     ]
 
@@ -348,7 +348,7 @@ module _ (img : Image) (given : Given img) (config : Config) (es : List Entry) (
             (λ number lt. version_kept img s.plain n number a commits_same (λ u le there some.
             record { log = u; at = ap (λ l. slice_get l (number - s.plain.commits)) logs ∙ (get-append_left (logs_of p s.plain) (begun ∷ []) (number - s.plain.commits) (within (logs_of p s.plain) (number - s.plain.commits) u there) ∙ there); some = some }))
             (readers q t old not_head a ex))
-        | inr new ↦ absurd (both_ways (exposed t.log a) (ap (λ (y : TaskLog). exposed y.log a) (sym new)) ex)
+        | inr new ↦ absurd (both_ways (exposed_words t.log a) (ap (λ (y : TaskLog). exposed_words y.log a) (sym new)) ex)
       ]
   reads_step (Submit b) is ok same logs q t h not_head a ex = submit_step b is ok same logs.place logs.at logs.cut logs.logs q t h not_head a ex
   reads_step (Replace unit address) is ok same logs q t h not_head a ex =
@@ -431,7 +431,7 @@ is_caused img given config es legal i e at cause =
     let task = logged img s.plain b.victim log.0 log.1 in
     let inside = within es i e at in
     let not_head : b.victim ≢ 0 = λ z. absurd (omega (arith, later_than, z)) in
-    let ex : exposed log.0.log a ≡ true = (and_parts (not (b.victim == 0)) (exposed log.0.log a) (sym (exposed_logged img s.plain b.victim log.0 log.1 a) ∙ b.is_victim.exposed)).1 in
+    let ex : exposed_words log.0.log a ≡ true = (and_parts (not (b.victim == 0)) (exposed_words log.0.log a) (sym (exposed_logged img s.plain b.victim log.0 log.1 a) ∙ b.is_victim.exposed)).1 in
     let r : Reader img config es i s.plain b.victim task.task.unit a =
     subst (λ u. Reader img config es i s.plain b.victim u a) task.unit_is (readers_at img given config es legal i (omega (arith, inside)) b.victim log.0 log.1 not_head a ex) in
     record {

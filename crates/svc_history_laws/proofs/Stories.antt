@@ -6,7 +6,7 @@ use Rattle.std.proofs.lemmas.Bool.{eq-eqb, ne_eqb}
 use Rattle.svc_base.specs.declared.config.Config.{Config}
 use Rattle.svc_image.specs.Image.{Image}
 use Rattle.svc_core_laws.specs.State.{State}
-use Rattle.svc_core_laws.specs.Program.{Memory, Program, Action, part, seq, wrote, over, said}
+use Rattle.svc_core_laws.specs.Program.{Memory, Program, Action, part, seq, wrote, over, task_log}
 use Rattle.svc_core_laws.specs.Words.{program}
 use Rattle.svc_bus_laws.specs.ByRows.{edit, cut_at}
 use Rattle.svc_machine_laws.specs.declared.reply.What.{What}
@@ -225,7 +225,7 @@ record Says (img : Image) (s : Standing) (f : ℕ → List Action) (e : Entry) :
   others : List Task
   tasks : s.plain.tasks ≡ head ∷ others
   number : e.word ≡ Some s.plain.commits
-  answers : f head.unit ≡ said (program img) s.plain.commits
+  answers : f head.unit ≡ task_log (program img) s.plain.commits
 
 says_event : (img : Image) → Given img → (config : Config) (s : Standing) (f : ℕ → List Action) → Told img config s f → (x : Event) → IsEvent x → refusal_of img config s x ≡ None
     → (entry_of x (reply_to img s x)).kind ≡ kind.Commit → Says img s f (entry_of x (reply_to img s x))
@@ -236,7 +236,7 @@ says_event img given config s f h (Replace unit a) is ok k = cc
 says_event img given config s f h (Cancel unit) is ok k = cc
 says_event img given config s f h (Commit by) is ok k =
     let logs : CommitsAnswers (program img) s.plain (standing_after img s (Commit by)).plain = logs_follow img given config s h.reached (Commit by) is ok in
-    let t : TaskLog = record { unit = logs.unit; log = said (program img) s.plain.commits } in
+    let t : TaskLog = record { unit = logs.unit; log = task_log (program img) s.plain.commits } in
     let first : slice_get (logs_of (program img) s.plain) 0 ≡ Some t = ap (λ (l : List TaskLog). slice_get l 0) logs.head in
     let top = head_of img s.plain t first in
     let can = can_commit img config s (by) ok in

@@ -7,7 +7,7 @@ use Rattle.svc_base.specs.declared.config.Config.{Config}
 use Rattle.svc_base.specs.declared.ids.UnitId.{UnitId}
 use Rattle.svc_image.specs.Image.{Image}
 use Rattle.svc_core_laws.specs.State.{State}
-use Rattle.svc_core_laws.specs.Program.{wrote, exposed}
+use Rattle.svc_core_laws.specs.Program.{wrote, exposed_words}
 use Rattle.svc_core_laws.specs.Words.{program}
 use Rattle.svc_bus_laws.specs.Search.{greatest}
 use Rattle.svc_bus_laws.specs.Versioned.{Versioned, version, is_exposed}
@@ -57,10 +57,10 @@ version_logged img s q t h a =
     let l = logged img s q t h in
     (task_anew (program img) s q l.task l.task_is).versions a ∙ ap (λ g. wrote g a) (sym l.log_is)
 
-pub exposed_logged : (img : Image) (s : Plain) (q : ℕ) (t : TaskLog) → slice_get (logs_of (program img) s) q ≡ Some t → (a : ℕ) → is_exposed (machine_of (program img) s).versioned q a ≡ (not (q == 0) && exposed t.log a)
+pub exposed_logged : (img : Image) (s : Plain) (q : ℕ) (t : TaskLog) → slice_get (logs_of (program img) s) q ≡ Some t → (a : ℕ) → is_exposed (machine_of (program img) s).versioned q a ≡ (not (q == 0) && exposed_words t.log a)
 exposed_logged img s q t h a =
     let l = logged img s q t h in
-    (task_anew (program img) s q l.task l.task_is).exposes a ∙ ap (λ g. not (q == 0) && exposed g a) (sym l.log_is)
+    (task_anew (program img) s q l.task l.task_is).exposes a ∙ ap (λ g. not (q == 0) && exposed_words g a) (sym l.log_is)
 
 -- a supplier below the reader that has a version
 pub record VersionAt (t : LineTable) (q a : ℕ) (o : Option UnitId) : Type 0 where
@@ -97,15 +97,15 @@ module _ (img : Image) (config : Config) (s : Standing) (reached : IsReached img
   pub own_logged : own_version s.lines q a ≡ wrote t.log a
   own_logged = sym (version_is s.lines q a inside) ∙ (ap (λ (v : Versioned). version v q a) reached.lines.same_map ∙ version_logged img s.plain q t at a)
 
-  line_exposed : (not (q == 0) && exposed_in (line_at s.lines q a)) ≡ (not (q == 0) && exposed t.log a)
+  line_exposed : (not (q == 0) && exposed_in (line_at s.lines q a)) ≡ (not (q == 0) && exposed_words t.log a)
   line_exposed = sym (exposed_is s.lines q a inside) ∙ (ap (λ (v : Versioned). is_exposed v q a) reached.lines.same_map ∙ exposed_logged img s.plain q t at a)
 
   -- a task that has neither exposed the word nor written it has no active line of it
-  pub no_line : q ≢ 0 → exposed t.log a ≡ false → wrote t.log a ≡ None → is_active (line_at s.lines q a) ≡ false
+  pub no_line : q ≢ 0 → exposed_words t.log a ≡ false → wrote t.log a ≡ None → is_active (line_at s.lines q a) ≡ false
   no_line later fresh unwritten = of (line_at s.lines q a) refl
     where
       exposes : exposed_in (line_at s.lines q a) ≡ false
-      exposes = ap (λ b. not b && exposed_in (line_at s.lines q a)) (sym (ne_eqb q 0 later)) ∙ (line_exposed ∙ (ap (λ b. not b && exposed t.log a) (ne_eqb q 0 later) ∙ fresh))
+      exposes = ap (λ b. not b && exposed_in (line_at s.lines q a)) (sym (ne_eqb q 0 later)) ∙ (line_exposed ∙ (ap (λ b. not b && exposed_words t.log a) (ne_eqb q 0 later) ∙ fresh))
 
       writes : version_in (line_at s.lines q a) ≡ None
       writes = sym (own_above s.lines q a later) ∙ (own_logged ∙ unwritten)

@@ -4,7 +4,7 @@ use Rattle.std.specs.Prelude.{unwrap_or, is_some, slice_get, take}
 use Rattle.svc_base.specs.declared.config.Config.{Config}
 use Rattle.svc_base.specs.declared.ids.WordAddr.{WordAddr}
 use Rattle.svc_image.specs.Image.{Image}
-use Rattle.svc_core_laws.specs.Program.{Action, Loaded, Stored, Replaced, Emitted, said}
+use Rattle.svc_core_laws.specs.Program.{Action, Loaded, Stored, Replaced, Emitted, task_log}
 use Rattle.svc_core_laws.specs.Words.{program}
 use Rattle.svc_machine_laws.specs.PlainMachine.{Task}
 use Rattle.svc_machine_laws.specs.Logs.{plus}
@@ -65,7 +65,8 @@ pub record IsAnswered (img : Image) (config : Config) (es : List Entry) (index :
   pub others : List Task
   pub tasks : (led_to img config (take index es)).plain.tasks ≡ head ∷ others
   pub number : e.word ≡ Some (led_to img config (take index es)).plain.commits
-  pub answers : story head.unit (take index es) ≡ said (program img) (led_to img config (take index es)).plain.commits
+  pub answers :
+      story head.unit (take index es) ≡ task_log (program img) (led_to img config (take index es)).plain.commits
 
 -- the history has the commit of this number
 pub record HasCommit (es : List Entry) (number : ℕ) : Type 0 where

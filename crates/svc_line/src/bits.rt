@@ -157,7 +157,7 @@ impl LineBits {
         self.union(LineBits::STALE)
     }
 
-    /// The bits with names, as they are.
+    /// The named bits alone.
     pub fn named_bits(self) -> LineBits
         ensures { bits_of result ≡ record (bits_of self) { unnamed = 0 } }
     {

@@ -10,8 +10,7 @@ pub struct Line {
     pub value: u32,
     /// The line's bits.
     pub bits: LineBits,
-    /// The link of a line that was stored to: the unit whose line holds the next newer version of the word. `None` ends
-    /// the links, and so does a unit that no longer has such a line. The link of a line that was not stored to means
-    /// nothing.
+    /// The line's link: the unit whose line holds the next newer version of the word. `None` ends the links, and so
+    /// does a unit that no longer has such a line. The link means nothing unless the line was stored to.
     pub next: Option<UnitId>,
 }

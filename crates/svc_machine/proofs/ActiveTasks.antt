@@ -17,13 +17,13 @@ use Rattle.svc_machine.specs.Reads.{task_of, task_shown}
 
 -- a task as its seat shows it
 abbrev pub at_seat : whole.Seat State → ActiveTask
-at_seat s = record { unit = record { 0 = s.unit }; entry = s.entry; turns = s.core.count; done = s.core.done }
+at_seat s = record { unit = record { 0 = s.unit }; task_entry = s.entry; turns = s.core.count; done = s.core.done }
 
 -- its core has counted its turns
 counted_at : (runs : List (Running State)) → AllByRecursion IsCounted runs → (place : ℕ)
     → option_map at_seat (option_map seat_of (slice_get runs place)) ≡ option_map task_shown (slice_get runs place)
 counted_at [] all place = refl
-counted_at (x ∷ runs) all zero = ap (λ (n : ℕ). Some (let shown : ActiveTask = record { unit = record { 0 = x.task.unit }; entry = x.task.entry; turns = n; done = x.run.core.done } in shown)) all.0
+counted_at (x ∷ runs) all zero = ap (λ (n : ℕ). Some (let shown : ActiveTask = record { unit = record { 0 = x.task.unit }; task_entry = x.task.entry; turns = n; done = x.run.core.done } in shown)) all.0
 counted_at (x ∷ runs) all (suc place) = counted_at runs all.1 place
 
 pub task_read : (m : Parts) → Kept m → (seats : List Seat) → map whole_seat seats ≡ m.seats → (place : ℕ)

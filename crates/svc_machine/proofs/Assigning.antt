@@ -11,7 +11,7 @@ use Rattle.svc_bus_laws.specs.LineTable.{LineTable}
 use Rattle.svc_bus_laws.specs.BusState.{Agrees}
 use Rattle.svc_bus_laws.specs.Steps.{begin}
 use Rattle.svc_bus.specs.Value.{BusValue}
-use Rattle.svc_bus.specs.Observed.{observed}
+use Rattle.svc_bus.specs.State.{bus_state}
 use Rattle.svc_bus.specs.Calls.{IsAtWork}
 use Rattle.svc_machine_laws.specs.declared.reply.Reply.{Reply}
 use Rattle.svc_machine_laws.specs.declared.reply.What.TheVariants as what
@@ -65,12 +65,12 @@ module _ (m : Parts) (kept : Kept m) (unit guess : ℕ) (ok : IsAccepted m (Assi
   tasks_count = answering.count (program m.image) (seq (program m.image) m.plain.commits).memory m.plain.tasks
 
   -- there is such a unit, and it is idle
-  pub known : unit < (observed m.bus).caches
+  pub known : unit < (bus_state m.bus).caches
   known = let h = can.known in let a = kept.agrees.caches in let b = kept.reached.lines.caches in omega (arith, h, a, b)
 
-  pub idle : IsAtWork (observed m.bus) unit → ⊥
+  pub idle : IsAtWork (bus_state m.bus) unit → ⊥
   idle work =
-      let units : (observed m.bus).units ≡ map unit_of m.plain.tasks = kept.agrees.units ∙ kept.reached.lines.units in
+      let units : (bus_state m.bus).units ≡ map unit_of m.plain.tasks = kept.agrees.units ∙ kept.reached.lines.units in
       not_found (map unit_of m.plain.tasks) unit work.0 can.idle
       (subst (λ (us : List ℕ). work.0 < length us) units work.1.within)
       (subst (λ (us : List ℕ). get_or us work.0 0 ≡ unit) units work.1.unit_is)
@@ -126,7 +126,7 @@ module _ (m : Parts) (kept : Kept m) (unit guess : ℕ) (ok : IsAccepted m (Assi
       → whole_seat seat ≡ record { unit = unit; epoch = m.plain.epoch; entry = e; core = start m.image e; waiting = [] }
       → (new : List Seat) → new ≡ seats ++ seat ∷ []
       → (guide : Guide) → guide ≡ guide_assigned guess m.guide
-      → (bus : BusValue) → ((t : LineTable) → Agrees (observed m.bus) t → Agrees (observed bus) (begin t unit))
+      → (bus : BusValue) → ((t : LineTable) → Agrees (bus_state m.bus) t → Agrees (bus_state bus) (begin t unit))
       → (places : ℕ) → m.places ≤ places
       → Moved m (record m { plain = plain_of m.plain.commits (m.plain.accepted + 1) (m.plain.epoch + 1) new; bus = bus; guide = guide; seats = map whole_seat new; places = places }) (Assign unit guess)
   unfolding whole_event plain_event line_event

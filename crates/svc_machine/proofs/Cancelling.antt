@@ -12,7 +12,7 @@ use Rattle.svc_bus_laws.specs.BusState.{Agrees}
 use Rattle.svc_bus_laws.specs.Refusals.{is_head}
 use Rattle.svc_bus_laws.specs.Steps.{squash}
 use Rattle.svc_bus.specs.Value.{BusValue}
-use Rattle.svc_bus.specs.Observed.{observed}
+use Rattle.svc_bus.specs.State.{bus_state}
 use Rattle.svc_bus.specs.Calls.{IsAtWork}
 use Rattle.svc_machine_laws.specs.declared.reply.Reply.{Reply}
 use Rattle.svc_machine_laws.specs.declared.reply.Cut.{Cut}
@@ -69,14 +69,14 @@ module _ (m : Parts) (kept : Kept m) (seats : List Seat) (same : map whole_seat 
         omega (arith, h, n)
 
     -- so it is the place in each line table that the bus agrees with
-    pub line_place : (t : LineTable) → Agrees (observed m.bus) t → (place < length t.units) × (unit_at t place ≡ unit)
+    pub line_place : (t : LineTable) → Agrees (bus_state m.bus) t → (place < length t.units) × (unit_at t place ≡ unit)
     line_place t agrees =
         let units : t.units ≡ map unit_of m.plain.tasks = (reached_with m kept t agrees).lines.units in (
           subst (λ (us : List ℕ). place < length us) (sym units) (within (map unit_of m.plain.tasks) place unit task_here),
           ap (λ (us : List ℕ). get_or us place 0) units ∙ get_or_from_slice_get (map unit_of m.plain.tasks) place unit 0 task_here,
         )
 
-    pub at_work : IsAtWork (observed m.bus) unit
+    pub at_work : IsAtWork (bus_state m.bus) unit
     at_work =
         let here = line_place kept.lines kept.agrees in (
           place,
@@ -105,7 +105,7 @@ module _ (m : Parts) (kept : Kept m) (seats : List Seat) (same : map whole_seat 
       pub accepted_room : m.plain.accepted < m.config.events
       accepted_room = can.room
 
-      pub not_head : is_head (observed m.bus).units unit ≡ false
+      pub not_head : is_head (bus_state m.bus).units unit ≡ false
       not_head =
           let same_place : place ≡ can.place = same_Some place can.place (sym at ∙ task_placed ∙ can.at) in
           ap (λ (us : List ℕ). is_head us unit) (kept.agrees.units ∙ kept.reached.lines.units)
@@ -113,7 +113,7 @@ module _ (m : Parts) (kept : Kept m) (seats : List Seat) (same : map whole_seat 
 
       pub cancelled : (new : List Seat) → new ≡ take place seats
           → (guide : Guide) → guide ≡ guide_cut place m.guide
-          → (bus : BusValue) → ((t : LineTable) → (p : ℕ) → Agrees (observed m.bus) t → p < length t.units → unit_at t p ≡ unit → Agrees (observed bus) (squash t p))
+          → (bus : BusValue) → ((t : LineTable) → (p : ℕ) → Agrees (bus_state m.bus) t → p < length t.units → unit_at t p ≡ unit → Agrees (bus_state bus) (squash t p))
           → (places : ℕ) → m.places ≤ places
           → Moved m (record m { plain = plain_of m.plain.commits (m.plain.accepted + 1) m.plain.epoch new; bus = bus; guide = guide; seats = map whole_seat new; places = places }) (Cancel unit)
       unfolding whole_event plain_event line_event
@@ -134,7 +134,7 @@ module _ (m : Parts) (kept : Kept m) (seats : List Seat) (same : map whole_seat 
                 ∙ sym (ap (λ o. guide_of (program m.image) m.image.entries (plain_cancel m.plain o)) (sym task_placed ∙ at));
             places = more;
             room = omega arith;
-            lines = λ t h. let here = line_place t h in subst (λ o. Agrees (observed bus) (line_cancel t o)) (sym spot) (agrees t place h here.0 here.1);
+            lines = λ t h. let here = line_place t h in subst (λ o. Agrees (bus_state bus) (line_cancel t o)) (sym spot) (agrees t place h here.0 here.1);
           }
 
       pub cancel_reply : (cut : Cut) (n : ℕ) → n ≡ length seats → cut ≡ cut_from cause.Cancelled m.plain.commits n place

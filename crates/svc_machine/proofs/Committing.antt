@@ -12,7 +12,7 @@ use Rattle.svc_bus_laws.specs.Versioned.{Versioned}
 use Rattle.svc_bus_laws.specs.Steps as steps
 use Rattle.svc_bus_laws.specs.Steps.{squash}
 use Rattle.svc_bus.specs.Value.{BusValue}
-use Rattle.svc_bus.specs.Observed.{observed}
+use Rattle.svc_bus.specs.State.{bus_state}
 use Rattle.svc_machine_laws.specs.declared.reply.Reply.{Reply}
 use Rattle.svc_machine_laws.specs.declared.reply.Cut.{Cut}
 use Rattle.svc_machine_laws.specs.declared.reply.Cause.TheVariants as cause
@@ -109,13 +109,13 @@ module _ (m : Parts) (kept : Kept m) (by : ℕ) (ok : IsAccepted m (Commit by)) 
       ∙ sym (map_runs (program m.image) seat_entry entry_of (λ y. refl) (seq (program m.image) m.plain.commits).memory m.plain.tasks)
       ∙ ap (map seat_entry) (sym (same ∙ kept.seats))
 
-  units_of : (t : LineTable) → Agrees (observed m.bus) t → t.units ≡ units_in seats
+  units_of : (t : LineTable) → Agrees (bus_state m.bus) t → t.units ≡ units_in seats
   units_of t agrees =
       (reached_with m kept t agrees).lines.units
       ∙ sym (map_runs (program m.image) seat_unit unit_of (λ y. refl) (seq (program m.image) m.plain.commits).memory m.plain.tasks)
       ∙ ap (map seat_unit) (sym (same ∙ kept.seats))
 
-  pub has_units : (t : LineTable) × Agrees (observed m.bus) t × (t.units ≡ units_in seats)
+  pub has_units : (t : LineTable) × Agrees (bus_state m.bus) t × (t.units ≡ units_in seats)
   has_units = (kept.lines, kept.agrees, units_of kept.lines kept.agrees)
 
   seats_many : length seats ≡ length m.plain.tasks
@@ -150,7 +150,7 @@ module _ (m : Parts) (kept : Kept m) (by : ℕ) (ok : IsAccepted m (Commit by)) 
     active_some = settled_active end m.guide h.head.task_entry (entries_in h.others) (lined ∙ ap entries_in h.are)
 
     -- of each line table that the bus agreed with before
-    pub units_some : (bus : BusValue) → ((t : LineTable) → Agrees (observed m.bus) t → Agrees (observed bus) (cond (cuts_next end (drop 1 m.guide.active)) (squash t 1) t)) → 0 < length (observed bus).units
+    pub units_some : (bus : BusValue) → ((t : LineTable) → Agrees (bus_state m.bus) t → Agrees (bus_state bus) (cond (cuts_next end (drop 1 m.guide.active)) (squash t 1) t)) → 0 < length (bus_state bus).units
     units_some bus agrees =
         let t = kept.lines in
         let a = agrees t kept.agrees in
@@ -161,7 +161,7 @@ module _ (m : Parts) (kept : Kept m) (by : ℕ) (ok : IsAccepted m (Commit by)) 
         split true = refl
         split false = refl
 
-    pub commits_small : (bus : BusValue) → ((t : LineTable) → Agrees (observed m.bus) t → Agrees (observed bus) (cond (cuts_next end (drop 1 m.guide.active)) (squash t 1) t)) → m.config.events ≤ 1000000 → (observed bus).commits < 2 ^ 63
+    pub commits_small : (bus : BusValue) → ((t : LineTable) → Agrees (bus_state m.bus) t → Agrees (bus_state bus) (cond (cuts_next end (drop 1 m.guide.active)) (squash t 1) t)) → m.config.events ≤ 1000000 → (bus_state bus).commits < 2 ^ 63
     commits_small bus agrees events =
         let a = (agrees kept.lines kept.agrees).commits ∙ split (cuts_next end (drop 1 m.guide.active)) in
         let k : kept.lines.commits ≡ m.plain.commits = ap (λ (v : Versioned). v.commits) kept.reached.lines.same_map in
@@ -185,7 +185,7 @@ module _ (m : Parts) (kept : Kept m) (by : ℕ) (ok : IsAccepted m (Commit by)) 
 
     pub commits_moved : (new : List Seat) → new ≡ drop 1 (cond (cuts_next end (drop 1 m.guide.active)) (take 1 seats) seats)
         → (guide : Guide) → guide ≡ guide_committed end (guide_settled end m.guide)
-        → (bus : BusValue) → ((t : LineTable) → Agrees (observed m.bus) t → Agrees (observed bus) (steps.commit (cond (cuts_next end (drop 1 m.guide.active)) (squash t 1) t)))
+        → (bus : BusValue) → ((t : LineTable) → Agrees (bus_state m.bus) t → Agrees (bus_state bus) (steps.commit (cond (cuts_next end (drop 1 m.guide.active)) (squash t 1) t)))
         → (out : List ℕ) → out ≡ m.output ++ h.head.waiting.items
         → (stopped : Option End) → stopped ≡ stopped_after (Some end)
         → (places room : ℕ) → m.places ≤ places → m.room ≤ room
@@ -217,12 +217,12 @@ module _ (m : Parts) (kept : Kept m) (by : ℕ) (ok : IsAccepted m (Commit by)) 
               ∙ sym (commit_guide (program m.image) (given m.image kept.sound).is_program m.image.entries m.plain can.run can.here kept.reached.due done);
           places = more_places;
           room = more_room;
-          lines = λ t a. subst (λ l. Agrees (observed bus) (line_commit (program m.image) t l)) (sym seats_are)
-              (subst (λ o. Agrees (observed bus) (steps.commit (line_settle t (stays o (map seat_entry others))))) (sym h.ended)
-              (subst (λ (u : LineTable). Agrees (observed bus) (steps.commit u)) (ap {B = LineTable} (λ x. cond x (squash t 1) t) cuts_are ∙ settled_lines t end others (many t a)) (agrees t a)));
+          lines = λ t a. subst (λ l. Agrees (bus_state bus) (line_commit (program m.image) t l)) (sym seats_are)
+              (subst (λ o. Agrees (bus_state bus) (steps.commit (line_settle t (stays o (map seat_entry others))))) (sym h.ended)
+              (subst (λ (u : LineTable). Agrees (bus_state bus) (steps.commit u)) (ap {B = LineTable} (λ x. cond x (squash t 1) t) cuts_are ∙ settled_lines t end others (many t a)) (agrees t a)));
         }
       where
-        many : (t : LineTable) → Agrees (observed m.bus) t → length t.units ≡ suc (length (map whole_seat h.others))
+        many : (t : LineTable) → Agrees (bus_state m.bus) t → length t.units ≡ suc (length (map whole_seat h.others))
         many t a = ap length (units_of t a ∙ ap units_in h.are) ∙ ap suc (count seat_unit (map whole_seat h.others))
 
     pub commit_reply : (cut : Option Cut) → cut ≡ cond (cuts_next end (drop 1 m.guide.active)) (Some (cut_from cause.WrongGuess m.plain.commits (length seats) 1)) None

@@ -7,7 +7,7 @@ use Rattle.svc_core_laws.specs.Program.{seq}
 use Rattle.svc_core_laws.specs.Turns.{data_words}
 use Rattle.svc_core_laws.specs.Words.{program}
 use Rattle.svc_bus.specs.Value.{BusValue}
-use Rattle.svc_bus.specs.Observed.{observed}
+use Rattle.svc_bus.specs.State.{bus_state}
 use Rattle.svc_bus.specs.Sizes.{AreOfOneSize}
 use Rattle.svc_machine_laws.specs.Guide.{Guide}
 use Rattle.svc_machine_laws.specs.PlainMachine.{Plain}
@@ -17,11 +17,24 @@ use Rattle.svc_machine_laws.proofs.Answering as answering
 use Rattle.svc_machine_laws.proofs.Room.{tasks_few}
 use Rattle.svc_machine.specs.declared.seat.Seat.{Seat}
 use Rattle.svc_machine.specs.Kept.{Parts, Kept, whole_seat}
+use Rattle.svc_machine.specs.Value.{MachineValue}
 use Rattle.svc_machine.proofs.Keeping.{own_standing}
 use Rattle.svc_machine.proofs.Seats.{count}
 
+-- of one image and one configuration
+pub record AreOfOneImage (m o : MachineValue) : Type 0 where
+  pub image : m.image ≡ o.image
+  pub config : m.config ≡ o.config
+
+-- what holds of two machines as contracts see them holds of their fields
+pub of_one_image : {inside new others other : MachineValue} → inside ≡ new → others ≡ other → new.image ≡ other.image → new.config ≡ other.config → AreOfOneImage inside others
+of_one_image is others_are image config = record {
+  image = ap (λ (v : MachineValue). v.image) is ∙ image ∙ sym (ap (λ (v : MachineValue). v.image) others_are);
+  config = ap (λ (v : MachineValue). v.config) is ∙ config ∙ sym (ap (λ (v : MachineValue). v.config) others_are);
+}
+
 module _ (m : Parts) (kept : Kept m) (o : Parts) (others : Kept o) (image : m.image ≡ o.image) (config : m.config ≡ o.config) where
-  pub one_size : AreOfOneSize (observed m.bus) (observed o.bus)
+  pub one_size : AreOfOneSize (bus_state m.bus) (bus_state o.bus)
   one_size =
       let a = kept.agrees in
       let b = others.agrees in

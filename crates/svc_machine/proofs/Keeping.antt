@@ -11,7 +11,7 @@ use Rattle.svc_core_laws.specs.Words.{program}
 use Rattle.svc_bus_laws.specs.LineTable.{LineTable}
 use Rattle.svc_bus_laws.specs.BusState.{Agrees}
 use Rattle.svc_bus_laws.proofs.SeenLaws.{map_seen}
-use Rattle.svc_bus.specs.Observed.{observed}
+use Rattle.svc_bus.specs.State.{bus_state}
 use Rattle.svc_machine_laws.specs.declared.reply.Reply.{Reply}
 use Rattle.svc_machine_laws.specs.PlainMachine.{Task, Plain, runs_of}
 use Rattle.svc_machine_laws.specs.WholeMachine as whole
@@ -53,7 +53,7 @@ counted_tasks p (t ∷ ts) m all =
 
 module _ (m : Parts) (kept : Kept m) where
   -- is one of a standing that events lead to
-  pub reached_with : (t : LineTable) → Agrees (observed m.bus) t → IsReached m.image m.config (record { plain = m.plain; lines = t })
+  pub reached_with : (t : LineTable) → Agrees (bus_state m.bus) t → IsReached m.image m.config (record { plain = m.plain; lines = t })
   reached_with t agrees =
       let r = kept.reached in
       let a = kept.agrees in
@@ -67,7 +67,7 @@ module _ (m : Parts) (kept : Kept m) where
         outputs_few = r.outputs_few;
         lines = record {
           sound = agrees.sound;
-          same_map = sym (map_seen (observed m.bus) t agrees) ∙ map_seen (observed m.bus) kept.lines a ∙ r.lines.same_map;
+          same_map = sym (map_seen (bus_state m.bus) t agrees) ∙ map_seen (bus_state m.bus) kept.lines a ∙ r.lines.same_map;
           units = sym agrees.units ∙ a.units ∙ r.lines.units;
           caches = sym agrees.caches ∙ a.caches ∙ r.lines.caches;
           sets = sym agrees.sets ∙ a.sets ∙ r.lines.sets;
@@ -103,7 +103,7 @@ pub record Moved (old new : Parts) (x : Event) : Type 0 where
   pub guide : new.guide ≡ guide_of (program old.image) old.image.entries (plain_event old.image old.plain x)
   pub places : old.places ≤ new.places
   pub room : old.room ≤ new.room
-  pub lines : (t : LineTable) → Agrees (observed old.bus) t → Agrees (observed new.bus) (line_event old.image (machine_of (program old.image) old.plain) t x)
+  pub lines : (t : LineTable) → Agrees (bus_state old.bus) t → Agrees (bus_state new.bus) (line_event old.image (machine_of (program old.image) old.plain) t x)
 
 same_plain : (a b : Plain) → a.commits ≡ b.commits → a.accepted ≡ b.accepted → a.epoch ≡ b.epoch → a.tasks ≡ b.tasks → a ≡ b
 same_plain a b k n e ts =
@@ -143,14 +143,14 @@ module _ (old : Parts) (kept : Kept old) (x : Event) (is : IsEvent x) (ok : IsAc
   machine_is : machine_of p after ≡ whole_event old.image (machine_of p old.plain) x
   machine_is = machine_event old.image (given old.image kept.sound) old.config (own_standing old kept) kept.reached x is (ok (own_standing old kept) (stands old kept))
 
-  reached_after : (t : LineTable) → Agrees (observed old.bus) t → IsReached old.image old.config (record { plain = after; lines = line_event old.image (machine_of p old.plain) t x })
+  reached_after : (t : LineTable) → Agrees (bus_state old.bus) t → IsReached old.image old.config (record { plain = after; lines = line_event old.image (machine_of p old.plain) t x })
   unfolding standing_after
   reached_after t agrees =
       let s : Standing = record { plain = old.plain; lines = t } in
       step_reached old.image (given old.image kept.sound) old.config s (reached_with old kept t agrees) x is (ok s (record { plain = refl; lines = agrees }))
 
   -- the reply is the plain machine's
-  pub replied : (r : Reply) → ((t : LineTable) → Agrees (observed old.bus) t → r ≡ whole_reply old.image (machine_of p old.plain) t x)
+  pub replied : (r : Reply) → ((t : LineTable) → Agrees (bus_state old.bus) t → r ≡ whole_reply old.image (machine_of p old.plain) t x)
       → (s : Standing) → StandsAt (machine_value old) s → r ≡ reply_to old.image s x
   unfolding reply_to
   replied r h s at =
@@ -234,7 +234,7 @@ accepted_step old new x r ok done = record {
 
 -- what every accepted event comes to
 pub taken_as : (old new : Parts) (kept : Kept old) (v : MachineValue) → machine_value old ≡ v → (x : Event) (is : IsEvent x) (ok : IsAccepted old x) → Moved old new x
-    → (r : Reply) → ((t : LineTable) → Agrees (observed old.bus) t → r ≡ whole_reply old.image (machine_of (program old.image) old.plain) t x)
+    → (r : Reply) → ((t : LineTable) → Agrees (bus_state old.bus) t → r ≡ whole_reply old.image (machine_of (program old.image) old.plain) t x)
     → IsTaken v (machine_value new) x r
 taken_as old new kept v seen x is ok moved r answers =
     subst (λ (u : MachineValue). IsTaken u (machine_value new) x r) seen (record {

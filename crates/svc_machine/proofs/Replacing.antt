@@ -12,7 +12,7 @@ use Rattle.svc_bus_laws.specs.Refusals.{bus_cache, is_not_resident, is_pinned}
 use Rattle.svc_bus_laws.specs.Steps.{replace}
 use Rattle.svc_bus_laws.proofs.RefusalProofs.{same_pinned}
 use Rattle.svc_bus.specs.Value.{BusValue}
-use Rattle.svc_bus.specs.Observed.{observed}
+use Rattle.svc_bus.specs.State.{bus_state}
 use Rattle.svc_bus.specs.Calls.{replace_refusal}
 use Rattle.svc_machine_laws.specs.WholeMachine.{machine_of}
 use Rattle.svc_machine_laws.specs.Events.{Replace, plain_event, whole_event}
@@ -34,7 +34,7 @@ module _ (m : Parts) (kept : Kept m) (unit a : ℕ) (ok : IsAccepted m (Replace 
   off = no_case (cases_of m.image m.config (machine_of (program m.image) m.plain) kept.lines (Replace unit a)) (no_refusal m kept (Replace unit a) ok)
 
   -- there is such a unit
-  pub known : unit < (observed m.bus).caches
+  pub known : unit < (bus_state m.bus).caches
   known =
       let h = leb-false m.config.units unit (off 0) in
       let a = kept.agrees.caches in
@@ -45,14 +45,14 @@ module _ (m : Parts) (kept : Kept m) (unit a : ℕ) (ok : IsAccepted m (Replace 
   accepted_room = leb-false m.config.events m.plain.accepted (off 4)
 
   -- the bus doesn't refuse
-  pub bus_accepts : replace_refusal (observed m.bus) unit a ≡ None
+  pub bus_accepts : replace_refusal (bus_state m.bus) unit a ≡ None
   bus_accepts =
-      let resident : is_not_resident (bus_cache (observed m.bus) unit) a ≡ false = ap is_none (kept.agrees.lines unit a) ∙ off 2 in
-      let free : is_pinned (bus_cache (observed m.bus) unit) (observed m.bus).units unit a ≡ false = same_pinned (observed m.bus) kept.lines unit a kept.agrees ∙ off 3 in
+      let resident : is_not_resident (bus_cache (bus_state m.bus) unit) a ≡ false = ap is_none (kept.agrees.lines unit a) ∙ off 2 in
+      let free : is_pinned (bus_cache (bus_state m.bus) unit) (bus_state m.bus).units unit a ≡ false = same_pinned (bus_state m.bus) kept.lines unit a kept.agrees ∙ off 3 in
       ap₂ {C = Option Refusal} (λ (x y : Bool). cond x (Some refusal.NotResident) (cond y (Some refusal.Pinned) None)) resident free
 
   pub replaced : (seats : List Seat) → map whole_seat seats ≡ m.seats
-      → (bus : BusValue) → ((t : LineTable) → Agrees (observed m.bus) t → Agrees (observed bus) (replace t unit a))
+      → (bus : BusValue) → ((t : LineTable) → Agrees (bus_state m.bus) t → Agrees (bus_state bus) (replace t unit a))
       → Moved m (record m { plain = plain_of m.plain.commits (m.plain.accepted + 1) m.plain.epoch seats; bus = bus }) (Replace unit a)
   unfolding whole_event plain_event line_event
   replaced seats same bus agrees =

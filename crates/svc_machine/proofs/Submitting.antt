@@ -18,7 +18,7 @@ use Rattle.svc_bus_laws.specs.LineTable.{LineTable}
 use Rattle.svc_bus_laws.specs.BusState.{BusState, Agrees}
 use Rattle.svc_bus_laws.specs.Steps.{squash}
 use Rattle.svc_bus_laws.proofs.RefusalProofs.{same_full}
-use Rattle.svc_bus.specs.Observed.{observed}
+use Rattle.svc_bus.specs.State.{bus_state}
 use Rattle.svc_machine_laws.specs.PlainMachine as plain
 use Rattle.svc_machine_laws.specs.PlainMachine.{Plain, Task, Running, running, run_of, memory_at, entry_of, unit_of}
 use Rattle.svc_machine_laws.specs.WholeMachine as whole
@@ -110,7 +110,7 @@ module _ (m : Parts) (kept : Kept m) (unit place : ℕ) (at : seat_place (machin
   task_at = found (map unit_of m.plain.tasks) unit place (sym (seat_places m.image m.config (own_standing m kept) unit) ∙ at)
 
   -- in every line table that the bus agrees with
-  runs_there : (t : LineTable) → Agrees (observed m.bus) t → RunsAt (observed m.bus) unit t place
+  runs_there : (t : LineTable) → Agrees (bus_state m.bus) t → RunsAt (bus_state m.bus) unit t place
   runs_there t agrees =
       let units = (reached_with m kept t agrees).lines.units in
       let at_unit : slice_get t.units place ≡ Some unit = ap (λ us. slice_get us place) units ∙ task_at in
@@ -159,7 +159,7 @@ module _ (m : Parts) (kept : Kept m) (b : Advance) (ok : IsAccepted m (Submit b)
             (subst (λ (x : Running State). locals p b.local x.run.core ≡ b.end) same tk.end_is)
 
     -- what the asked turn needs
-    pub is_turn : (t : LineTable) → Agrees (observed m.bus) t → IsTurn before t place (seat_of can.run) (asked_want m.image b)
+    pub is_turn : (t : LineTable) → Agrees (bus_state m.bus) t → IsTurn before t place (seat_of can.run) (asked_want m.image b)
     is_turn t agrees =
         let r = reached_with m kept t agrees in
         record {
@@ -214,7 +214,7 @@ module _ (m : Parts) (kept : Kept m) (b : Advance) (ok : IsAccepted m (Submit b)
         let n : length m.seats ≡ length m.plain.tasks = ap length kept.seats ∙ count p (seq p m.plain.commits).memory m.plain.tasks in
         (omega (arith, few, inside, tasks, a, k, units, events), omega (arith, few, n, units))
 
-    module _ (seat : whole.Seat State) (bus : BusState) (reply : Reply) (done : (t : LineTable) → Agrees (observed m.bus) t → IsDone m.image (asked_want m.image b) t place (at_core b.end (seat_of can.run)) seat bus reply) where
+    module _ (seat : whole.Seat State) (bus : BusState) (reply : Reply) (done : (t : LineTable) → Agrees (bus_state m.bus) t → IsDone m.image (asked_want m.image b) t place (at_core b.end (seat_of can.run)) seat bus reply) where
       -- the asked turn, over the invariant's line table
       abbrev turn : IsTurn before kept.lines place (seat_of can.run) (asked_want m.image b)
       turn = is_turn kept.lines kept.agrees
@@ -285,7 +285,7 @@ module _ (m : Parts) (kept : Kept m) (b : Advance) (ok : IsAccepted m (Submit b)
           pub commits : new.plain.commits ≡ m.plain.commits
           pub accepted : new.plain.accepted ≡ m.plain.accepted + 1
           pub epoch : new.plain.epoch ≡ m.plain.epoch
-          pub lines : (t : LineTable) → Agrees bus t → Agrees (observed new.bus) (cond misled (squash t (suc place)) t)
+          pub lines : (t : LineTable) → Agrees bus t → Agrees (bus_state new.bus) (cond misled (squash t (suc place)) t)
           pub guide : new.guide ≡ cond misled (guide_cut (suc place) guided) guided
           pub seats : new.seats ≡ cond misled (take (suc place) (map whole_seat held)) (map whole_seat held)
           pub places : m.places ≤ new.places
@@ -297,11 +297,11 @@ module _ (m : Parts) (kept : Kept m) (b : Advance) (ok : IsAccepted m (Submit b)
         others_kept : {X : Type 0} (f : Machine State → X) → ((v : Versioned) (l : List (whole.Seat State)) → f before ≡ f (whole.with_seats before v l)) → f (whole.keep (suc place) turned) ≡ f turned → f before ≡ f (whole_event m.image before (Submit b))
         others_kept f same checked_same = others_done f before place b.end want same ∙ sym (unchecked f (whole.is_misled p turned.seats place) (suc place) turned checked_same) ∙ ap f (sym whole_is)
 
-        lines_after : (new : Parts) → Submitted new → (t : LineTable) → Agrees (observed m.bus) t → Agrees (observed new.bus) (line_event m.image before t (Submit b))
+        lines_after : (new : Parts) → Submitted new → (t : LineTable) → Agrees (bus_state m.bus) t → Agrees (bus_state new.bus) (line_event m.image before t (Submit b))
         unfolding line_event
         lines_after new s t agrees =
-            subst (λ o. Agrees (observed new.bus) (line_submit p before b.end want t o)) (sym at)
-            (subst (λ u. Agrees (observed new.bus) u) (ap (λ c. cond c (squash (line_ask want t place) (suc place)) (line_ask want t place)) whole_misled ∙ lines_checked (whole.is_misled p turned.seats place) (line_ask want t place) place)
+            subst (λ o. Agrees (bus_state new.bus) (line_submit p before b.end want t o)) (sym at)
+            (subst (λ u. Agrees (bus_state new.bus) u) (ap (λ c. cond c (squash (line_ask want t place) (suc place)) (line_ask want t place)) whole_misled ∙ lines_checked (whole.is_misled p turned.seats place) (line_ask want t place) place)
             (s.lines (line_ask want t place) (done t agrees).table))
 
         pub moved_by : (new : Parts) → Submitted new → Moved m new (Submit b)
@@ -329,7 +329,7 @@ module _ (m : Parts) (kept : Kept m) (b : Advance) (ok : IsAccepted m (Submit b)
         }
 
         pub replied_by : (count : ℕ) → count ≡ length m.seats → (wrong : Option Cut) → wrong ≡ cond misled (Some (cut_from cause.WrongGuess m.plain.commits count (suc place))) None
-            → (t : LineTable) → Agrees (observed m.bus) t → let r : Reply = record { what = reply.what; cut = option_or wrong reply.cut } in r ≡ whole_reply m.image before t (Submit b)
+            → (t : LineTable) → Agrees (bus_state m.bus) t → let r : Reply = record { what = reply.what; cut = option_or wrong reply.cut } in r ≡ whole_reply m.image before t (Submit b)
         unfolding whole_reply
         replied_by count count_is wrong wrong_is t agrees =
             let of : Option Cut → Reply → Reply = λ o r. record { what = r.what; cut = option_or o r.cut } in
@@ -380,21 +380,21 @@ module _ (m : Parts) (kept : Kept m) (b : Advance) (items : List declared.Seat) 
           seat_there (λ (s : declared.Seat). s.lease.unit.0) items place y b.unit.0 is
           (ap (λ us. slice_get us place) (sym (units_seen items)) ∙ found (map seat_unit (map whole_seat items)) b.unit.0 place (sym (place_is items b.unit.0) ∙ at_items))
 
-      pub its_task_runs : (t : LineTable) → Agrees (observed m.bus) t → RunsAt (observed m.bus) y.lease.unit.0 t place
-      its_task_runs t agrees = subst (λ u. RunsAt (observed m.bus) u t place) (sym its_unit) (runs_there m kept b.unit.0 place at_place t agrees)
+      pub its_task_runs : (t : LineTable) → Agrees (bus_state m.bus) t → RunsAt (bus_state m.bus) y.lease.unit.0 t place
+      its_task_runs t agrees = subst (λ u. RunsAt (bus_state m.bus) u t place) (sym its_unit) (runs_there m kept b.unit.0 place at_place t agrees)
 
       -- why the bus refuses what it asks is why the burst is refused
       module _ (admitted : IsAdmitted (machine_value m) b) (a : Ask) (asks : a ≡ b.ask) where
-        pub refused_as : (o : Option Refusal) → o ≡ refused_for (observed m.bus) y.lease.unit.0 (asked_word m.image a)
+        pub refused_as : (o : Option Refusal) → o ≡ refused_for (bus_state m.bus) y.lease.unit.0 (asked_word m.image a)
             → (s : Standing) → StandsAt (machine_value m) s → refusal_of m.image m.config s (Submit b) ≡ o
         refused_as o is_o s at =
             admitted s at
-            ∙ sym (same_room (observed m.bus) s.lines b.unit.0 (asked_word m.image b.ask) at.lines)
-            ∙ sym (is_o ∙ ap₂ (λ u k. refused_for (observed m.bus) u (asked_word m.image k)) its_unit asks)
+            ∙ sym (same_room (bus_state m.bus) s.lines b.unit.0 (asked_word m.image b.ask) at.lines)
+            ∙ sym (is_o ∙ ap₂ (λ u k. refused_for (bus_state m.bus) u (asked_word m.image k)) its_unit asks)
 
         -- one that asks for no word isn't refused
         pub wordless : asked_word m.image a ≡ None → IsAccepted m (Submit b)
-        wordless none = refused_as None (sym (ap (refused_for (observed m.bus) y.lease.unit.0) none))
+        wordless none = refused_as None (sym (ap (refused_for (bus_state m.bus) y.lease.unit.0) none))
 
       module _ (ok : IsAccepted m (Submit b)) where
         seat_is : whole_seat y ≡ seat_of (can m kept b ok).run
@@ -404,8 +404,8 @@ module _ (m : Parts) (kept : Kept m) (b : Advance) (items : List declared.Seat) 
         its_words follows core end = ap (λ (s : whole.Seat State). length s.waiting) seat_is ∙ waiting m kept b ok place at_place follows ∙ ap (λ (s : State). s.emitted) (sym end)
 
         pub its_turn : (core : State) (a : Ask) → core ≡ b.end → a ≡ b.ask → (seat : whole.Seat State) (bus : BusState) (reply : Reply)
-            → ((t : LineTable) (q : ℕ) → RunsAt (observed m.bus) y.lease.unit.0 t q → IsDone m.image (want_of m.image core a) t q (at_core core (whole_seat y)) seat bus reply)
-            → (t : LineTable) → Agrees (observed m.bus) t → IsDone m.image (asked_want m.image b) t place (at_core b.end (seat_of (can m kept b ok).run)) seat bus reply
+            → ((t : LineTable) (q : ℕ) → RunsAt (bus_state m.bus) y.lease.unit.0 t q → IsDone m.image (want_of m.image core a) t q (at_core core (whole_seat y)) seat bus reply)
+            → (t : LineTable) → Agrees (bus_state m.bus) t → IsDone m.image (asked_want m.image b) t place (at_core b.end (seat_of (can m kept b ok).run)) seat bus reply
         its_turn core a end asks seat bus reply done t agrees =
             let P : State → Ask → whole.Seat State → Type 0 = λ c k s. IsDone m.image (want_of m.image c k) t place (at_core c s) seat bus reply in
             subst (λ c. P c b.ask (seat_of (can m kept b ok).run)) end

@@ -9,7 +9,7 @@ use Rattle.svc_core_laws.specs.State.{State}
 use Rattle.svc_core_laws.specs.Words.{program}
 use Rattle.svc_bus_laws.specs.LineTable.{LineTable}
 use Rattle.svc_bus_laws.specs.BusState.{Agrees}
-use Rattle.svc_bus.specs.Observed.{observed}
+use Rattle.svc_bus.specs.State.{bus_state}
 use Rattle.svc_machine_laws.specs.PlainMachine.{Plain}
 use Rattle.svc_machine_laws.specs.WholeMachine as whole
 use Rattle.svc_machine_laws.specs.WholeMachine.{Machine, machine_of, seat_unit}
@@ -62,7 +62,7 @@ borrowed None = refl
 borrowed (Some r) = refl
 
 -- said for the plain machine's own seats, said for every standing
-pub refusal_is : (v : MachineValue) (r : LineTable → Option Refusal) (x : Event) → ((t : LineTable) → Agrees (observed v.bus) t → r t ≡ refuse v.image v.config (machine_at v) t x)
+pub refusal_is : (v : MachineValue) (r : LineTable → Option Refusal) (x : Event) → ((t : LineTable) → Agrees (bus_state v.bus) t → r t ≡ refuse v.image v.config (machine_at v) t x)
     → (s : Standing) → StandsAt v s → r s.lines ≡ refusal_of v.image v.config s x
 unfolding machine_at refusal_of
 refusal_is v r x h s at = subst (λ (q : Plain). r s.lines ≡ refuse v.image v.config (machine_of (program v.image) q) s.lines x) at.plain (h s.lines at.lines)

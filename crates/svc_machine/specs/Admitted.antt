@@ -6,7 +6,7 @@ use Rattle.svc_image.specs.Image.{Image}
 use Rattle.svc_core_laws.specs.Bursts.{Advance}
 use Rattle.svc_bus_laws.specs.BusState.{Agrees}
 use Rattle.svc_bus_laws.specs.LineTable.{LineTable}
-use Rattle.svc_bus.specs.Observed.{observed}
+use Rattle.svc_bus.specs.State.{bus_state}
 use Rattle.svc_machine_laws.specs.Events as laws
 use Rattle.svc_machine_laws.specs.Events.{Submit, seat_place}
 use Rattle.svc_machine_laws.specs.Refusals.{asked_word, full_set, refuse}
@@ -59,7 +59,7 @@ refusal_by img t (Err why) = Some why
 -- an event's admission: over each line table that the bus agrees with it is refused as the table of refusals says, and
 -- what isn't refused is the event, with what was found about it
 pub record IsAdmission (m : MachineValue) (x : laws.Event) (result : Result Admitted Refusal) : Type 0 where
-  pub refused : (t : LineTable) → Agrees (observed m.bus) t
+  pub refused : (t : LineTable) → Agrees (bus_state m.bus) t
       → refusal_by m.image t result ≡ refuse m.image m.config (machine_at m) t x
   pub event : IfOk result (λ a. event_in a ≡ x)
   pub found : IfOk result (λ a. IsFound m a)

@@ -1,6 +1,6 @@
 -- What an asked turn does to its task's seat and to the lines, and how it is answered, over each line table that the
 -- bus agrees with.
-use Rattle.std.specs.Prelude.{◌≡◌, ◌⊎◌, ◌^◌, ◌%◌, ℕ, Option, Some, None, Result, IfOk, OnErr, option_map}
+use Rattle.std.specs.Prelude.{◌≡◌, ◌⊎◌, ◌<◌, ◌^◌, ◌%◌, ℕ, Option, Some, None, Result, IfOk, OnErr, option_map}
 use Rattle.std.specs.Result.{result_err}
 use Rattle.svc_base.specs.declared.refusal.Refusal.{Refusal}
 use Rattle.svc_base.specs.declared.served.Served.{Served}
@@ -9,6 +9,7 @@ use Rattle.svc_rv32i.specs.declared.instr.StoreKind.TheVariants as store
 use Rattle.svc_image.specs.Image.{Image}
 use Rattle.svc_core_laws.specs.declared.ask.Ask.{Ask}
 use Rattle.svc_core_laws.specs.State.{State}
+use Rattle.svc_core_laws.specs.Turns.{data_words}
 use Rattle.svc_core_laws.specs.Program.{Memory, Want, Local, Load, Store, Narrow, Emit}
 use Rattle.svc_core_laws.specs.Words.{program, stored_word}
 use Rattle.svc_bus_laws.specs.Versioned.{Victim, view, victim_answer}
@@ -16,7 +17,7 @@ use Rattle.svc_bus_laws.specs.LineTable.{LineTable, versioned_map}
 use Rattle.svc_bus_laws.specs.Steps.{read}
 use Rattle.svc_bus_laws.specs.BusState.{BusState, Agrees}
 use Rattle.svc_bus.specs.Calls.{RunsAt, full_refusal}
-use Rattle.svc_bus.specs.Observed.{observed}
+use Rattle.svc_bus.specs.State.{bus_state}
 use Rattle.svc_bus.specs.Value.{BusValue}
 use Rattle.svc_machine_laws.specs.declared.reply.Cause.TheVariants as cause
 use Rattle.svc_machine_laws.specs.declared.reply.Cut.{Cut}
@@ -31,6 +32,13 @@ use Rattle.svc_machine.specs.Kept.{whole_seat}
 -- some task of the unit is active
 abbrev pub IsRunning : BusState → (unit : ℕ) → Type 0
 IsRunning b unit = (t : LineTable) × (place : ℕ) × RunsAt b unit t place
+
+-- the unit's task, which stands at this core, has a turn to take, on a bus that has the image's words
+pub record HasTurn (img : Image) (core : State) (bus : BusState) (unit : ℕ) : Type 0 where
+  pub going : core.done ≡ None
+  pub in_time : core.count < core.limit
+  pub running : IsRunning bus unit
+  pub size : bus.words ≡ data_words img
 
 -- why the bus refuses a turn that asks for this word, if it does
 abbrev pub refused_for : BusState → (unit : ℕ) → Option ℕ → Option Refusal
@@ -72,7 +80,7 @@ pub record IsPrepared (t : LineTable) (unit place a : ℕ) (kind : StoreKind) (l
 -- the bus wasn't called, or its call found room for the word, and there is room for it afterwards
 abbrev pub HasRoomYet : (old new : BusValue) → (unit a : ℕ) → Type 0
 HasRoomYet old new unit a =
-    (new ≡ old) ⊎ ((full_refusal (observed old) unit a ≡ None) × (full_refusal (observed new) unit a ≡ None))
+    (new ≡ old) ⊎ ((full_refusal (bus_state old) unit a ≡ None) × (full_refusal (bus_state new) unit a ≡ None))
 
 -- the tasks that a store of this word squashes, as a reply names them
 abbrev pub violation_cut : (a : ℕ) → Victim → Cut
@@ -118,7 +126,7 @@ pub record IsDone (img : Image) (want : Option (Want State)) (t : LineTable) (pl
 -- done
 pub record IsAnswered (img : Image) (core : State) (ask : Ask) (want : Option (Want State)) (old new : code.Seat)
     (old_bus new_bus : BusValue) (result : Result Reply Refusal) : Type 0 where
-  pub refused : result_err result ≡ refused_for (observed old_bus) old.lease.unit.0 (asked_word img ask)
+  pub refused : result_err result ≡ refused_for (bus_state old_bus) old.lease.unit.0 (asked_word img ask)
   pub unchanged : OnErr result ((new ≡ old) × (new_bus ≡ old_bus))
-  pub done : (t : LineTable) → (place : ℕ) → RunsAt (observed old_bus) old.lease.unit.0 t place
-      → IfOk result (IsDone img want t place (at_core core (whole_seat old)) (whole_seat new) (observed new_bus))
+  pub done : (t : LineTable) → (place : ℕ) → RunsAt (bus_state old_bus) old.lease.unit.0 t place
+      → IfOk result (IsDone img want t place (at_core core (whole_seat old)) (whole_seat new) (bus_state new_bus))

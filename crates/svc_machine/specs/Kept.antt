@@ -9,7 +9,7 @@ use Rattle.svc_core_laws.specs.Words.{program}
 use Rattle.svc_bus_laws.specs.LineTable.{LineTable}
 use Rattle.svc_bus_laws.specs.BusState.{Agrees}
 use Rattle.svc_bus.specs.Value.{BusValue}
-use Rattle.svc_bus.specs.Observed.{observed}
+use Rattle.svc_bus.specs.State.{bus_state}
 use Rattle.svc_machine_laws.specs.PlainMachine.{Plain}
 use Rattle.svc_machine_laws.specs.WholeMachine as whole
 use Rattle.svc_machine_laws.specs.WholeMachine.{machine_of}
@@ -59,5 +59,5 @@ pub record Kept (m : Parts) : Type 0 where
   -- every accepted event outputs at most one word
   pub room : m.config.events ≤ m.room
   pub lines : LineTable
-  pub agrees : Agrees (observed m.bus) lines
+  pub agrees : Agrees (bus_state m.bus) lines
   pub reached : IsReached m.image m.config (record { plain = m.plain; lines = lines })

@@ -30,7 +30,7 @@ is_full m = nat_le m.config.events m.plain.accepted
 abbrev pub task_shown : Running State → ActiveTask
 task_shown x = record {
   unit = record { 0 = x.task.unit };
-  entry = x.task.entry;
+  task_entry = x.task.entry;
   turns = x.task.turns;
   done = x.run.core.done;
 }

@@ -4,7 +4,7 @@ use Rattle.svc_base.specs.declared.config.Config.{Config}
 use Rattle.svc_image.specs.Image.{Image}
 use Rattle.svc_bus_laws.specs.BusState.{Agrees}
 use Rattle.svc_bus.specs.Value.{BusValue}
-use Rattle.svc_bus.specs.Observed.{observed}
+use Rattle.svc_bus.specs.State.{bus_state}
 use Rattle.svc_machine_laws.specs.PlainMachine.{Plain}
 use Rattle.svc_machine_laws.specs.Standing.{Standing, whole_of}
 use Rattle.svc_machine_laws.specs.Headline.{IsSequential}
@@ -19,7 +19,7 @@ pub record MachineValue : Type 0 where
 -- the machine stands there: the plain machine is its own, and its bus agrees with the line table
 pub record StandsAt (m : MachineValue) (s : Standing) : Type 0 where
   pub plain : m.plain ≡ s.plain
-  pub lines : Agrees (observed m.bus) s.lines
+  pub lines : Agrees (bus_state m.bus) s.lines
 
 -- the committed tasks are the first k of the program's sequential order, and committed memory, output, due entry and
 -- stop are exactly what running them one after another on one flat memory leaves

@@ -8,7 +8,7 @@ ghost use Rattle.svc_core_laws.specs.declared.ask.Ask.{Ask};
 ghost use Rattle.svc_bus_laws.specs.BusState.{Agrees};
 ghost use Rattle.svc_bus_laws.specs.LineTable.{LineTable};
 ghost use Rattle.svc_bus_laws.specs.Refusals.{is_not_resident, is_pinned, table_cache};
-ghost use Rattle.svc_bus.specs.Observed.{observed};
+ghost use Rattle.svc_bus.specs.State.{bus_state};
 ghost use Rattle.svc_machine_laws.specs.Events.{Assign, Cancel, Commit, Replace, Submit, seat_place};
 ghost use Rattle.svc_machine_laws.specs.Refusals.{history_full, is_current, no_unit, seat_at};
 ghost use Rattle.svc_machine_laws.specs.Refusals.{asked_word, first_case, full_set};
@@ -234,7 +234,7 @@ impl Machine {
     // The word to replace before the unit has room for what is asked, if it has none.
     pub(crate) fn full_set(&self, unit: UnitId, ask: Ask) -> Option<WordAddr>
         requires { unit.0 < self.now.config.units }
-        ensures { (t : LineTable) → Agrees (observed self.now.bus) t
+        ensures { (t : LineTable) → Agrees (bus_state self.now.bus) t
             → option_map (λ addr. addr.0) result ≡ full_set t unit.0 (asked_word self.now.image ask) }
     {
         let addr = asked_word(&self.image, ask)?;
@@ -244,9 +244,9 @@ impl Machine {
     // Whether the unit's valid line of the word, if any, is pinned: active, with a unit that doesn't run the head.
     fn pinning(&self, unit: UnitId, addr: WordAddr) -> Option<bool>
         requires { unit.0 < self.now.config.units }
-        ensures resident { (t : LineTable) → Agrees (observed self.now.bus) t
+        ensures resident { (t : LineTable) → Agrees (bus_state self.now.bus) t
             → is_some result ≡ not (is_not_resident (table_cache t unit.0) addr.0) }
-        ensures pinned { (t : LineTable) → Agrees (observed self.now.bus) t
+        ensures pinned { (t : LineTable) → Agrees (bus_state self.now.bus) t
             → unwrap_or result false ≡ is_pinned (table_cache t unit.0) t.units unit.0 addr.0 }
     {
         let (bits, _) = self.bus.line_at(unit, addr)?;

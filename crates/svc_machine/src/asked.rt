@@ -15,11 +15,12 @@ ghost use Rattle.svc_bus_laws.specs.LineTable.{LineTable};
 ghost use Rattle.svc_bus_laws.specs.Steps.{write};
 ghost use Rattle.svc_bus_laws.specs.BusState.{Agrees};
 ghost use Rattle.svc_bus.specs.Calls.{RunsAt, full_refusal, victim_shown};
-ghost use Rattle.svc_bus.specs.Observed.{observed};
+ghost use Rattle.svc_bus.specs.State.{bus_state};
 ghost use Rattle.svc_machine_laws.specs.WholeMachine.{at_core, seat_turn};
 ghost use Rattle.svc_machine_laws.specs.Events.{want_of};
 ghost use Rattle.svc_machine_laws.specs.Refusals.{asked_word};
-ghost use Rattle.svc_machine.specs.Asked.{HasRoomYet, IsAnswered, IsPrepared, IsRunning, stored_cut, violation_cut};
+ghost use Rattle.svc_machine.specs.Asked.{HasRoomYet, HasTurn, IsAnswered, IsPrepared, IsRunning};
+ghost use Rattle.svc_machine.specs.Asked.{stored_cut, violation_cut};
 ghost use Rattle.svc_machine.specs.Kept.{whole_seat};
 
 use crate::seat::Seat;
@@ -45,8 +46,8 @@ pub(crate) fn do_asked(
     ask: Ask,
 ) -> Result<Reply, Refusal>
     requires ready { IsReady core.now ask }
-    requires running { IsRunning (observed bus.old) seat.old.lease.unit.0 }
-    requires size { (observed bus.old).words ≡ data_words image.now }
+    requires running { IsRunning (bus_state bus.old) seat.old.lease.unit.0 }
+    requires size { (bus_state bus.old).words ≡ data_words image.now }
     requires waiting { asked_word image.now ask ≡ None → length seat.old.waiting.items ≡ core.now.emitted }
     ensures { IsAnswered image.now core.now ask (want_of image.now core.now ask)
         seat.old seat.new bus.old bus.new result }
@@ -74,10 +75,7 @@ fn do_load(
     rd: Register,
     addr: u32,
 ) -> Result<Reply, Refusal>
-    requires going { core.now.done ≡ None }
-    requires in_time { core.now.count < core.now.limit }
-    requires running { IsRunning (observed bus.old) seat.old.lease.unit.0 }
-    requires size { (observed bus.old).words ≡ data_words image.now }
+    requires { HasTurn image.now core.now (bus_state bus.old) seat.old.lease.unit.0 }
     ensures { let trap = access_trap (data_words image.now) (load_bytes kind) addr in
         IsAnswered image.now core.now (Ask.Load kind rd addr)
         (Some (wants_load image.now core.now kind rd addr trap)) seat.old seat.new bus.old bus.new result }
@@ -108,10 +106,7 @@ fn do_store(
     addr: u32,
     value: u32,
 ) -> Result<Reply, Refusal>
-    requires going { core.now.done ≡ None }
-    requires in_time { core.now.count < core.now.limit }
-    requires running { IsRunning (observed bus.old) seat.old.lease.unit.0 }
-    requires size { (observed bus.old).words ≡ data_words image.now }
+    requires { HasTurn image.now core.now (bus_state bus.old) seat.old.lease.unit.0 }
     ensures { let trap = store_trap (data_words image.now) image.now.read_only (store_bytes kind) addr in
         IsAnswered image.now core.now (Ask.Store kind addr value)
         (Some (wants_store image.now core.now kind addr value trap)) seat.old seat.new bus.old bus.new result }
@@ -180,15 +175,15 @@ fn word_to_store(
     access: Access,
     value: u32,
 ) -> Result<(u32, Option<Served>), Refusal>
-    requires running { IsRunning (observed bus.old) unit.0 }
-    requires in_memory { access.word < (observed bus.old).words }
+    requires running { IsRunning (bus_state bus.old) unit.0 }
+    requires in_memory { access.word < (bus_state bus.old).words }
     requires fits { access.lane + store_bytes kind ≤ 4 }
     requires aligned { access.lane % store_bytes kind ≡ 0 }
-    ensures refused { IfErr result (λ e. full_refusal (observed bus.old) unit.0 access.word ≡ Some e) }
+    ensures refused { IfErr result (λ e. full_refusal (bus_state bus.old) unit.0 access.word ≡ Some e) }
     ensures unchanged { OnErr result (bus.new ≡ bus.old) }
     ensures room { OnOk result (HasRoomYet bus.old bus.new unit.0 access.word) }
-    ensures prepared { (t : LineTable) → (place : ℕ) → RunsAt (observed bus.old) unit.0 t place
-        → IfOk result (λ r. IsPrepared t unit.0 place access.word kind access.lane value (observed bus.new) r.0 r.1) }
+    ensures prepared { (t : LineTable) → (place : ℕ) → RunsAt (bus_state bus.old) unit.0 t place
+        → IfOk result (λ r. IsPrepared t unit.0 place access.word kind access.lane value (bus_state bus.new) r.0 r.1) }
 {
     match kind {
         StoreKind::Word => Ok((value, None)),
@@ -203,14 +198,14 @@ fn word_to_store(
 //
 // Errors: the bus's, if the unit has no room for the word. Then nothing changes.
 fn write(bus: &mut Bus, unit: UnitId, addr: WordAddr, word: u32) -> Result<Option<Cut>, Refusal>
-    requires running { IsRunning (observed bus.old) unit.0 }
-    requires in_memory { addr.0 < (observed bus.old).words }
-    ensures refused { result_err result ≡ full_refusal (observed bus.old) unit.0 addr.0 }
+    requires running { IsRunning (bus_state bus.old) unit.0 }
+    requires in_memory { addr.0 < (bus_state bus.old).words }
+    ensures refused { result_err result ≡ full_refusal (bus_state bus.old) unit.0 addr.0 }
     ensures unchanged { OnErr result (bus.new ≡ bus.old) }
-    ensures cut { (t : LineTable) → (place : ℕ) → RunsAt (observed bus.old) unit.0 t place
+    ensures cut { (t : LineTable) → (place : ℕ) → RunsAt (bus_state bus.old) unit.0 t place
         → IfOk result (λ cut. cut ≡ stored_cut t place addr.0) }
-    ensures table { (t : LineTable) → (place : ℕ) → RunsAt (observed bus.old) unit.0 t place
-        → OnOk result (Agrees (observed bus.new) (write t place addr.0 word)) }
+    ensures table { (t : LineTable) → (place : ℕ) → RunsAt (bus_state bus.old) unit.0 t place
+        → OnOk result (Agrees (bus_state bus.new) (write t place addr.0 word)) }
 {
     let victim = bus.write(unit, addr, word)?;
     Ok(violation_cut(addr, victim))

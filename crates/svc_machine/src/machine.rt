@@ -4,7 +4,7 @@ ghost use Rattle.std.specs.Prelude.{◌≡◌, ◌≤◌, [], IfOk, vec_capacity
 ghost use Rattle.svc_image.specs.Image.{IsImage};
 ghost use Rattle.svc_bus_laws.specs.BusState.{Agrees};
 ghost use Rattle.svc_bus_laws.specs.LineTable.{opening_table};
-ghost use Rattle.svc_bus.specs.Observed.{observed};
+ghost use Rattle.svc_bus.specs.State.{bus_state};
 ghost use Rattle.svc_machine_laws.specs.Standing.{opened_at};
 ghost use Rattle.svc_machine.specs.Events.{event_of};
 ghost use Rattle.svc_machine.specs.Steps.{IsStep};
@@ -73,7 +73,7 @@ impl Model for Machine {
 // A bus without lines or tasks, over the image's data.
 fn open_bus(alloc: Global, image: &Image, config: Config) -> Result<Bus, OpenError>
     ensures table { IfOk result (λ bus.
-        Agrees (observed bus) (opening_table config.units config.sets config.ways image.now.words)) }
+        Agrees (bus_state bus) (opening_table config.units config.sets config.ways image.now.words)) }
     ensures sound { IsImage image.now }
 {
     let words = image.data_words();

@@ -9,7 +9,7 @@ ghost use Rattle.svc_core_laws.specs.Turns.{data_words};
 ghost use Rattle.svc_core_laws.specs.Words.{program};
 ghost use Rattle.svc_bus_laws.specs.BusState.{without_number};
 ghost use Rattle.svc_bus_laws.specs.BusView.{bus_newest};
-ghost use Rattle.svc_bus.specs.Observed.{observed};
+ghost use Rattle.svc_bus.specs.State.{bus_state};
 ghost use Rattle.svc_bus.specs.Calls.{line_shown};
 ghost use Rattle.svc_bus.specs.Versions.{AreItsVersions};
 ghost use Rattle.svc_machine_laws.specs.Guess.{guess};
@@ -100,7 +100,7 @@ impl Machine {
     /// The unit whose line is the newest committed dirty one of the word, if there is one.
     pub fn newest_committed(&self, addr: WordAddr) -> Option<UnitId>
         requires in_data { addr.0 < data_words self.now.image }
-        ensures { option_map (λ unit. unit.0) result ≡ bus_newest (observed self.now.bus) addr.0 }
+        ensures { option_map (λ unit. unit.0) result ≡ bus_newest (bus_state self.now.bus) addr.0 }
     {
         self.bus.newest_committed(addr)
     }
@@ -108,7 +108,7 @@ impl Machine {
     /// The units that have a committed version of the word. The unit of the oldest version is the first.
     pub fn committed_versions(&self, addr: WordAddr) -> UnitList
         requires in_data { addr.0 < data_words self.now.image }
-        ensures { AreItsVersions (observed self.now.bus) addr.0 result.items }
+        ensures { AreItsVersions (bus_state self.now.bus) addr.0 result.items }
     {
         self.bus.committed_versions(addr)
     }

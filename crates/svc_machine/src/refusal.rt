@@ -3,7 +3,7 @@
 ghost use Rattle.std.specs.Prelude.{◌≡◌, ◌<◌};
 ghost use Rattle.svc_bus_laws.specs.BusState.{Agrees};
 ghost use Rattle.svc_bus_laws.specs.LineTable.{LineTable};
-ghost use Rattle.svc_bus.specs.Observed.{observed};
+ghost use Rattle.svc_bus.specs.State.{bus_state};
 ghost use Rattle.svc_machine_laws.specs.Standing.{Standing, refusal_of};
 ghost use Rattle.svc_machine.specs.Admitted.{IsFound, refused_yet, room_refusal};
 ghost use Rattle.svc_machine.specs.Events.{event_of};
@@ -30,7 +30,7 @@ impl Machine {
     // Why the bus would still refuse what was admitted, if it would.
     fn refused_yet(&self, admitted: Admitted<'_>) -> Option<Refusal>
         requires { IsFound self.now admitted }
-        ensures { (t : LineTable) → Agrees (observed self.now.bus) t
+        ensures { (t : LineTable) → Agrees (bus_state self.now.bus) t
             → result ≡ refused_yet self.now.image t admitted.entry }
     {
         // a unit with a task is one of the machine's
@@ -47,7 +47,7 @@ impl Machine {
     // Why the unit's cache has no room for the word that a burst asks for, if it has none.
     fn room_refusal(&self, burst: &Burst) -> Option<Refusal>
         requires { burst.now.unit.0 < self.now.config.units }
-        ensures { (t : LineTable) → Agrees (observed self.now.bus) t
+        ensures { (t : LineTable) → Agrees (bus_state self.now.bus) t
             → result ≡ room_refusal self.now.image t burst.now }
     {
         let addr = self.full_set(burst.unit(), burst.ask())?;

@@ -19,7 +19,7 @@ pub struct ActiveTask {
     /// The unit that runs it.
     pub unit: UnitId,
     /// The entry at which it began, a byte address.
-    pub entry: u32,
+    pub task_entry: u32,
     /// The turns that it has taken so far.
     pub turns: u32,
     /// How it has ended, if it has.
@@ -41,7 +41,7 @@ impl Machine {
         let seat = self.seats.get(place)?;
         Some(ActiveTask {
             unit: seat.lease.unit,
-            entry: seat.task_entry,
+            task_entry: seat.task_entry,
             turns: seat.lease.core.count(),
             done: seat.lease.core.done(),
         })

@@ -4,7 +4,7 @@ use Rattle.std.proofs.Common.{unwrap_or, is_some, option_map, slice_get}
 use Rattle.std.proofs.lemmas.Option.{same_Some}
 use borrow.Author.Tests.{eqb-true, both_ways}
 use mathlib.Core.Path.{fun_ext}
-use Rattle.svc_core_laws.specs.Program.{Memory, Words, Want, Local, Load, Store, Narrow, Emit, Program, Run, Action, with_word, wrote, exposed, over, act, part}
+use Rattle.svc_core_laws.specs.Program.{Memory, Words, Want, Local, Load, Store, Narrow, Emit, Program, Run, Action, with_word, wrote, exposed_words, over, act, part}
 use Rattle.svc_bus_laws.specs.Versioned.{Row}
 use Rattle.svc_bus_laws.specs.ByRows.{view_of, first_exposed, cut_at, edit}
 use Rattle.svc_machine_laws.specs.PlainMachine.{Task, Running, runs_of, row_of, one_more, cut_by}
@@ -56,7 +56,7 @@ rows_of p m ts = map row_of (runs_of p m ts)
 pub later : {C : Type 0} (p : Program C) (a : ℕ) (m m' : Memory) (ts : List Task) → DifferAt a m m'
     → runs_of p m' (cut_at (first_exposed (rows_of p m ts) a) ts) ≡ cut_at (first_exposed (rows_of p m ts) a) (runs_of p m ts)
 later p a m m' [] h = refl
-later {C} p a m m' (t ∷ ts) h = split (later p a after after' ts (over_differ (wrote r.log) a m m' h)) (exposed r.log a) (is_some (wrote r.log a)) refl refl
+later {C} p a m m' (t ∷ ts) h = split (later p a after after' ts (over_differ (wrote r.log) a m m' h)) (exposed_words r.log a) (is_some (wrote r.log a)) refl refl
   where
     r : Run C
     r = part p t.entry t.turns m
@@ -74,13 +74,13 @@ later {C} p a m m' (t ∷ ts) h = split (later p a after after' ts (over_differ 
     c = first_exposed (rows_of p after ts) a
 
     -- the task itself runs as before
-    same : exposed r.log a ≡ false → r ≡ part p t.entry t.turns m'
-    same off = part_agrees p t.entry t.turns m m' (λ b on. h b (apart (exposed r.log) a b off on))
+    same : exposed_words r.log a ≡ false → r ≡ part p t.entry t.turns m'
+    same off = part_agrees p t.entry t.turns m m' (λ b on. h b (apart (exposed_words r.log) a b off on))
 
-    front : exposed r.log a ≡ false → (us : List Task) → runs_of p m' (t ∷ us) ≡ x ∷ runs_of p after' us
+    front : exposed_words r.log a ≡ false → (us : List Task) → runs_of p m' (t ∷ us) ≡ x ∷ runs_of p after' us
     front off us = ap {B = List (Running C)} (λ q. record { task = t; run = q } ∷ runs_of p (over (wrote q.log) m') us) (sym (same off))
 
-    split : runs_of p after' (cut_at c ts) ≡ cut_at c (runs_of p after ts) → (e s : Bool) → exposed r.log a ≡ e → is_some (wrote r.log a) ≡ s
+    split : runs_of p after' (cut_at c ts) ≡ cut_at c (runs_of p after ts) → (e s : Bool) → exposed_words r.log a ≡ e → is_some (wrote r.log a) ≡ s
         → runs_of p m' (cut_at (cond e (Some 0) (cond s None (option_map suc c))) (t ∷ ts)) ≡ cut_at (cond e (Some 0) (cond s None (option_map suc c))) (x ∷ runs_of p after ts)
     split rest true s on k = refl
     split rest false true off k =

@@ -6,7 +6,7 @@ use Rattle.svc_base.specs.declared.served.Served.{Served}
 use Rattle.svc_image.specs.Image.{Image}
 use Rattle.svc_core_laws.specs.declared.end.End.{End}
 use Rattle.svc_core_laws.specs.State.{State}
-use Rattle.svc_core_laws.specs.Program.{Memory, Program, Want, Local, Load, Store, Narrow, Emit, Run, Action, act, wrote, over, part, task, seq, said, due_run, end_of_run, log_of_run, locals, IsProgram}
+use Rattle.svc_core_laws.specs.Program.{Memory, Program, Want, Local, Load, Store, Narrow, Emit, Run, Action, act, wrote, over, part, task, seq, task_log, due_run, end_of_run, log_of_run, locals, IsProgram}
 use Rattle.svc_core_laws.specs.Words.{program}
 use Rattle.svc_bus_laws.specs.Versioned.{Row}
 use Rattle.svc_bus_laws.specs.ByRows.{view_of, edit}
@@ -106,7 +106,7 @@ commit_tasks_logs {C} p good k a e (t ∷ ts) x ended here due done =
     let m : Memory = over (wrote r.log) (seq p k).memory in
     let over_is : p.done r.core ≡ Some ended = done (record { task = t; run = r }) refl in
     let whole : r ≡ task p t.entry (seq p k).memory = sym (part_whole p good t.entry t.turns (seq p k).memory ended over_is) in
-    let says : r.log ≡ said p k = ap (λ (q : Run C). q.log) whole ∙ sym (ap (λ o. log_of_run (due_run p (seq p k).memory o)) due) in
+    let says : r.log ≡ task_log p k = ap (λ (q : Run C). q.log) whole ∙ sym (ap (λ o. log_of_run (due_run p (seq p k).memory o)) due) in
     let rest : List TaskLog = map log_of (runs_of p m ts) in
     record {
       unit = t.unit;

@@ -1,7 +1,7 @@
 -- What the active tasks have done with memory and output so far, and what each accepted event adds.
 use Rattle.std.specs.Prelude.{ℕ, ◌≡◌, Bool, cond, List, [], ◌∷◌, ◌++◌, map, take, Option, Some, None}
 use Rattle.svc_core_laws.specs.declared.end.End.{End}
-use Rattle.svc_core_laws.specs.Program.{Program, Action, Loaded, Stored, Replaced, Emitted, end_at, said}
+use Rattle.svc_core_laws.specs.Program.{Program, Action, Loaded, Stored, Replaced, Emitted, end_at, task_log}
 use Rattle.svc_bus_laws.specs.ByRows.{edit}
 use Rattle.svc_machine_laws.specs.declared.reply.What.{What}
 use Rattle.svc_machine_laws.specs.declared.reply.What.TheVariants as what
@@ -58,7 +58,7 @@ pub record LeavesEarlier {C : Type 0} (p : Program C) (before after : Plain) (un
 pub record CommitsAnswers {C : Type 0} (p : Program C) (before after : Plain) : Type 0 where
   pub unit : ℕ
   pub others : List TaskLog
-  pub head : logs_of p before ≡ record { unit = unit; log = said p before.commits } ∷ others
+  pub head : logs_of p before ≡ record { unit = unit; log = task_log p before.commits } ∷ others
   pub keep : Bool
   pub logs : logs_of p after ≡ cond keep others []
 

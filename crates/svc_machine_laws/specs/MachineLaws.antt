@@ -1,7 +1,8 @@
 -- The laws that tie the whole machine to the plain machine, for any program.
 use Rattle.std.specs.Prelude.{ℕ, ◌≡◌, ◌<◌, ◌==◌, true, not, ◌&&◌, Option, Some, slice_get}
 use Rattle.svc_core_laws.specs.declared.end.End.{End}
-use Rattle.svc_core_laws.specs.Program.{Want, Local, Load, Store, Narrow, Emit, Program, Run, wrote, exposed, output}
+use Rattle.svc_core_laws.specs.Program.{Want, Local, Load, Store, Narrow, Emit, Program, Run, wrote, exposed_words}
+use Rattle.svc_core_laws.specs.Program.{output}
 use Rattle.svc_core_laws.specs.Program.{over, part, seq, locals, are_local}
 use Rattle.svc_bus_laws.specs.Versioned.{version, is_exposed, view}
 use Rattle.svc_machine_laws.specs.PlainMachine.{Task, Plain, Running, running, memory_at}
@@ -49,7 +50,7 @@ pub record IsAnew {C : Type 0} (p : Program C) (s : Plain) (place : ℕ) (t : Ta
   -- head, are its part's
   pub versions : (a : ℕ) → version (machine_of p s).versioned place a ≡ wrote (run_at p s place t).log a
   pub exposes : (a : ℕ)
-      → is_exposed (machine_of p s).versioned place a ≡ (not (place == 0) && exposed (run_at p s place t).log a)
+      → is_exposed (machine_of p s).versioned place a ≡ (not (place == 0) && exposed_words (run_at p s place t).log a)
   -- it reads the memory of its place, under what it wrote itself
   pub reads : (a : ℕ)
       → view (machine_of p s).versioned place a

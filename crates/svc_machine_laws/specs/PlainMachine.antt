@@ -3,7 +3,8 @@ use Rattle.std.specs.Prelude.{ℕ, zero, suc, ◌≡◌, ◌==◌, ◌+◌, Bool
 use Rattle.std.specs.Prelude.{take, Option, Some, None, unwrap_or, slice_get}
 use Rattle.svc_core_laws.specs.declared.end.End.{End}
 use Rattle.svc_core_laws.specs.declared.end.End.TheVariants as end
-use Rattle.svc_core_laws.specs.Program.{Memory, Want, Local, Load, Store, Narrow, Emit, Program, Run, wrote, exposed}
+use Rattle.svc_core_laws.specs.Program.{Memory, Want, Local, Load, Store, Narrow, Emit, Program, Run, wrote}
+use Rattle.svc_core_laws.specs.Program.{exposed_words}
 use Rattle.svc_core_laws.specs.Program.{over, part, seq}
 use Rattle.svc_bus_laws.specs.Versioned.{Row}
 use Rattle.svc_bus_laws.specs.ByRows.{victim_after, edit}
@@ -56,7 +57,7 @@ running p s = runs_of p (seq p s.commits).memory s.tasks
 
 -- what the task wrote, and which words it exposed
 abbrev pub row_of : {C : Type 0} → Running C → Row
-row_of x = record { versions = wrote x.run.log; exposed = exposed x.run.log }
+row_of x = record { versions = wrote x.run.log; exposed = exposed_words x.run.log }
 
 -- more turns of a task
 abbrev pub more : ℕ → Task → Task

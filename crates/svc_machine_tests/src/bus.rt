@@ -4,7 +4,7 @@ ghost use Rattle.std.specs.Prelude.{◌≡◌, ◌<◌, ◌≤◌, true, false, 
 ghost use Rattle.std.specs.Int.{is_power_of_two};
 ghost use Rattle.svc_base.specs.declared.config.TheConstants.{MAX_SETS, MAX_WAYS};
 ghost use Rattle.svc_bus_laws.specs.Refusals.{is_head};
-ghost use Rattle.svc_bus.specs.Observed.{observed};
+ghost use Rattle.svc_bus.specs.State.{bus_state};
 ghost use Rattle.svc_bus.specs.Calls.{IsAtWork};
 
 use bitflags::Flags;
@@ -17,8 +17,8 @@ mod rows;
 
 // The unit has a task.
 fn is_at_work(bus: &Bus, unit: UnitId) -> bool
-    ensures yes { result ≡ true → IsAtWork (observed bus.now) unit.0 }
-    ensures no { result ≡ false → ¬ IsAtWork (observed bus.now) unit.0 }
+    ensures yes { result ≡ true → IsAtWork (bus_state bus.now) unit.0 }
+    ensures no { result ≡ false → ¬ IsAtWork (bus_state bus.now) unit.0 }
 {
     for position in 0..bus.active_tasks() {
         if bus.unit_at(position).0 == unit.0 {
@@ -30,7 +30,7 @@ fn is_at_work(bus: &Bus, unit: UnitId) -> bool
 
 // The unit's task is the oldest one.
 fn runs_head(bus: &Bus, unit: UnitId) -> bool
-    ensures { result ≡ is_head (observed bus.now).units unit.0 }
+    ensures { result ≡ is_head (bus_state bus.now).units unit.0 }
 {
     bus.active_tasks() > 0 && bus.unit_at(0).0 == unit.0
 }

@@ -3,7 +3,7 @@
 ghost use Rattle.std.specs.Prelude.{◌≡◌, ◌≤◌, ◌++◌, [], OnOk, cond, flat_map};
 ghost use Rattle.std.specs.List.{AllByRecursion, range_with_len};
 ghost use Rattle.svc_core_laws.specs.Turns.{data_words};
-ghost use Rattle.svc_bus.specs.Observed.{observed};
+ghost use Rattle.svc_bus.specs.State.{bus_state};
 ghost use Rattle.svc_machine.specs.Events.{event_of};
 ghost use Rattle.svc_machine.specs.Value.{StandsAt};
 ghost use Rattle.svc_machine_laws.specs.Events as law;
@@ -85,7 +85,7 @@ fn put_replace(
     named: Named,
     rows: &mut Vec<u8>,
 ) -> Result<(), AllocError>
-    requires own { HasItsLines (observed machine.now.bus) (data_words machine.now.image) named }
+    requires own { HasItsLines (bus_state machine.now.bus) (data_words machine.now.image) named }
     ensures { let m = machine.now in (s : Standing) → StandsAt m s
         → OnOk result (rows.new.items ≡ rows.old.items ++ replace_row m.image m.config s unit.0 named.word.0) }
 {
@@ -100,7 +100,7 @@ fn put_each(
     unit: UnitId,
     rows: &mut Vec<u8>,
 ) -> Result<(), AllocError>
-    requires own { AllByRecursion (HasItsLines (observed machine.now.bus) (data_words machine.now.image)) named.now }
+    requires own { AllByRecursion (HasItsLines (bus_state machine.now.bus) (data_words machine.now.image)) named.now }
     ensures { let m = machine.now in (s : Standing) → StandsAt m s
         → OnOk result (rows.new.items ≡ rows.old.items ++ flat_map (named_row m.image m.config s unit.0) named.now) }
 {
@@ -117,7 +117,7 @@ fn put_replaces(
     unit: UnitId,
     rows: &mut Vec<u8>,
 ) -> Result<(), AllocError>
-    requires held { HasHeld (observed machine.now.bus) (data_words machine.now.image) named.now }
+    requires held { HasHeld (bus_state machine.now.bus) (data_words machine.now.image) named.now }
     ensures { let m = machine.now in (s : Standing) → StandsAt m s
         → OnOk result (rows.new.items ≡ rows.old.items ++ replace_rows m.image m.config s unit.0) }
 {
@@ -148,7 +148,7 @@ fn put_unit(
     unit: UnitId,
     rows: &mut Vec<u8>,
 ) -> Result<(), AllocError>
-    requires held { HasHeld (observed machine.now.bus) (data_words machine.now.image) named.now }
+    requires held { HasHeld (bus_state machine.now.bus) (data_words machine.now.image) named.now }
     ensures { let m = machine.now in (s : Standing) → StandsAt m s
         → OnOk result (rows.new.items ≡ rows.old.items ++ unit_moves m.image m.config s unit.0) }
 {
@@ -167,7 +167,7 @@ fn put_units(
     rows: &mut Vec<u8>,
 ) -> Result<(), AllocError>
     requires few { units ≤ 16 }
-    requires held { HasHeld (observed machine.now.bus) (data_words machine.now.image) named.now }
+    requires held { HasHeld (bus_state machine.now.bus) (data_words machine.now.image) named.now }
     ensures { let m = machine.now in (s : Standing) → StandsAt m s
         → OnOk result (rows.new.items ≡ rows.old.items
         ++ flat_map (unit_moves m.image m.config s) (range_with_len 0 units)) }
@@ -184,7 +184,7 @@ fn put_units(
 ///
 /// Errors: [`AllocError`], if memory runs out.
 pub fn put_moves(machine: &Machine, named: &[Named], rows: &mut Vec<u8>) -> Result<(), AllocError>
-    requires held { HasHeld (observed machine.now.bus) (data_words machine.now.image) named.now }
+    requires held { HasHeld (bus_state machine.now.bus) (data_words machine.now.image) named.now }
     ensures { let m = machine.now in (s : Standing) → StandsAt m s
         → OnOk result (rows.new.items ≡ rows.old.items ++ move_rows m.image m.config s) }
 {

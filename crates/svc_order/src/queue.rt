@@ -13,7 +13,7 @@ pub const CAPACITY: usize = MAX_UNITS as usize;
 
 /// The units of the active tasks, oldest first. No unit is in it twice.
 ///
-/// Contracts see the list of the units' numbers. A task's position counts from 0, which is the head's.
+/// Contracts see the list of the units' numbers. Positions count from 0, the head's.
 #[derive(Drop)]
 pub struct TaskQueue {
     units: ArrayVec<UnitId, CAPACITY>,

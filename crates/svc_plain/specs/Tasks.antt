@@ -17,8 +17,8 @@ abbrev pub tasks_run : Image → ℕ → ℕ
 tasks_run img zero = 0
 tasks_run img (suc k) = tasks_run img k + tasks_due (plain_seq img k).due
 
--- k tasks in sequential order are this many, and leave these words of memory, this output, this entry of the next task,
--- and this end, if any, that stopped the run
+-- of the first k tasks in sequential order there are this many; they leave these words of memory, this output, this
+-- entry for the next task and, if one of them stopped the run, its end
 pub record IsRun (img : Image) (k count : ℕ) (after out : List ℕ) (next : Option ℕ) (last : Option End) : Type 0 where
   pub tasks : count ≡ tasks_run img k
   pub few : count ≤ k

@@ -30,7 +30,7 @@ pub struct Long {
     pub ghost in_range: { bits < 2 ^ 20 },
 }
 
-/// By how many bits an immediate shift shifts: the manual's shamt (RV32I, section 2.4.1 Integer Register-Immediate
+/// How far an immediate shift shifts, in bits: the manual's shamt (RV32I, section 2.4.1 Integer Register-Immediate
 /// Instructions).
 #[derive(Clone, Copy)]
 pub struct ShiftAmount {
@@ -138,8 +138,8 @@ pub enum ImmediateShift {
 
 /// An instruction of RV32I, by its format and its operation.
 ///
-/// The register rd receives the result, and rs1 and rs2 are read; imm holds the immediate's bits as they are numbered,
-/// without sign.
+/// Where its format has these fields, an instruction reads the registers rs1 and rs2 and writes its result to rd, and
+/// imm holds the immediate's bits as they are numbered, without sign.
 #[derive(Clone, Copy)]
 pub enum Instr {
     /// LUI: rd receives the upper immediate (RV32I, section 2.4.1 Integer Register-Immediate Instructions).
@@ -211,9 +211,9 @@ pub enum Instr {
         rs1: Register,
         rs2: Register,
     },
-    /// FENCE, with FENCE.TSO and PAUSE among its encodings. Every rd, rs1 and imm is an instruction, since a base
-    /// implementation ignores those fields or takes them as an ordinary fence (RV32I, section 2.7 Memory Ordering
-    /// Instructions).
+    /// FENCE, with FENCE.TSO and PAUSE among its encodings. Any rd, rs1 and imm make a FENCE, since a base
+    /// implementation ignores these fields or takes the instruction as an ordinary fence (RV32I, section 2.7 Memory
+    /// Ordering Instructions).
     Fence {
         rd: Register,
         rs1: Register,

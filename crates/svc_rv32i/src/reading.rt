@@ -193,8 +193,8 @@ fn instr_at(f: Fields) -> Option<Instr>
     }
 }
 
-/// The instruction of a word; `None` for a word that is no instruction's, such as one of an extension or a reserved
-/// one.
+/// The instruction that has this word, or `None` if no instruction of RV32I has it, as with a reserved word or one of
+/// an extension.
 #[tactic(auto, unfolding(crate::specs::Meaning::meaning), using(crate::proofs::Exact::meaning_exact))]
 pub fn decode(word: u32) -> Option<Instr>
     ensures exact { (i : Instr) → (result ≡ Some i) ↔ (word_of i ≡ word) }

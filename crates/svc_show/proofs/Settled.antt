@@ -5,7 +5,7 @@ use Rattle.std.proofs.lemmas.Bool.{cases_eq}
 use Rattle.svc_image.specs.Image.{IsImage}
 use Rattle.svc_core_laws.specs.Bytes.{word_at}
 use Rattle.svc_core_laws.specs.Sequence.{plain_seq}
-use Rattle.svc_bus.specs.Observed.{observed}
+use Rattle.svc_bus.specs.State.{bus_state}
 use Rattle.svc_bus_laws.specs.BusLine.{is_committed_dirty_line, value_of_line}
 use Rattle.svc_bus_laws.specs.BusState.{without_number}
 use Rattle.svc_bus_laws.specs.LineTable.{Line, LineTable, committed_value, is_committed_dirty, is_newest, newest, task_in, value_in, value_of}
@@ -40,22 +40,22 @@ module _ (m : MachineValue) (s : Standing) (at : StandsAt m s) (reached : IsReac
       ∙ ((given m.image is).bytes s.plain.commits).memory word
       ∙ ap (λ (p : Plain). word_at (plain_seq m.image p.commits).memory word) (sym at.plain)
 
-  dirty_at : (u : ℕ) → is_committed_dirty_line ((observed m.bus).lines u word) ≡ is_committed_dirty (t.lines u word)
+  dirty_at : (u : ℕ) → is_committed_dirty_line ((bus_state m.bus).lines u word) ≡ is_committed_dirty (t.lines u word)
   dirty_at u = ap is_committed_dirty_line (at.lines.lines u word) ∙ dirty (t.lines u word)
 
   inside : (u : ℕ) → u < t.caches → u < m.config.units
   inside u h = subst (λ (n : ℕ). u < n) reached.lines.caches h
 
-  pub settled : ((u : ℕ) → u < m.config.units → is_committed_dirty_line ((observed m.bus).lines u word) ≡ false)
-      → (observed m.bus).backing word ≡ word_at (plain_seq m.image m.plain.commits).memory word
+  pub settled : ((u : ℕ) → u < m.config.units → is_committed_dirty_line ((bus_state m.bus).lines u word) ≡ false)
+      → (bus_state m.bus).backing word ≡ word_at (plain_seq m.image m.plain.commits).memory word
   settled none =
       let never : newest t word ≡ None =
       least_none t.caches (is_newest t word) (λ u h. false_and (is_committed_dirty (t.lines u word)) _ (sym (dirty_at u) ∙ none u (inside u h))) in
       at.lines.backing word ∙ sym (ap (value_of t word) never) ∙ left
 
-  pub one_left : (unit : ℕ) → unit < m.config.units → is_committed_dirty_line ((observed m.bus).lines unit word) ≡ true
-      → ((u : ℕ) → u < m.config.units → (u == unit) ≡ false → is_committed_dirty_line ((observed m.bus).lines u word) ≡ false)
-      → value_of_line ((observed m.bus).lines unit word) ≡ word_at (plain_seq m.image m.plain.commits).memory word
+  pub one_left : (unit : ℕ) → unit < m.config.units → is_committed_dirty_line ((bus_state m.bus).lines unit word) ≡ true
+      → ((u : ℕ) → u < m.config.units → (u == unit) ≡ false → is_committed_dirty_line ((bus_state m.bus).lines u word) ≡ false)
+      → value_of_line ((bus_state m.bus).lines unit word) ≡ word_at (plain_seq m.image m.plain.commits).memory word
   one_left unit within has others =
       let there : newest t word ≡ Some unit =
       least_found t.caches (is_newest t word) unit (record {

@@ -3,7 +3,7 @@ use Rattle.std.proofs.Common.{◌≡◌, ◌∙◌, ℕ, ap}
 use Rattle.svc_base.specs.declared.config.Config.{Config}
 use Rattle.svc_image.specs.Image.{Image}
 use Rattle.svc_bus_laws.specs.BusState.{BusState, state_of}
-use Rattle.svc_bus.specs.Observed.{observed}
+use Rattle.svc_bus.specs.State.{bus_state}
 use Rattle.svc_machine_laws.specs.PlainMachine.{Plain}
 use Rattle.svc_machine_laws.specs.Standing.{Standing}
 use Rattle.svc_machine.specs.Value.{MachineValue, StandsAt}
@@ -25,8 +25,8 @@ same_machine extras img config s b c same =
 
 -- what is shown of a machine is what is shown of its standing
 pub shown_at : (extras : Extras) (m : MachineValue) (s : Standing) → StandsAt m s
-    → machine_rows extras m.image m.config m.plain (observed m.bus) ≡ machine_rows extras m.image m.config s.plain (state_of 0 s.lines)
+    → machine_rows extras m.image m.config m.plain (bus_state m.bus) ≡ machine_rows extras m.image m.config s.plain (state_of 0 s.lines)
 shown_at extras m s at =
-    let same : SameHolds (observed m.bus) (state_of 0 s.lines) = record { lines = at.lines.lines; order = at.lines.order; spill = at.lines.spill; backing = at.lines.backing } in
-    ap (λ (p : Plain). machine_rows extras m.image m.config p (observed m.bus)) at.plain
-    ∙ same_machine extras m.image m.config s.plain (observed m.bus) (state_of 0 s.lines) same
+    let same : SameHolds (bus_state m.bus) (state_of 0 s.lines) = record { lines = at.lines.lines; order = at.lines.order; spill = at.lines.spill; backing = at.lines.backing } in
+    ap (λ (p : Plain). machine_rows extras m.image m.config p (bus_state m.bus)) at.plain
+    ∙ same_machine extras m.image m.config s.plain (bus_state m.bus) (state_of 0 s.lines) same

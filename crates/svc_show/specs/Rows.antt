@@ -29,7 +29,7 @@ state_end state = codes "," ++ (state ++ codes "\n")
 -- the row of the active task of this number
 abbrev pub task_row : (number : ℕ) → ActiveTask → List ℕ
 task_row number task =
-    fields (codes "task") (number ∷ task.unit.0 ∷ task.entry ∷ task.turns ∷ []) ++ state_end (state_word task.done)
+    fields (codes "task") (number ∷ task.unit.0 ∷ task.task_entry ∷ task.turns ∷ []) ++ state_end (state_word task.done)
 
 -- the letter of a bit that is set, or a dash
 abbrev pub letter : Bool → List ℕ → List ℕ

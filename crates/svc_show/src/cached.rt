@@ -6,7 +6,7 @@ ghost use Rattle.svc_core_laws.specs.Bytes.{word_at};
 ghost use Rattle.svc_core_laws.specs.Sequence.{plain_seq};
 ghost use Rattle.svc_core_laws.specs.Turns.{data_words};
 ghost use Rattle.svc_bus.specs.Calls.{line_shown};
-ghost use Rattle.svc_bus.specs.Observed.{observed};
+ghost use Rattle.svc_bus.specs.State.{bus_state};
 ghost use Rattle.svc_held.specs.declared.named.Namers.TheVariants as namers;
 ghost use Rattle.svc_held.specs.Held.{HasItsLines, is_named_line};
 ghost use Rattle.svc_show.specs.Named.{AreVersions, and_line, and_version, nothing};
@@ -82,8 +82,8 @@ impl Cached {
     pub(crate) fn of(machine: &Machine, units: u32, named: Named) -> Cached
         requires few { units ≤ 16 }
         ensures line { result.line
-            ≡ list_any (is_named_line (observed machine.now.bus) named) (range_with_len 0 units) }
-        ensures versions { AreVersions (observed machine.now.bus) named units result.versions }
+            ≡ list_any (is_named_line (bus_state machine.now.bus) named) (range_with_len 0 units) }
+        ensures versions { AreVersions (bus_state machine.now.bus) named units result.versions }
     {
         match named.by {
             Namers::Nobody => Cached::nothing(),
@@ -96,8 +96,8 @@ impl Cached {
     fn of_one(machine: &Machine, units: u32, named: Named, unit: UnitId) -> Cached
         requires alone { named.by ≡ namers.One unit }
         ensures line { result.line
-            ≡ list_any (is_named_line (observed machine.now.bus) named) (range_with_len 0 units) }
-        ensures versions { AreVersions (observed machine.now.bus) named units result.versions }
+            ≡ list_any (is_named_line (bus_state machine.now.bus) named) (range_with_len 0 units) }
+        ensures versions { AreVersions (bus_state machine.now.bus) named units result.versions }
     {
         if u32::from(unit.0) < units {
             Cached::nothing().and(line_of_named(machine, unit, named))
@@ -110,8 +110,8 @@ impl Cached {
     fn of_each(machine: &Machine, units: u32, named: Named) -> Cached
         requires few { units ≤ 16 }
         ensures line { result.line
-            ≡ list_any (is_named_line (observed machine.now.bus) named) (range_with_len 0 units) }
-        ensures versions { AreVersions (observed machine.now.bus) named units result.versions }
+            ≡ list_any (is_named_line (bus_state machine.now.bus) named) (range_with_len 0 units) }
+        ensures versions { AreVersions (bus_state machine.now.bus) named units result.versions }
     {
         let mut cached = Cached::nothing();
         for unit in 0..units {
@@ -124,8 +124,8 @@ impl Cached {
 /// The value that the committed tasks have left of a named word. The newest version is looked for only if several
 /// caches have one.
 pub(crate) fn committed_of(machine: &Machine, named: Named, versions: Versions) -> u32
-    requires own { HasItsLines (observed machine.now.bus) (data_words machine.now.image) named }
-    requires versions { AreVersions (observed machine.now.bus) named machine.now.config.units versions }
+    requires own { HasItsLines (bus_state machine.now.bus) (data_words machine.now.image) named }
+    requires versions { AreVersions (bus_state machine.now.bus) named machine.now.config.units versions }
     ensures { let m = machine.now in result ≡ word_at (plain_seq m.image m.plain.commits).memory named.word.0 }
 {
     // its image is sound, so what the committed tasks leave is its program's

@@ -2,7 +2,7 @@
 
 ghost use Rattle.std.specs.Prelude.{◌++◌, ◌≡◌, ◌≤◌, OnOk, flat_map};
 ghost use Rattle.svc_bus.specs.Calls.{line_shown};
-ghost use Rattle.svc_bus.specs.Observed.{observed};
+ghost use Rattle.svc_bus.specs.State.{bus_state};
 ghost use Rattle.svc_show.specs.Rows.{line_row};
 ghost use Rattle.svc_show.specs.Named.{named_line, named_lines};
 
@@ -35,7 +35,7 @@ fn write_named(
     named: Named,
     rows: &mut Vec<u8>,
 ) -> Result<(), AllocError>
-    ensures { OnOk result (rows.new.items ≡ rows.old.items ++ named_line (observed machine.now.bus) unit.0 named) }
+    ensures { OnOk result (rows.new.items ≡ rows.old.items ++ named_line (bus_state machine.now.bus) unit.0 named) }
 {
     match line_of_named(machine, unit, named) {
         Some(line) => write_line(unit, named.word, line, rows),
@@ -51,7 +51,7 @@ fn write_unit(
     rows: &mut Vec<u8>,
 ) -> Result<(), AllocError>
     ensures { OnOk result
-        (rows.new.items ≡ rows.old.items ++ flat_map (named_line (observed machine.now.bus) unit.0) named.now) }
+        (rows.new.items ≡ rows.old.items ++ flat_map (named_line (bus_state machine.now.bus) unit.0) named.now) }
 {
     for one in named {
         write_named(machine, unit, *one, rows)?;
@@ -68,7 +68,7 @@ pub(crate) fn write_lines(
 ) -> Result<(), AllocError>
     requires few { units ≤ 16 }
     ensures { OnOk result
-        (rows.new.items ≡ rows.old.items ++ named_lines units (observed machine.now.bus) named.now) }
+        (rows.new.items ≡ rows.old.items ++ named_lines units (bus_state machine.now.bus) named.now) }
 {
     for unit in 0..units {
         write_unit(machine, UnitId(unit as u8), named, rows)?;

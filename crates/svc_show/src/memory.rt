@@ -3,7 +3,7 @@
 ghost use Rattle.std.specs.Prelude.{◌++◌, ◌≡◌, ◌<◌, OnOk, flat_map};
 ghost use Rattle.std.specs.List.{AllByRecursion};
 ghost use Rattle.svc_core_laws.specs.Turns.{data_words};
-ghost use Rattle.svc_bus.specs.Observed.{observed};
+ghost use Rattle.svc_bus.specs.State.{bus_state};
 ghost use Rattle.svc_report.specs.Fields.{optional};
 ghost use Rattle.svc_held.specs.Held.{HasItsLines};
 ghost use Rattle.svc_show.specs.Named.{named_memory, named_spill};
@@ -28,7 +28,7 @@ fn write_spill(word: WordAddr, value: u32, rows: &mut Vec<u8>) -> Result<(), All
 fn write_spill_of(machine: &Machine, word: WordAddr, rows: &mut Vec<u8>) -> Result<(), AllocError>
     requires in_data { word.0 < data_words machine.now.image }
     ensures { OnOk result
-        (rows.new.items ≡ rows.old.items ++ optional (spill_row word.0) ((observed machine.now.bus).spill word.0)) }
+        (rows.new.items ≡ rows.old.items ++ optional (spill_row word.0) ((bus_state machine.now.bus).spill word.0)) }
 {
     match spill_of(machine, word) {
         Some(value) => write_spill(word, value, rows),
@@ -44,7 +44,7 @@ pub(crate) fn write_spills(
 ) -> Result<(), AllocError>
     requires in_data { AllByRecursion (λ n. n.word.0 < data_words machine.now.image) named.now }
     ensures { OnOk result
-        (rows.new.items ≡ rows.old.items ++ flat_map (named_spill (observed machine.now.bus)) named.now) }
+        (rows.new.items ≡ rows.old.items ++ flat_map (named_spill (bus_state machine.now.bus)) named.now) }
 {
     for one in named {
         write_spill_of(machine, one.word, rows)?;
@@ -73,10 +73,10 @@ fn write_word(
     named: Named,
     rows: &mut Vec<u8>,
 ) -> Result<(), AllocError>
-    requires own { HasItsLines (observed machine.now.bus) (data_words machine.now.image) named }
+    requires own { HasItsLines (bus_state machine.now.bus) (data_words machine.now.image) named }
     ensures { let m = machine.now in
         OnOk result (rows.new.items ≡ rows.old.items
-        ++ named_memory m.image m.config m.plain (observed m.bus) asked named) }
+        ++ named_memory m.image m.config m.plain (bus_state m.bus) asked named) }
 {
     let word = named.word;
     let cached = Cached::of(machine, machine.config().units, named);
@@ -95,10 +95,10 @@ pub(crate) fn write_words(
     named: &[Named],
     rows: &mut Vec<u8>,
 ) -> Result<(), AllocError>
-    requires own { AllByRecursion (HasItsLines (observed machine.now.bus) (data_words machine.now.image)) named.now }
+    requires own { AllByRecursion (HasItsLines (bus_state machine.now.bus) (data_words machine.now.image)) named.now }
     ensures { let m = machine.now in
         OnOk result (rows.new.items ≡ rows.old.items
-        ++ flat_map (named_memory m.image m.config m.plain (observed m.bus) asked) named.now) }
+        ++ flat_map (named_memory m.image m.config m.plain (bus_state m.bus) asked) named.now) }
 {
     for one in named {
         write_word(machine, asked, *one, rows)?;

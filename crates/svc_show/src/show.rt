@@ -2,7 +2,7 @@
 
 ghost use Rattle.std.specs.Prelude.{◌≡◌, ◌≤◌, ◌++◌, OnOk, IfOk, IfErr};
 ghost use Rattle.svc_core_laws.specs.Turns.{data_words};
-ghost use Rattle.svc_bus.specs.Observed.{observed};
+ghost use Rattle.svc_bus.specs.State.{bus_state};
 ghost use Rattle.svc_machine.specs.Value.{StandsAt};
 ghost use Rattle.svc_machine_laws.specs.Standing.{Standing};
 ghost use Rattle.svc_report.specs.Faults.{IsMemoryFault};
@@ -27,10 +27,10 @@ use svc_version_order::put_orders;
 
 // Writes a row for each valid line.
 fn write_all_lines(machine: &Machine, named: &[Named], rows: &mut Vec<u8>) -> Result<(), AllocError>
-    requires held { HasHeld (observed machine.now.bus) (data_words machine.now.image) named.now }
+    requires held { HasHeld (bus_state machine.now.bus) (data_words machine.now.image) named.now }
     ensures { let m = machine.now in
         OnOk result (rows.new.items ≡ rows.old.items
-        ++ line_rows m.config.units (data_words m.image) (observed m.bus)) }
+        ++ line_rows m.config.units (data_words m.image) (bus_state m.bus)) }
 {
     let units = machine.config().units;
     write_lines(machine, units, named, rows)
@@ -42,9 +42,9 @@ fn write_all_spills(
     named: &[Named],
     rows: &mut Vec<u8>,
 ) -> Result<(), AllocError>
-    requires held { HasHeld (observed machine.now.bus) (data_words machine.now.image) named.now }
+    requires held { HasHeld (bus_state machine.now.bus) (data_words machine.now.image) named.now }
     ensures { let m = machine.now in
-        OnOk result (rows.new.items ≡ rows.old.items ++ spill_rows (data_words m.image) (observed m.bus)) }
+        OnOk result (rows.new.items ≡ rows.old.items ++ spill_rows (data_words m.image) (bus_state m.bus)) }
 {
     write_spills(machine, named, rows)
 }
@@ -56,9 +56,9 @@ fn write_order(
     named: &[Named],
     rows: &mut Vec<u8>,
 ) -> Result<(), AllocError>
-    requires held { HasHeld (observed machine.now.bus) (data_words machine.now.image) named.now }
+    requires held { HasHeld (bus_state machine.now.bus) (data_words machine.now.image) named.now }
     ensures { let m = machine.now in
-        OnOk result (rows.new.items ≡ rows.old.items ++ asked_order detail m.image m.config m.plain (observed m.bus)) }
+        OnOk result (rows.new.items ≡ rows.old.items ++ asked_order detail m.image m.config m.plain (bus_state m.bus)) }
 {
     if detail {
         put_orders(machine, named, rows)
@@ -74,10 +74,10 @@ fn write_all_words(
     named: &[Named],
     rows: &mut Vec<u8>,
 ) -> Result<(), AllocError>
-    requires held { IsHeldBy (observed machine.now.bus) (data_words machine.now.image) asked named.now }
+    requires held { IsHeldBy (bus_state machine.now.bus) (data_words machine.now.image) asked named.now }
     ensures { let m = machine.now in
         OnOk result (rows.new.items ≡ rows.old.items
-        ++ memory_rows m.image m.config m.plain (observed m.bus) asked (data_words m.image)) }
+        ++ memory_rows m.image m.config m.plain (bus_state m.bus) asked (data_words m.image)) }
 {
     write_words(machine, asked, named, rows)
 }
@@ -89,9 +89,10 @@ fn write_machine(
     named: &[Named],
     rows: &mut Vec<u8>,
 ) -> Result<(), AllocError>
-    requires held { IsHeldBy (observed machine.now.bus) (data_words machine.now.image) extras.memory named.now }
+    requires held { IsHeldBy (bus_state machine.now.bus) (data_words machine.now.image) extras.memory named.now }
     ensures { let m = machine.now in
-        OnOk result (rows.new.items ≡ rows.old.items ++ machine_rows extras m.image m.config m.plain (observed m.bus)) }
+        OnOk result (rows.new.items
+        ≡ rows.old.items ++ machine_rows extras m.image m.config m.plain (bus_state m.bus)) }
 {
     write_progress(machine, rows)?;
     write_tasks(machine, extras.detail, rows)?;
@@ -108,7 +109,7 @@ fn write_moves(
     named: &[Named],
     rows: &mut Vec<u8>,
 ) -> Result<(), AllocError>
-    requires held { HasHeld (observed machine.now.bus) (data_words machine.now.image) named.now }
+    requires held { HasHeld (bus_state machine.now.bus) (data_words machine.now.image) named.now }
     ensures { let m = machine.now in (s : Standing) → StandsAt m s
         → OnOk result (rows.new.items ≡ rows.old.items ++ asked_moves moves m.image m.config s) }
 {
@@ -126,7 +127,7 @@ fn write_standing(
     named: &[Named],
     rows: &mut Vec<u8>,
 ) -> Result<(), AllocError>
-    requires held { IsHeldBy (observed machine.now.bus) (data_words machine.now.image) extras.memory named.now }
+    requires held { IsHeldBy (bus_state machine.now.bus) (data_words machine.now.image) extras.memory named.now }
     ensures { let m = machine.now in (s : Standing) → StandsAt m s
         → OnOk result (rows.new.items ≡ rows.old.items ++ standing_rows extras m.image m.config s) }
 {
@@ -142,7 +143,7 @@ fn write_rows(
     rows: &mut Vec<u8>,
 ) -> Result<(), AllocError>
     requires held { let m = recorder.now.machine in
-        IsHeldBy (observed m.bus) (data_words m.image) extras.memory named.now }
+        IsHeldBy (bus_state m.bus) (data_words m.image) extras.memory named.now }
     ensures { let r = recorder.now in
         OnOk result (rows.new.items ≡ rows.old.items ++ show_of extras r.machine.image r.machine.config r.entries) }
 {

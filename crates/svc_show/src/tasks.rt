@@ -44,7 +44,7 @@ fn write_task(number: u64, task: ActiveTask, rows: &mut Vec<u8>) -> Result<(), A
     let numbers = [
         number,
         u64::from(task.unit.0),
-        u64::from(task.entry),
+        u64::from(task.task_entry),
         u64::from(task.turns),
     ];
     put_fields(rows, "task", &numbers)?;

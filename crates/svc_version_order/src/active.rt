@@ -4,7 +4,7 @@ ghost use Rattle.std.specs.Prelude.{◌≡◌, ◌<◌, ◌+◌, ◌++◌, OnOk,
 ghost use Rattle.svc_core_laws.specs.Turns.{data_words};
 ghost use Rattle.svc_core_laws.specs.Words.{program};
 ghost use Rattle.svc_bus.specs.Calls.{line_shown};
-ghost use Rattle.svc_bus.specs.Observed.{observed};
+ghost use Rattle.svc_bus.specs.State.{bus_state};
 ghost use Rattle.svc_bus_laws.specs.BusLine.{is_active_line};
 ghost use Rattle.svc_machine_laws.specs.PlainMachine.{running};
 ghost use Rattle.svc_report.specs.Fields.{optional};
@@ -54,9 +54,9 @@ fn put_task(
     unit: UnitId,
     rows: &mut Vec<u8>,
 ) -> Result<(), AllocError>
-    requires own { HasItsLines (observed machine.now.bus) (data_words machine.now.image) named }
+    requires own { HasItsLines (bus_state machine.now.bus) (data_words machine.now.image) named }
     ensures { OnOk result (rows.new.items ≡ rows.old.items
-        ++ unit_field number unit.0 ((observed machine.now.bus).lines unit.0 named.word.0)) }
+        ++ unit_field number unit.0 ((bus_state machine.now.bus).lines unit.0 named.word.0)) }
 {
     put_if_active(number, unit, line_of_named(machine, unit, named), rows)
 }
@@ -69,10 +69,10 @@ fn put_task_at(
     rows: &mut Vec<u8>,
 ) -> Result<(), AllocError>
     requires active { place < length machine.now.plain.tasks }
-    requires own { HasItsLines (observed machine.now.bus) (data_words machine.now.image) named }
+    requires own { HasItsLines (bus_state machine.now.bus) (data_words machine.now.image) named }
     ensures { let m = machine.now in
         OnOk result (rows.new.items ≡ rows.old.items
-        ++ optional (task_field (observed m.bus) named.word.0 (m.plain.commits + place))
+        ++ optional (task_field (bus_state m.bus) named.word.0 (m.plain.commits + place))
         (slice_get (running (program m.image) m.plain) place)) }
 {
     match machine.task_at(place) {
@@ -87,10 +87,10 @@ pub(crate) fn put_tasks(
     named: Named,
     rows: &mut Vec<u8>,
 ) -> Result<(), AllocError>
-    requires own { HasItsLines (observed machine.now.bus) (data_words machine.now.image) named }
+    requires own { HasItsLines (bus_state machine.now.bus) (data_words machine.now.image) named }
     ensures { let m = machine.now in
         OnOk result (rows.new.items ≡ rows.old.items
-        ++ each_task (task_field (observed m.bus) named.word.0) m.plain.commits (running (program m.image) m.plain)) }
+        ++ each_task (task_field (bus_state m.bus) named.word.0) m.plain.commits (running (program m.image) m.plain)) }
 {
     for place in 0..machine.active_tasks() {
         put_task_at(machine, named, place, rows)?;

@@ -3,7 +3,7 @@
 ghost use Rattle.std.specs.Prelude.{◌≡◌, ◌≤◌, ◌++◌, OnOk, option_map};
 ghost use Rattle.svc_core_laws.specs.Turns.{data_words};
 ghost use Rattle.svc_bus.specs.Calls.{line_shown};
-ghost use Rattle.svc_bus.specs.Observed.{observed};
+ghost use Rattle.svc_bus.specs.State.{bus_state};
 ghost use Rattle.svc_held.specs.Held.{HasItsLines};
 ghost use Rattle.svc_version_order.specs.Order.{clean_field, clean_fields, is_clean_line};
 
@@ -47,9 +47,9 @@ fn put_clean(
     unit: UnitId,
     rows: &mut Vec<u8>,
 ) -> Result<(), AllocError>
-    requires own { HasItsLines (observed machine.now.bus) (data_words machine.now.image) named }
+    requires own { HasItsLines (bus_state machine.now.bus) (data_words machine.now.image) named }
     ensures { OnOk result (rows.new.items ≡ rows.old.items
-        ++ clean_field unit.0 ((observed machine.now.bus).lines unit.0 named.word.0)) }
+        ++ clean_field unit.0 ((bus_state machine.now.bus).lines unit.0 named.word.0)) }
 {
     put_if_clean(unit, line_of_named(machine, unit, named), rows)
 }
@@ -62,9 +62,9 @@ pub(crate) fn put_all_clean(
     rows: &mut Vec<u8>,
 ) -> Result<(), AllocError>
     requires few { units ≤ 16 }
-    requires own { HasItsLines (observed machine.now.bus) (data_words machine.now.image) named }
+    requires own { HasItsLines (bus_state machine.now.bus) (data_words machine.now.image) named }
     ensures { OnOk result
-        (rows.new.items ≡ rows.old.items ++ clean_fields units (observed machine.now.bus) named.word.0) }
+        (rows.new.items ≡ rows.old.items ++ clean_fields units (bus_state machine.now.bus) named.word.0) }
 {
     for unit in 0..units {
         put_clean(machine, named, UnitId(unit as u8), rows)?;

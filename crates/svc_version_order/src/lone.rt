@@ -3,7 +3,7 @@
 ghost use Rattle.std.specs.Prelude.{◌≡◌, ◌++◌, ◌∷◌, [], OnOk, codes};
 ghost use Rattle.svc_core_laws.specs.Turns.{data_words};
 ghost use Rattle.svc_core_laws.specs.Words.{program};
-ghost use Rattle.svc_bus.specs.Observed.{observed};
+ghost use Rattle.svc_bus.specs.State.{bus_state};
 ghost use Rattle.svc_line.specs.Bits.{bits_of};
 ghost use Rattle.svc_machine_laws.specs.PlainMachine.{running};
 ghost use Rattle.svc_text.specs.Rows.{fields};
@@ -29,10 +29,10 @@ fn put_line(
     bits: LineBits,
     rows: &mut Vec<u8>,
 ) -> Result<(), AllocError>
-    requires own { HasItsLines (observed machine.now.bus) (data_words machine.now.image) named }
+    requires own { HasItsLines (bus_state machine.now.bus) (data_words machine.now.image) named }
     ensures { let m = machine.now in
         OnOk result (rows.new.items ≡ rows.old.items ++ lone_field (bits_of bits).commit unit.0
-        (each_task (task_field (observed m.bus) named.word.0) m.plain.commits (running (program m.image) m.plain))) }
+        (each_task (task_field (bus_state m.bus) named.word.0) m.plain.commits (running (program m.image) m.plain))) }
 {
     if is_committed(bits) {
         put_committed(unit, rows)
@@ -49,10 +49,10 @@ fn put_row(
     bits: LineBits,
     rows: &mut Vec<u8>,
 ) -> Result<(), AllocError>
-    requires own { HasItsLines (observed machine.now.bus) (data_words machine.now.image) named }
+    requires own { HasItsLines (bus_state machine.now.bus) (data_words machine.now.image) named }
     ensures { let m = machine.now in
         OnOk result (rows.new.items ≡ rows.old.items ++ (fields (codes "order") (named.word.0 ∷ [])
-        ++ (lone_field (bits_of bits).commit unit.0 (each_task (task_field (observed m.bus) named.word.0)
+        ++ (lone_field (bits_of bits).commit unit.0 (each_task (task_field (bus_state m.bus) named.word.0)
         m.plain.commits (running (program m.image) m.plain)) ++ codes "\n"))) }
 {
     put_fields(rows, "order", &[u64::from(named.word.0)])?;
@@ -69,9 +69,9 @@ pub(crate) fn put_lone(
     rows: &mut Vec<u8>,
 ) -> Result<(), AllocError>
     requires alone { named.by ≡ namers.One unit }
-    requires own { HasItsLines (observed machine.now.bus) (data_words machine.now.image) named }
+    requires own { HasItsLines (bus_state machine.now.bus) (data_words machine.now.image) named }
     ensures { let m = machine.now in
-        OnOk result (rows.new.items ≡ rows.old.items ++ order_row m.config.units (observed m.bus)
+        OnOk result (rows.new.items ≡ rows.old.items ++ order_row m.config.units (bus_state m.bus)
         m.plain.commits (running (program m.image) m.plain) named.word.0) }
 {
     // what the type guarantees: its bus is sound

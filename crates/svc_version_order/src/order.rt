@@ -4,7 +4,7 @@ ghost use Rattle.std.specs.Prelude.{◌≡◌, ◌≤◌, ◌||◌, ◌++◌, On
 ghost use Rattle.std.specs.List.{AllByRecursion, list_any, range_with_len};
 ghost use Rattle.svc_core_laws.specs.Turns.{data_words};
 ghost use Rattle.svc_core_laws.specs.Words.{program};
-ghost use Rattle.svc_bus.specs.Observed.{observed};
+ghost use Rattle.svc_bus.specs.State.{bus_state};
 ghost use Rattle.svc_machine_laws.specs.PlainMachine.{running};
 ghost use Rattle.svc_held.specs.Held.{HasHeld, HasItsLines, is_cached, is_named_line};
 ghost use Rattle.svc_version_order.specs.Order.{line_fields, named_row, order_row, order_rows, word_fields};
@@ -29,7 +29,7 @@ pub(crate) fn either(one: bool, other: bool) -> bool
 // Some unit has a valid line of a named word, by its namers.
 fn is_named_cached(machine: &Machine, named: Named, units: u32) -> bool
     requires few { units ≤ 16 }
-    ensures { result ≡ list_any (is_named_line (observed machine.now.bus) named) (range_with_len 0 units) }
+    ensures { result ≡ list_any (is_named_line (bus_state machine.now.bus) named) (range_with_len 0 units) }
 {
     let mut cached = false;
     for unit in 0..units {
@@ -41,8 +41,8 @@ fn is_named_cached(machine: &Machine, named: Named, units: u32) -> bool
 // Some unit has a valid line of a named word.
 fn is_cached(machine: &Machine, named: Named, units: u32) -> bool
     requires few { units ≤ 16 }
-    requires own { HasItsLines (observed machine.now.bus) (data_words machine.now.image) named }
-    ensures { result ≡ is_cached (observed machine.now.bus) units named.word.0 }
+    requires own { HasItsLines (bus_state machine.now.bus) (data_words machine.now.image) named }
+    ensures { result ≡ is_cached (bus_state machine.now.bus) units named.word.0 }
 {
     is_named_cached(machine, named, units)
 }
@@ -56,10 +56,10 @@ fn put_lines(
 ) -> Result<(), AllocError>
     requires few { units ≤ 16 }
     requires all { units ≡ machine.now.config.units }
-    requires own { HasItsLines (observed machine.now.bus) (data_words machine.now.image) named }
+    requires own { HasItsLines (bus_state machine.now.bus) (data_words machine.now.image) named }
     ensures { let m = machine.now in
         OnOk result (rows.new.items ≡ rows.old.items
-        ++ line_fields units (observed m.bus) m.plain.commits (running (program m.image) m.plain) named.word.0) }
+        ++ line_fields units (bus_state m.bus) m.plain.commits (running (program m.image) m.plain) named.word.0) }
 {
     put_all_clean(machine, named, units, rows)?;
     put_versions(machine, named, rows)?;
@@ -76,10 +76,10 @@ fn put_row(
 ) -> Result<(), AllocError>
     requires few { units ≤ 16 }
     requires all { units ≡ machine.now.config.units }
-    requires own { HasItsLines (observed machine.now.bus) (data_words machine.now.image) named }
+    requires own { HasItsLines (bus_state machine.now.bus) (data_words machine.now.image) named }
     ensures { let m = machine.now in
         OnOk result (rows.new.items ≡ rows.old.items
-        ++ word_fields units (observed m.bus) m.plain.commits (running (program m.image) m.plain) named.word.0) }
+        ++ word_fields units (bus_state m.bus) m.plain.commits (running (program m.image) m.plain) named.word.0) }
 {
     put_fields(rows, "order", &[u64::from(named.word.0)])?;
     put_lines(machine, named, units, rows)
@@ -94,10 +94,10 @@ fn put_any(
 ) -> Result<(), AllocError>
     requires few { units ≤ 16 }
     requires all { units ≡ machine.now.config.units }
-    requires own { HasItsLines (observed machine.now.bus) (data_words machine.now.image) named }
+    requires own { HasItsLines (bus_state machine.now.bus) (data_words machine.now.image) named }
     ensures { let m = machine.now in
         OnOk result (rows.new.items ≡ rows.old.items
-        ++ order_row units (observed m.bus) m.plain.commits (running (program m.image) m.plain) named.word.0) }
+        ++ order_row units (bus_state m.bus) m.plain.commits (running (program m.image) m.plain) named.word.0) }
 {
     if is_cached(machine, named, units) {
         put_row(machine, named, units, rows)
@@ -115,10 +115,10 @@ fn put_order(
 ) -> Result<(), AllocError>
     requires few { units ≤ 16 }
     requires all { units ≡ machine.now.config.units }
-    requires own { HasItsLines (observed machine.now.bus) (data_words machine.now.image) named }
+    requires own { HasItsLines (bus_state machine.now.bus) (data_words machine.now.image) named }
     ensures { let m = machine.now in
         OnOk result (rows.new.items ≡ rows.old.items
-        ++ order_row units (observed m.bus) m.plain.commits (running (program m.image) m.plain) named.word.0) }
+        ++ order_row units (bus_state m.bus) m.plain.commits (running (program m.image) m.plain) named.word.0) }
 {
     match named.by {
         Namers::One(unit) => put_lone(machine, named, unit, rows),
@@ -135,10 +135,10 @@ fn put_all(
 ) -> Result<(), AllocError>
     requires few { units ≤ 16 }
     requires all { units ≡ machine.now.config.units }
-    requires own { AllByRecursion (HasItsLines (observed machine.now.bus) (data_words machine.now.image)) named.now }
+    requires own { AllByRecursion (HasItsLines (bus_state machine.now.bus) (data_words machine.now.image)) named.now }
     ensures { let m = machine.now in
         OnOk result (rows.new.items ≡ rows.old.items
-        ++ flat_map (named_row units (observed m.bus) m.plain.commits (running (program m.image) m.plain)) named.now) }
+        ++ flat_map (named_row units (bus_state m.bus) m.plain.commits (running (program m.image) m.plain)) named.now) }
 {
     for one in named {
         put_order(machine, *one, units, rows)?;
@@ -150,9 +150,9 @@ fn put_all(
 ///
 /// Errors: [`AllocError`], if memory runs out.
 pub fn put_orders(machine: &Machine, named: &[Named], rows: &mut Vec<u8>) -> Result<(), AllocError>
-    requires held { HasHeld (observed machine.now.bus) (data_words machine.now.image) named.now }
+    requires held { HasHeld (bus_state machine.now.bus) (data_words machine.now.image) named.now }
     ensures { let m = machine.now in
-        OnOk result (rows.new.items ≡ rows.old.items ++ order_rows m.config.units (data_words m.image) (observed m.bus)
+        OnOk result (rows.new.items ≡ rows.old.items ++ order_rows m.config.units (data_words m.image) (bus_state m.bus)
         m.plain.commits (running (program m.image) m.plain)) }
 {
     put_all(machine, named, machine.config().units, rows)

@@ -2,7 +2,7 @@
 
 ghost use Rattle.std.specs.Prelude.{◌≡◌, ◌++◌, OnOk};
 ghost use Rattle.svc_core_laws.specs.Turns.{data_words};
-ghost use Rattle.svc_bus.specs.Observed.{observed};
+ghost use Rattle.svc_bus.specs.State.{bus_state};
 ghost use Rattle.svc_held.specs.Held.{HasItsLines};
 ghost use Rattle.svc_version_order.specs.Order.{version_fields};
 ghost use Rattle.svc_version_order.specs.Fields.{committed_fields};
@@ -29,9 +29,9 @@ pub(crate) fn put_versions(
     named: Named,
     rows: &mut Vec<u8>,
 ) -> Result<(), AllocError>
-    requires own { HasItsLines (observed machine.now.bus) (data_words machine.now.image) named }
+    requires own { HasItsLines (bus_state machine.now.bus) (data_words machine.now.image) named }
     ensures { let m = machine.now in OnOk result
-        (rows.new.items ≡ rows.old.items ++ version_fields m.config.units (observed m.bus) named.word.0) }
+        (rows.new.items ≡ rows.old.items ++ version_fields m.config.units (bus_state m.bus) named.word.0) }
 {
     let _standing = machine.config();
     put_each(&machine.committed_versions(named.word), rows)

@@ -1,7 +1,7 @@
 use Rattle.std.proofs.Common.{◌≡◌, ◌≤◌, ◌∙◌, List, ap, arith, length, subst, sym}
 use Rattle.std.proofs.lemmas.List.{length-map}
 use Rattle.svc_base.specs.declared.ids.UnitId.{UnitId}
-use Rattle.svc_bus.specs.Observed.{observed}
+use Rattle.svc_bus.specs.State.{bus_state}
 use Rattle.svc_machine.specs.Value.{MachineValue}
 use Rattle.svc_observations.specs.Rosters.{unit_numbers}
 use Rattle.svc_renaming_laws.specs.Orders.{by_order}
@@ -27,5 +27,5 @@ returns c =
     (λ key e. record {
       order = unit_numbers us;
       is_order = c.in_ok-order.ensures;
-      key_is = e ∙ (λ i. named_words (by_order (unit_numbers (value i))) (long i) (c.words_of-words.ensures i) m.plain (observed m.bus));
+      key_is = e ∙ (λ i. named_words (by_order (unit_numbers (value i))) (long i) (c.words_of-words.ensures i) m.plain (bus_state m.bus));
     }) c.key_by.ensures

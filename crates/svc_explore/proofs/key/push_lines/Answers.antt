@@ -1,7 +1,7 @@
 use Rattle.std.proofs.Common.{◌<◌, ◌∙◌, ◌++◌, List, ℕ, ap, arith, get_or, length, sym}
 use Rattle.svc_base.specs.declared.ids.UnitId.{UnitId}
 use Rattle.svc_bus_laws.specs.BusState.{BusState}
-use Rattle.svc_bus.specs.Observed.{observed}
+use Rattle.svc_bus.specs.State.{bus_state}
 use Rattle.svc_observations.specs.Rosters.{unit_numbers}
 use Rattle.svc_renaming_laws.specs.Orders.{by_order}
 use Rattle.svc_explore.specs.KeyWords.{line_code, lines_words, named_lines, slot_words}
@@ -10,7 +10,7 @@ use Rattle.svc_explore.proofs.key.push_lines.Goals as goal
 
 pub loop-name-preserved : goal.loop-name-preserved
 loop-name-preserved c =
-    let b : BusState = observed c.args.machine.now.bus in
+    let b : BusState = bus_state c.args.machine.now.bus in
     let us : List UnitId = c.args.order.now in
     let old : List ℕ = c.args.key.now.items in
     let n : ℕ = c.loop-name.name in

@@ -4,7 +4,7 @@ use Rattle.svc_core.specs.Places.{trap_of}
 use Rattle.svc_core_laws.specs.declared.ask.Ask.TheVariants as ask
 use Rattle.svc_core_laws.specs.Numbers.{load_bytes}
 use Rattle.svc_core_laws.specs.Turns.{access_trap, data_words}
-use Rattle.svc_bus.specs.Observed.{observed}
+use Rattle.svc_bus.specs.State.{bus_state}
 use Rattle.svc_machine_laws.specs.Refusals.{asked_word, word_unless}
 use Rattle.svc_machine_laws.specs.Replies.{serves_at}
 use Rattle.svc_machine.specs.Asked.{refused_for}
@@ -18,7 +18,7 @@ returns-in_ok-word-in-Ok c =
     let word : asked_word c.args.image.now (ask.Load c.args.kind c.args.rd c.args.addr) ≡ Some c.in-Ok.access.word =
     ap (λ (o : Option ℕ). word_unless o c.args.addr) inside ∙ ap {B = Option ℕ} (λ (a : ℕ). Some a) (sym c.in-Ok.ensures.place.0) in
     record {
-      refused = sym (c.in_ok-word-in-Ok.ensures {u = tt}).refused ∙ sym (ap (refused_for (observed c.args.bus.now) c.args.seat.now.lease.unit.0) word);
+      refused = sym (c.in_ok-word-in-Ok.ensures {u = tt}).refused ∙ sym (ap (refused_for (bus_state c.args.bus.now) c.args.seat.now.lease.unit.0) word);
       unchanged = tt;
       done = λ t p runs.
           let ens = c.in_ok-word-in-Ok.ensures {u = tt} in

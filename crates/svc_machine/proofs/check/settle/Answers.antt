@@ -1,7 +1,7 @@
 use Rattle.std.proofs.Common.{ℕ, suc, ◌≡◌, true, cond, drop, take, List, Some, None, Option, ◌∙◌, ◌+◌, ap, sym, subst, add-one, get_or, arith}
 use Rattle.svc_bus_laws.specs.BusState.{Agrees}
 use Rattle.svc_bus_laws.specs.Steps.{squash}
-use Rattle.svc_bus.specs.Observed.{observed}
+use Rattle.svc_bus.specs.State.{bus_state}
 use Rattle.svc_machine_laws.specs.declared.reply.Cut.{Cut}
 use Rattle.svc_machine_laws.specs.declared.reply.Cause.TheVariants as cause
 use Rattle.svc_machine_laws.specs.Guide.{Guide, guide_cut}
@@ -28,7 +28,7 @@ squash_from-requires-clause-at_work c =
     let cuts : cuts_next c.args.end (drop (suc c.args.place) c.args.sequencer.now.active) ≡ true = sym c.settle.ensures ∙ c.if-not-settle.false in
     let more = next_here seats c.args.place c.args.end (ap (λ l. cuts_next c.args.end (drop (suc c.args.place) l)) (sym c.requires.lined) ∙ cuts) in
     let t = c.requires.units in
-    next_works (observed c.args.bus.now) t.0 t.1 seats t.2 c.args.place c.index.result.now more (there seats c.args.place c.index.result.now c.index.ensures)
+    next_works (bus_state c.args.bus.now) t.0 t.1 seats t.2 c.args.place c.index.result.now more (there seats c.args.place c.index.result.now c.index.ensures)
 
 pub squash_from-requires-clause-later : goal.squash_from-requires-clause-later
 squash_from-requires-clause-later c =
@@ -36,7 +36,7 @@ squash_from-requires-clause-later c =
     let cuts : cuts_next c.args.end (drop (suc c.args.place) c.args.sequencer.now.active) ≡ true = sym c.settle.ensures ∙ c.if-not-settle.false in
     let more = next_here seats c.args.place c.args.end (ap (λ l. cuts_next c.args.end (drop (suc c.args.place) l)) (sym c.requires.lined) ∙ cuts) in
     let t = c.requires.units in
-    next_later (observed c.args.bus.now) t.0 t.1 seats t.2 c.args.place c.index.result.now more (there seats c.args.place c.index.result.now c.index.ensures)
+    next_later (bus_state c.args.bus.now) t.0 t.1 seats t.2 c.args.place c.index.result.now more (there seats c.args.place c.index.result.now c.index.ensures)
 
 pub returns : goal.returns
 returns c =
@@ -51,8 +51,8 @@ returns c =
           ap {B = Option Cut} (λ k. Some k) (c.cut_from-cut.ensures ∙ ap (cut_from cause.WrongGuess c.args.commits c.args.count) one)
           ∙ sym (ap {B = Option Cut} (λ x. cond x (Some (cut_from cause.WrongGuess c.args.commits c.args.count (suc place))) None) cuts);
       lines = λ t agrees.
-          let here = next_place (observed c.args.bus.now) units.0 units.1 seats units.2 place c.index.result.now more (there seats c.args.place c.index.result.now c.index.ensures) t agrees in
-          subst (λ x. Agrees (observed c.squash_from.new.self) (cond x (squash t (suc place)) t)) (sym cuts) (c.squash_from.ensures.table t (suc place) (record { agrees = agrees; within = here.0; unit_is = here.1 }));
+          let here = next_place (bus_state c.args.bus.now) units.0 units.1 seats units.2 place c.index.result.now more (there seats c.args.place c.index.result.now c.index.ensures) t agrees in
+          subst (λ x. Agrees (bus_state c.squash_from.new.self) (cond x (squash t (suc place)) t)) (sym cuts) (c.squash_from.ensures.table t (suc place) (record { agrees = agrees; within = here.0; unit_is = here.1 }));
       seats = c.truncate.ensures.items ∙ ap (λ k. take k seats) one ∙ sym (ap {B = List Seat} (λ x. cond x (take (suc place) seats) seats) cuts);
       guide = c.cut_from.ensures ∙ ap (λ k. guide_cut k c.args.sequencer.now) one ∙ sym (ap {B = Guide} (λ x. cond x (guide_cut (suc place) c.args.sequencer.now) c.args.sequencer.now) cuts);
       capacity = c.truncate.ensures.capacity;

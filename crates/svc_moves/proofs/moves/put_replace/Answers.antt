@@ -3,7 +3,7 @@ use Rattle.std.specs.Io.KnownBytes.{Appends}
 use Rattle.svc_report.proofs.PlainLines.{on_ok, then_appends}
 use Rattle.std.specs.Prelude.{[], cond}
 use Rattle.svc_core_laws.specs.Turns.{data_words}
-use Rattle.svc_bus.specs.Observed.{observed}
+use Rattle.svc_bus.specs.State.{bus_state}
 use Rattle.svc_machine_laws.specs.Events.{Replace}
 use Rattle.svc_moves.specs.Moves.{event_row}
 use Rattle.svc_moves.proofs.ReplacesHeld.{is_held}
@@ -17,5 +17,5 @@ returns c = λ s at.
     let a = Some c.args.rows.now.items in
     let b = Some c.put_if_held.new.rows.items in
     let same =
-    c.holds_line-is_held.ensures ∙ is_held (observed m.bus) s at.lines.lines (data_words m.image) c.args.named c.requires.own unit in
+    c.holds_line-is_held.ensures ∙ is_held (bus_state m.bus) s at.lines.lines (data_words m.image) c.args.named c.requires.own unit in
     on_ok c.put_if_held.result (subst (λ (x : Bool). Appends a b (cond x (event_row m.image m.config s unit (Replace unit word)) [])) same) (c.put_if_held.ensures s at)

@@ -1,7 +1,7 @@
 use Rattle.std.proofs.Common.{◌∙◌, subst, sym}
 use Rattle.svc_image.specs.Image.{IsImage}
 use Rattle.svc_core_laws.specs.Turns.{data_words}
-use Rattle.svc_bus.specs.Observed.{observed}
+use Rattle.svc_bus.specs.State.{bus_state}
 use Rattle.svc_show.specs.Named.{AreVersions}
 use Rattle.svc_show.proofs.Caches.{no_other, no_version, the_value, the_version}
 use Rattle.svc_show.proofs.Settled.{one_left, settled}
@@ -11,7 +11,7 @@ pub returns-in-Absent : goal.returns-in-Absent
 returns-in-Absent c =
     let m = c.args.machine.now in
     let n = c.args.named in
-    let b = observed m.bus in
+    let b = bus_state m.bus in
     let units = m.config.units in
     let stands = c.config-standing.ensures.standing in
     let reached = c.config-standing.ensures.reached stands.0 stands.1 in
@@ -23,7 +23,7 @@ pub returns-in-One : goal.returns-in-One
 returns-in-One c =
     let m = c.args.machine.now in
     let n = c.args.named in
-    let b = observed m.bus in
+    let b = bus_state m.bus in
     let units = m.config.units in
     let words = data_words m.image in
     let value = c.in-One.value in

@@ -1,6 +1,6 @@
 use Rattle.std.proofs.Common.{Some, ◌++◌}
 use Rattle.svc_core_laws.specs.Turns.{data_words}
-use Rattle.svc_bus.specs.Observed.{observed}
+use Rattle.svc_bus.specs.State.{bus_state}
 use Rattle.svc_report.proofs.PlainLines.{on_ok, then_appends}
 use Rattle.svc_show.specs.Show.{all_task_rows, asked_order, line_rows, memory_rows, progress_rows, spill_rows}
 use Rattle.svc_show.proofs.show.write_machine.Goals as goal
@@ -8,7 +8,7 @@ use Rattle.svc_show.proofs.show.write_machine.Goals as goal
 pub returns : goal.returns
 returns c =
     let m = c.args.machine.now in
-    let bus = observed m.bus in
+    let bus = bus_state m.bus in
     let units = m.config.units in
     let words = data_words m.image in
     let a = Some c.args.rows.now.items in

@@ -1,7 +1,7 @@
 use Rattle.std.proofs.Common.{Some, ◌≡◌, ◌∙◌, ℕ, List, codes, length, ap, subst, sym}
 use Rattle.std.specs.Io.KnownBytes.{Appends}
 use Rattle.svc_core_laws.specs.Turns.{data_words}
-use Rattle.svc_bus.specs.Observed.{observed}
+use Rattle.svc_bus.specs.State.{bus_state}
 use Rattle.svc_held.specs.Held.{IsHeldBy}
 use Rattle.svc_machine.specs.Value.{MachineValue, StandsAt}
 use Rattle.svc_history_laws.specs.declared.entry.Entry.{Entry}
@@ -30,5 +30,5 @@ returns c =
 pub write_standing-requires : goal.write_standing-requires
 write_standing-requires c =
     record {
-      held = subst (λ (m : MachineValue). IsHeldBy (observed m.bus) (data_words m.image) c.args.extras.memory c.args.named.now) (sym c.machine.ensures.machine) c.requires.held;
+      held = subst (λ (m : MachineValue). IsHeldBy (bus_state m.bus) (data_words m.image) c.args.extras.memory c.args.named.now) (sym c.machine.ensures.machine) c.requires.held;
     }

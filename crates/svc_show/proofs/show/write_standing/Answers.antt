@@ -1,6 +1,6 @@
 use Rattle.std.proofs.Common.{Some, List, ℕ, subst}
 use Rattle.std.specs.Io.KnownBytes.{Appends}
-use Rattle.svc_bus.specs.Observed.{observed}
+use Rattle.svc_bus.specs.State.{bus_state}
 use Rattle.svc_bus_laws.specs.BusState.{state_of}
 use Rattle.svc_report.proofs.PlainLines.{on_ok, then_appends}
 use Rattle.svc_show.specs.Show.{asked_moves, machine_rows}

@@ -3,7 +3,7 @@ use Rattle.std.specs.Prelude.{slice_get}
 use Rattle.std.specs.Io.KnownBytes.{Appends}
 use Rattle.std.proofs.lemmas.List.{append-nil}
 use Rattle.svc_core_laws.specs.Words.{program}
-use Rattle.svc_bus.specs.Observed.{observed}
+use Rattle.svc_bus.specs.State.{bus_state}
 use Rattle.svc_machine_laws.specs.PlainMachine.{running}
 use Rattle.svc_report.proofs.PlainLines.{on_ok}
 use Rattle.svc_version_order.specs.Order.{unit_field}
@@ -13,7 +13,7 @@ use Rattle.svc_version_order.proofs.active.put_task_at.Goals as goal
 pub returns-in-Some : goal.returns-in-Some
 returns-in-Some c =
     let m = c.args.machine.now in
-    let bus = observed m.bus in
+    let bus = bus_state m.bus in
     let word = c.args.named.word.0 in
     let unit = c.in-Some.task.unit.0 in
     let a = Some c.args.rows.now.items in
@@ -27,7 +27,7 @@ returns-in-Some c =
 pub returns-in-None : goal.returns-in-None
 returns-in-None c =
     let m = c.args.machine.now in
-    let bus = observed m.bus in
+    let bus = bus_state m.bus in
     let word = c.args.named.word.0 in
     let o = slice_get (running (program m.image) m.plain) c.args.place in
     let same = no_field bus word (m.plain.commits + c.args.place) o (sym c.in-None.is ∙ c.task_at.ensures) in

@@ -4,7 +4,7 @@ use Rattle.std.proofs.lemmas.List.{append-nil}
 use Rattle.svc_core_laws.specs.Turns.{data_words}
 use Rattle.svc_core_laws.specs.Words.{program}
 use Rattle.svc_bus.specs.Calls.{line_shown}
-use Rattle.svc_bus.specs.Observed.{observed}
+use Rattle.svc_bus.specs.State.{bus_state}
 use Rattle.svc_machine_laws.specs.PlainMachine.{running}
 use Rattle.svc_report.proofs.PlainLines.{on_ok}
 use Rattle.svc_version_order.specs.Order.{order_row}
@@ -14,7 +14,7 @@ use Rattle.svc_version_order.proofs.lone.put_lone.Goals as goal
 pub returns-in-Some : goal.returns-in-Some
 returns-in-Some c =
     let m = c.args.machine.now in
-    let bus = observed m.bus in
+    let bus = bus_state m.bus in
     let runs = running (program m.image) m.plain in
     let at = c.config-standing.ensures.standing in
     let caches = at.1.lines.caches ∙ (c.config-standing.ensures.reached at.0 at.1).lines.caches in
@@ -27,7 +27,7 @@ returns-in-Some c =
 pub returns-in-None : goal.returns-in-None
 returns-in-None c =
     let m = c.args.machine.now in
-    let bus = observed m.bus in
+    let bus = bus_state m.bus in
     let runs = running (program m.image) m.plain in
     let at = c.config-standing.ensures.standing in
     let none = sym c.line_of.ensures ∙ ap (option_map line_shown) c.in-None.is in

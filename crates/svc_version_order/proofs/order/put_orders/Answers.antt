@@ -3,7 +3,7 @@ use Rattle.std.specs.Io.KnownBytes.{Appends}
 use Rattle.svc_base.specs.declared.config.Config.{Config}
 use Rattle.svc_core_laws.specs.Turns.{data_words}
 use Rattle.svc_core_laws.specs.Words.{program}
-use Rattle.svc_bus.specs.Observed.{observed}
+use Rattle.svc_bus.specs.State.{bus_state}
 use Rattle.svc_machine_laws.specs.PlainMachine.{running}
 use Rattle.svc_report.proofs.PlainLines.{on_ok}
 use Rattle.svc_held.proofs.Listed.{own_held}
@@ -14,12 +14,12 @@ use Rattle.svc_version_order.proofs.order.put_orders.Goals as goal
 pub put_all-requires-clause-own : goal.put_all-requires-clause-own
 put_all-requires-clause-own c =
     let m = c.args.machine.now in
-    own_held (observed m.bus) (data_words m.image) c.requires.held.0 c.args.named.now c.requires.held.1
+    own_held (bus_state m.bus) (data_words m.image) c.requires.held.0 c.args.named.now c.requires.held.1
 
 pub returns : goal.returns
 returns c =
     let m = c.args.machine.now in
-    let bus = observed m.bus in
+    let bus = bus_state m.bus in
     let runs = running (program m.image) m.plain in
     let words = data_words m.image in
     let same =

@@ -1,6 +1,6 @@
 use Rattle.std.proofs.Common.{Some, ◌∙◌, ap, subst, sym}
 use Rattle.std.specs.Io.KnownBytes.{Appends}
-use Rattle.svc_bus.specs.Observed.{observed}
+use Rattle.svc_bus.specs.State.{bus_state}
 use Rattle.svc_bus.specs.Versions.{AreItsVersions}
 use Rattle.svc_report.proofs.PlainLines.{on_ok}
 use Rattle.svc_version_order.specs.Order.{version_fields}
@@ -10,7 +10,7 @@ use Rattle.svc_version_order.proofs.versions.put_versions.Goals as goal
 pub returns : goal.returns
 returns c =
     let m = c.args.machine.now in
-    let bus = observed m.bus in
+    let bus = bus_state m.bus in
     let word = c.args.named.word.0 in
     let at = c.config-standing.ensures.standing in
     let caches = at.1.lines.caches ∙ (c.config-standing.ensures.reached at.0 at.1).lines.caches in

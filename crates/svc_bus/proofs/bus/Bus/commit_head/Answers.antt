@@ -5,12 +5,12 @@ use Rattle.svc_cache.specs.Lines.{commit_line}
 use Rattle.svc_retire.specs.Caches.{no_cache, cache_at}
 use Rattle.svc_retire.proofs.Listing.{read_item}
 use Rattle.svc_bus.specs.Value.{BusValue}
-use Rattle.svc_bus.specs.Observed.{observed}
+use Rattle.svc_bus.specs.State.{bus_state}
 use Rattle.svc_bus.proofs.Committing.{IsCommit, head_known, committed_bus, committed_table}
 use Rattle.svc_bus.proofs.bus.Bus.commit_head.Goals as goal
 
 pub invariant_of-self : goal.invariant_of-self
-unfolding observed
+unfolding bus_state
 invariant_of-self c =
     let inside = c.self.inside in
     let old : BusValue = record { caches = inside.caches.items; spill = inside.spill; backing = inside.backing.items; units = inside.queue; commits = inside.commits; probes = inside.probes } in
@@ -37,7 +37,7 @@ invariant_of-self c =
     rw (with_items_is inside.backing backing (words ∙ sym inside.backing.ok.0)) (committed_bus old new unit cache c.self.invariant few is)
 
 pub returns-clause-table : goal.returns-clause-table
-unfolding observed
+unfolding bus_state
 returns-clause-table c =
     let inside = c.self.inside in
     let old : BusValue = record { caches = inside.caches.items; spill = inside.spill; backing = inside.backing.items; units = inside.queue; commits = inside.commits; probes = inside.probes } in

@@ -1,7 +1,7 @@
 use Rattle.std.proofs.Common.{◌∙◌, sym, ap, option_map}
 use Rattle.svc_vol.specs.declared.held_line.HeldLine.{HeldLine}
 use Rattle.svc_vcl.specs.Listed.{newest_version_in}
-use Rattle.svc_bus.specs.Observed.{observed}
+use Rattle.svc_bus.specs.State.{bus_state}
 use Rattle.svc_bus.proofs.Requests.{listable}
 use Rattle.svc_bus.proofs.Rooms.{room_for_each}
 use Rattle.svc_bus.proofs.Newest.{newest_told}
@@ -14,7 +14,7 @@ pub of-list-requires-clause-listed : goal.of-list-requires-clause-listed
 of-list-requires-clause-listed c = listable _ c.self.invariant c.deref.result.now c.deref.ensures.value c.args.word.0
 
 pub returns-in-Some : goal.returns-in-Some
-unfolding observed
+unfolding bus_state
 returns-in-Some c = record {
   unit = rw (← c.self.view_is) (
       ap (option_map (λ (v : HeldLine). v.unit.0)) (sym c.in-Some.is)
@@ -22,7 +22,7 @@ returns-in-Some c = record {
 }
 
 pub returns-in-None : goal.returns-in-None
-unfolding observed
+unfolding bus_state
 returns-in-None c = record {
   unit = rw (← c.self.view_is) (
       ap (option_map (λ (v : HeldLine). v.unit.0)) (sym c.in-None.is)

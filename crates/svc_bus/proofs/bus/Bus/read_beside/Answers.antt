@@ -12,7 +12,7 @@ use Rattle.svc_retire.specs.Caches.{cache_at, held_line, SameSizes}
 use Rattle.svc_retire.specs.Purges.{committed_in, HasRoomFor}
 use Rattle.svc_retire.proofs.Listing.{read_item}
 use Rattle.svc_bus.specs.Value.{BusValue}
-use Rattle.svc_bus.specs.Observed.{observed}
+use Rattle.svc_bus.specs.State.{bus_state}
 use Rattle.svc_bus.specs.Looking.{CountsUpTo, IsOne}
 use Rattle.svc_bus.specs.Room.{full_in}
 use Rattle.svc_bus.specs.Carried.{lines_after, memory_after, is_hit}
@@ -37,7 +37,7 @@ pub fill_beside-requires-clause-listed : goal.fill_beside-requires-clause-listed
 fill_beside-requires-clause-listed c = listable _ c.self.invariant c.deref.result.now c.deref.ensures.value c.args.word.0
 
 pub carry_out-requires-clause-request : goal.carry_out-requires-clause-request
-unfolding observed
+unfolding bus_state
 carry_out-requires-clause-request c =
     let inside = c.self.inside in
     let old : BusValue = record { caches = inside.caches.items; spill = inside.spill; backing = inside.backing.items; units = inside.queue; commits = inside.commits; probes = inside.probes } in
@@ -58,7 +58,7 @@ abbrev old : goal.After-probes-2-1 → BusValue
 old c = let inside = c.self.inside in record { caches = inside.caches.items; spill = inside.spill; backing = inside.backing.items; units = inside.queue; commits = inside.commits; probes = inside.probes }
 
 looked : (c : goal.After-probes-2-1) → c.args.word.0 < length (old c).backing → IsLookedUp (old c) c.fill_beside.new.self c.place_of-place.result c.args.word.0 c.args.unit.0 c.index-backing.result.now c.get.result
-unfolding observed
+unfolding bus_state
 looked c known = record {
   in_memory = known;
   described = listed_describes (old c) c.self.invariant c.deref.result.now c.deref.ensures.value c.args.word.0 c.fill_beside.new.self c.fill_beside.ensures.list.committed c.fill_beside.ensures.list.active;
@@ -69,20 +69,20 @@ looked c known = record {
 }
 
 looked_plan : (c : goal.After-probes-2-1) → c.args.word.0 < length (old c).backing → IsPlanned (old c) c.place_of-place.result c.args.word.0 c.plan_read-plan.result.served c.plan_read-plan.result.line.value (bits_of c.plan_read-plan.result.line.bits)
-unfolding observed
+unfolding bus_state
 looked_plan c known =
     planned_read (old c) c.fill_beside.new.self c.place_of-place.result c.args.word.0 c.args.unit.0 c.index-backing.result.now c.get.result c.plan_read-plan.result.served c.plan_read-plan.result.line.value (bits_of c.plan_read-plan.result.line.bits)
     c.self.invariant (looked c known) c.plan_read-plan.ensures.served c.plan_read-plan.ensures.line c.plan_read-plan.ensures.valid
 
 pub carry_out-requires-clause-valid : goal.carry_out-requires-clause-valid
-unfolding observed
+unfolding bus_state
 carry_out-requires-clause-valid c =
     let known : c.args.word.0 < length (old c).backing = rw (← c.self.view_is) at c.requires.in_memory in
-    c.plan_read-plan.ensures.valid (observed (old c)) c.self.invariant.linked.table c.args.word.0
+    c.plan_read-plan.ensures.valid (bus_state (old c)) c.self.invariant.linked.table c.args.word.0
     (own_asked (old c) c.fill_beside.new.self c.place_of-place.result c.args.word.0 c.args.unit.0 c.index-backing.result.now c.get.result c.self.invariant (looked c known))
 
 pub carry_out-requires-clause-active : goal.carry_out-requires-clause-active
-unfolding observed
+unfolding bus_state
 carry_out-requires-clause-active c =
     let known : c.args.word.0 < length (old c).backing = rw (← c.self.view_is) at c.requires.in_memory in
     plan_clear (old c) c.self.invariant c.place_of-place.result c.args.word.0 c.plan_read-plan.result.served c.plan_read-plan.result.line.value (bits_of c.plan_read-plan.result.line.bits) (looked_plan c known)
@@ -98,7 +98,7 @@ carry_out-requires-clause-room c =
     subst (λ (xs : List CacheValue). HasRoomFor c.fill_beside.new.probes xs (1 + length xs)) (sym c.deref_mut.ensures.value) (room_to_change (old c) c.self.invariant first c.fill_beside.new.probes few counted)
 
 pub returns-in-Err-clause-refused : goal.returns-in-Err-clause-refused
-unfolding observed
+unfolding bus_state
 returns-in-Err-clause-refused c =
     let inside = c.self.inside in
     let old : BusValue = record { caches = inside.caches.items; spill = inside.spill; backing = inside.backing.items; units = inside.queue; commits = inside.commits; probes = inside.probes } in
@@ -116,7 +116,7 @@ abbrev after : goal.After-self-3-1 → ℕ → BusValue
 after c told = record (before c) { caches = c.carry_out.new.caches; backing = c.carry_out.new.backing; probes = told }
 
 seen : (c : goal.After-self-3-1) → c.args.word.0 < length (before c).backing → IsLookedUp (before c) c.fill_beside.new.self c.place_of-place.result c.args.word.0 c.args.unit.0 c.index-backing.result.now c.get.result
-unfolding observed
+unfolding bus_state
 seen c known = record {
   in_memory = known;
   described = listed_describes (before c) c.self.invariant c.deref.result.now c.deref.ensures.value c.args.word.0 c.fill_beside.new.self c.fill_beside.ensures.list.committed c.fill_beside.ensures.list.active;
@@ -127,7 +127,7 @@ seen c known = record {
 }
 
 seen_plan : (c : goal.After-self-3-1) → c.args.word.0 < length (before c).backing → IsPlanned (before c) c.place_of-place.result c.args.word.0 c.plan_read-plan.result.served c.plan_read-plan.result.line.value (bits_of c.plan_read-plan.result.line.bits)
-unfolding observed
+unfolding bus_state
 seen_plan c known =
     planned_read (before c) c.fill_beside.new.self c.place_of-place.result c.args.word.0 c.args.unit.0 c.index-backing.result.now c.get.result c.plan_read-plan.result.served c.plan_read-plan.result.line.value (bits_of c.plan_read-plan.result.line.bits)
     c.self.invariant (seen c known) c.plan_read-plan.ensures.served c.plan_read-plan.ensures.line c.plan_read-plan.ensures.valid
@@ -156,7 +156,7 @@ memory_is c a =
     ∙ ap₂ (λ (xs : List CacheValue) (ws : List ℕ). memory_after c.plan_read-plan.result.served (λ x. get_or ws x 0) c.args.word.0 (committed_in xs ws c.args.word.0) a) c.deref_mut.ensures.value c.deref_mut-2.ensures.value
 
 pub invariant_of-self-2 : goal.invariant_of-self-2
-unfolding observed
+unfolding bus_state
 invariant_of-self-2 c =
     let inside = c.self.inside in
     let known : c.args.word.0 < length (before c).backing = rw (← c.self.view_is) at c.requires.in_memory in
@@ -166,7 +166,7 @@ invariant_of-self-2 c =
     (read_bus (before c) c.self.invariant c.place_of-place.result c.args.word.0 c.plan_read-plan.result.served c.plan_read-plan.result.line.value (bits_of c.plan_read-plan.result.line.bits) (seen_plan c known) (after c _) (sizes_are c _) refl refl refl (lines_are c) (memory_is c))
 
 pub returns-clause-refused : goal.returns-clause-refused
-unfolding observed
+unfolding bus_state
 returns-clause-refused c =
     let unit : ℕ = get_or (before c).units c.place_of-place.result 0 in
     let known : c.args.word.0 < length (before c).backing = rw (← c.self.view_is) at c.requires.in_memory in
@@ -179,23 +179,23 @@ returns-clause-refused c =
     rw (← c.self.view_is, ← c.place_of-place.ensures.at_work) (ap (option_map (λ word. refusal.SetFull (record { 0 = word }))) (sym shown ∙ none))
 
 pub returns-clause-value : goal.returns-clause-value
-unfolding observed
+unfolding bus_state
 returns-clause-value c =
     let known : c.args.word.0 < length (before c).backing = rw (← c.self.view_is) at c.requires.in_memory in
     rw (← c.self.view_is) (λ t place runs.
     value_seen (before c) c.self.invariant t runs.agrees c.place_of-place.result place c.args.word.0 c.place_of-place.ensures.within runs.within (runs.unit_is ∙ sym c.place_of-place.ensures.at_work) c.plan_read-plan.result.line.value
-    (c.plan_read-plan.ensures.value (observed (before c)) t c.args.word.0 (asked (before c) t c.fill_beside.new.self c.place_of-place.result c.args.word.0 c.args.unit.0 c.index-backing.result.now c.get.result runs.agrees (seen c known))))
+    (c.plan_read-plan.ensures.value (bus_state (before c)) t c.args.word.0 (asked (before c) t c.fill_beside.new.self c.place_of-place.result c.args.word.0 c.args.unit.0 c.index-backing.result.now c.get.result runs.agrees (seen c known))))
 
 pub returns-clause-served : goal.returns-clause-served
-unfolding observed
+unfolding bus_state
 returns-clause-served c =
     let known : c.args.word.0 < length (before c).backing = rw (← c.self.view_is) at c.requires.in_memory in
     rw (← c.self.view_is) (λ t place runs.
     served_seen (before c) c.self.invariant t runs.agrees c.place_of-place.result place c.args.word.0 c.place_of-place.ensures.within runs.within (runs.unit_is ∙ sym c.place_of-place.ensures.at_work) c.plan_read-plan.result.served
-    (c.plan_read-plan.ensures.served (observed (before c)) t c.args.word.0 (asked (before c) t c.fill_beside.new.self c.place_of-place.result c.args.word.0 c.args.unit.0 c.index-backing.result.now c.get.result runs.agrees (seen c known))))
+    (c.plan_read-plan.ensures.served (bus_state (before c)) t c.args.word.0 (asked (before c) t c.fill_beside.new.self c.place_of-place.result c.args.word.0 c.args.unit.0 c.index-backing.result.now c.get.result runs.agrees (seen c known))))
 
 pub returns-clause-table : goal.returns-clause-table
-unfolding observed
+unfolding bus_state
 returns-clause-table c =
     let inside = c.self.inside in
     let known : c.args.word.0 < length (before c).backing = rw (← c.self.view_is) at c.requires.in_memory in
@@ -206,7 +206,7 @@ returns-clause-table c =
     t place runs.agrees runs.within (runs.unit_is ∙ sym c.place_of-place.ensures.at_work))
 
 pub returns-clause-probes : goal.returns-clause-probes
-unfolding observed
+unfolding bus_state
 returns-clause-probes c =
     let known : c.args.word.0 < length (before c).backing = rw (← c.self.view_is) at c.requires.in_memory in
     let one : IsOne c.args.probes = c.requires.one in

@@ -9,7 +9,7 @@ use Rattle.svc_retire.specs.Purges.{committed_in, purged_line, HasRoomFor}
 use Rattle.svc_retire.proofs.Listing.{read_item}
 use Rattle.svc_bus.specs.Lines.{with_line}
 use Rattle.svc_bus.specs.Value.{BusValue}
-use Rattle.svc_bus.specs.Observed.{observed}
+use Rattle.svc_bus.specs.State.{bus_state}
 use Rattle.svc_bus.proofs.Keeping.{KeepsSizes}
 use Rattle.svc_bus.proofs.Requests.{AreFew, bus_request, one_look, listable, room_to_list, room_to_change}
 use Rattle.svc_bus.proofs.Knowing.{in_memory}
@@ -17,7 +17,7 @@ use Rattle.svc_bus.proofs.Replacing.{IsReplaced, replaced_bus, replaced_agreed}
 use Rattle.svc_bus.proofs.bus.Bus.replace.Goals as goal
 
 pub fill-requires-clause-room : goal.fill-requires-clause-room
-unfolding observed
+unfolding bus_state
 fill-requires-clause-room c =
     let inside = c.self.inside in
     let old : BusValue = record { caches = inside.caches.items; spill = inside.spill; backing = inside.backing.items; units = inside.queue; commits = inside.commits; probes = inside.probes } in
@@ -30,7 +30,7 @@ pub fill-requires-clause-listed : goal.fill-requires-clause-listed
 fill-requires-clause-listed c = listable _ c.self.invariant c.deref.result.now c.deref.ensures.value c.args.word.0
 
 pub take_line-requires-clause-request : goal.take_line-requires-clause-request
-unfolding observed
+unfolding bus_state
 take_line-requires-clause-request c =
     let inside = c.self.inside in
     let old : BusValue = record { caches = inside.caches.items; spill = inside.spill; backing = inside.backing.items; units = inside.queue; commits = inside.commits; probes = inside.probes } in
@@ -40,7 +40,7 @@ take_line-requires-clause-request c =
     bus_request old c.self.invariant c.deref_mut.result.now c.deref_mut.ensures.value c.deref_mut-2.result.now c.deref_mut-2.ensures.value c.args.unit.0 c.args.word.0 c.fill.new.self c.deref.result.now c.deref.ensures.value c.fill.ensures.list known (in_memory old c.self.invariant c.args.unit.0 c.args.word.0 (seen_line c.in-Some.line) here)
 
 pub take_line-requires-clause-room : goal.take_line-requires-clause-room
-unfolding observed
+unfolding bus_state
 take_line-requires-clause-room c =
     let inside = c.self.inside in
     let old : BusValue = record { caches = inside.caches.items; spill = inside.spill; backing = inside.backing.items; units = inside.queue; commits = inside.commits; probes = inside.probes } in
@@ -51,7 +51,7 @@ take_line-requires-clause-room c =
     subst (λ (xs : List CacheValue). HasRoomFor c.fill.new.probes xs (1 + length xs)) (sym c.deref_mut.ensures.value) (room_to_change old c.self.invariant c.lookup.new.probes c.fill.new.probes few counted)
 
 pub spill_version-requires-clause-known : goal.spill_version-requires-clause-known
-unfolding observed
+unfolding bus_state
 spill_version-requires-clause-known c =
     let inside = c.self.inside in
     let old : BusValue = record { caches = inside.caches.items; spill = inside.spill; backing = inside.backing.items; units = inside.queue; commits = inside.commits; probes = inside.probes } in
@@ -92,7 +92,7 @@ replaced c known =
     }
 
 pub invariant_of-self : goal.invariant_of-self
-unfolding observed
+unfolding bus_state
 invariant_of-self c =
     let inside = c.self.inside in
     let known : c.args.unit.0 < length inside.caches.items = rw (← c.self.view_is) at c.requires.known in
@@ -102,7 +102,7 @@ invariant_of-self c =
     (replaced_bus (before c) (after c) c.args.unit.0 c.args.word.0 (seen_line c.in-Some.line) c.self.invariant (replaced c known))
 
 pub returns-clause-table : goal.returns-clause-table
-unfolding observed
+unfolding bus_state
 returns-clause-table c =
     let inside = c.self.inside in
     let known : c.args.unit.0 < length inside.caches.items = rw (← c.self.view_is) at c.requires.known in

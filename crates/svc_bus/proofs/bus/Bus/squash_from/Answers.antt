@@ -5,12 +5,12 @@ use Rattle.svc_cache.specs.Places.{CacheValue}
 use Rattle.svc_bus_laws.specs.LineTable.{is_cut}
 use Rattle.svc_bus_laws.specs.Refusals.{is_head}
 use Rattle.svc_retire.specs.Caches.{held_line, SameSizes}
-use Rattle.svc_bus.specs.Observed.{observed}
+use Rattle.svc_bus.specs.State.{bus_state}
 use Rattle.svc_bus.proofs.Squashing.{later_place, squashed_bus, squashed_table}
 use Rattle.svc_bus.proofs.bus.Bus.squash_from.Goals as goal
 
 pub invariant_of-self : goal.invariant_of-self
-unfolding observed
+unfolding bus_state
 invariant_of-self c =
     let queue : List ℕ = c.self.inside.queue in
     let at = (c.in-Some.ensures c.in-Some.position).0 refl in
@@ -24,7 +24,7 @@ invariant_of-self c =
     (subst (λ (cs : List CacheValue). (u a : ℕ) → held_line c.squash_lines.new.caches u a ≡ cond (is_cut queue c.in-Some.position u) (squash_line (held_line cs u a)) (held_line cs u a)) was c.squash_lines.ensures.lines))
 
 pub returns-clause-table : goal.returns-clause-table
-unfolding observed
+unfolding bus_state
 returns-clause-table c =
     let queue : List ℕ = c.self.inside.queue in
     let at = (c.in-Some.ensures c.in-Some.position).0 refl in

@@ -10,7 +10,7 @@ use Rattle.svc_bus_laws.specs.Steps.{with_at}
 use Rattle.svc_retire.specs.Caches.{held_line, SameSizes}
 use Rattle.svc_retire.specs.Purges.{committed_in}
 use Rattle.svc_bus.specs.Value.{BusValue}
-use Rattle.svc_bus.specs.Observed.{observed}
+use Rattle.svc_bus.specs.State.{bus_state}
 use Rattle.svc_bus.specs.Calls.{full_refusal}
 use Rattle.svc_bus.specs.Looking.{CountsUpTo}
 use Rattle.svc_bus.specs.Stores.{CanChange, left_line, stored_line}
@@ -24,7 +24,7 @@ use Rattle.svc_bus.proofs.Writing.{IsPlanned, IsWritten, written_bus, written_ag
 use Rattle.svc_bus.proofs.bus.Bus.write.Goals as goal
 
 pub place_of-place-requires : goal.place_of-place-requires
-unfolding observed
+unfolding bus_state
 place_of-place-requires c =
     let work = rw (← c.self.view_is) at c.requires.at_work in
     (work.0, work.1.within, work.1.unit_is)
@@ -36,7 +36,7 @@ pub fill-requires-clause-listed : goal.fill-requires-clause-listed
 fill-requires-clause-listed c = listable _ c.self.invariant c.deref.result.now c.deref.ensures.value c.args.word.0
 
 pub store_line-requires-clause-request : goal.store_line-requires-clause-request
-unfolding observed
+unfolding bus_state
 store_line-requires-clause-request c =
     let unit = unit_known _ c.self.invariant c.args.unit.0 c.place_of-place.result c.place_of-place.ensures.within c.place_of-place.ensures.at_work in
     let known : c.args.word.0 < length c.self.inside.backing.items = rw (← c.self.view_is) at c.requires.in_memory in
@@ -59,7 +59,7 @@ store_line-requires-clause-change c =
     rw c.deref-2.ensures.0 can
 
 pub store_line-requires-clause-active : goal.store_line-requires-clause-active
-unfolding observed
+unfolding bus_state
 store_line-requires-clause-active c =
     let list = listed _ c.self.invariant c.args.word.0 c.fill.new.self c.deref.result.now c.deref.ensures.value c.fill.ensures.list in
     let known : c.args.word.0 < length c.self.inside.backing.items = rw (← c.self.view_is) at c.requires.in_memory in
@@ -71,15 +71,15 @@ pub store_line-requires-clause-room : goal.store_line-requires-clause-room
 store_line-requires-clause-room c = room_to_store _ c.self.invariant c.deref_mut.result.now c.deref_mut.ensures.value c.new-probes.result c.fill.new.probes c.new-probes.ensures.searches c.new-probes.ensures.places (subst (CountsOneOfEach c.new-probes.result c.fill.new.probes) c.deref.ensures.value c.fill.ensures.counted)
 
 pub returns-in_err-store_line-clause-refused : goal.returns-in_err-store_line-clause-refused
-unfolding observed
+unfolding bus_state
 returns-in_err-store_line-clause-refused c =
     let known = unit_known _ c.self.invariant c.args.unit.0 c.place_of-place.result c.place_of-place.ensures.within c.place_of-place.ensures.at_work in
     let answer = refusal_is _ c.self.invariant c.args.unit.0 c.args.word.0 known c.deref_mut.result.now c.deref_mut.ensures.value c.deref_mut-2.result.now c.deref_mut-2.ensures.value in
-    let refused : full_refusal (observed c.args.self.now) c.args.unit.0 c.args.word.0 ≡ Some c.in_err-store_line.field-0.0 = rw (← c.self.view_is) (sym answer ∙ c.in_err-store_line.ensures.refused) in
+    let refused : full_refusal (bus_state c.args.self.now) c.args.unit.0 c.args.word.0 ≡ Some c.in_err-store_line.field-0.0 = rw (← c.self.view_is) (sym answer ∙ c.in_err-store_line.ensures.refused) in
     search rules
 
 pub empty_spill-requires : goal.empty_spill-requires
-unfolding observed
+unfolding bus_state
 empty_spill-requires c = rw c.self.invariant.spills (rw (← c.self.view_is) at c.requires.in_memory)
 
 pub victim_of-requires-clause-within : goal.victim_of-requires-clause-within
@@ -135,7 +135,7 @@ written c told =
     }
 
 pub invariant_of-self-2 : goal.invariant_of-self-2
-unfolding observed
+unfolding bus_state
 invariant_of-self-2 c =
     let inside = c.self.inside in
     let known : c.args.word.0 < length inside.backing.items = rw (← c.self.view_is) at c.requires.in_memory in
@@ -145,20 +145,20 @@ invariant_of-self-2 c =
     (written_bus (before c) c.self.invariant c.place_of-place.result c.args.word.0 c.args.value (line c) (previous c) (changed c) c.unwrap_or-left.result c.place_of-place.ensures.within known (plan_of c) (after c _) (written c _))
 
 pub returns-clause-refused : goal.returns-clause-refused
-unfolding observed
+unfolding bus_state
 returns-clause-refused c =
     let known = unit_known (before c) c.self.invariant c.args.unit.0 c.place_of-place.result c.place_of-place.ensures.within c.place_of-place.ensures.at_work in
     let answer = refusal_is (before c) c.self.invariant c.args.unit.0 c.args.word.0 known c.deref_mut.result.now c.deref_mut.ensures.value c.deref_mut-2.result.now c.deref_mut-2.ensures.value in
     rw (← c.self.view_is) (sym answer ∙ ap (option_map (λ (named : ℕ). refusal.SetFull (record { 0 = named }))) c.in_ok-store_line.ensures.refused)
 
 pub returns-clause-victim : goal.returns-clause-victim
-unfolding observed
+unfolding bus_state
 returns-clause-victim c =
     let list : HasList (before c) c.args.word.0 c.fill.new.self = listed (before c) c.self.invariant c.args.word.0 c.fill.new.self c.deref.result.now c.deref.ensures.value c.fill.ensures.list in
     rw (← c.self.view_is) (λ s p runs. c.victim_of.ensures ∙ chosen_shown (before c) c.self.invariant c.args.unit.0 c.place_of-place.result c.args.word.0 c.place_of-place.ensures.within c.place_of-place.ensures.at_work c.fill.new.self list c.plan_write-plan.result.victim c.len-tasks.result c.len-tasks.ensures.count c.plan_write-plan.ensures.victim s p runs.agrees runs.within runs.unit_is)
 
 pub returns-clause-table : goal.returns-clause-table
-unfolding observed
+unfolding bus_state
 returns-clause-table c =
     let inside = c.self.inside in
     let known : c.args.word.0 < length inside.backing.items = rw (← c.self.view_is) at c.requires.in_memory in
@@ -168,7 +168,7 @@ returns-clause-table c =
     (λ s p runs. written_agreed (before c) c.self.invariant c.place_of-place.result c.args.word.0 c.args.value (line c) (previous c) (changed c) c.unwrap_or-left.result c.place_of-place.ensures.within known (plan_of c) (after c _) (written c _) s p runs.agrees runs.within (runs.unit_is ∙ sym c.place_of-place.ensures.at_work))
 
 pub returns-clause-probes : goal.returns-clause-probes
-unfolding observed
+unfolding bus_state
 returns-clause-probes c =
     let each : CountsOneOfEach c.new-probes.result c.fill.new.probes (before c).caches = subst (CountsOneOfEach c.new-probes.result c.fill.new.probes) c.deref.ensures.value c.fill.ensures.counted in
     let changed : CountsUpTo c.fill.new.probes c.store_line.new.probes (length (before c).caches) = subst (λ (xs : List CacheValue). CountsUpTo c.fill.new.probes c.store_line.new.probes (length xs)) c.deref_mut.ensures.value c.in_ok-store_line.ensures.searches in

@@ -1,7 +1,7 @@
 use Rattle.std.proofs.Common.{◌+◌, sym, subst, refl, None}
 use Rattle.svc_bus_laws.specs.BusState.{Agrees}
 use Rattle.svc_bus_laws.specs.Steps as steps
-use Rattle.svc_bus.specs.Observed.{observed}
+use Rattle.svc_bus.specs.State.{bus_state}
 use Rattle.svc_bus.specs.Calls.{replace_refusal}
 use Rattle.svc_machine_laws.specs.declared.reply.Reply.{Reply}
 use Rattle.svc_machine_laws.specs.declared.reply.What.TheVariants as what
@@ -36,8 +36,8 @@ module _ (c : goal.After-self-1) where
   moved : Moved m after x
   moved =
       replaced (parts_of c.self.inside) c.self.invariant c.args.unit.0 c.args.addr.0 ok c.self.inside.seats.items refl c.replace-done.new.self
-      (λ t agrees. accepted_of c.replace-done.result (replace_refusal (observed c.self.inside.bus) c.args.unit.0 c.args.addr.0)
-      (Agrees (observed c.replace-done.new.self) (steps.replace t c.args.unit.0 c.args.addr.0))
+      (λ t agrees. accepted_of c.replace-done.result (replace_refusal (bus_state c.self.inside.bus) c.args.unit.0 c.args.addr.0)
+      (Agrees (bus_state c.replace-done.new.self) (steps.replace t c.args.unit.0 c.args.addr.0))
       (bus_accepts (parts_of c.self.inside) c.self.invariant c.args.unit.0 c.args.addr.0 ok)
       c.replace-done.ensures.refused (c.replace-done.ensures.table t agrees))
 

@@ -7,7 +7,7 @@ use Rattle.svc_core_laws.specs.Bursts.{Advance}
 use Rattle.svc_core_laws.specs.Words.{program}
 use Rattle.svc_bus_laws.specs.LineTable.{LineTable}
 use Rattle.svc_bus_laws.specs.BusState.{Agrees}
-use Rattle.svc_bus.specs.Observed.{observed}
+use Rattle.svc_bus.specs.State.{bus_state}
 use Rattle.svc_bus.specs.Value.{BusValue}
 use Rattle.svc_machine_laws.specs.declared.reply.Cut.{Cut}
 use Rattle.svc_machine_laws.specs.declared.reply.Reply.{Reply}
@@ -53,9 +53,9 @@ tasks_left-left-requires c =
     let found = placed_at _ c.self.invariant c.self.inside.seats.items refl _ c.self.view_is c.args.burst.now.unit.0 c.args.place c.requires.found in
     let ok = refused_as _ c.self.invariant c.args.burst.now c.self.inside.seats.items refl c.args.place found c.index_mut-seat.result.now c.index_mut-seat.ensures.value (admitted_as c.args.burst.now _ _ c.self.view_is c.requires.admitted) c.ask.result c.ask.ensures.ask None (c.in_ok-reply.ensures {u = tt}).refused in
     let done = its_turn _ c.self.invariant c.args.burst.now c.self.inside.seats.items refl c.args.place found c.index_mut-seat.result.now c.index_mut-seat.ensures.value ok c.end.result.now c.ask.result c.end.ensures.end c.ask.ensures.ask
-    (whole_seat c.do_asked.new.seat) (observed c.do_asked.new.bus) c.in_ok-reply.reply (c.in_ok-reply.ensures {u = tt}).done in
+    (whole_seat c.do_asked.new.seat) (bus_state c.do_asked.new.bus) c.in_ok-reply.reply (c.in_ok-reply.ensures {u = tt}).done in
     let few = cut_few _ c.self.invariant c.args.burst.now ok c.args.place (at_place _ c.self.invariant c.args.burst.now c.self.inside.seats.items refl c.args.place found)
-    (whole_seat c.do_asked.new.seat) (observed c.do_asked.new.bus) c.in_ok-reply.reply done in
+    (whole_seat c.do_asked.new.seat) (bus_state c.do_asked.new.bus) c.in_ok-reply.reply done in
     let count = c.len-count.ensures ∙ c.self.inside.seats.ok.0 ∙ sym (map_count whole_seat c.self.inside.seats.items) in
     omega (arith, few, count)
 
@@ -73,7 +73,7 @@ check_guess-wrong-requires c =
     let ok = refused_as _ c.self.invariant b items refl place found c.index_mut-seat.result.now c.index_mut-seat.ensures.value (admitted_as b _ _ c.self.view_is c.requires.admitted) c.ask.result c.ask.ensures.ask None (c.in_ok-reply.ensures {u = tt}).refused in
     let at = at_place m c.self.invariant b items refl place found in
     let seat = whole_seat c.do_asked.new.seat in
-    let bus = observed c.do_asked.new.bus in
+    let bus = bus_state c.do_asked.new.bus in
     let reply = c.in_ok-reply.reply in
     let done = its_turn m c.self.invariant b items refl place found c.index_mut-seat.result.now c.index_mut-seat.ensures.value ok c.end.result.now c.ask.result c.end.ensures.end c.ask.ensures.ask
     seat bus reply (c.in_ok-reply.ensures {u = tt}).done in
@@ -123,11 +123,11 @@ module _ (c : goal.After-or) where
   admits = subst (λ (v : MachineValue). Accepts v (Submit c.args.burst.now)) c.self.view_is ok
 
   -- the asked turn was done
-  done : (t : LineTable) → Agrees (observed m.bus) t
-      → IsDone m.image (asked_want m.image b) t c.args.place (at_core b.end (seat_of (can m c.self.invariant b ok).run)) (whole_seat c.do_asked.new.seat) (observed c.do_asked.new.bus) c.in_ok-reply.reply
+  done : (t : LineTable) → Agrees (bus_state m.bus) t
+      → IsDone m.image (asked_want m.image b) t c.args.place (at_core b.end (seat_of (can m c.self.invariant b ok).run)) (whole_seat c.do_asked.new.seat) (bus_state c.do_asked.new.bus) c.in_ok-reply.reply
   done =
       its_turn m c.self.invariant b items refl c.args.place found c.index_mut-seat.result.now c.index_mut-seat.ensures.value ok c.end.result.now c.ask.result c.end.ensures.end c.ask.ensures.ask
-      (whole_seat c.do_asked.new.seat) (observed c.do_asked.new.bus) c.in_ok-reply.reply (c.in_ok-reply.ensures {u = tt}).done
+      (whole_seat c.do_asked.new.seat) (bus_state c.do_asked.new.bus) c.in_ok-reply.reply (c.in_ok-reply.ensures {u = tt}).done
 
   left_is : c.tasks_left-left.result ≡ length (map whole_seat items) - tasks_cut c.in_ok-reply.reply.cut
   left_is = left_of items c.tasks_left-left.result c.len-count.result (tasks_cut c.in_ok-reply.reply.cut) _ c.tasks_left-left.ensures c.len-count.ensures c.self.inside.seats.ok.0
@@ -142,7 +142,7 @@ module _ (c : goal.After-or) where
   moved =
       let held = c.truncate.new.self.items in
       let wrong = is_misled (map whole_seat held) c.args.place in
-      moved_by m c.self.invariant b ok c.args.place at_here (whole_seat c.do_asked.new.seat) (observed c.do_asked.new.bus) c.in_ok-reply.reply done
+      moved_by m c.self.invariant b ok c.args.place at_here (whole_seat c.do_asked.new.seat) (bus_state c.do_asked.new.bus) c.in_ok-reply.reply done
       c.end.ensures.follows held seats_are c.cut_from.new.self guide_is after (record {
         image = refl;
         config = refl;
@@ -169,7 +169,7 @@ returns c =
     (taken_as (m c) (after c) c.self.invariant _ c.self.view_is (Submit c.args.burst.now) c.end.ensures.follows (ok c) (moved c) r
     (λ t agrees.
     ap {B = Reply} (λ (o : Option Cut). record { what = c.in_ok-reply.reply.what; cut = o }) c.or.ensures
-    ∙ replied_by (m c) c.self.invariant (b c) (ok c) c.args.place (at_here c) (whole_seat c.do_asked.new.seat) (observed c.do_asked.new.bus) c.in_ok-reply.reply (done c)
+    ∙ replied_by (m c) c.self.invariant (b c) (ok c) c.args.place (at_here c) (whole_seat c.do_asked.new.seat) (bus_state c.do_asked.new.bus) c.in_ok-reply.reply (done c)
     c.end.ensures.follows c.truncate.new.self.items (seats_are c) c.cut_from.new.self (guide_is c)
     c.len-count.result (c.len-count.ensures ∙ c.self.inside.seats.ok.0 ∙ sym (map_count whole_seat (items c))) c.check_guess-wrong.result c.check_guess-wrong.ensures.cut t agrees))
 

@@ -16,6 +16,6 @@ returns c =
     let there = slice_get_read c.deref.result.now _ c.args.place seat refl found.0 (found.1 seat) in
     let here = ap (λ (l : List Seat). slice_get l c.args.place) (sym c.deref.ensures.value) ∙ there in
     rw (← c.self.view_is) (
-    ap₂ {C = Option ActiveTask} (λ (n : ℕ) (end : Option End). Some (record { unit = seat.lease.unit; entry = seat.task_entry; turns = n; done = end })) c.count.ensures.value c.done.ensures
+    ap₂ {C = Option ActiveTask} (λ (n : ℕ) (end : Option End). Some (record { unit = seat.lease.unit; task_entry = seat.task_entry; turns = n; done = end })) c.count.ensures.value c.done.ensures
     ∙ sym (ap (λ (o : Option Seat). option_map at_seat (option_map whole_seat o)) here)
     ∙ task_read _ c.self.invariant seats refl c.args.place)

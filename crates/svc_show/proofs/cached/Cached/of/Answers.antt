@@ -1,5 +1,5 @@
 use Rattle.std.proofs.Common.{◌∙◌, ap, subst, sym}
-use Rattle.svc_bus.specs.Observed.{observed}
+use Rattle.svc_bus.specs.State.{bus_state}
 use Rattle.svc_show.specs.declared.cached.Cached.{Cached}
 use Rattle.svc_show.specs.Named.{AreVersions}
 use Rattle.svc_show.proofs.Namers.{nobody_line, nobody_version}
@@ -7,7 +7,7 @@ use Rattle.svc_show.proofs.cached.Cached.of.Goals as goal
 
 pub returns-in-Nobody : goal.returns-in-Nobody
 returns-in-Nobody c =
-    let b = observed c.args.machine.now.bus in
+    let b = bus_state c.args.machine.now.bus in
     let n = c.args.named in
     record {
       line = ap (λ (k : Cached). k.line) c.nothing.ensures ∙ sym (nobody_line b n c.in-Nobody.is c.args.units);

@@ -1,6 +1,6 @@
 use Rattle.std.proofs.Common.{◌∙◌, ◌+◌, Bool, ap, ap₂, subst, sym}
 use Rattle.std.specs.Prelude.{◌||◌, is_some}
-use Rattle.svc_bus.specs.Observed.{observed}
+use Rattle.svc_bus.specs.State.{bus_state}
 use Rattle.svc_held.specs.Held.{is_named_line}
 use Rattle.svc_show.specs.Named.{AreVersions, and_line}
 use Rattle.svc_show.proofs.Caches.{one_cache}
@@ -9,7 +9,7 @@ use Rattle.svc_show.proofs.cached.Cached.of_each.Goals as goal
 
 pub loop-unit-preserved : goal.loop-unit-preserved
 loop-unit-preserved c =
-    let bus = observed c.args.machine.now.bus in
+    let bus = bus_state c.args.machine.now.bus in
     let n = c.args.named in
     let at = c.loop-unit.unit in
     let so_far = c.loop-unit.cached in

@@ -1,11 +1,11 @@
 use Rattle.std.proofs.Common.{◌≡◌}
 use Rattle.std.specs.List.{list_any, range_with_len}
-use Rattle.svc_bus.specs.Observed.{observed}
+use Rattle.svc_bus.specs.State.{bus_state}
 use Rattle.svc_held.specs.Held.{is_named_line}
 use Rattle.svc_show.specs.Named.{AreVersions}
 use Rattle.svc_show.proofs.cached.Cached.of_each.Given as goal
 
 abbrev pub invariant-loop-unit : goal.invariant-loop-unit
 invariant-loop-unit l =
-    (l.cached.line ≡ list_any (is_named_line (observed l.machine.bus) l.named) (range_with_len 0 l.unit))
-    × AreVersions (observed l.machine.bus) l.named l.unit l.cached.versions
+    (l.cached.line ≡ list_any (is_named_line (bus_state l.machine.bus) l.named) (range_with_len 0 l.unit))
+    × AreVersions (bus_state l.machine.bus) l.named l.unit l.cached.versions

@@ -1,6 +1,6 @@
 use Rattle.std.proofs.Common.{◌∙◌, Bool, ap, ap₂, arith, subst, sym}
 use Rattle.std.specs.Prelude.{◌||◌, is_some}
-use Rattle.svc_bus.specs.Observed.{observed}
+use Rattle.svc_bus.specs.State.{bus_state}
 use Rattle.svc_show.specs.declared.cached.Cached.{Cached}
 use Rattle.svc_show.specs.declared.cached.Versions.{Versions}
 use Rattle.svc_show.specs.Named.{AreVersions, and_line}
@@ -9,7 +9,7 @@ use Rattle.svc_show.proofs.cached.Cached.of_one.Goals as goal
 
 pub returns-then-from-units : goal.returns-then-from-units
 returns-then-from-units c =
-    let b = observed c.args.machine.now.bus in
+    let b = bus_state c.args.machine.now.bus in
     let n = c.args.named in
     let unit = c.args.unit in
     let units = c.args.units in
@@ -25,7 +25,7 @@ returns-then-from-units c =
 
 pub returns-else-from-units : goal.returns-else-from-units
 returns-else-from-units c =
-    let b = observed c.args.machine.now.bus in
+    let b = bus_state c.args.machine.now.bus in
     let n = c.args.named in
     let unit = c.args.unit in
     let units = c.args.units in

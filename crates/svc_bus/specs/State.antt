@@ -3,5 +3,5 @@ use Rattle.svc_bus_laws.specs.BusState.{BusState}
 use Rattle.svc_bus.specs.Value.{BusValue, state_in}
 
 -- the lines, their order, and all else except their links
-unfoldable pub observed : BusValue → BusState
-observed b = state_in b
+unfoldable pub bus_state : BusValue → BusState
+bus_state b = state_in b
