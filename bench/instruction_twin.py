@@ -41,41 +41,60 @@ def run(task, row, image):
     return at
 
 
-image = Image(sys.argv[1])
-rows = list(csv.DictReader(open(sys.argv[2], newline="")))
-queue, table = [], {}
+def replay(image, rows):
+    """For each row, the address where its asked turn stands, if there is one, and the tasks that it squashes."""
+    queue = []
+    for row in rows:
+        own = next((task for task in queue if str(task.unit) == row["unit"]), None)
+        at = None
+        if row["kind"] == "assign":
+            queue.append(Task(0, int(row["unit"]), int(row["word"]), image))
+            queue[-1].rows = []
+        elif row["kind"] == "submit":
+            at = run(own, row, image)
+            own.rows.append((at, row))
+        elif row["kind"] == "commit":
+            queue.pop(0)
+        victims = queue[len(queue) - int(row["squashed"] or 0):]
+        yield row, at, victims
+        for task in victims:
+            queue.remove(task)
 
 
-def count(at, column):
-    table[at][COLUMNS.index(column)] += 1
+def addresses(path, rows):
+    """The address of the instruction at which each row of a trace asks, if it does."""
+    return [at for _, at, _ in replay(Image(path), rows)]
 
 
-for row in rows[:int(sys.argv[3]) if len(sys.argv) > 3 else len(rows)]:
-    own = next((task for task in queue if str(task.unit) == row["unit"]), None)
-    at = None
-    if row["kind"] == "assign":
-        queue.append(Task(0, int(row["unit"]), int(row["word"]), image))
-        queue[-1].rows = []
-    elif row["kind"] == "submit":
-        at = run(own, row, image)
-        own.rows.append((at, row))
+def table_of(image, rows):
+    table = {}
+
+    def count(at, column):
+        table.setdefault(at, [0] * len(COLUMNS))[COLUMNS.index(column)] += 1
+
+    for row, at, victims in replay(image, rows):
         if at is not None:
             table.setdefault(at, [0] * len(COLUMNS))
             if row["reply"] in REPLIES:
                 count(at, REPLIES[row["reply"]])
-    elif row["kind"] == "commit":
-        queue.pop(0)
-    victims = queue[len(queue) - int(row["squashed"] or 0):]
-    if row["cause"] == "violation":
-        count(at, "violations-found")
-        first = next(at for at, it in victims[0].rows if it["served"] and it["addr"] == row["addr"])
-        count(first, "violations-suffered")
-    for task in victims:
-        queue.remove(task)
-        for at, it in task.rows:
-            if it["reply"] == "loaded":
-                count(at, "loads-squashed")
+        if row["cause"] == "violation":
+            count(at, "violations-found")
+            first = next(at for at, it in victims[0].rows if it["served"] and it["addr"] == row["addr"])
+            count(first, "violations-suffered")
+        for task in victims:
+            for at, it in task.rows:
+                if it["reply"] == "loaded":
+                    count(at, "loads-squashed")
+    return table
 
-print(",".join(["pc", *COLUMNS]))
-for at in sorted(table):
-    print(",".join(map(str, [at, *table[at]])))
+
+def main(image, trace, most=None):
+    rows = list(csv.DictReader(open(trace, newline="")))
+    table = table_of(Image(image), rows[:len(rows) if most is None else int(most)])
+    print(",".join(["pc", *COLUMNS]))
+    for at in sorted(table):
+        print(",".join(map(str, [at, *table[at]])))
+
+
+if __name__ == "__main__":
+    main(*sys.argv[1:])

@@ -1,12 +1,13 @@
 #!/usr/bin/env python3
-"""The picture that `draw` saves: a twin of svc_draw's text, from a trace alone.
+"""The picture that `draw` saves: a twin of svc_draw's text, from a trace, with the addresses that instruction_twin.py finds.
 
-svg_twin.py TRACE UNITS [FROM] [COUNT] [unit=A-B] [task=A-B] [word=A-B] [values=auto|all|none] [compact=yes] [names=TABLE]
+svg_twin.py IMAGE TRACE UNITS [FROM] [COUNT] [unit=A-B] [task=A-B] [word=A-B] [values=auto|all|none] [compact=yes] [names=TABLE]
 """
 import csv
 import sys
 
 from draw_twin import Choice, asked, number, tasks_of
+from instruction_twin import addresses
 from names_twin import DATA, name_of, names_in
 
 LEFT, WIDTH, RIGHT, TOP = 90, 1490, 1580, 118
@@ -81,7 +82,7 @@ def label(x, y, style, words):
 
 
 class Picture:
-    def __init__(self, lines, options, units, begin=0, count=1000000):
+    def __init__(self, image, lines, options, units, begin=0, count=1000000):
         self.choice, self.values = Choice(options), options.get("values", "auto")
         self.compact = options.get("compact") == "yes"
         self.names = names_in(options["names"]) if "names" in options else {}
@@ -94,6 +95,7 @@ class Picture:
         self.begin = min(begin, self.total)
         self.end = min(self.begin + count, self.total)
         self.all_rows, self.rows = rows, rows[: self.end]
+        self.addresses = addresses(image, self.rows)
         self.shown = max(self.end - self.begin, 1)
         self.bar_height = min(self.height // units * 4 // 5, 130)
         self.columns = min(360 // units, 149)
@@ -265,7 +267,16 @@ class Picture:
         }.get(kind, (f"<use href='#{used}' x='{x}' y='{y}'>", "use"))
         name = self.word_name(row["addr"])
         called = f"word {row['addr']} is {name}\n" if name else ""
-        return f"{shape}<title>entry {at}: {self.lines[at + 1]}{self.sentence(mark)}\n{called}</title></{element}>\n"
+        told = f"entry {at}: {self.lines[at + 1]}{self.sentence(mark)}\n{called}{self.address(at)}"
+        return f"{shape}<title>{told}</title></{element}>\n"
+
+    def address(self, at):
+        """A line with the address of the instruction at which an entry asks, if it does, and its name."""
+        address = self.addresses[at]
+        if address is None:
+            return ""
+        name = name_of(self.names, address)
+        return f"at address {address} {name}\n" if name else f"at address {address}\n"
 
     def sentence(self, mark):
         """What a mark means."""
@@ -418,11 +429,11 @@ class Picture:
         return "".join(parts + [self.axis(), "</svg>\n"])
 
 
-def main(path, *words):
+def main(image, path, *words):
     numbers, options = asked(words)
     with open(path, newline="") as file:
         lines = file.read().splitlines(keepends=True)
-    sys.stdout.write(Picture(lines, options, *numbers).text())
+    sys.stdout.write(Picture(image, lines, options, *numbers).text())
 
 
 if __name__ == "__main__":

@@ -5,6 +5,7 @@ use Rattle.svc_base.specs.declared.config.Config.{Config}
 use Rattle.svc_image.specs.Image.{Image}
 use Rattle.svc_history_laws.specs.declared.entry.Entry.{Entry}
 use Rattle.svc_history_laws.specs.Legal.{LegalHistory}
+use Rattle.svc_instruction_profile.specs.Addresses.{addresses}
 use Rattle.svc_names.specs.declared.names.Names.{Names}
 use Rattle.svc_sheet.specs.declared.sheet.Style.{Style}
 use Rattle.svc_draw.specs.Picture.{picture_of}
@@ -20,16 +21,26 @@ pub record IsDrawn (img : Image) (config : Config) (es : List Entry) (view : Vie
   pub legal : LegalHistory img config (front (end_shown view.from view.count) es)
   pub inside : view.from ≤ length es
 
--- what a picture shows of entries, as rows, or drawn with the names that are given
-abbrev pub shown_as : (rows : Bool) → (units : ℕ) → List Entry → View → Style → Option (Bor Names) → List ℕ
-shown_as true units es view style names = rows_of es view
-shown_as false units es view style names = picture_of es units view style names
+-- what a picture shows of entries, as rows, or drawn with the names that are given and the addresses at which they ask
+abbrev pub shown_as : (rows : Bool) → (units : ℕ) → List Entry → View → Style → Option (Bor Names)
+    → Bor (List (Option ℕ)) → List ℕ
+shown_as true units es view style names asked = rows_of es view
+shown_as false units es view style names asked = picture_of es units view style names asked
 
--- of those up to the last that it may show
-abbrev pub drawing_of : Picture → (units : ℕ) → List Entry → Option (Bor Names) → List ℕ
-drawing_of p units es names =
-    shown_as p.rows units (front (end_shown p.view.from p.view.count) es) p.view p.style names
+-- the entries that a picture looks at: those up to the last that it may show
+abbrev pub looked_at : Picture → List Entry → List Entry
+looked_at p es = front (end_shown p.view.from p.view.count) es
+
+-- what it shows of these
+abbrev pub drawing_of : Picture → (units : ℕ) → List Entry → Option (Bor Names) → Bor (List (Option ℕ)) → List ℕ
+drawing_of p units es names asked = shown_as p.rows units (looked_at p es) p.view p.style names asked
+
+-- a text is that drawing, with the addresses of the instructions at which these entries ask
+abbrev pub IsDrawing : Picture → Image → Config → List Entry → Option (Bor Names) → (text : List ℕ) → Type 0
+IsDrawing p img config es names text =
+    (asked : Bor (List (Option ℕ))) × (asked.now ≡ addresses img config (looked_at p es))
+    × (text ≡ drawing_of p config.units es names asked)
 
 -- that text is saved, as far as the file is known
-abbrev pub SavesDrawing : Held → Picture → (units : ℕ) → List Entry → Option (Bor Names) → Type 0
-SavesDrawing held p units es names = IfSome (held p.file.now) (λ text. text ≡ drawing_of p units es names)
+abbrev pub SavesDrawing : Held → Picture → Image → Config → List Entry → Option (Bor Names) → Type 0
+SavesDrawing held p img config es names = IfSome (held p.file.now) (IsDrawing p img config es names)

@@ -154,7 +154,7 @@ Does (request.Show traced shown) held saved old new exit =
     (λ names. TellsMachine shown.at shown.extras names img traced.config es old new exit))
 Does (request.Draw traced picture) held saved old new exit =
     IsTracedIn held traced (λ img es. IsDrawn img traced.config es picture.view
-    × IsNamedIn held picture.names (λ names. SavesDrawing saved picture traced.config.units es names))
+    × IsNamedIn held picture.names (λ names. SavesDrawing saved picture img traced.config es names))
     × (new ≡ old) × (exit ≡ 0)
 Does (request.Export traced exported) held saved old new exit =
     IsTracedIn held traced (λ img es. Exports saved exported img traced.config es) × (new ≡ old) × (exit ≡ 0)

@@ -283,9 +283,10 @@ assignment to its commit or squash; its filling says which. Marks are loads, sto
 cross is a replacement. The letter at a word that was read says who supplied it: H hit, R reuse, V version,
 S spill, C committed, M memory. A thin arrow goes from the store of a version to a read that received it, a bold
 one from a store to the read that came too early, for which it squashed a task. Point at a mark to see its row
-of the trace and what that means, and at a bar to see which entry decided its fate, and why. All entries from
---from on are shown, or as many as --count says; those after the last one shown may be faulty. For an earlier
-fault it reports the first one, as check does, and saves nothing. Give the options that the trace was made with.
+of the trace, what that means and the address of its instruction, and at a bar to see which entry decided its
+fate, and why. All entries from --from on are shown, or as many as --count says; those after the last one shown
+may be faulty. For an earlier fault it reports the first one, as check does, and saves nothing. Give the options
+that the trace was made with.
 
 --unit, --task and --word choose what is shown: the bars and marks of these units and tasks, and of loads, stores,
 replacements and arrows those of these words. A value stands beside its mark where it has room; --values says that

@@ -4,7 +4,7 @@ use Rattle.std.proofs.lemmas.Bool.{eqb-true}
 use Rattle.svc_image.specs.Image.{Image}
 use Rattle.svc_layout.specs.declared.statement.Statement.{Statement}
 use Rattle.svc_layout.specs.Layouts.{Layout}
-use Rattle.svc_layout.specs.Passes.{first_pass, once_more, next_round, last_round, second_pass, measuring_pass}
+use Rattle.svc_layout.specs.Passes.{first_pass, once_more, next_round, last_round, measuring_pass}
 use Rattle.svc_layout.specs.Passes.{laying_pass, lacks}
 use Rattle.svc_layout.specs.Texts.{with_source}
 use Rattle.svc_layout.specs.Lines.{after}

@@ -1,6 +1,6 @@
 -- Lists of numbers, which are read one by one.
 use Rattle.std.specs.Prelude.{ℕ, ◌*◌, ◌-◌, ◌/◌, ◌%◌, ◌^◌, Bool, true, not, ◌||◌, nat_le, nat_lt}
-use Rattle.std.specs.Prelude.{List, Option, Some, None, if◌then◌else◌, option_map}
+use Rattle.std.specs.Prelude.{List, Some, None, if◌then◌else◌, option_map}
 use Rattle.svc_layout.specs.declared.section.Width.{Width}
 use Rattle.svc_layout.specs.declared.section.Width.TheVariants as wide
 use Rattle.svc_layout.specs.declared.statement.Next.{Next}

@@ -1,5 +1,5 @@
 -- Strings, which are read character by character.
-use Rattle.std.specs.Prelude.{ℕ, ◌+◌, ◌*◌, ◌-◌, ◌%◌, ◌==◌, List, [], ◌∷◌, Option, Some, None, if◌then◌else◌, option_map}
+use Rattle.std.specs.Prelude.{ℕ, ◌+◌, ◌*◌, ◌-◌, ◌%◌, ◌==◌, List, [], ◌∷◌, Some, None, if◌then◌else◌, option_map}
 use Rattle.svc_layout.specs.declared.section.Width.TheVariants as wide
 use Rattle.svc_layout.specs.declared.statement.Ending.{Ending}
 use Rattle.svc_layout.specs.declared.statement.Ending.TheVariants as ending

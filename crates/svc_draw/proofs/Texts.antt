@@ -1,5 +1,5 @@
 -- Texts added one after another, texts over a range, and the first step with room.
-use Rattle.std.proofs.Common.{◌≡◌, ◌<◌, ◌≤◌, ◌∙◌, ◌+◌, ◌++◌, ◌∷◌, [], Bool, cond, true, false, ℕ, zero, suc, List, Option, Some, None, ap, sym, arith, append_assoc, append-nil, drop, get_or, length}
+use Rattle.std.proofs.Common.{◌≡◌, ◌<◌, ◌≤◌, ◌∙◌, ◌+◌, ◌++◌, ◌∷◌, [], Bool, cond, true, false, ℕ, zero, suc, List, Some, None, ap, sym, arith, append_assoc, append-nil, drop, get_or, length}
 use Rattle.std.specs.Prelude.{flat_map}
 use Rattle.std.specs.List.{find, range_with_len}
 use Rattle.std.proofs.lemmas.List.{at_drop_all, at_drop_more}

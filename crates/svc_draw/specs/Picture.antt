@@ -60,12 +60,14 @@ unfoldable pub picture_text : Sheet → (total : ℕ) → List Bar → List Mark
 picture_text s total bs ms =
     surroundings s total ++ things s bs ms ++ words s bs ms ++ joined_note s ++ axis s ++ closing
 
--- what is shown of a history, drawn so and told with these names, if any are given
-abbrev pub sheet_of : List Entry → (units : ℕ) → View → Style → Option (Bor Names) → Sheet
-sheet_of es units view style names =
-    record { window = window_shown es view; units = units; style = style; names = names }
+-- what is shown of a history, drawn so and told with these names, if any are given, and with the address of the
+-- instruction at which each entry asks, if it does
+abbrev pub sheet_of : List Entry → (units : ℕ) → View → Style → Option (Bor Names) → Bor (List (Option ℕ)) → Sheet
+sheet_of es units view style names asked =
+    record { window = window_shown es view; units = units; style = style; names = names; addresses = asked }
 
 -- the picture of that
-unfoldable pub picture_of : List Entry → (units : ℕ) → View → Style → Option (Bor Names) → List ℕ
-picture_of es units view style names =
-    picture_text (sheet_of es units view style names) (length es) (bars_shown es view) (marks_shown es view)
+unfoldable pub picture_of : List Entry → (units : ℕ) → View → Style → Option (Bor Names) → Bor (List (Option ℕ))
+    → List ℕ
+picture_of es units view style names asked =
+    picture_text (sheet_of es units view style names asked) (length es) (bars_shown es view) (marks_shown es view)

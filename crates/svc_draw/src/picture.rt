@@ -204,8 +204,8 @@ fn picture(
     Ok(text)
 }
 
-/// The picture of what a view shows of a history, drawn in a style and told with these names, if any are given: one SVG
-/// that needs no other file.
+/// The picture of what a view shows of a history, drawn in a style and told with these names, if any are given, and
+/// with the address of the instruction at which each entry asks, if it does: one SVG that needs no other file.
 ///
 /// Errors: [`ReportError::Memory`].
 #[tactic(auto, unfolding(crate::specs::Picture::picture_of))]
@@ -216,11 +216,13 @@ pub fn draw(
     view: &View,
     style: Style,
     names: Option<&Names>,
+    addresses: &[Option<u32>],
 ) -> Result<Vec<u8>, ReportError>
     requires few { length entries.now ≤ MAX_EVENTS }
     requires some_units { 1 ≤ units }
     requires few_units { units ≤ MAX_UNITS }
-    ensures ok { IfOk result (λ text. text.items ≡ picture_of entries.now units view.now style names.entry) }
+    ensures ok { IfOk result (λ text.
+        text.items ≡ picture_of entries.now units view.now style names.entry addresses.entry) }
     ensures err { IfErr result IsMemoryFault }
 {
     let things = things_of(alloc, entries, view)?;
@@ -230,6 +232,7 @@ pub fn draw(
             units: units as u8,
             style,
             names,
+            addresses,
         },
     };
     let total = entries.len() as u64;

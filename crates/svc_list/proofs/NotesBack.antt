@@ -10,11 +10,11 @@ use Rattle.svc_asm_lines.specs.Statements.{is_inside, end_at}
 use Rattle.svc_names.specs.declared.name.Name.{Name}
 use Rattle.svc_names.specs.declared.names.Names.{Names}
 use Rattle.svc_names.specs.Given.{listed, noted_by, spaced_label}
-use Rattle.svc_names.specs.Near.{behind_text, is_at_or_below, label, nearer, nearest}
+use Rattle.svc_names.specs.Near.{behind_text, is_at_or_below, nearer, nearest}
 use Rattle.svc_names.specs.Table.{are_named, is_name_text}
 use Rattle.svc_names.proofs.NameText.{IsNameByte, name_bytes}
 use Rattle.svc_names.proofs.Order.{first_of, second_of}
-use Rattle.svc_list.specs.Listings.{hex_digit, hex_text, address_note, word_note, datum_note}
+use Rattle.svc_list.specs.Listings.{hex_digit, hex_text, word_note, datum_note}
 use Rattle.svc_list.proofs.NamesBack.{no_slash}
 use Rattle.svc_list.proofs.LinesBack.{Trails}
 

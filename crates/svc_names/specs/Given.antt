@@ -1,13 +1,11 @@
 -- What names tell, if any are given.
-use Rattle.std.specs.Prelude.{◌≡◌, ◌∷◌, [], ℕ, List, Option, Some, None, IfSome, decimal, option_map}
+use Rattle.std.specs.Prelude.{◌≡◌, ◌∷◌, [], ℕ, List, Option, Some, None, decimal, option_map}
 use denote.Ref.{Bor}
-use Rattle.svc_report.specs.Records.{IsText}
 use Rattle.svc_names.specs.declared.name.Name.{Name}
 use Rattle.svc_names.specs.declared.names.Names.{Names}
 use Rattle.svc_names.specs.declared.rows.Rows.{Rows}
 use Rattle.svc_names.specs.Near.{label, nearest}
 use Rattle.svc_names.specs.Rows.{data_address, with_names}
-use Rattle.svc_names.specs.Table.{IsTable, table_records}
 
 -- the names that are given
 abbrev pub listed : Option (Bor Names) → Option (List Name)

@@ -1,5 +1,5 @@
 -- Which entries a request looks at, and when there are too few.
-use Rattle.std.proofs.Common.{◌≡◌, ◌∙◌, ◌<◌, ℕ, List, Option, Some, None, length, min, take, unwrap_or, refl, arith}
+use Rattle.std.proofs.Common.{◌≡◌, ◌∙◌, ◌<◌, ℕ, List, Option, Some, None, length, min, take, unwrap_or, arith}
 use Rattle.std.proofs.lemmas.List.{take_all, take_min}
 use Rattle.svc_history_laws.specs.declared.entry.Entry.{Entry}
 use Rattle.svc_answer.specs.Fronts.{front}

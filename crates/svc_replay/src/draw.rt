@@ -5,13 +5,12 @@ ghost use Rattle.svc_base.specs.declared.config.TheConstants.{MAX_EVENTS};
 ghost use Rattle.svc_request.specs.declared.faults.Fault.TheVariants.{File};
 ghost use Rattle.svc_request.specs.declared.request.Request.TheVariants as request;
 ghost use Rattle.svc_marks.specs.View.{end_shown};
-ghost use Rattle.svc_answer.specs.Drawings.{IsDrawn, drawing_of, shown_as};
+ghost use Rattle.svc_answer.specs.Drawings.{IsDrawing, IsDrawn, shown_as};
 ghost use Rattle.svc_report.specs.Faults.{IsMemoryFault};
 ghost use Rattle.svc_answer.specs.Fronts.{front};
 ghost use Rattle.svc_answer.specs.Requests.{IsAnswered};
 ghost use Rattle.svc_request.specs.Faults.{IsReportFault, TellsOfTrace};
 
-use crate::check::replay;
 use crate::fronts::first;
 use std::alloc::Global;
 use std::io::Write;
@@ -19,6 +18,7 @@ use svc_answer::load::{load_names, load_traced};
 use svc_base::Config;
 use svc_history::Entry;
 use svc_image::Image;
+use svc_instruction_profile::asked_at;
 use svc_names::Names;
 use svc_report::ReportError;
 use svc_request::{Fault, Files, Picture, Traced};
@@ -63,18 +63,18 @@ fn draw_entries(
     names: Option<&Names>,
 ) -> Result<Vec<u8>, Fault>
     ensures drawn { IfOk result (λ _. IsDrawn image config entries.now picture.entry.view) }
-    ensures text { IfOk result (λ text. text.items ≡ drawing_of picture.entry config.units entries.now
-        names.entry) }
+    ensures text { IfOk result (λ text.
+        IsDrawing picture.entry image config entries.now names.entry text.items) }
     ensures fault { let view = picture.entry.view in
         IfErr result (λ fault. (fault ≡ File) ⊎ IsReportFault fault
         ⊎ TellsOfTrace image config (front (end_shown view.from view.count) entries.now) fault) }
 {
     let drawn = first(entries, picture.view.end());
-    replay(alloc, image, config, drawn)?;
+    let asked = asked_at(alloc, image, config, drawn)?;
     if u64::from(picture.view.from) > entries.len() as u64 {
         return Err(Fault::File);
     }
-    let text = text_of(alloc, drawn, config, picture, names)?;
+    let text = text_of(alloc, drawn, config, picture, names, &asked)?;
     Ok(text)
 }
 
@@ -85,10 +85,11 @@ fn text_of(
     config: Config,
     picture: Picture<'_>,
     names: Option<&Names>,
+    asked: &[Option<u32>],
 ) -> Result<Vec<u8>, ReportError>
     requires few { length entries.now ≤ MAX_EVENTS }
     ensures ok { let p = picture.entry in IfOk result (λ text.
-        text.items ≡ shown_as p.rows config.units entries.now p.view p.style names.entry) }
+        text.items ≡ shown_as p.rows config.units entries.now p.view p.style names.entry asked.entry) }
     ensures err { IfErr result IsMemoryFault }
 {
     if picture.rows {
@@ -101,6 +102,7 @@ fn text_of(
             &picture.view,
             picture.style,
             names,
+            asked,
         )
     }
 }

@@ -1,7 +1,7 @@
 -- The bars and marks of a picture, as they are drawn.
 use Rattle.std.specs.Prelude.{ℕ, ◌+◌, ◌-◌, ◌/◌, ◌==◌, nat_le, nat_lt, cond, List, [], ◌∷◌, ◌++◌, length, flat_map}
-use Rattle.std.specs.Prelude.{Option, codes, decimal}
-use Rattle.std.specs.List.{concat}
+use Rattle.std.specs.Prelude.{Option, None, unwrap_or, codes, decimal}
+use Rattle.std.specs.List.{concat, slice_get}
 use Rattle.svc_report.specs.Trace.{row_of}
 use Rattle.svc_names.specs.declared.name.Name.{Name}
 use Rattle.svc_names.specs.Given.{listed, noted_by}
@@ -15,7 +15,7 @@ use Rattle.svc_marks.specs.declared.marks.MarkKind.TheVariants as mark
 use Rattle.svc_sheet.specs.declared.sheet.Sheet.{Sheet}
 use Rattle.svc_sheet.specs.Frame.{bar_height, bar_left, bar_top, bar_width, bottom, end_x, end_y, mark_x, mark_y}
 use Rattle.svc_sheet.specs.Kinds.{letter_of}
-use Rattle.svc_sheet.specs.Names.{address_label, word_called}
+use Rattle.svc_sheet.specs.Names.{address_label, address_line, word_called}
 use Rattle.svc_sheet.specs.Sentences.{fate_sentence, sentence_of_kind}
 use Rattle.svc_shapes.specs.Shapes.{bar_box, bold_arrow, box_fate, box_title, close, commit_line, label, mark_at}
 use Rattle.svc_shapes.specs.Shapes.{thin_arrow, title_open}
@@ -89,16 +89,21 @@ element_of mark.Handed = codes "path"
 element_of mark.Squash = codes "path"
 element_of _ = codes "use"
 
--- the title of a mark: its entry's number, that entry's row of the trace, what that means, and the name of its word
-unfoldable pub title : Option (List Name) → Mark → List ℕ
-title names m =
+-- the address of the instruction at which a mark's entry asks, if it does
+abbrev pub address_of : Sheet → Mark → Option ℕ
+address_of s m = unwrap_or (slice_get s.addresses.now m.place) None
+
+-- the title of a mark: its entry's number, that entry's row of the trace, what that means, the name of its word, and
+-- the address of its instruction
+unfoldable pub title : Option (List Name) → (address : Option ℕ) → Mark → List ℕ
+title names address m =
     title_open m.place ++ row_of m.entry ++ sentence_of_kind m m.kind ++ codes "\n"
-    ++ word_called names m.entry.addr ++ codes "</title>"
+    ++ word_called names m.entry.addr ++ address_line names address ++ codes "</title>"
 
 -- a mark, with its title
 unfoldable pub mark_text : Sheet → Mark → List ℕ
 mark_text s m =
-    mark_shape s m m.kind ++ title (listed s.names) m ++ close (element_of m.kind)
+    mark_shape s m m.kind ++ title (listed s.names) (address_of s m) m ++ close (element_of m.kind)
 
 -- which marks lie below which: lines of commits, then arrows, then shapes
 abbrev pub layer : MarkKind → ℕ

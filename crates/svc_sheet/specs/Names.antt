@@ -2,6 +2,7 @@
 use Rattle.std.specs.Prelude.{ℕ, List, [], ◌++◌, Option, Some, None, codes, decimal}
 use Rattle.svc_base.specs.declared.ids.WordAddr.{WordAddr}
 use Rattle.svc_names.specs.declared.name.Name.{Name}
+use Rattle.svc_names.specs.Given.{noted_by}
 use Rattle.svc_names.specs.Near.{label, near_text, nearest}
 use Rattle.svc_names.specs.Rows.{data_address}
 use Rattle.svc_sheet.specs.declared.names.Label.{Label}
@@ -43,3 +44,8 @@ abbrev pub word_called : Option (List Name) → Option WordAddr → List ℕ
 word_called None word = []
 word_called (Some names) None = []
 word_called (Some names) (Some word) = called word.0 (nearest (data_address word.0) names)
+
+-- a line with the address of an instruction, and its name, if names are given and it has one
+abbrev pub address_line : Option (List Name) → (address : Option ℕ) → List ℕ
+address_line names None = []
+address_line names (Some address) = codes "at address " ++ decimal address ++ noted_by names address ++ codes "\n"

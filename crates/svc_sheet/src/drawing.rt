@@ -2,14 +2,14 @@
 
 ghost use Rattle.std.specs.Prelude.{◌≡◌, ◌++◌, ◌≤◌, OnOk, codes, decimal, flat_map, length};
 ghost use Rattle.svc_names.specs.Given.{listed};
-ghost use Rattle.svc_sheet.specs.Drawing.{bar_name, bar_text, bar_title, element_of, fill_of, layer, layer_text};
-ghost use Rattle.svc_sheet.specs.Drawing.{mark_in, mark_shape, mark_text, name_of, name_words, title};
+ghost use Rattle.svc_sheet.specs.Drawing.{address_of, bar_name, bar_text, bar_title, element_of, fill_of, layer};
+ghost use Rattle.svc_sheet.specs.Drawing.{layer_text, mark_in, mark_shape, mark_text, name_of, name_words, title};
 ghost use Rattle.svc_sheet.specs.Names.{label_text};
 ghost use Rattle.svc_shapes.specs.Shapes.{label};
 
 use crate::frame::Frame;
 use crate::kinds::letter_of;
-use crate::names::{Label, address_label, put_word_called};
+use crate::names::{Label, address_label, put_address, put_word_called};
 use crate::row::put_row;
 use crate::sentences::{put_fate, put_sentence};
 use itoa::Buffer;
@@ -169,17 +169,31 @@ pub fn write_names(frame: &Frame<'_>, bars: &[Bar], text: &mut Vec<u8>) -> Resul
     Ok(())
 }
 
-// Writes the title of a mark: its entry's number, that entry's row of the trace, what that means, and the name of its
-// word.
+// The address of the instruction at which a mark's entry asks, if it does.
+fn address_of(frame: &Frame<'_>, mark: &Mark) -> Option<u32>
+    ensures { result ≡ address_of frame.now.sheet mark.now }
+{
+    let address = frame.sheet.addresses.get(mark.place as usize)?;
+    *address
+}
+
+// Writes the title of a mark: its entry's number, that entry's row of the trace, what that means, the name of its word,
+// and the address of its instruction.
 #[tactic(auto, unfolding(crate::specs::Drawing::title))]
-fn write_title(names: Option<&Names>, mark: &Mark, text: &mut Vec<u8>) -> Result<(), AllocError>
-    ensures { OnOk result (text.new.items ≡ text.old.items ++ title (listed names.entry) mark.now) }
+fn write_title(
+    names: Option<&Names>,
+    address: Option<u32>,
+    mark: &Mark,
+    text: &mut Vec<u8>,
+) -> Result<(), AllocError>
+    ensures { OnOk result (text.new.items ≡ text.old.items ++ title (listed names.entry) address mark.now) }
 {
     title_open(text, mark.place)?;
     put_row(text, &mark.entry)?;
     put_sentence(text, mark)?;
     "\n".put(text)?;
     put_word_called(text, names, mark.entry.addr)?;
+    put_address(text, names, address)?;
     "</title>".put(text)?;
     Ok(())
 }
@@ -217,7 +231,7 @@ fn write_mark(frame: &Frame<'_>, mark: &Mark, text: &mut Vec<u8>) -> Result<(), 
     ensures { OnOk result (text.new.items ≡ text.old.items ++ mark_text frame.now.sheet mark.now) }
 {
     write_shape(frame, mark, text)?;
-    write_title(frame.sheet.names, mark, text)?;
+    write_title(frame.sheet.names, address_of(frame, mark), mark, text)?;
     close(text, element_of(mark.kind))?;
     Ok(())
 }

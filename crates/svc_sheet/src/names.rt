@@ -3,12 +3,12 @@
 ghost use Rattle.std.specs.Prelude.{◌≡◌, ◌++◌, OnOk, length, nat_le};
 ghost use Rattle.svc_names.specs.Given.{listed};
 ghost use Rattle.svc_names.specs.Near.{behind_text};
-ghost use Rattle.svc_sheet.specs.Names.{address_label, label_text, word_called, word_label};
+ghost use Rattle.svc_sheet.specs.Names.{address_label, address_line, label_text, word_called, word_label};
 
 use crate::drawing::digits;
 use std::alloc::AllocError;
 use svc_base::WordAddr;
-use svc_names::{Names, Near, data_address};
+use svc_names::{Names, Near, data_address, put_note};
 use svc_text::{Piece, put};
 
 /// An address or a word, as it is told.
@@ -99,5 +99,22 @@ pub(crate) fn put_word_called(
     if let Some(near) = names.nearest(data_address(word.0)) {
         put!(text; "word ", word.0, " is ", near, "\n");
     }
+    Ok(())
+}
+
+/// Adds a line with the address of an instruction, and its name, if names are given and it has one.
+pub(crate) fn put_address(
+    text: &mut Vec<u8>,
+    names: Option<&Names>,
+    address: Option<u32>,
+) -> Result<(), AllocError>
+    ensures { OnOk result (text.new.items ≡ text.old.items ++ address_line (listed names.entry) address) }
+{
+    let Some(address) = address else {
+        return Ok(());
+    };
+    put!(text; "at address ", address);
+    put_note(names, text, address)?;
+    put!(text; "\n");
     Ok(())
 }

@@ -34,4 +34,6 @@ pub struct Sheet<'a> {
     pub style: Style,
     /// The names by which addresses and words are told, too.
     pub names: Option<&'a Names>,
+    /// The address of the instruction at which each entry of the history asks, if it does.
+    pub addresses: &'a [Option<u32>],
 }

@@ -1,4 +1,4 @@
-use Rattle.std.proofs.Common.{◌≡◌, ◌∙◌, ap}
+use Rattle.std.proofs.Common.{◌≡◌, ◌∙◌}
 use Rattle.svc_script.specs.Leading.{script_of}
 use Rattle.svc_script.specs.Script.{script_text}
 use Rattle.svc_answer.proofs.load.save_script.Goals as goal

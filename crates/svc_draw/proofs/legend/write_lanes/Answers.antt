@@ -1,4 +1,4 @@
-use Rattle.std.proofs.Common.{◌≡◌, ◌+◌, ℕ, suc, arith}
+use Rattle.std.proofs.Common.{◌≡◌, ◌+◌, ℕ, arith}
 use Rattle.svc_draw.specs.Legend.{lane_text}
 use Rattle.svc_draw.proofs.Texts.{numbers_more}
 use Rattle.svc_draw.proofs.legend.write_lanes.Goals as goal

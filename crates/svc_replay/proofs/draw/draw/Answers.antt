@@ -1,7 +1,8 @@
-use Rattle.std.proofs.Common.{◌≡◌, ◌∙◌, ℕ, List, IfSome, ap, refl, rules, subst, sym}
+use Rattle.std.proofs.Common.{ℕ, List, refl, rules, subst, sym}
+use Rattle.std.proofs.lemmas.Option.{IfSome_then}
 use Rattle.svc_history_laws.specs.declared.entry.Entry.{Entry}
 use Rattle.svc_request.specs.declared.request.Request.TheVariants as request
-use Rattle.svc_answer.specs.Drawings.{IsDrawn, drawing_of}
+use Rattle.svc_answer.specs.Drawings.{IsDrawing, IsDrawn}
 use Rattle.svc_answer.specs.Named.{AreNamesIn}
 use Rattle.svc_answer.proofs.Answering.{failed_save}
 use Rattle.svc_replay.proofs.draw.draw.Goals as goal
@@ -23,23 +24,26 @@ pub returns : goal.returns
 returns g c =
     let p = c.args.picture in
     let held = g.F.Files.held c.args.files.now in
-    let units : ℕ = c.args.traced.config.units in
+    let img = c.in_ok-image.image in
+    let config = c.args.traced.config in
     let given = c.as_ref.result in
-    let text : c.deref-2.result.now ≡ drawing_of p units c.in_ok-image.entries.items given =
-    c.deref-2.ensures.value ∙ c.in_ok-text.ensures.text ∙ ap (λ (es : List Entry). drawing_of p units es given) c.deref.ensures.value in
+    let drawing : IsDrawing p img config c.in_ok-image.entries.items given c.in_ok-text.text.items =
+    subst (λ (es : List Entry). IsDrawing p img config es given c.in_ok-text.text.items) c.deref.ensures.value c.in_ok-text.ensures.text in
+    let saved : IsDrawing p img config c.in_ok-image.entries.items given c.deref-2.result.now =
+    subst (IsDrawing p img config c.in_ok-image.entries.items given) (sym c.deref-2.ensures.value) drawing in
     record {
       done = (
         (
-          c.in_ok-image.image,
+          img,
           c.in_ok-image.ensures.image,
           c.in_ok-image.entries.items,
           c.in_ok-image.ensures.trace,
           (
-            subst (λ (es : List Entry). IsDrawn c.in_ok-image.image c.args.traced.config es p.view) c.deref.ensures.value c.in_ok-text.ensures.drawn,
+            subst (λ (es : List Entry). IsDrawn img config es p.view) c.deref.ensures.value c.in_ok-text.ensures.drawn,
             (
               given,
               subst (AreNamesIn held p.names) (sym c.as_ref.ensures.value) c.in_ok-names.ensures,
-              subst (λ (t : List ℕ). IfSome (g.F.Files.held c.save.new.self p.file.now) (λ known. known ≡ t)) text c.in_ok-save.ensures.saved,
+              IfSome_then (g.F.Files.held c.save.new.self p.file.now) c.in_ok-save.ensures.saved (λ known same. subst (IsDrawing p img config c.in_ok-image.entries.items given) (sym same) saved),
             ),
           ),
         ),
