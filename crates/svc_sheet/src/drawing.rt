@@ -177,23 +177,18 @@ fn address_of(frame: &Frame<'_>, mark: &Mark) -> Option<u32>
     *address
 }
 
-// Writes the title of a mark: its entry's number, that entry's row of the trace, what that means, the name of its word,
-// and the address of its instruction.
+// Writes the title of a mark.
 #[tactic(auto, unfolding(crate::specs::Drawing::title))]
-fn write_title(
-    names: Option<&Names>,
-    address: Option<u32>,
-    mark: &Mark,
-    text: &mut Vec<u8>,
-) -> Result<(), AllocError>
-    ensures { OnOk result (text.new.items ≡ text.old.items ++ title (listed names.entry) address mark.now) }
+fn write_title(frame: &Frame<'_>, mark: &Mark, text: &mut Vec<u8>) -> Result<(), AllocError>
+    ensures { OnOk result (text.new.items
+        ≡ text.old.items ++ title (listed frame.now.sheet.names) (address_of frame.now.sheet mark.now) mark.now) }
 {
     title_open(text, mark.place)?;
     put_row(text, &mark.entry)?;
     put_sentence(text, mark)?;
     "\n".put(text)?;
-    put_word_called(text, names, mark.entry.addr)?;
-    put_address(text, names, address)?;
+    put_word_called(text, frame.sheet.names, mark.entry.addr)?;
+    put_address(text, frame.sheet.names, address_of(frame, mark))?;
     "</title>".put(text)?;
     Ok(())
 }
@@ -231,7 +226,7 @@ fn write_mark(frame: &Frame<'_>, mark: &Mark, text: &mut Vec<u8>) -> Result<(), 
     ensures { OnOk result (text.new.items ≡ text.old.items ++ mark_text frame.now.sheet mark.now) }
 {
     write_shape(frame, mark, text)?;
-    write_title(frame.sheet.names, address_of(frame, mark), mark, text)?;
+    write_title(frame, mark, text)?;
     close(text, element_of(mark.kind))?;
     Ok(())
 }

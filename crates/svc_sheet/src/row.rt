@@ -1,5 +1,4 @@
-// The row of an entry, as a trace has it. It is written straight into a text: a writer of `csv` for each row would cost
-// many times the row.
+// The row of an entry, as a trace has it, straight into a text: a writer of `csv` for each row would cost many times it.
 
 ghost use Rattle.std.specs.Prelude.{◌≡◌, ◌++◌, ◌∷◌, OnOk, decimal, map};
 ghost use Rattle.svc_text.specs.Parts.{part_text};
