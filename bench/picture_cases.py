@@ -9,7 +9,7 @@ import tempfile
 BENCH = os.path.dirname(os.path.abspath(__file__))
 
 
-def made(image, folder):
+def image_file(image, folder):
     """The image, made of a text if it is one of the programs."""
     if not image.startswith("programs/"):
         return image
@@ -29,7 +29,7 @@ def picture(words, folder):
             given[last] = word
     options = [f"{it}={given[it]}" for it in ("unit", "task", "word", "values", "compact", "names") if it in given]
     numbers = [given.get("units", "4"), given.get("from", "0"), given.get("count", "1000000")]
-    line = ["python3", f"{BENCH}/svg_twin.py", made(image, folder), trace, *numbers, *options]
+    line = ["python3", f"{BENCH}/svg_twin.py", image_file(image, folder), trace, *numbers, *options]
     return subprocess.run(line, capture_output=True, check=True).stdout
 
 
