@@ -349,8 +349,8 @@ impl<'a> Draft<'a> {
                 self.push_instruction(second)?;
             }
             Statement::Turned(left) => return self.turn(left),
-            Statement::Bound(binding, next) => {
-                self.bind(name, binding)?;
+            Statement::Bound(linkage, next) => {
+                self.bind(name, linkage.binding())?;
                 self.next = next;
             }
             Statement::NextText => return self.begin_text(),

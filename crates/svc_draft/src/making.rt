@@ -13,7 +13,7 @@ ghost use Rattle.svc_image.specs.Image as value;
 use crate::draft::Draft;
 use std::alloc::{AllocError, Global};
 use svc_image::{Image, ImageError, Own, Parts, Version, read_words};
-use svc_layout::{Refusal, join};
+use svc_layout::{Refusal, data_of};
 
 /// An entry.
 #[derive(Clone, Copy)]
@@ -87,7 +87,7 @@ impl Draft<'_> {
         ensures err { IfErr result (λ e. e ≡ image_error.Memory) }
     {
         let start = self.start_place();
-        let data = join(
+        let data = data_of(
             alloc,
             self.data_step,
             self.bss_step,

@@ -8,6 +8,7 @@ use Rattle.svc_layout.specs.Places.{size, spot_here}
 use Rattle.svc_layout.specs.Contents.{with_fill, with_align, with_value, with_instruction}
 use Rattle.svc_layout.specs.Notes.{with_turned, with_relative}
 use Rattle.svc_layout.specs.Directives.{with_version, with_read_only, with_limit, with_entry, with_register}
+use Rattle.svc_layout.specs.Sources.{linkage_binding}
 use Rattle.svc_layout.specs.Labels.{with_symbol, with_set, with_binding, with_local}
 use Rattle.svc_layout.specs.Zeros.{with_common}
 use Rattle.svc_layout.specs.Texts.{with_next_text}
@@ -42,7 +43,7 @@ after name (say.Common count step) d = with_common name (binding.Common count st
 after name (say.LocalCommon count step) d = with_common name binding.Local count step d
 after name (say.Pair v w) d = with_instruction v d >>= with_instruction w
 after name (say.Turned left) d = with_turned left d
-after name (say.Bound b next) d = with_binding name b d >>= going_on next
+after name (say.Bound l next) d = with_binding name (linkage_binding l) d >>= going_on next
 after name say.NextText d = with_next_text d
 after name (say.Local n) d = with_local n d
 after name (say.Relative w n) d = with_relative w n d

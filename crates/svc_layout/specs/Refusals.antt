@@ -12,3 +12,9 @@ Refuses _ next = next ≡ None
 abbrev pub Changes : {A X : Type 0} → Result A Refusal → Option X → X → Type 0
 Changes (Ok done) next new = next ≡ Some new
 Changes (Err e) next new = Refuses e next
+
+-- why bytes of a section are refused: there is no room for them, or no memory
+abbrev pub IsOfArea : Refusal → Type 0
+IsOfArea refusal.FullData = Unit {0}
+IsOfArea refusal.Memory = Unit {0}
+IsOfArea _ = ⊥

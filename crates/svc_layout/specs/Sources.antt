@@ -3,11 +3,13 @@ use Rattle.std.specs.Prelude.{Option, Some, None, ℕ, List, [], ◌∷◌, if�
 use Rattle.std.specs.Prelude.{slice_get}
 use Rattle.svc_layout.specs.declared.section.Spot.{Spot}
 use Rattle.svc_layout.specs.declared.source.Binding.{Binding}
+use Rattle.svc_layout.specs.declared.source.Linkage.{Linkage}
 use Rattle.svc_layout.specs.declared.source.Local.{Local}
 use Rattle.svc_layout.specs.declared.source.Strength.{Strength}
 use Rattle.svc_layout.specs.declared.steps.Steps.{Steps}
 use Rattle.svc_layout.specs.Steps.{no_steps}
 use Rattle.svc_layout.specs.declared.source.Binding.TheVariants as binding
+use Rattle.svc_layout.specs.declared.source.Linkage.TheVariants as linkage
 use Rattle.svc_layout.specs.declared.source.Strength.TheVariants as strength
 
 -- what names stand for: places in sections
@@ -39,6 +41,12 @@ no_source = record { names = no_names; bindings = no_bindings; locals = []; step
 abbrev pub source_seen : (known : Bool) → List Source → (number : ℕ) → Source → Source
 source_seen false all number so_far = so_far
 source_seen true all number so_far = unwrap_or (slice_get all number) so_far
+
+-- the binding of a name that a line gives this linkage
+abbrev pub linkage_binding : Linkage → Binding
+linkage_binding linkage.Global = binding.Global
+linkage_binding linkage.Weak = binding.Weak
+linkage_binding linkage.Local = binding.Local
 
 -- how a name is found that is bound again: a weak or common one stays so, and one of its text's own isn't common
 abbrev pub binding_again : (old new : Binding) → Binding

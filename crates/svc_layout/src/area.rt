@@ -1,9 +1,9 @@
 // The bytes of one section of data, and those of all of them.
 
-ghost use Rattle.std.specs.Prelude.{◌≡◌, ◌+◌, ◌%◌, ◌≤◌, List, ℕ, [], length, OnOk, IfOk, IfErr};
+ghost use Rattle.std.specs.Prelude.{◌≡◌, ◌+◌, ◌%◌, ◌≤◌, List, ℕ, [], length, OnOk, OnErr, IfOk, IfErr};
 ghost use Rattle.svc_image.specs.declared.error.ImageError.TheVariants as image_error;
 ghost use Rattle.svc_layout.specs.Areas.{with_more, with_zeros, with_copies, fill_up, data_of};
-ghost use Rattle.svc_layout.specs.Refusals.{Changes};
+ghost use Rattle.svc_layout.specs.Refusals.{Changes, IsOfArea};
 
 use crate::refusal::Refusal;
 use crate::steps::padding;
@@ -51,7 +51,9 @@ impl Area {
     /// Errors: [`Refusal::FullData`] where there is no room for all, and [`Refusal::Memory`].
     #[tactic(auto, unfolding(crate::specs::Areas::with_more))]
     pub fn push(&mut self, more: &[u8]) -> Result<(), Refusal>
-        ensures { Changes result (with_more more.now self.old) self.new }
+        ensures done { Changes result (with_more more.now self.old) self.new }
+        ensures refusal { IfErr result IsOfArea }
+        ensures unchanged { OnErr result (self.new ≡ self.old) }
     {
         if more.len() > MOST_BYTES - self.bytes.len() {
             return Err(Refusal::FullData);
@@ -65,7 +67,9 @@ impl Area {
     /// Errors: as [`Area::push`].
     #[tactic(auto, unfolding(crate::specs::Areas::with_zeros))]
     pub fn push_zeros(&mut self, count: u32) -> Result<(), Refusal>
-        ensures { Changes result (with_zeros count self.old) self.new }
+        ensures done { Changes result (with_zeros count self.old) self.new }
+        ensures refusal { IfErr result IsOfArea }
+        ensures unchanged { OnErr result (self.new ≡ self.old) }
     {
         let size = self.bytes.len();
         if count as usize > MOST_BYTES - size {
@@ -80,7 +84,8 @@ impl Area {
     /// Errors: as [`Area::push`].
     #[tactic(auto, using(crate::proofs::Copies::copies_on, crate::proofs::Copies::copies_refused, crate::proofs::Copies::copies_done))]
     pub fn push_copies(&mut self, count: u32, unit: &[u8]) -> Result<(), Refusal>
-        ensures { Changes result (with_copies count unit.now self.old) self.new }
+        ensures done { Changes result (with_copies count unit.now self.old) self.new }
+        ensures refusal { IfErr result IsOfArea }
     {
         let mut left = count;
         while left > 0 {
@@ -112,7 +117,7 @@ fn fill_up(all: &mut Vec<u8>, step: u32) -> Result<(), ImageError>
 ///
 /// Errors: [`ImageError::Memory`].
 #[tactic(auto, unfolding(crate::specs::Areas::data_of))]
-pub fn join(
+pub fn data_of(
     alloc: Global,
     data_step: u32,
     bss_step: u32,

@@ -8,9 +8,9 @@ mod source;
 mod statement;
 mod steps;
 
-pub use area::{Area, join};
+pub use area::{Area, data_of};
 pub use refusal::Refusal;
 pub use section::{Section, Spot, Width, eight_bytes};
-pub use source::{Binding, Local, Strength};
+pub use source::{Binding, Linkage, Local, Strength};
 pub use statement::{Ending, Next, Statement};
 pub use steps::{Steps, greater_step, multiple, padding};

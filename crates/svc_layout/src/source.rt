@@ -1,5 +1,8 @@
 // How the texts of a program name places.
 
+ghost use Rattle.std.specs.Prelude.{◌≡◌};
+ghost use Rattle.svc_layout.specs.Sources.{linkage_binding};
+
 use crate::section::Spot;
 
 /// How other texts of a program find a name of one.
@@ -13,6 +16,30 @@ pub enum Binding {
     Local,
     /// `.comm NAME, SIZE, ALIGNMENT`: zeros that all texts share which name them so.
     Common(u32, u32),
+}
+
+/// What a line says of how other texts find a name.
+#[derive(Clone, Copy)]
+pub enum Linkage {
+    /// `.globl NAME`
+    Global,
+    /// `.weak NAME`
+    Weak,
+    /// `.local NAME`
+    Local,
+}
+
+impl Linkage {
+    /// The binding of a name that a line gives this linkage.
+    pub fn binding(self) -> Binding
+        ensures { result ≡ linkage_binding self }
+    {
+        match self {
+            Linkage::Global => Binding::Global,
+            Linkage::Weak => Binding::Weak,
+            Linkage::Local => Binding::Local,
+        }
+    }
 }
 
 /// How strong a shared name is.

@@ -1,7 +1,7 @@
 // What a line says, and what is read next.
 
 use crate::section::{Section, Spot, Width};
-use crate::source::Binding;
+use crate::source::Linkage;
 use svc_image::Version;
 use svc_rv32i::Register;
 
@@ -32,8 +32,8 @@ pub enum Next {
     Common,
     /// The same of a text's own zeros.
     LocalCommon,
-    /// A name of a list of those that are bound so.
-    Bound(Binding),
+    /// A name of a list of those that have this linkage.
+    Bound(Linkage),
     /// A line of a section that is passed over.
     Passed,
 }
@@ -84,8 +84,8 @@ pub enum Statement {
     /// A branch that doesn't reach its target, by how many bytes of the text are left from the target on: it is turned
     /// in the next round.
     Turned(usize),
-    /// A name that is bound so, as by `.weak NAME`, and what is read next.
-    Bound(Binding, Next),
+    /// A name and its linkage, as of `.weak NAME`, and what is read next.
+    Bound(Linkage, Next),
     /// Another text of the program begins.
     NextText,
     /// A number and a colon: the next local label of this number.
