@@ -47,14 +47,18 @@ fn names_place(said: Statement) -> bool
 // Adds the label that a line gives, if it gives one.
 fn add_label<'a>(
     draft: &Draft<'a>,
-    name: &'a [u8],
+    line: &'a [u8],
     said: Statement,
     labels: &mut Vec<Label<'a>>,
 ) -> Result<(), AllocError>
     ensures { OnOk result (map parts_of labels.new.items
-        ≡ map parts_of labels.old.items ++ label_in (layout_of draft.now) name.now said) }
+        ≡ map parts_of labels.old.items ++ label_in (layout_of draft.now) (name_at line.now) said) }
 {
-    if !names_place(said) || is_hidden(name) {
+    if !names_place(said) {
+        return Ok(());
+    }
+    let (name, _) = split_name(line);
+    if is_hidden(name) {
         return Ok(());
     }
     if let Some(address) = draft.own_address(name) {
@@ -77,8 +81,7 @@ fn take_labelled<'a>(
         ⊎ ((s : Statement) (rest : List ℕ) (next : Layout) → Takes text.now (layout_of draft.old) s rest next → ⊥)) }
 {
     let (said, rest) = take_line(text, draft)?;
-    let (name, _) = split_name(text);
-    match add_label(draft, name, said, labels) {
+    match add_label(draft, text, said, labels) {
         Ok(()) => Ok((said, rest)),
         Err(_) => Err(Stop::Memory),
     }

@@ -33,7 +33,7 @@ part_at go.Symbol d text = symbol_at d 44 text
 part_at go.Passed d text = passed_at d text
 part_at go.Common d text = common_at text
 part_at go.LocalCommon d text = local_common_at text
-part_at (go.Bound b) d text = bound_at b text
+part_at (go.Bound l) d text = bound_at l text
 
 unfoldable pub next_at : Layout → List ℕ → Read Statement
 next_at d text = part_at d.next d text

@@ -2,7 +2,7 @@
 use Rattle.std.specs.Prelude.{ℕ, ◌+◌, ◌-◌, ◌%◌, ◌^◌, Bool, true, false, not, ◌||◌, List, Option, Some, None}
 use Rattle.std.specs.Prelude.{if◌then◌else◌, codes, option_map}
 use Rattle.std.specs.Str.{bytes_eq}
-use Rattle.svc_layout.specs.declared.source.Binding.{Binding}
+use Rattle.svc_layout.specs.declared.source.Linkage.{Linkage}
 use Rattle.svc_layout.specs.declared.section.Section.{Section}
 use Rattle.svc_layout.specs.declared.section.Section.TheVariants as section
 use Rattle.svc_layout.specs.declared.section.Spot.{Spot}
@@ -111,9 +111,9 @@ common_at text = option_map (λ r. (say.Common r.0.0 r.0.1, r.1)) (room_at text)
 abbrev pub local_common_at : List ℕ → Read Statement
 local_common_at text = option_map (λ r. (say.LocalCommon r.0.0 r.0.1, r.1)) (room_at text)
 
--- a name that is bound so, and perhaps more of them
-unfoldable pub bound_at : Binding → List ℕ → Read Statement
-bound_at b text =
+-- a name of this linkage, and perhaps more of them
+unfoldable pub bound_at : Linkage → List ℕ → Read Statement
+bound_at l text =
     if is_label (name_at text)
-    then option_map (λ n. (say.Bound b n.0, n.1)) (going_at (go.Bound b) (past_name text))
+    then option_map (λ n. (say.Bound l n.0, n.1)) (going_at (go.Bound l) (past_name text))
     else None

@@ -8,7 +8,7 @@ ghost use Rattle.svc_operands.specs.Operands.{Gives};
 
 use svc_image::Version;
 use svc_layout::Ending::{Bare, Zero};
-use svc_layout::{Binding, Next, Section, Statement, Width};
+use svc_layout::{Linkage, Next, Section, Statement, Width};
 use svc_operands::{
     Name, Read, Wanted, bits_of, letters_of, read_count, read_signed, skip_mark, split_name,
     stopped_at,
@@ -115,17 +115,17 @@ pub static OPENED: [Directive; 23] = [
     Directive(*b".lcomm          ", Says::Open(Next::LocalCommon)),
     Directive(
         *b".globl          ",
-        Says::Open(Next::Bound(Binding::Global)),
+        Says::Open(Next::Bound(Linkage::Global)),
     ),
     Directive(
         *b".global         ",
-        Says::Open(Next::Bound(Binding::Global)),
+        Says::Open(Next::Bound(Linkage::Global)),
     ),
     Directive(
         *b".local          ",
-        Says::Open(Next::Bound(Binding::Local)),
+        Says::Open(Next::Bound(Linkage::Local)),
     ),
-    Directive(*b".weak           ", Says::Open(Next::Bound(Binding::Weak))),
+    Directive(*b".weak           ", Says::Open(Next::Bound(Linkage::Weak))),
 ];
 
 /// What becomes of a section of an object file.

@@ -62,7 +62,7 @@ pub fn read_next<'a>(draft: &Draft, text: &'a [u8]) -> Read<'a, Statement>
         Next::Symbol => read_symbol(draft, b',', text),
         Next::Common => read_common(text),
         Next::LocalCommon => read_local_common(text),
-        Next::Bound(binding) => read_bound(binding, text),
+        Next::Bound(linkage) => read_bound(linkage, text),
         Next::Passed => read_passed(draft, text),
     }
 }

@@ -10,7 +10,7 @@ ghost use Rattle.svc_draft.specs.Drafts.{layout_of};
 use crate::line::{is_label, read_end};
 use crate::lists::{low, read_going};
 use svc_draft::Draft;
-use svc_layout::{Binding, Next, Section, Spot, Statement};
+use svc_layout::{Linkage, Next, Section, Spot, Statement};
 use svc_operands::{
     Read, Unread, Wanted, read_added, read_count, read_expression, read_mark, read_number,
     skip_mark, split_name, stopped_at,
@@ -94,7 +94,7 @@ fn read_less<'a>(draft: &Draft, spot: Option<Spot>, text: &'a [u8]) -> Read<'a, 
         return Err(stopped_at(text, Wanted::Symbol));
     };
     match difference(spot, taken) {
-        Some(spot_difference) => read_moved(spot_difference, rest),
+        Some(distance) => read_moved(distance, rest),
         None => Err(stopped_at(text, Wanted::SameSection)),
     }
 }
@@ -207,13 +207,13 @@ pub fn read_local_common(text: &[u8]) -> Read<'_, Statement>
 }
 
 #[tactic(auto, unfolding(crate::specs::Symbols::bound_at))]
-pub fn read_bound(binding: Binding, text: &[u8]) -> Read<'_, Statement>
-    ensures { Gives (λ x. (x.0, x.1.now)) result (bound_at binding text.now) }
+pub fn read_bound(linkage: Linkage, text: &[u8]) -> Read<'_, Statement>
+    ensures { Gives (λ x. (x.0, x.1.now)) result (bound_at linkage text.now) }
 {
     let (name, rest) = split_name(text);
     if !is_label(name) {
         return Err(stopped_at(text, Wanted::Label));
     }
-    let (next, rest) = read_going(Next::Bound(binding), rest)?;
-    Ok((Statement::Bound(binding, next), rest))
+    let (next, rest) = read_going(Next::Bound(linkage), rest)?;
+    Ok((Statement::Bound(linkage, next), rest))
 }

@@ -9,7 +9,7 @@ use Rattle.svc_operands.specs.Characters.{past_blanks, past, name_at, number_of,
 use Rattle.svc_operands.specs.Places.{reference_named, place_of}
 use Rattle.svc_operands.specs.Expressions.{plain_at, operand_at}
 use Rattle.svc_operands.specs.Values.{value_at, reach, reach_at, offset_at, target_at}
-use Rattle.svc_operands.proofs.Chains.{alone}
+use Rattle.svc_operands.proofs.Operators.{alone}
 use Rattle.std.specs.Prelude.{option_map}
 use Rattle.svc_layout.specs.declared.section.Spot.{Spot}
 use Rattle.svc_operands.specs.Operands.{number_at, distance, steps_of}

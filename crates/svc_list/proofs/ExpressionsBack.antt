@@ -5,9 +5,9 @@ use Rattle.std.specs.Prelude.{option_map}
 use Rattle.svc_layout.specs.Layouts.{Layout}
 use Rattle.svc_operands.specs.Characters.{past_blanks, past_spaces}
 use Rattle.svc_operands.specs.Operands.{Read}
-use Rattle.svc_operands.specs.Expressions.{operator_at, result_of, added_at, chain_on, ranks_at, plain_at, operand_from, operand_at, expression_at, below_zero}
+use Rattle.svc_operands.specs.Expressions.{operator_at, result_of, added_at, operators_on, plain_at, operand_from, operand_at, expression_at, below_zero}
 use Rattle.svc_operands.specs.Numbers.{number_below, signed_of, signed_at}
-use Rattle.svc_operands.proofs.Chains.{alone, chain_over}
+use Rattle.svc_operands.proofs.Operators.{alone, operators_over}
 use Rattle.svc_list.proofs.NamesBack.{stops, no_slash, no_space, is_digit, all_digits, first_digit, digits_dense, digit_no_minus, numerals}
 use Rattle.svc_list.proofs.NumbersBack.{number_back, no_tilde, no_plus, no_open}
 
@@ -82,21 +82,16 @@ minus_back n rest some h s q =
     rw (alone None (32 ∷ 45 ∷ (decimal n ++ rest)) rest (below_zero n) (minus_operand None 30 n rest h s) q, signed_high n some h) refl
 
 -- a number that is added to 0, or taken away
-two_ranks : (operand : List ℕ → Read ℕ) (text rest : List ℕ) (n : ℕ) → operand text ≡ Some (n, rest) → operator_at rest ≡ None → ranks_at operand 2 text ≡ Some (n, rest)
-unfolding ranks_at
-two_ranks operand text rest n h k =
-    rw (h, chain_over (ranks_at operand 0) 0 (length rest) n rest k, chain_over (ranks_at operand 1) 1 (length rest) n rest k) refl
-
 pub plus_back : (n : ℕ) (rest : List ℕ) → n < 2 ^ 32 → stops rest ≡ true → operator_at rest ≡ None → added_at (32 ∷ 43 ∷ 32 ∷ (decimal n ++ rest)) ≡ Some (n, rest)
-unfolding added_at chain_on operator_at result_of past_blanks
+unfolding added_at operators_on operator_at result_of past_blanks
 plus_back n rest h s q =
-    let read = two_ranks (operand_at None 32) (32 ∷ (decimal n ++ rest)) rest n (spaced_operand_back None 31 n rest h s) q in
+    let left = suc (suc (length (decimal n ++ rest))) in
     let is : (0 + n) % 2 ^ 64 ≡ n = omega (arith, h) in
-    rw (read, is, chain_over (ranks_at (operand_at None 32) 2) 2 (suc (suc (length (decimal n ++ rest)))) n rest q) refl
+    rw (spaced_operand_back None 31 n rest h s, operators_over (operand_at None 32) left 2 n rest q, is, operators_over (operand_at None 32) left 3 n rest q) refl
 
 pub less_back : (n : ℕ) (rest : List ℕ) → n < 2 ^ 32 → stops rest ≡ true → operator_at rest ≡ None → added_at (32 ∷ 45 ∷ 32 ∷ (decimal n ++ rest)) ≡ Some (below_zero n, rest)
-unfolding added_at chain_on operator_at result_of past_blanks
+unfolding added_at operators_on operator_at result_of past_blanks
 less_back n rest h s q =
-    let read = two_ranks (operand_at None 32) (32 ∷ (decimal n ++ rest)) rest n (spaced_operand_back None 31 n rest h s) q in
+    let left = suc (suc (length (decimal n ++ rest))) in
     let is : (0 + below_zero n) % 2 ^ 64 ≡ below_zero n = omega arith in
-    rw (read, is, chain_over (ranks_at (operand_at None 32) 2) 2 (suc (suc (length (decimal n ++ rest)))) (below_zero n) rest q) refl
+    rw (spaced_operand_back None 31 n rest h s, operators_over (operand_at None 32) left 2 n rest q, is, operators_over (operand_at None 32) left 3 (below_zero n) rest q) refl

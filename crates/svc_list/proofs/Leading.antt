@@ -64,7 +64,7 @@ no_label name say.Label d h = absurd h
 no_label name (say.Symbol s) d h = absurd h
 no_label name (say.Common n step) d h = absurd h
 no_label name (say.LocalCommon n step) d h = absurd h
-no_label name (say.Bound b next) d h = absurd h
+no_label name (say.Bound l next) d h = absurd h
 no_label name _ d h = refl
 
 pub line_leads : (s : Statement) (note : List ℕ) (d e : Layout) → d.next ≡ go.Line → HasText s → Trails note → after [] s d ≡ Some e → Leads (line_of (Says s note)) d e

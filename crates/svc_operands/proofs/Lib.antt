@@ -1,3 +1,4 @@
 pub mod Past
 pub mod Rows
-pub mod Chains
+pub mod Operators
+pub mod Blanks

@@ -73,18 +73,21 @@ operator_from (c ∷ rest) =
 unfoldable pub operator_at : List ℕ → Option (Operator × List ℕ)
 operator_at text = operator_from (past_spaces text)
 
--- what a number and the operators of one rank behind it make, from left to right; so many at most
-unfoldable pub chain_on : (List ℕ → Read ℕ) → (rank most : ℕ) → ℕ → List ℕ → Read ℕ
-chain_on item rank zero n text = Some (n, text)
-chain_on item rank (suc k) n text =
+-- what a number and the operators below a rank behind it make, from left to right: each has on its right an operand with
+-- the operators of closer ranks behind that; so many operators at most
+unfoldable pub operators_on : (List ℕ → Read ℕ) → (most ranks : ℕ) → ℕ → List ℕ → Read ℕ
+operators_on operand zero ranks n text = Some (n, text)
+operators_on operand (suc k) ranks n text =
     found (operator_at text) (λ o.
-    if o.0.rank == rank then item o.1 >>= (λ m. chain_on item rank k (result_of o.0.does n m.0) m.1)
+    if nat_lt o.0.rank ranks then
+    operand o.1 >>= (λ m.
+    operators_on operand k o.0.rank m.0 m.1 >>= (λ right.
+    operators_on operand k ranks (result_of o.0.does n right.0) right.1))
     else Some (n, text)) (Some (n, text))
 
--- an expression by operators below a rank, of which each is a character at least
-unfoldable pub ranks_at : (List ℕ → Read ℕ) → (ranks : ℕ) → List ℕ → Read ℕ
-ranks_at operand zero text = operand text
-ranks_at operand (suc r) text = ranks_at operand r text >>= (λ n. chain_on (ranks_at operand r) r (length n.1) n.0 n.1)
+-- an operand, and what the operators behind it make, of which each is a character at least
+unfoldable pub operators_at : (List ℕ → Read ℕ) → List ℕ → Read ℕ
+operators_at operand text = operand text >>= (λ n. operators_on operand (length text) 3 n.0 n.1)
 
 -- a number, or what a name stands for, where names may stand
 abbrev pub named_by : Option Layout → List ℕ → Option ℕ
@@ -105,7 +108,7 @@ operand_from names inner (c ∷ rest) =
     if c == 45 then option_map (λ n. (below_zero n.0, n.1)) (inner rest) else
     if c == 126 then option_map (λ n. (2 ^ 64 - 1 - n.0, n.1)) (inner rest) else
     if c == 43 then inner rest else
-    if c == 40 then ranks_at inner 3 rest >>= closed_by else
+    if c == 40 then operators_at inner rest >>= closed_by else
     plain_at names (c ∷ rest)
 
 -- signs and parentheses stand in one another up to a depth
@@ -114,8 +117,10 @@ operand_at names zero text = None
 operand_at names (suc k) text = operand_from names (operand_at names k) (past_spaces text)
 
 unfoldable pub expression_at : Option Layout → List ℕ → Read ℕ
-expression_at names text = ranks_at (operand_at names DEPTH) 3 text
+expression_at names text = operators_at (operand_at names DEPTH) text
 
 -- numbers that are added behind something, or taken away
 unfoldable pub added_at : List ℕ → Read ℕ
-added_at text = chain_on (ranks_at (operand_at None DEPTH) 2) 2 (length text) 0 text
+added_at text =
+    found (operator_at text) (λ o.
+    if o.0.rank == 2 then operators_on (operand_at None DEPTH) (length text) 3 0 text else Some (0, text)) (Some (0, text))

@@ -1,6 +1,6 @@
 -- Values, which may name labels, the immediates that are made of them, and how far branches and jumps go.
 use Rattle.std.specs.Prelude.{ℕ, ◌*◌, nat_le, nat_lt, length, Bool, List, Option, Some, None, if◌then◌else◌, codes}
-use Rattle.std.specs.Prelude.{option_map, ◌+◌, ◌-◌, ◌/◌, ◌%◌, ◌^◌, ◌||◌, ◌&&◌, true, false}
+use Rattle.std.specs.Prelude.{option_map, ◌+◌, ◌-◌, ◌/◌, ◌%◌, ◌^◌, ◌||◌, true, false}
 use Rattle.std.specs.Str.{bytes_eq}
 use Rattle.svc_layout.specs.Layouts.{Layout}
 use Rattle.svc_layout.specs.Places.{here}

@@ -1,7 +1,9 @@
 // The characters of a program's text: spaces, names, marks, numbers, and characters between single quotes.
 
-ghost use Rattle.std.specs.Prelude.{◌≡◌, ◌<◌, ◌≤◌, IfSome, option_map};
-ghost use Rattle.svc_operands.specs.Characters.{opens, blank_behind, past_spaces, is_over, is_name, past, name_at};
+ghost use Rattle.std.specs.Prelude.{◌≡◌, ◌<◌, ◌≤◌, IfSome, length, option_map};
+ghost use Rattle.svc_operands.specs.declared.characters.Blank.TheVariants as blank;
+ghost use Rattle.svc_operands.specs.Characters.{is_space, opens, blank_behind, past_blanks, past_spaces, is_over};
+ghost use Rattle.svc_operands.specs.Characters.{is_name, past, name_at};
 ghost use Rattle.svc_operands.specs.Characters.{past_name, mark_at, digit, base_of, push_digit, long_of, value_of};
 ghost use Rattle.svc_operands.specs.Characters.{behind_zero, number_of, escape, quoted_escape, closed_at};
 ghost use Rattle.svc_operands.specs.Characters.{escape_in_quotes, in_quotes, character_at};
@@ -15,6 +17,12 @@ fn is_name(c: u8) -> bool
 
 /// The character that ends a text of a program of several, as the only one of its line: ASCII's file separator.
 pub const TEXT_END: u8 = 0x1c;
+
+fn is_space(c: u8) -> bool
+    ensures { result ≡ is_space c }
+{
+    matches!(c, b' ' | b'\t' | b'\r')
+}
 
 // What stands before a character: no comment, its slash, something of it, or a star that may end it.
 #[derive(Clone, Copy)]
@@ -48,19 +56,39 @@ fn blank_behind(blank: Blank, c: u8, rest: &[u8]) -> Option<Blank>
     }
 }
 
+// What is left behind a comment, of which the slash stands before this. No comment goes on in the next text.
+#[tactic(auto, unfolding(crate::specs::Characters::past_blanks), using(crate::proofs::Blanks::past_stop))]
+fn skip_comment(text: &[u8]) -> &[u8]
+    ensures rest { past_spaces result.now ≡ past_blanks blank.Opening text.now }
+    ensures less { length result.now ≤ length text.now }
+{
+    let mut blank = Blank::Opening;
+    let mut rest = text;
+    while let [first, after @ ..] = rest {
+        match blank_behind(blank, *first, after) {
+            Some(Blank::Outside) => return after,
+            Some(next) => blank = next,
+            None => return rest,
+        }
+        rest = after;
+    }
+    rest
+}
+
 /// What is left behind spaces and comments.
 #[tactic(auto, unfolding(crate::specs::Characters::past_blanks))]
 pub fn skip_spaces(text: &[u8]) -> &[u8]
     ensures { result.now ≡ past_spaces text.now }
 {
-    let mut blank = Blank::Outside;
     let mut rest = text;
     while let [first, after @ ..] = rest {
-        match blank_behind(blank, *first, after) {
-            Some(next) => blank = next,
-            None => return rest,
+        if is_space(*first) {
+            rest = after;
+        } else if opens(*first, after) {
+            rest = skip_comment(after);
+        } else {
+            return rest;
         }
-        rest = after;
     }
     rest
 }

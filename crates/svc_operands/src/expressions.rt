@@ -3,7 +3,7 @@
 ghost use Rattle.std.specs.Prelude.{◌≡◌, ◌+◌, ◌*◌, ◌<◌, ◌≤◌, option_map, length};
 ghost use Rattle.svc_draft.specs.Drafts.{layout_of};
 ghost use Rattle.svc_operands.specs.Expressions.{is_below, below_zero, signed_by, magnitude, divisor, result_of};
-ghost use Rattle.svc_operands.specs.Expressions.{operator_from, operator_at, chain_on, ranks_at, named_by};
+ghost use Rattle.svc_operands.specs.Expressions.{operator_from, operator_at, operators_on, operators_at, named_by};
 ghost use Rattle.svc_operands.specs.Expressions.{plain_at, operand_from, operand_at, expression_at, added_at};
 ghost use Rattle.svc_operands.specs.Operands.{Gives};
 
@@ -163,7 +163,7 @@ fn read_operand_from<'a>(names: Option<&Draft>, inner: u32, text: &'a [u8]) -> R
         }
         [b'+', operand @ ..] => read_operand(names, inner, operand),
         [b'(', inside @ ..] => {
-            let (number, rest) = read_ranked(names, inner, 3, inside)?;
+            let (number, rest) = read_operators(names, inner, inside)?;
             let rest = read_mark(b')', Wanted::Close, rest)?;
             Ok((number, rest))
         }
@@ -171,7 +171,7 @@ fn read_operand_from<'a>(names: Option<&Draft>, inner: u32, text: &'a [u8]) -> R
     }
 }
 
-#[tactic(auto, using(crate::proofs::Chains::operand_step, crate::proofs::Chains::operand_none))]
+#[tactic(auto, using(crate::proofs::Operators::operand_step, crate::proofs::Operators::operand_none))]
 #[cycle(expression)]
 fn read_operand<'a>(names: Option<&Draft>, depth: u32, text: &'a [u8]) -> Read<'a, u64>
     requires { depth ≤ 32 }
@@ -184,55 +184,57 @@ fn read_operand<'a>(names: Option<&Draft>, depth: u32, text: &'a [u8]) -> Read<'
     read_operand_from(names, depth - 1, skip_spaces(text))
 }
 
-// An expression by operators below a rank: an operand, and rank by rank what the operators behind it make.
-#[tactic(auto, using(crate::proofs::Chains::ranked_first, crate::proofs::Chains::ranked_more))]
+// What a number and the operators below a rank behind it make, so many operators at most.
+#[tactic(auto, using(crate::proofs::Operators::operators_step, crate::proofs::Operators::operators_done))]
 #[cycle(expression)]
-fn read_ranked<'a>(names: Option<&Draft>, depth: u32, ranks: u32, text: &'a [u8]) -> Read<'a, u64>
-    requires depth { depth ≤ 32 }
-    requires ranks { ranks ≤ 3 }
-    ensures { Gives (λ x. (x.0, x.1.now)) result
-        (ranks_at (operand_at (option_map (λ d. layout_of d.now) names.entry) depth) ranks text.now) }
-{
-    let (mut number, mut rest) = read_operand(names, depth, text)?;
-    for rank in 0..ranks {
-        let (value, behind) = read_chain(names, depth, rank, number, rest)?;
-        number = value;
-        rest = behind;
-    }
-    Ok((number, rest))
-}
-
-// What a number and the operators of a rank behind it make.
-#[tactic(auto, using(crate::proofs::Chains::chain_step, crate::proofs::Chains::chain_done))]
-#[cycle(expression)]
-fn read_chain<'a>(
+fn read_behind<'a>(
     names: Option<&Draft>,
     depth: u32,
-    rank: u32,
+    most: usize,
+    ranks: u32,
     first: u64,
     text: &'a [u8],
 ) -> Read<'a, u64>
     requires depth { depth ≤ 32 }
-    requires rank { rank ≤ 2 }
+    requires ranks { ranks ≤ 3 }
     ensures { Gives (λ x. (x.0, x.1.now)) result
-        (chain_on (ranks_at (operand_at (option_map (λ d. layout_of d.now) names.entry) depth) rank) rank
-        (length text.now) first text.now) }
+        (operators_on (operand_at (option_map (λ d. layout_of d.now) names.entry) depth) most ranks first text.now) }
 {
     let mut number = first;
     let mut rest = text;
-    for _step in 0..text.len() {
+    for step in 0..most {
         let (operator, behind) = match operator_at(rest) {
             Some(read) => read,
             None => return Ok((number, rest)),
         };
-        if operator.rank != rank {
+        if operator.rank >= ranks {
             return Ok((number, rest));
         }
-        let (other, after) = read_ranked(names, depth, rank, behind)?;
-        number = result_of(operator.does, number, other);
+        let (other, after) = read_operand(names, depth, behind)?;
+        let (right, after) = read_behind(
+            names,
+            depth,
+            most - step - 1,
+            operator.rank,
+            other,
+            after,
+        )?;
+        number = result_of(operator.does, number, right);
         rest = after;
     }
     Ok((number, rest))
+}
+
+// An operand, and what the operators behind it make.
+#[tactic(auto, unfolding(crate::specs::Expressions::operators_at))]
+#[cycle(expression)]
+fn read_operators<'a>(names: Option<&Draft>, depth: u32, text: &'a [u8]) -> Read<'a, u64>
+    requires { depth ≤ 32 }
+    ensures { Gives (λ x. (x.0, x.1.now)) result
+        (operators_at (operand_at (option_map (λ d. layout_of d.now) names.entry) depth) text.now) }
+{
+    let (number, rest) = read_operand(names, depth, text)?;
+    read_behind(names, depth, text.len(), 3, number, rest)
 }
 
 /// An expression of 64 bits: one operand, or what operators make of several.
@@ -241,7 +243,7 @@ pub fn read_expression<'a>(names: Option<&Draft>, text: &'a [u8]) -> Read<'a, u6
     ensures { Gives (λ x. (x.0, x.1.now)) result
         (expression_at (option_map (λ d. layout_of d.now) names.entry) text.now) }
 {
-    read_ranked(names, DEPTH, 3, text)
+    read_operators(names, DEPTH, text)
 }
 
 /// The numbers that are added behind something, or taken away.
@@ -249,5 +251,15 @@ pub fn read_expression<'a>(names: Option<&Draft>, text: &'a [u8]) -> Read<'a, u6
 pub fn read_added(text: &[u8]) -> Read<'_, u64>
     ensures { Gives (λ x. (x.0, x.1.now)) result (added_at text.now) }
 {
-    read_chain(None, DEPTH, 2, 0, text)
+    match operator_at(text) {
+        Some((operator, _)) if operator.rank == 2 => read_behind(
+            None,
+            DEPTH,
+            text.len(),
+            3,
+            0,
+            text,
+        ),
+        _ => Ok((0, text)),
+    }
 }
