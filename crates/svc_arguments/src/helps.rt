@@ -296,8 +296,8 @@ With --names bars and values have the name of their address or word in place of 
 pointer has both, by a table: a CSV text with the header name,address, in order of address and then name.
 
 From 1000 entries on, marks of a kind that stand near one another are drawn as one, and so are short bars of one
-fate; point at it to see how many they are. So a file without names stays below 550 kB, whatever the trace; such
-marks have no values. Nothing is printed.
+fate; point at it to see how many they are. So a file without names should stay below 550 kB, whatever the trace;
+such marks have no values. Nothing is printed.
 
 With --rows it saves what the picture shows as rows instead: bar,TASK,UNIT,ADDRESS,FIRST,LAST,FATE for each bar,
 mark,ENTRY,UNIT,TASK,KIND,WORD,VALUE,BY for each mark, and arrow,FROM,TO,KIND,WORD for each arrow.
