@@ -121,7 +121,7 @@ def steps(source, way, functions, room):
     whole, missing = joined(compiled, functions, room)
     text.write_text(whole)
     plain.write_text(FOR_OTHER_TOOLS.sub("", whole))
-    wanted = example_image.image_of(plain)[0]
+    wanted = example_image.image_of([plain])[0]
     yield
     assemble(text, image)
     yield
