@@ -54,15 +54,15 @@ pub enum Expected {
     Stand(Refusal),
 }
 
-// Why reading stops: something else is expected where so many bytes of the text are left, or there is no memory.
+// Why reading stops: this is expected where so many bytes of the text are left, or there is no memory.
 #[derive(Clone, Copy)]
 pub(crate) enum Stop {
-    Fault(usize, Expected),
+    Fault(Expected, usize),
     Memory,
 }
 
 fn unread_stop(unread: Unread) -> Stop {
-    Stop::Fault(unread.left, Expected::Read(unread.wanted))
+    Stop::Fault(Expected::Read(unread.wanted), unread.left)
 }
 
 // How many bytes of the text are left from its second word on.
@@ -118,7 +118,7 @@ pub(crate) fn take_line<'a>(
         Err(Refusal::Memory) => Err(Stop::Memory),
         Err(refusal) => {
             let left = refused_at(next, text, refusal);
-            Err(Stop::Fault(left, Expected::Stand(refusal)))
+            Err(Stop::Fault(Expected::Stand(refusal), left))
         }
     }
 }
@@ -149,7 +149,7 @@ pub(crate) fn error_of(text: &[u8], stop: Stop) -> AssembleError
     ensures { (stop ≡ halt.Memory) → result ≡ error.Memory }
 {
     match stop {
-        Stop::Fault(left, expected) => {
+        Stop::Fault(expected, left) => {
             let (number, line, column) = place(text, left);
             AssembleError::Fault {
                 text: number,
@@ -168,8 +168,8 @@ fn no_image(start: usize, refusal: Refusal) -> Stop
 {
     match refusal {
         Refusal::Memory => Stop::Memory,
-        Refusal::OtherStart => Stop::Fault(start, Expected::Stand(refusal)),
-        _ => Stop::Fault(0, Expected::Stand(refusal)),
+        Refusal::OtherStart => Stop::Fault(Expected::Stand(refusal), start),
+        _ => Stop::Fault(Expected::Stand(refusal), 0),
     }
 }
 

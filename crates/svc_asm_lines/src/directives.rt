@@ -241,6 +241,8 @@ fn said_of(number: Number, n: u32) -> Option<Statement>
     }
 }
 
+const POWER: Wanted = Wanted::Range { least: 0, most: 16 };
+
 #[tactic(auto, unfolding(crate::specs::Statements::numbered_at))]
 pub fn read_numbered(number: Number, text: &[u8]) -> Read<'_, Statement>
     ensures { Gives (λ x. (x.0, x.1.now)) result (numbered_at number text.now) }
@@ -249,7 +251,7 @@ pub fn read_numbered(number: Number, text: &[u8]) -> Read<'_, Statement>
     match (said_of(number, n), number) {
         (Some(statement), _) => Ok((statement, rest)),
         (None, Number::Version) => Err(stopped_at(text, Wanted::Version)),
-        (None, _) => Err(stopped_at(text, Wanted::Power)),
+        (None, _) => Err(stopped_at(text, POWER)),
     }
 }
 

@@ -37,8 +37,14 @@ fn fits(width: Width, number: u64) -> bool
 // A number of so many bytes, as what may stand at a place.
 fn number_in(width: Width) -> Wanted {
     match width {
-        Width::Byte => Wanted::Byte,
-        Width::Half => Wanted::Half,
+        Width::Byte => Wanted::Range {
+            least: -128,
+            most: 255,
+        },
+        Width::Half => Wanted::Range {
+            least: -32_768,
+            most: 65_535,
+        },
         Width::Word => Wanted::Number,
     }
 }

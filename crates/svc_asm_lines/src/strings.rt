@@ -13,8 +13,8 @@ use svc_operands::{Read, Unread, Wanted, digit, escape, stopped_at};
 // The fault of a backslash that this follows. A space is no blank there.
 fn stopped_behind_backslash(text: &[u8]) -> Unread {
     Unread {
-        left: text.len(),
         wanted: Wanted::Escape,
+        left: text.len(),
     }
 }
 

@@ -12,8 +12,8 @@ use crate::lists::{low, read_going};
 use svc_draft::Draft;
 use svc_layout::{Linkage, Next, Section, Spot, Statement};
 use svc_operands::{
-    Read, Unread, Wanted, read_added, read_count, read_expression, read_mark, read_number,
-    skip_mark, split_name, stopped_at,
+    Read, Unread, Wanted, read_added, read_count, read_expression, read_mark, skip_mark,
+    split_name, stopped_at,
 };
 
 #[tactic(auto, unfolding(crate::specs::Symbols::spot_named))]
@@ -109,11 +109,11 @@ fn read_behind<'a>(draft: &Draft, spot: Option<Spot>, text: &'a [u8]) -> Read<'a
     }
 }
 
-// The fault of what a name is to stand for: this one of a number, and one of its own where no number begins it.
-fn no_spot(text: &[u8], unread: Unread) -> Unread {
-    match read_number(text) {
-        Ok(_) => unread,
-        Err(_) => stopped_at(text, Wanted::Symbol),
+// The fault of what a name is to stand for: this one of a number, and one of its own where no digit begins it.
+fn no_spot(name: &[u8], text: &[u8], unread: Unread) -> Unread {
+    match name {
+        [b'0'..=b'9', ..] => unread,
+        _ => stopped_at(text, Wanted::Symbol),
     }
 }
 
@@ -131,7 +131,7 @@ fn read_spot<'a>(draft: &Draft, text: &'a [u8]) -> Read<'a, Option<Spot>>
             let (name, rest) = split_name(text);
             match spot_named(draft, name) {
                 Some(spot) => read_behind(draft, spot, rest),
-                None => Err(no_spot(text, unread)),
+                None => Err(no_spot(name, text, unread)),
             }
         }
     }

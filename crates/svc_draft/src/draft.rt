@@ -303,7 +303,7 @@ impl<'a> Draft<'a> {
 
     /// Adds what a line says, which is about this name if it is a label or sets a symbol.
     ///
-    /// Errors: why it may not stand there, or [`Refusal::Memory`].
+    /// Errors: why it may not stand there, or [`Refusal::Memory`]. The draft may then hold a part of it.
     pub fn take(&mut self, name: &'a [u8], statement: Statement) -> Result<(), Refusal>
         ensures ok { OnOk result (after name.now statement (layout_of self.old) ≡ Some (layout_of self.new)) }
         ensures err { IfErr result (λ e. Refuses e (after name.now statement (layout_of self.old))) }

@@ -123,11 +123,10 @@ impl<'a> Draft<'a> {
         requires { self.old.known ≡ false }
         ensures { Changes result (with_name name.now spot (layout_of self.old)) (layout_of self.new) }
     {
-        if self.source_read.spot_of(name).is_some() {
-            return Err(Refusal::LabelTwice);
+        match self.source_read.names.insert(name, spot)? {
+            Some(_) => Err(Refusal::LabelTwice),
+            None => Ok(()),
         }
-        self.source_read.names.insert(name, spot)?;
-        Ok(())
     }
 
     pub(crate) fn set_symbol(&mut self, name: &'a [u8], spot: Spot) -> Result<(), Refusal>

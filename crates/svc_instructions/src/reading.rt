@@ -125,7 +125,7 @@ pub fn read_part<'a>(draft: &Draft, part: Part, text: &'a [u8]) -> Read<'a, u32>
             Ok((register.number as u32, rest))
         }
         Part::Immediate | Part::StoreOffset => read_short(draft, text),
-        Part::Amount => read_below(32, Wanted::Amount, text),
+        Part::Amount => read_below(32, text),
         Part::Upper => read_upper(draft, text),
         Part::Order => read_fence(text),
         Part::Branch => read_branch(draft, text),

@@ -51,7 +51,10 @@ pub fn padding(step: u32, size: u32) -> u32
     if step == 0 {
         return 0;
     }
-    (step - size % step) % step
+    match size % step {
+        0 => 0,
+        over => step - over,
+    }
 }
 
 /// The next multiple of a step from this size on, in bytes.

@@ -47,7 +47,8 @@ fn blank_behind(blank: Blank, c: u8, rest: &[u8]) -> Option<Blank>
     ensures { result ≡ blank_behind blank c rest.now }
 {
     match (blank, c) {
-        (Blank::Outside, b' ' | b'\t' | b'\r') | (Blank::Star, b'/') => Some(Blank::Outside),
+        (Blank::Outside, _) if is_space(c) => Some(Blank::Outside),
+        (Blank::Star, b'/') => Some(Blank::Outside),
         (Blank::Outside, _) if opens(c, rest) => Some(Blank::Opening),
         (Blank::Outside, _) | (_, TEXT_END) => None,
         (Blank::Opening, _) => Some(Blank::Inside),

@@ -10,14 +10,15 @@ use crate::unread::{Read, Wanted, stopped_at};
 
 /// A number below a bound.
 #[tactic(auto, unfolding(crate::specs::Numbers::number_below))]
-pub fn read_below(most: u32, wanted: Wanted, text: &[u8]) -> Read<'_, u32>
-    ensures { Gives (λ x. (x.0, x.1.now)) result (number_below most text.now) }
+pub fn read_below(bound: u32, text: &[u8]) -> Read<'_, u32>
+    ensures { Gives (λ x. (x.0, x.1.now)) result (number_below bound text.now) }
 {
     let (number, rest) = read_expression(None, text)?;
-    if number < most as u64 {
+    if number < bound as u64 {
         return Ok((number as u32, rest));
     }
-    Err(stopped_at(text, wanted))
+    let most = bound as i64 - 1;
+    Err(stopped_at(text, Wanted::Range { least: 0, most }))
 }
 
 /// A number of 32 bits without a sign.
@@ -64,6 +65,11 @@ pub fn read_signed(text: &[u8]) -> Read<'_, Signed>
     }
 }
 
+const IMMEDIATE: Wanted = Wanted::Range {
+    least: -2048,
+    most: 2047,
+};
+
 #[tactic(auto, unfolding(crate::specs::Numbers::number_short_at))]
 pub fn read_number_short(text: &[u8]) -> Read<'_, u32>
     ensures { Gives (λ x. (x.0, x.1.now)) result (number_short_at text.now) }
@@ -71,6 +77,6 @@ pub fn read_number_short(text: &[u8]) -> Read<'_, u32>
     let (number, rest) = read_signed(text)?;
     match signed_bits(2048, number) {
         Some(bits) => Ok((bits, rest)),
-        None => Err(stopped_at(text, Wanted::Immediate)),
+        None => Err(stopped_at(text, IMMEDIATE)),
     }
 }

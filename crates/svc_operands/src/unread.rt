@@ -27,14 +27,10 @@ pub enum Wanted {
     Target,
     #[error("a name that no digit begins")]
     Label,
-    #[error("a number from -2048 to 2047")]
-    Immediate,
+    #[error("a number from {least} to {most}")]
+    Range { least: i64, most: i64 },
     #[error("an even offset from -1048576 to 1048574")]
     Offset,
-    #[error("a number from 0 to 1048575")]
-    Upper,
-    #[error("a number from 0 to 31")]
-    Amount,
     #[error("an instruction or a directive")]
     Statement,
     #[error("a section of text or of data")]
@@ -55,12 +51,6 @@ pub enum Wanted {
     Quote,
     #[error("a letter of an escape or an octal digit")]
     Escape,
-    #[error("a number from -128 to 255")]
-    Byte,
-    #[error("a number from -32768 to 65535")]
-    Half,
-    #[error("a number from 0 to 16")]
-    Power,
     #[error("a number, a dot or a name of this text")]
     Symbol,
     #[error("a name of the same section")]
@@ -72,10 +62,10 @@ pub enum Wanted {
 /// The place where a text could not be read further.
 #[derive(Clone, Copy)]
 pub struct Unread {
-    /// How many bytes of the text are left from there on.
-    pub left: usize,
     /// What may stand there.
     pub wanted: Wanted,
+    /// How many bytes of the text are left from there on.
+    pub left: usize,
 }
 
 /// What was read and what is left behind it, or what stands where nothing can be read, and what may stand there.
@@ -87,8 +77,8 @@ pub fn stopped_at(text: &[u8], wanted: Wanted) -> Unread
     ensures wanted { result.wanted ≡ wanted }
 {
     Unread {
-        left: skip_spaces(text).len(),
         wanted,
+        left: skip_spaces(text).len(),
     }
 }
 
@@ -98,7 +88,7 @@ pub fn stopped_at_name(name: &[u8], text: &[u8], wanted: Wanted) -> Unread
     ensures wanted { result.wanted ≡ wanted }
 {
     Unread {
-        left: name.len().saturating_add(text.len()),
         wanted,
+        left: name.len().saturating_add(text.len()),
     }
 }

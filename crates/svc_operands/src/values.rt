@@ -159,7 +159,7 @@ pub fn read_upper<'a>(draft: &Draft, text: &'a [u8]) -> Read<'a, u32>
 {
     match skip_mark(b'%', text) {
         Some(part) => read_high(draft, part),
-        None => read_below(1_048_576, Wanted::Upper, text),
+        None => read_below(1_048_576, text),
     }
 }
 
