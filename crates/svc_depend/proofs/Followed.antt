@@ -12,7 +12,7 @@ use Rattle.svc_depend.specs.declared.word.Read.{Read}
 use Rattle.svc_depend.specs.declared.word.Write.{Write}
 use Rattle.svc_depend.specs.declared.tracker.Tracker.{Tracker}
 use Rattle.svc_depend.specs.Words.{untouched, read_by, written_by}
-use Rattle.svc_depend.specs.Tracking.{IsWord, IsTracked, HasRead, HasReadIf, HasWritten, HasWrittenIf, ticked}
+use Rattle.svc_depend.specs.Tracking.{IsWord, IsTracked, HasRead, HasReadIf, HasWritten, HasWrittenIf, with_turn}
 use Rattle.svc_depend.proofs.Overs.{sum_step, least_step}
 use Rattle.svc_depend.proofs.OneWord.{ReadIs, WriteIs, one_if, read_is, write_is}
 
@@ -185,7 +185,7 @@ after_write_if p exposes writes times time None s t v inside h has = subst (IsTr
 after_write_if p exposes writes times time (Some word) s t v inside h has = after_write p exposes writes times time word s t inside h v has
 
 after_tick : {C : Type 0} (p : Program C) (exposes : ℕ → Bool) (writes : Words) (times : Times) (time at : ℕ) (s : Tracker) → IsTracked p exposes writes times time s
-    → IsTracked p exposes writes times (suc (max time at)) (ticked at s)
+    → IsTracked p exposes writes times (suc (max time at)) (with_turn at s)
 after_tick p exposes writes times time at s h = record {
   words = h.words;
   needs = h.needs;
@@ -214,13 +214,13 @@ turn_done p (Store a v c) m log times time t h = h
 turn_done p (Narrow a f c) m log times time t h = h
 turn_done p (Emit v c) m log times time t h = h
 
-read_size : (o : Option ℕ) (s t u : Tracker) (at : ℕ) → HasReadIf o s t at → u ≡ ticked at t → length s.words.items ≡ length u.words.items
+read_size : (o : Option ℕ) (s t u : Tracker) (at : ℕ) → HasReadIf o s t at → u ≡ with_turn at t → length s.words.items ≡ length u.words.items
 read_size None s t u at has ticks = ap (λ (x : Tracker). length x.words.items) (sym has.0) ∙ ap (λ (x : Tracker). length x.words.items) (sym ticks)
 read_size (Some word) s t u at has ticks = sym has.same.size ∙ ap (λ (x : Tracker). length x.words.items) (sym ticks)
 
 pub after_turn : {C D : Type 0} (p : Program D) (w : Want C) (m : Memory) (log : List Action) (clock : Clock) (reads writes : Option ℕ) (s t u v : Tracker) (at : ℕ)
     → IfSome reads (λ a. a < length s.words.items) → IfSome writes (λ a. a < length s.words.items) → reads ≡ word_read w → writes ≡ word_written w
-    → HasReadIf reads s t at → u ≡ ticked at t → HasWrittenIf writes u v
+    → HasReadIf reads s t at → u ≡ with_turn at t → HasWrittenIf writes u v
     → IsTracked p (exposed_words log) (wrote log) clock.stores clock.now s
     → IsTracked p (exposed_words (act w m log).log) (wrote (act w m log).log) (tick w log clock).stores (tick w log clock).now v
 after_turn p w m log clock reads writes s t u v at in_reads in_writes is_read is_written_ has_read has_ticked has_written h =
@@ -230,7 +230,7 @@ after_turn p w m log clock reads writes s t u v at in_reads in_writes is_read is
     let shown : ℕ → Bool = read_if o (wrote log) (exposed_words log) in
     let second : IsTracked p shown (wrote log) clock.stores now u =
     subst (IsTracked p shown (wrote log) clock.stores now) (sym has_ticked)
-    (subst (λ (n : ℕ). IsTracked p shown (wrote log) clock.stores (suc (max clock.now n)) (ticked at t)) first.1 (after_tick p shown (wrote log) clock.stores clock.now at t first.0)) in
+    (subst (λ (n : ℕ). IsTracked p shown (wrote log) clock.stores (suc (max clock.now n)) (with_turn at t)) first.1 (after_tick p shown (wrote log) clock.stores clock.now at t first.0)) in
     turn_done p w m log (stored_at (word_written w) now clock.stores) now v
     (after_write_if p shown (wrote log) clock.stores now (word_written w) u v (value_of w m)
     (subst (λ (n : ℕ). IfSome (word_written w) (λ a. a < n)) (read_size reads s t u at has_read has_ticked) (subst (λ (x : Option ℕ). IfSome x (λ a. a < length s.words.items)) is_written_ in_writes)) second

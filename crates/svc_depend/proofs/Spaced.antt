@@ -4,7 +4,7 @@ use Rattle.std.specs.Prelude.{codes, flat_map}
 use Rattle.svc_names.specs.declared.name.Name.{Name}
 use Rattle.svc_names.specs.Given.{word_text}
 use Rattle.svc_depend.specs.declared.links.Link.{Link}
-use Rattle.svc_depend.specs.Pairs.{spaced}
+use Rattle.svc_depend.specs.Pairs.{words_text}
 
 -- a word after a space
 abbrev pub after_space : Option (List Name) → Link → List ℕ
@@ -17,7 +17,7 @@ words_spaced names (l ∷ ls) = ap (λ x. codes " " ++ word_text names l.word ++
 
 -- the first word, and each of the others after a space
 pub spaced_is : (names : Option (List Name)) (links : List Link) (d : Link) → 0 < length links
-    → spaced names (map (λ (l : Link). l.word) links) ≡ word_text names (get_or links 0 d).word ++ flat_map (after_space names) (drop 1 links)
+    → words_text names (map (λ (l : Link). l.word) links) ≡ word_text names (get_or links 0 d).word ++ flat_map (after_space names) (drop 1 links)
 spaced_is names [] d some = absurd (omega (arith, some))
 spaced_is names (l ∷ ls) d some = ap (λ x. word_text names l.word ++ x) (words_spaced names ls)
 

@@ -18,9 +18,9 @@ abbrev pub pair_row : (task on : ℕ) → List ℕ → List ℕ
 pair_row task on words = row (decimal task) (on ∷ (task - on) ∷ length words ∷ [])
 
 -- words one after another, by their names if any are given, with a space between two
-abbrev pub spaced : Option (List Name) → List ℕ → List ℕ
-spaced names [] = []
-spaced names (w ∷ ws) = word_text names w ++ flat_map (λ v. codes " " ++ word_text names v) ws
+abbrev pub words_text : Option (List Name) → List ℕ → List ℕ
+words_text names [] = []
+words_text names (w ∷ ws) = word_text names w ++ flat_map (λ v. codes " " ++ word_text names v) ws
 
 -- how many more there are, if any
 abbrev pub more_text : ℕ → List ℕ
@@ -29,7 +29,7 @@ more_text (suc n) = codes " +" ++ decimal (suc n)
 
 -- the first three, and how many more there are
 abbrev pub label : Option (List Name) → List ℕ → List ℕ
-label names words = spaced names (take 3 words) ++ more_text (length words - 3)
+label names words = words_text names (take 3 words) ++ more_text (length words - 3)
 
 abbrev pub edge : Option (List Name) → (task on : ℕ) → List ℕ → List ℕ
 edge names task on words =

@@ -94,8 +94,8 @@ HasWrittenIf None s t = t ≡ s
 HasWrittenIf (Some word) s t = HasWritten word s t
 
 -- one turn more, which waited for this time
-abbrev pub ticked : (ready : ℕ) → Tracker → Tracker
-ticked ready s = record s { turns = s.turns + 1; time = max s.time ready + 1 }
+abbrev pub with_turn : (ready : ℕ) → Tracker → Tracker
+with_turn ready s = record s { turns = s.turns + 1; time = max s.time ready + 1 }
 
 -- the turns that follow one another, told of a tracker
 pub record HasFollowed (s t : Tracker) : Type 0 where

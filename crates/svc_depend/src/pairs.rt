@@ -10,7 +10,7 @@ ghost use Rattle.svc_report.specs.Faults.{IsWriteFault};
 ghost use Rattle.svc_names.specs.Given.{listed, word_text};
 ghost use Rattle.svc_depend.specs.Links.{IsOrdered, links_text};
 ghost use Rattle.svc_depend.specs.Pairs.{edge, label, more_text, pair_row, pair_text, pairs_begin, pairs_end, pairs_of};
-ghost use Rattle.svc_depend.specs.Pairs.{pairs_text, spaced};
+ghost use Rattle.svc_depend.specs.Pairs.{pairs_text, words_text};
 ghost use Rattle.svc_depend.specs.Tables.{text_over};
 
 use crate::links::{Link, link_task};
@@ -81,7 +81,7 @@ fn put_next(text: &mut Vec<u8>, names: Option<&Names>, word: u32) -> Result<(), 
 fn put_spaced(text: &mut Vec<u8>, names: Option<&Names>, links: &[Link]) -> Result<(), AllocError>
     requires { 0 < length links.now }
     ensures { OnOk result (text.new.items ≡ text.old.items
-        ++ spaced (listed names.entry) (map (λ l. l.word) links.now)) }
+        ++ words_text (listed names.entry) (map (λ l. l.word) links.now)) }
 {
     put_word(text, names, links[0].word)?;
     for link in &links[1..] {

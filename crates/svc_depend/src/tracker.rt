@@ -7,7 +7,7 @@ ghost use Rattle.svc_core_laws.specs.Program.{task_log};
 ghost use Rattle.svc_core_laws.specs.Program.{wrote};
 ghost use Rattle.svc_depend_laws.specs.Chain.{Clock, Times, tick, times_before, word_read, word_written};
 ghost use Rattle.svc_depend.specs.Tracking.{HasFollowed, HasRead, HasReadIf, HasWritten, HasWrittenIf, IsBelow};
-ghost use Rattle.svc_depend.specs.Tracking.{IsTracked, ticked, told_of};
+ghost use Rattle.svc_depend.specs.Tracking.{IsTracked, with_turn, told_of};
 
 use crate::needs::TaskNeeds;
 use crate::turn::Touch;
@@ -167,7 +167,7 @@ impl Tracker {
         requires few { self.old.turns < 2 ^ 59 }
         requires below { IsBelow (3 * self.old.turns + 1) self.old }
         requires ready { ready ≤ 3 * self.old.turns }
-        ensures ticked { self.new ≡ ticked ready self.old }
+        ensures turn { self.new ≡ with_turn ready self.old }
         ensures below { IsBelow (3 * self.old.turns + 2) self.new }
     {
         self.turns += 1;

@@ -83,8 +83,8 @@ address_at None row = None
 address_at (Some column) row = address_in column row
 
 -- the address of a row, if it has one
-abbrev pub addressed : Rows → List ℕ → Option ℕ
-addressed told row = address_at (column_of told row) row
+abbrev pub row_address : Rows → List ℕ → Option ℕ
+row_address told row = address_at (column_of told row) row
 
 -- ---- the name at its end
 
@@ -108,7 +108,7 @@ is_header (rows.Table column) row = not (is_some (value_of 10 (field 0 row)))
 -- a row with one field more: the name of its address
 abbrev pub named_row : List Name → Rows → List ℕ → List ℕ
 named_row names told row =
-    row ++ codes "," ++ (if is_header told row then codes "name" else name_text names (addressed told row))
+    row ++ codes "," ++ (if is_header told row then codes "name" else name_text names (row_address told row))
     ++ codes "\n"
 
 -- the rows of a text, of which one has begun with these bytes, each with one field more

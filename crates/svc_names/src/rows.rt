@@ -1,7 +1,7 @@
 // Rows with names at their ends.
 
 ghost use Rattle.std.specs.Prelude.{◌≡◌, ◌++◌, OnOk, option_map};
-ghost use Rattle.svc_names.specs.Rows.{address_in, addressed, column_of, data_address, ending_column, is_header};
+ghost use Rattle.svc_names.specs.Rows.{address_in, row_address, column_of, data_address, ending_column, is_header};
 ghost use Rattle.svc_names.specs.Rows.{machine_column, move_column, name_text, named_row, seen_column, shown_column};
 ghost use Rattle.svc_names.specs.Rows.{with_names};
 
@@ -145,8 +145,8 @@ fn address_in(column: Column, row: &[u8]) -> Option<u64>
 }
 
 // The address of a row, if it has one.
-fn addressed(rows: Rows, row: &[u8]) -> Option<u64>
-    ensures { result ≡ addressed rows row.now }
+fn row_address(rows: Rows, row: &[u8]) -> Option<u64>
+    ensures { result ≡ row_address rows row.now }
 {
     let column = column_of(rows, row)?;
     address_in(column, row)
@@ -174,7 +174,7 @@ impl Names {
         if is_header(rows, row) {
             "name".put(text)?;
         } else {
-            self.put_name(text, addressed(rows, row))?;
+            self.put_name(text, row_address(rows, row))?;
         }
         "\n".put(text)
     }

@@ -52,16 +52,16 @@ committed_text s m =
     (concat (codes "task " ∷ decimal (unwrap_or m.entry.word 0) ∷ codes " is committed" ∷ []))
 
 -- what an arrow says, at its middle
-unfoldable pub saying : Sheet → Mark → (words : List ℕ) → List ℕ
-saying s m words =
+unfoldable pub arrow_label : Sheet → Mark → (words : List ℕ) → List ℕ
+arrow_label s m words =
     label ((mark_x s m + end_x s m m.other) / 2 + 12) ((mark_y s m + end_y s m m.other) / 2 + 2)
     (codes "font-style='italic'") words
 
 -- the words of such a mark
 abbrev pub sentence_of : Sheet → Mark → MarkKind → List ℕ
 sentence_of s m mark.Commit = committed_text s m
-sentence_of s m mark.Handed = saying s m (codes "the version goes to a reader")
-sentence_of s m mark.Squash = saying s m (codes "read too early")
+sentence_of s m mark.Handed = arrow_label s m (codes "the version goes to a reader")
+sentence_of s m mark.Squash = arrow_label s m (codes "read too early")
 sentence_of s m _ = []
 
 -- where there is room for them

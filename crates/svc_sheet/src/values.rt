@@ -2,7 +2,7 @@
 
 ghost use Rattle.std.specs.Prelude.{◌≡◌, ◌++◌, ◌≤◌, OnOk, get_or, unwrap_or};
 ghost use Rattle.svc_names.specs.Given.{listed};
-ghost use Rattle.svc_sheet.specs.Values.{committed_text, edges_after, letters_before, saying, sentence, stands};
+ghost use Rattle.svc_sheet.specs.Values.{committed_text, edges_after, letters_before, arrow_label, sentence, stands};
 ghost use Rattle.svc_sheet.specs.Values.{value_text, value_words, values_text, words_of};
 ghost use Rattle.svc_shapes.specs.Shapes.{label};
 
@@ -127,14 +127,14 @@ fn write_committed(frame: &Frame<'_>, mark: &Mark, text: &mut Vec<u8>) -> Result
 }
 
 // Writes what an arrow says, at its middle.
-#[tactic(auto, unfolding(crate::specs::Values::saying))]
+#[tactic(auto, unfolding(crate::specs::Values::arrow_label))]
 fn write_saying(
     frame: &Frame<'_>,
     mark: &Mark,
     words: &str,
     text: &mut Vec<u8>,
 ) -> Result<(), AllocError>
-    ensures { OnOk result (text.new.items ≡ text.old.items ++ saying frame.now.sheet mark.now words.now) }
+    ensures { OnOk result (text.new.items ≡ text.old.items ++ arrow_label frame.now.sheet mark.now words.now) }
 {
     let from = frame.at(mark);
     let to = frame.other_end(mark);
