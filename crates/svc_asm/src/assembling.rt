@@ -54,7 +54,8 @@ pub enum Expected {
     Stand(Refusal),
 }
 
-// Why reading stops: this is expected where so many bytes of the text are left, or there is no memory.
+// Why reading stops: this is expected where so many bytes of the text are left, or there is no memory. The bytes come
+// behind, as in `Unread`.
 #[derive(Clone, Copy)]
 pub(crate) enum Stop {
     Fault(Expected, usize),

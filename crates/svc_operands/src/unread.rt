@@ -62,6 +62,7 @@ pub enum Wanted {
 /// The place where a text could not be read further.
 #[derive(Clone, Copy)]
 pub struct Unread {
+    // First, so that in a `Read` no single byte lies over the text's place: a copy would move that in pieces.
     /// What may stand there.
     pub wanted: Wanted,
     /// How many bytes of the text are left from there on.
