@@ -126,9 +126,9 @@ fn write_committed(frame: &Frame<'_>, mark: &Mark, text: &mut Vec<u8>) -> Result
     label(text, frame.x(mark.place) - 6, TOP + 18, ENDED, &words)
 }
 
-// Writes what an arrow says, at its middle.
+// Writes an arrow's label at its middle.
 #[tactic(auto, unfolding(crate::specs::Values::arrow_label))]
-fn write_saying(
+fn write_arrow_label(
     frame: &Frame<'_>,
     mark: &Mark,
     words: &str,
@@ -152,8 +152,8 @@ fn write_sentence(frame: &Frame<'_>, mark: &Mark, text: &mut Vec<u8>) -> Result<
     }
     match mark.kind {
         MarkKind::Commit => write_committed(frame, mark, text),
-        MarkKind::Handed => write_saying(frame, mark, "the version goes to a reader", text),
-        MarkKind::Squash => write_saying(frame, mark, "read too early", text),
+        MarkKind::Handed => write_arrow_label(frame, mark, "the version goes to a reader", text),
+        MarkKind::Squash => write_arrow_label(frame, mark, "read too early", text),
         MarkKind::Load | MarkKind::Store | MarkKind::PutOut | MarkKind::Replace => Ok(()),
     }
 }
