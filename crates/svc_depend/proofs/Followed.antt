@@ -223,15 +223,15 @@ pub after_turn : {C D : Type 0} (p : Program D) (w : Want C) (m : Memory) (log :
     → HasReadIf reads s t at → u ≡ with_turn at t → HasWrittenIf writes u v
     → IsTracked p (exposed_words log) (wrote log) clock.stores clock.now s
     → IsTracked p (exposed_words (act w m log).log) (wrote (act w m log).log) (tick w log clock).stores (tick w log clock).now v
-after_turn p w m log clock reads writes s t u v at in_reads in_writes is_read is_written_ has_read has_ticked has_written h =
+after_turn p w m log clock reads writes s t u v at in_reads in_writes is_read is_written_ has_read has_turn has_written h =
     let o : Option ℕ = word_read w in
     let first = after_read_if p (exposed_words log) (wrote log) clock.stores clock.now o s t at (subst (λ (x : Option ℕ). IfSome x (λ a. a < length s.words.items)) is_read in_reads) h (subst (λ (x : Option ℕ). HasReadIf x s t at) is_read has_read) in
     let now : ℕ = suc (max clock.now (ready (exposed_words log) (wrote log) clock.stores o)) in
     let shown : ℕ → Bool = read_if o (wrote log) (exposed_words log) in
     let second : IsTracked p shown (wrote log) clock.stores now u =
-    subst (IsTracked p shown (wrote log) clock.stores now) (sym has_ticked)
+    subst (IsTracked p shown (wrote log) clock.stores now) (sym has_turn)
     (subst (λ (n : ℕ). IsTracked p shown (wrote log) clock.stores (suc (max clock.now n)) (with_turn at t)) first.1 (after_tick p shown (wrote log) clock.stores clock.now at t first.0)) in
     turn_done p w m log (stored_at (word_written w) now clock.stores) now v
     (after_write_if p shown (wrote log) clock.stores now (word_written w) u v (value_of w m)
-    (subst (λ (n : ℕ). IfSome (word_written w) (λ a. a < n)) (read_size reads s t u at has_read has_ticked) (subst (λ (x : Option ℕ). IfSome x (λ a. a < length s.words.items)) is_written_ in_writes)) second
+    (subst (λ (n : ℕ). IfSome (word_written w) (λ a. a < n)) (read_size reads s t u at has_read has_turn) (subst (λ (x : Option ℕ). IfSome x (λ a. a < length s.words.items)) is_written_ in_writes)) second
     (subst (λ (x : Option ℕ). HasWrittenIf x u v) is_written_ has_written))

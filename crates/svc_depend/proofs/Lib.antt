@@ -11,4 +11,4 @@ pub mod Once
 pub mod InOrder
 pub mod Grouped
 pub mod PairsTold
-pub mod Spaced
+pub mod WordsText

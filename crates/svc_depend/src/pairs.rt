@@ -78,7 +78,7 @@ fn put_next(text: &mut Vec<u8>, names: Option<&Names>, word: u32) -> Result<(), 
 }
 
 // Adds the words of links, with a space between two.
-fn put_spaced(text: &mut Vec<u8>, names: Option<&Names>, links: &[Link]) -> Result<(), AllocError>
+fn put_words(text: &mut Vec<u8>, names: Option<&Names>, links: &[Link]) -> Result<(), AllocError>
     requires { 0 < length links.now }
     ensures { OnOk result (text.new.items ≡ text.old.items
         ++ words_text (listed names.entry) (map (λ l. l.word) links.now)) }
@@ -107,7 +107,7 @@ fn put_label(text: &mut Vec<u8>, names: Option<&Names>, links: &[Link]) -> Resul
         ++ label (listed names.entry) (map (λ l. l.word) links.now)) }
 {
     let named = links.len().min(NAMED_WORDS);
-    put_spaced(text, names, &links[..named])?;
+    put_words(text, names, &links[..named])?;
     put_more(text, links.len() - named)
 }
 

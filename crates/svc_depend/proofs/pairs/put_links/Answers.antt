@@ -4,7 +4,7 @@ use Rattle.svc_depend.specs.declared.links.Link.{Link}
 use Rattle.svc_depend.specs.Links.{links_text}
 use Rattle.svc_depend.specs.Pairs.{pair_text}
 use Rattle.svc_depend.proofs.Grouped.{added_told, goes_on, told_more, told_none}
-use Rattle.svc_depend.proofs.Spaced.{no_link}
+use Rattle.svc_depend.proofs.WordsText.{no_link}
 use Rattle.svc_depend.proofs.pairs.put_links.Goals as goal
 
 grows : (links : List Link) (at end : ℕ) → at < length links → at ≤ end → ((k : ℕ) → (d : Link) → end ≤ k → k < length links → (get_or links at no_link).on < (get_or links k d).on) → at < end
