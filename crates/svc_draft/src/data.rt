@@ -1,17 +1,18 @@
 // The words of the text, and the bytes of the sections of data.
 
-ghost use Rattle.std.specs.Prelude.{◌≡◌, ◌≤◌, take};
+ghost use Rattle.std.specs.Prelude.{◌≡◌, ◌+◌, ◌≤◌, take};
 ghost use Rattle.svc_draft.specs.Drafts.{layout_of};
 ghost use Rattle.svc_layout.specs.Refusals.{Changes};
-ghost use Rattle.svc_layout.specs.Areas.{with_more, with_zeros, with_copies, number_bytes, width_size};
+ghost use Rattle.svc_layout.specs.Areas.{with_more, with_copies, number_bytes, width_size};
+ghost use Rattle.svc_layout.specs.Steps.{multiple};
 ghost use Rattle.svc_layout.specs.Places.{data_begin, bss_begin, data_size};
-ghost use Rattle.svc_layout.specs.Contents.{in_section, with_room, with_bytes, with_blank, with_fill, with_words};
+ghost use Rattle.svc_layout.specs.Contents.{in_section, with_room, with_bytes, with_fill, with_words};
 ghost use Rattle.svc_layout.specs.Contents.{with_filling, with_step, with_part_step, with_padding, with_align};
 ghost use Rattle.svc_layout.specs.Contents.{with_instruction, with_value, with_word};
 
 use crate::draft::Draft;
 use svc_image::MOST_WORDS;
-use svc_layout::{Refusal, Section, Width, eight_bytes, greater_step, multiple, padding};
+use svc_layout::{Refusal, Section, Width, eight_bytes, greater_step, padding};
 
 /// The instruction that does nothing: addi x0, x0, 0.
 pub(crate) const NOP: u32 = 0x13;
@@ -21,6 +22,16 @@ fn first_bytes(bytes: &[u8], size: u32) -> &[u8]
 {
     let (first, _) = bytes.split_at(bytes.len().min(size as usize));
     first
+}
+
+// The next multiple of a step from this size on, in bytes.
+fn multiple(step: u32, size: u32) -> u32
+    requires step { step ≤ 65536 }
+    requires size { size ≤ 1048576 }
+    ensures size { result ≡ multiple step size }
+    ensures near { result ≤ size + 65536 }
+{
+    size + padding(step, size)
 }
 
 impl<'a> Draft<'a> {
@@ -73,34 +84,16 @@ impl<'a> Draft<'a> {
         self.check_room()
     }
 
-    pub(crate) fn fill_section(&mut self, section: Section, count: u32) -> Result<(), Refusal>
-        ensures { Changes result (in_section (with_zeros count) section (layout_of self.old)) (layout_of self.new) }
+    pub(crate) fn push_copies(
+        &mut self,
+        section: Section,
+        count: u32,
+        unit: &[u8],
+    ) -> Result<(), Refusal>
+        ensures { Changes result
+            (in_section (with_copies count unit.now) section (layout_of self.old)) (layout_of self.new) }
     {
         match section {
-            Section::Text => Err(Refusal::InText),
-            Section::Rodata => self.rodata.push_zeros(count),
-            Section::Data => self.data.push_zeros(count),
-            Section::Bss => self.bss.push_zeros(count),
-        }
-    }
-
-    #[tactic(auto, unfolding(svc_layout::specs::Contents::with_blank))]
-    pub(crate) fn push_blank(&mut self, count: u32) -> Result<(), Refusal>
-        ensures { Changes result (with_blank count (layout_of self.old)) (layout_of self.new) }
-    {
-        if count == 0 {
-            return Ok(());
-        }
-        self.fill_section(self.section, count)?;
-        self.check_room()
-    }
-
-    pub(crate) fn copy_into_section(&mut self, count: u32, unit: &[u8]) -> Result<(), Refusal>
-        ensures { Changes result
-            (in_section (with_copies count unit.now) (layout_of self.old).section (layout_of self.old))
-            (layout_of self.new) }
-    {
-        match self.section {
             Section::Text => Err(Refusal::InText),
             Section::Rodata => self.rodata.push_copies(count, unit),
             Section::Data => self.data.push_copies(count, unit),
@@ -116,7 +109,7 @@ impl<'a> Draft<'a> {
             return Ok(());
         }
         let bytes = eight_bytes(value);
-        self.copy_into_section(count, first_bytes(&bytes, size))?;
+        self.push_copies(self.section, count, first_bytes(&bytes, size))?;
         self.check_room()
     }
 
@@ -139,7 +132,7 @@ impl<'a> Draft<'a> {
         match self.section {
             Section::Text if count % 4 == 0 => self.push_words(NOP, count / 4),
             Section::Text => Err(Refusal::InText),
-            _ => self.push_blank(count),
+            _ => self.push_fill(count, 1, 0),
         }
     }
 

@@ -6,8 +6,8 @@ ghost use Rattle.svc_layout.specs.Refusals.{Refuses, Changes};
 ghost use Rattle.svc_layout.specs.Places.{place};
 ghost use Rattle.svc_layout.specs.Addresses.{last_local, first_local, address_of, address_back, address_ahead};
 ghost use Rattle.svc_layout.specs.Addresses.{distance_from, known_spot, spot_before, own_address, spot_of};
-ghost use Rattle.svc_layout.specs.Labels.{is_shared_twice, with_binding, with_local, with_name, with_name_again};
-ghost use Rattle.svc_layout.specs.Labels.{with_passed, with_set, with_symbol};
+ghost use Rattle.svc_layout.specs.Labels.{is_local, is_shared_twice, with_binding, with_local, with_name};
+ghost use Rattle.svc_layout.specs.Labels.{with_name_again, with_passed, with_set, with_symbol};
 
 use crate::draft::Draft;
 use crate::sources::{binding_with, first_by, has_strength, shared_spot};
@@ -164,13 +164,19 @@ impl<'a> Draft<'a> {
         Ok(())
     }
 
+    // Whether a local label has this number and stands here.
+    fn is_local(&self, number: u32, local: Local) -> bool
+        ensures { result ≡ is_local (layout_of self.now) number (Some local) }
+    {
+        local.number == number && self.place(local.spot) == self.here()
+    }
+
     #[tactic(auto, unfolding(svc_layout::specs::Labels::with_passed))]
     pub(crate) fn pass_local(&mut self, number: u32) -> Result<(), Refusal>
         ensures { Changes result (with_passed number (layout_of self.old)) (layout_of self.new) }
     {
-        let here = self.here();
         match self.source().locals.get(self.passed).copied() {
-            Some(local) if local.number == number && self.place(local.spot) == here => {
+            Some(local) if self.is_local(number, local) => {
                 self.passed += 1;
                 Ok(())
             }

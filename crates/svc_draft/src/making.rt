@@ -1,11 +1,12 @@
 // The image that the lines make.
 
-ghost use Rattle.std.specs.Prelude.{◌≡◌, ◌==◌, map, unwrap_or, IfOk, ◌/◌, IfErr, MatchResult};
+ghost use Rattle.std.specs.Prelude.{◌≡◌, ◌==◌, length, map, unwrap_or, IfOk, ◌/◌, IfErr, MatchResult};
 ghost use Rattle.std.specs.List.{list_any};
+ghost use Rattle.svc_image.specs.Format.{words_in};
 ghost use Rattle.svc_image.specs.Image.{IsImage};
 ghost use Rattle.svc_image.specs.Parts.{HasLimits, image_made};
 ghost use Rattle.svc_draft.specs.Drafts.{layout_of};
-ghost use Rattle.svc_layout.specs.Images.{start_in, IsOwnOf, image_laid, IsMadeOf};
+ghost use Rattle.svc_layout.specs.Images.{start_in, data_in, IsOwnOf, image_laid, IsMadeOf};
 ghost use Rattle.svc_image.specs.declared.error.ImageError.TheVariants as image_error;
 ghost use Rattle.svc_layout.specs.declared.refusal.Refusal.TheVariants as refusal;
 ghost use Rattle.svc_image.specs.Image as value;
@@ -22,6 +23,13 @@ pub struct Mark {
     pub place: u32,
     /// The limit that it has of its own.
     pub limit: Option<u32>,
+}
+
+// The parts of an image that a draft doesn't hold as they are.
+pub struct Pieces {
+    pub own: Own,
+    pub entries: Vec<u32>,
+    pub words: Vec<u32>,
 }
 
 pub fn has_place(marks: &[Mark], place: u32) -> bool
@@ -87,6 +95,49 @@ impl Draft<'_> {
         ensures err { IfErr result (λ e. e ≡ image_error.Memory) }
     {
         let start = self.start_place();
+        match self.pieces(alloc) {
+            Ok(
+                Pieces {
+                    own,
+                    entries,
+                    words,
+                },
+            ) => Ok(Parts {
+                own,
+                start,
+                registers: self.registers,
+                entries,
+                text: self.text,
+                words,
+            }),
+            Err(error) => Err(error),
+        }
+    }
+
+    // What the draft doesn't hold as the image has it.
+    pub(crate) fn pieces(&self, alloc: Global) -> Result<Pieces, ImageError>
+        ensures own { IfOk result (λ pieces. IsOwnOf pieces.own (layout_of self.now)) }
+        ensures entries { IfOk result (λ pieces. pieces.entries.items ≡ (layout_of self.now).entries) }
+        ensures words { IfOk result (λ pieces. pieces.words.items
+            ≡ words_in (length (data_in (layout_of self.now)) / 4) (data_in (layout_of self.now))) }
+        ensures err { IfErr result (λ e. e ≡ image_error.Memory) }
+    {
+        let words = self.words(alloc)?;
+        let entries = places_of(alloc, &self.entries)?;
+        let own = self.own(alloc)?;
+        Ok(Pieces {
+            own,
+            entries,
+            words,
+        })
+    }
+
+    // The words of the data.
+    pub(crate) fn words(&self, alloc: Global) -> Result<Vec<u32>, ImageError>
+        ensures ok { IfOk result (λ words. words.items
+            ≡ words_in (length (data_in (layout_of self.now)) / 4) (data_in (layout_of self.now))) }
+        ensures err { IfErr result (λ e. e ≡ image_error.Memory) }
+    {
         let data = data_of(
             alloc,
             self.data_step,
@@ -95,17 +146,7 @@ impl Draft<'_> {
             &self.data,
             &self.bss,
         )?;
-        let words = read_words(alloc, &data, data.len() / 4)?;
-        let entries = places_of(alloc, &self.entries)?;
-        let own = self.own(alloc)?;
-        Ok(Parts {
-            own,
-            start,
-            registers: self.registers,
-            entries,
-            text: self.text,
-            words,
-        })
+        Ok(read_words(alloc, &data, data.len() / 4)?)
     }
 
     // What the version of the image has in its own way.

@@ -43,7 +43,7 @@ impl<'a> Draft<'a> {
         ensures { Changes result (with_zeros_named name.now count (layout_of self.old)) (layout_of self.new) }
     {
         self.set_symbol(name, self.spot_here())?;
-        self.push_blank(count)
+        self.push_fill(count, 1, 0)
     }
 
     fn push_own_zeros(&mut self, name: &'a [u8], count: u32, step: u32) -> Result<(), Refusal>
@@ -114,7 +114,7 @@ impl<'a> Draft<'a> {
         if count == 0 {
             return Ok(());
         }
-        self.fill_section(section, count)
+        self.push_copies(section, count, &[0])
     }
 
     #[tactic(auto, unfolding(svc_layout::specs::Texts::with_parts))]

@@ -7,12 +7,9 @@ use Rattle.svc_layout.specs.Options.{◌>>=◌}
 use Rattle.svc_layout.specs.Steps.{padding}
 use Rattle.svc_layout.specs.declared.section.Width.TheVariants as wide
 
--- a section with more bytes, and with more zeros: it has at most 262,144 bytes
+-- a section with more bytes: it has at most 262,144
 unfoldable pub with_more : (more bytes : List ℕ) → Option (List ℕ)
 with_more more bytes = if nat_le (length bytes + length more) 262144 then Some (bytes ++ more) else None
-
-unfoldable pub with_zeros : ℕ → List ℕ → Option (List ℕ)
-with_zeros count bytes = if nat_le (length bytes + count) 262144 then Some (bytes ++ replicate count 0) else None
 
 -- a section with so many copies of bytes, each where there is room for it
 unfoldable pub with_copies : ℕ → (unit bytes : List ℕ) → Option (List ℕ)

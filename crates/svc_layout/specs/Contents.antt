@@ -5,7 +5,7 @@ use Rattle.svc_layout.specs.declared.section.Section.{Section}
 use Rattle.svc_layout.specs.declared.section.Width.{Width}
 use Rattle.svc_layout.specs.Options.{◌>>=◌}
 use Rattle.svc_layout.specs.Steps.{padding, greater_step, with_raised_step}
-use Rattle.svc_layout.specs.Areas.{with_more, with_zeros, with_copies, number_bytes, width_size}
+use Rattle.svc_layout.specs.Areas.{with_more, with_copies, number_bytes, width_size}
 use Rattle.svc_layout.specs.Layouts.{Layout}
 use Rattle.svc_layout.specs.Places.{data_size, size}
 use Rattle.svc_layout.specs.declared.section.Section.TheVariants as section
@@ -29,14 +29,15 @@ with_room d = if nat_le (data_size d) 262144 then Some d else None
 unfoldable pub with_bytes : List ℕ → Layout → Option Layout
 with_bytes more d = in_section (with_more more) d.section d >>= with_room
 
-unfoldable pub with_blank : ℕ → Layout → Option Layout
-with_blank count d = if count == 0 then Some d else in_section (with_zeros count) d.section d >>= with_room
-
 -- so many copies of a number of so many bytes
 unfoldable pub with_fill : (count size value : ℕ) → Layout → Option Layout
 with_fill count size value d =
     if count == 0 || size == 0 then Some d else
     in_section (with_copies count (number_bytes size value)) d.section d >>= with_room
+
+-- so many zeros
+abbrev pub with_zeros : ℕ → Layout → Option Layout
+with_zeros count d = with_fill count 1 0 d
 
 -- so many times the same word of the text
 unfoldable pub with_words : (word count : ℕ) → Layout → Option Layout
@@ -46,7 +47,7 @@ with_words w count d =
 -- so many bytes that say nothing: zeros, and in the text instructions that do nothing, addi x0, x0, 0 (0x13)
 abbrev pub with_filling : Section → ℕ → Layout → Option Layout
 with_filling section.Text count d = if count % 4 == 0 then with_words 19 (count / 4) d else None
-with_filling _ count d = with_blank count d
+with_filling _ count d = with_zeros count d
 
 -- the section of what follows begins at a multiple of a step; the text begins at 0, and .rodata where the data does
 abbrev pub with_step : Section → ℕ → Layout → Layout

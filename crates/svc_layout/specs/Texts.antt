@@ -5,7 +5,7 @@ use Rattle.svc_layout.specs.declared.section.Section.{Section}
 use Rattle.svc_layout.specs.declared.steps.Steps.{Steps}
 use Rattle.svc_layout.specs.Options.{◌>>=◌}
 use Rattle.svc_layout.specs.Steps.{padding}
-use Rattle.svc_layout.specs.Areas.{with_zeros}
+use Rattle.svc_layout.specs.Areas.{with_copies}
 use Rattle.svc_layout.specs.Sources.{Source, no_source, source_seen}
 use Rattle.svc_layout.specs.Layouts.{Layout}
 use Rattle.svc_layout.specs.Places.{size_in}
@@ -30,7 +30,7 @@ at_next d = record d {
 unfoldable pub with_part : Section → ℕ → Layout → Option Layout
 with_part part step d =
     if padding step (size_in part d) == 0 then Some d else
-    in_section (with_zeros (padding step (size_in part d))) part d
+    in_section (with_copies (padding step (size_in part d)) (0 ∷ [])) part d
 
 unfoldable pub with_parts : Steps → Layout → Option Layout
 with_parts s d = do

@@ -5,7 +5,7 @@ use Rattle.svc_layout.specs.Options.{◌>>=◌}
 use Rattle.svc_layout.specs.Sources.{first_by, common_room}
 use Rattle.svc_layout.specs.Layouts.{Layout}
 use Rattle.svc_layout.specs.Places.{spot_here}
-use Rattle.svc_layout.specs.Contents.{with_blank, with_padding, with_align}
+use Rattle.svc_layout.specs.Contents.{with_zeros, with_padding, with_align}
 use Rattle.svc_layout.specs.Labels.{with_symbol, with_binding}
 use Rattle.svc_layout.specs.declared.source.Binding.TheVariants as binding
 use Rattle.svc_layout.specs.declared.statement.Next.TheVariants as go
@@ -26,7 +26,7 @@ has_other_room d name =
 unfoldable pub with_zeros_named : List ℕ → ℕ → Layout → Option Layout
 with_zeros_named name count d = do
   named ← with_symbol name (spot_here d) d
-  with_blank count named
+  with_zeros count named
 
 -- the text's own zeros, and those that it shares, which are as large as the largest
 abbrev pub with_own_zeros : List ℕ → (count step : ℕ) → Layout → Option Layout

@@ -2,7 +2,7 @@
 
 ghost use Rattle.std.specs.Prelude.{◌≡◌, ◌+◌, ◌%◌, ◌≤◌, List, ℕ, [], length, OnOk, OnErr, IfOk, IfErr};
 ghost use Rattle.svc_image.specs.declared.error.ImageError.TheVariants as image_error;
-ghost use Rattle.svc_layout.specs.Areas.{with_more, with_zeros, with_copies, fill_up, data_of};
+ghost use Rattle.svc_layout.specs.Areas.{with_more, with_copies, fill_up, data_of};
 ghost use Rattle.svc_layout.specs.Refusals.{Changes, IsOfArea};
 
 use crate::refusal::Refusal;
@@ -59,23 +59,6 @@ impl Area {
             return Err(Refusal::FullData);
         }
         self.bytes.extend_from_slice(more)?;
-        Ok(())
-    }
-
-    /// Puts so many zeros behind the bytes.
-    ///
-    /// Errors: as [`Area::push`].
-    #[tactic(auto, unfolding(crate::specs::Areas::with_zeros))]
-    pub fn push_zeros(&mut self, count: u32) -> Result<(), Refusal>
-        ensures done { Changes result (with_zeros count self.old) self.new }
-        ensures refusal { IfErr result IsOfArea }
-        ensures unchanged { OnErr result (self.new ≡ self.old) }
-    {
-        let size = self.bytes.len();
-        if count as usize > MOST_BYTES - size {
-            return Err(Refusal::FullData);
-        }
-        self.bytes.resize(size + count as usize, 0)?;
         Ok(())
     }
 

@@ -13,4 +13,4 @@ pub use refusal::Refusal;
 pub use section::{Section, Spot, Width, eight_bytes};
 pub use source::{Binding, Linkage, Local, Strength};
 pub use statement::{Ending, Next, Statement};
-pub use steps::{Steps, greater_step, multiple, padding};
+pub use steps::{Steps, greater_step, padding};

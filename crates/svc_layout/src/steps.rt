@@ -1,7 +1,7 @@
 // Of which steps sections, and the parts of them that texts have, begin at a multiple.
 
 ghost use Rattle.std.specs.Prelude.{◌≡◌, ◌+◌, ◌≤◌};
-ghost use Rattle.svc_layout.specs.Steps.{padding, multiple, greater_step, no_steps, with_raised_step};
+ghost use Rattle.svc_layout.specs.Steps.{padding, greater_step, no_steps, with_raised_step};
 
 use crate::section::Section;
 
@@ -55,16 +55,6 @@ pub fn padding(step: u32, size: u32) -> u32
         0 => 0,
         over => step - over,
     }
-}
-
-/// The next multiple of a step from this size on, in bytes.
-pub fn multiple(step: u32, size: u32) -> u32
-    requires step { step ≤ 65536 }
-    requires size { size ≤ 1048576 }
-    ensures size { result ≡ multiple step size }
-    ensures near { result ≤ size + 65536 }
-{
-    size + padding(step, size)
 }
 
 /// The greater of two steps, where the new one is a power of two up to 2^16, and else the old one.
