@@ -9,7 +9,7 @@ use Rattle.svc_layout.specs.Passes.{laying_pass, lacks}
 use Rattle.svc_layout.specs.Texts.{with_source}
 use Rattle.svc_layout.specs.Lines.{after}
 use Rattle.svc_layout.specs.Images.{IsMadeOf}
-use Rattle.svc_operands.specs.Characters.{name_at}
+use Rattle.svc_tokens.specs.Characters.{name_at}
 use Rattle.svc_asm_lines.specs.DataLines.{next_at}
 use Rattle.svc_asm.specs.declared.rounds.TheConstants.{MOST_PASSES, MOST_ROUNDS}
 use Rattle.svc_asm.specs.Labels.{Gives}

@@ -3,7 +3,7 @@ use Rattle.std.specs.Prelude.{◌≡◌, ℕ, ◌<◌, List, [], ◌∷◌, leng
 use Rattle.svc_layout.specs.declared.statement.Statement.{Statement}
 use Rattle.svc_layout.specs.Layouts.{Layout}
 use Rattle.svc_layout.specs.Lines.{after}
-use Rattle.svc_operands.specs.Characters.{name_at}
+use Rattle.svc_tokens.specs.Characters.{name_at}
 use Rattle.svc_asm_lines.specs.DataLines.{next_at}
 
 -- the first line of a text is read, leaves less of it, and changes the layout so

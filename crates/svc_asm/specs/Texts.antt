@@ -1,6 +1,6 @@
 -- Several texts, joined into one.
 use Rattle.std.specs.Prelude.{ℕ, List, [], ◌∷◌, ◌++◌}
-use Rattle.svc_operands.specs.declared.characters.TheConstants.{TEXT_END}
+use Rattle.svc_tokens.specs.declared.characters.TheConstants.{TEXT_END}
 
 -- what stands between two texts: a line feed, ASCII's file separator, a line feed
 abbrev pub next_text : List ℕ

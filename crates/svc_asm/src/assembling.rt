@@ -10,7 +10,7 @@ ghost use Rattle.svc_layout.specs.declared.refusal.Refusal.TheVariants as lack;
 ghost use Rattle.svc_draft.specs.Drafts.{layout_of};
 ghost use Rattle.svc_layout.specs.Layouts.{Layout};
 ghost use Rattle.svc_layout.specs.Lines.{after};
-ghost use Rattle.svc_operands.specs.Characters.{name_at};
+ghost use Rattle.svc_tokens.specs.Characters.{name_at};
 ghost use Rattle.svc_asm.specs.Passes.{Takes};
 ghost use Rattle.svc_asm.specs.Programs.{IsProgramOf};
 
@@ -21,7 +21,7 @@ use svc_asm_lines::read_next;
 use svc_draft::Draft;
 use svc_image::Image;
 use svc_layout::{Next, Refusal, Statement};
-use svc_operands::{TEXT_END, Unread, Wanted, skip_spaces, split_name, stopped_at};
+use svc_tokens::{TEXT_END, Unread, Wanted, skip_spaces, split_name, stopped_at};
 use thiserror::Error;
 
 /// Why a text makes no image.

@@ -9,14 +9,14 @@ ghost use Rattle.svc_asm.specs.declared.assembling.Stop.TheVariants as halt;
 ghost use Rattle.svc_asm.specs.Labels.{Gives, is_hidden, label_in, names_place, parts_of};
 ghost use Rattle.svc_asm.specs.Passes.{Takes};
 ghost use Rattle.svc_asm.specs.Programs.{HasLabels, IsLaid};
-ghost use Rattle.svc_operands.specs.Characters.{name_at};
+ghost use Rattle.svc_tokens.specs.Characters.{name_at};
 
 use crate::assembling::{AssembleError, Stop, error_of, left_behind_name, take_line};
 use crate::rounds::lay;
 use std::alloc::{AllocError, Global};
 use svc_draft::Draft;
 use svc_layout::Statement;
-use svc_operands::split_name;
+use svc_tokens::split_name;
 
 /// A name that a program gives to an address: that of a label, or of zeros in `.bss`.
 #[derive(Clone, Copy)]

@@ -2,7 +2,7 @@
 use Rattle.std.proofs.Common.{◌≡◌, ℕ, zero, suc, ◌==◌, List, [], ◌∷◌, length, drop, refl, inl, inr, arith}
 use Rattle.std.proofs.lemmas.Bool.{cases_Bool}
 use Rattle.memchr.specs.Find.{is_byte, NoneBefore, Nowhere, Passes}
-use Rattle.svc_operands.specs.Characters.{past}
+use Rattle.svc_tokens.specs.Characters.{past}
 use Rattle.svc_asm_lines.specs.Statements.{is_inside}
 
 pub past_all : (text : List ℕ) → Nowhere (Passes (is_byte 10) text) 0 (length text) → past is_inside text ≡ []

@@ -5,8 +5,8 @@ use Rattle.svc_layout.specs.declared.statement.Next.TheVariants as go
 use Rattle.svc_layout.specs.declared.statement.Statement.{Statement}
 use Rattle.svc_layout.specs.Options.{◌>>=◌}
 use Rattle.svc_layout.specs.Layouts.{Layout}
-use Rattle.svc_operands.specs.Characters.{found, name_at, past_name}
-use Rattle.svc_operands.specs.Operands.{Read}
+use Rattle.svc_tokens.specs.Characters.{found, name_at, past_name}
+use Rattle.svc_tokens.specs.Tokens.{Read}
 use Rattle.svc_asm_lines.specs.declared.directives.TheConstants.{OPENED}
 use Rattle.svc_asm_lines.specs.Lists.{item_at, long_at}
 use Rattle.svc_asm_lines.specs.Statements.{said_by, said_at, line_at, passed_at}

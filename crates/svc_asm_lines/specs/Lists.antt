@@ -9,8 +9,8 @@ use Rattle.svc_layout.specs.declared.statement.Statement.{Statement}
 use Rattle.svc_layout.specs.declared.statement.Statement.TheVariants as say
 use Rattle.svc_layout.specs.Options.{◌>>=◌}
 use Rattle.svc_layout.specs.Layouts.{Layout}
-use Rattle.svc_operands.specs.Characters.{found, mark_at}
-use Rattle.svc_operands.specs.Operands.{Read}
+use Rattle.svc_tokens.specs.Characters.{found, mark_at}
+use Rattle.svc_tokens.specs.Tokens.{Read}
 use Rattle.svc_operands.specs.Expressions.{expression_at}
 use Rattle.svc_asm_lines.specs.Statements.{begun_at, end_at}
 

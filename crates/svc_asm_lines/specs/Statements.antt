@@ -4,10 +4,10 @@ use Rattle.std.specs.Prelude.{Bool, true, false, not, drop, codes, option_map}
 use Rattle.std.specs.List.{starts_with}
 use Rattle.std.specs.Str.{bytes_eq}
 use Rattle.svc_layout.specs.Options.{◌>>=◌}
-use Rattle.svc_operands.specs.Characters.{name_at, is_from_to, opens, past_spaces, past, found, past_name, behind}
-use Rattle.svc_operands.specs.Characters.{mark_at, value_of}
-use Rattle.svc_operands.specs.declared.characters.TheConstants.{TEXT_END}
-use Rattle.svc_operands.specs.Names.{letters_of}
+use Rattle.svc_tokens.specs.Characters.{name_at, is_from_to, opens, past_spaces, past, found, past_name, behind}
+use Rattle.svc_tokens.specs.Characters.{mark_at, value_of}
+use Rattle.svc_tokens.specs.declared.characters.TheConstants.{TEXT_END}
+use Rattle.svc_tokens.specs.Names.{letters_of}
 use Rattle.svc_asm_lines.specs.declared.directives.Says.{Says}
 use Rattle.svc_asm_lines.specs.declared.directives.Directive.{Directive}
 use Rattle.svc_asm_lines.specs.declared.directives.Beginning.{Beginning}
@@ -17,7 +17,7 @@ use Rattle.svc_asm_lines.specs.declared.directives.TheConstants.{SECTIONS, DIREC
 use Rattle.svc_image.specs.declared.version.Version.TheVariants as version
 use Rattle.svc_layout.specs.declared.statement.Statement.{Statement}
 use Rattle.svc_layout.specs.declared.statement.Statement.TheVariants as say
-use Rattle.svc_operands.specs.Operands.{Read, first_register_at}
+use Rattle.svc_tokens.specs.Tokens.{Read, first_register_at}
 use Rattle.svc_operands.specs.Numbers.{number_below, signed_at}
 use Rattle.svc_asm_lines.specs.declared.directives.Number.{Number}
 use Rattle.svc_asm_lines.specs.declared.directives.Number.TheVariants as number

@@ -8,8 +8,8 @@ use Rattle.svc_layout.specs.declared.statement.Next.TheVariants as go
 use Rattle.svc_layout.specs.declared.statement.Statement.{Statement}
 use Rattle.svc_layout.specs.declared.statement.Statement.TheVariants as say
 use Rattle.svc_layout.specs.Options.{◌>>=◌}
-use Rattle.svc_operands.specs.Characters.{is_from_to, found, digit, escape}
-use Rattle.svc_operands.specs.Operands.{Read}
+use Rattle.svc_tokens.specs.Characters.{is_from_to, found, digit, escape}
+use Rattle.svc_tokens.specs.Tokens.{Read}
 use Rattle.svc_asm_lines.specs.Lists.{going_at}
 use Rattle.svc_asm_lines.specs.Statements.{some_left}
 

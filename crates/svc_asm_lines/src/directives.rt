@@ -4,15 +4,13 @@ ghost use Rattle.std.specs.Prelude.{◌≡◌, ◌^◌, ◌≤◌};
 ghost use Rattle.std.specs.List.{starts_with};
 ghost use Rattle.svc_asm_lines.specs.Statements.{says_in, said_by, section_in, section_by, said_of, numbered_at};
 ghost use Rattle.svc_asm_lines.specs.Statements.{number_or, zeros_at, fill_at};
-ghost use Rattle.svc_operands.specs.Operands.{Gives};
+ghost use Rattle.svc_tokens.specs.Tokens.{Gives};
 
 use svc_image::Version;
 use svc_layout::Ending::{Bare, Zero};
 use svc_layout::{Linkage, Next, Section, Statement, Width};
-use svc_operands::{
-    Name, Read, Wanted, bits_of, letters_of, read_count, read_signed, skip_mark, split_name,
-    stopped_at,
-};
+use svc_operands::{bits_of, read_count, read_signed};
+use svc_tokens::{Name, Read, Wanted, letters_of, skip_mark, split_name, stopped_at};
 
 /// What a directive says, and what it reads.
 #[derive(Clone, Copy)]
@@ -241,6 +239,7 @@ fn said_of(number: Number, n: u32) -> Option<Statement>
     }
 }
 
+// What the exponent may be of the power of two that is to divide the next address.
 const POWER: Wanted = Wanted::Range { least: 0, most: 16 };
 
 #[tactic(auto, unfolding(crate::specs::Statements::numbered_at))]

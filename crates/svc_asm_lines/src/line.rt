@@ -6,9 +6,9 @@ ghost use Rattle.svc_asm_lines.specs.Statements.{rest_behind, past_rest, past_qu
 ghost use Rattle.svc_asm_lines.specs.Statements.{behind_name, begun_at, said_at, directive_at, line_named, is_inside};
 ghost use Rattle.svc_asm_lines.specs.Statements.{end_at, ended_with, is_label, label_with, line_at, is_passed};
 ghost use Rattle.svc_asm_lines.specs.Statements.{begins_text, is_kept, nameless, passed_at};
-ghost use Rattle.svc_operands.specs.Characters.{past};
+ghost use Rattle.svc_tokens.specs.Characters.{past};
 ghost use Rattle.svc_draft.specs.Drafts.{layout_of};
-ghost use Rattle.svc_operands.specs.Operands.{Gives};
+ghost use Rattle.svc_tokens.specs.Tokens.{Gives};
 
 use crate::directives::{
     Kept, Number, Says, read_fill, read_numbered, read_zeros, said_by, section_by,
@@ -17,9 +17,10 @@ use memchr::memchr;
 use svc_draft::Draft;
 use svc_instructions::read_instruction;
 use svc_layout::{Next, Statement, Width};
-use svc_operands::{
-    Radix, Read, TEXT_END, Unread, Wanted, opens, read_first_register, read_mark, read_value,
-    skip_mark, skip_spaces, split_name, stopped_at, stopped_at_name, value_of,
+use svc_operands::read_value;
+use svc_tokens::{
+    Radix, Read, TEXT_END, Unread, Wanted, opens, read_first_register, read_mark, skip_mark,
+    skip_spaces, split_name, stopped_at, stopped_at_name, value_of,
 };
 
 /// Where in the rest of a line a character stands.

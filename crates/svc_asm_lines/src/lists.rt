@@ -1,14 +1,15 @@
 // Lists of numbers, which are read one by one.
 
 ghost use Rattle.std.specs.Prelude.{◌≡◌, ◌%◌, ◌^◌, ◌<◌, option_map};
-ghost use Rattle.svc_operands.specs.Operands.{Gives};
+ghost use Rattle.svc_tokens.specs.Tokens.{Gives};
 ghost use Rattle.svc_asm_lines.specs.Lists.{half, fits, datum_at, going_at, item_at, long_at};
 ghost use Rattle.svc_draft.specs.Drafts.{layout_of};
 
 use crate::line::{read_begun, read_end};
 use svc_draft::Draft;
 use svc_layout::{Next, Statement, Width};
-use svc_operands::{Read, Wanted, read_expression, skip_mark, stopped_at};
+use svc_operands::read_expression;
+use svc_tokens::{Read, Wanted, skip_mark, stopped_at};
 
 fn half(width: Width) -> u32
     ensures value { result ≡ half width }

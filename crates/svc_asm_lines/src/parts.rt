@@ -1,7 +1,7 @@
 // What is read next: a line, or a part of a list, of a string, or of a name with its value.
 
 ghost use Rattle.std.specs.Prelude.{◌≡◌};
-ghost use Rattle.svc_operands.specs.Operands.{Gives};
+ghost use Rattle.svc_tokens.specs.Tokens.{Gives};
 ghost use Rattle.svc_asm_lines.specs.DataLines.{first_at, next_at, opened_at};
 ghost use Rattle.svc_draft.specs.Drafts.{layout_of};
 
@@ -12,7 +12,7 @@ use crate::strings::read_character;
 use crate::symbols::{read_bound, read_common, read_equal, read_local_common, read_symbol};
 use svc_draft::Draft;
 use svc_layout::{Next, Statement};
-use svc_operands::{Read, Unread, Wanted, skip_mark, split_name, stopped_at_name};
+use svc_tokens::{Read, Unread, Wanted, skip_mark, split_name, stopped_at_name};
 
 #[tactic(auto, unfolding(crate::specs::DataLines::opened_at))]
 fn read_opened<'a>(draft: &Draft, text: &'a [u8]) -> Read<'a, Statement>

@@ -1,14 +1,14 @@
 // Strings, which are read character by character.
 
 ghost use Rattle.std.specs.Prelude.{◌≡◌, ◌+◌, ◌*◌, ◌<◌, IfSome, option_map};
-ghost use Rattle.svc_operands.specs.Operands.{Gives};
+ghost use Rattle.svc_tokens.specs.Tokens.{Gives};
 ghost use Rattle.svc_asm_lines.specs.Strings.{string_end, put_at, octal_digit, octal_on, octal_at, hex_on, hex_at};
 ghost use Rattle.svc_asm_lines.specs.Strings.{escape_at, character_at};
 
 use crate::line::read_left;
 use crate::lists::read_going;
 use svc_layout::{Ending, Next, Statement, Width};
-use svc_operands::{Read, Unread, Wanted, digit, escape, stopped_at};
+use svc_tokens::{Read, Unread, Wanted, digit, escape, stopped_at};
 
 // The fault of a backslash that this follows. A space is no blank there.
 fn stopped_behind_backslash(text: &[u8]) -> Unread {

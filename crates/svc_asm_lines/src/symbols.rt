@@ -1,7 +1,7 @@
 // Names that are given a value or zeros, or that texts share.
 
 ghost use Rattle.std.specs.Prelude.{◌≡◌, option_map};
-ghost use Rattle.svc_operands.specs.Operands.{Gives};
+ghost use Rattle.svc_tokens.specs.Tokens.{Gives};
 ghost use Rattle.svc_asm_lines.specs.Symbols.{spot_named, spot_plus, sum_at, is_same, difference, minus_at, less_at};
 ghost use Rattle.svc_asm_lines.specs.Symbols.{behind_at, spot_at, named_at, symbol_at, equal_at, step_at, common_at};
 ghost use Rattle.svc_asm_lines.specs.Symbols.{bound_at, local_common_at, room_at};
@@ -11,10 +11,8 @@ use crate::line::{is_label, read_end};
 use crate::lists::{low, read_going};
 use svc_draft::Draft;
 use svc_layout::{Linkage, Next, Section, Spot, Statement};
-use svc_operands::{
-    Read, Unread, Wanted, read_added, read_count, read_expression, read_mark, skip_mark,
-    split_name, stopped_at,
-};
+use svc_operands::{read_added, read_count, read_expression};
+use svc_tokens::{Read, Unread, Wanted, read_mark, skip_mark, split_name, stopped_at};
 
 #[tactic(auto, unfolding(crate::specs::Symbols::spot_named))]
 fn spot_named(draft: &Draft, name: &[u8]) -> Option<Option<Spot>>

@@ -2,8 +2,8 @@
 use Rattle.std.proofs.Common.{ℕ, ◌<◌, List, lit<}
 use Rattle.std.specs.Prelude.{IfSome}
 use Rattle.std.specs.List.{AllByRecursion}
-use Rattle.svc_operands.specs.Names.{number_named}
-use Rattle.svc_operands.proofs.Rows.{number_small}
+use Rattle.svc_tokens.specs.Names.{number_named}
+use Rattle.svc_tokens.proofs.Rows.{number_small}
 use Rattle.svc_instructions.specs.declared.reading.TheConstants.{ORDERS}
 
 each_small : AllByRecursion (λ r. r.1 < 16) ORDERS

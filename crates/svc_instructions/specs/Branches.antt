@@ -8,8 +8,8 @@ use Rattle.svc_layout.specs.declared.statement.Statement.TheVariants as say
 use Rattle.svc_layout.specs.Options.{◌>>=◌}
 use Rattle.svc_layout.specs.Layouts.{Layout}
 use Rattle.svc_layout.specs.Notes.{is_turned}
-use Rattle.svc_operands.specs.Characters.{name_at, found}
-use Rattle.svc_operands.specs.Operands.{Read}
+use Rattle.svc_tokens.specs.Characters.{name_at, found}
+use Rattle.svc_tokens.specs.Tokens.{Read}
 use Rattle.svc_operands.specs.Values.{jump_behind_at}
 use Rattle.svc_instructions.specs.declared.table.Part.{Part}
 use Rattle.svc_instructions.specs.declared.table.Part.TheVariants as part

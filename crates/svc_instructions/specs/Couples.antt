@@ -6,8 +6,8 @@ use Rattle.svc_layout.specs.declared.statement.Statement.{Statement}
 use Rattle.svc_layout.specs.declared.statement.Statement.TheVariants as say
 use Rattle.svc_layout.specs.Options.{◌>>=◌}
 use Rattle.svc_layout.specs.Layouts.{Layout}
-use Rattle.svc_operands.specs.Characters.{name_at, past_name, mark_at, number_of, found, is_over}
-use Rattle.svc_operands.specs.Operands.{Read, register_at, first_register_at}
+use Rattle.svc_tokens.specs.Characters.{name_at, past_name, mark_at, number_of, found, is_over}
+use Rattle.svc_tokens.specs.Tokens.{Read, register_at, first_register_at}
 use Rattle.svc_operands.specs.Numbers.{signed_at}
 use Rattle.svc_operands.specs.Values.{value_at, bits_within, high_part, from_here, relative_at}
 use Rattle.svc_instructions.specs.declared.table.Couple.{Couple}
@@ -15,7 +15,7 @@ use Rattle.svc_instructions.specs.declared.table.Part.TheVariants as part
 use Rattle.svc_instructions.specs.Instructions.{with_part, alone_at}
 use Rattle.svc_instructions.specs.Branches.{far_at}
 use Rattle.std.specs.List.{find}
-use Rattle.svc_operands.specs.Names.{letters_of, number_named}
+use Rattle.svc_tokens.specs.Names.{letters_of, number_named}
 use Rattle.svc_instructions.specs.declared.table.Through.{Through}
 use Rattle.svc_instructions.specs.declared.table.Through.TheVariants as through
 use Rattle.svc_instructions.specs.declared.table.TheConstants.{COUPLES, LOADS, STORES}

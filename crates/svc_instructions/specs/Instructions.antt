@@ -2,9 +2,9 @@
 use Rattle.std.specs.Prelude.{ℕ, ◌+◌, ◌*◌, List, [], ◌∷◌, Some, ◌/◌, ◌%◌, ◌^◌, ◌==◌, Bool, ◌&&◌, ◌||◌, Option, None}
 use Rattle.std.specs.Prelude.{if◌then◌else◌, option_map}
 use Rattle.svc_layout.specs.Options.{◌>>=◌}
-use Rattle.svc_operands.specs.Characters.{name_at, past_name, mark_at, found, is_over}
-use Rattle.svc_operands.specs.Names.{number_named}
-use Rattle.svc_operands.specs.Operands.{Read, register_at, base_at}
+use Rattle.svc_tokens.specs.Characters.{name_at, past_name, mark_at, found, is_over}
+use Rattle.svc_tokens.specs.Names.{number_named}
+use Rattle.svc_tokens.specs.Tokens.{Read, register_at, base_at}
 use Rattle.svc_operands.specs.Numbers.{number_below}
 use Rattle.svc_instructions.specs.declared.reading.TheConstants.{ORDERS}
 use Rattle.std.specs.List.{find}

@@ -3,7 +3,7 @@
 ghost use Rattle.std.specs.Prelude.{◌≡◌};
 ghost use Rattle.std.specs.List.{find};
 ghost use Rattle.svc_draft.specs.Drafts.{layout_of};
-ghost use Rattle.svc_operands.specs.Operands.{Gives};
+ghost use Rattle.svc_tokens.specs.Tokens.{Gives};
 ghost use Rattle.svc_instructions.specs.Instructions.{with_part};
 ghost use Rattle.svc_instructions.specs.Couples.{has_name, with_high, with_low, apart, past_plt, pair_at, linked_at};
 ghost use Rattle.svc_instructions.specs.Couples.{couple_at, begins_name, label_at, load_at, with_store, store_at};
@@ -15,10 +15,11 @@ use crate::reading::{further, read_alone, with_part};
 use crate::table::{COUPLES, Couple, LOADS, Part, STORES, Through};
 use svc_draft::Draft;
 use svc_layout::Statement;
-use svc_operands::{
-    Name, Read, Unread, Wanted, bits_within, from_here, high_part, is_over, is_word, letters_of,
-    number_named, number_of, read_first_register, read_mark, read_register, read_relative,
-    read_signed, read_value, skip_mark, split_name, stopped_at, stopped_at_name,
+use svc_operands::{bits_within, from_here, high_part, read_relative, read_signed, read_value};
+use svc_tokens::{
+    Name, Read, Unread, Wanted, is_over, is_word, letters_of, number_named, number_of,
+    read_first_register, read_mark, read_register, skip_mark, split_name, stopped_at,
+    stopped_at_name,
 };
 
 // The word of auipc where each operand is 0.

@@ -1,8 +1,8 @@
 // A name and its operands, read by the table, and a word's row of it.
 
 ghost use Rattle.std.specs.Prelude.{◌≡◌, ◌<◌, IfSome, IfOk};
-ghost use Rattle.svc_operands.specs.Names.{number_named};
-ghost use Rattle.svc_operands.specs.Operands.{Gives};
+ghost use Rattle.svc_tokens.specs.Names.{number_named};
+ghost use Rattle.svc_tokens.specs.Tokens.{Gives};
 ghost use Rattle.svc_instructions.specs.Instructions.{order_at, orders_at, fence_at, part_bits, part_at, with_part};
 ghost use Rattle.svc_instructions.specs.Instructions.{parts_of, parts_at, row_at, rows_at, either_at, alone_at};
 ghost use Rattle.svc_instructions.specs.Instructions.{part_number, with_funct3, with_funct7, fixed_bits, is_of, row_of};
@@ -12,9 +12,10 @@ ghost use Rattle.std.specs.List.{find};
 use crate::table::{ALIASES, Part, ROWS, Row, parts_of};
 use svc_draft::Draft;
 use svc_layout::Statement;
-use svc_operands::{
-    Name, Named, Read, Unread, Wanted, is_over, number_named, read_base, read_below, read_branch,
-    read_jump, read_mark, read_register, read_short, read_upper, split_name, stopped_at,
+use svc_operands::{read_below, read_branch, read_jump, read_short, read_upper};
+use svc_tokens::{
+    Name, Named, Read, Unread, Wanted, is_over, number_named, read_base, read_mark, read_register,
+    split_name, stopped_at,
 };
 
 /// Sets of accesses by their letters, as four bits: input, output, reads and writes.

@@ -7,7 +7,7 @@ use Part::{
     Amount, Base, Branch, Comma, End, Immediate, Jump, Order, Rd, Rs1, Rs2, StoreOffset, Upper,
 };
 use Through::{First, Link, Own};
-use svc_operands::{Name, Named};
+use svc_tokens::{Name, Named};
 
 /// A part of an instruction's operands, in the order of the text.
 #[derive(Clone, Copy)]

@@ -18,7 +18,7 @@ use Rattle.svc_layout.specs.Addresses.{address_of}
 use Rattle.svc_layout.specs.Contents.{with_word}
 use Rattle.svc_layout.specs.Labels.{with_symbol}
 use Rattle.svc_layout.specs.Lines.{going_on, after}
-use Rattle.svc_operands.specs.Characters.{name_at, found}
+use Rattle.svc_tokens.specs.Characters.{name_at, found}
 use Rattle.svc_instructions.specs.declared.table.Part.{Part}
 use Rattle.svc_instructions.specs.declared.table.Row.{Row}
 use Rattle.svc_instructions.specs.Instructions.{parts_of, row_of}

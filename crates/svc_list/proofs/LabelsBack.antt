@@ -12,7 +12,7 @@ use Rattle.svc_layout.specs.Sources.{no_bindings}
 use Rattle.svc_layout.specs.Layouts.{Layout}
 use Rattle.svc_layout.specs.Places.{place, spot_here}
 use Rattle.svc_layout.specs.Labels.{is_place, is_shared_twice, with_name, with_name_again, with_symbol}
-use Rattle.svc_operands.specs.Characters.{is_name, past_blanks, past, name_at, past_name, behind}
+use Rattle.svc_tokens.specs.Characters.{is_name, past_blanks, past, name_at, past_name, behind}
 use Rattle.svc_asm_lines.specs.Statements.{statement_at, line_at}
 use Rattle.svc_list.specs.Listings.{hex_digit, hex_text, label_text}
 use Rattle.svc_list.proofs.NamesBack.{dense, all_dense, no_slash, no_space}

@@ -8,7 +8,7 @@ use Rattle.svc_layout.specs.declared.statement.Statement.TheVariants as say
 use Rattle.svc_layout.specs.Options.{◌>>=◌}
 use Rattle.svc_layout.specs.Layouts.{Layout}
 use Rattle.svc_layout.specs.Lines.{after}
-use Rattle.svc_operands.specs.Characters.{name_at}
+use Rattle.svc_tokens.specs.Characters.{name_at}
 use Rattle.svc_asm_lines.specs.DataLines.{next_at}
 use Rattle.svc_asm.specs.Labels.{label_in, Gives}
 use Rattle.svc_asm.specs.Passes.{Makes}

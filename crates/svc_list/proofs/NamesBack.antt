@@ -5,9 +5,9 @@ use Rattle.std.proofs.lemmas.Bool.{and_parts, and_from, not-true, le-leb, ne_eqb
 use Rattle.std.proofs.lemmas.Fmt.{decimal_by_steps}
 use Rattle.std.proofs.lemmas.List.{length-append}
 use Rattle.svc_layout.specs.Options.{◌>>=◌}
-use Rattle.svc_operands.specs.declared.characters.TheConstants.{TEXT_END}
-use Rattle.svc_operands.specs.Characters.{is_space, opens, is_name, past_blanks, past_spaces, begins_over, is_over, past, name_at, past_name, behind, digit, push_digit, value_on, behind_zero, number_of}
-use Rattle.svc_operands.specs.Expressions.{operator_at}
+use Rattle.svc_tokens.specs.declared.characters.TheConstants.{TEXT_END}
+use Rattle.svc_tokens.specs.Characters.{is_space, opens, is_name, past_blanks, past_spaces, begins_over, is_over, past, name_at, past_name, behind, digit, push_digit, value_on, behind_zero, number_of}
+use Rattle.svc_tokens.specs.Operators.{operator_at}
 use Rattle.svc_asm_lines.specs.Statements.{behind_end, end_at}
 
 -- a space, or the slash that opens a comment

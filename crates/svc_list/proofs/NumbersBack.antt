@@ -1,7 +1,7 @@
 -- A number is read back from its digits.
 use Rattle.std.proofs.Common.{◌≡◌, ℕ, ◌^◌, ◌<◌, true, List, [], ◌∷◌, ◌++◌, length, Some, refl, arith, decimal}
-use Rattle.svc_operands.specs.Characters.{is_name, past_blanks, past, name_at, past_name, number_of}
-use Rattle.svc_operands.specs.Operands.{number_at}
+use Rattle.svc_tokens.specs.Characters.{is_name, past_blanks, past, name_at, past_name, number_of}
+use Rattle.svc_tokens.specs.Tokens.{number_at}
 use Rattle.svc_list.proofs.NamesBack.{stops, at_name, at_rest, is_digit, all_digits, digits_dense, numerals}
 
 number_of_decimal : (n : ℕ) → n < 2 ^ 32 → number_of (decimal n) ≡ Some n

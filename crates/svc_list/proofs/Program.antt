@@ -7,7 +7,7 @@ use Rattle.std.proofs.lemmas.Bool.{eqb-true, or_cases, or_left, or_right, eq-eqb
 use Rattle.std.proofs.lemmas.List.{append-nil, append_assoc}
 use Rattle.std.proofs.lemmas.List.Elements.{All-head, All-tail, recursion_from_All}
 use Rattle.svc_rv32i.specs.Meaning.{register}
-use Rattle.svc_operands.specs.Characters.{found}
+use Rattle.svc_tokens.specs.Characters.{found}
 use Rattle.svc_instructions.specs.declared.table.Row.{Row}
 use Rattle.svc_instructions.specs.Instructions.{parts_of, row_of}
 use Rattle.svc_image.specs.declared.version.Version.{Version}
@@ -28,9 +28,9 @@ use Rattle.svc_layout.specs.Directives.{with_version}
 use Rattle.svc_layout.specs.Texts.{with_source}
 use Rattle.svc_layout.specs.Images.{IsMadeOf}
 use Rattle.svc_image.proofs.Wordwise.{length-bytes_of_words}
-use Rattle.svc_operands.specs.Characters.{is_name, past_name, behind}
+use Rattle.svc_tokens.specs.Characters.{is_name, past_name, behind}
 use Rattle.svc_operands.specs.Values.{value_at}
-use Rattle.svc_operands.specs.Names.{letters_of}
+use Rattle.svc_tokens.specs.Names.{letters_of}
 use Rattle.svc_asm_lines.specs.Statements.{said_by, said_at, directive_at, statement_at, line_at}
 use Rattle.svc_asm.specs.Programs.{IsProgramOf}
 use Rattle.svc_names.specs.declared.name.Name.{Name}

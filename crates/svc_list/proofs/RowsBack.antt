@@ -13,10 +13,10 @@ use Rattle.svc_layout.specs.Layouts.{Layout}
 use Rattle.svc_layout.specs.Places.{here}
 use Rattle.svc_layout.specs.Addresses.{address_of}
 use Rattle.svc_layout.specs.Notes.{is_turned}
-use Rattle.svc_operands.specs.Characters.{is_name, past_blanks, name_at, past_name, behind, found}
-use Rattle.svc_operands.specs.Names.{letters_of}
-use Rattle.svc_operands.specs.Operands.{first_register_at, base_at}
-use Rattle.svc_operands.specs.Expressions.{operator_at}
+use Rattle.svc_tokens.specs.Characters.{is_name, past_blanks, name_at, past_name, behind, found}
+use Rattle.svc_tokens.specs.Names.{letters_of}
+use Rattle.svc_tokens.specs.Tokens.{first_register_at, base_at}
+use Rattle.svc_tokens.specs.Operators.{operator_at}
 use Rattle.svc_operands.specs.Values.{reach, target_at, is_far, branch_at}
 use Rattle.svc_instructions.specs.declared.table.Part.{Part}
 use Rattle.svc_instructions.specs.declared.table.Part.TheVariants as part

@@ -18,7 +18,7 @@ use Rattle.svc_layout.specs.declared.section.Width.TheVariants as wide
 use Rattle.svc_layout.specs.declared.statement.Next.TheVariants as go
 use Rattle.svc_layout.specs.declared.statement.Statement.{Statement}
 use Rattle.svc_layout.specs.declared.statement.Statement.TheVariants as say
-use Rattle.svc_operands.specs.Characters.{found, name_at}
+use Rattle.svc_tokens.specs.Characters.{found, name_at}
 use Rattle.svc_instructions.specs.declared.table.Part.{Part}
 use Rattle.svc_instructions.specs.declared.table.Part.TheVariants as part
 use Rattle.svc_instructions.specs.declared.table.Row.{Row}

@@ -16,9 +16,9 @@ use svc_image::{DATA_START, Image, Version};
 use svc_instructions::row_of;
 use svc_layout::{Next, Section, Statement, Width};
 use svc_names::{Names, put_note};
-use svc_operands::register;
 use svc_rv32i::Register;
 use svc_text::{Piece, put};
+use svc_tokens::register;
 
 fn put_numbered(out: &mut Vec<u8>, name: &str, number: u32) -> Result<(), AllocError>
     ensures { OnOk result (out.new.items ≡ out.old.items ++ (name.now ++ decimal number)) }

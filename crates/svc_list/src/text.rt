@@ -7,9 +7,9 @@ ghost use Rattle.svc_instructions.specs.Instructions.{parts_of};
 
 use std::alloc::AllocError;
 use svc_instructions::{Part, Row, part_number, parts_of};
-use svc_operands::{register, split_name};
 use svc_rv32i::Register;
 use svc_text::{Piece, put};
+use svc_tokens::{register, split_name};
 
 pub fn put_register(out: &mut Vec<u8>, register: Register) -> Result<(), AllocError>
     ensures { OnOk result (out.new.items ≡ out.old.items ++ register_text register) }

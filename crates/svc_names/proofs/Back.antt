@@ -13,7 +13,7 @@ use Rattle.csv.specs.Writing.{default_writer, needs_byte}
 use Rattle.csv.specs.Writing as writing
 use Rattle.csv.specs.declared.parser.State.TheVariants as st
 use Rattle.csv.proofs.RoundTrip.{read-write-many}
-use Rattle.svc_operands.specs.Characters.{is_name}
+use Rattle.svc_tokens.specs.Characters.{is_name}
 use Rattle.svc_record_limit.specs.Limit.{most_bytes, readable}
 use Rattle.svc_report.specs.declared.error.ReportError.{ReportError}
 use Rattle.svc_report.specs.declared.error.ReportError.TheVariants as fault

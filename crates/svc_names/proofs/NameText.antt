@@ -5,7 +5,7 @@ use Rattle.std.specs.List.{AllByRecursion}
 use Rattle.std.specs.Str.{bytes_eq}
 use Rattle.std.proofs.lemmas.Slice.Eq.{bytes_eq-Decides}
 use Rattle.std.proofs.lemmas.List.Sums.{take_while-cons}
-use Rattle.svc_operands.specs.Characters.{is_name, name_at, past_spaces}
+use Rattle.svc_tokens.specs.Characters.{is_name, name_at, past_spaces}
 use Rattle.svc_names.specs.Table.{is_name_text}
 use Rattle.svc_names.proofs.Order.{second_of}
 

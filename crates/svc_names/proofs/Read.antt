@@ -2,7 +2,7 @@
 use Rattle.std.proofs.Common.{◌≡◌, ◌∙◌, ◌+◌, ◌≤◌, ◌<◌, ◌^◌, ◌∷◌, ◌++◌, [], ℕ, List, Option, Some, None, true, refl, ap, sym, get_or, length, arith, inl, inr, map}
 use Rattle.std.specs.Prelude.{◌&&◌, IfSome, decimal, nat_le, nat_lt}
 use Rattle.std.specs.Str.{bytes_eq}
-use Rattle.svc_operands.specs.Characters.{name_at}
+use Rattle.svc_tokens.specs.Characters.{name_at}
 use Rattle.svc_names.proofs.Order.{first_of, second_of}
 use Rattle.std.specs.List.{AllByRecursion}
 use Rattle.std.proofs.lemmas.Bool.{leb-true, ltb-true}

@@ -3,7 +3,7 @@ use Rattle.std.specs.Prelude.{◌++◌, ◌∷◌, ◌+◌, ◌*◌, ◌==◌, �
 use Rattle.std.specs.Prelude.{codes, is_some, not, option_map, if◌then◌else◌}
 use Rattle.std.specs.Str.{bytes_eq}
 use Rattle.svc_image.specs.declared.layout.TheConstants.{DATA_START}
-use Rattle.svc_operands.specs.Characters.{value_of}
+use Rattle.svc_tokens.specs.Characters.{value_of}
 use Rattle.svc_names.specs.declared.name.Name.{Name}
 use Rattle.svc_names.specs.declared.rows.Column.{Column}
 use Rattle.svc_names.specs.declared.rows.Column.TheVariants as column

@@ -5,7 +5,7 @@ use Rattle.std.specs.Cmp.Lexicographic.{slice_cmp}
 use Rattle.std.specs.List.{AllByRecursion}
 use Rattle.std.specs.Ordering.{is_lt, nat_cmp, ordering_then}
 use Rattle.std.specs.Str.{bytes_eq}
-use Rattle.svc_operands.specs.Characters.{name_at}
+use Rattle.svc_tokens.specs.Characters.{name_at}
 use Rattle.svc_report.specs.declared.error.ReportError.{ReportError}
 use Rattle.svc_report.specs.declared.error.ReportError.TheVariants as fault
 use Rattle.svc_report.specs.Records.{BeginsWith, IsBadHeader}

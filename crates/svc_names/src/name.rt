@@ -3,7 +3,7 @@
 ghost use Rattle.std.specs.Prelude.{◌≡◌};
 ghost use Rattle.svc_names.specs.Table.{comes_next, is_before, is_name_text};
 
-use svc_operands::split_name;
+use svc_tokens::split_name;
 
 /// A name of an address of the program: of its text, or of its data.
 #[derive(Drop)]

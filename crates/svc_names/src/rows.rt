@@ -9,8 +9,8 @@ use crate::fields::field;
 use crate::names::Names;
 use std::alloc::AllocError;
 use svc_image::DATA_START;
-use svc_operands::{Radix, is_word, value_of};
 use svc_text::{Piece, put};
+use svc_tokens::{Radix, is_word, value_of};
 
 /// Which field of a row, counted from 0, tells an address.
 #[derive(Clone, Copy)]

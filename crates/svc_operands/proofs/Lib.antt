@@ -1,4 +1,1 @@
-pub mod Past
-pub mod Rows
 pub mod Operators
-pub mod Blanks

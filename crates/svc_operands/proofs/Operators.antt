@@ -2,10 +2,11 @@
 use Rattle.std.proofs.Common.{◌≡◌, ℕ, zero, suc, ◌-◌, ◌<◌, nat_lt, List, length, Option, Some, None, refl, sym, arith}
 use Rattle.svc_layout.specs.Options.{◌>>=◌}
 use Rattle.svc_layout.specs.Layouts.{Layout}
-use Rattle.svc_operands.specs.Characters.{found, past_spaces}
-use Rattle.svc_operands.specs.Operands.{Read}
+use Rattle.svc_tokens.specs.Characters.{found, past_spaces}
+use Rattle.svc_tokens.specs.Tokens.{Read}
 use Rattle.svc_operands.specs.declared.expressions.TheConstants.{DEPTH}
-use Rattle.svc_operands.specs.Expressions.{operator_at, result_of, operators_on, operators_at, operand_from, operand_at, expression_at}
+use Rattle.svc_tokens.specs.Operators.{operator_at, result_of}
+use Rattle.svc_operands.specs.Expressions.{operators_on, operators_at, operand_from, operand_at, expression_at}
 use Rattle.std.proofs.Common.{if◌then◌else◌}
 
 pub operand_step : (names : Option Layout) (k : ℕ) (text : List ℕ) → 0 < k → operand_at names k text ≡ operand_from names (operand_at names (k - 1)) (past_spaces text)

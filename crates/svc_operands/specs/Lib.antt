@@ -1,7 +1,5 @@
-pub mod Characters
-pub mod Names
-pub mod Operands
 pub mod Places
 pub mod Expressions
+pub mod Steps
 pub mod Numbers
 pub mod Values

@@ -1,8 +1,9 @@
 -- Numbers of operands and of directives: expressions without names, within bounds.
 use Rattle.std.specs.Prelude.{ℕ, ◌-◌, ◌^◌, nat_lt, true, false, List, Option, Some, None, if◌then◌else◌}
 use Rattle.svc_layout.specs.Options.{◌>>=◌}
-use Rattle.svc_operands.specs.declared.operands.Signed.{Signed}
-use Rattle.svc_operands.specs.Operands.{Read, signed_bits}
+use Rattle.svc_tokens.specs.declared.signed.Signed.{Signed}
+use Rattle.svc_tokens.specs.Tokens.{Read}
+use Rattle.svc_operands.specs.Steps.{signed_bits}
 use Rattle.svc_operands.specs.Expressions.{expression_at}
 
 -- a number below a bound

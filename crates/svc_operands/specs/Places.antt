@@ -7,7 +7,7 @@ use Rattle.svc_layout.specs.Places.{here}
 use Rattle.svc_layout.specs.Addresses.{address_back, address_ahead, address_of}
 use Rattle.svc_operands.specs.declared.places.Reference.{Reference}
 use Rattle.svc_operands.specs.declared.places.Reference.TheVariants as label
-use Rattle.svc_operands.specs.Characters.{is_from_to, past, value_of, found}
+use Rattle.svc_tokens.specs.Characters.{is_from_to, past, value_of, found}
 
 abbrev pub is_decimal : ℕ → Bool
 is_decimal c = is_from_to 48 57 c

@@ -6,10 +6,12 @@ use Rattle.svc_layout.specs.Layouts.{Layout}
 use Rattle.svc_layout.specs.Places.{here}
 use Rattle.svc_layout.specs.Addresses.{distance_from, is_foreign}
 use Rattle.svc_layout.specs.Notes.{is_turned}
-use Rattle.svc_operands.specs.Characters.{found, name_at, past_name, mark_at}
-use Rattle.svc_operands.specs.declared.operands.Signed.{Signed}
+use Rattle.svc_tokens.specs.Characters.{found, name_at, past_name, mark_at}
+use Rattle.svc_tokens.specs.declared.signed.Signed.{Signed}
 use Rattle.svc_layout.specs.Options.{◌>>=◌}
-use Rattle.svc_operands.specs.Operands.{Read, distance, half_of, signed_bits, steps_of}
+use Rattle.svc_tokens.specs.Tokens.{Read}
+use Rattle.svc_tokens.specs.Signed.{distance}
+use Rattle.svc_operands.specs.Steps.{half_of, signed_bits, steps_of}
 use Rattle.svc_operands.specs.Places.{place_of}
 use Rattle.svc_operands.specs.Expressions.{expression_at, added_at}
 use Rattle.svc_operands.specs.Numbers.{number_below, signed_of, number_short_at}

@@ -1,12 +1,12 @@
 // Numbers of operands and of directives: expressions without names, within bounds.
 
 ghost use Rattle.std.specs.Prelude.{◌≡◌, ◌^◌};
+ghost use Rattle.svc_tokens.specs.Tokens.{Gives};
 ghost use Rattle.svc_operands.specs.Numbers.{number_below, signed_of, signed_at, number_short_at};
-ghost use Rattle.svc_operands.specs.Operands.{Gives};
 
 use crate::expressions::read_expression;
-use crate::operands::{Signed, signed_bits};
-use crate::unread::{Read, Wanted, stopped_at};
+use crate::steps::signed_bits;
+use svc_tokens::{Read, Signed, Wanted, stopped_at};
 
 /// A number below a bound.
 #[tactic(auto, unfolding(crate::specs::Numbers::number_below))]
@@ -65,6 +65,7 @@ pub fn read_signed(text: &[u8]) -> Read<'_, Signed>
     }
 }
 
+// What an immediate of 12 bits may be: it counts with a sign.
 const IMMEDIATE: Wanted = Wanted::Range {
     least: -2048,
     most: 2047,

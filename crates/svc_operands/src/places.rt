@@ -3,12 +3,11 @@
 ghost use Rattle.std.specs.Prelude.{◌≡◌, ◌-◌, ◌≤◌};
 ghost use Rattle.std.specs.List.{take_while};
 ghost use Rattle.svc_draft.specs.Drafts.{layout_of};
-ghost use Rattle.svc_operands.specs.Characters.{past};
+ghost use Rattle.svc_tokens.specs.Characters.{past};
 ghost use Rattle.svc_operands.specs.Places.{is_decimal, reference_named, reference_address, place_of};
 
-use crate::characters::{Radix, value_of};
-use crate::names::is_word;
 use svc_draft::Draft;
+use svc_tokens::{Radix, is_word, value_of};
 
 /// A local label.
 #[derive(Clone, Copy)]
@@ -19,7 +18,7 @@ pub enum Reference {
     Ahead(u32),
 }
 
-#[tactic(auto, unfolding(crate::specs::Characters::past))]
+#[tactic(auto, unfolding(svc_tokens::specs::Characters::past))]
 fn skip_digits(text: &[u8]) -> &[u8]
     ensures { result.now ≡ past is_decimal text.now }
 {
@@ -34,7 +33,7 @@ fn skip_digits(text: &[u8]) -> &[u8]
 }
 
 // The digits that a name begins with, and what follows them.
-#[tactic(auto, using(crate::proofs::Past::past_within, crate::proofs::Past::front_of_past))]
+#[tactic(auto, using(svc_tokens::proofs::Past::past_within, svc_tokens::proofs::Past::front_of_past))]
 fn split_digits(name: &[u8]) -> (&[u8], &[u8])
     ensures digits { result.0.now ≡ take_while is_decimal name.now }
     ensures rest { result.1.now ≡ past is_decimal name.now }

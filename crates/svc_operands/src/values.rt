@@ -2,20 +2,20 @@
 
 ghost use Rattle.std.specs.Prelude.{◌≡◌, ◌-◌, ◌≤◌};
 ghost use Rattle.svc_draft.specs.Drafts.{layout_of};
+ghost use Rattle.svc_tokens.specs.Tokens.{Gives};
 ghost use Rattle.svc_operands.specs.Values.{bits_of, bits_within, value_at, high_part, from_here, enclosed_at};
 ghost use Rattle.svc_operands.specs.Values.{relative_at, high_at, distance_named, completed_at, low_at, short_at};
 ghost use Rattle.svc_operands.specs.Values.{upper_at, reach, reach_at, offset_from, offset_at, target_at, jump_at};
 ghost use Rattle.svc_operands.specs.Values.{is_far, branch_at, behind_word, steps_behind, jump_behind_at};
-ghost use Rattle.svc_operands.specs.Operands.{Gives};
 
-use crate::characters::{skip_mark, split_name};
 use crate::expressions::{read_added, read_expression};
-use crate::names::is_word;
 use crate::numbers::{read_below, read_number_short, signed_of};
-use crate::operands::{Signed, distance, half_of, read_mark, signed_bits, steps_of};
 use crate::places::place_of;
-use crate::unread::{Read, Wanted, stopped_at};
+use crate::steps::{half_of, signed_bits, steps_of};
 use svc_draft::Draft;
+use svc_tokens::{
+    Read, Signed, Wanted, distance, is_word, read_mark, skip_mark, split_name, stopped_at,
+};
 
 /// The 32 bits of a number with its sign.
 pub fn bits_of(number: Signed) -> u32

@@ -2,7 +2,7 @@ use Rattle.std.proofs.Common.{◌≡◌, ◌∙◌, ◌++◌, ◌∷◌, [], ℕ
 use Rattle.std.proofs.lemmas.List.{append-nil}
 use Rattle.std.proofs.lemmas.Result.{err_from_is_err_and}
 use Rattle.svc_draft.specs.Drafts.{layout_of}
-use Rattle.svc_operands.specs.Characters.{name_at}
+use Rattle.svc_tokens.specs.Characters.{name_at}
 use Rattle.svc_asm.specs.Labels.{Gives, label_in, parts_of}
 use Rattle.svc_asm.proofs.Program.{advance, makes_of, refuted, empty_is, some_left}
 use Rattle.svc_asm.proofs.labels.take_labelled_lines.Goals as goal

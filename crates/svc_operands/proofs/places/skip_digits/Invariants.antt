@@ -1,5 +1,5 @@
 use Rattle.std.proofs.Common.{◌≡◌, length}
-use Rattle.svc_operands.specs.Characters.{past}
+use Rattle.svc_tokens.specs.Characters.{past}
 use Rattle.svc_operands.specs.Places.{is_decimal}
 use Rattle.svc_operands.proofs.places.skip_digits.Given as goal
 

@@ -1,6 +1,0 @@
-use Rattle.std.proofs.Common.{◌≡◌, drop}
-use Rattle.svc_operands.specs.Names.{named_in}
-use Rattle.svc_operands.proofs.names.number_named.Given as goal
-
-abbrev pub invariant-loop-row : goal.invariant-loop-row
-invariant-loop-row l = named_in (drop l.row-index l.rows) l.letters ≡ named_in l.rows l.letters

@@ -1,0 +1,5 @@
+pub mod Characters
+pub mod Names
+pub mod Tokens
+pub mod Signed
+pub mod Operators
